@@ -1,0 +1,114 @@
+//! How long the check of a path and its rebuilding take, beside SHA-256 alone on the same bytes.
+//!
+//! Run it with the word `run`. The path is one of depth 16, of buckets with 4 slots of 4,096 bytes.
+#![tactic(auto)]
+
+ghost use Rattle.std.specs.Prelude.{◌≡◌, ◌<◌, ◌≤◌, ◌+◌, ◌^◌, All, IfOk, vec_len};
+ghost use Rattle.oram_geometry.specs.Sizes.{trees_of, depth_of};
+
+use oram_geometry::Device;
+use oram_hash::{NO_DIGEST, check_path, node_digest, rebuild};
+use std::alloc::{AllocError, Global};
+use std::time::{Duration, Instant};
+use std::{env, io};
+
+const DIGESTS_LEN: usize = 64;
+
+const ROUNDS: u32 = 100;
+
+/// Sealed parts of one length.
+fn sealed_parts(alloc: Global, count: usize, len: usize) -> Result<Vec<Vec<u8>>, AllocError>
+    ensures count { IfOk result (λ v. vec_len v ≡ count) }
+    ensures lengths { IfOk result (λ v. All (λ part. vec_len part ≡ len) v.items) }
+{
+    let mut parts = Vec::new(alloc);
+    for _ in 0..count {
+        parts.push(vec![in alloc; 7u8; len]?)?;
+    }
+    Ok(parts)
+}
+
+/// The path of leaf 0 with these sealed parts, root first, and its root digest.
+fn path_of(alloc: Global, parts: &[Vec<u8>]) -> Result<(Vec<u8>, [u8; 32]), AllocError> {
+    let mut records: Vec<Vec<u8>> = Vec::new(alloc);
+    let mut digest = NO_DIGEST;
+    for part in parts {
+        let mut record = part.as_slice().to_vec(alloc)?;
+        record.extend_from_slice(&digest)?;
+        record.extend_from_slice(&NO_DIGEST)?;
+        digest = node_digest(&record);
+        records.push(record)?;
+    }
+    let mut bytes = Vec::new(alloc);
+    for record in records.iter().rev() {
+        bytes.extend_from_slice(record)?;
+    }
+    Ok((bytes, digest))
+}
+
+/// SHA-256 of each record alone.
+fn hash_alone(bytes: &[u8], record_len: usize) -> u8
+    requires { 0 < record_len }
+{
+    bytes
+        .chunks_exact(record_len)
+        .fold(0, |mixed, record| mixed ^ node_digest(record)[0])
+}
+
+/// What each took in all rounds.
+#[derive(Clone, Copy)]
+struct Times {
+    alone: Duration,
+    check: Duration,
+    rebuild: Duration,
+}
+
+fn measure(rt: &(impl Alloc<A = Global> + std::rt::Clock), device: &Device) -> io::Result<Times>
+    requires { 0 < trees_of device.now }
+{
+    let alloc = rt.alloc();
+    let record_len = device.record_len(0);
+    let parts = sealed_parts(
+        alloc,
+        usize::from(device.depth(0)) + 1,
+        record_len - DIGESTS_LEN,
+    )?;
+    let (bytes, root) = path_of(alloc, &parts)?;
+    let mut times = Times {
+        alone: Duration::ZERO,
+        check: Duration::ZERO,
+        rebuild: Duration::ZERO,
+    };
+    for _ in 0..ROUNDS {
+        let start = Instant::now(rt)?;
+        let _ = hash_alone(&bytes, record_len);
+        times.alone = times.alone.saturating_add(start.elapsed(rt)?);
+        let start = Instant::now(rt)?;
+        let view = check_path(device, 0, 0, 0, &root, &bytes);
+        times.check = times.check.saturating_add(start.elapsed(rt)?);
+        if let Ok(view) = view {
+            let start = Instant::now(rt)?;
+            let _ = rebuild(alloc, &view, &parts)?;
+            times.rebuild = times.rebuild.saturating_add(start.elapsed(rt)?);
+        }
+    }
+    Ok(times)
+}
+
+fn main(rt: HostRuntime) -> io::Result<()> {
+    let wanted = env::args(&rt)?.nth(1);
+    if wanted.is_none_or(|word| word.as_str() != "run") {
+        return println!(rt; "bench_hash run");
+    }
+    let Ok(device) = Device::new(65_536, 4096, 4, 65_536, 1) else {
+        return Ok(());
+    };
+    if device.trees() == 0 {
+        return Ok(());
+    }
+    let times = measure(&rt, &device)?;
+    let micros = |time: Duration| time.as_micros() / u128::from(ROUNDS);
+    println!(rt; "SHA-256 alone: {} us a path", micros(times.alone))?;
+    println!(rt; "check_path: {} us", micros(times.check))?;
+    println!(rt; "rebuild: {} us", micros(times.rebuild))
+}

@@ -1,0 +1,22 @@
+-- What a sealer by ChaCha20 makes of bytes, by the words of the generator.
+use Rattle.std.specs.Prelude.{ℕ, ◌+◌, ◌/◌, ◌%◌, ◌^◌, List, [], ◌∷◌, ◌++◌, bit_xor, length, take, drop, nat_lt, if◌then◌else◌, Option, Some, None}
+use Rattle.std.specs.Int.{w64, to_be_bytes, from_be_bytes}
+use Rattle.rand_chacha.specs.ChaCha.{word_at, key_of}
+
+-- Byte k of the keystream of a key and a nonce: a word gives four bytes, the least significant first.
+unfoldable pub key_byte : List ℕ → ℕ → ℕ → ℕ
+key_byte key nonce k = word_at 10 (key_of key) nonce (k / 4) / 256 ^ (k % 4) % 256
+
+-- the bytes, each XORed with its byte of the keystream, from byte k of that on
+abbrev pub xored_from : List ℕ → ℕ → ℕ → List ℕ → List ℕ
+xored_from key nonce k [] = []
+xored_from key nonce k (x ∷ xs) = bit_xor x (key_byte key nonce k) ∷ xored_from key nonce (k + 1) xs
+
+-- the nonce in eight bytes, and the plain bytes XORed with its keystream
+abbrev pub chacha_sealing : List ℕ → ℕ → List ℕ → List ℕ
+chacha_sealing key nonce plain = to_be_bytes w64 nonce ++ xored_from key nonce 0 plain
+
+-- what was sealed so; none where there is no room for a nonce
+abbrev pub chacha_opening : List ℕ → List ℕ → Option (List ℕ)
+chacha_opening key sealed =
+    if nat_lt (length sealed) 8 then None else Some (xored_from key (from_be_bytes w64 (take 8 sealed)) 0 (drop 8 sealed))

@@ -1,0 +1,10 @@
+pub use Rattle.oram_geometry.specs.Sizes
+pub use Rattle.rand_chacha.specs.ChaCha
+pub mod Bytes
+pub mod Cell
+pub mod Bucket
+pub mod Slots
+pub mod Fault
+pub mod Keystream
+pub mod ChaChaLaws
+pub mod Reading

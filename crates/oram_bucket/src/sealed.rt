@@ -1,0 +1,71 @@
+//! A bucket as the host keeps it: encoded, and then sealed.
+ghost use Rattle.std.specs.Prelude.{◌≡◌, ◌+◌, ◌<◌, length, List, Some, Err, IfOk, MatchResult};
+ghost use Rattle.oram_geometry.specs.Sizes.{trees_of, bucket_len};
+ghost use Rattle.oram_bucket.specs.Cell.{Cell};
+ghost use Rattle.oram_bucket.specs.Bucket.{IsBucketOf, spelling};
+ghost use Rattle.oram_bucket.specs.Reading.{Reads};
+
+use crate::block::Block;
+use crate::codec::{BucketFault, decode_bucket, encode_bucket};
+use crate::sealing::{OpenFault, Sealer};
+use oram_geometry::Device;
+use std::alloc::{AllocError, Global};
+
+#[cfg(test)]
+mod tests;
+
+/// The sealed bytes of a bucket with these blocks.
+pub fn seal_bucket<S: Sealer>(
+    alloc: Global,
+    sealer: &S,
+    device: &Device,
+    tree: u8,
+    nonce: u64,
+    blocks: &[Block],
+) -> Result<Vec<u8>, AllocError>
+    requires tree { tree < trees_of device.now }
+    requires bucket { IsBucketOf device.now tree blocks.now }
+    ensures sealed { IfOk result (λ v.
+        v.items ≡ S.sealing sealer.now nonce (spelling device.now blocks.now)) }
+    ensures len { IfOk result (λ v. length v.items ≡ S.overhead sealer.now + bucket_len device.now) }
+    ensures opens { IfOk result (λ v.
+        Reads (S.opening sealer.now) device.now tree v.items blocks.now) }
+{
+    let plain = encode_bucket(alloc, device, tree, blocks)?;
+    sealer.seal(alloc, nonce, &plain)
+}
+
+/// The blocks of a sealed bucket.
+///
+/// The bytes are `Broken` also where they open to bytes that are no bucket of the tree.
+pub fn open_bucket<S: Sealer>(
+    alloc: Global,
+    sealer: &S,
+    device: &Device,
+    tree: u8,
+    sealed: &[u8],
+) -> Result<Vec<Block>, OpenFault>
+    requires { tree < trees_of device.now }
+    ensures ok { IfOk result (λ v.
+        Reads (S.opening sealer.now) device.now tree sealed.now v.items) }
+    ensures only { (cells : List Cell) →
+        Reads (S.opening sealer.now) device.now tree sealed.now cells →
+        MatchResult result (λ v. v.items ≡ cells) (λ f. f ≡ OpenFault.OutOfMemory) }
+{
+    let plain = sealer.open(alloc, sealed)?;
+    let blocks = decode_bucket(alloc, device, tree, &plain)?;
+    Ok(blocks)
+}
+
+impl From<BucketFault> for OpenFault {
+    ghost use Rattle.oram_bucket.specs.Fault.{opening_fault};
+
+    ghost from_gives = { λ fault f. f ≡ opening_fault fault };
+
+    fn from(fault: BucketFault) -> Self {
+        match fault {
+            BucketFault::OutOfMemory => OpenFault::OutOfMemory,
+            _ => OpenFault::Broken,
+        }
+    }
+}

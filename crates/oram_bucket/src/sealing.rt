@@ -1,0 +1,90 @@
+//! What hides a bucket from the host.
+ghost use Rattle.std.specs.Prelude.{◌≡◌, ◌↔◌, ℕ, ◌≤◌, ◌<◌, ◌+◌, ◌^◌, List, Option, Some, None, length, IfOk, refl};
+ghost use Rattle.std.proofs.Common.{arith};
+ghost use Rattle.oram_bucket.specs.Bytes.{IsBytes};
+
+use std::alloc::{AllocError, Global};
+
+/// Why sealed bytes don't open.
+#[derive(Clone, Copy, Debug, PartialEq, Eq)]
+pub enum OpenFault {
+    /// The sealer gave no such bytes.
+    Broken,
+    OutOfMemory,
+}
+
+impl From<AllocError> for OpenFault {
+    ghost use Rattle.oram_bucket.specs.declared.sealing.OpenFault.TheVariants.{OutOfMemory};
+
+    ghost from_gives = { λ _ f. f ≡ OutOfMemory };
+
+    fn from(_: AllocError) -> Self {
+        OpenFault::OutOfMemory
+    }
+}
+
+/// Seals the bytes of a bucket before the host gets them, and opens what the host gives back.
+///
+/// Whether the host learns anything from sealed bytes is no part of the law.
+pub trait Sealer: Drop {
+    /// How many bytes a sealing adds.
+    ghost overhead: { Self → ℕ };
+
+    /// The sealing of plain bytes under a nonce.
+    ghost sealing: { Self → ℕ → List ℕ → List ℕ };
+
+    /// The plain bytes of sealed ones, or none where they are broken.
+    ghost opening: { Self → List ℕ → Option (List ℕ) };
+
+    /// How many bytes longer sealed bytes are than plain ones.
+    fn overhead(&self) -> usize
+        ensures { result ≡ overhead self.now };
+
+    /// Seals plain bytes. A nonce is to be used once.
+    fn seal(&self, alloc: Global, nonce: u64, plain: &[u8]) -> Result<Vec<u8>, AllocError>
+        ensures { IfOk result (λ v. v.items ≡ sealing self.now nonce plain.now) };
+
+    /// Opens sealed bytes, under any nonce.
+    fn open(&self, alloc: Global, sealed: &[u8]) -> Result<Vec<u8>, OpenFault>
+        ensures ok { IfOk result (λ v. opening self.now sealed.now ≡ Some v.items) }
+        ensures broken { (result ≡ Err OpenFault.Broken) ↔ (opening self.now sealed.now ≡ None) };
+
+    ghost small: { (s : Self) → overhead s ≤ 64 };
+
+    ghost longer: { (s : Self) (n : ℕ) (plain : List ℕ) →
+        length (sealing s n plain) ≡ overhead s + length plain };
+
+    ghost undoes: { (s : Self) (n : ℕ) (plain : List ℕ) → n < 2 ^ 64 → IsBytes plain →
+        opening s (sealing s n plain) ≡ Some plain };
+}
+
+/// No sealing at all: the identity.
+#[derive(Clone, Copy, Debug)]
+pub struct PlainSeal;
+
+impl Sealer for PlainSeal {
+    ghost overhead = { λ _. 0 };
+
+    ghost sealing = { λ _ n plain. plain };
+
+    ghost opening = { λ _ bytes. Some bytes };
+
+    fn overhead(&self) -> usize {
+        0
+    }
+
+    fn seal(&self, alloc: Global, _nonce: u64, plain: &[u8]) -> Result<Vec<u8>, AllocError> {
+        plain.to_vec(alloc)
+    }
+
+    fn open(&self, alloc: Global, sealed: &[u8]) -> Result<Vec<u8>, OpenFault> {
+        let plain = sealed.to_vec(alloc)?;
+        Ok(plain)
+    }
+
+    ghost small = { λ s. Prim.omega arith };
+
+    ghost longer = { λ s n plain. Prim.omega arith };
+
+    ghost undoes = { λ s n plain h k. refl };
+}

@@ -1,0 +1,6 @@
+pub mod Entries
+pub mod Arrays
+pub mod Keeps
+pub mod Sound
+pub mod Going
+pub mod Rows

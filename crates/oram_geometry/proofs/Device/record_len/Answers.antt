@@ -1,0 +1,7 @@
+use Rattle.std.proofs.Common.{rules, arith}
+use Rattle.oram_geometry.specs.Sizes.{record_len_of}
+use Rattle.oram_geometry.proofs.Device.record_len.Goals as goal
+
+pub returns-clause-value : goal.returns-clause-value
+unfolding record_len_of
+returns-clause-value c = search rules

@@ -1,0 +1,13 @@
+-- The least number that passes a test.
+use Rattle.std.specs.Prelude.{◌≡◌, ℕ, zero, suc, ◌+◌, ◌≤◌, Bool, true, if◌then◌else◌}
+
+-- n is the least number from `from` on that passes
+pub record IsLeastFrom (test : ℕ → Bool) (from n : ℕ) : Type 0 where
+  pub begins : from ≤ n
+  pub passes : test n ≡ true
+  pub least : (m : ℕ) → from ≤ m → test m ≡ true → n ≤ m
+
+-- the first of `from`, `from` + 1, .. that passes, or the number that `more` of them reach
+unfoldable pub least_from : (ℕ → Bool) → ℕ → ℕ → ℕ
+least_from test from zero = from
+least_from test from (suc more) = if test from then from else least_from test (from + 1) more

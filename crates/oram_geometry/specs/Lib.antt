@@ -1,0 +1,4 @@
+pub mod Least
+pub mod Sizes
+pub mod Path
+pub mod Measures

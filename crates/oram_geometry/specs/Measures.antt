@@ -1,0 +1,12 @@
+-- What a device keeps beside its five numbers.
+use Rattle.std.specs.Prelude.{◌≡◌, ℕ, ◌<◌, List, slice_index}
+use Rattle.oram_geometry.specs.declared.Sizes.{Sizes}
+use Rattle.oram_geometry.specs.Sizes.{IsDevice, blocks_in, trees_of, depth_of}
+
+-- the number of its trees, and of each tree that a device may have the blocks and the depth
+pub record IsMeasured (d : Sizes) (trees : ℕ) (blocks depths : List ℕ) : Type 0 where
+  pub ranges : IsDevice d
+  pub count : trees ≡ trees_of d
+  pub single : trees ≡ 1  -- as long as the core keeps one tree alone
+  pub each_blocks : (i : ℕ) → i < 13 → slice_index blocks i ≡ blocks_in d i
+  pub each_depth : (i : ℕ) → i < 13 → slice_index depths i ≡ depth_of d i

@@ -1,0 +1,95 @@
+-- The sizes of a device and of its trees.
+use Rattle.std.specs.Prelude.{◌≡◌, ℕ, zero, suc, ◌≤◌, ◌+◌, ◌-◌, ◌*◌, ◌/◌, ◌%◌, ◌^◌, ◌==◌, ◌&&◌, Bool, if◌then◌else◌, nat_le, nat_lt, not, Option, Some, None, Result, Ok, Err}
+use Rattle.std.specs.Int.{div_ceil}
+use Rattle.oram_geometry.specs.Least.{least_from}
+use Rattle.oram_geometry.specs.declared.Sizes.{Sizes}
+use Rattle.oram_geometry.specs.declared.ShapeFault.{ShapeFault}
+use Rattle.oram_geometry.specs.declared.ShapeFault.TheVariants.{Blocks, BlockBytes, Slots, Top, Lifetime, Recursion}
+
+-- entries of a map block: four bytes each
+abbrev pub fanout : Sizes → ℕ
+fanout d = d.block_bytes / 4
+
+-- blocks of tree i: a block of tree i + 1 has the entries of as many blocks of tree i as it has room for
+unfoldable pub blocks_in : Sizes → ℕ → ℕ
+blocks_in d zero = d.blocks
+blocks_in d (suc i) = div_ceil (blocks_in d i) (fanout d)
+
+-- whether the client's table has room for the last of h trees
+abbrev pub fits_table : Sizes → ℕ → Bool
+fits_table d h = nat_le (blocks_in d (h - 1)) d.top
+
+-- the number of trees: the least from 1 on whose last tree the table has room for
+unfoldable pub trees_of : Sizes → ℕ
+trees_of d = least_from (fits_table d) 1 12
+
+-- the least level with at least n nodes
+unfoldable pub level_for : ℕ → ℕ
+level_for n = least_from (λ l. nat_le n (2 ^ l)) 0 24
+
+-- whether a tree of depth l has a leaf for each block of tree i
+abbrev pub has_leaves : Sizes → ℕ → ℕ → Bool
+has_leaves d i l = nat_le (blocks_in d i) (2 ^ l)
+
+-- the depth of tree i: the least level with at least as many nodes as it has blocks
+abbrev pub depth_of : Sizes → ℕ → ℕ
+depth_of d i = level_for (blocks_in d i)
+
+-- the address in tree i of the device's block a
+abbrev pub address_in : Sizes → ℕ → ℕ → ℕ
+address_in d i a = a / fanout d ^ i
+
+-- the leaf of a word in tree i
+abbrev pub leaf_of : Sizes → ℕ → ℕ → ℕ
+leaf_of d i word = word % 2 ^ depth_of d i
+
+-- bytes of a bucket: a slot is an address, a leaf and a block
+abbrev pub bucket_len : Sizes → ℕ
+bucket_len d = d.slots * (8 + d.block_bytes)
+
+-- bytes of a record: a sealed bucket, which sealing made longer by the overhead, and two digests
+unfoldable pub record_len_of : Sizes → ℕ → ℕ
+record_len_of d overhead = bucket_len d + overhead + 64
+
+abbrev pub is_between : ℕ → ℕ → ℕ → Bool
+is_between low high n = nat_le low n && nat_le n high
+
+-- the first of the five numbers that is out of its range
+abbrev pub range_fault : Sizes → Option ShapeFault
+range_fault d =
+    if not (is_between 1 (2 ^ 24) d.blocks) then Some Blocks
+    else if not (is_between 16 4096 d.block_bytes && d.block_bytes % 4 == 0) then Some BlockBytes
+    else if not (is_between 1 8 d.slots) then Some Slots
+    else if not (is_between 1 (2 ^ 24) d.top) then Some Top
+    else if not (is_between 1 (2 ^ 40) d.lifetime) then Some Lifetime
+    else None
+
+abbrev pub device_unless : Sizes → Option ShapeFault → Result Sizes ShapeFault
+device_unless d None = if nat_lt 1 (trees_of d) then Err Recursion else Ok d
+device_unless d (Some fault) = Err fault
+
+-- the device of five numbers, or the first fault
+abbrev pub device_of : Sizes → Result Sizes ShapeFault
+device_of d = device_unless d (range_fault d)
+
+abbrev pub fault_number : ShapeFault → ℕ
+fault_number Blocks = 1
+fault_number BlockBytes = 2
+fault_number Slots = 3
+fault_number Top = 4
+fault_number Lifetime = 5
+fault_number Recursion = 6
+
+-- the ranges of a device's five numbers
+pub record IsDevice (d : Sizes) : Type 0 where
+  pub some_blocks : 1 ≤ d.blocks
+  pub few_blocks : d.blocks ≤ 2 ^ 24
+  pub some_bytes : 16 ≤ d.block_bytes
+  pub few_bytes : d.block_bytes ≤ 4096
+  pub whole_words : d.block_bytes % 4 ≡ 0
+  pub some_slots : 1 ≤ d.slots
+  pub few_slots : d.slots ≤ 8
+  pub some_top : 1 ≤ d.top
+  pub few_top : d.top ≤ 2 ^ 24
+  pub some_lifetime : 1 ≤ d.lifetime
+  pub few_lifetime : d.lifetime ≤ 2 ^ 40

@@ -1,0 +1,82 @@
+//! What follows from a device's five numbers.
+ghost use Rattle.std.specs.Prelude.{◌≡◌, ◌+◌, ◌^◌, ◌<◌, ◌≤◌, ℕ, length, slice_index};
+ghost use Rattle.oram_geometry.specs.declared.Sizes.{Sizes};
+ghost use Rattle.oram_geometry.specs.Sizes.{IsDevice, blocks_in, trees_of, level_for, is_between, range_fault};
+
+use crate::{MOST_TREES, ShapeFault, Sizes};
+
+/// Whether a number lies in a range, its ends included.
+fn is_between(low: u64, high: u64, number: u64) -> bool
+    ensures { result ≡ is_between low high number }
+{
+    (low..=high).contains(&number)
+}
+
+/// The first number that is out of its range.
+pub(crate) fn shape_fault(sizes: &Sizes) -> Option<ShapeFault>
+    ensures { result ≡ range_fault sizes.now }
+{
+    if !is_between(1, 1 << 24, sizes.blocks) {
+        Some(ShapeFault::Blocks)
+    } else if !(is_between(16, 4096, sizes.block_bytes) && sizes.block_bytes % 4 == 0) {
+        Some(ShapeFault::BlockBytes)
+    } else if !is_between(1, 8, sizes.slots) {
+        Some(ShapeFault::Slots)
+    } else if !is_between(1, 1 << 24, sizes.top) {
+        Some(ShapeFault::Top)
+    } else if !is_between(1, 1 << 40, sizes.lifetime) {
+        Some(ShapeFault::Lifetime)
+    } else {
+        None
+    }
+}
+
+/// The blocks of each tree that a device may have, used or not.
+pub(crate) fn block_counts(sizes: &Sizes) -> [u32; MOST_TREES]
+    requires { IsDevice sizes.now }
+    ensures { (i : ℕ) → i < 13 → slice_index result i ≡ blocks_in sizes.now i }
+{
+    let fanout = (sizes.block_bytes / 4) as u32;
+    let mut counts = [sizes.blocks as u32; MOST_TREES];
+    for tree in 1..MOST_TREES {
+        counts[tree] = counts[tree - 1].div_ceil(fanout);
+    }
+    counts
+}
+
+/// The least number of trees whose last one's entries the client's table has room for.
+pub(crate) fn tree_count(sizes: &Sizes, counts: &[u32; MOST_TREES]) -> u8
+    requires ranges { IsDevice sizes.now }
+    requires counts { (i : ℕ) → i < 13 → slice_index counts.now i ≡ blocks_in sizes.now i }
+    ensures { result ≡ trees_of sizes.now }
+{
+    let mut trees = 1;
+    while u64::from(counts[usize::from(trees) - 1]) > sizes.top {
+        trees += 1;
+    }
+    trees
+}
+
+/// The least level that has this many nodes.
+fn depth_for(blocks: u32) -> u8
+    requires { blocks ≤ 2 ^ 24 }
+    ensures { result ≡ level_for blocks }
+{
+    let mut level = 0;
+    while 1 << level < blocks {
+        level += 1;
+    }
+    level
+}
+
+/// The depths of trees with these many blocks.
+pub(crate) fn depths_for(counts: &[u32; MOST_TREES]) -> [u8; MOST_TREES]
+    requires { (i : ℕ) → i < 13 → slice_index counts.now i ≤ 2 ^ 24 }
+    ensures { (i : ℕ) → i < 13 → slice_index result i ≡ level_for (slice_index counts.now i) }
+{
+    let mut depths = [0; MOST_TREES];
+    for tree in 0..MOST_TREES {
+        depths[tree] = depth_for(counts[tree]);
+    }
+    depths
+}

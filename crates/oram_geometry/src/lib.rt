@@ -1,0 +1,263 @@
+//! The sizes of a block device, and the leaves and nodes of its trees.
+//!
+//! Blocks of a Path ORAM (Stefanov et al., CCS 2013, section 3) lie in a binary tree of buckets, with levels from 0
+//! (the root) to the tree's depth (the leaves). Tree 0 holds the device's data; a block of tree i + 1 holds the
+//! position map entries of as many blocks of tree i as its bytes have room for, at four bytes each. The client
+//! keeps the entries of the last tree.
+#![tactic(auto)]
+
+ghost use Rattle.std.specs.Prelude.{◌≡◌, ◌+◌, ◌-◌, ◌^◌, ◌<◌, ◌≤◌, ◌↔◌, ℕ, slice_index};
+ghost use Rattle.oram_geometry.specs.Least.{IsLeastFrom};
+ghost use Rattle.oram_geometry.specs.declared.Sizes.{Sizes};
+ghost use Rattle.oram_geometry.specs.Sizes.{IsDevice, fanout, blocks_in, fits_table, trees_of, has_leaves, depth_of, record_len_of, address_in, leaf_of, fault_number, device_of};
+ghost use Rattle.oram_geometry.specs.Path.{node_on, MeetsAt, IsGreatestMeeting};
+
+mod counts;
+
+use counts::{block_counts, depths_for, shape_fault, tree_count};
+use std::marker::Model;
+
+/// More trees than this no device has.
+pub const MOST_TREES: usize = 13;
+
+/// The five numbers of a device.
+#[derive(Clone, Copy, Debug, PartialEq, Eq)]
+pub struct Sizes {
+    /// Blocks of the device, from 1 to 2^24.
+    pub blocks: u64,
+    /// Bytes of a block, a multiple of 4 from 16 to 4,096.
+    pub block_bytes: u64,
+    /// Slots of a bucket, from 1 to 8.
+    pub slots: u64,
+    /// The greatest number of entries of the client's table, from 1 to 2^24.
+    pub top: u64,
+    /// The greatest number of accepted commands, from 1 to 2^40.
+    pub lifetime: u64,
+}
+
+/// Why five numbers make no device: the first that is out of its range.
+#[derive(Clone, Copy, Debug, PartialEq, Eq)]
+pub enum ShapeFault {
+    Blocks,
+    BlockBytes,
+    Slots,
+    Top,
+    Lifetime,
+    /// The device would need more than one tree, which the core doesn't keep yet.
+    Recursion,
+}
+
+impl ShapeFault {
+    /// The number by which programs name the fault, from 1.
+    pub fn number(self) -> u8
+        ensures { result ≡ fault_number self }
+    {
+        match self {
+            ShapeFault::Blocks => 1,
+            ShapeFault::BlockBytes => 2,
+            ShapeFault::Slots => 3,
+            ShapeFault::Top => 4,
+            ShapeFault::Lifetime => 5,
+            ShapeFault::Recursion => 6,
+        }
+    }
+}
+
+/// A block device: five numbers in their ranges, and what follows from them, computed once.
+#[derive(Debug, Drop)]
+pub struct Device {
+    sizes: Sizes,
+    trees: u8,
+    blocks: [u32; MOST_TREES],
+    depths: [u8; MOST_TREES],
+}
+
+impl Model for Device {
+    ghost use Rattle.oram_geometry.specs.declared.Sizes.{Sizes};
+
+    ghost Value = { Sizes };
+
+    ghost use Rattle.oram_geometry.specs.Measures.{IsMeasured};
+
+    ghost view = { λ d. d.sizes };
+
+    ghost invariant = { λ d. IsMeasured d.sizes d.trees d.blocks d.depths };
+}
+
+impl Device {
+    /// A device of these sizes, or the first fault.
+    pub fn new(
+        blocks: u64,
+        block_bytes: u64,
+        slots: u64,
+        top: u64,
+        lifetime: u64,
+    ) -> Result<Device, ShapeFault>
+        ensures { result ≡ device_of (record { blocks = blocks; block_bytes = block_bytes; slots = slots; top = top; lifetime = lifetime }) }
+    {
+        let sizes = Sizes {
+            blocks,
+            block_bytes,
+            slots,
+            top,
+            lifetime,
+        };
+        if let Some(fault) = shape_fault(&sizes) {
+            return Err(fault);
+        }
+        let blocks = block_counts(&sizes);
+        let trees = tree_count(&sizes, &blocks);
+        // As long as the core keeps one tree alone.
+        if trees > 1 {
+            return Err(ShapeFault::Recursion);
+        }
+        let depths = depths_for(&blocks);
+        Ok(Device {
+            sizes,
+            trees,
+            blocks,
+            depths,
+        })
+    }
+
+    /// How many trees there are.
+    pub fn trees(&self) -> u8
+        ensures count { result ≡ trees_of self.now }
+        ensures least { IsLeastFrom (fits_table self.now) 1 result }
+        ensures few { result ≤ 13 }
+        // As long as `new` answers `ShapeFault::Recursion`.
+        ensures single { result ≡ 1 }
+        ensures ranges { IsDevice self.now }
+    {
+        self.trees
+    }
+
+    /// Bytes of a block.
+    pub fn block_bytes(&self) -> usize
+        ensures value { result ≡ self.now.block_bytes }
+        ensures range { (16 ≤ result) × (result ≤ 4096) }
+    {
+        self.sizes.block_bytes as usize
+    }
+
+    /// Slots of a bucket.
+    pub fn slots(&self) -> usize
+        ensures value { result ≡ self.now.slots }
+        ensures range { (1 ≤ result) × (result ≤ 8) }
+    {
+        self.sizes.slots as usize
+    }
+
+    /// The greatest number of entries of the client's table.
+    pub fn top(&self) -> u64
+        ensures value { result ≡ self.now.top }
+        ensures range { (1 ≤ result) × (result ≤ 2 ^ 24) }
+    {
+        self.sizes.top
+    }
+
+    /// The greatest number of accepted commands.
+    pub fn lifetime(&self) -> u64
+        ensures value { result ≡ self.now.lifetime }
+        ensures range { (1 ≤ result) × (result ≤ 2 ^ 40) }
+    {
+        self.sizes.lifetime
+    }
+
+    /// Entries of a map block.
+    pub fn fanout(&self) -> usize
+        ensures value { result ≡ fanout self.now }
+        ensures range { (4 ≤ result) × (result ≤ 1024) }
+    {
+        self.block_bytes() / 4
+    }
+
+    /// Blocks of a tree.
+    pub fn blocks_in(&self, tree: u8) -> u32
+        requires { tree < trees_of self.now }
+        ensures count { result ≡ blocks_in self.now tree }
+        ensures first { tree ≡ 0 → result ≡ self.now.blocks }
+        ensures range { (1 ≤ result) × (result ≤ 2 ^ 24) }
+    {
+        self.blocks[tree as usize]
+    }
+
+    /// The level of a tree's leaves: it has 2^depth of them.
+    pub fn depth(&self, tree: u8) -> u8
+        requires { tree < trees_of self.now }
+        ensures count { result ≡ depth_of self.now tree }
+        ensures least { IsLeastFrom (has_leaves self.now tree) 0 result }
+        ensures enough { blocks_in self.now tree ≤ 2 ^ result }
+        ensures range { result ≤ 24 }
+    {
+        self.depths[tree as usize]
+    }
+
+    /// Bytes of a record, with the bytes that sealing adds to a bucket: the sealed bucket and two digests of 32 bytes.
+    pub fn record_len(&self, overhead: usize) -> usize
+        requires { overhead ≤ 64 }
+        ensures value { result ≡ record_len_of self.now overhead }
+        ensures holds_digests { 64 < result }
+        ensures range { result ≤ 32960 }
+    {
+        self.slots() * (8 + self.block_bytes()) + overhead + 64
+    }
+
+    /// The address in a tree of what belongs to the device's block of this address.
+    pub fn address_in(&self, tree: u8, address: u32) -> u32
+        requires tree { tree < trees_of self.now }
+        requires address { address < blocks_in self.now 0 }
+        ensures value { result ≡ address_in self.now tree address }
+        ensures range { result < blocks_in self.now tree }
+    {
+        let fanout = self.fanout() as u32;
+        let mut within = address;
+        for _ in 0..tree {
+            within /= fanout;
+        }
+        within
+    }
+
+    /// The leaf that a word names in a tree.
+    pub fn leaf_of(&self, tree: u8, word: u64) -> u32
+        requires { tree < trees_of self.now }
+        ensures value { result ≡ leaf_of self.now tree word }
+        ensures range { result < 2 ^ depth_of self.now tree }
+        ensures small { result < 2 ^ 24 }
+    {
+        (word % (1 << self.depth(tree))) as u32
+    }
+
+    /// The number of the node at a level of a leaf's path, counted from the root, level by level and from the left.
+    pub fn node_on(&self, tree: u8, leaf: u32, level: u8) -> u32
+        requires tree { tree < trees_of self.now }
+        requires leaf { leaf < 2 ^ depth_of self.now tree }
+        requires level { level ≤ depth_of self.now tree }
+        ensures value { result ≡ node_on (depth_of self.now tree) leaf level }
+        ensures range { result < 2 ^ (depth_of self.now tree + 1) - 1 }
+    {
+        let depth = self.depth(tree);
+        (1 << level) - 1 + (leaf >> (depth - level))
+    }
+
+    /// The greatest level at which the paths of two leaves have the same node.
+    pub fn shared_level(&self, tree: u8, x: u32, y: u32) -> u8
+        requires tree { tree < trees_of self.now }
+        requires x_in { x < 2 ^ depth_of self.now tree }
+        requires y_in { y < 2 ^ depth_of self.now tree }
+        ensures greatest { IsGreatestMeeting (depth_of self.now tree) x y result }
+        ensures meets { (l : ℕ) → l ≤ depth_of self.now tree → (MeetsAt (depth_of self.now tree) x y l) ↔ (l ≤ result) }
+    {
+        let mut level = self.depth(tree);
+        let (mut x_node, mut y_node) = (x, y);
+        while x_node != y_node {
+            x_node /= 2;
+            y_node /= 2;
+            level -= 1;
+        }
+        level
+    }
+}
+
+#[cfg(test)]
+mod tests;

@@ -1,0 +1,25 @@
+use Rattle.std.proofs.Common.{◌≡◌, ◌∷◌, ◌++◌, ◌<◌, ◌∙◌, [], ap, filter, sym, length, ℕ, List, rules}
+use Rattle.std.specs.List.{flat_map}
+use Rattle.std.specs.Map.Iter.{deref_pair}
+use Rattle.std.proofs.KnownBytes.{Appends-nil, Appends-trans}
+use Rattle.std.proofs.lemmas.Map.Iter.{rest_more}
+use Rattle.oram_host.specs.Image.{record_text}
+use Rattle.oram_host.specs.Trees.{is_there}
+use Rattle.oram_host.proofs.ImageTexts.{record_more}
+use Rattle.oram_host.proofs.Records.{not_empty_from}
+use Rattle.oram_host.proofs.images.save_records.Goals as goal
+
+pub loop-node-init : goal.loop-node-init
+loop-node-init g c =
+    let begun : c.into_iter-node-iterator.result ≡ c.args.records.now.entries = search rules in
+    ([], Appends-nil _, ap (λ (es : List (ℕ × List ℕ)). flat_map record_text (filter (λ e. is_there e.1) es)) begun)
+
+pub loop-node-preserved-in-Continue-1 : goal.loop-node-preserved-in-Continue-1
+loop-node-preserved-in-Continue-1 g c =
+    let inv = c.loop-node.invariant in
+    let node = c.in-Some.node.now in
+    let bytes = c.in-Some.bytes.now in
+    let split : c.loop-node.node-iterator ≡ (node, bytes) ∷ c.next.new.self = rest_more (deref_pair {K = ℕ} {X = List ℕ}) c.loop-node.node-iterator c.next.new.self c.next.result (c.in-Some.node, c.in-Some.bytes) c.in-Some.is c.next.ensures.steps in
+    let long : 0 < length bytes = not_empty_from bytes c.is_empty.result (search rules) (search rules) in
+    let before = ap (λ (es : List (ℕ × List ℕ)). inv.0 ++ flat_map record_text (filter (λ e. is_there e.1) es)) split in
+    (inv.0 ++ record_text (node, bytes), Appends-trans _ _ _ _ _ inv.1 (search rules), record_more inv.0 (node, bytes) c.next.new.self _ long (sym before ∙ inv.2))

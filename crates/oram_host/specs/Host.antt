@@ -1,0 +1,31 @@
+-- What a bucket host keeps.
+use Rattle.std.specs.Prelude.{ℕ, ◌+◌, ◌*◌, ◌<◌, ◌≤◌, List, Option}
+use Rattle.std.specs.Map.{lookup}
+use Rattle.std.specs.BTreeMap.{is_at}
+use Rattle.std.specs.Ordering.{nat_cmp}
+use Rattle.oram_wire.specs.declared.TheConstants.{LONGEST_BODY}
+
+-- A tree that has a shape: its depth, the length of its records, and those that it was given, by
+-- rising node.
+pub record Kept : Type 0 where
+  pub depth : ℕ
+  pub record_len : ℕ
+  pub records : List (ℕ × List ℕ)
+
+-- the trees that have a shape, by rising number
+abbrev pub Host : Type 0
+Host = List (ℕ × Kept)
+
+-- what is kept of a tree
+abbrev pub tree_at : Host → ℕ → Option Kept
+tree_at host tree = lookup (is_at (nat_cmp tree)) host
+
+-- the record that a node was last given
+abbrev pub record_of : Kept → ℕ → Option (List ℕ)
+record_of kept node = lookup (is_at (nat_cmp node)) kept.records
+
+-- a shape that a tree may have: a STORE of a path fits a frame
+pub record IsShape (depth record_len : ℕ) : Type 0 where
+  pub deep : depth ≤ 24
+  pub long : 0 < record_len
+  pub fits : (depth + 1) * record_len + 6 ≤ LONGEST_BODY

@@ -1,0 +1,60 @@
+use super::*;
+use std::process::Abort;
+use std::test::Fail;
+
+/// Answers a body. Where memory is refused nothing is changed, and the next call goes on.
+fn answered(server: &mut Server, body: &[u8]) -> HostAnswer {
+    match server.handle(body) {
+        HostAnswer::Refused(8) => server.handle(body),
+        answer => answer,
+    }
+}
+
+/// A body is answered by these records.
+fn fetches(rt: &impl Abort, server: &mut Server, body: &[u8], records: &[u8]) {
+    match answered(server, body) {
+        HostAnswer::Payload(bytes) => assert_eq!(rt; bytes.as_slice(), records),
+        _ => assert!(rt; false, "the path is there"),
+    }
+}
+
+#[test]
+fn rows_in_order(rt: HostRuntime) -> Result<(), Fail> {
+    let mut server = Server::new(rt.alloc());
+    let server = &mut server;
+    assert!(rt; answered(server, &[]) == HostAnswer::Refused(7));
+    assert!(rt; answered(server, &[9]) == HostAnswer::Refused(7));
+    assert!(rt; answered(server, &[1, 0, 0, 0, 0]) == HostAnswer::Refused(4));
+    assert!(rt; answered(server, &[1, 0, 0, 0, 0, 0]) == HostAnswer::Refused(1));
+    assert!(rt; answered(server, &[4, 0, 1, 0, 0, 0, 2]) == HostAnswer::Done);
+    assert!(rt; answered(server, &[4, 0, 1, 0, 0, 0, 2]) == HostAnswer::Refused(5));
+    assert!(rt; answered(server, &[1, 0, 0, 0, 0, 2]) == HostAnswer::Refused(2));
+    assert!(rt; answered(server, &[3, 0, 0, 0, 0, 3, 170, 187]) == HostAnswer::Refused(3));
+    assert!(rt; answered(server, &[3, 0, 0, 0, 0, 0, 170]) == HostAnswer::Refused(4));
+    assert!(rt; answered(server, &[3, 0, 0, 0, 0, 0, 170, 187]) == HostAnswer::Done);
+    assert!(rt; answered(server, &[1, 0, 0, 0, 0, 1]) == HostAnswer::Refused(6));
+    assert!(rt; answered(server, &[2, 0, 0, 0, 0, 1, 17, 18, 19, 20]) == HostAnswer::Done);
+    fetches(&rt, server, &[1, 0, 0, 0, 0, 1], &[17, 18, 19, 20]);
+    assert!(rt; answered(server, &[1, 0, 0, 0, 0, 0]) == HostAnswer::Refused(6));
+    Ok(())
+}
+
+/// The deepest tree takes no room for its nodes, and a path of it is stored and fetched.
+#[test]
+fn deepest_tree(rt: HostRuntime) -> Result<(), Fail> {
+    let mut server = Server::new(rt.alloc());
+    let server = &mut server;
+    assert!(rt; answered(server, &[4, 255, 25, 0, 0, 0, 1]) == HostAnswer::Refused(4));
+    assert!(rt; answered(server, &[4, 255, 24, 0, 0, 0, 0]) == HostAnswer::Refused(4));
+    assert!(rt; answered(server, &[4, 255, 24, 0, 0, 163, 215]) == HostAnswer::Refused(4));
+    assert!(rt; answered(server, &[4, 255, 24, 0, 0, 0, 1]) == HostAnswer::Done);
+    let store = [
+        2, 255, 0, 255, 255, 255, 0, 1, 2, 3, 4, 5, 6, 7, 8, 9, 10, 11, 12, 13, 14, 15, 16, 17, 18,
+        19, 20, 21, 22, 23, 24,
+    ];
+    assert!(rt; answered(server, &store) == HostAnswer::Done);
+    fetches(&rt, server, &[1, 255, 0, 255, 255, 255], &store[6..]);
+    assert!(rt; answered(server, &[1, 255, 0, 255, 255, 254]) == HostAnswer::Refused(6));
+    assert!(rt; answered(server, &[1, 255, 1, 0, 0, 0]) == HostAnswer::Refused(2));
+    Ok(())
+}

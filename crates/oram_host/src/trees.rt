@@ -1,0 +1,263 @@
+//! One tree of a host: its shape, and the records of its nodes.
+
+ghost use Rattle.std.specs.Prelude.{◌≡◌, ◌≢◌, ◌↔◌, ℕ, ◌+◌, ◌-◌, ◌*◌, ◌^◌, ◌<◌, ◌≤◌, List, [], length, slice_get, count_by, All, IsTrue, IsSome, IfSome, Some, None, IfOk, OnOk, OnErr, MatchResult, MatchOption, false};
+ghost use Rattle.std.specs.Ordering.{nat_cmp};
+ghost use Rattle.std.specs.BTreeMap.{IsOrdered, get, keys, values};
+ghost use Rattle.oram_host.specs.Host.{IsShape, record_of};
+ghost use Rattle.oram_host.specs.Path.{IsPath, PutsRecord, StoresPath, node_on, record_at};
+ghost use Rattle.oram_host.specs.Refusals.{RefusesFetch, RefusesPut, RefusesStore};
+ghost use Rattle.oram_host.specs.Trees.{AreNodes, IsRecord, IsTree, is_there, kept_by, records_in};
+
+use crate::refusals::HostRefusal;
+use oram_bytes::Bytes;
+use std::alloc::{AllocError, Global};
+use std::collections::BTreeMap;
+
+/// A tree that has a shape.
+#[derive(Debug, Drop)]
+pub(crate) struct Tree {
+    pub(crate) depth: u8,
+    /// The length of each record, in bytes.
+    pub(crate) record_len: u32,
+    /// By node. Bytes of length 0 are room for a record that was never put.
+    pub(crate) records: BTreeMap<u32, Bytes>,
+}
+
+/// The node at a level of a leaf's path.
+fn node_at(depth: u8, leaf: u32, level: u8) -> u32
+    requires deep { depth ≤ 24 }
+    requires leaf { leaf < 2 ^ depth }
+    requires level { level ≤ depth }
+    ensures place { result ≡ node_on depth leaf level }
+    ensures within { result < 2 ^ (depth + 1) - 1 }
+{
+    (1 << level) - 1 + (leaf >> (depth - level))
+}
+
+/// Copies of the records of a path, root first.
+fn copied_records(
+    alloc: Global,
+    levels: u8,
+    record_len: usize,
+    bytes: &[u8],
+) -> Result<Vec<Bytes>, AllocError>
+    requires { length bytes.now ≡ levels * record_len }
+    ensures count { IfOk result (λ copies. length copies.items ≡ levels) }
+    ensures each { IfOk result (λ copies. (level : ℕ) → level < levels
+        → slice_get copies.items level ≡ Some (record_at record_len bytes.now level)) }
+{
+    let mut copies = Vec::with_capacity(alloc, levels as usize)?;
+    for level in 0..levels {
+        let start = level as usize * record_len;
+        copies.push(Bytes::copy(alloc, &bytes[start..start + record_len])?)?;
+    }
+    Ok(copies)
+}
+
+/// Makes room for a record at a node.
+fn make_room_at(
+    alloc: Global,
+    records: &mut BTreeMap<u32, Bytes>,
+    node: u32,
+) -> Result<(), AllocError>
+    requires { IsOrdered nat_cmp records.old }
+    ensures same { records_in records.new ≡ records_in records.old }
+    ensures room { OnOk result (IsSome (get nat_cmp records.new node)) }
+    ensures kept { (other : ℕ) → IsSome (get nat_cmp records.old other)
+        → IsSome (get nat_cmp records.new other) }
+    ensures ordered { IsOrdered nat_cmp records.new }
+    ensures nodes { (depth : ℕ) → node < 2 ^ (depth + 1) - 1 → AreNodes depth (keys records.old)
+        → AreNodes depth (keys records.new) }
+    ensures whole { (record_len : ℕ) → All (IsRecord record_len) (values records.old)
+        → All (IsRecord record_len) (values records.new) }
+{
+    if records.contains_key(&node) {
+        return Ok(());
+    }
+    records.insert(node, Bytes::from_vec(Vec::new(alloc)))?;
+    Ok(())
+}
+
+/// Makes room for a record at each node of a path.
+fn make_room(
+    alloc: Global,
+    records: &mut BTreeMap<u32, Bytes>,
+    depth: u8,
+    leaf: u32,
+) -> Result<(), AllocError>
+    requires deep { depth ≤ 24 }
+    requires leaf { leaf < 2 ^ depth }
+    requires ordered { IsOrdered nat_cmp records.old }
+    ensures same { records_in records.new ≡ records_in records.old }
+    ensures room { OnOk result ((level : ℕ) → level ≤ depth
+        → IsSome (get nat_cmp records.new (node_on depth leaf level))) }
+    ensures ordered { IsOrdered nat_cmp records.new }
+    ensures nodes { AreNodes depth (keys records.old) → AreNodes depth (keys records.new) }
+    ensures whole { (record_len : ℕ) → All (IsRecord record_len) (values records.old)
+        → All (IsRecord record_len) (values records.new) }
+{
+    for level in 0..depth + 1 {
+        make_room_at(alloc, records, node_at(depth, leaf, level))?;
+    }
+    Ok(())
+}
+
+/// Replaces the records of a path, for which there is room, from the leaf up.
+fn replace_records(records: &mut BTreeMap<u32, Bytes>, depth: u8, leaf: u32, mut copies: Vec<Bytes>)
+    requires deep { depth ≤ 24 }
+    requires leaf { leaf < 2 ^ depth }
+    requires levels { length copies.items ≡ depth + 1 }
+    requires ordered { IsOrdered nat_cmp records.old }
+    requires room { (level : ℕ) → level ≤ depth
+        → IsSome (get nat_cmp records.old (node_on depth leaf level)) }
+    ensures path { (level : ℕ) → level ≤ depth
+        → get nat_cmp records.new (node_on depth leaf level) ≡ slice_get copies.items level }
+    ensures others { (node : ℕ) → ((level : ℕ) → level ≤ depth → node ≢ node_on depth leaf level)
+        → get nat_cmp records.new node ≡ get nat_cmp records.old node }
+    ensures ordered { IsOrdered nat_cmp records.new }
+    ensures nodes { AreNodes depth (keys records.old) → AreNodes depth (keys records.new) }
+    ensures whole { (record_len : ℕ) → All (IsRecord record_len) copies.items
+        → All (IsRecord record_len) (values records.old)
+        → All (IsRecord record_len) (values records.new) }
+{
+    while let Some(copy) = copies.pop() {
+        let level = copies.len() as u8;
+        let node = node_at(depth, leaf, level);
+        match records.insert(node, copy) {
+            Ok(_) => {}
+            Err(_) => unreachable!(),
+        }
+    }
+}
+
+/// How many records there are.
+fn count_there(records: &BTreeMap<u32, Bytes>) -> usize
+    ensures { result ≡ count_by is_there (values records.now) }
+{
+    records.values().filter(|bytes| bytes.len() > 0).count()
+}
+
+impl Tree {
+    /// The record that a node was given.
+    fn record(&self, node: u32) -> Option<&Bytes>
+        requires { IsTree self.now }
+        ensures there { MatchOption result (record_of (kept_by self.now) node ≡ None)
+            (λ bytes. record_of (kept_by self.now) node ≡ Some bytes.now) }
+        ensures whole { IfSome result (λ bytes. length bytes.now ≡ self.now.record_len) }
+    {
+        match self.records.get(&node) {
+            Some(bytes) if !bytes.is_empty() => Some(bytes),
+            _ => None,
+        }
+    }
+
+    /// How many records there are.
+    pub(crate) fn count(&self) -> u32
+        requires { IsTree self.now }
+        ensures { result ≡ length (kept_by self.now).records }
+    {
+        count_there(&self.records) as u32
+    }
+
+    /// How many bytes the records of a path have.
+    fn path_len(&self) -> usize
+        requires { IsTree self.now }
+        ensures { result ≡ (self.now.depth + 1) * self.now.record_len }
+    {
+        (self.depth as usize + 1) * self.record_len as usize
+    }
+
+    /// A node of the path of a leaf has no record.
+    fn lacks(&self, leaf: u32) -> bool
+        requires tree { IsTree self.now }
+        requires leaf { leaf < 2 ^ self.now.depth }
+        ensures lacks { IsTrue result → (level : ℕ) × (level ≤ self.now.depth)
+            × (record_of (kept_by self.now) (node_on self.now.depth leaf level) ≡ None) }
+        ensures has { result ≡ false → (level : ℕ) → level ≤ self.now.depth
+            → IsSome (record_of (kept_by self.now) (node_on self.now.depth leaf level)) }
+    {
+        for level in 0..self.depth + 1 {
+            if self.record(node_at(self.depth, leaf, level)).is_none() {
+                return true;
+            }
+        }
+        false
+    }
+
+    /// The records of a path, each of which is there, root first.
+    fn path(&self, alloc: Global, leaf: u32) -> Result<Vec<u8>, AllocError>
+        requires tree { IsTree self.now }
+        requires leaf { leaf < 2 ^ self.now.depth }
+        requires has { (level : ℕ) → level ≤ self.now.depth
+            → IsSome (record_of (kept_by self.now) (node_on self.now.depth leaf level)) }
+        ensures { IfOk result (λ v. IsPath (kept_by self.now) leaf v.items) }
+    {
+        let mut bytes = Vec::with_capacity(alloc, self.path_len())?;
+        for level in 0..self.depth + 1 {
+            let Some(record) = self.record(node_at(self.depth, leaf, level)) else {
+                unreachable!();
+            };
+            bytes.extend_from_slice(record.as_slice())?;
+        }
+        Ok(bytes)
+    }
+
+    /// The records of the path of a leaf, root first.
+    pub(crate) fn fetch(&self, alloc: Global, leaf: u32) -> Result<Bytes, HostRefusal>
+        requires { IsTree self.now }
+        ensures { MatchResult result (λ bytes. (leaf < 2 ^ self.now.depth)
+            × IsPath (kept_by self.now) leaf bytes) (λ why. RefusesFetch
+            (kept_by self.now) leaf why) }
+    {
+        if leaf >= 1 << self.depth {
+            return Err(HostRefusal::BadLeaf);
+        }
+        if self.lacks(leaf) {
+            return Err(HostRefusal::Missing);
+        }
+        Ok(Bytes::from_vec(self.path(alloc, leaf)?))
+    }
+
+    /// Replaces the records of the path of a leaf.
+    pub(crate) fn store(
+        &mut self,
+        alloc: Global,
+        leaf: u32,
+        records: &[u8],
+    ) -> Result<(), HostRefusal>
+        requires { IsTree self.old }
+        ensures tree { IsTree self.new }
+        ensures stored { MatchResult result (λ _. StoresPath (kept_by self.old) leaf records.now
+            (kept_by self.new)) (λ why. RefusesStore (kept_by self.old) leaf records.now why) }
+        ensures err { OnErr result (kept_by self.new ≡ kept_by self.old) }
+    {
+        if leaf >= 1 << self.depth {
+            return Err(HostRefusal::BadLeaf);
+        }
+        if records.len() != self.path_len() {
+            return Err(HostRefusal::BadLength);
+        }
+        let copies = copied_records(alloc, self.depth + 1, self.record_len as usize, records)?;
+        make_room(alloc, &mut self.records, self.depth, leaf)?;
+        replace_records(&mut self.records, self.depth, leaf, copies);
+        Ok(())
+    }
+
+    /// Replaces the record of a node.
+    pub(crate) fn put(&mut self, alloc: Global, node: u32, bytes: &[u8]) -> Result<(), HostRefusal>
+        requires { IsTree self.old }
+        ensures tree { IsTree self.new }
+        ensures put { MatchResult result (λ _. PutsRecord (kept_by self.old) node bytes.now
+            (kept_by self.new)) (λ why. RefusesPut (kept_by self.old) node bytes.now why) }
+        ensures err { OnErr result (kept_by self.new ≡ kept_by self.old) }
+    {
+        if node >= (1 << (self.depth + 1)) - 1 {
+            return Err(HostRefusal::BadNode);
+        }
+        if bytes.len() != self.record_len as usize {
+            return Err(HostRefusal::BadLength);
+        }
+        self.records.insert(node, Bytes::copy(alloc, bytes)?)?;
+        Ok(())
+    }
+}

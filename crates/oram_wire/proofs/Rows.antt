@@ -1,0 +1,43 @@
+-- Rows that the definitions compute.
+use Rattle.std.proofs.Common.{◌≡◌, ◌∷◌, [], ◌++◌, false, refl}
+use Rattle.std.specs.List.{flat_map}
+use Rattle.oram_wire.specs.declared.host_messages.HostAnswer.TheVariants as answer
+use Rattle.oram_wire.specs.declared.host_messages.HostRequest.TheVariants as request
+use Rattle.oram_wire.specs.FrameStream.{frame, length_at}
+use Rattle.oram_wire.specs.HostMessages.{answer_body, fetch_body, put_body, request_body, shape_body, store_body}
+use Rattle.oram_wire.specs.HostReading.{is_request_length, names_answer, names_request}
+
+fetch_row : request_body (request.Fetch 0 6) ≡ 1 ∷ 0 ∷ 0 ∷ 0 ∷ 0 ∷ 6 ∷ []
+fetch_row = refl
+
+store_row : store_body 0 1 (17 ∷ 18 ∷ 19 ∷ 20 ∷ []) ≡ 2 ∷ 0 ∷ 0 ∷ 0 ∷ 0 ∷ 1 ∷ 17 ∷ 18 ∷ 19 ∷ 20 ∷ []
+store_row = refl
+
+put_row : put_body 0 3 (170 ∷ 187 ∷ []) ≡ 3 ∷ 0 ∷ 0 ∷ 0 ∷ 0 ∷ 3 ∷ 170 ∷ 187 ∷ []
+put_row = refl
+
+shape_row : shape_body 0 1 2 ≡ 4 ∷ 0 ∷ 1 ∷ 0 ∷ 0 ∷ 0 ∷ 2 ∷ []
+shape_row = refl
+
+answer_rows : answer_body (answer.Refused 7) ++ answer_body answer.Done ++ answer_body (answer.Payload (17 ∷ 18 ∷ [])) ≡ 129 ∷ 7 ∷ 128 ∷ 128 ∷ 17 ∷ 18 ∷ []
+answer_rows = refl
+
+frame_row : frame (fetch_body 0 6) ≡ 0 ∷ 0 ∷ 0 ∷ 6 ∷ 1 ∷ 0 ∷ 0 ∷ 0 ∷ 0 ∷ 6 ∷ []
+frame_row = refl
+
+-- two frames, the second without a body
+frames_row : flat_map frame (fetch_body 0 6 ∷ [] ∷ []) ≡ 0 ∷ 0 ∷ 0 ∷ 6 ∷ 1 ∷ 0 ∷ 0 ∷ 0 ∷ 0 ∷ 6 ∷ 0 ∷ 0 ∷ 0 ∷ 0 ∷ []
+frames_row = refl
+
+-- the first length that is too long
+long_row : length_at (0 ∷ 16 ∷ 0 ∷ 1 ∷ []) ≡ 1048577
+long_row = refl
+
+not_a_request : names_request (9 ∷ []) ≡ false
+not_a_request = refl
+
+cut_short : is_request_length 1 5 ≡ false
+cut_short = refl
+
+not_an_answer : names_answer (1 ∷ []) ≡ false
+not_an_answer = refl

@@ -1,0 +1,300 @@
+//! The messages that go to the bucket host, and its answers.
+
+ghost use Rattle.std.specs.Prelude.{◌≡◌, ◌≢◌, ◌↔◌, ◌⊎◌, ◌<◌, ◌^◌, ◌∷◌, [], ◌++◌, true, false, length, IfOk, IfErr, IsErrOf, IsOkAnd, MatchResult};
+ghost use Rattle.std.specs.Int.{w32, to_be_bytes};
+ghost use Rattle.oram_wire.specs.HostMessages.{request_body, answer_body, shape_body};
+ghost use Rattle.oram_wire.specs.HostReading.{request_of, names_request, names_answer, IsMisfit, IsOverlong, HasNoCode, HasNumbers, IsAnswer};
+
+use crate::faults::WireFault;
+use byteorder::{BigEndian, ByteOrder};
+use oram_bytes::Bytes;
+use std::alloc::{AllocError, Global};
+
+const FETCH: u8 = 1;
+
+const STORE: u8 = 2;
+
+const PUT: u8 = 3;
+
+const SHAPE: u8 = 4;
+
+const GOOD: u8 = 0x80;
+
+const REFUSED: u8 = 0x81;
+
+/// A message to the bucket host. Records are those of the path from the root to a leaf, root first.
+#[derive(Debug, Drop, PartialEq, Eq)]
+pub enum HostRequest {
+    /// Asks for the records of a path.
+    Fetch {
+        tree: u8,
+        leaf: u32,
+    },
+    /// Replaces the records of a path.
+    Store {
+        tree: u8,
+        leaf: u32,
+        records: Bytes,
+    },
+    /// Replaces the record of one node.
+    Put {
+        tree: u8,
+        node: u32,
+        bytes: Bytes,
+    },
+    /// Gives a tree its depth and the length of its records.
+    Shape {
+        tree: u8,
+        depth: u8,
+        record_len: u32,
+    },
+}
+
+/// A message to the bucket host, its bytes lent from the body that it was read from.
+#[derive(Clone, Copy, Debug)]
+pub enum HostView<'a> {
+    /// Asks for the records of a path.
+    Fetch {
+        tree: u8,
+        leaf: u32,
+    },
+    /// Replaces the records of a path.
+    Store {
+        tree: u8,
+        leaf: u32,
+        records: &'a [u8],
+    },
+    /// Replaces the record of one node.
+    Put {
+        tree: u8,
+        node: u32,
+        bytes: &'a [u8],
+    },
+    /// Gives a tree its depth and the length of its records.
+    Shape {
+        tree: u8,
+        depth: u8,
+        record_len: u32,
+    },
+}
+
+/// What the bucket host answers.
+#[derive(Debug, Drop, PartialEq, Eq)]
+pub enum HostAnswer {
+    /// The records of a path, root first.
+    Payload(Bytes),
+    /// The request was carried out.
+    Done,
+    /// The request was refused, with a code from 1 to 8.
+    Refused(u8),
+}
+
+/// A first byte, a tree and a number, and then bytes.
+fn message(
+    alloc: Global,
+    op: u8,
+    tree: u8,
+    number: u32,
+    bytes: &[u8],
+) -> Result<Vec<u8>, AllocError>
+    ensures { IfOk result (λ v. v.items ≡ (op ∷ tree ∷ []) ++ to_be_bytes w32 number ++ bytes.now) }
+{
+    let mut head = [op, tree, 0, 0, 0, 0];
+    BigEndian::write_u32(&mut head[2..], number);
+    let mut body = Vec::with_capacity(alloc, head.len() + bytes.len())?;
+    body.extend_from_slice(&head)?;
+    body.extend_from_slice(bytes)?;
+    Ok(body)
+}
+
+/// The body of a SHAPE.
+fn shape(alloc: Global, tree: u8, depth: u8, record_len: u32) -> Result<Vec<u8>, AllocError>
+    ensures { IfOk result (λ v. v.items ≡ shape_body tree depth record_len) }
+{
+    let mut body = [SHAPE, tree, depth, 0, 0, 0, 0];
+    BigEndian::write_u32(&mut body[3..], record_len);
+    body.to_vec(alloc)
+}
+
+impl HostRequest {
+    /// The body of the message.
+    pub fn encode(&self, alloc: Global) -> Result<Vec<u8>, AllocError>
+        ensures { IfOk result (λ v. v.items ≡ request_body self.now) }
+    {
+        match self {
+            HostRequest::Fetch { tree, leaf } => message(alloc, FETCH, *tree, *leaf, &[]),
+            HostRequest::Store {
+                tree,
+                leaf,
+                records,
+            } => message(alloc, STORE, *tree, *leaf, records.as_slice()),
+            HostRequest::Put { tree, node, bytes } => {
+                message(alloc, PUT, *tree, *node, bytes.as_slice())
+            }
+            HostRequest::Shape {
+                tree,
+                depth,
+                record_len,
+            } => shape(alloc, *tree, *depth, *record_len),
+        }
+    }
+
+    /// The message that a body is. How long the records are to be is the host's matter.
+    pub fn decode(alloc: Global, body: &[u8]) -> Result<HostRequest, WireFault>
+        ensures found { IfOk result (λ message. body.now ≡ request_body message) }
+        // What is a request's body is read as that request, unless memory was refused.
+        ensures only { (message : HostRequest) → HasNumbers message
+            → body.now ≡ request_body message
+            → MatchResult result (λ read. read ≡ message) (λ f. f ≡ WireFault.OutOfMemory) }
+
+        ensures op { IsErrOf result WireFault.Op ↔ (names_request body.now ≡ false) }
+        ensures length { IsErrOf result WireFault.Length ↔ IsMisfit body.now }
+        ensures code { IfErr result (λ f. f ≢ WireFault.Code) }
+    {
+        let view = HostView::read(body)?;
+        Ok(view.to_request(alloc)?)
+    }
+}
+
+/// The tree and the number behind a first byte, and what follows them.
+fn place_in(fields: &[u8]) -> Result<(u8, u32, &[u8]), WireFault>
+    ensures found { IfOk result (λ p. fields.now ≡ (p.0 ∷ []) ++ to_be_bytes w32 p.1 ++ p.2.now) }
+    ensures fault { IfErr result (λ f. (f ≡ WireFault.Length) × (length fields.now < 5)) }
+{
+    if fields.len() < 5 {
+        return Err(WireFault::Length);
+    }
+    Ok((fields[0], BigEndian::read_u32(&fields[1..5]), &fields[5..]))
+}
+
+impl<'a> HostView<'a> {
+    ghost use Rattle.oram_wire.specs.declared.host_messages.HostRequest.{HostRequest};
+
+    /// The message that a body is.
+    pub fn read(body: &'a [u8]) -> Result<HostView<'a>, WireFault>
+        ensures found { IfOk result (λ view. body.now ≡ request_body (request_of view)) }
+        // What is a request's body is read as that request.
+        ensures only { (message : HostRequest) → HasNumbers message
+            → body.now ≡ request_body message
+            → IsOkAnd result (λ view. request_of view ≡ message) }
+
+        ensures op { IsErrOf result WireFault.Op ↔ (names_request body.now ≡ false) }
+        ensures length { IsErrOf result WireFault.Length ↔ IsMisfit body.now }
+        ensures faults { IfErr result (λ f. (f ≡ WireFault.Op) ⊎ (f ≡ WireFault.Length)) }
+    {
+        let [op, fields @ ..] = body else {
+            return Err(WireFault::Op);
+        };
+        match *op {
+            FETCH => {
+                let (tree, leaf, rest) = place_in(fields)?;
+                if !rest.is_empty() {
+                    return Err(WireFault::Length);
+                }
+                Ok(HostView::Fetch { tree, leaf })
+            }
+            STORE => {
+                let (tree, leaf, records) = place_in(fields)?;
+                Ok(HostView::Store {
+                    tree,
+                    leaf,
+                    records,
+                })
+            }
+            PUT => {
+                let (tree, node, bytes) = place_in(fields)?;
+                Ok(HostView::Put { tree, node, bytes })
+            }
+            SHAPE => {
+                if fields.len() != 6 {
+                    return Err(WireFault::Length);
+                }
+                Ok(HostView::Shape {
+                    tree: fields[0],
+                    depth: fields[1],
+                    record_len: BigEndian::read_u32(&fields[2..]),
+                })
+            }
+            _ => Err(WireFault::Op),
+        }
+    }
+
+    /// The message with a copy of its bytes.
+    pub fn to_request(&self, alloc: Global) -> Result<HostRequest, AllocError>
+        ensures { IfOk result (λ message. message ≡ request_of self.now) }
+    {
+        Ok(match *self {
+            HostView::Fetch { tree, leaf } => HostRequest::Fetch { tree, leaf },
+            HostView::Store {
+                tree,
+                leaf,
+                records,
+            } => HostRequest::Store {
+                tree,
+                leaf,
+                records: Bytes::copy(alloc, records)?,
+            },
+            HostView::Put { tree, node, bytes } => HostRequest::Put {
+                tree,
+                node,
+                bytes: Bytes::copy(alloc, bytes)?,
+            },
+            HostView::Shape {
+                tree,
+                depth,
+                record_len,
+            } => HostRequest::Shape {
+                tree,
+                depth,
+                record_len,
+            },
+        })
+    }
+}
+
+impl HostAnswer {
+    /// The body of the answer. A payload of no bytes would be read as `Done`, and another code not
+    /// at all.
+    pub fn encode(&self, alloc: Global) -> Result<Vec<u8>, AllocError>
+        requires { IsAnswer self.now }
+        ensures { IfOk result (λ v. v.items ≡ answer_body self.now) }
+    {
+        match self {
+            HostAnswer::Payload(bytes) => {
+                let payload = bytes.as_slice();
+                let mut body = Vec::with_capacity(alloc, 1 + payload.len())?;
+                body.push(GOOD)?;
+                body.extend_from_slice(payload)?;
+                Ok(body)
+            }
+            HostAnswer::Done => [GOOD].to_vec(alloc),
+            HostAnswer::Refused(code) => [REFUSED, *code].to_vec(alloc),
+        }
+    }
+
+    /// The answer that a body is.
+    pub fn decode(alloc: Global, body: &[u8]) -> Result<HostAnswer, WireFault>
+        ensures found { IfOk result (λ answer. IsAnswer answer × (body.now ≡ answer_body answer)) }
+        // What is an answer's body is read as that answer, unless memory was refused.
+        ensures only { (answer : HostAnswer) → IsAnswer answer → body.now ≡ answer_body answer
+            → MatchResult result (λ read. read ≡ answer) (λ f. f ≡ WireFault.OutOfMemory) }
+
+        ensures op { IsErrOf result WireFault.Op ↔ (names_answer body.now ≡ false) }
+        ensures length { IsErrOf result WireFault.Length ↔ IsOverlong body.now }
+        ensures code { IsErrOf result WireFault.Code ↔ HasNoCode body.now }
+    {
+        match body {
+            [GOOD] => Ok(HostAnswer::Done),
+            [GOOD, payload @ ..] => Ok(HostAnswer::Payload(Bytes::copy(alloc, payload)?)),
+            [REFUSED, code] => match *code {
+                1..=8 => Ok(HostAnswer::Refused(*code)),
+                _ => Err(WireFault::Code),
+            },
+            [REFUSED, ..] => Err(WireFault::Length),
+            _ => Err(WireFault::Op),
+        }
+    }
+}
+
+#[cfg(test)]
+mod tests;

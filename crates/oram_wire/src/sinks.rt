@@ -1,0 +1,88 @@
+//! What takes the messages that format a host.
+
+ghost use Rattle.std.specs.Prelude.{◌≡◌, List, ℕ, [], ◌∷◌, ◌++◌, map, OnOk, OnErr, IfErr};
+ghost use Rattle.oram_wire.specs.ListOfBodies.{bodies_in};
+
+use std::alloc::{AllocError, Global};
+use std::marker::Model;
+
+/// Why a sink did not take a body.
+#[derive(Clone, Copy, Debug, PartialEq, Eq)]
+pub enum SinkFault {
+    /// The host answered something else than that it is done.
+    Refused,
+    /// The link to the host failed.
+    Link,
+    /// Memory was refused.
+    OutOfMemory,
+}
+
+/// What takes the messages that format a host, one body after the other.
+pub trait Sink {
+    /// What taking a body leaves.
+    ghost putting: { Self → List ℕ → Self → Type 0 };
+
+    fn put(&mut self, body: &[u8]) -> Result<(), SinkFault>
+        ensures { OnOk result (putting self.old body.now self.new) };
+}
+
+/// A sink that keeps the bodies, in order.
+#[derive(Drop)]
+pub struct ListSink {
+    alloc: Global,
+    bodies: Vec<Vec<u8>>,
+}
+
+impl Model for ListSink {
+    ghost use Rattle.std.specs.Prelude.{List, ℕ};
+    ghost use Rattle.oram_wire.specs.ListOfBodies.{bodies_in};
+
+    ghost Value = { List (List ℕ) };
+
+    ghost view = { λ s. bodies_in s.bodies.items };
+}
+
+impl ListSink {
+    pub fn new(alloc: Global) -> ListSink
+        ensures { result ≡ [] }
+    {
+        ListSink {
+            alloc,
+            bodies: Vec::new(alloc),
+        }
+    }
+
+    /// The bodies that were put, the first one first.
+    pub fn bodies(&self) -> &[Vec<u8>]
+        ensures { bodies_in result.now ≡ self.now }
+    {
+        self.bodies.as_slice()
+    }
+
+    fn keep(&mut self, body: &[u8]) -> Result<(), AllocError>
+        ensures ok { OnOk result (self.new ≡ self.old ++ body.now ∷ []) }
+        ensures err { OnErr result (self.new ≡ self.old) }
+    {
+        let copy = body.to_vec(self.alloc)?;
+        self.bodies.push(copy)?;
+        Ok(())
+    }
+}
+
+impl Sink for ListSink {
+    ghost putting = { λ old body new. new ≡ old ++ body ∷ [] };
+
+    fn put(&mut self, body: &[u8]) -> Result<(), SinkFault>
+        ensures ok { OnOk result (self.new ≡ self.old ++ body.now ∷ []) }
+        ensures err { OnErr result (self.new ≡ self.old) }
+        ensures fault { IfErr result (λ f. f ≡ SinkFault.OutOfMemory) }
+    {
+        match self.keep(body) {
+            Ok(()) => Ok(()),
+            Err(_) => Err(SinkFault::OutOfMemory),
+        }
+    }
+}
+
+#[cfg(test)]
+mod tests;

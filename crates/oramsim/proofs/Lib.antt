@@ -1,0 +1,9 @@
+pub mod Numbers
+pub mod Hex
+pub mod Writes
+pub mod Moving
+pub mod Waiting
+pub mod Drained
+pub mod Passing
+pub mod Lines
+mod Rows

@@ -1,0 +1,93 @@
+-- Worked lines and texts.
+use Rattle.std.proofs.Common.{◌≡◌, [], ◌∷◌, Some, None, refl}
+use Rattle.std.specs.Prelude.{codes}
+use Rattle.std.specs.Fmt.{digits}
+use Rattle.hex.proofs.OnLiterals.{hex_on_literals}
+use Rattle.hex.specs.Hex.{encode_with}
+use Rattle.oram_core.specs.declared.events.Note.TheVariants.{Accepted, Refused, FailedNow}
+use Rattle.oram_core.specs.declared.events.Reason.TheVariants.{Malformed}
+use Rattle.oram_core.specs.declared.events.Refusal.TheVariants.{Exhausted}
+use Rattle.oram_core.specs.declared.events.ReplyBody.TheVariants.{Data}
+use Rattle.oramsim.specs.Printing.{note_text, reply_text, send_text, error_text}
+use Rattle.oramsim.specs.Reading.{lines_of, line_of, line_from, device_from, read_from, write_from, number_below, numbers_below, hex_bytes}
+use Rattle.oramsim.specs.declared.line.Line.TheVariants.{Device, Read, Write, Drain}
+
+lines_ended : lines_of (97 ∷ 10 ∷ 10 ∷ 98 ∷ 10 ∷ []) ≡ (97 ∷ []) ∷ [] ∷ (98 ∷ []) ∷ []
+lines_ended = refl
+
+last_lacks_its_end : lines_of (97 ∷ 13 ∷ 10 ∷ 98 ∷ []) ≡ (97 ∷ 13 ∷ []) ∷ (98 ∷ []) ∷ []
+last_lacks_its_end = refl
+
+device_line : line_of (codes "device 8 16 4 8 100") ≡ Some (Device 8 16 4 8 100)
+unfolding line_from device_from number_below
+device_line = refl
+
+read_line : line_of (codes "read 1 0 18446744073709551615 0") ≡ Some (Read 1 0 (18446744073709551615 ∷ 0 ∷ []))
+unfolding line_from read_from number_below numbers_below
+read_line = refl
+
+word_too_large : line_of (codes "read 1 0 18446744073709551616") ≡ None
+unfolding line_from read_from number_below numbers_below
+word_too_large = refl
+
+address_too_large : line_of (codes "read 1 4294967296") ≡ None
+unfolding line_from read_from number_below numbers_below
+address_too_large = refl
+
+no_words : line_of (codes "read 1 5") ≡ Some (Read 1 5 [])
+unfolding line_from read_from number_below numbers_below
+no_words = refl
+
+leading_zero : line_of (codes "read 01 5") ≡ None
+unfolding line_from read_from number_below numbers_below
+leading_zero = refl
+
+plus_sign : line_of (codes "read +1 5") ≡ None
+unfolding line_from read_from number_below numbers_below
+plus_sign = refl
+
+double_space : line_of (codes "read 1  5") ≡ None
+unfolding line_from read_from number_below numbers_below
+double_space = refl
+
+space_at_the_end : line_of (codes "drain ") ≡ None
+unfolding line_from
+space_at_the_end = refl
+
+drain_line : line_of (codes "drain") ≡ Some Drain
+unfolding line_from
+drain_line = refl
+
+write_line : line_of (codes "write 2 3 0aFf 7") ≡ Some (Write 2 3 (10 ∷ 255 ∷ []) (7 ∷ []))
+unfolding line_from write_from number_below numbers_below hex_bytes hex_on_literals
+write_line = refl
+
+odd_digits : line_of (codes "write 2 3 0aF 7") ≡ None
+unfolding line_from write_from number_below numbers_below hex_bytes hex_on_literals
+odd_digits = refl
+
+no_digits : line_of (codes "write 2 3") ≡ None
+unfolding line_from write_from
+no_digits = refl
+
+exhausted_text : note_text (Refused Exhausted) ≡ codes "refused 5 exhausted\n"
+exhausted_text = refl
+
+failed_text : note_text (FailedNow Malformed) ≡ codes "failed malformed\n"
+failed_text = refl
+
+accepted_text : note_text (Accepted 10) ≡ codes "accepted 10\n"
+unfolding digits
+accepted_text = refl
+
+fetch_text : send_text (1 ∷ 0 ∷ 0 ∷ 0 ∷ 1 ∷ 2 ∷ []) ≡ codes "fetch 0 258\n"
+unfolding digits
+fetch_text = refl
+
+data_text : reply_text (record { session = 7; ticket = 0; body = Data (10 ∷ 255 ∷ []) }) ≡ codes "reply 7 0 data 0aff\n"
+unfolding digits encode_with
+data_text = refl
+
+line_text : error_text 12 ≡ codes "error line 12\n"
+unfolding digits
+line_text = refl

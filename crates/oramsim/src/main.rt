@@ -1,0 +1,45 @@
+//! A program that runs scripts over the block store.
+//!
+//! A script is lines of text: a device's five numbers, then reads and writes of its sessions and what the host
+//! answers. What the device replies and sends is printed, a line each.
+#![tactic(auto)]
+
+mod line;
+mod machine;
+mod printing;
+mod script;
+mod server;
+
+pub use script::{Ending, SimFault, run_script};
+use std::io;
+use std::io::{BufReader, BufWriter, Write};
+use std::process::ExitCode;
+
+/// The status that a run ends with.
+fn status(ended: Result<Ending, SimFault>) -> u8 {
+    match ended {
+        Ok(Ending::End) => 0,
+        Ok(Ending::BadLine(_)) => 2,
+        Err(SimFault::OutOfMemory) => 3,
+        Err(SimFault::Read | SimFault::Write) => 4,
+    }
+}
+
+/// Runs the script of the standard input.
+fn run(rt: &(impl Input + Print + AllocGlobal)) -> Result<Ending, SimFault> {
+    let reader = BufReader::new(rt.alloc(), rt.reader());
+    let writer = BufWriter::new(rt.alloc(), io::writer(rt));
+    let (Ok(mut reader), Ok(mut writer)) = (reader, writer) else {
+        machine::put(&mut io::writer(rt), b"out of memory\n")?;
+        return Err(SimFault::OutOfMemory);
+    };
+    let ended = run_script(rt.alloc(), &mut reader, &mut writer);
+    match writer.flush() {
+        Ok(()) => ended,
+        Err(_) => Err(SimFault::Write),
+    }
+}
+
+fn main(rt: HostRuntime) -> ExitCode {
+    ExitCode::from(status(run(&rt)))
+}

@@ -1,0 +1,163 @@
+//! Scripts and their runs.
+ghost use Rattle.std.specs.Prelude.{◌≡◌, ◌≢◌, ◌++◌, ℕ, List, true, false, IfOk, IfErr, OnOk, IfSome, IsErrOf};
+ghost use Rattle.std.specs.Io.BufRead.{strip_last};
+ghost use Rattle.std.specs.Io.KnownBytes.{Appends, IsAtEnd};
+ghost use Rattle.oramsim.specs.declared.script.SimFault.TheVariants.{OutOfMemory};
+ghost use Rattle.oramsim.specs.Printing.{error_text};
+ghost use Rattle.oramsim.specs.Script.{Stage, Passes, IsBad, IsScriptText};
+ghost use Rattle.oramsim.specs.Standing.{AreWhole, StandsAt};
+
+use crate::line::Line;
+use crate::machine::{Machine, begin, put};
+use crate::printing::ErrorText;
+use oram_geometry::Device;
+use std::alloc::{AllocError, AllocFailed, Global};
+use std::io;
+use std::io::{BufRead, ErrorKind, Write};
+use thiserror::Error;
+
+/// How a script ended.
+#[derive(Clone, Copy, Debug, PartialEq, Eq)]
+pub enum Ending {
+    /// At the end of its lines.
+    End,
+    /// At the line of this number, from 1, which is none that a script may have there.
+    BadLine(u64),
+}
+
+/// Why the run of a script was given up.
+#[derive(Clone, Copy, Debug, PartialEq, Eq, Error)]
+pub enum SimFault {
+    #[error("out of memory")]
+    OutOfMemory,
+    #[error("the script could not be read")]
+    Read,
+    #[error("the output could not be written")]
+    Write,
+}
+
+impl From<AllocError> for SimFault {
+    ghost from_gives = { λ _ e. e ≡ OutOfMemory };
+
+    fn from(_error: AllocError) -> SimFault {
+        SimFault::OutOfMemory
+    }
+}
+
+/// What a reader's error is to a script.
+fn read_fault(error: &io::Error) -> SimFault {
+    if error.kind() == ErrorKind::OutOfMemory {
+        SimFault::OutOfMemory
+    } else {
+        SimFault::Read
+    }
+}
+
+/// A line without the byte 0A at its end.
+fn without_end(line: &[u8]) -> &[u8]
+    ensures { result.now ≡ strip_last 10 line.now }
+{
+    match line {
+        [front @ .., b'\n'] => front,
+        _ => line,
+    }
+}
+
+/// Does what a line says. False is a line that the script can't have where it stands.
+fn pass<W: Write>(
+    alloc: Global,
+    writer: &mut W,
+    machine: &mut Option<Machine>,
+    bytes: &[u8],
+) -> Result<bool, SimFault>
+    requires { AreWhole machine.old }
+    ensures whole { OnOk result (AreWhole machine.new) }
+    ensures ok { (stage : Stage) → StandsAt stage machine.old → result ≡ Ok true → (out : List ℕ) × (after : Stage)
+        × Passes stage bytes.now out after × StandsAt after machine.new × Appends (W.contents writer.old) (W.contents writer.new) out }
+    ensures bad { (stage : Stage) → StandsAt stage machine.old → result ≡ Ok false → IsBad stage bytes.now × (W.contents writer.new ≡ W.contents writer.old) }
+{
+    if bytes.is_empty() {
+        return Ok(true);
+    }
+    let Some(line) = Line::read(alloc, bytes)? else {
+        return Ok(false);
+    };
+    match machine {
+        Some(machine) => machine.obey(alloc, writer, line),
+        None => {
+            let Line::Device {
+                blocks,
+                block_bytes,
+                slots,
+                top,
+                lifetime,
+            } = line
+            else {
+                return Ok(false);
+            };
+            let device = Device::new(blocks, block_bytes, slots, top, lifetime);
+            *machine = begin(alloc, writer, device)?;
+            Ok(true)
+        }
+    }
+}
+
+/// Tells the number of a line that the script can't have.
+fn tell_bad<W: Write>(alloc: Global, writer: &mut W, number: u64) -> Result<(), SimFault>
+    ensures { OnOk result (Appends (W.contents writer.old) (W.contents writer.new) (error_text number)) }
+{
+    let text = format!(in alloc; "{}", ErrorText(number))?;
+    put(writer, text.as_bytes())
+}
+
+/// Runs the lines of a script, up to the first that it can't have.
+fn run_lines<R: BufRead, W: Write>(
+    alloc: Global,
+    reader: &mut R,
+    writer: &mut W,
+) -> Result<Ending, SimFault>
+    ensures ok { IfOk result (λ ending. IfSome (R.remaining reader.old) (λ input. (text : List ℕ) × IsScriptText input text ending
+        × Appends (W.contents writer.old) (W.contents writer.new) text)) }
+    ensures end { result ≡ Ok Ending.End → IfSome (R.remaining reader.old) (λ _. IsAtEnd (R.remaining reader.new)) }
+{
+    let mut machine = None;
+    let mut line = Vec::new(alloc);
+    for number in 0..u64::MAX {
+        line.clear();
+        let count = match reader.read_until(b'\n', &mut line) {
+            Ok(count) => count,
+            Err(error) => return Err(read_fault(&error)),
+        };
+        if count == 0 {
+            return Ok(Ending::End);
+        }
+        if !pass(alloc, writer, &mut machine, without_end(line.as_slice()))? {
+            tell_bad(alloc, writer, number + 1)?;
+            return Ok(Ending::BadLine(number + 1));
+        }
+    }
+    Err(SimFault::Read)
+}
+
+/// Runs a script and writes what it prints. What ends a run early is the last line that is written: the number of a
+/// line that the script can't have, or that memory ran out.
+pub fn run_script<R: BufRead, W: Write>(
+    alloc: Global,
+    reader: &mut R,
+    writer: &mut W,
+) -> Result<Ending, SimFault>
+    ensures ok { IfOk result (λ ending. IfSome (R.remaining reader.old) (λ input. (text : List ℕ) × IsScriptText input text ending
+        × Appends (W.contents writer.old) (W.contents writer.new) text)) }
+    ensures end { result ≡ Ok Ending.End → IfSome (R.remaining reader.old) (λ _. IsAtEnd (R.remaining reader.new)) }
+{
+    match run_lines(alloc, reader, writer) {
+        Err(SimFault::OutOfMemory) => {
+            put(writer, b"out of memory\n")?;
+            Err(SimFault::OutOfMemory)
+        }
+        ended => ended,
+    }
+}
+
+#[cfg(test)]
+mod tests;
