@@ -1,0 +1,23 @@
+-- A map from addresses to blocks, as the list of its blocks by rising address.
+use Rattle.std.specs.Prelude.{◌≡◌, ℕ, ◌<◌, ◌≤◌, List, Option, find, length, AllPairs, ◌==◌}
+use Rattle.std.specs.List.{HoldsAt, AllWithin}
+use Rattle.oram_bucket.specs.declared.block.Block.{Block}
+
+-- the addresses rise, so none comes twice
+abbrev pub IsRising : List Block → Type 0
+IsRising = AllPairs (λ b c. b.address < c.address)
+
+-- the block with an address
+abbrev pub block_at : List Block → ℕ → Option Block
+block_at blocks address = find (λ b. b.address == address) blocks
+
+-- the block at place i has the address
+pub record IsAt (blocks : List Block) (address i : ℕ) : Type 0 where
+  pub in_range : i < length blocks
+  pub has_address : HoldsAt (λ b. b.address ≡ address) blocks i
+
+-- a block with the address would go to place i: lesser addresses before it, and greater ones from it on
+pub record IsGapFor (blocks : List Block) (address i : ℕ) : Type 0 where
+  pub in_range : i ≤ length blocks
+  pub lesser_before : AllWithin (λ b. b.address < address) blocks 0 i
+  pub greater_after : AllWithin (λ b. address < b.address) blocks i (length blocks)

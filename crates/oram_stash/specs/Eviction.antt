@@ -1,0 +1,54 @@
+-- What an eviction to the path of a leaf leaves, as a test of the outcome: a list of blocks for each level, and a rest.
+use Rattle.std.specs.Prelude.{◌≡◌, ℕ, ◌+◌, ◌<◌, ◌≤◌, ◌⊎◌, List, [], length, All, Contains, slice_index_or}
+use Rattle.std.specs.List.{flat_map}
+use Rattle.std.specs.Prelude.{IsPermutation, ◌++◌}
+use Rattle.oram_bucket.specs.declared.block.Block.{Block}
+use Rattle.oram_geometry.specs.Path.{MeetsAt}
+use Rattle.oram_stash.specs.Blocks.{IsRising}
+
+-- the blocks listed at a level
+abbrev pub listed : List (List Block) → ℕ → List Block
+listed lists level = slice_index_or lists level []
+
+-- the blocks of all levels, from the root down
+abbrev pub all_listed : List (List Block) → List Block
+all_listed lists = flat_map (λ list. list) lists
+
+-- the blocks lie in the buckets of the path of leaf x, or in the rest: each once, a bucket's on their own paths and
+-- at most as many as it has slots
+pub record IsPlacement (deep slots x : ℕ) (blocks : List Block) (lists : List (List Block)) (rest : List Block) : Type 0 where
+  pub levels : length lists ≡ deep + 1
+  pub on_path : (l : ℕ) (b : Block) → Contains (listed lists l) b → MeetsAt deep x b.leaf l
+  pub within : (l : ℕ) → length (listed lists l) ≤ slots
+  pub each_once : IsPermutation blocks (all_listed lists ++ rest)
+
+-- the block is left over, or listed nearer the root than level l
+abbrev pub IsNearer : List (List Block) → List Block → ℕ → Block → Type 0
+IsNearer lists rest l b = Contains rest b ⊎ ((k : ℕ) × (k < l) × Contains (listed lists k) b)
+
+-- no block is left over or listed nearer the root than it may be, unless the bucket is full of lesser addresses
+pub record IsGreedy (deep slots x : ℕ) (lists : List (List Block)) (rest : List Block) : Type 0 where
+  pub rising : (l : ℕ) → IsRising (listed lists l)
+  pub full : (l : ℕ) (b : Block) → l ≤ deep → MeetsAt deep x b.leaf l → IsNearer lists rest l b → length (listed lists l) ≡ slots
+  pub least : (l : ℕ) (b : Block) → l ≤ deep → MeetsAt deep x b.leaf l → IsNearer lists rest l b → All (λ c. c.address < b.address) (listed lists l)
+
+-- the outcome of an eviction of the blocks
+pub record IsEviction (deep slots x : ℕ) (blocks : List Block) (lists : List (List Block)) (rest : List Block) : Type 0 where
+  pub placement : IsPlacement deep slots x blocks lists rest
+  pub greedy : IsGreedy deep slots x lists rest
+  pub rising : IsRising rest
+
+-- no other way to put the same blocks into the buckets leaves fewer blocks over
+abbrev pub LeavesFewest : ℕ → ℕ → ℕ → List Block → List Block → Type 0
+LeavesFewest deep slots x blocks rest = (lists : List (List Block)) (other : List Block) → IsPlacement deep slots x blocks lists other → length rest ≤ length other
+
+-- level c shows it: the buckets down to c are full, and no block in them or in the rest has a path that meets that of x
+-- further down, so these blocks fit nowhere else
+pub record IsTight (deep slots x : ℕ) (lists : List (List Block)) (rest : List Block) (c : ℕ) : Type 0 where
+  pub in_tree : c ≤ deep
+  pub full : (l : ℕ) → l ≤ c → length (listed lists l) ≡ slots
+  pub apart : (b : Block) (k : ℕ) → IsNearer lists rest (c + 1) b → c < k → k ≤ deep → MeetsAt deep x b.leaf k → ⊥
+
+-- blocks have one outcome
+abbrev pub OneOutcome : Type 0
+OneOutcome = (deep slots x : ℕ) (blocks : List Block) (lists others : List (List Block)) (rest other : List Block) → IsRising blocks → IsEviction deep slots x blocks lists rest → IsEviction deep slots x blocks others other → (lists ≡ others) × (rest ≡ other)

@@ -1,0 +1,200 @@
+//! The client's stash: the blocks that lie in no bucket, and their eviction to a path.
+//!
+//! An access reads a path into the stash and then moves blocks back to it (Path ORAM, CCS 2013, section 3): from the leaf
+//! up to the root, into each bucket those whose own path has it, as many as it has slots. Where the paper leaves open
+//! which, the least addresses go first, so that an eviction has just one outcome.
+#![tactic(auto)]
+
+ghost use Rattle.std.specs.Prelude.{◌≡◌, ◌≢◌, ℕ, ◌+◌, ◌<◌, ◌≤◌, ◌^◌, ◌↔◌, ◌==◌, List, [], ◌∷◌, ◌++◌, length, map, All, Contains, IsSome, IsNone, IfOk, IfErr, OnOk, OnErr, IfSome, IfNone, MatchOption, IsPermutation, if◌then◌else◌, Some};
+ghost use Rattle.oram_geometry.specs.Sizes.{trees_of, depth_of};
+ghost use Rattle.oram_stash.specs.Blocks.{IsRising, block_at, IsAt, IsGapFor};
+ghost use Rattle.oram_stash.specs.Faults.{block_of};
+ghost use Rattle.oram_stash.specs.Eviction.{IsEviction, IsGreedy, LeavesFewest, IsTight, OneOutcome, all_listed};
+
+mod levels;
+mod lists;
+
+use levels::{chosen_levels, deepest_shared};
+use lists::{empty_lists, move_out};
+use oram_bucket::Block;
+use oram_geometry::Device;
+use std::alloc::{AllocError, Global};
+use std::marker::Model;
+use std::mem;
+
+/// Why a block was not absorbed; it comes back.
+#[derive(Debug, Drop)]
+pub enum StashFault {
+    /// A block of this address is there.
+    Duplicate(Block),
+    OutOfMemory(Block),
+}
+
+/// Blocks by rising address.
+#[derive(Debug, Drop)]
+pub struct Stash {
+    blocks: Vec<Block>,
+}
+
+impl Model for Stash {
+    ghost use Rattle.std.specs.Prelude.{List};
+    ghost use Rattle.oram_bucket.specs.declared.block.Block.{Block};
+    ghost use Rattle.oram_stash.specs.Blocks.{IsRising};
+
+    ghost Value = { List Block };
+
+    ghost view = { λ s. s.blocks.items };
+
+    ghost invariant = { λ s. IsRising s.blocks.items };
+}
+
+impl Stash {
+    /// A stash without blocks.
+    pub fn new(alloc: Global) -> Self
+        ensures { result ≡ [] }
+    {
+        Stash {
+            blocks: Vec::new(alloc),
+        }
+    }
+
+    /// How many blocks there are.
+    pub fn len(&self) -> usize
+        ensures { result ≡ length self.now }
+    {
+        self.blocks.len()
+    }
+
+    /// Whether there is none.
+    pub fn is_empty(&self) -> bool
+        ensures { result ≡ (length self.now == 0) }
+    {
+        self.blocks.is_empty()
+    }
+
+    /// Copies of the blocks, by rising address.
+    pub fn list(&self, alloc: Global) -> Result<Vec<Block>, AllocError>
+        ensures { IfOk result (λ list. list.items ≡ self.now) }
+    {
+        let mut list = Vec::with_capacity(alloc, self.blocks.len())?;
+        for block in &self.blocks {
+            list.push(block.copy(alloc)?)?;
+        }
+        Ok(list)
+    }
+
+    /// A stash of copies of the blocks.
+    pub fn copy(&self, alloc: Global) -> Result<Stash, AllocError>
+        ensures same { IfOk result (λ stash. stash ≡ self.now) }
+        ensures rising { IsRising self.now }
+    {
+        let _blocks = &self.blocks;
+        Ok(Stash {
+            blocks: self.list(alloc)?,
+        })
+    }
+
+    /// Puts a block where its address belongs.
+    pub fn absorb(&mut self, block: Block) -> Result<(), StashFault>
+        ensures rising { IsRising self.new }
+        ensures ok { OnOk result (IsPermutation (block ∷ self.old) self.new) }
+
+        ensures err { OnErr result (self.new ≡ self.old) }
+        ensures returned { IfErr result (λ fault. block_of fault ≡ block) }
+        ensures duplicate { (result ≡ Err (StashFault.Duplicate block)) ↔ IsSome (block_at self.old block.address) }
+    {
+        let Err(at) = self.search(block.address) else {
+            return Err(StashFault::Duplicate(block));
+        };
+        if let Err(refused) = self.blocks.insert(at, block) {
+            return Err(StashFault::OutOfMemory(refused.value));
+        }
+        Ok(())
+    }
+
+    /// Takes the block of an address out, if it is there.
+    pub fn take(&mut self, address: u32) -> Option<Block>
+        ensures rising { IsRising self.new }
+        ensures value { result ≡ block_at self.old address }
+        ensures some { IfSome result (λ block. IsPermutation self.old (block ∷ self.new)) }
+        ensures none { IfNone result (self.new ≡ self.old) }
+    {
+        match self.search(address) {
+            Ok(at) => Some(self.blocks.remove(at)),
+            Err(_) => None,
+        }
+    }
+
+    /// Moves blocks to the path of a leaf: at each level from the deepest up, of the blocks whose own path meets that
+    /// path there the least addresses, as many as a bucket has slots. The lists stand by level, from the root down.
+    pub fn evict(
+        &mut self,
+        alloc: Global,
+        device: &Device,
+        tree: u8,
+        leaf: u32,
+    ) -> Result<Vec<Vec<Block>>, AllocError>
+        requires tree { tree < trees_of device.now }
+        requires leaf_in { leaf < 2 ^ depth_of device.now tree }
+        requires leaves_in { All (λ block. block.leaf < 2 ^ depth_of device.now tree) self.old }
+        ensures ok { IfOk result (λ lists. IsEviction (depth_of device.now tree) device.now.slots leaf self.old (map (λ list. list.items) lists.items) self.new) }
+        ensures leaves_in { IfOk result (λ lists. All (λ block. block.leaf < 2 ^ depth_of device.now tree) (all_listed (map (λ list. list.items) lists.items) ++ self.new)) }
+        ensures fewest { OnOk result (LeavesFewest (depth_of device.now tree) device.now.slots leaf self.old self.new) }
+        ensures err { OnErr result (self.new ≡ self.old) }
+    {
+        let levels = chosen_levels(alloc, device, tree, leaf, &self.blocks)?;
+        let mut lists = empty_lists(alloc, usize::from(device.depth(tree)) + 1, device.slots())?;
+        let mut rest = Vec::with_capacity(alloc, self.blocks.len())?;
+        let blocks = mem::replace(&mut self.blocks, Vec::new(alloc));
+        move_out(blocks, &levels, &mut lists, &mut rest);
+        self.blocks = rest;
+        Ok(lists)
+    }
+
+    /// After an eviction, a level down to which the path's buckets are full of blocks that fit no further down, as the
+    /// stash's don't; none where the stash is empty. It takes no memory.
+    pub fn tight_level(
+        &self,
+        device: &Device,
+        tree: u8,
+        leaf: u32,
+        lists: &[Vec<Block>],
+    ) -> Option<u8>
+        requires tree { tree < trees_of device.now }
+        requires leaf_in { leaf < 2 ^ depth_of device.now tree }
+        requires levels { length lists.now ≡ depth_of device.now tree + 1 }
+        requires leaves_in { All (λ block. block.leaf < 2 ^ depth_of device.now tree) (all_listed (map (λ list. list.items) lists.now) ++ self.now) }
+        requires greedy { IsGreedy (depth_of device.now tree) device.now.slots leaf (map (λ list. list.items) lists.now) self.now }
+        ensures none { IsNone result ↔ (self.now ≡ []) }
+        ensures tight { IfSome result (IsTight (depth_of device.now tree) device.now.slots leaf (map (λ list. list.items) lists.now) self.now) }
+    {
+        let first = self.blocks.first()?;
+        let level = device.shared_level(tree, leaf, first.leaf);
+        let mut tight = deepest_shared(device, tree, leaf, level, &self.blocks);
+        for (level, list) in lists.iter().enumerate() {
+            if level > usize::from(tight) {
+                break;
+            }
+            tight = deepest_shared(device, tree, leaf, tight, list);
+        }
+        Some(tight)
+    }
+
+    // Where the address is, or where it would go.
+    fn search(&self, address: u32) -> Result<usize, usize>
+        ensures found { IfOk result (IsAt self.now address) }
+        ensures absent { IfErr result (IsGapFor self.now address) }
+        ensures rising { IsRising self.now }
+    {
+        self.blocks
+            .binary_search_by_key(&address, |block| block.address)
+    }
+}
+
+/// An eviction has just one outcome.
+pub fn eviction_has_one_outcome()
+    ensures { OneOutcome }
+{}
+
+#[cfg(test)]
+mod tests;
