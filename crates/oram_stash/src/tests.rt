@@ -137,19 +137,25 @@ fn next(state: &mut u64) -> u32 {
 
 #[test]
 fn as_the_plain_eviction(rt: HostRuntime) -> Result<(), Fail> {
-    let alloc = rt.alloc();
+    if five_hundred_stashes(&rt, rt.alloc()).is_err() {
+        five_hundred_stashes(&rt, rt.alloc())?;
+    }
+    Ok(())
+}
+
+fn five_hundred_stashes(rt: &impl Abort, alloc: Global) -> Result<(), AllocError> {
     let mut state = 1;
     for round in 0..500u64 {
         let slots = 1 + round % 4;
-        let device = Device::new(128, 16, slots, 128, 1).expect(&rt, "a device");
+        let device = Device::new(128, 16, slots, 128, 1).expect(rt, "a device");
         let leaf = next(&mut state) % 128;
         let mut places = Vec::new(alloc);
         for k in 0..next(&mut state) % 61 {
             let address = 2 * k + next(&mut state) % 2;
             places.push((address, next(&mut state) % 128))?;
         }
-        let mut stash = stash_of(alloc, &places).ok_or("memory")?;
-        let (lists, _) = evicted(&rt, alloc, &device, leaf, &mut stash)?;
+        let mut stash = stash_of(alloc, &places).ok_or(AllocError)?;
+        let (lists, _) = evicted(rt, alloc, &device, leaf, &mut stash)?;
         let plain = plain_eviction(alloc, &device, leaf, &places)?;
         assert!(rt; lists == plain, "round {round}");
         let stays = places
