@@ -9,7 +9,8 @@ use Rattle.std.proofs.lemmas.List.Edits.{length-insert, get_or-insert_below, get
 use Rattle.std.proofs.lemmas.Bool.{cases_lt, ne_eqb, eq-eqb}
 use Rattle.std.proofs.lemmas.Bool.Decides.{nat_tests}
 use Rattle.oram_bucket.specs.declared.block.Block.{Block}
-use Rattle.oram_stash.specs.Blocks.{IsRising, block_at, IsAt, IsGapFor}
+use Rattle.oram_bucket.specs.Cell.{IsRising}
+use Rattle.oram_stash.specs.Blocks.{block_at, IsAt, IsGapFor}
 
 -- the comparisons with an address rise along the list, as a binary search asks
 comparisons_rise : (l : List Block) → IsRising l → (a : ℕ) → IsNonDecreasingBy (λ b. ordering_index (nat_cmp b.address a)) l

@@ -7,7 +7,7 @@ use Rattle.std.specs.List.Sorted.{IsPermutation}
 use Rattle.std.proofs.lemmas.List.{get_or_default}
 use Rattle.oram_bucket.specs.declared.block.Block.{Block}
 use Rattle.oram_geometry.specs.Path.{MeetsAt}
-use Rattle.oram_stash.specs.Blocks.{IsRising}
+use Rattle.oram_bucket.specs.Cell.{IsRising}
 use Rattle.oram_stash.specs.Plan.{level_at, is_level, stays, picked, IsAbove, IsPlan, Reaches}
 use Rattle.oram_stash.specs.Eviction.{listed, all_listed, IsNearer, IsEviction}
 use Rattle.oram_stash.proofs.Filling.{level_is}

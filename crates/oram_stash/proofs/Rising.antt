@@ -9,7 +9,7 @@ use Rattle.std.proofs.lemmas.List.Elements.{Contains-append_right}
 use Rattle.std.proofs.lemmas.List.Sorted.{IsPermutation-map}
 use Rattle.std.proofs.lemmas.Map.Keys.{IsDistinct-from_apart, apart_from_distinct, IsDistinct-IsPermutation}
 use Rattle.oram_bucket.specs.declared.block.Block.{Block}
-use Rattle.oram_stash.specs.Blocks.{IsRising}
+use Rattle.oram_bucket.specs.Cell.{IsRising}
 use Rattle.oram_stash.specs.Eviction.{listed, all_listed}
 use Rattle.oram_stash.proofs.Tight.{Contains-all_listed}
 

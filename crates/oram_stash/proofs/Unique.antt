@@ -8,7 +8,7 @@ use Rattle.std.proofs.lemmas.List.Elements.{All-contains, Contains-append_cases,
 use Rattle.std.proofs.lemmas.List.Quantifiers.{all_pairs_push}
 use Rattle.std.proofs.lemmas.List.Sorted.{IsPermutation-sym, Contains-permutation}
 use Rattle.oram_bucket.specs.declared.block.Block.{Block}
-use Rattle.oram_stash.specs.Blocks.{IsRising}
+use Rattle.oram_bucket.specs.Cell.{IsRising}
 use Rattle.oram_stash.specs.Eviction.{listed, all_listed, IsNearer, IsEviction, OneOutcome}
 use Rattle.oram_stash.proofs.Fewest.{some_or_none, list_of_listed}
 use Rattle.oram_stash.proofs.Tight.{Contains-all_listed}

@@ -1,11 +1,7 @@
 -- A map from addresses to blocks, as the list of its blocks by rising address.
-use Rattle.std.specs.Prelude.{◌≡◌, ℕ, ◌<◌, ◌≤◌, List, Option, find, length, AllPairs, ◌==◌}
+use Rattle.std.specs.Prelude.{◌≡◌, ℕ, ◌<◌, ◌≤◌, List, Option, find, length, ◌==◌}
 use Rattle.std.specs.List.{HoldsAt, AllWithin}
 use Rattle.oram_bucket.specs.declared.block.Block.{Block}
-
--- the addresses rise, so none comes twice
-abbrev pub IsRising : List Block → Type 0
-IsRising = AllPairs (λ b c. b.address < c.address)
 
 -- the block with an address
 abbrev pub block_at : List Block → ℕ → Option Block

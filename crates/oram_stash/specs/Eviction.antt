@@ -4,7 +4,7 @@ use Rattle.std.specs.List.{flat_map}
 use Rattle.std.specs.Prelude.{IsPermutation, ◌++◌}
 use Rattle.oram_bucket.specs.declared.block.Block.{Block}
 use Rattle.oram_geometry.specs.Path.{MeetsAt}
-use Rattle.oram_stash.specs.Blocks.{IsRising}
+use Rattle.oram_bucket.specs.Cell.{IsRising}
 
 -- the blocks listed at a level
 abbrev pub listed : List (List Block) → ℕ → List Block

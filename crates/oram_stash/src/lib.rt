@@ -7,7 +7,8 @@
 
 ghost use Rattle.std.specs.Prelude.{◌≡◌, ◌≢◌, ℕ, ◌+◌, ◌<◌, ◌≤◌, ◌^◌, ◌↔◌, ◌==◌, List, [], ◌∷◌, ◌++◌, length, map, All, Contains, IsSome, IsNone, IfOk, IfErr, OnOk, OnErr, IfSome, IfNone, MatchOption, IsPermutation, if◌then◌else◌, Some};
 ghost use Rattle.oram_geometry.specs.Sizes.{trees_of, depth_of};
-ghost use Rattle.oram_stash.specs.Blocks.{IsRising, block_at, IsAt, IsGapFor};
+ghost use Rattle.oram_bucket.specs.Cell.{IsRising};
+ghost use Rattle.oram_stash.specs.Blocks.{block_at, IsAt, IsGapFor};
 ghost use Rattle.oram_stash.specs.Faults.{block_of};
 ghost use Rattle.oram_stash.specs.Eviction.{IsEviction, IsGreedy, LeavesFewest, IsTight, OneOutcome, all_listed};
 
@@ -39,7 +40,7 @@ pub struct Stash {
 impl Model for Stash {
     ghost use Rattle.std.specs.Prelude.{List};
     ghost use Rattle.oram_bucket.specs.declared.block.Block.{Block};
-    ghost use Rattle.oram_stash.specs.Blocks.{IsRising};
+    ghost use Rattle.oram_bucket.specs.Cell.{IsRising};
 
     ghost Value = { List Block };
 

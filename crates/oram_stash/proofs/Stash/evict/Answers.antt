@@ -4,7 +4,7 @@ use Rattle.std.proofs.lemmas.List.Elements.{All-weaker}
 use Rattle.std.proofs.lemmas.List.Sorted.{All-permutation}
 use Rattle.oram_geometry.specs.Sizes.{depth_of as depth}
 use Rattle.oram_bucket.specs.declared.block.Block.{Block}
-use Rattle.oram_stash.specs.Blocks.{IsRising}
+use Rattle.oram_bucket.specs.Cell.{IsRising}
 use Rattle.oram_stash.specs.Plan.{is_level}
 use Rattle.oram_stash.proofs.Outcome.{carried_out, in_lists_from_plan}
 use Rattle.oram_stash.proofs.Fewest.{fewest}
