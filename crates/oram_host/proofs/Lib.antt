@@ -4,3 +4,7 @@ pub mod Records
 pub mod Hosts
 pub mod ImageTexts
 pub mod Rows
+pub mod Rising
+pub mod Readings
+pub mod ReadImages
+pub mod LoadedHosts

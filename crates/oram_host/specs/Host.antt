@@ -1,5 +1,6 @@
 -- What a bucket host keeps.
-use Rattle.std.specs.Prelude.{ℕ, ◌+◌, ◌*◌, ◌<◌, ◌≤◌, List, Option}
+use Rattle.std.specs.Prelude.{◌≡◌, ℕ, ◌+◌, ◌-◌, ◌*◌, ◌^◌, ◌<◌, ◌≤◌, List, [], ◌∷◌, length, Option, ⊤}
+use Rattle.std.specs.List.{AllByRecursion}
 use Rattle.std.specs.Map.{lookup}
 use Rattle.std.specs.BTreeMap.{is_at}
 use Rattle.std.specs.Ordering.{nat_cmp}
@@ -29,3 +30,28 @@ pub record IsShape (depth record_len : ℕ) : Type 0 where
   pub deep : depth ≤ 24
   pub long : 0 < record_len
   pub fits : (depth + 1) * record_len + 6 ≤ LONGEST_BODY
+
+-- entries by rising number, from `least` on
+abbrev pub RisesFrom : {X : Type 0} → ℕ → List (ℕ × X) → Type 0
+RisesFrom least [] = ⊤
+RisesFrom least (e ∷ es) = (least ≤ e.0) × RisesFrom (e.0 + 1) es
+
+-- a record of this length, at one of so many nodes
+pub record IsRecordOf (nodes record_len : ℕ) (e : ℕ × List ℕ) : Type 0 where
+  pub node : e.0 < nodes
+  pub whole : length e.1 ≡ record_len
+
+-- what a host may keep of a tree
+pub record IsKept (kept : Kept) : Type 0 where
+  pub shape : IsShape kept.depth kept.record_len
+  pub rising : RisesFrom 0 kept.records
+  pub each : AllByRecursion (IsRecordOf (2 ^ (kept.depth + 1) - 1) kept.record_len) kept.records
+
+pub record IsKeptTree (e : ℕ × Kept) : Type 0 where
+  pub number : e.0 < 256
+  pub kept : IsKept e.1
+
+-- what a host may keep
+pub record IsHost (host : Host) : Type 0 where
+  pub rising : RisesFrom 0 host
+  pub each : AllByRecursion IsKeptTree host

@@ -8,12 +8,18 @@ use Rattle.oram_host.specs.Host.{Host, Kept}
 abbrev pub record_text : ℕ × List ℕ → List ℕ
 record_text e = to_be_bytes w32 e.0 ++ e.1
 
--- a tree's number, depth, length of records and number of records, and its records
-abbrev pub tree_text : ℕ × Kept → List ℕ
-tree_text e = (e.0 ∷ e.1.depth ∷ []) ++ to_be_bytes w32 e.1.record_len ++ to_be_bytes w32
-    (length e.1.records) ++ flat_map record_text e.1.records
+-- the number of the entries, and the entries
+abbrev pub entries_text : {X : Type 0} → (ℕ × X → List ℕ) → List (ℕ × X) → List ℕ
+entries_text text_of entries = to_be_bytes w32 (length entries) ++ flat_map text_of entries
 
--- the eight letters, the version 1, the number of trees, and the trees
+-- the depth, the length of the records, and the records
+abbrev pub kept_text : Kept → List ℕ
+kept_text kept = (kept.depth ∷ []) ++ to_be_bytes w32 kept.record_len ++ entries_text record_text kept.records
+
+-- a tree's number and what is kept of it
+abbrev pub tree_text : ℕ × Kept → List ℕ
+tree_text e = e.0 ∷ kept_text e.1
+
+-- the eight letters, the version 1, and the trees
 abbrev pub image : Host → List ℕ
-image host = codes "ORAMHOST" ++ to_be_bytes w32 1 ++ to_be_bytes w32
-    (length host) ++ flat_map tree_text host
+image host = codes "ORAMHOST" ++ to_be_bytes w32 1 ++ entries_text tree_text host

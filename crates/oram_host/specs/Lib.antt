@@ -1,5 +1,6 @@
 pub mod Host
 pub mod Image
+pub mod ImageReading
 pub mod Path
 pub mod Refusals
 pub mod Answers

@@ -1,16 +1,17 @@
 //! The image of a host: a file that holds its trees.
 
-ghost use Rattle.std.specs.Prelude.{◌≡◌, ℕ, ◌+◌, ◌^◌, ◌<◌, length, All, IfErr, OnOk};
-ghost use Rattle.std.specs.List.{flat_map};
-ghost use Rattle.std.specs.Io.KnownBytes.{Appends};
-ghost use Rattle.oram_host.specs.Image.{image, record_text, tree_text};
-ghost use Rattle.oram_host.specs.Trees.{AreTrees, IsTree, host_of, kept_by, records_in};
+ghost use Rattle.std.specs.Prelude.{◌≡◌};
+ghost use Rattle.oram_host.specs.declared.images.ImageFault.TheVariants.{OutOfMemory};
+ghost use Rattle.oram_host.specs.ImageReading.{fault_number};
 
-use crate::trees::Tree;
-use byteorder::{BigEndian, ByteOrder};
-use oram_bytes::Bytes;
-use std::collections::BTreeMap;
-use std::io::Write;
+mod fields;
+mod loading;
+mod saving;
+
+pub(crate) use loading::load_trees;
+pub(crate) use saving::save_trees;
+
+use std::alloc::{AllocError, AllocFailed};
 
 /// Why an image could not be saved or loaded.
 #[derive(Clone, Copy, Debug, PartialEq, Eq)]
@@ -33,72 +34,36 @@ const MAGIC: [u8; 8] = *b"ORAMHOST";
 
 const VERSION: u32 = 1;
 
-fn write<W: Write>(writer: &mut W, bytes: &[u8]) -> Result<(), ImageFault>
-    ensures ok { OnOk result (Appends (W.contents writer.old) (W.contents writer.new) bytes.now) }
-    ensures fault { IfErr result (λ f. f ≡ ImageFault.Io) }
-{
-    match writer.write_all(bytes) {
-        Ok(()) => Ok(()),
-        Err(_) => Err(ImageFault::Io),
-    }
-}
-
-fn save_record<W: Write>(writer: &mut W, node: u32, bytes: &[u8]) -> Result<(), ImageFault>
-    ensures ok { OnOk result (Appends (W.contents writer.old) (W.contents writer.new) (record_text
-        (node, bytes.now))) }
-    ensures fault { IfErr result (λ f. f ≡ ImageFault.Io) }
-{
-    let mut head = [0; 4];
-    BigEndian::write_u32(&mut head, node);
-    write(writer, &head)?;
-    write(writer, bytes)
-}
-
-fn save_records<W: Write>(writer: &mut W, records: &BTreeMap<u32, Bytes>) -> Result<(), ImageFault>
-    ensures ok { OnOk result (Appends (W.contents writer.old) (W.contents writer.new)
-        (flat_map record_text (records_in records.now))) }
-    ensures fault { IfErr result (λ f. f ≡ ImageFault.Io) }
-{
-    for (node, bytes) in records.iter() {
-        if !bytes.is_empty() {
-            save_record(writer, *node, bytes.as_slice())?;
+impl ImageFault {
+    /// The number that is shown: from 1 on those of a file, in the order above. What the reader, the
+    /// writer or memory refused has none.
+    pub fn number(self) -> Option<u8>
+        ensures { result ≡ fault_number self }
+    {
+        match self {
+            ImageFault::Magic => Some(1),
+            ImageFault::Version => Some(2),
+            ImageFault::Length => Some(3),
+            ImageFault::Content => Some(4),
+            ImageFault::Io | ImageFault::OutOfMemory => None,
         }
     }
-    Ok(())
 }
 
-fn save_tree<W: Write>(writer: &mut W, number: u8, tree: &Tree) -> Result<(), ImageFault>
-    requires { IsTree tree.now }
-    ensures ok { OnOk result (Appends (W.contents writer.old) (W.contents writer.new) (tree_text
-        (number, kept_by tree.now))) }
-    ensures fault { IfErr result (λ f. f ≡ ImageFault.Io) }
-{
-    let mut head = [number, tree.depth, 0, 0, 0, 0, 0, 0, 0, 0];
-    BigEndian::write_u32(&mut head[2..], tree.record_len);
-    BigEndian::write_u32(&mut head[6..], tree.count());
-    write(writer, &head)?;
-    save_records(writer, &tree.records)
-}
+impl From<AllocError> for ImageFault {
+    ghost from_gives = { λ _ why. why ≡ OutOfMemory };
 
-/// Writes the image of the trees.
-pub(crate) fn save_trees<W: Write>(
-    writer: &mut W,
-    trees: &BTreeMap<u8, Tree>,
-) -> Result<(), ImageFault>
-    requires { AreTrees trees.now }
-    ensures ok { OnOk result (Appends (W.contents writer.old) (W.contents writer.new) (image
-        (host_of trees.now))) }
-    ensures fault { IfErr result (λ f. f ≡ ImageFault.Io) }
-{
-    let mut head = [0; 8];
-    BigEndian::write_u32(&mut head, VERSION);
-    BigEndian::write_u32(&mut head[4..], trees.len() as u32);
-    write(writer, &MAGIC)?;
-    write(writer, &head)?;
-    for (number, tree) in trees.iter() {
-        save_tree(writer, *number, tree)?;
+    fn from(_error: AllocError) -> ImageFault {
+        ImageFault::OutOfMemory
     }
-    Ok(())
+}
+
+impl<T: Drop> From<AllocFailed<T>> for ImageFault {
+    ghost from_gives = { λ _ why. why ≡ OutOfMemory };
+
+    fn from(_error: AllocFailed<T>) -> ImageFault {
+        ImageFault::OutOfMemory
+    }
 }
 
 #[cfg(test)]

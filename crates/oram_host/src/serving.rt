@@ -1,28 +1,24 @@
 //! The server of a bucket host, in memory.
 
-ghost use Rattle.std.specs.Prelude.{◌≡◌, ◌↔◌, ◌^◌, ◌<◌, [], true, false, IfErr, IsTrue, OnOk, MatchResult};
-ghost use Rattle.std.specs.Io.KnownBytes.{Appends};
+ghost use Rattle.std.specs.Prelude.{◌≡◌, ◌↔◌, [], true, false, IfErr, IfOk, IsTrue, OnOk, None, Some, MatchResult};
+ghost use Rattle.std.specs.Io.KnownBytes.{Appends, Consumes, IsAtEnd};
 ghost use Rattle.oram_host.specs.Image.{image};
-ghost use Rattle.oram_host.specs.Host.{IsShape};
+ghost use Rattle.oram_host.specs.ImageReading.{IsFirstFault, fault_number, host_in};
+ghost use Rattle.oram_host.specs.Host.{Host, IsHost};
 ghost use Rattle.oram_host.specs.Answers.{Answers, IsFetched, IsPut, IsShaped, IsStored};
 ghost use Rattle.oram_host.specs.Refusals.{Refuses};
 ghost use Rattle.oram_wire.specs.HostMessages.{request_body};
 ghost use Rattle.oram_wire.specs.HostReading.{HasNumbers, IsMisfit, names_request, request_of};
 
-use crate::images::{ImageFault, save_trees};
+use crate::images::{ImageFault, load_trees, save_trees};
 use crate::refusals::HostRefusal;
-use crate::trees::Tree;
+use crate::trees::{Tree, is_shape};
 use oram_bytes::Bytes;
-use oram_wire::{HostAnswer, HostRequest, HostView, LONGEST_BODY, WireFault};
+use oram_wire::{HostAnswer, HostRequest, HostView, WireFault};
 use std::alloc::Global;
 use std::collections::BTreeMap;
-use std::io::Write;
+use std::io::{Read, Write};
 use std::marker::Model;
-
-/// The deepest tree that a host keeps.
-const DEEPEST: u8 = 24;
-/// The bytes of a STORE before its records.
-const STORE_HEAD: usize = 6;
 
 /// A bucket host in memory. It takes room for the records that it is given, whatever the shapes.
 #[derive(Debug, Drop)]
@@ -41,16 +37,6 @@ impl Model for Server {
     ghost view = { λ s. host_of s.trees };
 
     ghost invariant = { λ s. AreTrees s.trees };
-}
-
-/// A tree may have this shape: a STORE of one of its paths fits a frame.
-fn is_shape(depth: u8, record_len: u32) -> bool
-    ensures { IsTrue result ↔ IsShape depth record_len }
-{
-    if depth > DEEPEST || record_len == 0 {
-        return false;
-    }
-    (depth as usize + 1) * record_len as usize + STORE_HEAD <= LONGEST_BODY
 }
 
 impl Server {
@@ -176,10 +162,27 @@ impl Server {
         }
     }
 
+    /// Reads an image, which is all that the reader holds: the server is the one that was saved. The
+    /// image is read from front to back, and of several faults the first is answered.
+    pub fn load_image<R: Read>(alloc: Global, reader: &mut R) -> Result<Server, ImageFault>
+        ensures ok { IfOk result (λ server. Consumes (R.remaining reader.old) (R.remaining reader.new) (image server)) }
+        ensures end { OnOk result (IsAtEnd (R.remaining reader.new)) }
+        ensures host { IfOk result (λ server. IsHost server) }
+
+        // The image of a host is read as that host, unless the reader failed or memory was refused.
+        ensures saved { (host : Host) → IsHost host → R.remaining reader.old ≡ Some (image host)
+            → MatchResult result (λ server. server ≡ host) (λ why. fault_number why ≡ None) }
+        ensures fault { IfErr result (λ why. IsFirstFault host_in why (R.remaining reader.old)) }
+    {
+        let trees = load_trees(alloc, reader)?;
+        Ok(Server { alloc, trees })
+    }
+
     /// Writes the image of what is kept. It takes no memory.
     pub fn save_image<W: Write>(&self, writer: &mut W) -> Result<(), ImageFault>
         ensures ok { OnOk result (Appends (W.contents writer.old) (W.contents writer.new)
             (image self.now)) }
+        ensures host { IsHost self.now }
         ensures fault { IfErr result (λ f. f ≡ ImageFault.Io) }
     {
         save_trees(writer, &self.trees)

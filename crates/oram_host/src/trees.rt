@@ -10,6 +10,7 @@ ghost use Rattle.oram_host.specs.Trees.{AreNodes, IsRecord, IsTree, is_there, ke
 
 use crate::refusals::HostRefusal;
 use oram_bytes::Bytes;
+use oram_wire::LONGEST_BODY;
 use std::alloc::{AllocError, Global};
 use std::collections::BTreeMap;
 
@@ -21,6 +22,29 @@ pub(crate) struct Tree {
     pub(crate) record_len: u32,
     /// By node. Bytes of length 0 are room for a record that was never put.
     pub(crate) records: BTreeMap<u32, Bytes>,
+}
+
+/// The deepest tree that a host keeps.
+const DEEPEST: u8 = 24;
+/// The bytes of a STORE before its records.
+const STORE_HEAD: usize = 6;
+
+/// A tree may have this shape: a STORE of one of its paths fits a frame.
+pub(crate) fn is_shape(depth: u8, record_len: u32) -> bool
+    ensures { IsTrue result ↔ IsShape depth record_len }
+{
+    if depth > DEEPEST || record_len == 0 {
+        return false;
+    }
+    (depth as usize + 1) * record_len as usize + STORE_HEAD <= LONGEST_BODY
+}
+
+/// How many nodes a tree has.
+pub(crate) fn node_count(depth: u8) -> u32
+    requires { depth ≤ 24 }
+    ensures { result ≡ 2 ^ (depth + 1) - 1 }
+{
+    (1 << (depth + 1)) - 1
 }
 
 /// The node at a level of a leaf's path.

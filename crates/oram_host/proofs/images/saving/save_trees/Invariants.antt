@@ -4,7 +4,7 @@ use Rattle.std.specs.Io.KnownBytes.{Appends}
 use Rattle.oram_host.specs.Host.{Kept}
 use Rattle.oram_host.specs.Image.{image, tree_text}
 use Rattle.oram_host.specs.Trees.{host_of, kept_by}
-use Rattle.oram_host.proofs.images.save_trees.Given as goal
+use Rattle.oram_host.proofs.images.saving.save_trees.Given as goal
 
 abbrev pub invariant-loop-number : goal.invariant-loop-number
 invariant-loop-number g l = (written : List ℕ) × Appends (g.W.Write.contents l.fn.writer) (g.W.Write.contents l.writer) written

@@ -7,7 +7,7 @@ use Rattle.oram_host.specs.Image.{record_text}
 use Rattle.oram_host.specs.Trees.{is_there}
 use Rattle.oram_host.proofs.ImageTexts.{record_more}
 use Rattle.oram_host.proofs.Records.{not_empty_from}
-use Rattle.oram_host.proofs.images.save_records.Goals as goal
+use Rattle.oram_host.proofs.images.saving.save_records.Goals as goal
 
 pub loop-node-init : goal.loop-node-init
 loop-node-init g c =

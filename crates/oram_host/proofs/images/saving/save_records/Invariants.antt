@@ -3,7 +3,7 @@ use Rattle.std.specs.List.{flat_map}
 use Rattle.std.specs.Io.KnownBytes.{Appends}
 use Rattle.oram_host.specs.Image.{record_text}
 use Rattle.oram_host.specs.Trees.{is_there, records_in}
-use Rattle.oram_host.proofs.images.save_records.Given as goal
+use Rattle.oram_host.proofs.images.saving.save_records.Given as goal
 
 -- what was written, and the records that are left, are all
 abbrev pub invariant-loop-node : goal.invariant-loop-node

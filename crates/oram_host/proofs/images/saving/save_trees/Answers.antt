@@ -12,7 +12,7 @@ use Rattle.oram_host.specs.Image.{image, tree_text}
 use Rattle.oram_host.specs.Trees.{host_of, kept_by}
 use Rattle.oram_host.specs.declared.trees.Tree.{Tree}
 use Rattle.oram_host.proofs.ImageTexts.{few_keys, tree_more}
-use Rattle.oram_host.proofs.images.save_trees.Goals as goal
+use Rattle.oram_host.proofs.images.saving.save_trees.Goals as goal
 
 pub overflow_cast-len : goal.overflow_cast-len
 overflow_cast-len g c = omega (arith, c.len.ensures.len, few_keys c.args.trees.now 256 c.requires.ordered c.requires.numbers)
