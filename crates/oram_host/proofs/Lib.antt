@@ -8,3 +8,4 @@ pub mod Rising
 pub mod Readings
 pub mod ReadImages
 pub mod LoadedHosts
+pub mod Flipped

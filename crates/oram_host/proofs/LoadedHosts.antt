@@ -1,17 +1,17 @@
 -- What trees in memory keep, as a host, and a map that is one entry longer.
-use Rattle.std.proofs.Common.{◌≡◌, ℕ, ◌+◌, ◌-◌, ◌^◌, ◌<◌, ◌≤◌, inl, inr, Bool, true, false, cond, ltb, List, [], ◌∷◌, ◌++◌, length, filter, map, All, refl, ap, subst, sym, ◌∙◌, arith}
+use Rattle.std.proofs.Common.{◌≡◌, ℕ, ◌+◌, ◌-◌, ◌^◌, ◌<◌, ◌≤◌, inl, inr, Bool, true, false, cond, List, [], ◌∷◌, ◌++◌, length, filter, map, All, refl, ap, subst, sym, ◌∙◌, arith}
 use Rattle.std.specs.List.{AllByRecursion, flat_map}
 use Rattle.std.specs.Map.{keys_of, values_of}
 use Rattle.std.specs.BTreeMap.{BTreeMap, insert_entry}
 use Rattle.std.specs.Ordering.{nat_cmp}
 use Rattle.std.proofs.lemmas.Bool.{lt-ltb, ltb-true}
-use Rattle.std.proofs.lemmas.List.{append-nil, map_push}
+use Rattle.std.proofs.lemmas.List.{append-nil, append_assoc, map_push}
 use Rattle.std.proofs.lemmas.List.Concat.{flat_map-append}
 use Rattle.std.proofs.lemmas.List.Elements.{All-from_recursion, recursion_from_All}
 use Rattle.oram_host.specs.declared.trees.Tree.{Tree}
-use Rattle.oram_host.specs.Host.{IsHost, IsKept, IsKeptTree, IsRecordOf, Kept, RisesFrom}
+use Rattle.oram_host.specs.Host.{Host, IsHost, IsKept, IsKeptTree, IsRecordOf, Kept, RisesFrom}
 use Rattle.oram_host.specs.Trees.{AreNodes, AreTrees, IsRecord, IsTree, host_of, is_there, kept_by}
-use Rattle.oram_host.proofs.Rising.{RisesFrom-filter, RisesFrom-values, insert_entry-last, least_after, least_after-values, rises_from_sorted}
+use Rattle.oram_host.proofs.Rising.{RisesFrom-filter, RisesFrom-values, insert_entry-last, least_after, least_after-values, rises_before, rises_from_sorted, rises_next}
 
 -- ---- one entry more
 
@@ -96,3 +96,23 @@ are_nodes depth record_len es all =
 
 pub are_whole : (nodes record_len : ℕ) (es : List (ℕ × List ℕ)) → AllByRecursion (IsRecordOf nodes record_len) es → All (IsRecord record_len) (values_of es)
 are_whole nodes record_len es all = All-from_recursion (IsRecord record_len) (values_of es) (whole_each nodes record_len es all)
+
+-- ---- a copy
+
+-- one entry more is copied
+pub copied_more : {X : Type 0} (old new : BTreeMap ℕ X) (rest all : List (ℕ × X)) (number : ℕ) (x : X) → new.entries ≡ insert_entry nat_cmp old.entries number x → RisesFrom 0 all → old.entries ++ (number, x) ∷ rest ≡ all
+    → new.entries ++ rest ≡ all
+copied_more {X} old new rest all number x inserted rises so_far =
+    let P : List (ℕ × X) → Type 0 = λ es. RisesFrom 0 es in
+    let here : RisesFrom 0 (old.entries ++ (number, x) ∷ rest) = subst P (sym so_far) rises in
+    let longer = grown old new number x inserted (rises_before old.entries ((number, x) ∷ rest) 0 here) (rises_next old.entries rest 0 number x here) in
+    ap (λ (es : List (ℕ × X)). es ++ rest) longer ∙ append_assoc old.entries ((number, x) ∷ []) rest ∙ so_far
+
+-- one tree more is copied
+pub host_copied_more : (old new : BTreeMap ℕ Tree) (rest all : Host) (number : ℕ) (tree : Tree) (kept : Kept) → new.entries ≡ insert_entry nat_cmp old.entries number tree → AreTrees old → kept_by tree ≡ kept → RisesFrom 0 all
+    → host_of old ++ (number, kept) ∷ rest ≡ all → host_of new ++ rest ≡ all
+host_copied_more old new rest all number tree kept inserted trees same rises so_far =
+    let P : Host → Type 0 = λ host. RisesFrom 0 host in
+    let here : RisesFrom 0 (host_of old ++ (number, kept) ∷ rest) = subst P (sym so_far) rises in
+    let longer = host_grown old new number tree inserted trees (rises_next (host_of old) rest 0 number kept here) in
+    ap (λ (host : Host). host ++ rest) longer ∙ append_assoc (host_of old) ((number, kept_by tree) ∷ []) rest ∙ ap (λ (k : Kept). host_of old ++ (number, k) ∷ rest) same ∙ so_far

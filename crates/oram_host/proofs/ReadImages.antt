@@ -1,5 +1,5 @@
 -- A record, a tree and a host that were written are read again, and where each fails.
-use Rattle.std.proofs.Common.{◌≡◌, ℕ, ◌+◌, ◌-◌, ◌*◌, ◌^◌, ◌<◌, ◌≤◌, ◌⊎◌, inl, inr, Bool, true, false, ltb, leb, List, [], ◌∷◌, ◌++◌, length, Option, Some, None, Result, subst, Ok, Err, refl, sym, ap, ◌∙◌, append_assoc, append-nil, arith, lit<}
+use Rattle.std.proofs.Common.{◌≡◌, ℕ, ◌+◌, ◌-◌, ◌*◌, ◌^◌, ◌<◌, ◌≤◌, ◌⊎◌, inl, inr, Bool, true, false, ltb, leb, List, [], ◌∷◌, ◌++◌, length, Option, Some, None, subst, Ok, Err, refl, sym, ap, ◌∙◌, append_assoc, append-nil, arith}
 use Rattle.std.specs.Prelude.{◌&&◌, IfSome, codes}
 use Rattle.std.specs.Int.{w32, to_be_bytes}
 use Rattle.std.specs.List.{AllByRecursion}
@@ -8,8 +8,8 @@ use Rattle.std.proofs.KnownBytes.{Consumes-whole}
 use Rattle.std.proofs.lemmas.Bool.{le-leb, le-ltb, leb-true, lt-leb, lt-ltb, ltb-true}
 use Rattle.std.proofs.Math.Nat.{pow-le-pow_right}
 use Rattle.oram_host.specs.declared.images.ImageFault.{ImageFault}
-use Rattle.oram_host.specs.declared.images.ImageFault.TheVariants.{Content, Io, Length, OutOfMemory}
-use Rattle.oram_host.specs.Host.{Host, IsHost, IsKept, IsKeptTree, IsRecordOf, IsShape, Kept, RisesFrom}
+use Rattle.oram_host.specs.declared.images.ImageFault.TheVariants.{Content, Io, OutOfMemory}
+use Rattle.oram_host.specs.Host.{Host, IsHost, IsKept, IsKeptTree, IsRecordOf, IsShape, Kept}
 use Rattle.oram_host.specs.Image.{entries_text, image, kept_text, record_text, tree_text}
 use Rattle.oram_host.specs.ImageReading.{after_end, after_letters, after_version, fault_number, IsFirstFault, host_in, is_shape, next_byte, next_bytes, next_entries, next_kept, next_number, next_record, next_tree, ◌>>=◌}
 use Rattle.oram_host.proofs.Readings.{ReadsAgain, bytes_again, entries_again, letters_again, number_again, version_again}

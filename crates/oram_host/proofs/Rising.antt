@@ -1,5 +1,5 @@
 -- Entries by rising number.
-use Rattle.std.proofs.Common.{◌≡◌, ℕ, suc, ◌+◌, ◌<◌, ◌≤◌, Bool, true, false, cond, List, [], ◌∷◌, ◌++◌, length, filter, map, All, refl, ap, subst, sym, ◌∙◌, arith}
+use Rattle.std.proofs.Common.{◌≡◌, ℕ, ◌+◌, ◌<◌, ◌≤◌, Bool, true, false, cond, List, [], ◌∷◌, ◌++◌, length, filter, map, refl, ap, sym, ◌∙◌, arith}
 use Rattle.std.specs.List.{AllByRecursion}
 use Rattle.std.specs.List.Sorted.{IsStrictlySortedBy}
 use Rattle.std.specs.Map.{keys_of}
@@ -78,3 +78,11 @@ RisesFrom-values f (e ∷ es) least rises = (rises.0, RisesFrom-values f es (e.0
 pub few_rising : {X : Type 0} (es : List (ℕ × X)) (least n : ℕ) → RisesFrom least es → AllByRecursion (λ e. e.0 < n) es → least ≤ n → length es + least ≤ n
 few_rising [] least n rises below h = omega arith
 few_rising (e ∷ es) least n rises below h = omega (arith, rises.0, below.0, few_rising es (e.0 + 1) n rises.1 below.1 (omega (arith, below.0)))
+
+pub rises_before : {X : Type 0} (es rest : List (ℕ × X)) (least : ℕ) → RisesFrom least (es ++ rest) → RisesFrom least es
+rises_before [] rest least rises = tt
+rises_before (e ∷ es) rest least rises = (rises.0, rises_before es rest (e.0 + 1) rises.1)
+
+pub rises_next : {X : Type 0} (es rest : List (ℕ × X)) (least number : ℕ) (x : X) → RisesFrom least (es ++ (number, x) ∷ rest) → least_after least es ≤ number
+rises_next [] rest least number x rises = rises.0
+rises_next (e ∷ es) rest least number x rises = rises_next es rest (e.0 + 1) number x rises.1

@@ -1,10 +1,11 @@
 //! The server of a bucket host, in memory.
 
-ghost use Rattle.std.specs.Prelude.{◌≡◌, ◌↔◌, [], true, false, IfErr, IfOk, IsTrue, OnOk, None, Some, MatchResult};
+ghost use Rattle.std.specs.Prelude.{◌≡◌, ◌↔◌, [], true, false, IfErr, IfOk, IsTrue, OnOk, None, Some, MatchBool, MatchResult};
 ghost use Rattle.std.specs.Io.KnownBytes.{Appends, Consumes, IsAtEnd};
 ghost use Rattle.oram_host.specs.Image.{image};
 ghost use Rattle.oram_host.specs.ImageReading.{IsFirstFault, fault_number, host_in};
 ghost use Rattle.oram_host.specs.Host.{Host, IsHost};
+ghost use Rattle.oram_host.specs.Flips.{IsByteless, IsFlipped};
 ghost use Rattle.oram_host.specs.Answers.{Answers, IsFetched, IsPut, IsShaped, IsStored};
 ghost use Rattle.oram_host.specs.Refusals.{Refuses};
 ghost use Rattle.oram_wire.specs.HostMessages.{request_body};
@@ -12,10 +13,10 @@ ghost use Rattle.oram_wire.specs.HostReading.{HasNumbers, IsMisfit, names_reques
 
 use crate::images::{ImageFault, load_trees, save_trees};
 use crate::refusals::HostRefusal;
-use crate::trees::{Tree, is_shape};
+use crate::trees::{Tree, copied_trees, is_shape};
 use oram_bytes::Bytes;
 use oram_wire::{HostAnswer, HostRequest, HostView, WireFault};
-use std::alloc::Global;
+use std::alloc::{AllocError, Global};
 use std::collections::BTreeMap;
 use std::io::{Read, Write};
 use std::marker::Model;
@@ -160,6 +161,33 @@ impl Server {
             Ok(answer) => answer,
             Err(why) => HostAnswer::Refused(why.code()),
         }
+    }
+
+    /// A server that keeps the same.
+    pub fn copy(&self, alloc: Global) -> Result<Server, AllocError>
+        ensures { IfOk result (λ copied. copied ≡ self.now) }
+    {
+        let trees = copied_trees(alloc, &self.trees)?;
+        Ok(Server { alloc, trees })
+    }
+
+    /// Flips the lowest bit of a byte of a node's record, and tells whether there is that byte. It takes
+    /// no memory.
+    pub fn flip(&mut self, tree: u64, node: u64, offset: u64) -> bool
+        ensures { MatchBool result (IsFlipped self.old tree node offset self.new)
+            (IsByteless self.old tree node offset × (self.new ≡ self.old)) }
+    {
+        let alloc = self.alloc;
+        let Ok(tree) = u8::try_from(tree) else {
+            return false;
+        };
+        let Ok(node) = u32::try_from(node) else {
+            return false;
+        };
+        let Some(kept) = self.trees.get_mut(&tree) else {
+            return false;
+        };
+        kept.flip(alloc, node, offset)
     }
 
     /// Reads an image, which is all that the reader holds: the server is the one that was saved. The

@@ -1,18 +1,20 @@
 //! One tree of a host: its shape, and the records of its nodes.
 
-ghost use Rattle.std.specs.Prelude.{◌≡◌, ◌≢◌, ◌↔◌, ℕ, ◌+◌, ◌-◌, ◌*◌, ◌^◌, ◌<◌, ◌≤◌, List, [], length, slice_get, count_by, All, IsTrue, IsSome, IfSome, Some, None, IfOk, OnOk, OnErr, MatchResult, MatchOption, false};
+ghost use Rattle.std.specs.Prelude.{◌≡◌, ◌≢◌, ◌↔◌, ℕ, ◌+◌, ◌-◌, ◌*◌, ◌^◌, ◌<◌, ◌≤◌, List, [], length, slice_get, count_by, All, IsTrue, IsSome, IfSome, Some, None, IfOk, OnOk, OnErr, MatchBool, MatchResult, MatchOption, false};
 ghost use Rattle.std.specs.Ordering.{nat_cmp};
 ghost use Rattle.std.specs.BTreeMap.{IsOrdered, get, keys, values};
+ghost use Rattle.oram_host.specs.Flips.{FlipsByte, HasByte, LacksByte, flipped};
 ghost use Rattle.oram_host.specs.Host.{IsShape, record_of};
 ghost use Rattle.oram_host.specs.Path.{IsPath, PutsRecord, StoresPath, node_on, record_at};
 ghost use Rattle.oram_host.specs.Refusals.{RefusesFetch, RefusesPut, RefusesStore};
-ghost use Rattle.oram_host.specs.Trees.{AreNodes, IsRecord, IsTree, is_there, kept_by, records_in};
+ghost use Rattle.oram_host.specs.Trees.{AreNodes, AreTrees, IsRecord, IsTree, host_of, is_there, kept_by, records_in};
 
 use crate::refusals::HostRefusal;
 use oram_bytes::Bytes;
 use oram_wire::LONGEST_BODY;
 use std::alloc::{AllocError, Global};
 use std::collections::BTreeMap;
+use std::mem::replace;
 
 /// A tree that has a shape.
 #[derive(Debug, Drop)]
@@ -161,6 +163,47 @@ fn count_there(records: &BTreeMap<u32, Bytes>) -> usize
     records.values().filter(|bytes| bytes.len() > 0).count()
 }
 
+/// A copy of records and of rooms for records.
+fn copied_entries(
+    alloc: Global,
+    records: &BTreeMap<u32, Bytes>,
+) -> Result<BTreeMap<u32, Bytes>, AllocError>
+    requires { IsOrdered nat_cmp records.now }
+    ensures { IfOk result (λ copied. copied.entries ≡ records.now.entries) }
+{
+    let mut copied = BTreeMap::new(alloc);
+    for (node, bytes) in records.iter() {
+        copied.insert(*node, Bytes::copy(alloc, bytes.as_slice())?)?;
+    }
+    Ok(copied)
+}
+
+/// A copy of trees.
+pub(crate) fn copied_trees(
+    alloc: Global,
+    trees: &BTreeMap<u8, Tree>,
+) -> Result<BTreeMap<u8, Tree>, AllocError>
+    requires { AreTrees trees.now }
+    ensures trees { IfOk result (λ copied. AreTrees copied) }
+    ensures same { IfOk result (λ copied. host_of copied ≡ host_of trees.now) }
+{
+    let mut copied = BTreeMap::new(alloc);
+    for (number, tree) in trees.iter() {
+        copied.insert(*number, tree.copy(alloc)?)?;
+    }
+    Ok(copied)
+}
+
+/// Flips the lowest bit of a byte. It takes no memory.
+fn flip_byte(alloc: Global, bytes: &mut Bytes, offset: usize)
+    requires { offset < length bytes.old }
+    ensures { bytes.new ≡ flipped bytes.old offset }
+{
+    let mut items = replace(bytes, Bytes::from_vec(Vec::new(alloc))).into_vec();
+    items[offset] ^= 1;
+    *bytes = Bytes::from_vec(items);
+}
+
 impl Tree {
     /// The record that a node was given.
     fn record(&self, node: u32) -> Option<&Bytes>
@@ -283,5 +326,46 @@ impl Tree {
         }
         self.records.insert(node, Bytes::copy(alloc, bytes)?)?;
         Ok(())
+    }
+
+    fn copy(&self, alloc: Global) -> Result<Tree, AllocError>
+        requires { IsTree self.now }
+        ensures tree { IfOk result (λ copied. IsTree copied) }
+        ensures same { IfOk result (λ copied. kept_by copied ≡ kept_by self.now) }
+    {
+        Ok(Tree {
+            depth: self.depth,
+            record_len: self.record_len,
+            records: copied_entries(alloc, &self.records)?,
+        })
+    }
+
+    /// The record of a node has a byte at this place.
+    fn has_byte(&self, node: u32, offset: u64) -> bool
+        requires { IsTree self.now }
+        ensures { MatchBool result (HasByte (kept_by self.now) node offset) (LacksByte
+            (kept_by self.now) node offset) }
+    {
+        match self.record(node) {
+            Some(bytes) => offset < bytes.len() as u64,
+            None => false,
+        }
+    }
+
+    /// Flips the lowest bit of a byte of a record, where there is that byte.
+    pub(crate) fn flip(&mut self, alloc: Global, node: u32, offset: u64) -> bool
+        requires { IsTree self.old }
+        ensures tree { IsTree self.new }
+        ensures flipped { MatchBool result (FlipsByte (kept_by self.old) node offset
+            (kept_by self.new)) (LacksByte (kept_by self.old) node offset) }
+        ensures same { result ≡ false → kept_by self.new ≡ kept_by self.old }
+    {
+        if !self.has_byte(node, offset) {
+            return false;
+        }
+        if let Some(bytes) = self.records.get_mut(&node) {
+            flip_byte(alloc, bytes, offset as usize);
+        }
+        true
     }
 }

@@ -58,3 +58,39 @@ fn deepest_tree(rt: HostRuntime) -> Result<(), Fail> {
     assert!(rt; answered(server, &[1, 255, 1, 0, 0, 0]) == HostAnswer::Refused(2));
     Ok(())
 }
+
+/// Copies a server, once more where memory was refused.
+fn copied(rt: &impl Abort, alloc: Global, server: &Server) -> Server {
+    match server.copy(alloc) {
+        Ok(copy) => copy,
+        Err(_) => server.copy(alloc).expect(rt, "memory is refused once"),
+    }
+}
+
+#[test]
+fn copy_and_flip(rt: HostRuntime) -> Result<(), Fail> {
+    let mut server = Server::new(rt.alloc());
+    assert!(rt; answered(&mut server, &[4, 3, 1, 0, 0, 0, 2]) == HostAnswer::Done);
+    let store = [2, 3, 0, 0, 0, 1, 0x11, 0x12, 0x13, 0x14];
+    assert!(rt; answered(&mut server, &store) == HostAnswer::Done);
+    let mut copy = copied(&rt, rt.alloc(), &server);
+    // Another tree, a tree that there can't be, a node without a record, a node that there can't be, and
+    // a place after the record.
+    for (tree, node, offset) in [
+        (0, 0, 0),
+        (3 + (1 << 8), 0, 0),
+        (3, 1, 0),
+        (3, 1 << 32, 0),
+        (3, 0, 2),
+    ] {
+        assert!(rt; !server.flip(tree, node, offset));
+    }
+    fetches(&rt, &mut server, &[1, 3, 0, 0, 0, 1], &store[6..]);
+    assert!(rt; server.flip(3, 2, 1));
+    fetches(&rt, &mut server, &[1, 3, 0, 0, 0, 1], &[0x11, 0x12, 0x13, 0x15]);
+    fetches(&rt, &mut copy, &[1, 3, 0, 0, 0, 1], &store[6..]);
+    assert!(rt; copy.flip(3, 0, 0));
+    assert!(rt; copy.flip(3, 0, 0));
+    fetches(&rt, &mut copy, &[1, 3, 0, 0, 0, 1], &store[6..]);
+    Ok(())
+}

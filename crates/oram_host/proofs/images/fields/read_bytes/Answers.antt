@@ -1,4 +1,4 @@
-use Rattle.std.proofs.Common.{◌≡◌, ◌<◌, length, take, rules, arith}
+use Rattle.std.proofs.Common.{length, take, arith}
 use Rattle.std.proofs.lemmas.List.{length-take}
 use Rattle.oram_host.proofs.Readings.{ends_inside}
 use Rattle.oram_host.proofs.images.fields.read_bytes.Goals as goal

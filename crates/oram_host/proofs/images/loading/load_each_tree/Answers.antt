@@ -6,8 +6,8 @@ use Rattle.std.proofs.KnownBytes.{Consumes-trans}
 use Rattle.std.proofs.lemmas.Result.{err_from_is_err_and}
 use Rattle.oram_host.specs.declared.images.ImageFault.TheVariants.{Content}
 use Rattle.oram_host.specs.declared.trees.Tree.{Tree}
-use Rattle.oram_host.specs.Host.{Host, IsKeptTree, Kept}
-use Rattle.oram_host.specs.Image.{entries_text, tree_text}
+use Rattle.oram_host.specs.Host.{IsKeptTree}
+use Rattle.oram_host.specs.Image.{tree_text}
 use Rattle.oram_host.specs.ImageReading.{next_entries, next_number, next_tree}
 use Rattle.oram_host.specs.Trees.{host_of, kept_by}
 use Rattle.oram_host.proofs.Hosts.{trees_added}

@@ -1,4 +1,4 @@
-use Rattle.std.proofs.Common.{◌≡◌, ◌∷◌, [], ◌++◌, ◌<◌, ◌^◌, ◌-◌, ◌+◌, ℕ, List, ap, subst, sym, rules, arith}
+use Rattle.std.proofs.Common.{◌∷◌, [], ◌++◌, ◌<◌, ◌^◌, ◌-◌, ◌+◌, ℕ, List, ap, subst, sym, rules}
 use Rattle.std.specs.Int.{w32, to_be_bytes}
 use Rattle.std.specs.Io.KnownBytes.{Consumes}
 use Rattle.std.specs.List.{AllByRecursion}

@@ -1,4 +1,4 @@
-use Rattle.std.proofs.Common.{◌≡◌, ◌∷◌, [], ◌<◌, ◌≤◌, ℕ, rules, arith}
+use Rattle.std.proofs.Common.{◌∷◌, [], ◌<◌, ◌≤◌, ℕ, rules}
 use Rattle.std.proofs.lemmas.Result.{err_from_is_err_and}
 use Rattle.oram_host.specs.declared.images.ImageFault.TheVariants.{Content}
 use Rattle.oram_host.specs.ImageReading.{next_byte, next_kept, next_tree}

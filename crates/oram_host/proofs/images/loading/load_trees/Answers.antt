@@ -1,4 +1,4 @@
-use Rattle.std.proofs.Common.{◌≡◌, ◌++◌, List, ℕ, rules}
+use Rattle.std.proofs.Common.{◌++◌}
 use Rattle.std.specs.Prelude.{codes}
 use Rattle.std.specs.Int.{w32, to_be_bytes}
 use Rattle.std.proofs.KnownBytes.{Consumes-trans}

@@ -1,4 +1,3 @@
-use Rattle.std.proofs.Common.{◌≡◌, rules}
 use Rattle.std.proofs.lemmas.Result.{err_from_is_err_and}
 use Rattle.oram_host.specs.Trees.{host_of}
 use Rattle.oram_host.proofs.LoadedHosts.{is_host}
