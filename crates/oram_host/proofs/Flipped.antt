@@ -78,9 +78,10 @@ flips_byte tree new node offset bytes stored h there e within written =
     let whole : length (flipped bytes offset) ≡ tree.record_len = length-flipped bytes offset ∙ ap length (sym same) ∙ at.whole in
     let some : IsSome (get nat_cmp tree.records node) = rw there refl in
     let P : List ℕ → Type 0 = λ xs. (record_of (kept_by tree) node ≡ Some xs) × (offset < length xs) in
-    let here : P bytes = subst P same (e, within) in
-    (tree_written tree new node (flipped bytes offset) h written whole,
-        (bytes, here.0, here.1, puts_record tree changed node (flipped bytes offset) h.ordered written.4 refl refl at.node whole h.shape.long (written.3 some)))
+    let here : P bytes = subst P same (e, within) in (
+      tree_written tree new node (flipped bytes offset) h written whole,
+      (bytes, here.0, here.1, puts_record tree changed node (flipped bytes offset) h.ordered written.4 refl refl at.node whole h.shape.long (written.3 some)),
+    )
 
 -- ---- a host
 

@@ -109,7 +109,7 @@ kept_misshaped depth record_len rest fits not_shape = rw (number_again record_le
 
 shape_known : (depth record_len : ℕ) (rest : List ℕ) → IsShape depth record_len
     → next_kept (((depth ∷ []) ++ to_be_bytes w32 record_len) ++ rest)
-      ≡ (next_entries (2 ^ (depth + 1) - 1) (next_record (2 ^ (depth + 1) - 1) record_len) rest >>= λ records. Ok (record { depth = depth; record_len = record_len; records = records.0 }, records.1))
+    ≡ (next_entries (2 ^ (depth + 1) - 1) (next_record (2 ^ (depth + 1) - 1) record_len) rest >>= λ records. Ok (record { depth = depth; record_len = record_len; records = records.0 }, records.1))
 unfolding next_kept next_byte
 shape_known depth record_len rest shape = rw (number_again record_len rest (record_len_fits depth record_len shape), shape_passes depth record_len shape) refl
 

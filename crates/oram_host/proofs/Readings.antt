@@ -152,7 +152,7 @@ begun_again next_entry text_of Fits again (e ∷ es) least more rest rises fits 
     ap (λ n. next_rising next_entry n least (flat_map text_of (e ∷ es) ++ rest)) count
     ∙ ap (next_rising next_entry (suc (length es + more)) least) text
     ∙ rw (again least e (flat_map text_of es ++ rest) rises.0 fits.0, begun_again next_entry text_of Fits again es (e.0 + 1) more rest rises.1 fits.1)
-      (one_before e es (next_rising next_entry more (least_after (e.0 + 1) es) rest))
+    (one_before e es (next_rising next_entry more (least_after (e.0 + 1) es) rest))
 
 pub rising_again : {X : Type 0} (next_entry : ℕ → List ℕ → Reading (ℕ × X)) (text_of : ℕ × X → List ℕ) (Fits : ℕ × X → Type 0) → ReadsAgain next_entry text_of Fits
     → (es : List (ℕ × X)) (rest : List ℕ) → RisesFrom 0 es → AllByRecursion Fits es → next_rising next_entry (length es) 0 (flat_map text_of es ++ rest) ≡ Ok (es, rest)

@@ -10,7 +10,6 @@ mod saving;
 
 pub(crate) use loading::load_trees;
 pub(crate) use saving::save_trees;
-
 use std::alloc::{AllocError, AllocFailed};
 
 /// Why an image could not be saved or loaded.
@@ -35,8 +34,8 @@ const MAGIC: [u8; 8] = *b"ORAMHOST";
 const VERSION: u32 = 1;
 
 impl ImageFault {
-    /// The number that is shown: from 1 on those of a file, in the order above. What the reader, the
-    /// writer or memory refused has none.
+    /// The number that is shown, from 1 to 4 in the order above. What a reader or a writer failed at
+    /// and refused memory have none.
     pub fn number(self) -> Option<u8>
         ensures { result ≡ fault_number self }
     {

@@ -193,7 +193,8 @@ impl Server {
     /// Reads an image, which is all that the reader holds: the server is the one that was saved. The
     /// image is read from front to back, and of several faults the first is answered.
     pub fn load_image<R: Read>(alloc: Global, reader: &mut R) -> Result<Server, ImageFault>
-        ensures ok { IfOk result (λ server. Consumes (R.remaining reader.old) (R.remaining reader.new) (image server)) }
+        ensures ok { IfOk result (λ server. Consumes (R.remaining reader.old) (R.remaining reader.new)
+            (image server)) }
         ensures end { OnOk result (IsAtEnd (R.remaining reader.new)) }
         ensures host { IfOk result (λ server. IsHost server) }
 

@@ -318,7 +318,7 @@ impl Tree {
             (kept_by self.new)) (λ why. RefusesPut (kept_by self.old) node bytes.now why) }
         ensures err { OnErr result (kept_by self.new ≡ kept_by self.old) }
     {
-        if node >= (1 << (self.depth + 1)) - 1 {
+        if node >= node_count(self.depth) {
             return Err(HostRefusal::BadNode);
         }
         if bytes.len() != self.record_len as usize {

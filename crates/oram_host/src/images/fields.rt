@@ -12,7 +12,8 @@ use std::io::{ErrorKind, Read};
 /// Reads until the buffer is full or the input ends, and tells how many bytes were read.
 fn fill<R: Read>(reader: &mut R, buf: &mut [u8]) -> Result<usize, ImageFault>
     ensures within { IfOk result (λ n. n ≤ length buf.new) }
-    ensures ok { IfOk result (λ n. Consumes (R.remaining reader.old) (R.remaining reader.new) (take n buf.new)) }
+    ensures ok { IfOk result (λ n. Consumes (R.remaining reader.old) (R.remaining reader.new)
+        (take n buf.new)) }
     ensures end { IfOk result (λ n. n < length buf.new → IsAtEnd (R.remaining reader.new)) }
     ensures fault { IfErr result (λ why. why ≡ ImageFault.Io) }
 {
@@ -37,7 +38,8 @@ fn fill<R: Read>(reader: &mut R, buf: &mut [u8]) -> Result<usize, ImageFault>
 /// Fills the buffer.
 pub(super) fn read_bytes<R: Read>(reader: &mut R, buf: &mut [u8]) -> Result<(), ImageFault>
     ensures ok { OnOk result (Consumes (R.remaining reader.old) (R.remaining reader.new) buf.new) }
-    ensures fault { IfErr result (λ why. IsFirstFault (next_bytes (length buf.new)) why (R.remaining reader.old)) }
+    ensures fault { IfErr result (λ why.
+        IsFirstFault (next_bytes (length buf.new)) why (R.remaining reader.old)) }
 {
     if fill(reader, buf)? < buf.len() {
         return Err(ImageFault::Length);
@@ -46,7 +48,8 @@ pub(super) fn read_bytes<R: Read>(reader: &mut R, buf: &mut [u8]) -> Result<(), 
 }
 
 pub(super) fn read_byte<R: Read>(reader: &mut R) -> Result<u8, ImageFault>
-    ensures ok { IfOk result (λ b. Consumes (R.remaining reader.old) (R.remaining reader.new) (b ∷ [])) }
+    ensures ok { IfOk result (λ b. Consumes (R.remaining reader.old) (R.remaining reader.new)
+        (b ∷ [])) }
     ensures fault { IfErr result (λ why. IsFirstFault next_byte why (R.remaining reader.old)) }
 {
     let mut buf = [0; 1];
@@ -63,7 +66,8 @@ fn number_of(bytes: &[u8]) -> u32
 }
 
 pub(super) fn read_number<R: Read>(reader: &mut R) -> Result<u32, ImageFault>
-    ensures ok { IfOk result (λ n. Consumes (R.remaining reader.old) (R.remaining reader.new) (to_be_bytes w32 n)) }
+    ensures ok { IfOk result (λ n. Consumes (R.remaining reader.old) (R.remaining reader.new)
+        (to_be_bytes w32 n)) }
     ensures fault { IfErr result (λ why. IsFirstFault next_number why (R.remaining reader.old)) }
 {
     let mut buf = [0; 4];
@@ -73,7 +77,8 @@ pub(super) fn read_number<R: Read>(reader: &mut R) -> Result<u32, ImageFault>
 
 /// Reads the eight letters.
 pub(super) fn read_letters<R: Read>(reader: &mut R) -> Result<(), ImageFault>
-    ensures ok { OnOk result (Consumes (R.remaining reader.old) (R.remaining reader.new) (codes "ORAMHOST")) }
+    ensures ok { OnOk result (Consumes (R.remaining reader.old) (R.remaining reader.new)
+        (codes "ORAMHOST")) }
     ensures fault { IfErr result (λ why. IsFirstFault after_letters why (R.remaining reader.old)) }
 {
     let mut buf = [0; 8];
@@ -85,7 +90,8 @@ pub(super) fn read_letters<R: Read>(reader: &mut R) -> Result<(), ImageFault>
 
 /// Reads the version, of which there is one.
 pub(super) fn read_version<R: Read>(reader: &mut R) -> Result<(), ImageFault>
-    ensures ok { OnOk result (Consumes (R.remaining reader.old) (R.remaining reader.new) (to_be_bytes w32 1)) }
+    ensures ok { OnOk result (Consumes (R.remaining reader.old) (R.remaining reader.new)
+        (to_be_bytes w32 1)) }
     ensures fault { IfErr result (λ why. IsFirstFault after_version why (R.remaining reader.old)) }
 {
     if read_number(reader)? != VERSION {

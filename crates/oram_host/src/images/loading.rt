@@ -29,10 +29,12 @@ fn load_record<R: Read>(
     nodes: u32,
     record_len: u32,
 ) -> Result<(u32, Bytes), ImageFault>
-    ensures ok { IfOk result (λ e. Consumes (R.remaining reader.old) (R.remaining reader.new) (record_text e)) }
+    ensures ok { IfOk result (λ e. Consumes (R.remaining reader.old) (R.remaining reader.new)
+        (record_text e)) }
     ensures rises { IfOk result (λ e. least ≤ e.0) }
     ensures record { IfOk result (λ e. IsRecordOf nodes record_len e) }
-    ensures fault { IfErr result (λ why. IsFirstFault (next_record nodes record_len least) why (R.remaining reader.old)) }
+    ensures fault { IfErr result (λ why.
+        IsFirstFault (next_record nodes record_len least) why (R.remaining reader.old)) }
 {
     let node = read_number(reader)?;
     if node < least || node >= nodes {
@@ -93,10 +95,12 @@ fn load_kept<R: Read>(alloc: Global, reader: &mut R) -> Result<Tree, ImageFault>
 
 /// Reads a number of a tree, from `least` on, and the tree.
 fn load_tree<R: Read>(alloc: Global, reader: &mut R, least: u16) -> Result<(u8, Tree), ImageFault>
-    ensures ok { IfOk result (λ e. Consumes (R.remaining reader.old) (R.remaining reader.new) (tree_text (e.0, kept_by e.1))) }
+    ensures ok { IfOk result (λ e. Consumes (R.remaining reader.old) (R.remaining reader.new)
+        (tree_text (e.0, kept_by e.1))) }
     ensures rises { IfOk result (λ e. least ≤ e.0) }
     ensures tree { IfOk result (λ e. IsTree e.1) }
-    ensures fault { IfErr result (λ why. IsFirstFault (next_tree least) why (R.remaining reader.old)) }
+    ensures fault { IfErr result (λ why.
+        IsFirstFault (next_tree least) why (R.remaining reader.old)) }
 {
     let number = read_byte(reader)?;
     if u16::from(number) < least {
@@ -107,10 +111,7 @@ fn load_tree<R: Read>(alloc: Global, reader: &mut R, least: u16) -> Result<(u8, 
 }
 
 /// Reads how many trees there are, and the trees.
-fn load_each_tree<R: Read>(
-    alloc: Global,
-    reader: &mut R,
-) -> Result<BTreeMap<u8, Tree>, ImageFault>
+fn load_each_tree<R: Read>(alloc: Global, reader: &mut R) -> Result<BTreeMap<u8, Tree>, ImageFault>
     ensures ok { IfOk result (λ m. Consumes (R.remaining reader.old) (R.remaining reader.new)
         (entries_text tree_text (host_of m))) }
     ensures trees { IfOk result (λ m. AreTrees m) }

@@ -125,7 +125,11 @@ fn loads_what_was_saved(rt: HostRuntime) -> Result<(), ImageFault> {
     assert_eq!(rt; server.save_image(&mut whole), Ok(()));
     assert_eq!(rt; &whole.bytes[..38], IMAGE.as_slice());
     for len in 0..IMAGE.len() {
-        let fault = if len < 8 { ImageFault::Magic } else { ImageFault::Length };
+        let fault = if len < 8 {
+            ImageFault::Magic
+        } else {
+            ImageFault::Length
+        };
         assert_eq!(rt; fault_of(rt.alloc(), &IMAGE[..len]), Some(fault));
     }
     Ok(())
@@ -164,8 +168,8 @@ fn first_faults(rt: HostRuntime) {
     }
     // A tree that comes again is met before the input ends.
     let again = [
-        0x4f, 0x52, 0x41, 0x4d, 0x48, 0x4f, 0x53, 0x54, 0, 0, 0, 1, 0, 0, 0, 2, 7, 0, 0, 0, 0, 1, 0,
-        0, 0, 0, 7,
+        0x4f, 0x52, 0x41, 0x4d, 0x48, 0x4f, 0x53, 0x54, 0, 0, 0, 1, 0, 0, 0, 2, 7, 0, 0, 0, 0, 1,
+        0, 0, 0, 0, 7,
     ];
     assert_eq!(rt; fault_of(alloc, &again), Some(ImageFault::Content));
 }

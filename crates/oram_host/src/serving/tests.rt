@@ -87,7 +87,12 @@ fn copy_and_flip(rt: HostRuntime) -> Result<(), Fail> {
     }
     fetches(&rt, &mut server, &[1, 3, 0, 0, 0, 1], &store[6..]);
     assert!(rt; server.flip(3, 2, 1));
-    fetches(&rt, &mut server, &[1, 3, 0, 0, 0, 1], &[0x11, 0x12, 0x13, 0x15]);
+    fetches(
+        &rt,
+        &mut server,
+        &[1, 3, 0, 0, 0, 1],
+        &[0x11, 0x12, 0x13, 0x15],
+    );
     fetches(&rt, &mut copy, &[1, 3, 0, 0, 0, 1], &store[6..]);
     assert!(rt; copy.flip(3, 0, 0));
     assert!(rt; copy.flip(3, 0, 0));

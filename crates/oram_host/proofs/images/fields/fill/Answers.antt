@@ -28,13 +28,13 @@ loop-preserved g c =
     let front : take from filled ≡ take from buf = take-put_mid_below _ _ _ _ _ (le_refl _) inv.within in
     elim c.match-read.branch [
       | in-Ok w ↦ (
-        let n = w.in-Ok.n in
-        let part = slice_range-put_mid from room n buf c.read.new.buf inv.within w.in-Ok.ensures.bound.0 in
-        let joined = take_split from (from + n) buf filled (omega arith) front in
-        record {
-          within = search rules;
-          taken = rw w.filled-is (subst (Consumes _ _) (ap (λ l. take from buf ++ l) (sym part) ∙ joined) (Consumes-trans _ _ _ _ _ inv.taken w.in-Ok.ensures.bytes.0));
-        })
+          let n = w.in-Ok.n in
+          let part = slice_range-put_mid from room n buf c.read.new.buf inv.within w.in-Ok.ensures.bound.0 in
+          let joined = take_split from (from + n) buf filled (omega arith) front in
+          record {
+            within = search rules;
+            taken = rw w.filled-is (subst (Consumes _ _) (ap (λ l. take from buf ++ l) (sym part) ∙ joined) (Consumes-trans _ _ _ _ _ inv.taken w.in-Ok.ensures.bytes.0));
+          })
       | in-Err+else-ne w ↦ record {
         within = search rules;
         taken = rw w.filled-is (subst (Consumes _ _) (sym front) (Consumes-kept _ _ _ _ inv.taken w.in-Err.ensures.bytes));

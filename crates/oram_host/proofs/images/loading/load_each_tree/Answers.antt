@@ -41,8 +41,8 @@ returns-in_err-number-clause-fault g c =
     let few : count ≤ 256 = omega arith in
     let more : length host < count = omega (arith, c.loop-test.true, inv.many) in
     rw (p.1, p.2) (fails_after why _ _ (to_be_bytes w32 count ++ flat_map tree_text host) (next_tree c.loop.least) (next_entries 256 next_tree) inv.taken
-        (λ rest e. entries_fail 256 next_tree tree_text IsKeptTree tree_again host count rest why fits few kept.rising kept.each more (subst (λ (least : ℕ). next_tree least rest ≡ Err why) inv.next e))
-        c.in_err-number.ensures.fault)
+    (λ rest e. entries_fail 256 next_tree tree_text IsKeptTree tree_again host count rest why fits few kept.rising kept.each more (subst (λ (least : ℕ). next_tree least rest ≡ Err why) inv.next e))
+    c.in_err-number.ensures.fault)
 
 pub loop-preserved : goal.loop-preserved
 loop-preserved g c =
@@ -56,8 +56,8 @@ loop-preserved g c =
     let new = c.insert.new.self in
     let longer : host_of new ≡ host ++ (number, kept_by tree) ∷ [] = host_grown c.loop.trees new number tree c.in_ok-insert.ensures.entries inv.trees above in
     let text : (to_be_bytes w32 count ++ flat_map tree_text host) ++ tree_text (number, kept_by tree) ≡ to_be_bytes w32 count ++ flat_map tree_text (host_of new) =
-        append_assoc (to_be_bytes w32 count) (flat_map tree_text host) (tree_text (number, kept_by tree))
-        ∙ ap (λ (t : List ℕ). to_be_bytes w32 count ++ t) (sym (flat_map-push tree_text host (number, kept_by tree)) ∙ ap (flat_map tree_text) (sym longer)) in
+    append_assoc (to_be_bytes w32 count) (flat_map tree_text host) (tree_text (number, kept_by tree))
+    ∙ ap (λ (t : List ℕ). to_be_bytes w32 count ++ t) (sym (flat_map-push tree_text host (number, kept_by tree)) ∙ ap (flat_map tree_text) (sym longer)) in
     record {
       taken = subst (Consumes _ _) text (Consumes-trans _ _ _ _ _ inv.taken c.in_ok-number.ensures.ok);
       many = ap length longer ∙ length-append host ((number, kept_by tree) ∷ []) ∙ ap (λ (n : ℕ). n + 1) inv.many;

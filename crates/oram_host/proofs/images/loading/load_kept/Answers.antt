@@ -45,7 +45,7 @@ returns-in_err-records-clause-fault g c =
     let shape : IsShape depth record_len = search rules in
     let fault = subst (λ (n : ℕ). IsFirstFault (next_entries n (next_record n record_len)) why (g.R.Read.remaining c.read_number.new.reader)) c.node_count.ensures c.in_err-records.ensures.fault in
     rw (p.1, p.2) (fails_after why _ _ ((depth ∷ []) ++ to_be_bytes w32 record_len) (next_entries nodes (next_record nodes record_len)) next_kept
-        (Consumes-trans _ _ _ _ _ c.in_ok-depth.ensures.ok c.in_ok-record_len.ensures.ok) (λ rest e. kept_records depth record_len rest why shape e) fault)
+    (Consumes-trans _ _ _ _ _ c.in_ok-depth.ensures.ok c.in_ok-record_len.ensures.ok) (λ rest e. kept_records depth record_len rest why shape e) fault)
 
 pub returns-clause-ok : goal.returns-clause-ok
 returns-clause-ok g c =

@@ -30,4 +30,4 @@ returns-in_err-read_bytes-clause-fault g c =
     let fits : node < 2 ^ 32 = search rules in
     let long : length c.read_bytes.new.buf ≡ a.record_len = search rules in
     rw (p.1, p.2) (fails_after why _ _ (to_be_bytes w32 node) (next_bytes a.record_len) (next_record a.nodes a.record_len a.least) c.in_ok-node.ensures.ok
-        (λ rest e. record_bytes a.nodes a.record_len a.least node rest why fits c.if-node-least.false c.if-node-nodes.false e) (rw long at c.in_err-read_bytes.ensures.fault))
+    (λ rest e. record_bytes a.nodes a.record_len a.least node rest why fits c.if-node-least.false c.if-node-nodes.false e) (rw long at c.in_err-read_bytes.ensures.fault))

@@ -43,8 +43,8 @@ returns-in_err-node-clause-fault g c =
     let es = c.loop.records.entries in
     let more : length es < count = omega (arith, c.loop-test.true) in
     rw (p.1, p.2) (fails_after why _ _ (to_be_bytes w32 count ++ flat_map record_text es) (next c.loop.least) (next_entries nodes next) inv.taken
-        (λ rest e. entries_fail nodes next record_text (IsRecordOf nodes record_len) (record_again nodes record_len (omega arith)) es count rest why fits c.if-count-nodes.false inv.rises inv.each more
-            (subst (λ (least : ℕ). next_record nodes record_len least rest ≡ Err why) inv.next e)) c.in_err-node.ensures.fault)
+    (λ rest e. entries_fail nodes next record_text (IsRecordOf nodes record_len) (record_again nodes record_len (omega arith)) es count rest why fits c.if-count-nodes.false inv.rises inv.each more
+    (subst (λ (least : ℕ). next_record nodes record_len least rest ≡ Err why) inv.next e)) c.in_err-node.ensures.fault)
 
 pub loop-preserved : goal.loop-preserved
 loop-preserved g c =
@@ -56,8 +56,8 @@ loop-preserved g c =
     let above : least_after 0 es ≤ node = omega (arith, inv.next, c.in_ok-node.ensures.rises) in
     let longer : c.insert.new.self.entries ≡ es ++ (node, bytes) ∷ [] = grown c.loop.records c.insert.new.self node bytes c.in_ok-insert.ensures.entries inv.rises above in
     let text : (to_be_bytes w32 count ++ flat_map record_text es) ++ record_text (node, bytes) ≡ to_be_bytes w32 count ++ flat_map record_text c.insert.new.self.entries =
-        append_assoc (to_be_bytes w32 count) (flat_map record_text es) (record_text (node, bytes))
-        ∙ ap (λ (t : List ℕ). to_be_bytes w32 count ++ t) (sym (flat_map-push record_text es (node, bytes)) ∙ ap (flat_map record_text) (sym longer)) in
+    append_assoc (to_be_bytes w32 count) (flat_map record_text es) (record_text (node, bytes))
+    ∙ ap (λ (t : List ℕ). to_be_bytes w32 count ++ t) (sym (flat_map-push record_text es (node, bytes)) ∙ ap (flat_map record_text) (sym longer)) in
     let Rises : List (ℕ × List ℕ) → Type 0 = λ xs. RisesFrom 0 xs in
     let All : List (ℕ × List ℕ) → Type 0 = λ xs. AllByRecursion (IsRecordOf c.args.nodes c.args.record_len) xs in
     record {

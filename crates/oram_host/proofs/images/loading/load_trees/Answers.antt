@@ -28,7 +28,7 @@ returns-in_err-trees-clause-fault g c =
     let p = err_from_is_err_and c.from_residual-in_err-trees.result c.from_residual-in_err-trees.ensures.1 in
     let why = c.in_err-trees.field-0.0 in
     rw (p.1, p.2) (fails_after why _ _ (codes "ORAMHOST" ++ to_be_bytes w32 1) (next_entries 256 next_tree) host_in (Consumes-trans _ _ _ _ _ c.in_ok-read_letters.ensures.ok c.in_ok-read_version.ensures.ok)
-        (λ rest e. host_trees rest why e) c.in_err-trees.ensures.fault)
+    (λ rest e. host_trees rest why e) c.in_err-trees.ensures.fault)
 
 pub returns-in_err-read_end-clause-fault : goal.returns-in_err-read_end-clause-fault
 returns-in_err-read_end-clause-fault g c =
@@ -37,4 +37,4 @@ returns-in_err-read_end-clause-fault g c =
     let host = host_of c.in_ok-trees.trees in
     let head = Consumes-trans _ _ _ (codes "ORAMHOST") (to_be_bytes w32 1) c.in_ok-read_letters.ensures.ok c.in_ok-read_version.ensures.ok in
     rw (p.1, p.2) (fails_after why _ _ (image host) after_end host_in (Consumes-trans _ _ _ _ _ head c.in_ok-trees.ensures.ok)
-        (λ rest e. host_longer host rest why (is_host c.in_ok-trees.trees c.in_ok-trees.ensures.trees) e) c.in_err-read_end.ensures.fault)
+    (λ rest e. host_longer host rest why (is_host c.in_ok-trees.trees c.in_ok-trees.ensures.trees) e) c.in_err-read_end.ensures.fault)

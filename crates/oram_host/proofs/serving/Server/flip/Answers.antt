@@ -20,12 +20,13 @@ returns-in_default c =
 pub returns-in_default-try_from : goal.returns-in_default-try_from
 returns-in_default-try_from c =
     let host : Host = c.args.self.now in
-    let is : IsHost host = subst IsHost c.self.view_is (is_host c.self.inside.trees c.self.invariant) in
-    (λ kept shaped bytes stored.
-        let at = (tree_kept_at host c.args.tree kept is shaped).kept in
-        let node = (record_kept_at kept c.args.node bytes at stored).node in
-        absurd (c.in_default-try_from.ensures (omega (arith, node, nodes_fit kept.depth at.shape.deep))),
-        refl)
+    let is : IsHost host = subst IsHost c.self.view_is (is_host c.self.inside.trees c.self.invariant) in (
+      λ kept shaped bytes stored.
+          let at = (tree_kept_at host c.args.tree kept is shaped).kept in
+          let node = (record_kept_at kept c.args.node bytes at stored).node in
+          absurd (c.in_default-try_from.ensures (omega (arith, node, nodes_fit kept.depth at.shape.deep))),
+      refl,
+    )
 
 pub returns-in_default-get_mut : goal.returns-in_default-get_mut
 returns-in_default-get_mut c =
@@ -53,7 +54,7 @@ returns c =
     let found : get nat_cmp trees tree ≡ Some c.in-Some.kept.now = search rules in
     let some : IsSome (get nat_cmp trees tree) = rw found refl in
     let told = was_flipped c.flip.result host (host_of after) tree node c.args.offset (kept_by c.in-Some.kept.now) (kept_by changed) (tree_there trees host tree c.in-Some.kept.now c.self.view_is found)
-        (keeps_written trees after host (host_of after) tree changed c.self.view_is refl some written) (same_host trees after host (host_of after) tree c.in-Some.kept.now changed c.self.view_is refl found written)
-        c.flip.ensures.flipped c.flip.ensures.same in
+    (keeps_written trees after host (host_of after) tree changed c.self.view_is refl some written) (same_host trees after host (host_of after) tree c.in-Some.kept.now changed c.self.view_is refl found written)
+    c.flip.ensures.flipped c.flip.ensures.same in
     let P : ℕ → ℕ → Type 0 = λ t n. MatchBool c.flip.result (IsFlipped host t n c.args.offset (host_of after)) (IsByteless host t n c.args.offset × (host_of after ≡ host)) in
     subst (P c.args.tree) c.in-Ok-try_from.ensures.1 (subst (λ (t : ℕ). P t node) c.in-Ok.ensures.1 told)
