@@ -9,3 +9,4 @@ pub mod Readings
 pub mod ReadImages
 pub mod LoadedHosts
 pub mod Flipped
+pub mod ExactImages

@@ -100,19 +100,26 @@ are_whole nodes record_len es all = All-from_recursion (IsRecord record_len) (va
 -- ---- a copy
 
 -- one entry more is copied
-pub copied_more : {X : Type 0} (old new : BTreeMap ℕ X) (rest all : List (ℕ × X)) (number : ℕ) (x : X) → new.entries ≡ insert_entry nat_cmp old.entries number x → RisesFrom 0 all → old.entries ++ (number, x) ∷ rest ≡ all
-    → new.entries ++ rest ≡ all
-copied_more {X} old new rest all number x inserted rises so_far =
+pub copied_more : {X : Type 0} (old new : BTreeMap ℕ X) (left rest all : List (ℕ × X)) (number : ℕ) (x copy : X) → left ≡ (number, x) ∷ rest → copy ≡ x → new.entries ≡ insert_entry nat_cmp old.entries number copy → RisesFrom 0 all
+    → old.entries ++ left ≡ all → new.entries ++ rest ≡ all
+copied_more {X} old new left rest all number x copy split same inserted rises so_far =
+    let next : old.entries ++ (number, x) ∷ rest ≡ all = ap (λ (es : List (ℕ × X)). old.entries ++ es) (sym split) ∙ so_far in
     let P : List (ℕ × X) → Type 0 = λ es. RisesFrom 0 es in
-    let here : RisesFrom 0 (old.entries ++ (number, x) ∷ rest) = subst P (sym so_far) rises in
-    let longer = grown old new number x inserted (rises_before old.entries ((number, x) ∷ rest) 0 here) (rises_next old.entries rest 0 number x here) in
-    ap (λ (es : List (ℕ × X)). es ++ rest) longer ∙ append_assoc old.entries ((number, x) ∷ []) rest ∙ so_far
+    let here : RisesFrom 0 (old.entries ++ (number, x) ∷ rest) = subst P (sym next) rises in
+    let longer = grown old new number copy inserted (rises_before old.entries ((number, x) ∷ rest) 0 here) (rises_next old.entries rest 0 number x here) in
+    ap (λ (es : List (ℕ × X)). es ++ rest) longer ∙ append_assoc old.entries ((number, copy) ∷ []) rest ∙ ap (λ (y : X). old.entries ++ (number, y) ∷ rest) same ∙ next
+
+-- what trees keep, by number
+abbrev pub kept_trees : List (ℕ × Tree) → Host
+kept_trees trees = map {B = ℕ × Kept} (λ e. (e.0, kept_by e.1)) trees
 
 -- one tree more is copied
-pub host_copied_more : (old new : BTreeMap ℕ Tree) (rest all : Host) (number : ℕ) (tree : Tree) (kept : Kept) → new.entries ≡ insert_entry nat_cmp old.entries number tree → AreTrees old → kept_by tree ≡ kept → RisesFrom 0 all
-    → host_of old ++ (number, kept) ∷ rest ≡ all → host_of new ++ rest ≡ all
-host_copied_more old new rest all number tree kept inserted trees same rises so_far =
+pub host_copied_more : (old new : BTreeMap ℕ Tree) (left rest : List (ℕ × Tree)) (all : Host) (number : ℕ) (tree copy : Tree) → left ≡ (number, tree) ∷ rest → kept_by copy ≡ kept_by tree → new.entries ≡ insert_entry nat_cmp old.entries number copy
+    → AreTrees old → RisesFrom 0 all → host_of old ++ kept_trees left ≡ all → host_of new ++ kept_trees rest ≡ all
+host_copied_more old new left rest all number tree copy split same inserted trees rises so_far =
+    let next : host_of old ++ (number, kept_by tree) ∷ kept_trees rest ≡ all = ap (λ (es : List (ℕ × Tree)). host_of old ++ kept_trees es) (sym split) ∙ so_far in
     let P : Host → Type 0 = λ host. RisesFrom 0 host in
-    let here : RisesFrom 0 (host_of old ++ (number, kept) ∷ rest) = subst P (sym so_far) rises in
-    let longer = host_grown old new number tree inserted trees (rises_next (host_of old) rest 0 number kept here) in
-    ap (λ (host : Host). host ++ rest) longer ∙ append_assoc (host_of old) ((number, kept_by tree) ∷ []) rest ∙ ap (λ (k : Kept). host_of old ++ (number, k) ∷ rest) same ∙ so_far
+    let here : RisesFrom 0 (host_of old ++ (number, kept_by tree) ∷ kept_trees rest) = subst P (sym next) rises in
+    let longer = host_grown old new number copy inserted trees (rises_next (host_of old) (kept_trees rest) 0 number (kept_by tree) here) in
+    ap (λ (host : Host). host ++ kept_trees rest) longer ∙ append_assoc (host_of old) ((number, kept_by copy) ∷ []) (kept_trees rest)
+    ∙ ap (λ (k : Kept). host_of old ++ (number, k) ∷ kept_trees rest) same ∙ next

@@ -65,11 +65,11 @@ shape_passes depth record_len shape =
     both_hold (leb depth 24 && ltb 0 record_len) (leb ((depth + 1) * record_len + 6) 1048576)
     (both_hold (leb depth 24) (ltb 0 record_len) (le-leb depth 24 shape.deep) (lt-ltb 0 record_len shape.long)) (le-leb ((depth + 1) * record_len + 6) 1048576 shape.fits)
 
-both_held : (a b : Bool) → (a && b) ≡ true → (a ≡ true) × (b ≡ true)
+pub both_held : (a b : Bool) → (a && b) ≡ true → (a ≡ true) × (b ≡ true)
 both_held true b p = (refl, p)
 both_held false b p = absurd cc
 
-is_passed : (depth record_len : ℕ) → is_shape depth record_len ≡ true → IsShape depth record_len
+pub is_passed : (depth record_len : ℕ) → is_shape depth record_len ≡ true → IsShape depth record_len
 is_passed depth record_len passed =
     let outer = both_held (leb depth 24 && ltb 0 record_len) (leb ((depth + 1) * record_len + 6) 1048576) passed in
     let inner = both_held (leb depth 24) (ltb 0 record_len) outer.0 in

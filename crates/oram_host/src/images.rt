@@ -1,8 +1,10 @@
 //! The image of a host: a file that holds its trees.
 
-ghost use Rattle.std.specs.Prelude.{◌≡◌};
+ghost use Rattle.std.specs.Prelude.{◌≡◌, ◌↔◌, ◌<◌, ℕ, List, All, Ok};
 ghost use Rattle.oram_host.specs.declared.images.ImageFault.TheVariants.{OutOfMemory};
-ghost use Rattle.oram_host.specs.ImageReading.{fault_number};
+ghost use Rattle.oram_host.specs.ImageReading.{fault_number, host_in};
+ghost use Rattle.oram_host.specs.Host.{Host, IsHost};
+ghost use Rattle.oram_host.specs.Image.{image};
 
 mod fields;
 mod loading;
@@ -32,6 +34,13 @@ pub enum ImageFault {
 const MAGIC: [u8; 8] = *b"ORAMHOST";
 
 const VERSION: u32 = 1;
+
+/// A text of bytes is read as a host exactly where it is that host's image.
+pub fn images_are_exact()
+    ensures { (text : List ℕ) (host : Host) → All (λ b. b < 256) text
+        → (host_in text ≡ Ok host) ↔ (IsHost host × (text ≡ image host)) }
+{
+}
 
 impl ImageFault {
     /// The number that is shown, from 1 to 4 in the order above. What a reader or a writer failed at

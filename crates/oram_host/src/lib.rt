@@ -9,6 +9,6 @@ mod refusals;
 mod serving;
 mod trees;
 
-pub use images::ImageFault;
+pub use images::{ImageFault, images_are_exact};
 pub use refusals::HostRefusal;
 pub use serving::Server;
