@@ -1,0 +1,13 @@
+pub mod Events
+pub mod Shape
+pub mod Messages
+pub mod Answers
+pub mod Progress
+pub mod Content
+pub mod Nonces
+pub mod Trees
+pub mod Run
+pub mod State
+pub mod Moves
+pub mod Agree
+pub mod Law

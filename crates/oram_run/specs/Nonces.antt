@@ -1,0 +1,22 @@
+-- Which nonce each sealed bucket of a run has: so many buckets were sealed before it, in all trees.
+use Rattle.std.specs.Prelude.{ℕ, zero, suc, ◌+◌, ◌-◌, ◌*◌, ◌^◌, sum_by}
+use Rattle.std.specs.List.{range_with_len}
+use Rattle.oram_geometry.specs.declared.Sizes.{Sizes}
+use Rattle.oram_geometry.specs.Sizes.{trees_of, depth_of}
+
+-- buckets of a formatting: one for each node of each tree
+unfoldable pub formatted : Sizes → ℕ
+formatted d = sum_by (λ j. 2 ^ (depth_of d j + 1) - 1) (range_with_len 0 (trees_of d))
+
+-- buckets of a path of each tree below tree n
+unfoldable pub buckets_below : Sizes → ℕ → ℕ
+buckets_below d zero = 0
+buckets_below d (suc n) = buckets_below d n + (depth_of d n + 1)
+
+-- buckets of a path of each tree after tree i: a ticket stores theirs before tree i's
+abbrev pub buckets_after : Sizes → ℕ → ℕ
+buckets_after d i = buckets_below d (trees_of d) - buckets_below d (i + 1)
+
+-- the nonce of the root's bucket in the STORE of tree i by ticket t; that of level l is greater by l
+abbrev pub store_nonce : Sizes → ℕ → ℕ → ℕ
+store_nonce d t i = formatted d + t * buckets_below d (trees_of d) + buckets_after d i
