@@ -17,4 +17,5 @@ pub mod Agreeing
 pub mod Entry4
 pub mod AgreeOn
 pub mod Judged
+pub mod Placing
 pub mod AgreeKept
