@@ -17,5 +17,6 @@ pub mod Agreeing
 pub mod Entry4
 pub mod AgreeOn
 pub mod Judged
+pub mod Outcomes
 pub mod Placing
 pub mod AgreeKept

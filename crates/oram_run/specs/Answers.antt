@@ -1,5 +1,5 @@
 -- What the host's answer to a message means, where these records stand there: by tree and node.
-use Rattle.std.specs.Prelude.{ℕ, ◌+◌, ◌*◌, ◌==◌, ◌&&◌, not, Bool, false, if◌then◌else◌, List, [], ◌∷◌, length, drop, slice_index, Option, Some, None, find, nat_le}
+use Rattle.std.specs.Prelude.{ℕ, ◌+◌, ◌*◌, ◌==◌, ◌&&◌, not, Bool, false, if◌then◌else◌, List, [], ◌∷◌, length, drop, slice_index, Option, Some, None, Result, Ok, Err, find, nat_le}
 use Rattle.std.specs.List.{flat_map}
 use Rattle.std.specs.Option.{option_map_or}
 use Rattle.std.specs.Str.{bytes_eq}
@@ -7,6 +7,8 @@ use Rattle.sha2.specs.Sha256.{sha256}
 use Rattle.oram_geometry.specs.Sizes.{depth_of}
 use Rattle.oram_geometry.specs.Path.{node_on}
 use Rattle.oram_trace.specs.declared.asked.Entry.{Entry}
+use Rattle.oram_hash.specs.declared.HashFault.{HashFault}
+use Rattle.oram_hash.specs.declared.HashFault.TheVariants as fault
 use Rattle.oram_hash.specs.Path.{Path, path_of, record_at, node_at}
 use Rattle.oram_run.specs.Shape.{Shape, record_len}
 use Rattle.oram_run.specs.Messages.{levels}
@@ -63,6 +65,12 @@ outcome_of v records e bytes =
     if bytes_eq bytes (good_answer v records e) then Good
     else if bytes_eq bytes (129 ∷ 8 ∷ []) then NoRoom
     else Fails (reason_for v records e bytes)
+
+-- what byte 80 and the records of a path mean, in answer to a fetch of tree i, where their check told so
+abbrev pub outcome_by : {A : Type 0} → ℕ → Result A HashFault → Outcome
+outcome_by i (Ok path) = Good
+outcome_by i (Err fault.Length) = Fails Malformed
+outcome_by i (Err (fault.Tampered level)) = Fails (Tampered i level)
 
 -- whether the record at this level of a path, and the one that stands there, have one digest
 abbrev pub has_one_digest : (ℕ → List ℕ) → Path → ℕ → Bool
