@@ -270,7 +270,7 @@ record IsSealing (opening : List ℕ → Option (List ℕ)) (sealing : ℕ → L
 
 formed : (opening : List ℕ → Option (List ℕ)) (sealing : ℕ → List ℕ → List ℕ) (overhead : ℕ) (d : Sizes) (i nonce : ℕ) → IsDevice d → IsSealing opening sealing overhead → nonce + node_count (depth_of d i) ≤ 2 ^ 64
     → (let t : State = record { number = i; root = sha256 (root_record (seal_empty sealing d) (depth_of d i) nonce); stash = [] } in
-        IsFormat opening sealing overhead d nonce t (shape_body i (depth_of d i) (record_len_of d overhead) ∷ puts (seal_empty sealing d) i (depth_of d i) nonce 0))
+    IsFormat opening sealing overhead d nonce t (shape_body i (depth_of d i) (record_len_of d overhead) ∷ puts (seal_empty sealing d) i (depth_of d i) nonce 0))
 unfolding spot
 formed opening sealing overhead d i nonce of law fits =
     let depth = depth_of d i in
@@ -280,9 +280,9 @@ formed opening sealing overhead d i nonce of law fits =
     let here : IsAt depth nonce 0 depth nonce = refl in
     let records = records_of seal depth nonce in
     let whole = grown reads seal len depth nonce depth nonce 0
-        (λ x. length-sealed d overhead (seal x) (law.longer x (spelling d [])))
-        (λ x low high. record { plain = spelling d []; opens = law.undoes x (spelling d []) (omega arith) (bytes-empty d); spelled = record { bucket = empty_bucket d i; spelled = refl } })
-        here in
+    (λ x. length-sealed d overhead (seal x) (law.longer x (spelling d [])))
+    (λ x low high. record { plain = spelling d []; opens = law.undoes x (spelling d []) (omega arith) (bytes-empty d); spelled = record { bucket = empty_bucket d i; spelled = refl } })
+    here in
     let S : List ℕ → Type 0 = λ root. IsStored depth len root records in
     record {
       records = records;

@@ -1,6 +1,7 @@
 -- The steps of an access, put together.
-use Rattle.std.proofs.Common.{◌≡◌, ◌≢◌, ◌↔◌, ℕ, ◌+◌, ◌^◌, ◌<◌, ◌≤◌, Bool, true, false, List, ◌∷◌, ◌++◌, length, get_or, Option, Some, is_some, All, Contains, inl, inr, refl, sym, ap, subst, ◌∙◌, arith}
-use Rattle.std.proofs.lemmas.List.{length-replicate}
+use Rattle.std.proofs.Common.{◌≡◌, ◌≢◌, ◌↔◌, ℕ, ◌+◌, ◌^◌, ◌<◌, ◌≤◌, Bool, true, false, List, [], ◌∷◌, ◌++◌, map, Vec, Global, length, get_or, Option, Some, is_some, All, Contains, inl, inr, refl, sym, ap, subst, ◌∙◌, arith}
+use Rattle.std.proofs.lemmas.Bool.{cases_eq}
+use Rattle.std.proofs.lemmas.List.{length-replicate, length-map, map-append, get_or_push, get_or_append_left, get_or-map}
 use Rattle.std.proofs.lemmas.List.Elements.{All-contains, Contains-get_or}
 use Rattle.std.proofs.lemmas.List.Sorted.{All-permutation, Contains-permutation, IsPermutation-sym}
 use Rattle.std.specs.List.Sorted.{IsPermutation}
@@ -29,6 +30,13 @@ use Rattle.oram_tree.specs.Access.{IsAtOrAbsent, IsNear, IsReadable, IsLookup, I
 use Rattle.oram_tree.proofs.Content.{reads_uniquely, Before, IsBefore, After, is_readable, told_by, access_content}
 use Rattle.oram_tree.proofs.Evicted.{evicted}
 use Rattle.oram_tree.proofs.Gathered.{found_at}
+
+-- what vectors hold
+abbrev pub items_of : Vec ℕ Global → List ℕ
+items_of part = part.items
+
+abbrev pub blocks_of : Vec Cell Global → List Cell
+blocks_of list = list.items
 
 -- a changed block goes in beside the others
 pub waits_from : (old after new : List Cell) (b c : Cell) → b ≡ c → IsPermutation (b ∷ after) new → ((d : Cell) → Contains after d ↔ (Contains old d × (d.address ≢ c.address))) → IsWaiting (Contains old) c new
@@ -107,6 +115,26 @@ list_is_bucket s i depth leaf waiting lists rest e blocks l = record {
 
 pub rest_blocks : (s : Sizes) (i depth leaf : ℕ) (waiting : List Cell) (lists : List (List Cell)) (rest : List Cell) → IsEviction depth s.slots leaf waiting lists rest → All (IsBlockOf s i) waiting → All (IsBlockOf s i) rest
 rest_blocks s i depth leaf waiting lists rest e blocks = All-of_rest (IsBlockOf s i) lists rest (All-permutation (IsBlockOf s i) waiting (all_listed lists ++ rest) e.placement.each_once blocks)
+
+-- what holds of each part at its level, once one more is there
+pub parts_more : (P : ℕ → List ℕ → Type 0) (old new : List (Vec ℕ Global)) (part : Vec ℕ Global) (n : ℕ) → new ≡ old ++ part ∷ [] → length old ≡ n
+    → ((k : ℕ) → k < n → P k (part_at (map items_of old) k)) → P n part.items → (k : ℕ) → k < n + 1 → P k (part_at (map items_of new) k)
+parts_more P old new part n is long before here k lt =
+    let whole : map items_of new ≡ map items_of old ++ part.items ∷ [] = ap (map items_of) is ∙ map-append items_of old (part ∷ []) in
+    let kept : length (map items_of old) ≡ length old = simp length-map in
+    let mapped : length (map items_of old) ≡ n = kept ∙ long in
+    elim (cases_eq k n) [
+      | inl last ↦
+          let read : part_at (map items_of new) k ≡ part.items = ap (λ (xs : List (List ℕ)). part_at xs k) whole ∙ get_or_push (map items_of old) part.items [] k (mapped ∙ sym last) in
+          subst (P k) (sym read) (let Q : ℕ → Type 0 = λ j. P j part.items in subst Q (sym last) here)
+      | inr other ↦
+          let read : part_at (map items_of new) k ≡ part_at (map items_of old) k = ap (λ (xs : List (List ℕ)). part_at xs k) whole ∙ get_or_append_left (map items_of old) (part.items ∷ []) [] k (omega (arith, mapped)) in
+          subst (P k) (sym read) (before k (omega arith))
+    ]
+
+-- the list at a level, as it is read
+pub list_at : (lists : List (Vec Cell Global)) (level : ℕ) (list : Vec Cell Global) → level < length lists → list ≡ get_or lists level list → listed (map blocks_of lists) level ≡ list.items
+list_at lists level list lt is = get_or-map blocks_of lists level list [] lt ∙ ap blocks_of (sym is)
 
 -- the lists, sealed and written to the path
 pub rewritten : (opening : List ℕ → Option (List ℕ)) (sealing : ℕ → List ℕ → List ℕ) (s : Sizes) (i nonce depth leaf : ℕ) (p q : Path) (stash waiting : List Cell) (c : Cell) (lists : List (List Cell)) (rest : List Cell) (parts : List (List ℕ))

@@ -101,9 +101,20 @@ fn grow<S: Sealer, K: Sink>(
     let below = nodes_below(height);
     let (left, right) = (2 * node + 1, 2 * node + 2);
     let left = grow(alloc, device, tree, sealer, sink, height - 1, left, nonce)?;
-    let right = grow(alloc, device, tree, sealer, sink, height - 1, right, nonce + below)?;
+    let right = grow(
+        alloc,
+        device,
+        tree,
+        sealer,
+        sink,
+        height - 1,
+        right,
+        nonce + below,
+    )?;
     let nonce = nonce + 2 * below;
-    put_node(alloc, device, tree, sealer, sink, node, nonce, &left, &right)
+    put_node(
+        alloc, device, tree, sealer, sink, node, nonce, &left, &right,
+    )
 }
 
 /// Makes a tree of empty buckets, and gives the digest of its root's record.
@@ -124,7 +135,11 @@ pub(crate) fn format_tree<S: Sealer, K: Sink>(
     prove!(tree < device.trees());
     let depth = device.depth(tree);
     let record_len = device.record_len(sealer.overhead()) as u32;
-    let shape = HostRequest::Shape { tree, depth, record_len };
+    let shape = HostRequest::Shape {
+        tree,
+        depth,
+        record_len,
+    };
     sink.put(&shape.encode(alloc)?)?;
     grow(alloc, device, tree, sealer, sink, depth, 0, nonce)
 }

@@ -166,6 +166,7 @@ impl Tree {
             content (record { address = address; leaf = new_leaf; content = changed }) a.found a.before.items self.new)
             (λ f. f ≡ TreeFault.OutOfMemory) }
     {
+        prove!(self.number < device.trees());
         let stash = self.stash.copy(alloc)?;
         let Rewritten {
             stash,
