@@ -19,4 +19,5 @@ pub mod AgreeOn
 pub mod Judged
 pub mod Outcomes
 pub mod Placing
+pub mod PostOrder
 pub mod AgreeKept

@@ -8,6 +8,7 @@ pub mod Nonces
 pub mod Trees
 pub mod Run
 pub mod State
+pub mod Formatting
 pub mod Moves
 pub mod Agree
 pub mod Law

@@ -1,12 +1,17 @@
 -- Which nonce each sealed bucket of a run has: so many buckets were sealed before it, in all trees.
-use Rattle.std.specs.Prelude.{ℕ, zero, suc, ◌+◌, ◌-◌, ◌*◌, ◌^◌, sum_by}
-use Rattle.std.specs.List.{range_with_len}
+use Rattle.std.specs.Prelude.{ℕ, zero, suc, ◌+◌, ◌-◌, ◌*◌}
 use Rattle.oram_geometry.specs.declared.Sizes.{Sizes}
 use Rattle.oram_geometry.specs.Sizes.{trees_of, depth_of}
+use Rattle.oram_tree.specs.Content.{node_count}
 
--- buckets of a formatting: one for each node of each tree
-unfoldable pub formatted : Sizes → ℕ
-formatted d = sum_by (λ j. 2 ^ (depth_of d j + 1) - 1) (range_with_len 0 (trees_of d))
+-- buckets of the formatting of the trees below tree n: one for each node
+unfoldable pub formatted_below : Sizes → ℕ → ℕ
+formatted_below d zero = 0
+formatted_below d (suc n) = formatted_below d n + node_count (depth_of d n)
+
+-- buckets of a whole formatting
+abbrev pub formatted : Sizes → ℕ
+formatted d = formatted_below d (trees_of d)
 
 -- buckets of a path of each tree below tree n
 unfoldable pub buckets_below : Sizes → ℕ → ℕ

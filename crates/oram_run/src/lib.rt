@@ -16,3 +16,6 @@ pub use events::{
 };
 pub use law::steps_are_right;
 
+
+#[cfg(test)]
+mod tests;
