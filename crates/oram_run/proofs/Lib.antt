@@ -20,4 +20,5 @@ pub mod Judged
 pub mod Outcomes
 pub mod Placing
 pub mod PostOrder
+pub mod Formatting
 pub mod AgreeKept

@@ -1,7 +1,7 @@
 -- The nodes of a tree in the order of their PUTs, and what these leave.
 use Rattle.std.proofs.Common.{◌≡◌, ◌≢◌, ◌⊎◌, ℕ, zero, suc, ◌+◌, ◌-◌, ◌*◌, ◌^◌, ◌<◌, ◌≤◌, ◌==◌, ◌&&◌, not, Bool, true, false, if◌then◌else◌, List, [], ◌∷◌, ◌++◌, reverse, map, Option, Some, None, unwrap_or, refl, ap, sym, ◌∙◌, subst, arith, inl, inr, append_assoc}
 use Rattle.std.proofs.lemmas.Nat.{pow-add, pow_pos, from_be_bytes-to_be_bytes_4}
-use Rattle.std.proofs.Math.Nat.{pow-le-pow_right}
+use Rattle.std.proofs.Math.Nat.{pow-le-pow_right, mul-le-mul_left}
 use Rattle.std.proofs.lemmas.List.{map-append}
 use Rattle.std.proofs.lemmas.Bool.{cases_order}
 use Rattle.std.proofs.lemmas.Bool.Decides.{nat_tests, eqb_tells}
@@ -68,7 +68,7 @@ stored_one v i n r ms each some = stored_once v i n r (reverse ms) (each_reverse
 
 pub written_shape : (v : Shape) (j depth len i n : ℕ) → written v (shape_body j depth len) i n ≡ None
 unfolding written
-written_shape v j depth len i n = elim (j == i) as (λ b. (if not b then None else None) ≡ None) [ true ↦ refl | false ↦ refl ]
+written_shape v j depth len i n = let none : Option (List ℕ) = None in elim (j == i) as (λ b. (if not b then none else none) ≡ none) [ true ↦ refl | false ↦ refl ]
 
 put_elsewhere : (v : Shape) (j k i n : ℕ) (r : List ℕ) → j ≢ i → written v (put_body j k r) i n ≡ None
 unfolding written
@@ -77,7 +77,7 @@ put_elsewhere v j k i n r ne = let other : (j == i) ≡ false = grind (arith, na
 place_is : (j k : ℕ) (r : List ℕ) → k < 2 ^ 32 → message_place (put_body j k r) ≡ k
 place_is j k r small = from_be_bytes-to_be_bytes_4 k small
 
-put_here : (v : Shape) (i k : ℕ) (r : List ℕ) → k < 2 ^ 32 → written v (put_body i k r) i k ≡ Some r
+pub put_here : (v : Shape) (i k : ℕ) (r : List ℕ) → k < 2 ^ 32 → written v (put_body i k r) i k ≡ Some r
 unfolding written
 put_here v i k r small =
     let one : (i == i) ≡ true = grind (arith, nat_tests) in
@@ -124,10 +124,11 @@ each_node P f zero n small h = subst (Each P) (sym (order_leaf f n)) (h n (omega
 each_node P f (suc k) n small h =
     let two : 2 ^ suc k ≡ 2 ^ k * 2 = twice k in
     let whole : (n + 2) * (2 ^ k * 2) ≤ 2 ^ 25 = subst (λ (p : ℕ). (n + 2) * p ≤ 2 ^ 25) two small in
-    let some : 0 < 2 ^ k = pow_pos k in
+    let some : 1 ≤ 2 ^ k * 2 = omega (arith, pow_pos k) in
+    let top : (n + 2) * 1 ≤ (n + 2) * (2 ^ k * 2) = mul-le-mul_left (n + 2) some in
     subst (Each P) (sym (order_cut f k n))
-    (each_append P (map f (post_order k (2 * n + 1))) (map f (post_order k (2 * n + 2)) ++ f n ∷ []) (each_node P f k (2 * n + 1) (grind arith) h)
-    (each_append P (map f (post_order k (2 * n + 2))) (f n ∷ []) (each_node P f k (2 * n + 2) (grind arith) h) (h n (grind arith), tt)))
+    (each_append P (map f (post_order k (2 * n + 1))) (map f (post_order k (2 * n + 2)) ++ f n ∷ []) (each_node P f k (2 * n + 1) (omega arith) h)
+    (each_append P (map f (post_order k (2 * n + 2))) (f n ∷ []) (each_node P f k (2 * n + 2) (omega arith) h) (h n (omega arith), tt)))
 
 -- node x of level l of a subtree is among its nodes
 pub some_node : (P : List ℕ → Type 0) (f : ℕ → List ℕ) (h n l x m : ℕ) → l ≤ h → x < 2 ^ l → m + 1 ≡ (n + 1) * 2 ^ l + x → P (f m) → Some1 P (map f (post_order h n))

@@ -7,7 +7,8 @@ use Rattle.oram_run.specs.Content.{content_of}
 use Rattle.oram_tree.specs.State.{State as Tree}
 use Rattle.oram_run.specs.Nonces.{formatted}
 use Rattle.oram_run.specs.Run.{Shown, AllRight}
-use Rattle.oram_run.specs.State.{State, World, Holds}
+use Rattle.oram_run.specs.State.{State, World}
+use Rattle.oram_run.specs.Formatting.{IsFormatted}
 use Rattle.oram_run.specs.Moves.{Moves, Fits, shows_in}
 use Rattle.oram_run.specs.declared.events.Event.{Event}
 
@@ -27,8 +28,9 @@ world_of v past = record { records = records_of v past; content = content_of v p
 
 -- a core just formatted
 abbrev pub new_state : Setting → List Tree → State
-new_state v kept = record { table = replicate (blocks_in v.shape.device (trees_of v.shape.device - 1)) 0; trees = kept; next = 0; nonce = formatted v.shape.device; queue = []; stage = 0; named = 0; before = []; last = []; lost = false; failure = None }
+new_state v trees = record { table = replicate (blocks_in v.shape.device (trees_of v.shape.device - 1)) 0; trees = trees; next = 0; nonce = formatted v.shape.device; queue = []; stage = 0; named = 0; before = []; last = []; lost = false; failure = None }
 
 -- Whatever a core that was just formatted does by the local rule is right.
 abbrev pub StepsAreRight : Type 0
-StepsAreRight = (v : Setting) (kept : List Tree) (events : List Event) (xs : List Shown) → IsDevice v.shape.device → Holds v.shape (new_state v kept) (world_of v []) → StepsAlong v.shape (new_state v kept) events xs → AllRight v [] events xs
+StepsAreRight = (v : Setting) (trees : List Tree) (events : List Event) (xs : List Shown) → IsDevice v.shape.device → IsFormatted v trees
+    → StepsAlong v.shape (new_state v trees) events xs → AllRight v [] events xs
