@@ -8,9 +8,9 @@ use Rattle.std.proofs.lemmas.Nat.{div-mul-add, from_be_bytes-to_be_bytes_4}
 use Rattle.std.proofs.lemmas.Bool.Decides.{nat_tests}
 use Rattle.oram_geometry.specs.Sizes.{trees_of}
 use Rattle.oram_trace.specs.declared.asked.Entry.{Entry}
-use Rattle.oram_run.specs.Messages.{header_of}
+use Rattle.oram_run.specs.Messages.{is_store, header_of}
 use Rattle.oram_run.specs.Shape.{Shape}
-use Rattle.oram_run.specs.Messages.{IsMessage, asked, last_stored, written}
+use Rattle.oram_run.specs.Messages.{is_store, IsMessage, asked, last_stored, written}
 use Rattle.oram_run.specs.Progress.{Setting, Step, Progress, accepted, sent, records_of, progress, status, status_from, entries, entry_at, advanced, meaning_at, submission_of}
 use Rattle.oram_run.specs.Progress.Status.{Idle, Waiting, Stalling, Over}
 use Rattle.oram_run.specs.Run.{AskFor, from_to, answered_tickets, entries_sent}
@@ -134,3 +134,17 @@ asked_is v e m small is =
     ap (λ (b : Bool). record { fetch = b; tree = slice_index m 1; leaf = from_be_bytes w32 (slice_range m 2 6) }) op
     ∙ ap (λ (n : ℕ). record { fetch = e.fetch; tree = n; leaf = from_be_bytes w32 (slice_range m 2 6) }) tree
     ∙ ap (λ (n : ℕ). record { fetch = e.fetch; tree = e.tree; leaf = n }) leaf
+
+-- a fetch has no STORE for its message,
+pub no_store : (v : Shape) (e : Entry) (y : List ℕ) → e.fetch ≡ true → IsMessage v e y → is_store y ≡ false
+no_store v e y fetch is =
+    let op : slice_index y 0 ≡ 1 = byte_of y (header_of e) 0 (header_is v e y is) (omega arith) ∙ ap (λ (b : Bool). if b then 1 else 2) fetch in
+    ap (λ (n : ℕ). n == 2) op
+
+store_by : (v : Shape) (e : Entry) (y : List ℕ) (b : Bool) → e.fetch ≡ b → IsMessage v e y → is_store y ≡ true → b ≡ false
+store_by v e y false f is store = refl
+store_by v e y true f is store = sym store ∙ no_store v e y f is
+
+-- and a STORE is that of an entry that is no fetch
+pub store_entry_is : (v : Shape) (e : Entry) (y : List ℕ) → IsMessage v e y → is_store y ≡ true → e.fetch ≡ false
+store_entry_is v e y is store = store_by v e y e.fetch refl is store

@@ -21,4 +21,5 @@ pub mod Outcomes
 pub mod Placing
 pub mod PostOrder
 pub mod Formatting
+pub mod Moving
 pub mod AgreeKept

@@ -41,7 +41,7 @@ use Rattle.oram_run.proofs.Maps.{own_block, above}
 use Rattle.oram_run.specs.Law.{world_of}
 use Rattle.oram_run.proofs.Bounds.{IsFit, address_small}
 use Rattle.oram_run.proofs.Follows.{IsAllowed, TicketsFrom, applied, applied_none, applied_yes, entry_for, Working, AtWork, Live, FollowsAt, Follows, content_is, stage_few}
-use Rattle.oram_run.proofs.Counts.{progress_cons, accepted_cons, sent_cons, records_more, accepted_len, rest_is, status_is, status_ends, none_between, one_between, none_asked, one_asked, answered_is, sent_is, header_is, asked_is, byte_of}
+use Rattle.oram_run.proofs.Counts.{progress_cons, accepted_cons, sent_cons, records_more, accepted_len, rest_is, status_is, status_ends, none_between, one_between, none_asked, one_asked, answered_is, sent_is, asked_is, no_store, store_entry_is}
 use Rattle.oram_run.proofs.Stores.{content_stored, leaf_fits, live_stored, stored_state, store_entry}
 use Rattle.oram_run.proofs.Fetches.{live_fetched, live_finished, fetched_state, finished_state, applied_fetched, applied_finished, fetch_entry}
 use Rattle.oram_run.proofs.Others.{all_one, live_accepted, accepted_state, applied_push, idle_stage}
@@ -65,19 +65,6 @@ sent_end h o r g last e = omega arith
 -- the message asks for the entry that is due
 asks_due : (v : Setting) (past : List Step) (step : Step) (last : List ℕ) (e : Entry) (a b m : ℕ) → Sends v.shape last (For e) step.sends → a ≡ m → b ≡ m + 1 → e ≡ entry_at v (step ∷ past) m → AskFor v (step ∷ past) (from_to a b) step.sends
 asks_due v past step last e a b m s from to due = one_asked v (step ∷ past) a b m step.sends s.0 from to s.1 (subst (λ (f : Entry). IsMessage v.shape f s.0) due s.2)
-
--- no STORE is among first fetches
-no_store : (v : Shape) (e : Entry) (y : List ℕ) → e.fetch ≡ true → IsMessage v e y → is_store y ≡ false
-no_store v e y fetch is =
-    let op : slice_index y 0 ≡ 1 = byte_of y (header_of e) 0 (header_is v e y is) (omega arith) ∙ ap (λ (b : Bool). if b then 1 else 2) fetch in
-    ap (λ (n : ℕ). n == 2) op
-
-store_by : (v : Shape) (e : Entry) (y : List ℕ) (b : Bool) → e.fetch ≡ b → IsMessage v e y → is_store y ≡ true → b ≡ false
-store_by v e y false f is store = refl
-store_by v e y true f is store = sym store ∙ no_store v e y f is
-
-store_entry_is : (v : Shape) (e : Entry) (y : List ℕ) → IsMessage v e y → is_store y ≡ true → e.fetch ≡ false
-store_entry_is v e y is store = store_by v e y e.fetch refl is store
 
 -- a good answer in the middle of a command
 middle_keep : (v : Setting) (past : List Step) (s t u : State) (old rest : List Submission) (x : Shown) (y : Submission) (bytes : List ℕ) (m : Moved) (e : Entry) → IsFit v.shape.device → Live v past old s → s.queue ≡ y ∷ rest → s.stage + 1 < 2 * trees_of v.shape.device →
