@@ -72,8 +72,14 @@ pub record Live (v : Setting) (past : List Step) (old : List Submission) (s : St
   pub table : (a : ℕ) → a < blocks_in v.shape.device (trees_of v.shape.device - 1) → slice_index s.table a ≡ named_in v.shape.device (trees_of v.shape.device - 1) (applied v.shape.device old s.queue s.stage (trees_of v.shape.device - 1)) a
   pub work : AtWork v past old s s.queue
 
+-- a core that has failed
+pub record Ended (v : Setting) (past : List Step) (s : State) (e : Reason) : Type 0 where
+  pub failed : (progress v past).failure ≡ Some e
+  pub next : s.next ≡ length (accepted past)
+  pub queue : s.queue ≡ []
+
 abbrev pub FollowsAt : Setting → List Step → List Submission → State → Option Reason → Type 0
-FollowsAt v past old s (Some e) = (progress v past).failure ≡ Some e
+FollowsAt v past old s (Some e) = Ended v past s e
 FollowsAt v past old s None = Live v past old s × Holds v.shape s (world_of v past)
 
 -- the core has seen this past

@@ -33,7 +33,7 @@ use Rattle.oram_run.proofs.Maps.{name_is, named_range}
 use Rattle.oram_run.specs.Law.{world_of}
 use Rattle.oram_run.proofs.Bounds.{IsFit}
 use Rattle.oram_run.proofs.Follows.{IsAllowed, applied, applied_none, entry_for, Working, AtWork, Live, FollowsAt, Follows, content_is}
-use Rattle.oram_run.proofs.Counts.{accepted_cons, sent_cons, records_more, again_same, rest_is, status_is, status_ends, none_between, none_asked, answered_is}
+use Rattle.oram_run.proofs.Counts.{accepted_cons, sent_cons, records_more, again_same, accepted_len, rest_is, status_is, status_ends, none_between, none_asked, answered_is}
 use Rattle.oram_run.proofs.Stores.{content_before, bytes_are, named_next}
 use Rattle.oram_run.proofs.Others.{all_none, all_one, live_kept}
 
@@ -158,7 +158,7 @@ pair_same v past s old Lost failure h fit f = refl
 pair_same v past s old Retry failure h fit f = refl
 pair_same v past s old (Answer bytes) (Some e) h fit f =
     ap (λ (o : Option Reason). is_waiting (status_by o s.queue s.lost) && pair_in v.shape (records_of v past) (asked s.last) bytes) h
-    ∙ sym (ap (λ (k : Status). is_waiting k && pair_in v.shape (records_of v past) (entry_at v past (progress v past).good) bytes) (status_ends v past e f))
+    ∙ sym (ap (λ (k : Status). is_waiting k && pair_in v.shape (records_of v past) (entry_at v past (progress v past).good) bytes) (status_ends v past e f.failed))
 pair_same v past s old (Answer bytes) None h fit f =
     ap (λ (o : Option Reason). is_waiting (status_by o s.queue s.lost) && pair_in v.shape (records_of v past) (asked s.last) bytes) h
     ∙ pair_at v past old s.queue s bytes s.lost f.0 refl f.0.work
@@ -231,7 +231,14 @@ stays_keep v past s t old event x n (Some e) h fit f mv quiet_note calm new is p
     let failed : t.failure ≡ Some e = ap (λ (u : State). u.failure) mv.state ∙ h in
     record {
       right = right_quiet v past event x n mv.note mv.replies mv.sends quiet_note calm new is (ap (λ (q : Progress). q.good) p);
-      follows = record { old = old; follows = subst (FollowsAt v (step_of event x ∷ past) old t) (sym failed) (ap (λ (q : Progress). q.failure) p ∙ f) };
+      follows = record {
+        old = old;
+        follows = subst (FollowsAt v (step_of event x ∷ past) old t) (sym failed) (record {
+          failed = ap (λ (q : Progress). q.failure) p ∙ f.failed;
+          next = ap (λ (u : State). u.next) mv.state ∙ f.next ∙ sym (ap (λ (subs : List Submission). length subs) (not_accepted past (step_of event x) (ap is_accepted mv.note ∙ quiet_note)));
+          queue = ap (λ (u : State). u.queue) mv.state ∙ f.queue;
+        });
+      };
     }
 stays_keep v past s t old event x n None h fit f mv quiet_note calm new is p =
     quiet_keep v past s t old event x n s.lost fit f.0 h f.1 mv quiet_note calm new is (p ∙ progress_is v past old s f.0) (idle_calm v past old s s.queue f.0.work)
@@ -282,5 +289,12 @@ fails_keep v past s t old x bytes e fit l few mv is p =
         sends = sends_right v past step x.note false (ap is_resent mv.note) (none_asked v (step ∷ past) (entries_sent v past) (entries_sent v (step ∷ past)) x.sends (rw (g, a) refl) mv.sends);
         placed = λ _. placed_none (PlacedBy v (step ∷ past) (answered_tickets v past)) x.sends mv.sends;
       };
-      follows = record { old = old; follows = subst (FollowsAt v (step ∷ past) old t) (sym failed) (ap (λ (q : Progress). q.failure) p) };
+      follows = record {
+        old = old;
+        follows = subst (FollowsAt v (step ∷ past) old t) (sym failed) (record {
+          failed = ap (λ (q : Progress). q.failure) p;
+          next = ap (λ (u : State). u.next) mv.state ∙ l.next ∙ sym (accepted_len past old s.queue l.split) ∙ sym (ap (λ (subs : List Submission). length subs) a);
+          queue = ap (λ (u : State). u.queue) mv.state;
+        });
+      };
     }

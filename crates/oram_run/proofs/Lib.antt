@@ -22,4 +22,5 @@ pub mod Placing
 pub mod PostOrder
 pub mod Formatting
 pub mod Moving
+pub mod Told
 pub mod AgreeKept

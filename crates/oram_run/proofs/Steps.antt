@@ -334,7 +334,7 @@ accepts_keep v past s t old x session c words fit l healthy near two mv is =
 -- all events
 
 status_past : (v : Setting) (past : List Step) (s : State) (old : List Submission) (failure : Option Reason) → s.failure ≡ failure → IsFit v.shape.device → FollowsAt v past old s failure → status v past ≡ status_by failure s.queue s.lost
-status_past v past s old (Some e) h fit f = status_ends v past e f
+status_past v past s old (Some e) h fit f = status_ends v past e f.failed
 status_past v past s old None h fit f = status_is v past old s fit f.0 h ∙ ap (λ (o : Option Reason). status_by o s.queue s.lost) h
 
 good_keep : (v : Setting) (past : List Step) (s t : State) (old rest : List Submission) (x : Shown) (y : Submission) (bytes : List ℕ) → IsFit v.shape.device → Live v past old s → s.failure ≡ None → s.queue ≡ y ∷ rest → Working v past old s y → s.lost ≡ false →
@@ -398,7 +398,7 @@ retry_keep v past s t old x None (y ∷ rest) true h qu lo fit f st mv =
 refusal_same : (v : Setting) (past : List Step) (s : State) (old : List Submission) (c : Command) (words : List ℕ) (failure : Option Reason) → s.failure ≡ failure → IsFit v.shape.device → FollowsAt v past old s failure →
     submit_note s.next (refusal_of v.shape.device (is_over (status_by failure s.queue s.lost)) (length s.queue) s.next c words)
     ≡ submit_note (length (accepted past)) (refusal_of v.shape.device (is_over (status v past)) (length (accepted past) - answered_tickets v past) (length (accepted past)) c words)
-refusal_same v past s old c words (Some e) h fit f = rw (status_ends v past e f) refl
+refusal_same v past s old c words (Some e) h fit f = rw (status_ends v past e f.failed) refl
 refusal_same v past s old c words None h fit f =
     let d = v.shape.device in
     let l = f.0 in
