@@ -23,4 +23,5 @@ pub mod PostOrder
 pub mod Formatting
 pub mod Moving
 pub mod Told
+pub mod NoncesApart
 pub mod AgreeKept

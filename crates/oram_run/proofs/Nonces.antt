@@ -14,7 +14,10 @@ unfolding buckets_below
 rises d n zero = let z : n + 0 ≡ n = omega arith in subst (λ (m : ℕ). buckets_below d n ≤ buckets_below d m) (sym z) (omega arith)
 rises d n (suc k) = let z : n + suc k ≡ suc (n + k) = omega arith in subst (λ (m : ℕ). buckets_below d n ≤ buckets_below d m) (sym z) (omega (arith, rises d n k))
 
-one_more : (d : Sizes) (n m : ℕ) → m ≡ n + 1 → buckets_below d m ≡ buckets_below d n + (depth_of d n + 1)
+pub rises_to : (d : Sizes) (m n : ℕ) → m ≤ n → buckets_below d m ≤ buckets_below d n
+rises_to d m n h = let z : m + (n - m) ≡ n = omega arith in subst (λ (k : ℕ). buckets_below d m ≤ buckets_below d k) z (rises d m (n - m))
+
+pub one_more : (d : Sizes) (n m : ℕ) → m ≡ n + 1 → buckets_below d m ≡ buckets_below d n + (depth_of d n + 1)
 unfolding buckets_below
 one_more d n m e = let z : m ≡ suc n = omega arith in ap (buckets_below d) z
 

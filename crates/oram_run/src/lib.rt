@@ -14,7 +14,7 @@ mod law;
 pub use events::{
     Command, Event, Note, Reaction, Reason, Refusal, Reply, ReplyBody, Submission,
 };
-pub use law::steps_are_right;
+pub use law::{nonces_are_apart, steps_are_right};
 
 
 #[cfg(test)]
