@@ -1,9 +1,7 @@
 -- Trees that agree do so after the other steps, which leave their content.
-use Rattle.std.proofs.Common.{◌≡◌, ◌≢◌, ℕ, zero, suc, ◌+◌, ◌-◌, ◌*◌, ◌/◌, ◌%◌, ◌^◌, ◌<◌, ◌≤◌, ◌==◌, if◌then◌else◌, List, [], ◌∷◌, ◌++◌, length, slice_index, refl, ap, sym, ◌∙◌, subst, arith, Option}
-use Rattle.oram_geometry.specs.Sizes.{trees_of, depth_of, blocks_in, fanout}
-use Rattle.oram_run.specs.Content.{stage_tree}
+use Rattle.std.proofs.Common.{◌≡◌, ℕ, ◌+◌, ◌*◌, ◌/◌, ◌%◌, ◌^◌, ◌<◌, ◌≤◌, ◌==◌, if◌then◌else◌, List, [], ◌∷◌, length, slice_index, ap, sym, ◌∙◌, subst, arith}
+use Rattle.oram_geometry.specs.Sizes.{trees_of, depth_of, fanout}
 use Rattle.oram_run.specs.Shape.{Shape}
-use Rattle.oram_tree.specs.Content.{Entry as Held}
 use Rattle.oram_run.specs.Content.{block_of, new_leaf}
 use Rattle.oram_run.specs.State.{State, World, name_of}
 use Rattle.oram_run.specs.Moves.{found_in, entry_in}

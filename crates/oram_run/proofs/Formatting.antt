@@ -1,6 +1,6 @@
 -- A formatted device: each tree stands, without blocks, over what the messages of the formatting have left.
 use Rattle.std.proofs.Math.Path.{fun_ext}
-use Rattle.std.proofs.Common.{◌≡◌, ◌≢◌, ◌⊎◌, ℕ, zero, suc, ◌+◌, ◌-◌, ◌*◌, ◌^◌, ◌<◌, ◌≤◌, List, [], ◌∷◌, ◌++◌, length, take, reverse, map, slice_index_or, Option, Some, None, refl, ap, sym, ◌∙◌, subst, arith, inl, inr, append_assoc, length-append}
+use Rattle.std.proofs.Common.{◌≡◌, ℕ, zero, suc, ◌+◌, ◌*◌, ◌^◌, ◌<◌, ◌≤◌, List, [], ◌∷◌, ◌++◌, length, reverse, slice_index_or, Option, refl, ap, sym, ◌∙◌, subst, arith, inl, inr, length-append}
 use Rattle.std.specs.List.{flat_map}
 use Rattle.std.proofs.Math.Nat.{pow-le-pow_right}
 use Rattle.std.proofs.Math.Seq.{take-nil}
@@ -11,7 +11,7 @@ use Rattle.std.proofs.lemmas.Bool.{cases_eq}
 use Rattle.std.proofs.lemmas.Bool.Decides.{eqb_tells}
 use Rattle.oram_geometry.specs.declared.Sizes.{Sizes}
 use Rattle.oram_geometry.specs.Sizes.{trees_of, depth_of, record_len_of}
-use Rattle.oram_wire.specs.HostMessages.{put_body, shape_body}
+use Rattle.oram_wire.specs.HostMessages.{put_body}
 use Rattle.sha2.specs.Sha256.{sha256}
 use Rattle.oram_hash.specs.Record.{HoldsDigests, no_digest, sealed_part}
 use Rattle.oram_hash.specs.Tree.{IsStored}
@@ -19,7 +19,6 @@ use Rattle.oram_bucket.specs.Cell.{Cell}
 use Rattle.oram_bucket.specs.Reading.{Reads}
 use Rattle.oram_tree.specs.Content.{Map, HasContent, Holds as HoldsBlock, no_blocks, node_count}
 use Rattle.oram_tree.specs.State.{State as Tree, IsStoredWith}
-use Rattle.oram_tree.specs.Format.{IsFormat, post_order}
 use Rattle.oram_run.specs.Shape.{Shape}
 use Rattle.oram_run.specs.Messages.{last_stored, written}
 use Rattle.oram_run.specs.Progress.{Setting, accepted, progress, sent, records_of}
@@ -80,9 +79,10 @@ each_part : (v : Shape) (j i n : ℕ) (r : List ℕ) (tree : Tree) (bodies : Lis
 each_part v j i n r tree bodies made is =
     let m = made.made in
     let k : ℕ = tree.number in
-    subst (Each (LeavesAtMost v i n r)) (sym m.bodies_are)
-    (inl (written_shape v k (depth_of v.device k) (record_len_of v.device v.overhead) i n),
-    each_put (LeavesAtMost v i n r) (λ q. put_body k q (m.records q)) (depth_of v.device k) (depth_small v.device k) (λ q small. put_leaves v k q i n m.records r small (λ e. is (sym made.number ∙ e))))
+    subst (Each (LeavesAtMost v i n r)) (sym m.bodies_are) (
+      inl (written_shape v k (depth_of v.device k) (record_len_of v.device v.overhead) i n),
+      each_put (LeavesAtMost v i n r) (λ q. put_body k q (m.records q)) (depth_of v.device k) (depth_small v.device k) (λ q small. put_leaves v k q i n m.records r small (λ e. is (sym made.number ∙ e))),
+    )
 
 some_part : (v : Shape) (i n : ℕ) (tree : Tree) (bodies : List (List ℕ)) (made : IsTreeMade v i tree bodies) → n < node_count (depth_of v.device i) → Some1 (Leaves v i n (made.made.records n)) bodies
 some_part v i n tree bodies made below =

@@ -1,9 +1,7 @@
 -- From one step to a whole run.
-use Rattle.std.proofs.Common.{◌≡◌, ℕ, zero, suc, Bool, true, false, cond, ◌⊎◌, inl, inr, ◌+◌, ◌-◌, ◌%◌, ◌<◌, ◌≤◌, List, [], ◌∷◌, ◌++◌, refl, ap, sym, ◌∙◌, subst, arith, append_assoc, nat_le}
+use Rattle.std.proofs.Common.{◌≡◌, ℕ, Bool, true, false, ◌⊎◌, inl, inr, ◌-◌, List, [], ◌∷◌, ◌++◌, refl, ap, sym, ◌∙◌, subst, arith, append_assoc}
 use Rattle.std.proofs.lemmas.List.{append-nil, get_or-replicate, length-replicate}
-use Rattle.oram_geometry.specs.declared.Sizes.{Sizes}
-use Rattle.oram_geometry.specs.Sizes.{IsDevice, trees_of, blocks_in}
-use Rattle.oram_geometry.specs.Least.{least_from}
+use Rattle.oram_geometry.specs.Sizes.{trees_of, blocks_in}
 use Rattle.oram_run.specs.Progress.{Setting, Step, accepted, progress}
 use Rattle.oram_run.specs.Content.{named_in}
 use Rattle.oram_tree.specs.State.{State as Tree}

@@ -1,5 +1,5 @@
 -- What the check of a path tells, in the words of an answer's meaning.
-use Rattle.std.proofs.Common.{◌≡◌, ◌≢◌, ℕ, zero, suc, ◌+◌, ◌*◌, ◌-◌, ◌^◌, ◌<◌, ◌≤◌, ◌==◌, ◌&&◌, not, Bool, true, false, if◌then◌else◌, cond, List, [], ◌∷◌, ◌++◌, length, take, drop, slice_index, nat_le, Some, refl, ap, sym, ◌∙◌, arith, inl, inr, length-append}
+use Rattle.std.proofs.Common.{◌≡◌, ◌≢◌, ℕ, zero, suc, ◌+◌, ◌*◌, ◌^◌, ◌<◌, ◌≤◌, ◌==◌, ◌&&◌, not, Bool, true, false, if◌then◌else◌, cond, List, [], ◌∷◌, ◌++◌, length, take, drop, slice_index, nat_le, Some, refl, ap, sym, ◌∙◌, arith, inl, inr, length-append}
 use Rattle.std.specs.List.{find, range_with_len, flat_map}
 use Rattle.std.specs.Str.{bytes_eq}
 use Rattle.std.proofs.lemmas.Slice.Eq.{bytes_eq-Decides}
@@ -7,18 +7,17 @@ use Rattle.std.proofs.lemmas.List.{drop-drop, length-drop, take-append-drop, tak
 use Rattle.std.proofs.lemmas.Nat.{pow-add}
 use Rattle.std.proofs.lemmas.Bool.{cases_eq}
 use Rattle.std.proofs.lemmas.Bool.Decides.{nat_tests}
-use Rattle.sha2.specs.Sha256.{sha256}
 use Rattle.oram_geometry.specs.Sizes.{depth_of}
 use Rattle.oram_geometry.specs.Path.{node_on}
 use Rattle.oram_geometry.proofs.Nodes.{node_on-inner, node_on-leaf}
 use Rattle.oram_trace.specs.declared.asked.Entry.{Entry}
-use Rattle.oram_hash.specs.Path.{Path, record_at, node_at, HasLength}
+use Rattle.oram_hash.specs.Path.{Path, record_at, HasLength}
 use Rattle.oram_hash.specs.Tree.{IsStored, IsPathOf, IsFirstOther, Collides}
 use Rattle.oram_run.specs.Shape.{Shape, record_len}
 use Rattle.oram_run.specs.Messages.{levels}
-use Rattle.oram_run.specs.Answers.{first_other, path_in, good_answer, answered_path, is_last_stored, has_one_digest, outcome_of, pair_in, is_payload, is_refusal, reason_at, reason_for}
+use Rattle.oram_run.specs.Answers.{first_other, path_in, good_answer, answered_path, is_last_stored, outcome_of, pair_in, is_payload, is_refusal, reason_for}
 use Rattle.oram_run.specs.Answers.Outcome.{Good, NoRoom, Fails}
-use Rattle.oram_run.specs.declared.events.Reason.TheVariants.{Malformed, Tampered, HostRefused}
+use Rattle.oram_run.specs.declared.events.Reason.TheVariants.{Tampered}
 
 pub bytes_same : (xs ys : List ℕ) → xs ≡ ys → bytes_eq xs ys ≡ true
 bytes_same xs ys e = (bytes_eq-Decides xs ys).1 e

@@ -1,6 +1,6 @@
 -- How a core shows that it moves by the local rule: from what it shows and becomes, and what its trees tell.
 use Rattle.std.proofs.Math.Path.{fun_ext}
-use Rattle.std.proofs.Common.{◌≡◌, ◌≢◌, ℕ, ◌+◌, ◌-◌, ◌*◌, ◌<◌, ◌≤◌, ◌==◌, not, Bool, true, false, if◌then◌else◌, List, [], ◌∷◌, length, slice_index_or, slice_set, Option, None, unwrap_or, refl, ap, sym, ◌∙◌, subst, arith}
+use Rattle.std.proofs.Common.{◌≡◌, ℕ, ◌+◌, ◌*◌, ◌<◌, ◌==◌, not, Bool, true, false, if◌then◌else◌, List, [], ◌∷◌, length, slice_index_or, slice_set, Option, None, unwrap_or, refl, ap, sym, ◌∙◌, subst, arith}
 use Rattle.std.specs.List.{All}
 use Rattle.std.proofs.lemmas.Bool.Decides.{nat_tests}
 use Rattle.oram_geometry.specs.Sizes.{depth_of}
@@ -11,7 +11,7 @@ use Rattle.oram_bucket.specs.Cell.{Cell}
 use Rattle.oram_tree.specs.Content.{Map, entry_of, put}
 use Rattle.oram_tree.specs.State.{State as Tree}
 use Rattle.oram_run.specs.Shape.{Shape, record_len}
-use Rattle.oram_run.specs.Messages.{IsMessage, asked, message_of, is_store, written}
+use Rattle.oram_run.specs.Messages.{IsMessage, asked, is_store, written}
 use Rattle.oram_run.specs.Content.{block_of, new_leaf, stage_tree}
 use Rattle.oram_run.specs.Trees.{Stands, IsPlaced}
 use Rattle.oram_run.specs.Run.{Shown}
@@ -21,7 +21,7 @@ use Rattle.oram_run.specs.Moves.Ask.{Nothing, Again, For}
 use Rattle.oram_run.specs.declared.events.Note.TheVariants.{Taken}
 use Rattle.oram_run.specs.declared.events.Submission.{Submission}
 use Rattle.oram_run.proofs.Counts.{asked_is, no_store}
-use Rattle.oram_run.proofs.Others.{all_none, all_one}
+use Rattle.oram_run.proofs.Others.{all_one}
 use Rattle.oram_run.proofs.Placing.{IsMade, store_stands, store_places, holds_stored}
 
 -- no STORE is asked for

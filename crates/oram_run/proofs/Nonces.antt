@@ -1,7 +1,5 @@
 -- How the nonce goes on with each good answer.
-use Rattle.std.proofs.Common.{◌≡◌, ℕ, zero, suc, ◌+◌, ◌-◌, ◌*◌, ◌/◌, ◌%◌, ◌^◌, ◌<◌, ◌≤◌, refl, ap, sym, ◌∙◌, subst, arith}
-use Rattle.std.specs.Prelude.{sum_by}
-use Rattle.std.specs.List.{range_with_len}
+use Rattle.std.proofs.Common.{◌≡◌, ℕ, zero, suc, ◌+◌, ◌-◌, ◌*◌, ◌/◌, ◌%◌, ◌<◌, ◌≤◌, refl, ap, sym, ◌∙◌, subst, arith}
 use Rattle.std.proofs.lemmas.Nat.{div-mul-add, mod-mul-add}
 use Rattle.oram_geometry.specs.declared.Sizes.{Sizes}
 use Rattle.oram_geometry.specs.Sizes.{trees_of, depth_of}
@@ -75,7 +73,6 @@ nonce_finished v g n r e last =
     let after : nonce_at v (g + 1) ≡ formatted d + (n + 1) * buckets_below d h + (buckets_below d h - buckets_below d h) = nonce_split v (g + 1) (n + 1) 0 more (omega arith) ∙ ap (λ k. formatted d + (n + 1) * buckets_below d h + (buckets_below d h - buckets_below d k)) all in
     let before : nonce_at v g ≡ formatted d + n * buckets_below d h + (buckets_below d h - 0) = nonce_split v g n r e (omega arith) ∙ ap (λ k. formatted d + n * buckets_below d h + (buckets_below d h - buckets_below d k)) none ∙ ap (λ k. formatted d + n * buckets_below d h + (buckets_below d h - k)) (no_buckets d) in
     omega arith
-
 
 -- at the good answer to a fetch it is the one of the STORE that follows
 pub nonce_here : (v : Setting) (g n r : ℕ) → g ≡ n * (2 * trees_of v.shape.device) + r → r < 2 * trees_of v.shape.device → r % 2 ≡ 0 → nonce_at v g ≡ store_nonce v.shape.device n (stage_tree v.shape.device r)

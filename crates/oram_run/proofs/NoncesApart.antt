@@ -1,11 +1,11 @@
 -- No two sealed buckets have one nonce.
-use Rattle.std.proofs.Common.{◌≡◌, ◌≢◌, ℕ, zero, suc, ◌+◌, ◌-◌, ◌*◌, ◌/◌, ◌%◌, ◌<◌, ◌≤◌, refl, ap, sym, ◌∙◌, subst, arith, inl, inr}
+use Rattle.std.proofs.Common.{◌≡◌, ℕ, zero, suc, ◌+◌, ◌-◌, ◌*◌, ◌/◌, ◌%◌, ◌<◌, ◌≤◌, refl, ap, sym, ◌∙◌, subst, arith, inl, inr}
 use Rattle.std.proofs.lemmas.Bool.{cases_order}
 use Rattle.std.proofs.lemmas.Nat.{div-mul-add, mod-mul-add}
 use Rattle.oram_geometry.specs.declared.Sizes.{Sizes}
 use Rattle.oram_geometry.specs.Sizes.{trees_of, depth_of}
 use Rattle.oram_tree.specs.Content.{node_count}
-use Rattle.oram_run.specs.Nonces.{formatted_below, formatted, buckets_below, buckets_after, store_nonce, AreNoncesApart, NoncesAreApart}
+use Rattle.oram_run.specs.Nonces.{formatted_below, buckets_below, buckets_after, store_nonce, NoncesAreApart}
 use Rattle.oram_run.proofs.Nonces.{rises_to, one_more}
 
 one_tree : (d : Sizes) (n : ℕ) → formatted_below d (suc n) ≡ formatted_below d n + node_count (depth_of d n)

@@ -1,8 +1,7 @@
 -- What each answer means, by its form and the check of its path.
-use Rattle.std.proofs.Common.{◌≡◌, ◌≢◌, ◌⊎◌, ◌↔◌, ℕ, ◌+◌, ◌-◌, ◌*◌, ◌^◌, ◌<◌, ◌≤◌, ◌==◌, ◌&&◌, Bool, true, false, if◌then◌else◌, List, [], ◌∷◌, length, take, drop, slice_index, slice_range, nat_le, Result, Ok, Err, MatchResult, refl, ap, sym, ◌∙◌, arith, inl, inr}
+use Rattle.std.proofs.Common.{◌≡◌, ◌≢◌, ◌⊎◌, ◌↔◌, ℕ, ◌+◌, ◌*◌, ◌^◌, ◌<◌, ◌≤◌, ◌==◌, ◌&&◌, Bool, true, false, if◌then◌else◌, List, [], ◌∷◌, length, drop, slice_index, nat_le, Result, Ok, Err, MatchResult, refl, ap, sym, ◌∙◌, arith, inl, inr}
 use Rattle.std.specs.Str.{bytes_eq}
 use Rattle.std.specs.List.{flat_map}
-use Rattle.std.proofs.lemmas.Slice.Eq.{bytes_eq-Decides}
 use Rattle.std.proofs.lemmas.List.{length-drop}
 use Rattle.std.proofs.lemmas.Bool.{cases_eq}
 use Rattle.std.proofs.lemmas.Bool.Decides.{nat_tests}
@@ -16,9 +15,9 @@ use Rattle.oram_hash.specs.Tree.{IsStored, IsPathOf, Collides}
 use Rattle.oram_hash.specs.Verdict.{IsFaultOf}
 use Rattle.oram_run.specs.Shape.{Shape, record_len}
 use Rattle.oram_run.specs.Messages.{levels}
-use Rattle.oram_run.specs.Answers.{path_in, good_answer, answered_path, Outcome, outcome_of, outcome_by, pair_in, is_payload, is_refusal, reason_for}
+use Rattle.oram_run.specs.Answers.{path_in, good_answer, answered_path, outcome_of, outcome_by, pair_in, is_payload, is_refusal, reason_for}
 use Rattle.oram_run.specs.Answers.Outcome.{Good, NoRoom, Fails}
-use Rattle.oram_run.specs.declared.events.Reason.TheVariants.{Malformed, Tampered, HostRefused}
+use Rattle.oram_run.specs.declared.events.Reason.TheVariants.{Malformed, HostRefused}
 use Rattle.oram_run.proofs.Judged.{headed_refusal, payload_is, bytes_same, bytes_differ, path_lengths, length_chunks, good_is, other_is, pair_is}
 
 test_passes : (m n : ℕ) → m ≡ n → (m == n) ≡ true

@@ -1,6 +1,6 @@
 -- A STORE whose records an access has made: the tree stands over them, and its blocks are placed.
 use Rattle.std.proofs.Math.Path.{fun_ext}
-use Rattle.std.proofs.Common.{◌≡◌, ◌≢◌, ℕ, ◌+◌, ◌-◌, ◌*◌, ◌^◌, ◌<◌, ◌≤◌, ◌==◌, Bool, true, false, not, is_some, if◌then◌else◌, List, [], ◌∷◌, length, slice_index, slice_index_or, slice_set, Option, Some, None, refl, ap, sym, ◌∙◌, subst, arith, inl, inr}
+use Rattle.std.proofs.Common.{◌≡◌, ◌≢◌, ℕ, ◌+◌, ◌-◌, ◌*◌, ◌^◌, ◌<◌, ◌≤◌, ◌==◌, Bool, true, false, not, is_some, if◌then◌else◌, List, [], ◌∷◌, length, slice_index, slice_index_or, slice_set, Option, Some, None, ap, sym, ◌∙◌, subst, arith, inl, inr}
 use Rattle.std.proofs.lemmas.List.{get_or-set_same, get_or-set_other}
 use Rattle.std.proofs.lemmas.Bool.Decides.{nat_tests, eqb_tells}
 use Rattle.oram_geometry.specs.declared.Sizes.{Sizes}
@@ -11,11 +11,10 @@ use Rattle.oram_hash.specs.Record.{sealed_part}
 use Rattle.oram_hash.specs.Tree.{IsReplaced}
 use Rattle.oram_bucket.specs.Cell.{Cell}
 use Rattle.oram_bucket.specs.Reading.{Reads}
-use Rattle.oram_bucket.specs.Bucket.{spelling}
 use Rattle.oram_stash.specs.Eviction.{IsGreedy, listed}
 use Rattle.oram_tree.specs.Content.{Map, Entry as Held, HasContent, entry_of, put}
 use Rattle.oram_tree.specs.State.{State as Tree, IsStoredWith}
-use Rattle.oram_tree.specs.Access.{IsRewritten, IsUpdate, IsAtOrAbsent}
+use Rattle.oram_tree.specs.Access.{IsRewritten, IsAtOrAbsent}
 use Rattle.oram_run.specs.Shape.{Shape}
 use Rattle.oram_run.specs.Trees.{Stands, IsPlaced, part_on}
 use Rattle.oram_run.specs.State.{State, World, Holds, no_tree, name_of}

@@ -1,5 +1,5 @@
 -- The nodes of a tree in the order of their PUTs, and what these leave.
-use Rattle.std.proofs.Common.{◌≡◌, ◌≢◌, ◌⊎◌, ℕ, zero, suc, ◌+◌, ◌-◌, ◌*◌, ◌^◌, ◌<◌, ◌≤◌, ◌==◌, ◌&&◌, not, Bool, true, false, if◌then◌else◌, List, [], ◌∷◌, ◌++◌, reverse, map, Option, Some, None, unwrap_or, refl, ap, sym, ◌∙◌, subst, arith, inl, inr, append_assoc}
+use Rattle.std.proofs.Common.{◌≡◌, ◌≢◌, ◌⊎◌, ℕ, zero, suc, ◌+◌, ◌-◌, ◌*◌, ◌^◌, ◌<◌, ◌≤◌, ◌==◌, not, true, false, if◌then◌else◌, List, [], ◌∷◌, ◌++◌, reverse, map, Option, Some, None, unwrap_or, refl, ap, sym, ◌∙◌, subst, arith, inl, inr, append_assoc}
 use Rattle.std.proofs.lemmas.Nat.{pow-add, pow_pos, from_be_bytes-to_be_bytes_4}
 use Rattle.std.proofs.Math.Nat.{pow-le-pow_right, mul-le-mul_left}
 use Rattle.std.proofs.lemmas.List.{map-append}
@@ -9,7 +9,7 @@ use Rattle.oram_wire.specs.HostMessages.{put_body, shape_body}
 use Rattle.oram_tree.specs.Content.{node_count}
 use Rattle.oram_tree.specs.Format.{post_order}
 use Rattle.oram_run.specs.Shape.{Shape}
-use Rattle.oram_run.specs.Messages.{message_tree, message_place, is_store, written, last_stored}
+use Rattle.oram_run.specs.Messages.{message_place, written, last_stored}
 use Rattle.oram_run.proofs.Entries.{reverse_cons}
 
 -- each element, and some element

@@ -5,7 +5,6 @@ use Rattle.std.specs.List.{find, range_with_len}
 use Rattle.std.specs.Option.{option_map}
 use Rattle.std.proofs.lemmas.Nat.{from_be_bytes-to_be_bytes_4}
 use Rattle.std.proofs.lemmas.Bool.Decides.{nat_tests, eqb_tells}
-use Rattle.oram_geometry.specs.Sizes.{depth_of}
 use Rattle.oram_geometry.specs.Path.{node_on, IsOffPath}
 use Rattle.oram_geometry.proofs.Nodes.{node_on-injective}
 use Rattle.oram_wire.specs.HostMessages.{store_body}

@@ -1,17 +1,13 @@
 -- One step of each kind, and all of them.
-use Rattle.std.proofs.Common.{◌≡◌, ◌≢◌, ℕ, zero, suc, ◌+◌, ◌-◌, ◌*◌, ◌/◌, ◌%◌, ◌^◌, ◌<◌, ◌≤◌, ◌==◌, min, not, nat_le, Bool, true, false, if◌then◌else◌, inl, inr, List, [], ◌∷◌, ◌++◌, length, length-append, reverse, take, slice_index, Option, Some, None, refl, ap, sym, ◌∙◌, subst, arith}
+use Rattle.std.proofs.Common.{◌≡◌, ◌≢◌, ℕ, ◌+◌, ◌-◌, ◌*◌, ◌%◌, ◌^◌, ◌<◌, ◌==◌, min, not, nat_le, Bool, true, false, if◌then◌else◌, inl, inr, List, [], ◌∷◌, ◌++◌, length, length-append, reverse, take, slice_index, Option, Some, None, refl, ap, sym, ◌∙◌, subst, arith}
 use Rattle.std.specs.List.{All}
 use Rattle.std.proofs.lemmas.List.{length-reverse, reverse-reverse, take_at, append-nil}
 use Rattle.std.proofs.lemmas.List.Elements.{All-head, All-tail}
-use Rattle.std.proofs.Math.Nat.{div-mul-le_self}
-use Rattle.std.proofs.lemmas.Nat.{le-div}
 use Rattle.std.proofs.lemmas.Bool.Decides.{nat_tests, eqb_tells}
 use Rattle.oram_geometry.specs.declared.Sizes.{Sizes}
-use Rattle.oram_geometry.specs.Sizes.{trees_of, depth_of, blocks_in, fanout}
-use Rattle.std.specs.Int.{div_ceil}
+use Rattle.oram_geometry.specs.Sizes.{trees_of, depth_of, blocks_in}
 use Rattle.oram_trace.specs.declared.asked.Entry.{Entry}
 use Rattle.oram_run.specs.Content.{stage_tree}
-use Rattle.oram_run.specs.Messages.{header_of}
 use Rattle.oram_run.specs.Events.{address_of, array_at, body_for, reply_of}
 use Rattle.oram_run.specs.Shape.{Shape}
 use Rattle.oram_run.specs.Messages.{IsMessage, asked, is_store}
@@ -37,7 +33,6 @@ use Rattle.oram_run.specs.declared.events.Reply.{Reply}
 use Rattle.oram_run.specs.declared.events.ReplyBody.TheVariants.{Data}
 use Rattle.oram_run.specs.declared.events.Submission.{Submission}
 use Rattle.oram_run.proofs.Entries.{HasWords, turn}
-use Rattle.oram_run.proofs.Maps.{own_block, above}
 use Rattle.oram_run.specs.Law.{world_of}
 use Rattle.oram_run.proofs.Bounds.{IsFit, address_small}
 use Rattle.oram_run.proofs.Follows.{IsAllowed, TicketsFrom, applied, applied_none, applied_yes, entry_for, Working, AtWork, Live, FollowsAt, Follows, content_is, stage_few}

@@ -1,7 +1,7 @@
 -- What a core that follows a past can tell of it.
-use Rattle.std.proofs.Common.{◌≡◌, ℕ, ◌+◌, ◌-◌, ◌*◌, ◌<◌, List, [], length, Option, Some, None, refl, ap, sym, ◌∙◌, arith}
+use Rattle.std.proofs.Common.{◌≡◌, ◌+◌, ◌-◌, ◌*◌, ◌<◌, List, [], length, Option, Some, None, refl, ap, sym, ◌∙◌, arith}
 use Rattle.oram_geometry.specs.Sizes.{trees_of}
-use Rattle.oram_run.specs.Progress.{Setting, Step, Progress, Status, accepted, progress, status}
+use Rattle.oram_run.specs.Progress.{Setting, Step, accepted, progress, status}
 use Rattle.oram_run.specs.Run.{answered_tickets}
 use Rattle.oram_run.specs.State.{State, status_by, status_in}
 use Rattle.oram_run.specs.declared.events.Reason.{Reason}

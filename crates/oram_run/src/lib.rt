@@ -11,11 +11,8 @@
 mod events;
 mod law;
 
-pub use events::{
-    Command, Event, Note, Reaction, Reason, Refusal, Reply, ReplyBody, Submission,
-};
+pub use events::{Command, Event, Note, Reaction, Reason, Refusal, Reply, ReplyBody, Submission};
 pub use law::{nonces_are_apart, steps_are_right};
-
 
 #[cfg(test)]
 mod tests;

@@ -23,7 +23,11 @@ fn copies(rt: &impl Abort, alloc: Global) -> Result<(), AllocError> {
     assert_eq!(rt; read.address(), 7);
     assert_ne!(rt; read, write);
     let words = Words::copy(alloc, &[6, 3])?;
-    let submit = Event::Submit { session: 1, command: read, words };
+    let submit = Event::Submit {
+        session: 1,
+        command: read,
+        words,
+    };
     assert_ne!(rt; submit, Event::Lost);
     assert_ne!(rt; Event::Lost, Event::Retry);
     let reaction = Reaction::only(alloc, Note::FailedNow(Reason::Tampered(2, 1)));
@@ -35,18 +39,15 @@ fn copies(rt: &impl Abort, alloc: Global) -> Result<(), AllocError> {
 
 #[test]
 fn numbers_of_refusals(rt: HostRuntime) {
-    let refusals = [
-        Refusal::BadAddress,
-        Refusal::BadLength,
-        Refusal::BadWords,
-        Refusal::Busy,
-        Refusal::Exhausted,
-        Refusal::Failed,
+    let numbered = [
+        (Refusal::BadAddress, 1),
+        (Refusal::BadLength, 2),
+        (Refusal::BadWords, 3),
+        (Refusal::Busy, 4),
+        (Refusal::Exhausted, 5),
+        (Refusal::Failed, 6),
     ];
-    let mut number = 0;
-    for refusal in refusals {
-        number += 1;
+    for (refusal, number) in numbered {
         assert_eq!(rt; refusal.number(), number);
     }
-    assert_eq!(rt; number, 6);
 }
