@@ -8,7 +8,7 @@ use Rattle.oram_run.specs.Moves.{found_in, entry_in}
 use Rattle.oram_run.specs.Agree.{named_for, next_tree, IsAmid, IsBetween, AtBetween, IsNext, Agrees}
 use Rattle.oram_run.specs.declared.events.Submission.{Submission}
 
-named_kept : (v : Shape) (s t : State) (w w' : World) (k b : ℕ) → t.table ≡ s.table → ((i c : ℕ) → w'.content i c ≡ w.content i c) → named_for v t w' k b ≡ named_for v s w k b
+pub named_kept : (v : Shape) (s t : State) (w w' : World) (k b : ℕ) → t.table ≡ s.table → ((i c : ℕ) → w'.content i c ≡ w.content i c) → named_for v t w' k b ≡ named_for v s w k b
 named_kept v s t w w' k b table content =
     ap (λ xs. if k + 1 == trees_of v.device then slice_index xs b else entry_in (found_in v.device (w'.content (k + 1) (b / fanout v.device))) (b % fanout v.device)) table
     ∙ ap (λ o. if k + 1 == trees_of v.device then slice_index s.table b else entry_in (found_in v.device o) (b % fanout v.device)) (content (k + 1) (b / fanout v.device))

@@ -25,3 +25,4 @@ pub mod Moving
 pub mod Told
 pub mod NoncesApart
 pub mod AgreeKept
+pub mod AgreeSteps

@@ -246,7 +246,7 @@ if_none true e o h = cc
 if_none false e o h = (refl, h)
 
 -- what an accepted submission is known to be
-passed : (d : Sizes) (f : Bool) (w n : ℕ) (c : Command) (words : List ℕ) → refusal_of d f w n c words ≡ None → (f ≡ false) × (address_of c < d.blocks) × (length words ≡ 2 * trees_of d)
+pub passed : (d : Sizes) (f : Bool) (w n : ℕ) (c : Command) (words : List ℕ) → refusal_of d f w n c words ≡ None → (f ≡ false) × (address_of c < d.blocks) × (has_bad_length d c ≡ false) × (length words ≡ 2 * trees_of d)
 passed d f w n c words e =
     let a = if_none f refusal.Failed _ e in
     let b = if_none (nat_le d.blocks (address_of c)) refusal.BadAddress _ a.1 in
@@ -254,7 +254,7 @@ passed d f w n c words e =
     let h = if_none (not (length words == 2 * trees_of d)) refusal.BadWords _ g.1 in
     let near : address_of c < d.blocks = grind (arith, nat_tests, b.0) in
     let two : length words ≡ 2 * trees_of d = grind (arith, nat_tests, h.0) in
-    (a.0, near, two)
+    (a.0, near, g.0, two)
 
 -- an idle core sends the first fetch
 first_due : (v : Setting) (past : List Step) (old queue : List Submission) (s : State) (y : Submission) (step : Step) → IsFit v.shape.device → Live v past old s → s.queue ≡ queue → AtWork v past old s queue → IsAllowed v.shape.device y →
@@ -414,7 +414,7 @@ submit_keep v past s t old x session c words failure (Some e) h fit f r mv =
 submit_keep v past s t old x session c words (Some e) None h fit f r mv = absurd (let no_way : true ≡ false = (passed v.shape.device true (length s.queue) s.next c words (sym r)).0 in cc)
 submit_keep v past s t old x session c words None None h fit f r mv =
     let ok = passed v.shape.device (is_over (status_by None s.queue s.lost)) (length s.queue) s.next c words (sym r) in
-    accepts_keep v past s t old x session c words fit f.0 h ok.1 ok.2 mv (ap (submit_note s.next) r ∙ refusal_same v past s old c words None h fit f)
+    accepts_keep v past s t old x session c words fit f.0 h ok.1 ok.3 mv (ap (submit_note s.next) r ∙ refusal_same v past s old c words None h fit f)
 
 keeps_at : (v : Setting) (past : List Step) (s t : State) (old : List Submission) (event : Event) (x : Shown) → IsFit v.shape.device → FollowsAt v past old s s.failure → Moves v.shape s (world_of v past) event x t → Kept v past event x t
 keeps_at v past s t old (Submit session c words) x fit f mv = submit_keep v past s t old x session c words s.failure (refusal_of v.shape.device (is_over (status_by s.failure s.queue s.lost)) (length s.queue) s.next c words) refl fit f refl mv

@@ -1,8 +1,12 @@
 -- Trees whose maps agree, in a world: said of the world alone, so that it also holds of a core that was read from a file.
-use Rattle.std.specs.Prelude.{◌≡◌, ℕ, ◌<◌, ◌≤◌, ◌+◌, ◌*◌, ◌/◌, ◌%◌, ◌^◌, ◌==◌, if◌then◌else◌, List, [], ◌∷◌, length, slice_index}
+use Rattle.std.specs.Prelude.{◌≡◌, ℕ, ◌<◌, ◌≤◌, ◌+◌, ◌-◌, ◌*◌, ◌/◌, ◌%◌, ◌^◌, ◌==◌, if◌then◌else◌, false, List, [], ◌∷◌, length, slice_index}
+use Rattle.std.specs.List.{All}
+use Rattle.oram_geometry.specs.declared.Sizes.{Sizes}
 use Rattle.oram_geometry.specs.Sizes.{trees_of, depth_of, blocks_in, fanout}
 use Rattle.oram_run.specs.Content.{stage_tree}
+use Rattle.oram_run.specs.Events.{address_of}
 use Rattle.oram_run.specs.Shape.{Shape}
+use Rattle.oram_run.specs.Run.{has_bad_length}
 use Rattle.oram_run.specs.Content.{block_of, new_leaf}
 use Rattle.oram_run.specs.State.{State, World, name_of}
 use Rattle.oram_run.specs.Moves.{found_in, entry_in}
@@ -34,8 +38,23 @@ abbrev pub IsNext : Shape → State → List Submission → ℕ → ℕ → Type
 IsNext v s [] i b = ⊥
 IsNext v s (x ∷ rest) i b = IsAmid v s × (i ≡ next_tree v s) × (b ≡ block_of v.device i x)
 
+-- Each tree's blocks are as long as the device's and have its leaves; what is named for a block is what its tree has, but for
+-- the next tree's block of a command at work.
 pub record Agrees (v : Shape) (s : State) (w : World) : Type 0 where
   pub sized : (i b : ℕ) → length (found_in v.device (w.content i b)) ≡ v.device.block_bytes
   pub leaves : (i b : ℕ) → name_of (w.content i b) ≤ 2 ^ depth_of v.device i
   pub others : (i b : ℕ) → i < trees_of v.device → b < blocks_in v.device i → ¬ IsNext v s s.queue i b → named_for v s w i b ≡ name_of (w.content i b)
   pub between : AtBetween v s w s.queue
+
+-- a submission that the device takes
+pub record IsTaken (d : Sizes) (x : Submission) : Type 0 where
+  pub address : address_of x.command < d.blocks
+  pub data_length : has_bad_length d x.command ≡ false
+  pub words : length x.words ≡ 2 * trees_of d
+
+-- a core's table, queue and stage are ones of the device
+pub record IsOrderly (v : Shape) (s : State) : Type 0 where
+  pub sized : length s.table ≡ blocks_in v.device (trees_of v.device - 1)
+  pub queue : All (IsTaken v.device) s.queue
+  pub stage : s.stage < 2 * trees_of v.device
+  pub rests : length s.queue ≡ 0 → s.stage ≡ 0
