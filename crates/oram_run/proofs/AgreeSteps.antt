@@ -16,14 +16,14 @@ use Rattle.oram_run.specs.Progress.{Status}
 use Rattle.oram_run.specs.Progress.Status.{Idle, Waiting, Stalling, Over}
 use Rattle.oram_run.specs.Run.{Shown, refusal_of, is_over}
 use Rattle.oram_run.specs.State.{State, World, Holds, status_by, status_in, name_of}
-use Rattle.oram_run.specs.Moves.{Moved, MovesTo, Moves, Fits, IsReady, found_in, stays, stalls, resends, accepts, stores, fetches, finishes, fails, goes_on, on_submission, on_answer, on_loss, on_retry, world_after}
+use Rattle.oram_run.specs.Moves.{Moved, MovesTo, Moves, Fits, IsReady, found_in, stays, stalls, resends, accepts, stores, fetches, finishes, fails, goes_on, on_submission, on_answer, on_loss, on_retry, world_after, moved}
 use Rattle.oram_run.specs.Agree.{named_for, next_tree, IsAmid, IsBetween, AtBetween, IsNext, Agrees, IsTaken, IsOrderly}
 use Rattle.oram_run.specs.declared.events.Command.{Command}
 use Rattle.oram_run.specs.declared.events.Event.{Event}
 use Rattle.oram_run.specs.declared.events.Event.TheVariants.{Submit, Answer, Lost, Retry}
 use Rattle.oram_run.specs.declared.events.Reason.{Reason}
 use Rattle.oram_run.specs.declared.events.Refusal.{Refusal}
-use Rattle.oram_run.specs.declared.events.Note.{Note}
+use Rattle.oram_run.specs.declared.events.Note.TheVariants.{Refused, Unexpected}
 use Rattle.oram_run.specs.declared.events.Submission.{Submission}
 use Rattle.oram_run.proofs.Bounds.{IsFit, address_small}
 use Rattle.oram_run.proofs.Agreeing.{agreeing_ready}
@@ -188,3 +188,57 @@ left_good v s t w (x ∷ rest) y fit qu o a mv =
           ])
     ] in
     go mv
+
+-- all events
+
+-- what an event leaves that doesn't fail the device
+abbrev After : Shape → State → State → World → Shown → Moved → Type 0
+After v s t w y m = MovesTo v s w m y t → t.failure ≡ None → IsLeft v t (world_after v w m y.sends)
+
+left_quiet : (v : Shape) (s t : State) (w : World) (y : Shown) (m : Moved) → m.state.table ≡ s.table → m.state.queue ≡ s.queue → m.state.stage ≡ s.stage → m.state.named ≡ s.named → ((i c : ℕ) → m.content i c ≡ w.content i c) → IsOrderly v s → Agrees v s w → After v s t w y m
+left_quiet v s t w y m table queue stage named content o a mv healthy =
+    left_same v s t w (world_after v w m y.sends) (ap (λ (u : State). u.table) mv.state ∙ table) (ap (λ (u : State). u.queue) mv.state ∙ queue) (ap (λ (u : State). u.stage) mv.state ∙ stage) (ap (λ (u : State). u.named) mv.state ∙ named) content o a
+
+left_submitted : (v : Shape) (s t : State) (w : World) (y : Shown) (x : Submission) (o : Option Refusal) → IsFit v.device → refusal_of v.device (is_over (status_in s)) (length s.queue) s.next x.command x.words ≡ o → IsOrderly v s → Agrees v s w → After v s t w y (on_submission v s w x o)
+left_submitted v s t w y x (Some e) fit r o a = left_quiet v s t w y (stays s w (Refused e)) refl refl refl refl (λ i c. refl) o a
+left_submitted v s t w y x None fit r o a = λ mv healthy.
+    let ok = passed v.device (is_over (status_in s)) (length s.queue) s.next x.command x.words r in
+    left_pushed v s t w (world_after v w (accepts v s w x) y.sends) x (ap (λ (u : State). u.table) mv.state) (ap (λ (u : State). u.queue) mv.state) (ap (λ (u : State). u.stage) mv.state) (ap (λ (u : State). u.named) mv.state) (λ i c. refl)
+    (record { address = ok.1; data_length = ok.2; words = ok.3 }) o a
+
+left_answered : (v : Shape) (s t : State) (w : World) (y : Shown) (now : Status) (o : Outcome) → IsFit v.device → IsOrderly v s → Agrees v s w → After v s t w y (on_answer v s w now o)
+left_answered v s t w y Waiting Good fit o a = λ mv healthy. left_good v s t w s.queue y fit refl o a mv
+left_answered v s t w y Waiting NoRoom fit o a = left_quiet v s t w y (stalls s w) refl refl refl refl (λ i c. refl) o a
+left_answered v s t w y Waiting (Fails e) fit o a = λ mv healthy. absurd (let both : Some e ≡ None = sym (ap (λ (u : State). u.failure) mv.state) ∙ healthy in cc)
+left_answered v s t w y Idle outcome fit o a = left_quiet v s t w y (stays s w Unexpected) refl refl refl refl (λ i c. refl) o a
+left_answered v s t w y Stalling outcome fit o a = left_quiet v s t w y (stays s w Unexpected) refl refl refl refl (λ i c. refl) o a
+left_answered v s t w y Over outcome fit o a = left_quiet v s t w y (stays s w Unexpected) refl refl refl refl (λ i c. refl) o a
+
+left_lost : (v : Shape) (s t : State) (w : World) (y : Shown) (now : Status) → IsOrderly v s → Agrees v s w → After v s t w y (on_loss s w now)
+left_lost v s t w y Waiting o a = left_quiet v s t w y (stalls s w) refl refl refl refl (λ i c. refl) o a
+left_lost v s t w y Idle o a = left_quiet v s t w y (stays s w Unexpected) refl refl refl refl (λ i c. refl) o a
+left_lost v s t w y Stalling o a = left_quiet v s t w y (stays s w Unexpected) refl refl refl refl (λ i c. refl) o a
+left_lost v s t w y Over o a = left_quiet v s t w y (stays s w Unexpected) refl refl refl refl (λ i c. refl) o a
+
+left_retried : (v : Shape) (s t : State) (w : World) (y : Shown) (now : Status) → IsOrderly v s → Agrees v s w → After v s t w y (on_retry s w now)
+left_retried v s t w y Stalling o a = left_quiet v s t w y (resends s w) refl refl refl refl (λ i c. refl) o a
+left_retried v s t w y Idle o a = left_quiet v s t w y (stays s w Unexpected) refl refl refl refl (λ i c. refl) o a
+left_retried v s t w y Waiting o a = left_quiet v s t w y (stays s w Unexpected) refl refl refl refl (λ i c. refl) o a
+left_retried v s t w y Over o a = left_quiet v s t w y (stays s w Unexpected) refl refl refl refl (λ i c. refl) o a
+
+-- Trees that agree do so after each event that doesn't fail the device, and the core stays orderly.
+pub agrees_moved : (v : Shape) (s t : State) (w : World) (event : Event) (y : Shown) → IsFit v.device → IsOrderly v s → Agrees v s w → Moves v s w event y t → t.failure ≡ None → IsLeft v t (world_after v w (moved v s w event) y.sends)
+agrees_moved v s t w (Submit session c words) y fit o a =
+    left_submitted v s t w y (record { session = session; ticket = s.next; command = c; words = words }) (refusal_of v.device (is_over (status_in s)) (length s.queue) s.next c words) fit refl o a
+agrees_moved v s t w (Answer bytes) y fit o a = left_answered v s t w y (status_in s) (outcome_of v w.records (asked s.last) bytes) fit o a
+agrees_moved v s t w Lost y fit o a = left_lost v s t w y (status_in s) o a
+agrees_moved v s t w Retry y fit o a = left_retried v s t w y (status_in s) o a
+
+ready_by : (v : Shape) (s : State) (w : World) (queue : List Submission) → s.queue ≡ queue → IsFit v.device → IsOrderly v s → Agrees v s w → IsReady v s w queue
+ready_by v s w [] qu fit o a = tt
+ready_by v s w (x ∷ rest) qu fit o a = λ even.
+    agreeing_ready v s w x rest qu even o.stage fit.some (inside v x fit (All-head (IsTaken v.device) x rest (subst (All (IsTaken v.device)) qu o.queue))) a
+
+-- A core whose trees stand and agree can go on.
+pub agreeing_fits : (v : Shape) (s : State) (w : World) → IsFit v.device → IsOrderly v s → Agrees v s w → Holds v s w → Fits v s w
+agreeing_fits v s w fit o a holds = λ healthy. (holds, ready_by v s w s.queue refl fit o a)
