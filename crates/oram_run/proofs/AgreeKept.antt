@@ -15,13 +15,13 @@ named_kept v s t w w' k b table content =
 
 pub agrees_kept : (v : Shape) (s t : State) (w w' : World) → t.table ≡ s.table → ((i c : ℕ) → w'.content i c ≡ w.content i c) → ((k b : ℕ) → IsNext v s s.queue k b → IsNext v t t.queue k b) → AtBetween v t w' t.queue → Agrees v s w → Agrees v t w'
 agrees_kept v s t w w' table content next between a = record {
-  sized = λ i b. ap (λ o. length (found_in v.device o)) (content i b) ∙ a.sized i b;
-  leaves = λ i b. subst (λ o. name_of o ≤ 2 ^ depth_of v.device i) (sym (content i b)) (a.leaves i b);
+  sized = λ i b few. ap (λ o. length (found_in v.device o)) (content i b) ∙ a.sized i b few;
+  leaves = λ i b few. subst (λ o. name_of o ≤ 2 ^ depth_of v.device i) (sym (content i b)) (a.leaves i b few);
   others = λ i b few inside off. named_kept v s t w w' i b table content ∙ a.others i b few inside (λ n. off (next i b n)) ∙ sym (ap name_of (content i b));
   between = between;
 }
 
-at_rest : (v : Shape) (t : State) (w : World) (queue : List Submission) → t.stage ≡ 0 → AtBetween v t w queue
+pub at_rest : (v : Shape) (t : State) (w : World) (queue : List Submission) → t.stage ≡ 0 → AtBetween v t w queue
 at_rest v t w [] e = tt
 at_rest v t w (x ∷ rest) e = λ amid. absurd (let more : 0 < t.stage = amid.0 in omega arith)
 

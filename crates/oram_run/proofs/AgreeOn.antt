@@ -51,6 +51,12 @@ edited_length d (suc i) x bytes h size ok =
     length-edit bytes (block_of d i x % fanout d) (new_leaf d i x + 1) (omega (arith, h.whole)) ∙ size
 
 module _ (v : Shape) (s t : State) (w w' : World) (x : Submission) (rest : List Submission) (i a : ℕ) (bytes : List ℕ) (q : Accessed v s t w w' x rest i a bytes) where
+  in_device : i < trees_of v.device
+  in_device =
+      let few : s.stage < 2 * trees_of v.device = q.few in
+      let tree : i ≡ stage_tree v.device s.stage = q.tree in
+      omega arith
+
   content_here : w'.content i a ≡ Some (record { leaf = new_leaf v.device i x; content = edited v.device i x bytes })
   content_here =
       let one : (i == i) ≡ true = grind (arith, nat_tests) in
@@ -89,7 +95,7 @@ module _ (v : Shape) (s t : State) (w w' : World) (x : Submission) (rest : List 
   -- an entry's place is within the block
   place_fits : (k : ℕ) → HasEntries v.device → Agrees v s w → 4 * (block_of v.device k x % fanout v.device) + 4 ≤ length bytes
   place_fits k h agrees =
-      let size : length bytes ≡ v.device.block_bytes = ap length q.found ∙ agrees.sized i a in
+      let size : length bytes ≡ v.device.block_bytes = ap length q.found ∙ agrees.sized i a in_device in
       let j : block_of v.device k x % fanout v.device < fanout v.device = mod_below (block_of v.device k x) (fanout v.device) h.some in
       omega (arith, h.whole)
 
@@ -168,22 +174,22 @@ module _ (v : Shape) (s t : State) (w w' : World) (x : Submission) (rest : List 
       let same : k ≡ i = omega arith in
       apart same (n.2 ∙ ap (λ (m : ℕ). block_of v.device m x) same ∙ sym q.block))
 
-  sized_on : HasEntries v.device → Agrees v s w → has_bad_length v.device x.command ≡ false → (k b : ℕ) → length (found_in v.device (w'.content k b)) ≡ v.device.block_bytes
-  sized_on h agrees ok k b = elim (eqb_tells k i) [
-    | inr other ↦ ap (λ o. length (found_in v.device o)) (content_other k b other.1) ∙ agrees.sized k b
+  sized_on : HasEntries v.device → Agrees v s w → has_bad_length v.device x.command ≡ false → (k b : ℕ) → k < trees_of v.device → length (found_in v.device (w'.content k b)) ≡ v.device.block_bytes
+  sized_on h agrees ok k b below = elim (eqb_tells k i) [
+    | inr other ↦ ap (λ o. length (found_in v.device o)) (content_other k b other.1) ∙ agrees.sized k b below
     | inl same ↦ ap (λ n. length (found_in v.device (w'.content n b))) same.1 ∙ elim (eqb_tells b a) [
-      | inr beside ↦ ap (λ o. length (found_in v.device o)) (content_beside b beside.1) ∙ agrees.sized i b
-      | inl here ↦ ap (λ n. length (found_in v.device (w'.content i n))) here.1 ∙ ap (λ o. length (found_in v.device o)) content_here ∙ edited_length v.device i x bytes h (ap length q.found ∙ agrees.sized i a) ok
+      | inr beside ↦ ap (λ o. length (found_in v.device o)) (content_beside b beside.1) ∙ agrees.sized i b in_device
+      | inl here ↦ ap (λ n. length (found_in v.device (w'.content i n))) here.1 ∙ ap (λ o. length (found_in v.device o)) content_here ∙ edited_length v.device i x bytes h (ap length q.found ∙ agrees.sized i a in_device) ok
     ]
   ]
 
-  leaves_on : Agrees v s w → (k b : ℕ) → name_of (w'.content k b) ≤ 2 ^ depth_of v.device k
-  leaves_on agrees k b =
+  leaves_on : Agrees v s w → (k b : ℕ) → k < trees_of v.device → name_of (w'.content k b) ≤ 2 ^ depth_of v.device k
+  leaves_on agrees k b below =
       let P : ℕ → ℕ → Type 0 = λ n m. n ≤ 2 ^ depth_of v.device m in
       elim (eqb_tells k i) [
-        | inr other ↦ subst (λ o. name_of o ≤ 2 ^ depth_of v.device k) (sym (content_other k b other.1)) (agrees.leaves k b)
+        | inr other ↦ subst (λ o. name_of o ≤ 2 ^ depth_of v.device k) (sym (content_other k b other.1)) (agrees.leaves k b below)
         | inl same ↦ subst (λ m. name_of (w'.content m b) ≤ 2 ^ depth_of v.device m) (sym same.1) (elim (eqb_tells b a) [
-          | inr beside ↦ subst (λ o. name_of o ≤ 2 ^ depth_of v.device i) (sym (content_beside b beside.1)) (agrees.leaves i b)
+          | inr beside ↦ subst (λ o. name_of o ≤ 2 ^ depth_of v.device i) (sym (content_beside b beside.1)) (agrees.leaves i b in_device)
           | inl here ↦ subst (λ c. name_of (w'.content i c) ≤ 2 ^ depth_of v.device i) (sym here.1) (subst (λ o. name_of o ≤ 2 ^ depth_of v.device i) (sym content_here) (omega (arith, (leaf_small v.device i (slice_index x.words (2 * i + 1))).0)))
         ])
       ]

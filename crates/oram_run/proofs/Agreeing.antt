@@ -33,7 +33,7 @@ next_range v s w x rest (suc i) e qu even few inside a =
     let named : next_named d (suc i) x (found_in d (w.content (suc i) (block_of d (suc i) x))) ≡ name_of (w.content i (block_of d i x)) =
     next_is_named v s w x i below ∙ a.others i (block_of d i x) (omega arith) (inside i) (subst (λ q. ¬ IsNext v s q i (block_of d i x)) (sym qu) apart) in
     let back : suc i - 1 ≡ i = omega arith in
-    subst (λ (k : ℕ). next_named d (suc i) x (found_in d (w.content (suc i) (block_of d (suc i) x))) ≤ 2 ^ depth_of d k) (sym back) (subst (λ (k : ℕ). k ≤ 2 ^ depth_of d i) (sym named) (a.leaves i (block_of d i x)))
+    subst (λ (k : ℕ). next_named d (suc i) x (found_in d (w.content (suc i) (block_of d (suc i) x))) ≤ 2 ^ depth_of d k) (sym back) (subst (λ (k : ℕ). k ≤ 2 ^ depth_of d i) (sym named) (a.leaves i (block_of d i x) (omega arith)))
 
 named_by_stage : (v : Shape) (s : State) (w : World) (x : Submission) (rest : List Submission) (r : ℕ) → s.stage ≡ r → s.queue ≡ x ∷ rest → r % 2 ≡ 0 → r < 2 * trees_of v.device → 0 < trees_of v.device → ((k : ℕ) → block_of v.device k x < blocks_in v.device k) → Agrees v s w →
     name_of (w.content (stage_tree v.device r) (block_of v.device (stage_tree v.device r) x)) ≡ (if r == 0 then slice_index s.table (block_of v.device (trees_of v.device - 1) x) else s.named)

@@ -123,7 +123,7 @@ left_there v n trees messages made i m below small =
     (some_joined (Leaves v i m r) made.parts i (omega arith) (some_part v i m (tree i) (part i) (made.each i below) small))
 
 -- before any access a tree holds no block
-empty_content : (v : Setting) (i : ℕ) → content_of v [] i ≡ no_blocks
+pub empty_content : (v : Setting) (i : ℕ) → content_of v [] i ≡ no_blocks
 unfolding accepted content_after
 empty_content v i = fun_ext (λ a. ap (λ xs. content_after v.shape.device i (reverse xs) a) (take-nil (accesses v.shape.device (progress v []).good i)))
 

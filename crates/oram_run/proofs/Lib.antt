@@ -26,3 +26,4 @@ pub mod Told
 pub mod NoncesApart
 pub mod AgreeKept
 pub mod AgreeSteps
+pub mod AgreeNew

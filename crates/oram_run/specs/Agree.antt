@@ -41,8 +41,8 @@ IsNext v s (x ∷ rest) i b = IsAmid v s × (i ≡ next_tree v s) × (b ≡ bloc
 -- Each tree's blocks are as long as the device's and have its leaves; what is named for a block is what its tree has, but for
 -- the next tree's block of a command at work.
 pub record Agrees (v : Shape) (s : State) (w : World) : Type 0 where
-  pub sized : (i b : ℕ) → length (found_in v.device (w.content i b)) ≡ v.device.block_bytes
-  pub leaves : (i b : ℕ) → name_of (w.content i b) ≤ 2 ^ depth_of v.device i
+  pub sized : (i b : ℕ) → i < trees_of v.device → length (found_in v.device (w.content i b)) ≡ v.device.block_bytes
+  pub leaves : (i b : ℕ) → i < trees_of v.device → name_of (w.content i b) ≤ 2 ^ depth_of v.device i
   pub others : (i b : ℕ) → i < trees_of v.device → b < blocks_in v.device i → ¬ IsNext v s s.queue i b → named_for v s w i b ≡ name_of (w.content i b)
   pub between : AtBetween v s w s.queue
 
