@@ -37,7 +37,9 @@ entry_fits d i c e block same =
     let is : entry_of c ≡ e = cc in
     subst (IsEntryOf d i) is (record { leaf_in = block.leaf_in; whole = block.whole })
 
-held_fits : (v : Shape) (i : ℕ) (tree : Tree) (records : ℕ → List ℕ) (content : Map) (a : ℕ) (e : Held) → Stands v i tree records content → All (IsBlockOf v.device i) tree.stash → IsSome (content a) → content a ≡ Some e → IsEntryOf v.device i e
+held_fits : (v : Shape) (i : ℕ) (tree : Tree) (records : ℕ → List ℕ) (content : Map) (a : ℕ) (e : Held)
+    → Stands v i tree records content → All (IsBlockOf v.device i) tree.stash → IsSome (content a) → content a ≡ Some e
+    → IsEntryOf v.device i e
 held_fits v i tree records content a e stands stash some is =
     let same : tree.number ≡ i = stands.number in
     elim (stands.stored.holds.held a some) [
@@ -47,7 +49,8 @@ held_fits v i tree records content a e stands stash some is =
       | inr h ↦
           let c : Cell = h.0 in
           let n : ℕ = h.1 in
-          let block : IsBlockOf v.device tree.number c = All-contains (IsBlockOf v.device tree.number) h.4.0 c h.4.1.spelled.bucket.blocks h.4.2 in
+          let block : IsBlockOf v.device tree.number c =
+          All-contains (IsBlockOf v.device tree.number) h.4.0 c h.4.1.spelled.bucket.blocks h.4.2 in
           entry_fits v.device i c e (subst (λ (k : ℕ). IsBlockOf v.device k c) same block) (sym (stands.stored.holds.from_tree n c h.3 h.4) ∙ ap content h.2 ∙ is)
     ]
 
@@ -64,16 +67,20 @@ some_is : (o : Option Held) (e : Held) → o ≡ Some e → IsSome o
 some_is (Some e) other is = refl
 some_is None e is = absurd (let both : None ≡ Some e = is in cc)
 
-pub found_stands : (v : Shape) (i : ℕ) (tree : Tree) (records : ℕ → List ℕ) (content : Map) (a : ℕ) → Stands v i tree records content → All (IsBlockOf v.device i) tree.stash → IsFound v.device i (content a)
-found_stands v i tree records content a stands stash = found_by v.device i (content a) (λ e is. held_fits v i tree records content a e stands stash (some_is (content a) e is) is)
+pub found_stands : (v : Shape) (i : ℕ) (tree : Tree) (records : ℕ → List ℕ) (content : Map) (a : ℕ)
+    → Stands v i tree records content → All (IsBlockOf v.device i) tree.stash → IsFound v.device i (content a)
+found_stands v i tree records content a stands stash =
+    found_by v.device i (content a) (λ e is. held_fits v i tree records content a e stands stash (some_is (content a) e is) is)
 
 no_next : (v : Shape) (s : State) (queue : List Submission) (i b : ℕ) → s.stage ≡ 0 → ¬ IsNext v s queue i b
 no_next v s [] i b z = λ n. n
 no_next v s (x ∷ rest) i b z = λ n. absurd (let more : 0 < s.stage = n.0.0 in omega arith)
 
 -- A core at rest whose trees stand: they agree where its table and their map blocks name what they hold.
-pub agrees_at_rest : (v : Shape) (s : State) (w : World) → s.stage ≡ 0 → Holds v s w → ((i : ℕ) → i < trees_of v.device → All (IsBlockOf v.device i) (slice_index_or s.trees i no_tree).stash) →
-    ((i b : ℕ) → i < trees_of v.device → b < blocks_in v.device i → named_for v s w i b ≡ name_of (w.content i b)) → Agrees v s w
+pub agrees_at_rest : (v : Shape) (s : State) (w : World) → s.stage ≡ 0 → Holds v s w
+    → ((i : ℕ) → i < trees_of v.device → All (IsBlockOf v.device i) (slice_index_or s.trees i no_tree).stash)
+    → ((i b : ℕ) → i < trees_of v.device → b < blocks_in v.device i → named_for v s w i b ≡ name_of (w.content i b))
+    → Agrees v s w
 agrees_at_rest v s w z holds stashes named = record {
   sized = λ i b below. (found_stands v i (slice_index_or s.trees i no_tree) (w.records i) (w.content i) b (holds i below) (stashes i below)).sized;
   leaves = λ i b below. (found_stands v i (slice_index_or s.trees i no_tree) (w.records i) (w.content i) b (holds i below) (stashes i below)).leaves;
@@ -91,7 +98,8 @@ zeros_name n j fits =
     ∙ ap (λ k. from_be_bytes w32 (take k (replicate (n - 4 * j) 0))) four
     ∙ ap (λ k. from_be_bytes w32 (take 4 (replicate k 0))) rest
 
-none_named : (v : Setting) (trees : List Tree) (i b : ℕ) → IsFit v.shape.device → i < trees_of v.shape.device → b < blocks_in v.shape.device i → named_for v.shape (new_state v trees) (world_of v []) i b ≡ 0
+none_named : (v : Setting) (trees : List Tree) (i b : ℕ) → IsFit v.shape.device → i < trees_of v.shape.device
+    → b < blocks_in v.shape.device i → named_for v.shape (new_state v trees) (world_of v []) i b ≡ 0
 none_named v trees i b fit below inside =
     let d = v.shape.device in
     let n : ℕ = blocks_in d (trees_of d - 1) in

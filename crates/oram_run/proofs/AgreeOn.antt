@@ -33,17 +33,21 @@ pub record Accessed (v : Shape) (s t : State) (w w' : World) (x : Submission) (r
   pub stage' : t.stage ≡ s.stage + 1
   pub table' : t.table ≡ (if s.stage == 0 then slice_set s.table a (new_leaf v.device i x + 1) else s.table)
   pub named' : t.named ≡ next_named v.device i x bytes
-  pub content' : (k b : ℕ) → w'.content k b ≡ put_in w.content i a (record { leaf = new_leaf v.device i x; content = edited v.device i x bytes }) k b
+  pub content' : (k b : ℕ)
+      → w'.content k b ≡ put_in w.content i a (record { leaf = new_leaf v.device i x; content = edited v.device i x bytes }) k b
 
-edited_suc : (d : Sizes) (k : ℕ) (x : Submission) (bytes : List ℕ) → edited d (suc k) x bytes ≡ with_entry bytes (block_of d k x % fanout d) (new_leaf d k x + 1)
+edited_suc : (d : Sizes) (k : ℕ) (x : Submission) (bytes : List ℕ)
+    → edited d (suc k) x bytes ≡ with_entry bytes (block_of d k x % fanout d) (new_leaf d k x + 1)
 unfolding edited
 edited_suc d k x bytes = refl
 
-written_length : (d : Sizes) (c : Command) (bytes : List ℕ) → length bytes ≡ d.block_bytes → has_bad_length d c ≡ false → length (written_over c bytes) ≡ d.block_bytes
+written_length : (d : Sizes) (c : Command) (bytes : List ℕ) → length bytes ≡ d.block_bytes → has_bad_length d c ≡ false
+    → length (written_over c bytes) ≡ d.block_bytes
 written_length d (Read b) bytes size ok = size
 written_length d (Write b new) bytes size ok = grind (arith, nat_tests, ok)
 
-edited_length : (d : Sizes) (i : ℕ) (x : Submission) (bytes : List ℕ) → HasEntries d → length bytes ≡ d.block_bytes → has_bad_length d x.command ≡ false → length (edited d i x bytes) ≡ d.block_bytes
+edited_length : (d : Sizes) (i : ℕ) (x : Submission) (bytes : List ℕ) → HasEntries d → length bytes ≡ d.block_bytes
+    → has_bad_length d x.command ≡ false → length (edited d i x bytes) ≡ d.block_bytes
 unfolding edited
 edited_length d zero x bytes h size ok = written_length d x.command bytes size ok
 edited_length d (suc i) x bytes h size ok =
@@ -82,11 +86,13 @@ module _ (v : Shape) (s t : State) (w w' : World) (x : Submission) (rest : List 
             let few : s.stage < 2 * trees_of v.device = q.few in
             let tree : i ≡ stage_tree v.device s.stage = q.tree in
             let top : i + 1 ≡ trees_of v.device = omega arith in
-            ap (λ (c : Bool). slice_index (if c then slice_set s.table a (new_leaf v.device i x + 1) else s.table) b) first.0 ∙ get_or-set_other s.table a b (new_leaf v.device i x + 1) 0 (apart top)
+            ap (λ (c : Bool). slice_index (if c then slice_set s.table a (new_leaf v.device i x + 1) else s.table) b) first.0
+            ∙ get_or-set_other s.table a b (new_leaf v.device i x + 1) 0 (apart top)
         | inr later ↦ ap (λ (c : Bool). slice_index (if c then slice_set s.table a (new_leaf v.device i x + 1) else s.table) b) later.0
       ]
 
-  edited_is : (k : ℕ) → k + 1 ≡ i → edited v.device i x bytes ≡ with_entry bytes (block_of v.device k x % fanout v.device) (new_leaf v.device k x + 1)
+  edited_is : (k : ℕ) → k + 1 ≡ i
+      → edited v.device i x bytes ≡ with_entry bytes (block_of v.device k x % fanout v.device) (new_leaf v.device k x + 1)
   edited_is k e = let z : i ≡ suc k = omega arith in ap (λ (n : ℕ). edited v.device n x bytes) z ∙ edited_suc v.device k x bytes
 
   block_is : (k : ℕ) → k + 1 ≡ i → a ≡ block_of v.device k x / fanout v.device
@@ -96,13 +102,18 @@ module _ (v : Shape) (s t : State) (w w' : World) (x : Submission) (rest : List 
   place_fits : (k : ℕ) → HasEntries v.device → Agrees v s w → 4 * (block_of v.device k x % fanout v.device) + 4 ≤ length bytes
   place_fits k h agrees =
       let size : length bytes ≡ v.device.block_bytes = ap length q.found ∙ agrees.sized i a in_device in
-      let j : block_of v.device k x % fanout v.device < fanout v.device = mod_below (block_of v.device k x) (fanout v.device) h.some in
+      let j : block_of v.device k x % fanout v.device < fanout v.device =
+      mod_below (block_of v.device k x) (fanout v.device) h.some in
       omega (arith, h.whole)
 
-  below_other : (k b : ℕ) → HasEntries v.device → Agrees v s w → k + 1 ≡ i → b ≢ block_of v.device k x → b / fanout v.device ≡ a → entry_in (found_in v.device (w'.content (k + 1) (b / fanout v.device))) (b % fanout v.device) ≡ entry_in (found_in v.device (w.content (k + 1) (b / fanout v.device))) (b % fanout v.device)
+  below_other : (k b : ℕ) → HasEntries v.device → Agrees v s w → k + 1 ≡ i → b ≢ block_of v.device k x
+      → b / fanout v.device ≡ a
+      → entry_in (found_in v.device (w'.content (k + 1) (b / fanout v.device))) (b % fanout v.device) ≡ entry_in (found_in v.device (w.content (k + 1) (b / fanout v.device))) (b % fanout v.device)
   below_other k b h agrees e ne up =
       let apart : b % fanout v.device ≢ block_of v.device k x % fanout v.device = λ same. ne (
-      sym (div-add-mod' b (fanout v.device)) ∙ ap (λ n. n * fanout v.device + b % fanout v.device) (up ∙ block_is k e) ∙ ap (λ n. block_of v.device k x / fanout v.device * fanout v.device + n) same ∙ div-add-mod' (block_of v.device k x) (fanout v.device)) in
+      sym (div-add-mod' b (fanout v.device)) ∙ ap (λ n. n * fanout v.device + b % fanout v.device) (up ∙ block_is k e)
+      ∙ ap (λ n. block_of v.device k x / fanout v.device * fanout v.device + n) same
+      ∙ div-add-mod' (block_of v.device k x) (fanout v.device)) in
       ap (λ n. entry_in (found_in v.device (w'.content n (b / fanout v.device))) (b % fanout v.device)) e
       ∙ ap (λ n. entry_in (found_in v.device (w'.content i n)) (b % fanout v.device)) up
       ∙ ap (λ o. entry_in (found_in v.device o) (b % fanout v.device)) content_here
@@ -112,7 +123,8 @@ module _ (v : Shape) (s t : State) (w w' : World) (x : Submission) (rest : List 
       ∙ sym (ap (λ n. entry_in (found_in v.device (w.content n (b / fanout v.device))) (b % fanout v.device)) e ∙ ap (λ n. entry_in (found_in v.device (w.content i n)) (b % fanout v.device)) up)
 
   -- what is named stays, but for the accessed block and for the next tree's
-  named_other : (k b : ℕ) → HasEntries v.device → Agrees v s w → (k ≡ i → b ≢ a) → (k + 1 ≡ i → b ≢ block_of v.device k x) → named_for v t w' k b ≡ named_for v s w k b
+  named_other : (k b : ℕ) → HasEntries v.device → Agrees v s w → (k ≡ i → b ≢ a) → (k + 1 ≡ i → b ≢ block_of v.device k x)
+      → named_for v t w' k b ≡ named_for v s w k b
   named_other k b h agrees here below =
       elim (eqb_tells (k + 1) (trees_of v.device)) [
         | inl top ↦
@@ -126,7 +138,8 @@ module _ (v : Shape) (s t : State) (w w' : World) (x : Submission) (rest : List 
             ∙ sym (ap (λ (c : Bool). if c then slice_index s.table b else entry_in (found_in v.device (w.content (k + 1) (b / fanout v.device))) (b % fanout v.device)) inner.0)
       ]
     where
-      inner_other : (k b : ℕ) → HasEntries v.device → Agrees v s w → (k + 1 ≡ i → b ≢ block_of v.device k x) → entry_in (found_in v.device (w'.content (k + 1) (b / fanout v.device))) (b % fanout v.device) ≡ entry_in (found_in v.device (w.content (k + 1) (b / fanout v.device))) (b % fanout v.device)
+      inner_other : (k b : ℕ) → HasEntries v.device → Agrees v s w → (k + 1 ≡ i → b ≢ block_of v.device k x)
+          → entry_in (found_in v.device (w'.content (k + 1) (b / fanout v.device))) (b % fanout v.device) ≡ entry_in (found_in v.device (w.content (k + 1) (b / fanout v.device))) (b % fanout v.device)
       inner_other k b h agrees below =
           elim (eqb_tells (k + 1) i) [
             | inr apart ↦ ap (λ o. entry_in (found_in v.device o) (b % fanout v.device)) (content_other (k + 1) (b / fanout v.device) apart.1)
@@ -147,7 +160,8 @@ module _ (v : Shape) (s t : State) (w w' : World) (x : Submission) (rest : List 
             let last : i + 1 ≡ trees_of v.device = top.1 in
             let first : (s.stage == 0) ≡ true = let z : s.stage ≡ 0 = omega arith in grind (arith, nat_tests) in
             let same : i ≡ trees_of v.device - 1 = omega arith in
-            let inside : a < length s.table = subst (λ (n : ℕ). n < length s.table) (sym (q.block ∙ ap (λ (n : ℕ). block_of v.device n x) same)) q.inside in
+            let inside : a < length s.table =
+            subst (λ (n : ℕ). n < length s.table) (sym (q.block ∙ ap (λ (n : ℕ). block_of v.device n x) same)) q.inside in
             ap (λ (c : Bool). if c then slice_index t.table a else entry_in (found_in v.device (w'.content (i + 1) (a / fanout v.device))) (a % fanout v.device)) top.0
             ∙ ap (λ xs. slice_index xs a) q.table'
             ∙ ap (λ (c : Bool). slice_index (if c then slice_set s.table a (new_leaf v.device i x + 1) else s.table) a) first
@@ -174,7 +188,8 @@ module _ (v : Shape) (s t : State) (w w' : World) (x : Submission) (rest : List 
       let same : k ≡ i = omega arith in
       apart same (n.2 ∙ ap (λ (m : ℕ). block_of v.device m x) same ∙ sym q.block))
 
-  sized_on : HasEntries v.device → Agrees v s w → has_bad_length v.device x.command ≡ false → (k b : ℕ) → k < trees_of v.device → length (found_in v.device (w'.content k b)) ≡ v.device.block_bytes
+  sized_on : HasEntries v.device → Agrees v s w → has_bad_length v.device x.command ≡ false → (k b : ℕ)
+      → k < trees_of v.device → length (found_in v.device (w'.content k b)) ≡ v.device.block_bytes
   sized_on h agrees ok k b below = elim (eqb_tells k i) [
     | inr other ↦ ap (λ o. length (found_in v.device o)) (content_other k b other.1) ∙ agrees.sized k b below
     | inl same ↦ ap (λ n. length (found_in v.device (w'.content n b))) same.1 ∙ elim (eqb_tells b a) [
@@ -194,14 +209,16 @@ module _ (v : Shape) (s t : State) (w w' : World) (x : Submission) (rest : List 
         ])
       ]
 
-  others_on : HasEntries v.device → Agrees v s w → (k b : ℕ) → k < trees_of v.device → b < blocks_in v.device k → ¬ IsNext v t t.queue k b → named_for v t w' k b ≡ name_of (w'.content k b)
+  others_on : HasEntries v.device → Agrees v s w → (k b : ℕ) → k < trees_of v.device → b < blocks_in v.device k
+      → ¬ IsNext v t t.queue k b → named_for v t w' k b ≡ name_of (w'.content k b)
   others_on h agrees k b few inside off = elim (eqb_tells k i) [
     | inl same ↦ elim (eqb_tells b a) [
       | inl here ↦ ap (λ n. named_for v t w' n b) same.1 ∙ ap (named_for v t w' i) here.1 ∙ named_here h agrees ∙ sym (ap (λ n. name_of (w'.content n b)) same.1 ∙ ap (λ n. name_of (w'.content i n)) here.1 ∙ ap name_of content_here)
       | inr beside ↦
           named_other k b h agrees (λ e. beside.1) (λ e. absurd (let at : k ≡ i = same.1 in omega arith))
           ∙ agrees.others k b few inside (not_next k b (λ e. beside.1))
-          ∙ ap (λ n. name_of (w.content n b)) same.1 ∙ sym (ap (λ n. name_of (w'.content n b)) same.1 ∙ ap name_of (content_beside b beside.1))
+          ∙ ap (λ n. name_of (w.content n b)) same.1
+          ∙ sym (ap (λ n. name_of (w'.content n b)) same.1 ∙ ap name_of (content_beside b beside.1))
     ]
     | inr other ↦
         named_other k b h agrees (λ e. absurd (other.1 e)) (λ e at. off (subst (λ y. IsNext v t y k b) (sym q.queue') ((next_now k e).0, (next_now k e).1, at)))
@@ -217,7 +234,8 @@ module _ (v : Shape) (s t : State) (w w' : World) (x : Submission) (rest : List 
           let stage : t.stage ≡ s.stage + 1 = q.stage' in
           ((omega arith, omega arith), omega arith)
 
-  between_on : HasEntries v.device → Agrees v s w → ((k : ℕ) → block_of v.device k x < blocks_in v.device k) → IsAmid v t → IsBetween v t w' x
+  between_on : HasEntries v.device → Agrees v s w → ((k : ℕ) → block_of v.device k x < blocks_in v.device k) → IsAmid v t
+      → IsBetween v t w' x
   between_on h agrees inside amid =
       let j : ℕ = next_tree v t in
       let few : s.stage < 2 * trees_of v.device = q.few in
@@ -238,7 +256,8 @@ module _ (v : Shape) (s t : State) (w w' : World) (x : Submission) (rest : List 
             ∙ next_is_named v s w x j low
             ∙ agrees.others j (block_of v.device j x) (omega arith) (inside j) (not_next j (block_of v.device j x) (λ e. absurd (apart e)))
             ∙ sym (ap name_of (content_other j (block_of v.device j x) apart));
-        ahead = ap (λ (c : Bool). if c then slice_index t.table (block_of v.device j x) else entry_in (found_in v.device (w'.content (j + 1) (block_of v.device j x / fanout v.device))) (block_of v.device j x % fanout v.device)) inner
+        ahead =
+            ap (λ (c : Bool). if c then slice_index t.table (block_of v.device j x) else entry_in (found_in v.device (w'.content (j + 1) (block_of v.device j x / fanout v.device))) (block_of v.device j x % fanout v.device)) inner
             ∙ ap (λ n. entry_in (found_in v.device (w'.content n (block_of v.device j x / fanout v.device))) (block_of v.device j x % fanout v.device)) next
             ∙ ap (λ n. entry_in (found_in v.device (w'.content i n)) (block_of v.device j x % fanout v.device)) under
             ∙ ap (λ o. entry_in (found_in v.device o) (block_of v.device j x % fanout v.device)) content_here
@@ -247,7 +266,8 @@ module _ (v : Shape) (s t : State) (w w' : World) (x : Submission) (rest : List 
       }
 
   -- trees that agree do so after an access
-  pub agrees_on : HasEntries v.device → Agrees v s w → has_bad_length v.device x.command ≡ false → ((k : ℕ) → block_of v.device k x < blocks_in v.device k) → Agrees v t w'
+  pub agrees_on : HasEntries v.device → Agrees v s w → has_bad_length v.device x.command ≡ false
+      → ((k : ℕ) → block_of v.device k x < blocks_in v.device k) → Agrees v t w'
   agrees_on h agrees ok inside = record {
     sized = sized_on h agrees ok;
     leaves = leaves_on agrees;

@@ -25,7 +25,8 @@ reverse_cons x old = reverse-append (x ∷ []) old
 pub turn : {X : Type 0} (x : X) (old back : List X) → reverse (x ∷ old) ++ back ≡ reverse old ++ x ∷ back
 turn x old back = ap (λ xs. xs ++ back) (reverse_cons x old) ∙ append_assoc (reverse old) (x ∷ []) back
 
-pub address_at : (old back : List Submission) (x : Submission) → slice_index (addresses (reverse old ++ x ∷ back)) (length old) ≡ address_of x.command
+pub address_at : (old back : List Submission) (x : Submission)
+    → slice_index (addresses (reverse old ++ x ∷ back)) (length old) ≡ address_of x.command
 address_at old back x =
     rw (map-append (λ (s : Submission). address_of s.command) (reverse old) (x ∷ back))
     (get_or_at (addresses (reverse old)) (address_of x.command) (addresses back) 0 (length old) (length-map (reverse old) (λ s. address_of s.command) ∙ length-reverse old))
@@ -39,11 +40,14 @@ length-tape : (n : ℕ) (old : List Submission) → HasWords n old → length (t
 length-tape n [] w = omega arith
 length-tape n (x ∷ old) w =
     let words = λ (s : Submission). s.words in
-    let apart : tape (reverse (x ∷ old)) ≡ tape (reverse old) ++ x.words ++ [] = ap tape (reverse_cons x old) ∙ flat_map-append words (reverse old) (x ∷ []) ∙ sym (append_assoc (tape (reverse old)) x.words []) in
+    let apart : tape (reverse (x ∷ old)) ≡ tape (reverse old) ++ x.words ++ [] =
+    ap tape (reverse_cons x old) ∙ flat_map-append words (reverse old) (x ∷ [])
+    ∙ sym (append_assoc (tape (reverse old)) x.words []) in
     let size : length (x ∷ old) ≡ length old + 1 = omega arith in
     ap length apart ∙ simp length-append (rw size (omega (arith, length-tape n old w.1, w.0)))
 
-pub word_at : (n : ℕ) (old back : List Submission) (x : Submission) (k : ℕ) → HasWords n old → length x.words ≡ n → k < n → slice_index (tape (reverse old ++ x ∷ back)) (n * length old + k) ≡ slice_index x.words k
+pub word_at : (n : ℕ) (old back : List Submission) (x : Submission) (k : ℕ) → HasWords n old → length x.words ≡ n → k < n
+    → slice_index (tape (reverse old ++ x ∷ back)) (n * length old + k) ≡ slice_index x.words k
 word_at n old back x k w size h =
     let here : k < length x.words = omega arith in
     rw (flat_map-append (λ (s : Submission). s.words) (reverse old) (x ∷ back)) (rw (sym (length-tape n old w)) (get_or-append-add (tape (reverse old)) (x.words ++ tape back) k 0 ∙ get_or_append_left x.words (tape back) 0 k here))
@@ -60,10 +64,12 @@ unfolding named_in
 newest d i a [] back few w = rw (greatest_below-zero _) refl
 newest d i a (y ∷ ys) back few w =
     let subs = reverse ys ++ y ∷ back in
-    let own : shares d i subs a (length ys) ≡ (address_in d i (address_of y.command) == a) = ap (λ n. address_in d i n == a) (address_at ys back y) in
+    let own : shares d i subs a (length ys) ≡ (address_in d i (address_of y.command) == a) =
+    ap (λ n. address_in d i n == a) (address_at ys back y) in
     let place_is : new_place d i (length ys) ≡ 2 * trees_of d * length ys + (2 * i + 1) = omega arith in
     let word : named_by d i subs (length ys) ≡ leaf_of d i (slice_index y.words (2 * i + 1)) + 1 =
-    ap (λ m. leaf_of d i (slice_index (tape subs) m) + 1) place_is ∙ ap (λ n. leaf_of d i n + 1) (word_at (2 * trees_of d) ys back y (2 * i + 1) w.1 w.0 (omega arith)) in
+    ap (λ m. leaf_of d i (slice_index (tape subs) m) + 1) place_is
+    ∙ ap (λ n. leaf_of d i n + 1) (word_at (2 * trees_of d) ys back y (2 * i + 1) w.1 w.0 (omega arith)) in
     rw (turn y ys back) (
     ap (λ o. option_map_or (named_by d i subs) o 0) (greatest_below-suc (shares d i subs a) (length ys) ∙ ap (λ b. if b then Some (length ys) else greatest_below (shares d i subs a) (length ys)) own)
     ∙ elim (address_in d i (address_of y.command) == a) as (λ b. option_map_or (named_by d i subs) (if b then Some (length ys) else greatest_below (shares d i subs a) (length ys)) 0 ≡ option_map_or (λ s. leaf_of d i (slice_index s.words (2 * i + 1)) + 1) (cond b (Some y) (find (λ s. address_in d i (address_of s.command) == a) ys)) 0) [
@@ -77,8 +83,9 @@ leaf_by : (d : Sizes) (i : ℕ) (subs : List Submission) (x : Submission) (n nam
 leaf_by d i subs x n named None e spare = rw (sym e) (ap (leaf_of d i) spare)
 leaf_by d i subs x n named (Some k) e spare = rw (sym e) (grind (arith, nat_tests))
 
-pub leaf_shown : (d : Sizes) (i : ℕ) (old back : List Submission) (x : Submission) → i < trees_of d → HasWords (2 * trees_of d) old → length x.words ≡ 2 * trees_of d →
-    leaf_of d i (slice_index (tape (reverse old ++ x ∷ back)) (place d (addresses (reverse old ++ x ∷ back)) i (length old)))
+pub leaf_shown : (d : Sizes) (i : ℕ) (old back : List Submission) (x : Submission) → i < trees_of d
+    → HasWords (2 * trees_of d) old → length x.words ≡ 2 * trees_of d
+    → leaf_of d i (slice_index (tape (reverse old ++ x ∷ back)) (place d (addresses (reverse old ++ x ∷ back)) i (length old)))
     ≡ leaf_for d i (named_in d i old (address_in d i (address_of x.command))) x
 leaf_shown d i old back x few w size =
     let subs = reverse old ++ x ∷ back in
@@ -95,8 +102,9 @@ entry_by d xs words m n i f e t b =
     ∙ ap (λ (k : ℕ). record { fetch = f; tree = i; leaf = leaf_of d i (slice_index words (place d xs i k)) }) t
 
 -- entry r of ticket n: its tree, its ticket, and whether it is a fetch
-pub entry_is : (d : Sizes) (old back : List Submission) (x : Submission) (r : ℕ) → r < 2 * trees_of d → HasWords (2 * trees_of d) old → length x.words ≡ 2 * trees_of d →
-    entry d (addresses (reverse old ++ x ∷ back)) (tape (reverse old ++ x ∷ back)) (length old * (2 * trees_of d) + r)
+pub entry_is : (d : Sizes) (old back : List Submission) (x : Submission) (r : ℕ) → r < 2 * trees_of d
+    → HasWords (2 * trees_of d) old → length x.words ≡ 2 * trees_of d
+    → entry d (addresses (reverse old ++ x ∷ back)) (tape (reverse old ++ x ∷ back)) (length old * (2 * trees_of d) + r)
     ≡ record { fetch = r % 2 == 0; tree = stage_tree d r; leaf = leaf_for d (stage_tree d r) (named_in d (stage_tree d r) old (address_in d (stage_tree d r) (address_of x.command))) x }
 entry_is d old back x r few w size =
     let m = length old * (2 * trees_of d) + r in

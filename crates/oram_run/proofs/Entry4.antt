@@ -11,7 +11,9 @@ use Rattle.oram_run.proofs.Maps.{four_long}
 
 edit_is : (bytes : List ℕ) (j e : ℕ) → with_entry bytes j e ≡ put_mid (4 * j) 4 bytes (to_be_bytes w32 e)
 unfolding with_entry
-edit_is bytes j e = append_assoc (take (4 * j) bytes) (to_be_bytes w32 e) (drop (4 * j + 4) bytes) ∙ ap (λ xs. take (4 * j) bytes ++ (to_be_bytes w32 e ++ xs)) (sym (drop-drop 4 (4 * j) bytes))
+edit_is bytes j e =
+    append_assoc (take (4 * j) bytes) (to_be_bytes w32 e) (drop (4 * j + 4) bytes)
+    ∙ ap (λ xs. take (4 * j) bytes ++ (to_be_bytes w32 e ++ xs)) (sym (drop-drop 4 (4 * j) bytes))
 
 pub entry_here : (bytes : List ℕ) (j e : ℕ) → 4 * j + 4 ≤ length bytes → e < 2 ^ 32 → entry_in (with_entry bytes j e) j ≡ e
 unfolding entry_in
@@ -21,13 +23,16 @@ entry_here bytes j e fits small =
     ∙ ap (from_be_bytes w32) (between-put_mid (4 * j) 4 bytes (to_be_bytes w32 e) (4 * j + 4) (omega arith) four)
     ∙ from_be_bytes-to_be_bytes_4 e small
 
-part_same : (xs ys : List ℕ) (k : ℕ) → (take (4 * k + 4) xs ≡ take (4 * k + 4) ys) ⊎ (drop (4 * k) xs ≡ drop (4 * k) ys) → slice_range xs (4 * k) (4 * k + 4) ≡ slice_range ys (4 * k) (4 * k + 4)
+part_same : (xs ys : List ℕ) (k : ℕ) → (take (4 * k + 4) xs ≡ take (4 * k + 4) ys) ⊎ (drop (4 * k) xs ≡ drop (4 * k) ys)
+    → slice_range xs (4 * k) (4 * k + 4) ≡ slice_range ys (4 * k) (4 * k + 4)
 part_same xs ys k (inl front) =
     let whole : 4 * k + (4 * k + 4 - 4 * k) ≡ 4 * k + 4 = omega arith in
-    sym (drop-take (4 * k) (4 * k + 4 - 4 * k) xs) ∙ ap (λ n. drop (4 * k) (take n xs)) whole ∙ ap (drop (4 * k)) front ∙ sym (ap (λ n. drop (4 * k) (take n ys)) whole) ∙ drop-take (4 * k) (4 * k + 4 - 4 * k) ys
+    sym (drop-take (4 * k) (4 * k + 4 - 4 * k) xs) ∙ ap (λ n. drop (4 * k) (take n xs)) whole ∙ ap (drop (4 * k)) front
+    ∙ sym (ap (λ n. drop (4 * k) (take n ys)) whole) ∙ drop-take (4 * k) (4 * k + 4 - 4 * k) ys
 part_same xs ys k (inr back) = ap (take (4 * k + 4 - 4 * k)) back
 
-pub entry_there : (bytes : List ℕ) (j k e : ℕ) → 4 * j + 4 ≤ length bytes → k ≢ j → entry_in (with_entry bytes j e) k ≡ entry_in bytes k
+pub entry_there : (bytes : List ℕ) (j k e : ℕ) → 4 * j + 4 ≤ length bytes → k ≢ j
+    → entry_in (with_entry bytes j e) k ≡ entry_in bytes k
 unfolding entry_in
 entry_there bytes j k e fits ne =
     ap (λ xs. from_be_bytes w32 (slice_range xs (4 * k) (4 * k + 4))) (edit_is bytes j e)

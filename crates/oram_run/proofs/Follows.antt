@@ -46,7 +46,8 @@ pub record Working (v : Setting) (past : List Step) (old : List Submission) (s :
   pub asks : asked s.last ≡ entry_for v.shape.device old x s.stage
   pub older : List (List ℕ)
   pub latest : sent past ≡ s.last ∷ older
-  pub named : 0 < s.stage → s.stage + 1 < 2 * trees_of v.shape.device → s.named ≡ named_in v.shape.device (stage_tree v.shape.device (s.stage + 1)) old (block_of v.shape.device (stage_tree v.shape.device (s.stage + 1)) x)
+  pub named : 0 < s.stage → s.stage + 1 < 2 * trees_of v.shape.device
+      → s.named ≡ named_in v.shape.device (stage_tree v.shape.device (s.stage + 1)) old (block_of v.shape.device (stage_tree v.shape.device (s.stage + 1)) x)
   pub before : s.stage + 1 ≡ 2 * trees_of v.shape.device → s.before ≡ array_at v.shape.device old (address_of x.command)
 
 pub record Resting (s : State) : Type 0 where
@@ -69,7 +70,8 @@ pub record Live (v : Setting) (past : List Step) (old : List Submission) (s : St
   pub next : s.next ≡ length old + length s.queue
   pub nonce : s.nonce ≡ nonce_at v (progress v past).good
   pub sized : length s.table ≡ blocks_in v.shape.device (trees_of v.shape.device - 1)
-  pub table : (a : ℕ) → a < blocks_in v.shape.device (trees_of v.shape.device - 1) → slice_index s.table a ≡ named_in v.shape.device (trees_of v.shape.device - 1) (applied v.shape.device old s.queue s.stage (trees_of v.shape.device - 1)) a
+  pub table : (a : ℕ) → a < blocks_in v.shape.device (trees_of v.shape.device - 1)
+      → slice_index s.table a ≡ named_in v.shape.device (trees_of v.shape.device - 1) (applied v.shape.device old s.queue s.stage (trees_of v.shape.device - 1)) a
   pub work : AtWork v past old s s.queue
 
 -- a core that has failed
@@ -92,22 +94,30 @@ pub record Follows (v : Setting) (past : List Step) (s : State) : Type 0 where
 pub applied_none : (d : Sizes) (old queue : List Submission) (i : ℕ) → applied d old queue 0 i ≡ old
 unfolding applied
 applied_none d old [] i = refl
-applied_none d old (x ∷ rest) i = let no_less : nat_lt (2 * (trees_of d - 1 - i)) 0 ≡ false = grind (arith, nat_tests) in rw no_less refl
+applied_none d old (x ∷ rest) i =
+    let no_less : nat_lt (2 * (trees_of d - 1 - i)) 0 ≡ false = grind (arith, nat_tests) in
+    rw no_less refl
 
-pub applied_yes : (d : Sizes) (old rest : List Submission) (x : Submission) (r i : ℕ) → 2 * (trees_of d - 1 - i) < r → applied d old (x ∷ rest) r i ≡ x ∷ old
+pub applied_yes : (d : Sizes) (old rest : List Submission) (x : Submission) (r i : ℕ) → 2 * (trees_of d - 1 - i) < r
+    → applied d old (x ∷ rest) r i ≡ x ∷ old
 unfolding applied
 applied_yes d old rest x r i h = let less : nat_lt (2 * (trees_of d - 1 - i)) r ≡ true = grind (arith, nat_tests) in rw less refl
 
-pub applied_no : (d : Sizes) (old rest : List Submission) (x : Submission) (r i : ℕ) → r ≤ 2 * (trees_of d - 1 - i) → applied d old (x ∷ rest) r i ≡ old
+pub applied_no : (d : Sizes) (old rest : List Submission) (x : Submission) (r i : ℕ) → r ≤ 2 * (trees_of d - 1 - i)
+    → applied d old (x ∷ rest) r i ≡ old
 unfolding applied
 applied_no d old rest x r i h = let less : nat_lt (2 * (trees_of d - 1 - i)) r ≡ false = grind (arith, nat_tests) in rw less refl
 
 -- a good answer changes this for no tree but the one whose fetch it is to
-pub applied_same : (d : Sizes) (old rest : List Submission) (x : Submission) (r i : ℕ) → 2 * (trees_of d - 1 - i) ≢ r → applied d old (x ∷ rest) (r + 1) i ≡ applied d old (x ∷ rest) r i
+pub applied_same : (d : Sizes) (old rest : List Submission) (x : Submission) (r i : ℕ) → 2 * (trees_of d - 1 - i) ≢ r
+    → applied d old (x ∷ rest) (r + 1) i ≡ applied d old (x ∷ rest) r i
 unfolding applied
-applied_same d old rest x r i ne = let same : nat_lt (2 * (trees_of d - 1 - i)) (r + 1) ≡ nat_lt (2 * (trees_of d - 1 - i)) r = grind (arith, nat_tests) in rw same refl
+applied_same d old rest x r i ne =
+    let same : nat_lt (2 * (trees_of d - 1 - i)) (r + 1) ≡ nat_lt (2 * (trees_of d - 1 - i)) r = grind (arith, nat_tests) in
+    rw same refl
 
-accesses_is : (d : Sizes) (n r i : ℕ) → r < 2 * trees_of d → accesses d (n * (2 * trees_of d) + r) i ≡ n + (if nat_lt (2 * (trees_of d - 1 - i)) r then 1 else 0)
+accesses_is : (d : Sizes) (n r i : ℕ) → r < 2 * trees_of d
+    → accesses d (n * (2 * trees_of d) + r) i ≡ n + (if nat_lt (2 * (trees_of d - 1 - i)) r then 1 else 0)
 unfolding accesses
 accesses_is d n r i h =
     let tickets : (n * (2 * trees_of d) + r) / (2 * trees_of d) ≡ n = div-mul-add n (2 * trees_of d) r h in
@@ -118,7 +128,8 @@ take_old : (old queue : List Submission) (n : ℕ) → n ≡ length old → reve
 take_old old queue n e = ap reverse (take_at (reverse old) queue n (length-reverse old ∙ sym e)) ∙ reverse-reverse old
 
 -- the first commands are those with a reply, and the one at work once it is applied
-applied_is : (d : Sizes) (old queue : List Submission) (r i : ℕ) → (length queue ≡ 0 → r ≡ 0) → reverse (take (length old + (if nat_lt (2 * (trees_of d - 1 - i)) r then 1 else 0)) (reverse old ++ queue)) ≡ applied d old queue r i
+applied_is : (d : Sizes) (old queue : List Submission) (r i : ℕ) → (length queue ≡ 0 → r ≡ 0)
+    → reverse (take (length old + (if nat_lt (2 * (trees_of d - 1 - i)) r then 1 else 0)) (reverse old ++ queue)) ≡ applied d old queue r i
 unfolding applied
 applied_is d old [] r i idle =
     let none : nat_lt (2 * (trees_of d - 1 - i)) r ≡ false = let z : r ≡ 0 = idle refl in grind (arith, nat_tests) in
@@ -130,8 +141,10 @@ applied_is d old (x ∷ rest) r i idle =
     ]
 
 -- what each tree holds, where the submissions are split so
-pub content_split : (v : Setting) (past : List Step) (old queue : List Submission) (r i : ℕ) → (progress v past).good ≡ length old * (2 * trees_of v.shape.device) + r → accepted past ≡ reverse old ++ queue → r < 2 * trees_of v.shape.device → (length queue ≡ 0 → r ≡ 0) →
-    content_of v past i ≡ content_after v.shape.device i (applied v.shape.device old queue r i)
+pub content_split : (v : Setting) (past : List Step) (old queue : List Submission) (r i : ℕ)
+    → (progress v past).good ≡ length old * (2 * trees_of v.shape.device) + r → accepted past ≡ reverse old ++ queue
+    → r < 2 * trees_of v.shape.device → (length queue ≡ 0 → r ≡ 0)
+    → content_of v past i ≡ content_after v.shape.device i (applied v.shape.device old queue r i)
 content_split v past old queue r i good split few idle =
     let d = v.shape.device in
     ap (λ g. content_after d i (reverse (take (accesses d g i) (accepted past)))) good
@@ -139,11 +152,16 @@ content_split v past old queue r i good split few idle =
     ∙ ap (λ n. content_after d i (reverse (take n (reverse old ++ queue)))) (accesses_is d (length old) r i few)
     ∙ ap (content_after d i) (applied_is d old queue r i idle)
 
-pub stage_few : (v : Setting) (past : List Step) (old : List Submission) (s : State) (queue : List Submission) → IsFit v.shape.device → AtWork v past old s queue → (s.stage < 2 * trees_of v.shape.device) × (length queue ≡ 0 → s.stage ≡ 0)
-stage_few v past old s [] fit w = (let z : s.stage ≡ 0 = w.stage in let some : 0 < trees_of v.shape.device = fit.some in omega arith, λ e. w.stage)
+pub stage_few : (v : Setting) (past : List Step) (old : List Submission) (s : State) (queue : List Submission)
+    → IsFit v.shape.device → AtWork v past old s queue
+    → (s.stage < 2 * trees_of v.shape.device) × (length queue ≡ 0 → s.stage ≡ 0)
+stage_few v past old s [] fit w =
+    (let z : s.stage ≡ 0 = w.stage in let some : 0 < trees_of v.shape.device = fit.some in omega arith, λ e. w.stage)
 stage_few v past old s (x ∷ rest) fit w = (w.stage, λ e. absurd (omega arith))
 
-pub content_is : (v : Setting) (past : List Step) (old : List Submission) (s : State) (i : ℕ) → IsFit v.shape.device → Live v past old s → content_of v past i ≡ content_after v.shape.device i (applied v.shape.device old s.queue s.stage i)
+pub content_is : (v : Setting) (past : List Step) (old : List Submission) (s : State) (i : ℕ) → IsFit v.shape.device
+    → Live v past old s
+    → content_of v past i ≡ content_after v.shape.device i (applied v.shape.device old s.queue s.stage i)
 content_is v past old s i fit l =
     let few = stage_few v past old s s.queue fit l.work in
     content_split v past old s.queue s.stage i l.good l.split few.0 few.1

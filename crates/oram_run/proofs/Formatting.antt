@@ -48,10 +48,12 @@ module _ (depth size : ℕ) (root : List ℕ) (records others : ℕ → List ℕ
     leaves = λ n low below. subst (λ (r : List ℕ). HoldsDigests r no_digest no_digest) (same n below) (s.leaves n low below);
   }
 
-  back : (reads : List ℕ → List Cell → Type 0) (n : ℕ) (c : Cell) → n < node_count depth → HoldsBlock reads (others n) c → HoldsBlock reads (records n) c
+  back : (reads : List ℕ → List Cell → Type 0) (n : ℕ) (c : Cell) → n < node_count depth → HoldsBlock reads (others n) c
+      → HoldsBlock reads (records n) c
   back reads n c below h = subst (λ (r : List ℕ). HoldsBlock reads r c) (sym (same n below)) h
 
-  content_over : (reads : List ℕ → List Cell → Type 0) (stash : List Cell) (content : Map) → HasContent reads depth records stash content → HasContent reads depth others stash content
+  content_over : (reads : List ℕ → List Cell → Type 0) (stash : List Cell) (content : Map)
+      → HasContent reads depth records stash content → HasContent reads depth others stash content
   content_over reads stash content h = record {
     readable = λ n below. subst (λ (r : List ℕ). (cells : List Cell) × reads (sealed_part r) cells) (same n below) (h.readable n below);
     on_own_path = λ n c below holds. h.on_own_path n c below (back reads n c below holds);
@@ -66,8 +68,9 @@ module _ (depth size : ℕ) (root : List ℕ) (records others : ℕ → List ℕ
     ];
   }
 
-pub stored_with_over : (opening : List ℕ → Option (List ℕ)) (overhead : ℕ) (d : Sizes) (t : Tree) (records others : ℕ → List ℕ) (content : Map) → ((n : ℕ) → n < node_count (depth_of d t.number) → records n ≡ others n) →
-    IsStoredWith opening overhead d t records content → IsStoredWith opening overhead d t others content
+pub stored_with_over : (opening : List ℕ → Option (List ℕ)) (overhead : ℕ) (d : Sizes) (t : Tree)
+    (records others : ℕ → List ℕ) (content : Map) → ((n : ℕ) → n < node_count (depth_of d t.number) → records n ≡ others n)
+    → IsStoredWith opening overhead d t records content → IsStoredWith opening overhead d t others content
 stored_with_over opening overhead d t records others content same s = record {
   stands = stored_over (depth_of d t.number) (record_len_of d overhead) t.root records others same s.stands;
   holds = content_over (depth_of d t.number) (record_len_of d overhead) t.root records others same (Reads opening d t.number) t.stash content s.holds;
@@ -75,7 +78,8 @@ stored_with_over opening overhead d t records others content same s = record {
 
 -- the messages of one tree leave its records at its nodes, and nothing in other trees
 
-each_part : (v : Shape) (j i n : ℕ) (r : List ℕ) (tree : Tree) (bodies : List (List ℕ)) (made : IsTreeMade v j tree bodies) → (j ≡ i → made.made.records n ≡ r) → Each (LeavesAtMost v i n r) bodies
+each_part : (v : Shape) (j i n : ℕ) (r : List ℕ) (tree : Tree) (bodies : List (List ℕ)) (made : IsTreeMade v j tree bodies)
+    → (j ≡ i → made.made.records n ≡ r) → Each (LeavesAtMost v i n r) bodies
 each_part v j i n r tree bodies made is =
     let m = made.made in
     let k : ℕ = tree.number in
@@ -84,7 +88,8 @@ each_part v j i n r tree bodies made is =
       each_put (LeavesAtMost v i n r) (λ q. put_body k q (m.records q)) (depth_of v.device k) (depth_small v.device k) (λ q small. put_leaves v k q i n m.records r small (λ e. is (sym made.number ∙ e))),
     )
 
-some_part : (v : Shape) (i n : ℕ) (tree : Tree) (bodies : List (List ℕ)) (made : IsTreeMade v i tree bodies) → n < node_count (depth_of v.device i) → Some1 (Leaves v i n (made.made.records n)) bodies
+some_part : (v : Shape) (i n : ℕ) (tree : Tree) (bodies : List (List ℕ)) (made : IsTreeMade v i tree bodies)
+    → n < node_count (depth_of v.device i) → Some1 (Leaves v i n (made.made.records n)) bodies
 some_part v i n tree bodies made below =
     let m = made.made in
     let k : ℕ = tree.number in
@@ -94,21 +99,28 @@ some_part v i n tree bodies made below =
     (ap (λ t. written v (put_body t n (m.records n)) i n) made.number ∙ put_here v i n (m.records n) small)))
   where
     below_most : (depth : ℕ) → depth ≤ 24 → node_count depth ≤ 2 ^ 25
-    below_most depth few = let most : 2 ^ depth ≤ 2 ^ 24 = pow-le-pow_right {n = 2} (omega arith) {i = depth} {j = 24} few in omega (arith, pow-add 2 depth 1)
+    below_most depth few =
+        let most : 2 ^ depth ≤ 2 ^ 24 = pow-le-pow_right {n = 2} (omega arith) {i = depth} {j = 24} few in
+        omega (arith, pow-add 2 depth 1)
 
 -- so do the messages of all trees
 
-each_joined : {X : Type 0} (P : X → Type 0) (parts : List (List X)) → ((k : ℕ) → k < length parts → Each P (slice_index_or parts k [])) → Each P (flat_map (λ part. part) parts)
+each_joined : {X : Type 0} (P : X → Type 0) (parts : List (List X))
+    → ((k : ℕ) → k < length parts → Each P (slice_index_or parts k [])) → Each P (flat_map (λ part. part) parts)
 each_joined P [] h = tt
-each_joined P (part ∷ parts) h = each_append P part (flat_map (λ part. part) parts) (h 0 (omega arith)) (each_joined P parts (λ k below. h (suc k) (omega arith)))
+each_joined P (part ∷ parts) h =
+    each_append P part (flat_map (λ part. part) parts) (h 0 (omega arith)) (each_joined P parts (λ k below. h (suc k) (omega arith)))
 
-some_joined : {X : Type 0} (P : X → Type 0) (parts : List (List X)) (k : ℕ) → k < length parts → Some1 P (slice_index_or parts k []) → Some1 P (flat_map (λ part. part) parts)
+some_joined : {X : Type 0} (P : X → Type 0) (parts : List (List X)) (k : ℕ) → k < length parts
+    → Some1 P (slice_index_or parts k []) → Some1 P (flat_map (λ part. part) parts)
 some_joined P [] k below h = absurd (omega arith)
 some_joined P (part ∷ parts) zero below h = some_left P part (flat_map (λ part. part) parts) h
-some_joined P (part ∷ parts) (suc k) below h = some_right P part (flat_map (λ part. part) parts) (some_joined P parts k (omega arith) h)
+some_joined P (part ∷ parts) (suc k) below h =
+    some_right P part (flat_map (λ part. part) parts) (some_joined P parts k (omega arith) h)
 
-left_there : (v : Shape) (n : ℕ) (trees : List Tree) (messages : List (List ℕ)) (made : AreTreesMade v n trees messages) (i m : ℕ) (below : i < n) → m < node_count (depth_of v.device i) →
-    last_stored v (reverse messages) i m ≡ (made.each i below).made.records m
+left_there : (v : Shape) (n : ℕ) (trees : List Tree) (messages : List (List ℕ)) (made : AreTreesMade v n trees messages)
+    (i m : ℕ) (below : i < n) → m < node_count (depth_of v.device i)
+    → last_stored v (reverse messages) i m ≡ (made.each i below).made.records m
 left_there v n trees messages made i m below small =
     let r : List ℕ = (made.each i below).made.records m in
     let tree : ℕ → Tree = λ k. slice_index_or trees k no_tree in
@@ -125,7 +137,8 @@ left_there v n trees messages made i m below small =
 -- before any access a tree holds no block
 pub empty_content : (v : Setting) (i : ℕ) → content_of v [] i ≡ no_blocks
 unfolding accepted content_after
-empty_content v i = fun_ext (λ a. ap (λ xs. content_after v.shape.device i (reverse xs) a) (take-nil (accesses v.shape.device (progress v []).good i)))
+empty_content v i =
+    fun_ext (λ a. ap (λ xs. content_after v.shape.device i (reverse xs) a) (take-nil (accesses v.shape.device (progress v []).good i)))
 
 -- A device just formatted: each tree stands over what was last stored.
 pub formatted_holds : (v : Setting) (trees : List Tree) → IsFormatted v trees → Holds v.shape (new_state v trees) (world_of v [])
@@ -135,7 +148,8 @@ formatted_holds v trees made i below =
     let one : IsTreeMade v.shape i tree (slice_index_or made.parts i []) = made.each i below in
     subst (λ (content : Map). Stands v.shape i tree (records_of v [] i) content) (sym (empty_content v i)) (record {
       number = one.number;
-      stored = stored_with_over v.shape.opening v.shape.overhead v.shape.device tree one.made.records (records_of v [] i) no_blocks
+      stored =
+          stored_with_over v.shape.opening v.shape.overhead v.shape.device tree one.made.records (records_of v [] i) no_blocks
           (λ n small. sym (left_there v.shape (trees_of v.shape.device) trees v.format made i n below (subst (λ (k : ℕ). n < node_count (depth_of v.shape.device k)) one.number small)))
           one.made.empty;
     })
@@ -145,13 +159,17 @@ formatted_holds v trees made i below =
 pub no_trees_made : (v : Shape) → AreTreesMade v 0 [] []
 no_trees_made v = record { parts = []; joined = refl; trees_count = refl; parts_count = refl; each = λ i below. absurd (omega arith) }
 
-pub one_more_made : (v : Shape) (n : ℕ) (trees : List Tree) (messages bodies : List (List ℕ)) (tree : Tree) → AreTreesMade v n trees messages → IsTreeMade v n tree bodies → AreTreesMade v (n + 1) (trees ++ tree ∷ []) (messages ++ bodies)
+pub one_more_made : (v : Shape) (n : ℕ) (trees : List Tree) (messages bodies : List (List ℕ)) (tree : Tree)
+    → AreTreesMade v n trees messages → IsTreeMade v n tree bodies
+    → AreTreesMade v (n + 1) (trees ++ tree ∷ []) (messages ++ bodies)
 one_more_made v n trees messages bodies tree made one =
     let kept : length trees ≡ n = made.trees_count in
     let few : length made.parts ≡ n = made.parts_count in
     record {
       parts = made.parts ++ bodies ∷ [];
-      joined = ap (λ ms. ms ++ bodies) made.joined ∙ ap (λ ms. flat_map (λ part. part) made.parts ++ ms) (sym (append-nil bodies)) ∙ sym (flat_map-append (λ part. part) made.parts (bodies ∷ []));
+      joined = ap (λ ms. ms ++ bodies) made.joined
+          ∙ ap (λ ms. flat_map (λ part. part) made.parts ++ ms) (sym (append-nil bodies))
+          ∙ sym (flat_map-append (λ part. part) made.parts (bodies ∷ []));
       trees_count = length-append trees (tree ∷ []) ∙ omega arith;
       parts_count = length-append made.parts (bodies ∷ []) ∙ omega arith;
       each = λ i below. elim (cases_eq i n) [

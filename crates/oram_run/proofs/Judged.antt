@@ -26,7 +26,8 @@ pub bytes_differ : (xs ys : List ℕ) → xs ≢ ys → bytes_eq xs ys ≡ false
 bytes_differ xs ys ne = elim (bytes_eq xs ys) as (λ b. (b ≡ true → xs ≡ ys) → b ≡ false) [ true ↦ λ h. absurd (ne (h refl)) | false ↦ λ h. refl ] (bytes_eq-Decides xs ys).0
 
 -- the first number of a range that passes
-first_in : (p : ℕ → Bool) (a n l : ℕ) → a ≤ l → l < a + n → ((k : ℕ) → a ≤ k → k < l → p k ≡ false) → p l ≡ true → find p (range_with_len a n) ≡ Some l
+first_in : (p : ℕ → Bool) (a n l : ℕ) → a ≤ l → l < a + n → ((k : ℕ) → a ≤ k → k < l → p k ≡ false) → p l ≡ true
+    → find p (range_with_len a n) ≡ Some l
 first_in p a zero l low high before here = absurd (omega arith)
 first_in p a (suc n) l low high before here = elim (cases_eq a l) [
   | inl same ↦ ap (λ b. cond b (Some a) (find p (range_with_len (a + 1) n))) (ap p same ∙ here) ∙ ap (λ (k : ℕ). Some k) same
@@ -41,26 +42,33 @@ first_is records p l h =
     (ap not (bytes_differ _ _ h.differs))
 
 -- two records of one digest are seen
-pub pair_is : (v : Shape) (records : ℕ → ℕ → List ℕ) (e : Entry) (bytes : List ℕ) → is_payload v e bytes ≡ true → Collides (records e.tree) (answered_path v e bytes) → pair_in v records e bytes ≡ true
+pub pair_is : (v : Shape) (records : ℕ → ℕ → List ℕ) (e : Entry) (bytes : List ℕ) → is_payload v e bytes ≡ true
+    → Collides (records e.tree) (answered_path v e bytes) → pair_in v records e bytes ≡ true
 unfolding pair_in
-pair_is v records e bytes payload h = rw (payload, first_is (records e.tree) (answered_path v e bytes) h.0 h.1) (bytes_same _ _ h.2)
+pair_is v records e bytes payload h =
+    rw (payload, first_is (records e.tree) (answered_path v e bytes) h.0 h.1) (bytes_same _ _ h.2)
 
 no_bytes : (xs : List ℕ) → length xs ≡ 0 → xs ≡ []
 no_bytes [] e = refl
 no_bytes (x ∷ xs) e = absurd (omega arith)
 
 -- bytes that are cut into equal parts
-chunks : (size : ℕ) (f : ℕ → List ℕ) (bytes : List ℕ) (a n : ℕ) → length (drop (a * size) bytes) ≡ n * size → ((k : ℕ) → a ≤ k → k < a + n → take size (drop (k * size) bytes) ≡ f k) → drop (a * size) bytes ≡ flat_map f (range_with_len a n)
+chunks : (size : ℕ) (f : ℕ → List ℕ) (bytes : List ℕ) (a n : ℕ) → length (drop (a * size) bytes) ≡ n * size
+    → ((k : ℕ) → a ≤ k → k < a + n → take size (drop (k * size) bytes) ≡ f k)
+    → drop (a * size) bytes ≡ flat_map f (range_with_len a n)
 chunks size f bytes a zero long h = no_bytes (drop (a * size) bytes) (long ∙ omega arith)
 chunks size f bytes a (suc n) long h =
-    let next : drop size (drop (a * size) bytes) ≡ drop ((a + 1) * size) bytes = drop-drop size (a * size) bytes ∙ ap (λ k. drop k bytes) (omega arith) in
-    let rest : length (drop ((a + 1) * size) bytes) ≡ n * size = sym (ap length next) ∙ length-drop size (drop (a * size) bytes) ∙ omega arith in
+    let next : drop size (drop (a * size) bytes) ≡ drop ((a + 1) * size) bytes =
+    drop-drop size (a * size) bytes ∙ ap (λ k. drop k bytes) (omega arith) in
+    let rest : length (drop ((a + 1) * size) bytes) ≡ n * size =
+    sym (ap length next) ∙ length-drop size (drop (a * size) bytes) ∙ omega arith in
     sym (take-append-drop size (drop (a * size) bytes))
     ∙ ap (λ xs. xs ++ drop size (drop (a * size) bytes)) (h a (omega arith) (omega arith))
     ∙ ap (λ xs. f a ++ xs) (next ∙ chunks size f bytes (a + 1) n rest (λ k low high. h k (omega arith) (omega arith)))
 
 -- and a part of them
-chunk_at : (size : ℕ) (f : ℕ → List ℕ) (a n j : ℕ) → j < n → ((b : ℕ) → a ≤ b → b < a + n → length (f b) ≡ size) → take size (drop (j * size) (flat_map f (range_with_len a n))) ≡ f (a + j)
+chunk_at : (size : ℕ) (f : ℕ → List ℕ) (a n j : ℕ) → j < n → ((b : ℕ) → a ≤ b → b < a + n → length (f b) ≡ size)
+    → take size (drop (j * size) (flat_map f (range_with_len a n))) ≡ f (a + j)
 chunk_at size f a zero j below h = absurd (omega arith)
 chunk_at size f a (suc n) zero below h =
     let none : 0 * size ≡ 0 = omega arith in
@@ -76,7 +84,8 @@ chunk_at size f a (suc n) (suc j) below h =
     ∙ chunk_at size f (a + 1) n j (omega arith) (λ b low high. h b (omega arith) (omega arith)) ∙ ap f next
 
 -- how long they are together
-pub length_chunks : (size : ℕ) (f : ℕ → List ℕ) (a n : ℕ) → ((b : ℕ) → a ≤ b → b < a + n → length (f b) ≡ size) → length (flat_map f (range_with_len a n)) ≡ n * size
+pub length_chunks : (size : ℕ) (f : ℕ → List ℕ) (a n : ℕ) → ((b : ℕ) → a ≤ b → b < a + n → length (f b) ≡ size)
+    → length (flat_map f (range_with_len a n)) ≡ n * size
 length_chunks size f a zero h = omega arith
 length_chunks size f a (suc n) h =
     length-append (f a) (flat_map f (range_with_len (a + 1) n))
@@ -91,10 +100,13 @@ both_true true b e = (refl, e)
 both_true false b e = (e, absurd (let no_way : false ≡ true = e in cc))
 
 pub headed_room : (bytes : List ℕ) → slice_index bytes 0 ≡ 128 → bytes_eq bytes (129 ∷ 8 ∷ []) ≡ false
-headed_room bytes e = bytes_differ bytes (129 ∷ 8 ∷ []) (λ same. absurd (let first : slice_index bytes 0 ≡ 129 = ap (λ xs. slice_index xs 0) same in omega arith))
+headed_room bytes e =
+    bytes_differ bytes (129 ∷ 8 ∷ []) (λ same. absurd (let first : slice_index bytes 0 ≡ 129 = ap (λ xs. slice_index xs 0) same in omega arith))
 
 pub headed_refusal : (bytes : List ℕ) → slice_index bytes 0 ≡ 128 → is_refusal bytes ≡ false
-headed_refusal bytes e = let other : (slice_index bytes 0 == 129) ≡ false = grind (arith, nat_tests) in elim (length bytes == 2) as (λ b. (b && (slice_index bytes 0 == 129) && nat_le 1 (slice_index bytes 1) && nat_le (slice_index bytes 1) 7) ≡ false) [ true ↦ rw other refl | false ↦ refl ]
+headed_refusal bytes e =
+    let other : (slice_index bytes 0 == 129) ≡ false = grind (arith, nat_tests) in
+    elim (length bytes == 2) as (λ b. (b && (slice_index bytes 0 == 129) && nat_le 1 (slice_index bytes 1) && nat_le (slice_index bytes 1) 7) ≡ false) [ true ↦ rw other refl | false ↦ refl ]
 
 -- what a payload is
 pub record IsPayload (v : Shape) (e : Entry) (bytes : List ℕ) : Type 0 where
@@ -111,7 +123,8 @@ payload_is v e bytes payload =
     record { fetches = inner.0; head = grind (arith, nat_tests, inner.1); whole = length-drop 1 bytes ∙ omega arith }
 
 -- an answer whose records are those that stand there is good
-pub good_is : (v : Shape) (records : ℕ → ℕ → List ℕ) (e : Entry) (bytes : List ℕ) → is_payload v e bytes ≡ true → IsPathOf (records e.tree) (answered_path v e bytes) → outcome_of v records e bytes ≡ Good
+pub good_is : (v : Shape) (records : ℕ → ℕ → List ℕ) (e : Entry) (bytes : List ℕ) → is_payload v e bytes ≡ true
+    → IsPathOf (records e.tree) (answered_path v e bytes) → outcome_of v records e bytes ≡ Good
 unfolding outcome_of good_answer path_in record_at
 good_is v records e bytes payload same =
     let deep : ℕ = depth_of v.device e.tree in
@@ -123,7 +136,9 @@ good_is v records e bytes payload same =
     (ap (λ k. length (drop k (drop 1 bytes))) none ∙ is.whole)
     (λ k low high. same k (omega arith)) in
     let tail : drop 1 bytes ≡ flat_map f (levels deep) = sym (ap (λ k. drop k (drop 1 bytes)) none) ∙ whole in
-    let good : bytes ≡ 128 ∷ (if e.fetch then flat_map f (levels deep) else []) = headed bytes is.head ∙ ap (λ xs. 128 ∷ xs) tail ∙ sym (ap (λ (b : Bool). 128 ∷ (if b then flat_map f (levels deep) else [])) is.fetches) in
+    let good : bytes ≡ 128 ∷ (if e.fetch then flat_map f (levels deep) else []) =
+    headed bytes is.head ∙ ap (λ xs. 128 ∷ xs) tail
+    ∙ sym (ap (λ (b : Bool). 128 ∷ (if b then flat_map f (levels deep) else [])) is.fetches) in
     ap (λ b. if b then Good else if bytes_eq bytes (129 ∷ 8 ∷ []) then NoRoom else Fails (reason_for v records e bytes)) (bytes_same _ _ good)
 
 -- whether a payload has those records or not: both directions, over a stored tree
@@ -132,7 +147,8 @@ pow_up : (depth : ℕ) → 2 ^ depth ≤ 2 ^ (depth + 1)
 pow_up depth = omega (arith, pow-add 2 depth 1)
 
 -- the records of a path of a stored tree are as long as records are
-pub path_lengths : (depth size leaf : ℕ) (root : List ℕ) (records : ℕ → List ℕ) → IsStored depth size root records → leaf < 2 ^ depth → (l : ℕ) → l ≤ depth → length (records (node_on depth leaf l)) ≡ size
+pub path_lengths : (depth size leaf : ℕ) (root : List ℕ) (records : ℕ → List ℕ) → IsStored depth size root records
+    → leaf < 2 ^ depth → (l : ℕ) → l ≤ depth → length (records (node_on depth leaf l)) ≡ size
 path_lengths depth size leaf root records stored fits l below =
     stored.lengths (node_on depth leaf l) (elim (cases_eq l depth) [
       | inl last ↦ omega (arith, (node_on-leaf depth leaf fits).1, ap (node_on depth leaf) last)
@@ -148,15 +164,18 @@ not_good v records e bytes l fetch lengths other same =
     let deep : ℕ = depth_of v.device e.tree in
     let f : ℕ → List ℕ = λ k. records e.tree (node_on deep e.leaf k) in
     let within : l ≤ deep = other.within in
-    let tail : drop 1 bytes ≡ flat_map f (levels deep) = ap (drop 1) same ∙ ap (λ (b : Bool). drop 1 (128 ∷ (if b then flat_map f (levels deep) else []))) fetch in
+    let tail : drop 1 bytes ≡ flat_map f (levels deep) =
+    ap (drop 1) same ∙ ap (λ (b : Bool). drop 1 (128 ∷ (if b then flat_map f (levels deep) else []))) fetch in
     other.differs (ap (λ xs. take (record_len v) (drop (l * record_len v) xs)) tail ∙ chunk_at (record_len v) f 0 (deep + 1) l (omega arith) (λ b low high. lengths b (omega arith)) ∙ ap f (let z : 0 + l ≡ l = omega arith in z))
 
 -- a payload whose first record that isn't the one that stands there is at this level fails the device so
-pub other_is : (v : Shape) (records : ℕ → ℕ → List ℕ) (e : Entry) (bytes : List ℕ) (l : ℕ) (root : List ℕ) → is_payload v e bytes ≡ true → e.leaf < 2 ^ depth_of v.device e.tree →
-    IsStored (depth_of v.device e.tree) (record_len v) root (records e.tree) → IsFirstOther (records e.tree) (answered_path v e bytes) l →
-    outcome_of v records e bytes ≡ Fails (Tampered e.tree l)
+pub other_is : (v : Shape) (records : ℕ → ℕ → List ℕ) (e : Entry) (bytes : List ℕ) (l : ℕ) (root : List ℕ)
+    → is_payload v e bytes ≡ true → e.leaf < 2 ^ depth_of v.device e.tree
+    → IsStored (depth_of v.device e.tree) (record_len v) root (records e.tree)
+    → IsFirstOther (records e.tree) (answered_path v e bytes) l → outcome_of v records e bytes ≡ Fails (Tampered e.tree l)
 unfolding outcome_of
 other_is v records e bytes l root payload fits stored other =
     let is : IsPayload v e bytes = payload_is v e bytes payload in
-    let bad : bytes_eq bytes (good_answer v records e) ≡ false = bytes_differ _ _ (not_good v records e bytes l is.fetches (path_lengths (depth_of v.device e.tree) (record_len v) e.leaf root (records e.tree) stored fits) other) in
+    let bad : bytes_eq bytes (good_answer v records e) ≡ false =
+    bytes_differ _ _ (not_good v records e bytes l is.fetches (path_lengths (depth_of v.device e.tree) (record_len v) e.leaf root (records e.tree) stored fits) other) in
     rw (bad, headed_room bytes is.head, headed_refusal bytes is.head, payload, first_is (records e.tree) (answered_path v e bytes) l other) refl

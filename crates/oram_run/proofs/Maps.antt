@@ -29,23 +29,32 @@ pub own_block : (d : Sizes) (x : Submission) → block_of d 0 x ≡ address_of x
 own_block d x = address_in-zero d (address_of x.command)
 
 -- the place of a block under its map block
-under : (d : Sizes) (i : ℕ) (x : Submission) → HasEntries d → block_of d (suc i) x * fanout d + block_of d i x % fanout d ≡ block_of d i x
+under : (d : Sizes) (i : ℕ) (x : Submission) → HasEntries d
+    → block_of d (suc i) x * fanout d + block_of d i x % fanout d ≡ block_of d i x
 under d i x h = ap (λ n. n * fanout d + block_of d i x % fanout d) (above d i x) ∙ div-add-mod' (block_of d i x) (fanout d)
 
 -- no leaf is 2 ^ 24 or more
 pub leaf_small : (d : Sizes) (i w : ℕ) → (leaf_of d i w < 2 ^ depth_of d i) × (2 ^ depth_of d i ≤ 2 ^ 24)
-leaf_small d i w = (mod_below w (2 ^ depth_of d i) (pow_pos (depth_of d i)), pow-le-pow_right {n = 2} (omega arith) {i = depth_of d i} {j = 24} (depth_small d i))
+leaf_small d i w =
+    (mod_below w (2 ^ depth_of d i) (pow_pos (depth_of d i)), pow-le-pow_right {n = 2} (omega arith) {i = depth_of d i} {j = 24} (depth_small d i))
 
-named_cons : (d : Sizes) (i : ℕ) (x : Submission) (old : List Submission) (b : ℕ) → named_in d i (x ∷ old) b ≡ option_map_or (λ s. new_leaf d i s + 1) (cond (block_of d i x == b) (Some x) (newest_in d i old b)) 0
+named_cons : (d : Sizes) (i : ℕ) (x : Submission) (old : List Submission) (b : ℕ)
+    → named_in d i (x ∷ old) b ≡ option_map_or (λ s. new_leaf d i s + 1) (cond (block_of d i x == b) (Some x) (newest_in d i old b)) 0
 unfolding named_in
 named_cons d i x old b = refl
 
-pub named_here : (d : Sizes) (i : ℕ) (x : Submission) (old : List Submission) (b : ℕ) → b ≡ block_of d i x → named_in d i (x ∷ old) b ≡ new_leaf d i x + 1
-named_here d i x old b e = let same : (block_of d i x == b) ≡ true = grind (arith, nat_tests) in named_cons d i x old b ∙ ap (λ t. option_map_or (λ s. new_leaf d i s + 1) (cond t (Some x) (newest_in d i old b)) 0) same
+pub named_here : (d : Sizes) (i : ℕ) (x : Submission) (old : List Submission) (b : ℕ) → b ≡ block_of d i x
+    → named_in d i (x ∷ old) b ≡ new_leaf d i x + 1
+named_here d i x old b e =
+    let same : (block_of d i x == b) ≡ true = grind (arith, nat_tests) in
+    named_cons d i x old b ∙ ap (λ t. option_map_or (λ s. new_leaf d i s + 1) (cond t (Some x) (newest_in d i old b)) 0) same
 
-pub named_there : (d : Sizes) (i : ℕ) (x : Submission) (old : List Submission) (b : ℕ) → b ≢ block_of d i x → named_in d i (x ∷ old) b ≡ named_in d i old b
+pub named_there : (d : Sizes) (i : ℕ) (x : Submission) (old : List Submission) (b : ℕ) → b ≢ block_of d i x
+    → named_in d i (x ∷ old) b ≡ named_in d i old b
 unfolding named_in
-named_there d i x old b ne = let other : (block_of d i x == b) ≡ false = grind (arith, nat_tests) in named_cons d i x old b ∙ ap (λ t. option_map_or (λ s. new_leaf d i s + 1) (cond t (Some x) (newest_in d i old b)) 0) other
+named_there d i x old b ne =
+    let other : (block_of d i x == b) ≡ false = grind (arith, nat_tests) in
+    named_cons d i x old b ∙ ap (λ t. option_map_or (λ s. new_leaf d i s + 1) (cond t (Some x) (newest_in d i old b)) 0) other
 
 pub named_range : (d : Sizes) (i : ℕ) (old : List Submission) (b : ℕ) → named_in d i old b ≤ 2 ^ depth_of d i
 unfolding named_in
@@ -58,7 +67,8 @@ named_small : (d : Sizes) (i : ℕ) (old : List Submission) (b : ℕ) → named_
 named_small d i old b = omega (arith, named_range d i old b, (leaf_small d i 0).1)
 
 -- a block that no submission lies in has no block below that one lies in
-none_below : (d : Sizes) (i : ℕ) (old : List Submission) (a b : ℕ) → HasEntries d → newest_in d (suc i) old a ≡ None → a * fanout d ≤ b → b < a * fanout d + fanout d → named_in d i old b ≡ 0
+none_below : (d : Sizes) (i : ℕ) (old : List Submission) (a b : ℕ) → HasEntries d → newest_in d (suc i) old a ≡ None
+    → a * fanout d ≤ b → b < a * fanout d + fanout d → named_in d i old b ≡ 0
 unfolding named_in
 none_below d i [] a b h e low high = refl
 none_below d i (y ∷ old) a b h e low high =
@@ -82,11 +92,13 @@ not_written : (c : Command) (a : ℕ) → address_of c ≢ a → writes_to a c �
 not_written (Read b) a ne = refl
 not_written (Write b bytes) a ne = grind (arith, nat_tests)
 
-array_there : (d : Sizes) (y : Submission) (old : List Submission) (a : ℕ) → writes_to a y.command ≡ false → array_at d (y ∷ old) a ≡ array_at d old a
+array_there : (d : Sizes) (y : Submission) (old : List Submission) (a : ℕ) → writes_to a y.command ≡ false
+    → array_at d (y ∷ old) a ≡ array_at d old a
 array_there d y old a e = ap (λ t. bytes_written d.block_bytes (cond t (Some y) (find (λ s. writes_to a s.command) old))) e
 
 -- nobody writes to a block that no submission lies in
-array_none : (d : Sizes) (old : List Submission) (a : ℕ) → newest_in d 0 old a ≡ None → array_at d old a ≡ replicate d.block_bytes 0
+array_none : (d : Sizes) (old : List Submission) (a : ℕ) → newest_in d 0 old a ≡ None
+    → array_at d old a ≡ replicate d.block_bytes 0
 array_none d [] a e = refl
 array_none d (y ∷ old) a e =
     elim (eqb_tells (block_of d 0 y) a) [
@@ -96,11 +108,13 @@ array_none d (y ∷ old) a e =
           array_there d y old a (not_written y.command a (λ same. f.1 (own_block d y ∙ same))) ∙ array_none d old a rest
     ]
 
-zero_case : (d : Sizes) (old : List Submission) (a : ℕ) → newest_in d 0 old a ≡ None → replicate d.block_bytes 0 ≡ data_in d 0 old a
+zero_case : (d : Sizes) (old : List Submission) (a : ℕ) → newest_in d 0 old a ≡ None
+    → replicate d.block_bytes 0 ≡ data_in d 0 old a
 unfolding data_in
 zero_case d old a e = sym (array_none d old a e)
 
-map_case : (d : Sizes) (i : ℕ) (old : List Submission) (a : ℕ) → HasEntries d → newest_in d (suc i) old a ≡ None → replicate d.block_bytes 0 ≡ data_in d (suc i) old a
+map_case : (d : Sizes) (i : ℕ) (old : List Submission) (a : ℕ) → HasEntries d → newest_in d (suc i) old a ≡ None
+    → replicate d.block_bytes 0 ≡ data_in d (suc i) old a
 unfolding data_in
 map_case d i old a h e =
     ap (λ n. replicate n 0) h.whole
@@ -113,12 +127,14 @@ found_by d i old a (Some s) h e = refl
 found_by d zero old a None h e = zero_case d old a e
 found_by d (suc i) old a None h e = map_case d i old a h e
 
-pub found_is : (d : Sizes) (i : ℕ) (old : List Submission) (a : ℕ) → HasEntries d → found_in d (content_after d i old a) ≡ data_in d i old a
+pub found_is : (d : Sizes) (i : ℕ) (old : List Submission) (a : ℕ) → HasEntries d
+    → found_in d (content_after d i old a) ≡ data_in d i old a
 unfolding content_after
 found_is d i old a h = found_by d i old a (newest_in d i old a) h refl
 
 -- what a map block names
-pub next_is : (d : Sizes) (i : ℕ) (old : List Submission) (x : Submission) → HasEntries d → next_named d (suc i) x (data_in d (suc i) old (block_of d (suc i) x)) ≡ named_in d i old (block_of d i x)
+pub next_is : (d : Sizes) (i : ℕ) (old : List Submission) (x : Submission) → HasEntries d
+    → next_named d (suc i) x (data_in d (suc i) old (block_of d (suc i) x)) ≡ named_in d i old (block_of d i x)
 unfolding next_named data_in entry_in
 next_is d i old x h =
     let j : ℕ = block_of d i x % fanout d in
@@ -127,7 +143,8 @@ next_is d i old x h =
     ∙ from_be_bytes-to_be_bytes_4 (named_in d i old (s + j)) (named_small d i old (s + j))
     ∙ ap (named_in d i old) (under d i x h)
 
-written_here : (d : Sizes) (old : List Submission) (x : Submission) (c : Command) → block_of d 0 x ≡ address_of x.command → x.command ≡ c → written_over c (array_at d old (block_of d 0 x)) ≡ array_at d (x ∷ old) (block_of d 0 x)
+written_here : (d : Sizes) (old : List Submission) (x : Submission) (c : Command) → block_of d 0 x ≡ address_of x.command
+    → x.command ≡ c → written_over c (array_at d old (block_of d 0 x)) ≡ array_at d (x ∷ old) (block_of d 0 x)
 written_here d old x (Read b) own e = sym (array_there d x old (block_of d 0 x) (ap (writes_to (block_of d 0 x)) e))
 written_here d old x (Write b bytes) own e =
     let here : block_of d 0 x ≡ b = own ∙ ap address_of e in
@@ -135,7 +152,8 @@ written_here d old x (Write b bytes) own e =
     sym (ap (λ t. bytes_written d.block_bytes (cond t (Some x) (find (λ s. writes_to (block_of d 0 x) s.command) old))) same ∙ ap (bytes_of d.block_bytes) e)
 
 -- the accessed block
-data_here : (d : Sizes) (i : ℕ) (old : List Submission) (x : Submission) → HasEntries d → edited d i x (data_in d i old (block_of d i x)) ≡ data_in d i (x ∷ old) (block_of d i x)
+data_here : (d : Sizes) (i : ℕ) (old : List Submission) (x : Submission) → HasEntries d
+    → edited d i x (data_in d i old (block_of d i x)) ≡ data_in d i (x ∷ old) (block_of d i x)
 unfolding edited data_in with_entry
 data_here d zero old x h = written_here d old x x.command (own_block d x) refl
 data_here d (suc i) old x h =
@@ -147,7 +165,8 @@ data_here d (suc i) old x h =
     (λ b ne. ap (to_be_bytes w32) (sym (named_there d i x old b (λ e. ne (e ∙ sym (under d i x h))))))
 
 -- the others
-data_there : (d : Sizes) (i : ℕ) (old : List Submission) (x : Submission) (a : ℕ) → HasEntries d → a ≢ block_of d i x → data_in d i old a ≡ data_in d i (x ∷ old) a
+data_there : (d : Sizes) (i : ℕ) (old : List Submission) (x : Submission) (a : ℕ) → HasEntries d → a ≢ block_of d i x
+    → data_in d i old a ≡ data_in d i (x ∷ old) a
 unfolding data_in
 data_there d zero old x a h ne = sym (array_there d x old a (not_written x.command a (λ e. ne (sym (own_block d x ∙ e)))))
 data_there d (suc i) old x a h ne =
@@ -165,7 +184,8 @@ content_here d i old x b h e =
     ap (λ t. option_map (λ s. record { leaf = new_leaf d i s; content = data_in d i (x ∷ old) b }) (cond t (Some x) (newest_in d i old b))) same
     ∙ ap (λ y. Some (record { leaf = new_leaf d i x; content = y })) (ap (data_in d i (x ∷ old)) e ∙ sym (data_here d i old x h) ∙ ap (edited d i x) (sym (found_is d i old (block_of d i x) h)))
 
-content_there : (d : Sizes) (i : ℕ) (old : List Submission) (x : Submission) (b : ℕ) → HasEntries d → b ≢ block_of d i x → content_after d i (x ∷ old) b ≡ content_after d i old b
+content_there : (d : Sizes) (i : ℕ) (old : List Submission) (x : Submission) (b : ℕ) → HasEntries d → b ≢ block_of d i x
+    → content_after d i (x ∷ old) b ≡ content_after d i old b
 unfolding content_after
 content_there d i old x b h ne =
     let other : (block_of d i x == b) ≡ false = grind (arith, nat_tests) in
@@ -181,7 +201,8 @@ content_more d i old x b h =
       | inr f ↦ rw (f.0) (content_there d i old x b h f.1)
     ]
 
-name_by : (d : Sizes) (i : ℕ) (bytes : List ℕ) (o : Option Submission) → name_of (option_map (λ s. record { leaf = new_leaf d i s; content = bytes }) o) ≡ option_map_or (λ s. new_leaf d i s + 1) o 0
+name_by : (d : Sizes) (i : ℕ) (bytes : List ℕ) (o : Option Submission)
+    → name_of (option_map (λ s. record { leaf = new_leaf d i s; content = bytes }) o) ≡ option_map_or (λ s. new_leaf d i s + 1) o 0
 name_by d i bytes None = refl
 name_by d i bytes (Some s) = refl
 
@@ -191,6 +212,7 @@ unfolding content_after named_in
 name_is d i old a = name_by d i (data_in d i old a) (newest_in d i old a)
 
 -- in tree 0 an address is a block's own
-pub data_zero : (d : Sizes) (old : List Submission) (x : Submission) → data_in d 0 old (block_of d 0 x) ≡ array_at d old (address_of x.command)
+pub data_zero : (d : Sizes) (old : List Submission) (x : Submission)
+    → data_in d 0 old (block_of d 0 x) ≡ array_at d old (address_of x.command)
 unfolding data_in
 data_zero d old x = ap (array_at d old) (own_block d x)

@@ -27,36 +27,44 @@ pub record IsMade (v : Shape) (i leaf nonce : ℕ) (records : ℕ → List ℕ) 
   pub path_is : path ≡ path_of v.device i leaf v.overhead path.bytes
   pub leaf_small : leaf < 2 ^ 32
   pub number : tree.number ≡ i
-  pub rewritten : IsRewritten (Reads v.opening v.device i) v.sealing v.device nonce path before.stash (with_bytes path bytes) c tree.stash
-  pub updated : (new : ℕ → List ℕ) → IsReplaced path (with_bytes path bytes) records new → IsStoredWith v.opening v.overhead v.device tree new (put content c.address (entry_of c))
+  pub rewritten :
+      IsRewritten (Reads v.opening v.device i) v.sealing v.device nonce path before.stash (with_bytes path bytes) c tree.stash
+  pub updated : (new : ℕ → List ℕ) → IsReplaced path (with_bytes path bytes) records new
+      → IsStoredWith v.opening v.overhead v.device tree new (put content c.address (entry_of c))
 
 module _ (v : Shape) (records : ℕ → ℕ → List ℕ) (i leaf nonce : ℕ) (content : Map) (c : Cell) (before tree : Tree) (path : Path) (bytes : List ℕ) (made : IsMade v i leaf nonce (records i) content c before tree path bytes) where
   replaced : IsReplaced path (with_bytes path bytes) (records i) (records_after v records (store_body i leaf bytes ∷ []) i)
-  replaced = subst (λ (p : Path). IsReplaced p (with_bytes p bytes) (records i) (records_after v records (store_body i leaf bytes ∷ []) i)) (sym made.path_is)
+  replaced =
+      subst (λ (p : Path). IsReplaced p (with_bytes p bytes) (records i) (records_after v records (store_body i leaf bytes ∷ []) i)) (sym made.path_is)
       (store_replaces v records i leaf path.bytes bytes made.leaf_small)
 
-  stored : IsStoredWith v.opening v.overhead v.device tree (records_after v records (store_body i leaf bytes ∷ []) i) (put content c.address (entry_of c))
+  stored :
+      IsStoredWith v.opening v.overhead v.device tree (records_after v records (store_body i leaf bytes ∷ []) i) (put content c.address (entry_of c))
   stored = made.updated _ replaced
 
   deep : path.depth ≡ depth_of v.device i
   deep = ap (λ (p : Path). p.depth) made.path_is
 
   -- the sealed bucket at a level of the path
-  part_is : (level : ℕ) → level ≤ depth_of v.device i → sealed_part (record_at (with_bytes path bytes) level) ≡ part_on v i leaf (records_after v records (store_body i leaf bytes ∷ []) i) level
+  part_is : (level : ℕ) → level ≤ depth_of v.device i
+      → sealed_part (record_at (with_bytes path bytes) level) ≡ part_on v i leaf (records_after v records (store_body i leaf bytes ∷ []) i) level
   part_is level below =
       let within : level ≤ path.depth = omega (arith, deep) in
       ap sealed_part (sym (replaced.on_path level within))
       ∙ ap (λ (p : Path). sealed_part (records_after v records (store_body i leaf bytes ∷ []) i (node_at p level))) made.path_is
 
   -- The tree stands over what the STORE leaves, with the accessed block changed,
-  pub store_stands : Stands v i tree (records_after v records (store_body i leaf bytes ∷ []) i) (put content c.address (entry_of c))
+  pub store_stands :
+      Stands v i tree (records_after v records (store_body i leaf bytes ∷ []) i) (put content c.address (entry_of c))
   store_stands = record { number = made.number; stored = stored }
 
   -- and its blocks are placed.
-  pub store_places : IsPlaced v i leaf nonce (records_after v records (store_body i leaf bytes ∷ []) i) (put content c.address (entry_of c))
+  pub store_places :
+      IsPlaced v i leaf nonce (records_after v records (store_body i leaf bytes ∷ []) i) (put content c.address (entry_of c))
   store_places =
       let records' : ℕ → List ℕ = records_after v records (store_body i leaf bytes ∷ []) i in
-      let held : HasContent (Reads v.opening v.device tree.number) (depth_of v.device tree.number) records' tree.stash (put content c.address (entry_of c)) = stored.holds in
+      let held : HasContent (Reads v.opening v.device tree.number) (depth_of v.device tree.number) records' tree.stash (put content c.address (entry_of c)) =
+      stored.holds in
       record {
         lists = made.rewritten.lists;
         rest = tree.stash;
@@ -68,28 +76,34 @@ module _ (v : Shape) (records : ℕ → ℕ → List ℕ) (i leaf nonce : ℕ) (
       }
 
 -- each tree stands after the STORE of one of them
-pub holds_stored : (v : Shape) (s t : State) (w : World) (i leaf : ℕ) (bytes : List ℕ) (a : ℕ) (h : Held) (tree : Tree) → Holds v s w → t.trees ≡ slice_set s.trees i tree → i < length s.trees →
-    Stands v i tree (records_after v w.records (store_body i leaf bytes ∷ []) i) (put (w.content i) a h) →
-    Holds v t (record { records = records_after v w.records (store_body i leaf bytes ∷ []); content = put_in w.content i a h })
+pub holds_stored : (v : Shape) (s t : State) (w : World) (i leaf : ℕ) (bytes : List ℕ) (a : ℕ) (h : Held) (tree : Tree)
+    → Holds v s w → t.trees ≡ slice_set s.trees i tree → i < length s.trees
+    → Stands v i tree (records_after v w.records (store_body i leaf bytes ∷ []) i) (put (w.content i) a h)
+    → Holds v t (record { records = records_after v w.records (store_body i leaf bytes ∷ []); content = put_in w.content i a h })
 holds_stored v s t w i leaf bytes a h tree holds trees inside here k below = elim (eqb_tells k i) [
   | inl same ↦
       let one : (i == i) ≡ true = grind (arith, nat_tests) in
-      let kept : slice_index_or t.trees i no_tree ≡ tree = ap (λ ts. slice_index_or ts i no_tree) trees ∙ get_or-set_same s.trees i tree no_tree inside in
-      let content : put (w.content i) a h ≡ put_in w.content i a h i = fun_ext (λ b. sym (ap (λ (t : Bool). if t then put (w.content i) a h b else w.content i b) one)) in
+      let kept : slice_index_or t.trees i no_tree ≡ tree =
+      ap (λ ts. slice_index_or ts i no_tree) trees ∙ get_or-set_same s.trees i tree no_tree inside in
+      let content : put (w.content i) a h ≡ put_in w.content i a h i =
+      fun_ext (λ b. sym (ap (λ (t : Bool). if t then put (w.content i) a h b else w.content i b) one)) in
       subst (λ (n : ℕ). Stands v n (slice_index_or t.trees n no_tree) (records_after v w.records (store_body i leaf bytes ∷ []) n) (put_in w.content i a h n)) (sym same.1)
       (subst (λ (m : Map). Stands v i (slice_index_or t.trees i no_tree) (records_after v w.records (store_body i leaf bytes ∷ []) i) m) content
       (subst (λ (u : Tree). Stands v i u (records_after v w.records (store_body i leaf bytes ∷ []) i) (put (w.content i) a h)) (sym kept) here))
   | inr other ↦
       let ne : k ≢ i = other.1 in
-      let kept : slice_index_or t.trees k no_tree ≡ slice_index_or s.trees k no_tree = ap (λ ts. slice_index_or ts k no_tree) trees ∙ get_or-set_other s.trees i k tree no_tree ne in
-      let content : w.content k ≡ put_in w.content i a h k = fun_ext (λ b. sym (ap (λ (t : Bool). if t then put (w.content k) a h b else w.content k b) other.0)) in
+      let kept : slice_index_or t.trees k no_tree ≡ slice_index_or s.trees k no_tree =
+      ap (λ ts. slice_index_or ts k no_tree) trees ∙ get_or-set_other s.trees i k tree no_tree ne in
+      let content : w.content k ≡ put_in w.content i a h k =
+      fun_ext (λ b. sym (ap (λ (t : Bool). if t then put (w.content k) a h b else w.content k b) other.0)) in
       subst (λ (m : Map). Stands v k (slice_index_or t.trees k no_tree) (records_after v w.records (store_body i leaf bytes ∷ []) k) m) content
       (subst (λ (r : ℕ → List ℕ). Stands v k (slice_index_or t.trees k no_tree) r (w.content k)) (sym (store_leaves v w.records i leaf k bytes ne))
       (subst (λ (u : Tree). Stands v k u (w.records k) (w.content k)) (sym kept) (holds k below)))
 ]
 
 -- a block that is named as the content has it lies on the path that is fetched, or nowhere
-pub at_leaf : (d : Sizes) (i a named : ℕ) (x : Submission) (content : Map) → name_of (content a) ≡ named → IsAtOrAbsent content a (leaf_for d i named x)
+pub at_leaf : (d : Sizes) (i a named : ℕ) (x : Submission) (content : Map) → name_of (content a) ≡ named
+    → IsAtOrAbsent content a (leaf_for d i named x)
 at_leaf d i a named x content e h found =
     let one : h.leaf + 1 ≡ named = sym (ap name_of found) ∙ e in
     let some : (named == 0) ≡ false = grind (arith, nat_tests) in

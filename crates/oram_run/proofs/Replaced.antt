@@ -15,23 +15,27 @@ use Rattle.oram_run.specs.Messages.{level_on, record_on, stored_path, message_tr
 use Rattle.oram_run.specs.Moves.{records_after}
 
 -- the level of a node of a path is found
-found_from : (deep x l a n : ℕ) → l ≤ deep → a ≤ l → l < a + n → a + n ≤ deep + 1 → find (λ k. node_on deep x k == node_on deep x l) (range_with_len a n) ≡ Some l
+found_from : (deep x l a n : ℕ) → l ≤ deep → a ≤ l → l < a + n → a + n ≤ deep + 1
+    → find (λ k. node_on deep x k == node_on deep x l) (range_with_len a n) ≡ Some l
 found_from deep x l a zero below low high fit = absurd (omega arith)
 found_from deep x l a (suc n) below low high fit =
     elim (eqb_tells (node_on deep x a) (node_on deep x l)) [
       | inl t ↦
           let same : a ≡ l = node_on-injective deep x a l (omega arith) below t.1 in
-          ap (λ b. cond b (Some a) (find (λ k. node_on deep x k == node_on deep x l) (range_with_len (a + 1) n))) t.0 ∙ ap (λ (k : ℕ). Some k) same
+          ap (λ b. cond b (Some a) (find (λ k. node_on deep x k == node_on deep x l) (range_with_len (a + 1) n))) t.0
+          ∙ ap (λ (k : ℕ). Some k) same
       | inr f ↦
           let apart : a ≢ l = λ e. f.1 (ap (node_on deep x) e) in
-          ap (λ b. cond b (Some a) (find (λ k. node_on deep x k == node_on deep x l) (range_with_len (a + 1) n))) f.0 ∙ found_from deep x l (a + 1) n below (omega arith) (omega arith) (omega arith)
+          ap (λ b. cond b (Some a) (find (λ k. node_on deep x k == node_on deep x l) (range_with_len (a + 1) n))) f.0
+          ∙ found_from deep x l (a + 1) n below (omega arith) (omega arith) (omega arith)
     ]
 
 pub level_here : (deep x l : ℕ) → l ≤ deep → level_on deep x (node_on deep x l) ≡ Some l
 unfolding level_on
 level_here deep x l below = found_from deep x l 0 (deep + 1) below (omega arith) (omega arith) (omega arith)
 
-none_from : (deep x m a n : ℕ) → IsOffPath deep x m → a + n ≤ deep + 1 → find (λ k. node_on deep x k == m) (range_with_len a n) ≡ None
+none_from : (deep x m a n : ℕ) → IsOffPath deep x m → a + n ≤ deep + 1
+    → find (λ k. node_on deep x k == m) (range_with_len a n) ≡ None
 none_from deep x m a zero off fit = refl
 none_from deep x m a (suc n) off fit =
     elim (eqb_tells (node_on deep x a) m) [
@@ -43,7 +47,8 @@ pub level_none : (deep x m : ℕ) → IsOffPath deep x m → level_on deep x m �
 unfolding level_on
 level_none deep x m off = none_from deep x m 0 (deep + 1) off (omega arith)
 
-written_store : (v : Shape) (m : List ℕ) (n : ℕ) → is_store m ≡ true → written v m (message_tree m) n ≡ record_on (stored_path v m) n
+written_store : (v : Shape) (m : List ℕ) (n : ℕ) → is_store m ≡ true
+    → written v m (message_tree m) n ≡ record_on (stored_path v m) n
 unfolding written
 written_store v m n store =
     let here : (message_tree m == message_tree m) ≡ true = grind (arith, nat_tests) in
@@ -56,11 +61,13 @@ written_elsewhere v m i n ne = let other : (message_tree m == i) ≡ false = gri
 -- what a STORE leaves at a node
 left_at : (v : Shape) (records : ℕ → ℕ → List ℕ) (m : List ℕ) (n : ℕ) (p : Path) → is_store m ≡ true → stored_path v m ≡ p →
     records_after v records (m ∷ []) (message_tree m) n ≡ unwrap_or (record_on p n) (records (message_tree m) n)
-left_at v records m n p store path = ap (λ o. unwrap_or o (records (message_tree m) n)) (written_store v m n store ∙ ap (λ (q : Path). record_on q n) path)
+left_at v records m n p store path =
+    ap (λ o. unwrap_or o (records (message_tree m) n)) (written_store v m n store ∙ ap (λ (q : Path). record_on q n) path)
 
 -- its own records at the nodes of its path, and elsewhere in its tree what stood there
-replaced_by : (v : Shape) (records : ℕ → ℕ → List ℕ) (m : List ℕ) (p q : Path) → is_store m ≡ true → stored_path v m ≡ q → p.depth ≡ q.depth → p.leaf ≡ q.leaf →
-    IsReplaced p q (records (message_tree m)) (records_after v records (m ∷ []) (message_tree m))
+replaced_by : (v : Shape) (records : ℕ → ℕ → List ℕ) (m : List ℕ) (p q : Path) → is_store m ≡ true → stored_path v m ≡ q
+    → p.depth ≡ q.depth → p.leaf ≡ q.leaf
+    → IsReplaced p q (records (message_tree m)) (records_after v records (m ∷ []) (message_tree m))
 replaced_by v records m p q store path deep leaf = record {
   on_path = λ l below.
       left_at v records m (node_at p l) q store path
@@ -71,7 +78,8 @@ replaced_by v records m p q store path deep leaf = record {
       ∙ ap (λ o. unwrap_or (option_map (record_at q) o) (records (message_tree m) n)) (level_none q.depth q.leaf n (λ l below e. off l (omega arith) (e ∙ sym (ap (λ k. node_on k p.leaf l) deep ∙ ap (λ x. node_on q.depth x l) leaf))));
 }
 
-path_is : (v : Shape) (i leaf : ℕ) (bytes : List ℕ) → leaf < 2 ^ 32 → stored_path v (store_body i leaf bytes) ≡ path_of v.device i leaf v.overhead bytes
+path_is : (v : Shape) (i leaf : ℕ) (bytes : List ℕ) → leaf < 2 ^ 32
+    → stored_path v (store_body i leaf bytes) ≡ path_of v.device i leaf v.overhead bytes
 path_is v i leaf bytes small = ap (λ x. path_of v.device i x v.overhead bytes) (from_be_bytes-to_be_bytes_4 leaf small)
 
 -- A STORE of the path of a leaf replaces its records in its tree,
@@ -81,5 +89,7 @@ store_replaces v records i leaf old bytes small =
     replaced_by v records (store_body i leaf bytes) (path_of v.device i leaf v.overhead old) (path_of v.device i leaf v.overhead bytes) refl (path_is v i leaf bytes small) refl refl
 
 -- and leaves the other trees.
-pub store_leaves : (v : Shape) (records : ℕ → ℕ → List ℕ) (i leaf k : ℕ) (bytes : List ℕ) → k ≢ i → records_after v records (store_body i leaf bytes ∷ []) k ≡ records k
-store_leaves v records i leaf k bytes ne = fun_ext (λ n. ap (λ o. unwrap_or o (records k n)) (written_elsewhere v (store_body i leaf bytes) k n (λ e. ne (sym e))))
+pub store_leaves : (v : Shape) (records : ℕ → ℕ → List ℕ) (i leaf k : ℕ) (bytes : List ℕ) → k ≢ i
+    → records_after v records (store_body i leaf bytes ∷ []) k ≡ records k
+store_leaves v records i leaf k bytes ne =
+    fun_ext (λ n. ap (λ o. unwrap_or o (records k n)) (written_elsewhere v (store_body i leaf bytes) k n (λ e. ne (sym e))))

@@ -41,7 +41,8 @@ ticket1 : Submission
 ticket1 = record { session = 1; ticket = 1; command = Read 38; words = 20 ∷ 21 ∷ 22 ∷ 23 ∷ 24 ∷ 25 ∷ [] }
 
 -- the map block of tree 1 after both tickets: its leaf is that of ticket 1's new word, and it names the leaves of blocks 37 and 38
-map_block : content_after row6 1 (ticket1 ∷ ticket0 ∷ []) 9 ≡ Some (record { leaf = 7; content = 0 ∷ 0 ∷ 0 ∷ 0 ∷ 0 ∷ 0 ∷ 0 ∷ 12 ∷ 0 ∷ 0 ∷ 0 ∷ 22 ∷ 0 ∷ 0 ∷ 0 ∷ 0 ∷ [] })
+map_block :
+    content_after row6 1 (ticket1 ∷ ticket0 ∷ []) 9 ≡ Some (record { leaf = 7; content = 0 ∷ 0 ∷ 0 ∷ 0 ∷ 0 ∷ 0 ∷ 0 ∷ 12 ∷ 0 ∷ 0 ∷ 0 ∷ 22 ∷ 0 ∷ 0 ∷ 0 ∷ 0 ∷ [] })
 unfolding row6 ticket0 ticket1 trees_of blocks_in least_from level_for content_after data_in named_in
 map_block = refl
 

@@ -38,8 +38,10 @@ same_tree : (h r : ℕ) → r % 2 ≡ 0 → h - 1 - (r + 1) / 2 ≡ h - 1 - r / 
 same_tree h r even = omega arith
 
 -- the tree that is at work has not been accessed by this command
-pub content_before : (v : Setting) (past : List Step) (old rest : List Submission) (s : State) (x : Submission) → IsFit v.shape.device → Live v past old s → s.queue ≡ x ∷ rest → s.stage < 2 * trees_of v.shape.device → s.stage % 2 ≡ 0 →
-    content_of v past (stage_tree v.shape.device s.stage) ≡ content_after v.shape.device (stage_tree v.shape.device s.stage) old
+pub content_before : (v : Setting) (past : List Step) (old rest : List Submission) (s : State) (x : Submission)
+    → IsFit v.shape.device → Live v past old s → s.queue ≡ x ∷ rest → s.stage < 2 * trees_of v.shape.device
+    → s.stage % 2 ≡ 0
+    → content_of v past (stage_tree v.shape.device s.stage) ≡ content_after v.shape.device (stage_tree v.shape.device s.stage) old
 content_before v past old rest s x fit l qu few even =
     let d = v.shape.device in
     let i : ℕ = stage_tree d s.stage in
@@ -49,13 +51,16 @@ content_before v past old rest s x fit l qu few even =
     ∙ ap (content_after d i) (applied_no d old rest x s.stage i late)
 
 -- what the access finds
-pub bytes_are : (v : Setting) (past : List Step) (old rest : List Submission) (s : State) (x : Submission) → IsFit v.shape.device → Live v past old s → s.queue ≡ x ∷ rest → s.stage < 2 * trees_of v.shape.device → s.stage % 2 ≡ 0 →
-    found_in v.shape.device (content_of v past (stage_tree v.shape.device s.stage) (block_of v.shape.device (stage_tree v.shape.device s.stage) x))
+pub bytes_are : (v : Setting) (past : List Step) (old rest : List Submission) (s : State) (x : Submission)
+    → IsFit v.shape.device → Live v past old s → s.queue ≡ x ∷ rest → s.stage < 2 * trees_of v.shape.device
+    → s.stage % 2 ≡ 0
+    → found_in v.shape.device (content_of v past (stage_tree v.shape.device s.stage) (block_of v.shape.device (stage_tree v.shape.device s.stage) x))
     ≡ data_in v.shape.device (stage_tree v.shape.device s.stage) old (block_of v.shape.device (stage_tree v.shape.device s.stage) x)
 bytes_are v past old rest s x fit l qu few even =
     let d = v.shape.device in
     let i : ℕ = stage_tree d s.stage in
-    ap (λ (f : Map). found_in d (f (block_of d i x))) (content_before v past old rest s x fit l qu few even) ∙ found_is d i old (block_of d i x) fit.words
+    ap (λ (f : Map). found_in d (f (block_of d i x))) (content_before v past old rest s x fit l qu few even)
+    ∙ found_is d i old (block_of d i x) fit.words
 
 put_same : (c : ℕ → Map) (i a : ℕ) (h : Held) (k b : ℕ) → k ≡ i → put_in c i a h k b ≡ (if b == a then Some h else c i b)
 put_same c i a h k b e = let same : (i == i) ≡ true = grind (arith, nat_tests) in rw e (rw same refl)
@@ -64,8 +69,10 @@ put_other : (c : ℕ → Map) (i a : ℕ) (h : Held) (k b : ℕ) → k ≢ i →
 put_other c i a h k b ne = let other : (k == i) ≡ false = grind (arith, nat_tests) in rw other refl
 
 -- the content after the access is the closed form at the next stage
-pub content_stored : (v : Setting) (past : List Step) (old rest : List Submission) (s : State) (x : Submission) → IsFit v.shape.device → Live v past old s → s.queue ≡ x ∷ rest → s.stage < 2 * trees_of v.shape.device → s.stage % 2 ≡ 0 → (k : ℕ) → k < trees_of v.shape.device →
-    (stores v.shape s (world_of v past) x).content k ≡ content_after v.shape.device k (applied v.shape.device old (x ∷ rest) (s.stage + 1) k)
+pub content_stored : (v : Setting) (past : List Step) (old rest : List Submission) (s : State) (x : Submission)
+    → IsFit v.shape.device → Live v past old s → s.queue ≡ x ∷ rest → s.stage < 2 * trees_of v.shape.device
+    → s.stage % 2 ≡ 0 → (k : ℕ) → k < trees_of v.shape.device
+    → (stores v.shape s (world_of v past) x).content k ≡ content_after v.shape.device k (applied v.shape.device old (x ∷ rest) (s.stage + 1) k)
 content_stored v past old rest s x fit l qu few even k below =
     let d = v.shape.device in
     let i : ℕ = stage_tree d s.stage in
@@ -97,33 +104,40 @@ leaf_fits d old x r =
     elim (named == 0) as (λ b. (if b then leaf_of d i (slice_index x.words (2 * i)) else named - 1) < 2 ^ 32) [ true ↦ omega (arith, spare.0, spare.1) | false ↦ omega (arith, range, spare.1) ]
 
 -- the store asks for the next entry
-pub store_entry : (d : Sizes) (old : List Submission) (x : Submission) (r : ℕ) → r % 2 ≡ 0 → record { fetch = false; tree = stage_tree d r; leaf = (entry_for d old x r).leaf } ≡ entry_for d old x (r + 1)
+pub store_entry : (d : Sizes) (old : List Submission) (x : Submission) (r : ℕ) → r % 2 ≡ 0
+    → record { fetch = false; tree = stage_tree d r; leaf = (entry_for d old x r).leaf } ≡ entry_for d old x (r + 1)
 store_entry d old x r even =
     let odd : ((r + 1) % 2 == 0) ≡ false = grind (arith, nat_tests) in
     let tree : stage_tree d (r + 1) ≡ stage_tree d r = same_tree (trees_of d) r even in
     sym (ap (λ (n : ℕ). record { fetch = (r + 1) % 2 == 0; tree = n; leaf = leaf_for d n (named_in d n old (block_of d n x)) x }) tree
     ∙ ap (λ (b : Bool). record { fetch = b; tree = stage_tree d r; leaf = (entry_for d old x r).leaf }) odd)
 
-pub named_next : (d : Sizes) (old : List Submission) (x : Submission) (i j : ℕ) (bytes : List ℕ) → HasEntries d → i ≡ j + 1 → bytes ≡ data_in d i old (block_of d i x) → next_named d i x bytes ≡ named_in d j old (block_of d j x)
+pub named_next : (d : Sizes) (old : List Submission) (x : Submission) (i j : ℕ) (bytes : List ℕ) → HasEntries d → i ≡ j + 1
+    → bytes ≡ data_in d i old (block_of d i x) → next_named d i x bytes ≡ named_in d j old (block_of d j x)
 named_next d old x zero j bytes h e b = absurd (omega arith)
 named_next d old x (suc i) j bytes h e b =
     let same : i ≡ j = omega arith in
     ap (next_named d (suc i) x) b ∙ next_is d i old x h ∙ ap (λ (n : ℕ). named_in d n old (block_of d n x)) same
 
-pub kept_last : (d : Sizes) (old : List Submission) (x : Submission) (i : ℕ) (bytes : List ℕ) → i ≡ 0 → bytes ≡ data_in d i old (block_of d i x) → kept_of i bytes ≡ array_at d old (address_of x.command)
+pub kept_last : (d : Sizes) (old : List Submission) (x : Submission) (i : ℕ) (bytes : List ℕ) → i ≡ 0
+    → bytes ≡ data_in d i old (block_of d i x) → kept_of i bytes ≡ array_at d old (address_of x.command)
 kept_last d old x zero bytes e b = b ∙ data_zero d old x
 kept_last d old x (suc i) bytes e b = absurd (omega arith)
 
 -- the table after the access
-table_stored : (v : Setting) (past : List Step) (old rest : List Submission) (s : State) (x : Submission) (stage : ℕ) → s.stage ≡ stage → IsFit v.shape.device → Live v past old s → s.queue ≡ x ∷ rest → IsAllowed v.shape.device x → (a : ℕ) → a < blocks_in v.shape.device (trees_of v.shape.device - 1) →
-    slice_index (if stage == 0 then slice_set s.table (block_of v.shape.device (stage_tree v.shape.device stage) x) (new_leaf v.shape.device (stage_tree v.shape.device stage) x + 1) else s.table) a
+table_stored : (v : Setting) (past : List Step) (old rest : List Submission) (s : State) (x : Submission) (stage : ℕ)
+    → s.stage ≡ stage → IsFit v.shape.device → Live v past old s → s.queue ≡ x ∷ rest → IsAllowed v.shape.device x → (a : ℕ)
+    → a < blocks_in v.shape.device (trees_of v.shape.device - 1)
+    → slice_index (if stage == 0 then slice_set s.table (block_of v.shape.device (stage_tree v.shape.device stage) x) (new_leaf v.shape.device (stage_tree v.shape.device stage) x + 1) else s.table) a
     ≡ named_in v.shape.device (trees_of v.shape.device - 1) (applied v.shape.device old (x ∷ rest) (stage + 1) (trees_of v.shape.device - 1)) a
 table_stored v past old rest s x zero e fit l qu ok a below =
     let d = v.shape.device in
     let top : ℕ = trees_of d - 1 in
     let here : stage_tree d 0 ≡ top = omega arith in
     let due : 2 * (trees_of d - 1 - top) < 0 + 1 = omega arith in
-    let was : slice_index s.table a ≡ named_in d top old a = l.table a below ∙ ap (λ (r : ℕ). named_in d top (applied d old s.queue r top) a) e ∙ ap (λ xs. named_in d top xs a) (applied_none d old s.queue top) in
+    let was : slice_index s.table a ≡ named_in d top old a =
+    l.table a below ∙ ap (λ (r : ℕ). named_in d top (applied d old s.queue r top) a) e
+    ∙ ap (λ xs. named_in d top xs a) (applied_none d old s.queue top) in
     ap (λ (i : ℕ). slice_index (slice_set s.table (block_of d i x) (new_leaf d i x + 1)) a) here
     ∙ elim (eqb_tells a (block_of d top x)) [
       | inl t ↦
@@ -152,14 +166,18 @@ length_stored table stage a n = elim (stage == 0) as (λ b. length (if b then sl
 abbrev pub stored_state : Setting → List Step → State → Submission → List Tree → ℕ → List ℕ → State
 stored_state v past s x ts n m = record (stores v.shape s (world_of v past) x).state { trees = ts; nonce = n; last = m }
 
-pub live_stored : (v : Setting) (past : List Step) (old rest : List Submission) (s : State) (x : Submission) (step : Step) (ts : List Tree) (n : ℕ) (m : List ℕ) → IsFit v.shape.device → Live v past old s → s.queue ≡ x ∷ rest → Working v past old s x → s.stage % 2 ≡ 0 → s.lost ≡ false →
-    progress v (step ∷ past) ≡ record { good = (progress v past).good + 1; lost = false; failure = None } → accepted (step ∷ past) ≡ accepted past → sent (step ∷ past) ≡ m ∷ sent past →
-    IsMessage v.shape (record { fetch = false; tree = stage_tree v.shape.device s.stage; leaf = (asked s.last).leaf }) m → n ≡ nonce_at v ((progress v past).good + 1) →
-    Live v (step ∷ past) old (stored_state v past s x ts n m)
+pub live_stored : (v : Setting) (past : List Step) (old rest : List Submission) (s : State) (x : Submission) (step : Step)
+    (ts : List Tree) (n : ℕ) (m : List ℕ) → IsFit v.shape.device → Live v past old s → s.queue ≡ x ∷ rest
+    → Working v past old s x → s.stage % 2 ≡ 0 → s.lost ≡ false
+    → progress v (step ∷ past) ≡ record { good = (progress v past).good + 1; lost = false; failure = None }
+    → accepted (step ∷ past) ≡ accepted past → sent (step ∷ past) ≡ m ∷ sent past
+    → IsMessage v.shape (record { fetch = false; tree = stage_tree v.shape.device s.stage; leaf = (asked s.last).leaf }) m
+    → n ≡ nonce_at v ((progress v past).good + 1) → Live v (step ∷ past) old (stored_state v past s x ts n m)
 live_stored v past old rest s x step ts n m fit l qu w even calm p a sent_is is nonce_is =
     let d = v.shape.device in
     let i : ℕ = stage_tree d s.stage in
-    let found : found_in d (content_of v past i (block_of d i x)) ≡ data_in d i old (block_of d i x) = bytes_are v past old rest s x fit l qu w.stage even in
+    let found : found_in d (content_of v past i (block_of d i x)) ≡ data_in d i old (block_of d i x) =
+    bytes_are v past old rest s x fit l qu w.stage even in
     let few : s.stage < 2 * trees_of d = w.stage in
     let ok : IsAllowed d x = All-head (IsAllowed d) x rest (subst (All (IsAllowed d)) qu l.allowed) in
     let leaf : (asked s.last).leaf ≡ (entry_for d old x s.stage).leaf = ap (λ (e : Entry). e.leaf) w.asks in
@@ -167,7 +185,8 @@ live_stored v past old rest s x step ts n m fit l qu w even calm p a sent_is is 
     let t : State = stored_state v past s x ts n m in
     let work : Working v (step ∷ past) old t x = record {
       stage = omega arith;
-      asks = asked_is v.shape _ m small is ∙ ap (λ (k : ℕ). record { fetch = false; tree = i; leaf = k }) leaf ∙ store_entry d old x s.stage even;
+      asks = asked_is v.shape _ m small is ∙ ap (λ (k : ℕ). record { fetch = false; tree = i; leaf = k }) leaf
+          ∙ store_entry d old x s.stage even;
       older = sent past;
       latest = sent_is;
       named = λ some more.

@@ -14,7 +14,8 @@ use Rattle.oram_run.specs.declared.events.Submission.{Submission}
 
 -- what is named for block b of tree i: in the table for the last tree, else in its map block
 abbrev pub named_for : Shape → State → World → ℕ → ℕ → ℕ
-named_for v s w i b = if i + 1 == trees_of v.device then slice_index s.table b else entry_in (found_in v.device (w.content (i + 1) (b / fanout v.device))) (b % fanout v.device)
+named_for v s w i b =
+    if i + 1 == trees_of v.device then slice_index s.table b else entry_in (found_in v.device (w.content (i + 1) (b / fanout v.device))) (b % fanout v.device)
 
 -- the tree of the fetch that is outstanding in the middle of a command, or comes next
 abbrev pub next_tree : Shape → State → ℕ
@@ -43,7 +44,8 @@ IsNext v s (x ∷ rest) i b = IsAmid v s × (i ≡ next_tree v s) × (b ≡ bloc
 pub record Agrees (v : Shape) (s : State) (w : World) : Type 0 where
   pub sized : (i b : ℕ) → i < trees_of v.device → length (found_in v.device (w.content i b)) ≡ v.device.block_bytes
   pub leaves : (i b : ℕ) → i < trees_of v.device → name_of (w.content i b) ≤ 2 ^ depth_of v.device i
-  pub others : (i b : ℕ) → i < trees_of v.device → b < blocks_in v.device i → ¬ IsNext v s s.queue i b → named_for v s w i b ≡ name_of (w.content i b)
+  pub others : (i b : ℕ) → i < trees_of v.device → b < blocks_in v.device i → ¬ IsNext v s s.queue i b
+      → named_for v s w i b ≡ name_of (w.content i b)
   pub between : AtBetween v s w s.queue
 
 -- a submission that the device takes

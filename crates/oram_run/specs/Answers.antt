@@ -25,7 +25,8 @@ good_answer v records e = 128 ∷ (if e.fetch then path_in v records e.tree e.le
 
 -- byte 80 and as many bytes as the path has, to a fetch
 abbrev pub is_payload : Shape → Entry → List ℕ → Bool
-is_payload v e bytes = e.fetch && (slice_index bytes 0 == 128) && (length bytes == 1 + (depth_of v.device e.tree + 1) * record_len v)
+is_payload v e bytes =
+    e.fetch && (slice_index bytes 0 == 128) && (length bytes == 1 + (depth_of v.device e.tree + 1) * record_len v)
 
 -- the path that such an answer has the records of
 abbrev pub answered_path : Shape → Entry → List ℕ → Path
@@ -41,7 +42,8 @@ first_other records p = find (λ level. not (is_last_stored records p level)) (l
 
 -- a refusal by a code from 1 to 7: byte 81 and the code
 abbrev pub is_refusal : List ℕ → Bool
-is_refusal bytes = (length bytes == 2) && (slice_index bytes 0 == 129) && nat_le 1 (slice_index bytes 1) && nat_le (slice_index bytes 1) 7
+is_refusal bytes =
+    (length bytes == 2) && (slice_index bytes 0 == 129) && nat_le 1 (slice_index bytes 1) && nat_le (slice_index bytes 1) 7
 
 abbrev pub reason_at : ℕ → Option ℕ → Reason
 reason_at i None = Malformed

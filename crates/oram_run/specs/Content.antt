@@ -29,11 +29,13 @@ named_in d i newest_first a = option_map_or (λ s. new_leaf d i s + 1) (newest_i
 -- what a block of tree i holds: in tree 0 what the plain array does, else an entry for each of its blocks of the tree below
 unfoldable pub data_in : Sizes → ℕ → List Submission → ℕ → List ℕ
 data_in d zero newest_first a = array_at d newest_first a
-data_in d (suc i) newest_first a = flat_map (λ b. to_be_bytes w32 (named_in d i newest_first b)) (range_with_len (a * fanout d) (fanout d))
+data_in d (suc i) newest_first a =
+    flat_map (λ b. to_be_bytes w32 (named_in d i newest_first b)) (range_with_len (a * fanout d) (fanout d))
 
 -- tree i after these submissions, the newest first
 unfoldable pub content_after : Sizes → ℕ → List Submission → Map
-content_after d i newest_first a = option_map (λ s. record { leaf = new_leaf d i s; content = data_in d i newest_first a }) (newest_in d i newest_first a)
+content_after d i newest_first a =
+    option_map (λ s. record { leaf = new_leaf d i s; content = data_in d i newest_first a }) (newest_in d i newest_first a)
 
 -- the tree of entry r of a ticket: from the last tree to tree 0, a fetch and a store each
 abbrev pub stage_tree : Sizes → ℕ → ℕ
@@ -45,4 +47,5 @@ accesses d g i = g / (2 * trees_of d) + (if nat_lt (2 * (trees_of d - 1 - i)) (g
 
 -- what tree i holds
 abbrev pub content_of : Setting → List Step → ℕ → Map
-content_of v past i = content_after v.shape.device i (reverse (take (accesses v.shape.device (progress v past).good i) (accepted past)))
+content_of v past i =
+    content_after v.shape.device i (reverse (take (accesses v.shape.device (progress v past).good i) (accepted past)))

@@ -32,5 +32,6 @@ new_state v trees = record { table = replicate (blocks_in v.shape.device (trees_
 
 -- Whatever a core that was just formatted does by the local rule is right.
 abbrev pub StepsAreRight : Type 0
-StepsAreRight = (v : Setting) (trees : List Tree) (events : List Event) (xs : List Shown) → IsDevice v.shape.device → IsFormatted v trees
+StepsAreRight =
+    (v : Setting) (trees : List Tree) (events : List Event) (xs : List Shown) → IsDevice v.shape.device → IsFormatted v trees
     → StepsAlong v.shape (new_state v trees) events xs → AllRight v [] events xs

@@ -255,8 +255,10 @@ Moves v s w event x t = MovesTo v s w (moved v s w event) x t
 
 -- Where a fetch is outstanding, its block is in the tree's content as it is named, and what the block names is a leaf of the next tree.
 pub record IsReadyFor (v : Shape) (s : State) (w : World) (x : Submission) : Type 0 where
-  pub named : name_of (w.content (stage_tree v.device s.stage) (block_of v.device (stage_tree v.device s.stage) x)) ≡ named_now v s x
-  pub next : next_named v.device (stage_tree v.device s.stage) x (found_in v.device (w.content (stage_tree v.device s.stage) (block_of v.device (stage_tree v.device s.stage) x))) ≤ 2 ^ depth_of v.device (stage_tree v.device s.stage - 1)
+  pub named :
+      name_of (w.content (stage_tree v.device s.stage) (block_of v.device (stage_tree v.device s.stage) x)) ≡ named_now v s x
+  pub next :
+      next_named v.device (stage_tree v.device s.stage) x (found_in v.device (w.content (stage_tree v.device s.stage) (block_of v.device (stage_tree v.device s.stage) x))) ≤ 2 ^ depth_of v.device (stage_tree v.device s.stage - 1)
 
 abbrev pub IsReady : Shape → State → World → List Submission → Type 0
 IsReady v s w [] = Unit {0}

@@ -101,7 +101,8 @@ meaning_at v past m bytes = outcome_of v.shape (records_of v past) (entry_at v p
 
 unfoldable pub progress : Setting → List Step → Progress
 progress v [] = record { good = 0; lost = false; failure = None }
-progress v (s ∷ past) = advanced (progress v past) (status_from (entries v past) (progress v past)) (meaning_at v past (progress v past).good) s.event
+progress v (s ∷ past) =
+    advanced (progress v past) (status_from (entries v past) (progress v past)) (meaning_at v past (progress v past).good) s.event
 
 abbrev pub status : Setting → List Step → Status
 status v past = status_from (entries v past) (progress v past)

@@ -167,7 +167,8 @@ pub record IsRight (v : Setting) (past : List Step) (event : Event) (x : Shown) 
 
 -- whether two records of one digest stand in an answer
 abbrev pub shows_pair : Setting → List Step → Event → Bool
-shows_pair v past (Answer bytes) = is_waiting (status v past) && pair_in v.shape (records_of v past) (entry_at v past (progress v past).good) bytes
+shows_pair v past (Answer bytes) =
+    is_waiting (status v past) && pair_in v.shape (records_of v past) (entry_at v past (progress v past).good) bytes
 shows_pair v past (Submit s c w) = false
 shows_pair v past Lost = false
 shows_pair v past Retry = false
@@ -176,4 +177,5 @@ shows_pair v past Retry = false
 abbrev pub AllRight : Setting → List Step → List Event → List Shown → Type 0
 AllRight v past events [] = Unit {0}
 AllRight v past [] (x ∷ xs) = ⊥
-AllRight v past (event ∷ events) (x ∷ xs) = shows_pair v past event ≡ false → IsRight v past event x × AllRight v (step_of event x ∷ past) events xs
+AllRight v past (event ∷ events) (x ∷ xs) =
+    shows_pair v past event ≡ false → IsRight v past event x × AllRight v (step_of event x ∷ past) events xs

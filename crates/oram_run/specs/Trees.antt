@@ -28,6 +28,8 @@ pub record IsPlaced (v : Shape) (i leaf nonce : ℕ) (records : ℕ → List ℕ
   pub rest : List Cell
   pub holds : HasContent (Reads v.opening v.device i) (depth_of v.device i) records rest content
   pub levels : length lists ≡ depth_of v.device i + 1
-  pub reads : (level : ℕ) → level ≤ depth_of v.device i → Reads v.opening v.device i (part_on v i leaf records level) (listed lists level)
-  pub sealed : (level : ℕ) → level ≤ depth_of v.device i → part_on v i leaf records level ≡ v.sealing (nonce + level) (spelling v.device (listed lists level))
+  pub reads : (level : ℕ) → level ≤ depth_of v.device i
+      → Reads v.opening v.device i (part_on v i leaf records level) (listed lists level)
+  pub sealed : (level : ℕ) → level ≤ depth_of v.device i
+      → part_on v i leaf records level ≡ v.sealing (nonce + level) (spelling v.device (listed lists level))
   pub greedy : IsGreedy (depth_of v.device i) v.device.slots leaf lists rest
