@@ -1,6 +1,6 @@
 -- Cores whose trees agree: one just formatted, and one at rest whose table and map blocks name what the trees hold.
-use Rattle.std.proofs.Common.{◌≡◌, ℕ, zero, suc, ◌+◌, ◌-◌, ◌*◌, ◌/◌, ◌%◌, ◌^◌, ◌<◌, ◌≤◌, ◌==◌, Bool, true, false, if◌then◌else◌, List, [], ◌∷◌, length, replicate, slice_index, slice_index_or, slice_range, take, drop, IsSome, Option, Some, None, refl, ap, sym, ◌∙◌, subst, arith, inl, inr}
-use Rattle.std.specs.List.{All, Contains}
+use Rattle.std.proofs.Common.{◌≡◌, ℕ, suc, ◌+◌, ◌-◌, ◌*◌, ◌/◌, ◌%◌, ◌^◌, ◌<◌, ◌≤◌, Bool, if◌then◌else◌, List, [], ◌∷◌, length, replicate, slice_index, slice_index_or, take, IsSome, Option, Some, None, refl, ap, sym, ◌∙◌, subst, arith, inl, inr}
+use Rattle.std.specs.List.{All}
 use Rattle.std.specs.Int.{w32, from_be_bytes}
 use Rattle.std.proofs.lemmas.List.{get_or-replicate, length-replicate, drop-replicate}
 use Rattle.std.proofs.lemmas.List.Elements.{All-contains}
@@ -10,8 +10,7 @@ use Rattle.oram_geometry.specs.declared.Sizes.{Sizes}
 use Rattle.oram_geometry.specs.Sizes.{trees_of, depth_of, blocks_in, fanout}
 use Rattle.oram_bucket.specs.Cell.{Cell}
 use Rattle.oram_bucket.specs.Bucket.{IsBlockOf}
-use Rattle.oram_bucket.specs.Reading.{Reads}
-use Rattle.oram_tree.specs.Content.{Map, Entry as Held, entry_of, Holds as HoldsBlock, HasContent, no_blocks, node_count}
+use Rattle.oram_tree.specs.Content.{Map, Entry as Held, entry_of}
 use Rattle.oram_tree.specs.State.{State as Tree}
 use Rattle.oram_run.specs.Shape.{Shape}
 use Rattle.oram_run.specs.Progress.{Setting}
@@ -20,9 +19,9 @@ use Rattle.oram_run.specs.Trees.{Stands}
 use Rattle.oram_run.specs.State.{State, World, Holds, no_tree, name_of}
 use Rattle.oram_run.specs.Moves.{found_in, entry_in}
 use Rattle.oram_run.specs.Law.{new_state, world_of}
-use Rattle.oram_run.specs.Agree.{named_for, AtBetween, IsNext, Agrees, IsOrderly}
+use Rattle.oram_run.specs.Agree.{named_for, IsNext, Agrees, IsOrderly}
 use Rattle.oram_run.specs.declared.events.Submission.{Submission}
-use Rattle.oram_run.proofs.Bounds.{IsFit, HasEntries}
+use Rattle.oram_run.proofs.Bounds.{IsFit}
 use Rattle.oram_run.proofs.Others.{all_none}
 use Rattle.oram_run.proofs.Formatting.{empty_content}
 use Rattle.oram_run.proofs.AgreeKept.{at_rest}

@@ -18,7 +18,7 @@ use Rattle.oram_run.specs.declared.events.Submission.{Submission}
 use Rattle.oram_run.proofs.Bounds.{HasEntries}
 use Rattle.oram_run.proofs.Maps.{above, leaf_small}
 use Rattle.oram_run.proofs.Agreeing.{next_is_named}
-use Rattle.oram_run.proofs.Entry4.{entry_here, entry_there, length-edit}
+use Rattle.oram_run.proofs.MapEntries.{entry_here, entry_there, length-edit}
 
 -- a good answer to the fetch of tree i, at the block a, with what was found there
 pub record Accessed (v : Shape) (s t : State) (w w' : World) (x : Submission) (rest : List Submission) (i a : ℕ) (bytes : List ℕ) : Type 0 where

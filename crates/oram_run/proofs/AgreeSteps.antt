@@ -1,11 +1,10 @@
 -- Trees that agree do so after each event that doesn't fail the device.
-use Rattle.std.proofs.Common.{◌≡◌, ◌≢◌, ℕ, zero, suc, ◌+◌, ◌-◌, ◌*◌, ◌/◌, ◌%◌, ◌^◌, ◌<◌, ◌≤◌, ◌==◌, Bool, true, false, if◌then◌else◌, List, [], ◌∷◌, ◌++◌, length, length-append, slice_index, slice_set, Option, Some, None, refl, ap, sym, ◌∙◌, subst, arith, inl, inr}
+use Rattle.std.proofs.Common.{◌≡◌, ◌≢◌, ℕ, ◌+◌, ◌-◌, ◌*◌, ◌%◌, ◌<◌, ◌==◌, Bool, true, false, if◌then◌else◌, List, [], ◌∷◌, ◌++◌, length, length-append, slice_set, Option, Some, None, refl, ap, sym, ◌∙◌, subst, arith, inl, inr}
 use Rattle.std.specs.List.{All}
 use Rattle.std.proofs.lemmas.List.{length-set}
 use Rattle.std.proofs.lemmas.List.Elements.{All-head, All-tail, All-push}
-use Rattle.std.proofs.lemmas.Bool.Decides.{nat_tests, eqb_tells}
-use Rattle.oram_geometry.specs.Sizes.{trees_of, blocks_in, fanout}
-use Rattle.oram_tree.specs.Content.{Entry as Held}
+use Rattle.std.proofs.lemmas.Bool.Decides.{eqb_tells}
+use Rattle.oram_geometry.specs.Sizes.{trees_of, blocks_in}
 use Rattle.oram_run.specs.Shape.{Shape}
 use Rattle.oram_run.specs.Answers.{Outcome, outcome_of}
 use Rattle.oram_run.specs.Answers.Outcome.{Good, NoRoom, Fails}
@@ -15,21 +14,19 @@ use Rattle.oram_run.specs.Content.{block_of, new_leaf, stage_tree}
 use Rattle.oram_run.specs.Progress.{Status}
 use Rattle.oram_run.specs.Progress.Status.{Idle, Waiting, Stalling, Over}
 use Rattle.oram_run.specs.Run.{Shown, refusal_of, is_over}
-use Rattle.oram_run.specs.State.{State, World, Holds, status_by, status_in, name_of}
-use Rattle.oram_run.specs.Moves.{Moved, MovesTo, Moves, Fits, IsReady, found_in, stays, stalls, resends, accepts, stores, fetches, finishes, fails, goes_on, on_submission, on_answer, on_loss, on_retry, world_after, moved}
-use Rattle.oram_run.specs.Agree.{named_for, next_tree, IsAmid, IsBetween, AtBetween, IsNext, Agrees, IsTaken, IsOrderly}
-use Rattle.oram_run.specs.declared.events.Command.{Command}
+use Rattle.oram_run.specs.State.{State, World, Holds, status_in, name_of}
+use Rattle.oram_run.specs.Moves.{Moved, MovesTo, Moves, Fits, IsReady, found_in, stays, stalls, resends, accepts, stores, fetches, finishes, goes_on, on_submission, on_answer, on_loss, on_retry, world_after, moved}
+use Rattle.oram_run.specs.Agree.{named_for, next_tree, IsBetween, AtBetween, IsNext, Agrees, IsTaken, IsOrderly}
 use Rattle.oram_run.specs.declared.events.Event.{Event}
 use Rattle.oram_run.specs.declared.events.Event.TheVariants.{Submit, Answer, Lost, Retry}
-use Rattle.oram_run.specs.declared.events.Reason.{Reason}
 use Rattle.oram_run.specs.declared.events.Refusal.{Refusal}
 use Rattle.oram_run.specs.declared.events.Note.TheVariants.{Refused, Unexpected}
 use Rattle.oram_run.specs.declared.events.Submission.{Submission}
 use Rattle.oram_run.proofs.Bounds.{IsFit, address_small}
 use Rattle.oram_run.proofs.Agreeing.{agreeing_ready}
-use Rattle.oram_run.proofs.AgreeOn.{Accessed, agrees_on}
+use Rattle.oram_run.proofs.AgreeOn.{agrees_on}
 use Rattle.oram_run.proofs.AgreeKept.{agrees_kept, agrees_finished, agrees_fetched, named_kept}
-use Rattle.oram_run.proofs.Steps.{passed}
+use Rattle.oram_run.proofs.Submitted.{passed}
 
 -- its blocks are the trees'
 inside : (v : Shape) (x : Submission) → IsFit v.device → IsTaken v.device x → (k : ℕ)

@@ -10,11 +10,13 @@ pub mod Fetches
 pub mod Others
 pub mod Nonces
 pub mod Keeps
+pub mod Answered
+pub mod Submitted
 pub mod Steps
 pub mod Going
 pub mod Replaced
 pub mod Agreeing
-pub mod Entry4
+pub mod MapEntries
 pub mod AgreeOn
 pub mod Judged
 pub mod Outcomes
