@@ -4,7 +4,7 @@ use Rattle.oram_geometry.specs.Sizes.{trees_of, depth_of, fanout}
 use Rattle.oram_run.specs.Shape.{Shape}
 use Rattle.oram_run.specs.Content.{block_of, new_leaf}
 use Rattle.oram_run.specs.State.{State, World, name_of}
-use Rattle.oram_run.specs.Moves.{found_in, entry_in}
+use Rattle.oram_run.specs.Blocks.{found_in, entry_in}
 use Rattle.oram_run.specs.Agree.{named_for, next_tree, IsAmid, IsBetween, AtBetween, IsNext, Agrees}
 use Rattle.oram_run.specs.declared.events.Submission.{Submission}
 

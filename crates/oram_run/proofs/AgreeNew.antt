@@ -17,7 +17,7 @@ use Rattle.oram_run.specs.Progress.{Setting}
 use Rattle.oram_run.specs.Content.{content_of}
 use Rattle.oram_run.specs.Trees.{Stands}
 use Rattle.oram_run.specs.State.{State, World, Holds, no_tree, name_of}
-use Rattle.oram_run.specs.Moves.{found_in, entry_in}
+use Rattle.oram_run.specs.Blocks.{found_in, entry_in}
 use Rattle.oram_run.specs.Law.{new_state, world_of}
 use Rattle.oram_run.specs.Agree.{named_for, IsNext, Agrees, IsOrderly}
 use Rattle.oram_run.specs.declared.events.Submission.{Submission}

@@ -9,7 +9,7 @@ use Rattle.oram_run.specs.Content.{stage_tree}
 use Rattle.oram_run.specs.Shape.{Shape}
 use Rattle.oram_run.specs.Content.{block_of, new_leaf}
 use Rattle.oram_run.specs.State.{State, World, name_of}
-use Rattle.oram_run.specs.Moves.{found_in, entry_in, with_entry, edited, next_named, written_over, put_in}
+use Rattle.oram_run.specs.Blocks.{found_in, entry_in, with_entry, block_after, next_named, written_over, put_in}
 use Rattle.oram_run.specs.Run.{has_bad_length}
 use Rattle.oram_run.specs.Agree.{named_for, next_tree, IsAmid, IsBetween, AtBetween, IsNext, Agrees}
 use Rattle.oram_run.specs.declared.events.Command.{Command}
@@ -34,11 +34,11 @@ pub record Accessed (v : Shape) (s t : State) (w w' : World) (x : Submission) (r
   pub table' : t.table ≡ (if s.stage == 0 then slice_set s.table a (new_leaf v.device i x + 1) else s.table)
   pub named' : t.named ≡ next_named v.device i x bytes
   pub content' : (k b : ℕ)
-      → w'.content k b ≡ put_in w.content i a (record { leaf = new_leaf v.device i x; content = edited v.device i x bytes }) k b
+      → w'.content k b ≡ put_in w.content i a (record { leaf = new_leaf v.device i x; content = block_after v.device i x bytes }) k b
 
 edited_suc : (d : Sizes) (k : ℕ) (x : Submission) (bytes : List ℕ)
-    → edited d (suc k) x bytes ≡ with_entry bytes (block_of d k x % fanout d) (new_leaf d k x + 1)
-unfolding edited
+    → block_after d (suc k) x bytes ≡ with_entry bytes (block_of d k x % fanout d) (new_leaf d k x + 1)
+unfolding block_after
 edited_suc d k x bytes = refl
 
 written_length : (d : Sizes) (c : Command) (bytes : List ℕ) → length bytes ≡ d.block_bytes → has_bad_length d c ≡ false
@@ -47,8 +47,8 @@ written_length d (Read b) bytes size ok = size
 written_length d (Write b new) bytes size ok = grind (arith, nat_tests, ok)
 
 edited_length : (d : Sizes) (i : ℕ) (x : Submission) (bytes : List ℕ) → HasEntries d → length bytes ≡ d.block_bytes
-    → has_bad_length d x.command ≡ false → length (edited d i x bytes) ≡ d.block_bytes
-unfolding edited
+    → has_bad_length d x.command ≡ false → length (block_after d i x bytes) ≡ d.block_bytes
+unfolding block_after
 edited_length d zero x bytes h size ok = written_length d x.command bytes size ok
 edited_length d (suc i) x bytes h size ok =
     let j : block_of d i x % fanout d < fanout d = mod_below (block_of d i x) (fanout d) h.some in
@@ -61,7 +61,7 @@ module _ (v : Shape) (s t : State) (w w' : World) (x : Submission) (rest : List 
       let tree : i ≡ stage_tree v.device s.stage = q.tree in
       omega arith
 
-  content_here : w'.content i a ≡ Some (record { leaf = new_leaf v.device i x; content = edited v.device i x bytes })
+  content_here : w'.content i a ≡ Some (record { leaf = new_leaf v.device i x; content = block_after v.device i x bytes })
   content_here =
       let one : (i == i) ≡ true = grind (arith, nat_tests) in
       let two : (a == a) ≡ true = grind (arith, nat_tests) in
@@ -92,8 +92,8 @@ module _ (v : Shape) (s t : State) (w w' : World) (x : Submission) (rest : List 
       ]
 
   edited_is : (k : ℕ) → k + 1 ≡ i
-      → edited v.device i x bytes ≡ with_entry bytes (block_of v.device k x % fanout v.device) (new_leaf v.device k x + 1)
-  edited_is k e = let z : i ≡ suc k = omega arith in ap (λ (n : ℕ). edited v.device n x bytes) z ∙ edited_suc v.device k x bytes
+      → block_after v.device i x bytes ≡ with_entry bytes (block_of v.device k x % fanout v.device) (new_leaf v.device k x + 1)
+  edited_is k e = let z : i ≡ suc k = omega arith in ap (λ (n : ℕ). block_after v.device n x bytes) z ∙ edited_suc v.device k x bytes
 
   block_is : (k : ℕ) → k + 1 ≡ i → a ≡ block_of v.device k x / fanout v.device
   block_is k e = let z : i ≡ suc k = omega arith in q.block ∙ ap (λ (n : ℕ). block_of v.device n x) z ∙ above v.device k x

@@ -15,7 +15,8 @@ use Rattle.oram_run.specs.Progress.{Status}
 use Rattle.oram_run.specs.Progress.Status.{Idle, Waiting, Stalling, Over}
 use Rattle.oram_run.specs.Run.{Shown, refusal_of, is_over}
 use Rattle.oram_run.specs.State.{State, World, Holds, status_in, name_of}
-use Rattle.oram_run.specs.Moves.{Moved, MovesTo, Moves, Fits, IsReady, found_in, stays, stalls, resends, accepts, stores, fetches, finishes, goes_on, on_submission, on_answer, on_loss, on_retry, world_after, moved}
+use Rattle.oram_run.specs.Blocks.{found_in}
+use Rattle.oram_run.specs.Moves.{Moved, MovesTo, Moves, Fits, IsReady, stays, stalls, resends, accepts, stores, fetches, finishes, goes_on, on_submission, on_answer, on_loss, on_retry, world_after, moved}
 use Rattle.oram_run.specs.Agree.{named_for, next_tree, IsBetween, AtBetween, IsNext, Agrees, IsTaken, IsOrderly}
 use Rattle.oram_run.specs.declared.events.Event.{Event}
 use Rattle.oram_run.specs.declared.events.Event.TheVariants.{Submit, Answer, Lost, Retry}

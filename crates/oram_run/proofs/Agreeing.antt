@@ -6,7 +6,8 @@ use Rattle.oram_run.specs.Content.{stage_tree}
 use Rattle.oram_run.specs.Shape.{Shape}
 use Rattle.oram_run.specs.Content.{block_of}
 use Rattle.oram_run.specs.State.{State, World, name_of}
-use Rattle.oram_run.specs.Moves.{found_in, entry_in, next_named, IsReadyFor}
+use Rattle.oram_run.specs.Blocks.{found_in, entry_in, next_named}
+use Rattle.oram_run.specs.Moves.{IsReadyFor}
 use Rattle.oram_run.specs.Agree.{named_for, next_tree, IsAmid, IsBetween, AtBetween, IsNext, Agrees}
 use Rattle.oram_run.specs.declared.events.Submission.{Submission}
 use Rattle.oram_run.proofs.Maps.{above}

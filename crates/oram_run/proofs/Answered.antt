@@ -15,7 +15,8 @@ use Rattle.oram_run.specs.Nonces.{store_nonce}
 use Rattle.oram_run.specs.Content.{block_of, named_in, content_after}
 use Rattle.oram_run.specs.Run.{note_of, is_accepted, fails_now, is_resent, AskFor, answered_tickets, entries_sent, from_to, PlacedBy, Shown, step_of}
 use Rattle.oram_run.specs.State.{State}
-use Rattle.oram_run.specs.Moves.{Moved, is_new, records_next, MovesTo, stores, fetches, finishes, Sends, latest, first_fetch, body_from, buckets_in}
+use Rattle.oram_run.specs.Blocks.{body_from}
+use Rattle.oram_run.specs.Moves.{Moved, is_new, records_next, MovesTo, stores, fetches, finishes, Sends, latest, first_fetch, buckets_in}
 use Rattle.oram_run.specs.Moves.Ask.{For}
 use Rattle.oram_run.specs.declared.events.Command.{Command}
 use Rattle.oram_run.specs.declared.events.Command.TheVariants.{Read, Write}

@@ -19,7 +19,8 @@ use Rattle.oram_run.specs.Nonces.{store_nonce}
 use Rattle.oram_run.specs.Trees.{Stands, IsPlaced}
 use Rattle.oram_run.specs.Run.{is_waiting, note_of, is_accepted, fails_now, is_resent, replies_at, SendsRight, answered_tickets, entries_sent, PlacedBy, Shown, step_of, IsRight, shows_pair}
 use Rattle.oram_run.specs.State.{State, World, Holds, no_tree, status_by, name_of}
-use Rattle.oram_run.specs.Moves.{Moved, MovesTo, stays, resends, fails, latest, world_after, records_after, PlacedIn, found_in, next_named, IsReady, IsReadyFor, Fits, shows_in}
+use Rattle.oram_run.specs.Blocks.{found_in, next_named}
+use Rattle.oram_run.specs.Moves.{Moved, MovesTo, stays, resends, fails, latest, world_after, records_after, PlacedIn, IsReady, IsReadyFor, Fits, shows_in}
 use Rattle.oram_run.specs.Moves.Ask.{Nothing}
 use Rattle.oram_run.specs.declared.events.Event.{Event}
 use Rattle.oram_run.specs.declared.events.Event.TheVariants.{Submit, Answer, Lost, Retry}

@@ -13,7 +13,7 @@ use Rattle.oram_run.proofs.Bounds.{HasEntries, depth_small}
 use Rattle.oram_run.specs.Events.{address_of, array_at, bytes_written, bytes_of, writes_to}
 use Rattle.oram_run.specs.Content.{block_of, new_leaf, newest_in, named_in, data_in, content_after}
 use Rattle.oram_run.specs.State.{name_of}
-use Rattle.oram_run.specs.Moves.{found_in, entry_in, with_entry, edited, next_named, written_over}
+use Rattle.oram_run.specs.Blocks.{found_in, entry_in, with_entry, block_after, next_named, written_over}
 use Rattle.oram_run.specs.declared.events.Command.{Command}
 use Rattle.oram_run.specs.declared.events.Command.TheVariants.{Read, Write}
 use Rattle.oram_run.specs.declared.events.Submission.{Submission}
@@ -153,8 +153,8 @@ written_here d old x (Write b bytes) own e =
 
 -- the accessed block
 data_here : (d : Sizes) (i : ℕ) (old : List Submission) (x : Submission) → HasEntries d
-    → edited d i x (data_in d i old (block_of d i x)) ≡ data_in d i (x ∷ old) (block_of d i x)
-unfolding edited data_in with_entry
+    → block_after d i x (data_in d i old (block_of d i x)) ≡ data_in d i (x ∷ old) (block_of d i x)
+unfolding block_after data_in with_entry
 data_here d zero old x h = written_here d old x x.command (own_block d x) refl
 data_here d (suc i) old x h =
     let j : ℕ = block_of d i x % fanout d in
@@ -177,12 +177,12 @@ data_there d (suc i) old x a h ne =
     ap (to_be_bytes w32) (sym (named_there d i x old b (λ e. ne (sym up ∙ ap (λ n. n / fanout d) e ∙ sym (above d i x))))))
 
 content_here : (d : Sizes) (i : ℕ) (old : List Submission) (x : Submission) (b : ℕ) → HasEntries d → b ≡ block_of d i x →
-    content_after d i (x ∷ old) b ≡ Some (record { leaf = new_leaf d i x; content = edited d i x (found_in d (content_after d i old (block_of d i x))) })
+    content_after d i (x ∷ old) b ≡ Some (record { leaf = new_leaf d i x; content = block_after d i x (found_in d (content_after d i old (block_of d i x))) })
 unfolding content_after
 content_here d i old x b h e =
     let same : (block_of d i x == b) ≡ true = grind (arith, nat_tests) in
     ap (λ t. option_map (λ s. record { leaf = new_leaf d i s; content = data_in d i (x ∷ old) b }) (cond t (Some x) (newest_in d i old b))) same
-    ∙ ap (λ y. Some (record { leaf = new_leaf d i x; content = y })) (ap (data_in d i (x ∷ old)) e ∙ sym (data_here d i old x h) ∙ ap (edited d i x) (sym (found_is d i old (block_of d i x) h)))
+    ∙ ap (λ y. Some (record { leaf = new_leaf d i x; content = y })) (ap (data_in d i (x ∷ old)) e ∙ sym (data_here d i old x h) ∙ ap (block_after d i x) (sym (found_is d i old (block_of d i x) h)))
 
 content_there : (d : Sizes) (i : ℕ) (old : List Submission) (x : Submission) (b : ℕ) → HasEntries d → b ≢ block_of d i x
     → content_after d i (x ∷ old) b ≡ content_after d i old b
@@ -194,7 +194,7 @@ content_there d i old x b h ne =
 
 -- One more access changes one block.
 pub content_more : (d : Sizes) (i : ℕ) (old : List Submission) (x : Submission) (b : ℕ) → HasEntries d →
-    content_after d i (x ∷ old) b ≡ (if b == block_of d i x then Some (record { leaf = new_leaf d i x; content = edited d i x (found_in d (content_after d i old (block_of d i x))) }) else content_after d i old b)
+    content_after d i (x ∷ old) b ≡ (if b == block_of d i x then Some (record { leaf = new_leaf d i x; content = block_after d i x (found_in d (content_after d i old (block_of d i x))) }) else content_after d i old b)
 content_more d i old x b h =
     elim (eqb_tells b (block_of d i x)) [
       | inl t ↦ rw (t.0) (content_here d i old x b h t.1)

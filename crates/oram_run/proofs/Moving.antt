@@ -16,7 +16,8 @@ use Rattle.oram_run.specs.Content.{block_of, new_leaf, stage_tree}
 use Rattle.oram_run.specs.Trees.{Stands, IsPlaced}
 use Rattle.oram_run.specs.Run.{Shown}
 use Rattle.oram_run.specs.State.{State, World, Holds, no_tree}
-use Rattle.oram_run.specs.Moves.{Ask, Moved, MovesTo, Sends, PlacedIn, found_in, edited, stores, latest, records_after, records_next, world_after, buckets_in, is_new}
+use Rattle.oram_run.specs.Blocks.{found_in, block_after}
+use Rattle.oram_run.specs.Moves.{Ask, Moved, MovesTo, Sends, PlacedIn, stores, latest, records_after, records_next, world_after, buckets_in, is_new}
 use Rattle.oram_run.specs.Moves.Ask.{Nothing, Again, For}
 use Rattle.oram_run.specs.declared.events.Note.TheVariants.{Taken}
 use Rattle.oram_run.specs.declared.events.Submission.{Submission}
@@ -79,7 +80,7 @@ abbrev pub stored_block : Shape → State → World → Submission → Cell
 stored_block v s w x =
     let i = stage_tree v.device s.stage in
     let a = block_of v.device i x in
-    record { address = a; leaf = new_leaf v.device i x; content = edited v.device i x (found_in v.device (w.content i a)) }
+    record { address = a; leaf = new_leaf v.device i x; content = block_after v.device i x (found_in v.device (w.content i a)) }
 
 -- the entry of the STORE that goes out then
 abbrev pub store_asked : Shape → State → Entry

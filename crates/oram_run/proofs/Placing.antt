@@ -18,7 +18,8 @@ use Rattle.oram_tree.specs.Access.{IsRewritten, IsAtOrAbsent}
 use Rattle.oram_run.specs.Shape.{Shape}
 use Rattle.oram_run.specs.Trees.{Stands, IsPlaced, part_on}
 use Rattle.oram_run.specs.State.{State, World, Holds, no_tree, name_of}
-use Rattle.oram_run.specs.Moves.{put_in, leaf_for, records_after}
+use Rattle.oram_run.specs.Blocks.{put_in}
+use Rattle.oram_run.specs.Moves.{leaf_for, records_after}
 use Rattle.oram_run.specs.declared.events.Submission.{Submission}
 use Rattle.oram_run.proofs.Replaced.{store_replaces, store_leaves}
 

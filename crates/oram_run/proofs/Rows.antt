@@ -4,13 +4,12 @@ use Rattle.oram_geometry.specs.declared.Sizes.{Sizes}
 use Rattle.oram_geometry.specs.Path.{node_on}
 use Rattle.oram_geometry.specs.Sizes.{trees_of, level_for, blocks_in, record_len_of}
 use Rattle.oram_geometry.specs.Least.{least_from}
-use Rattle.oram_trace.specs.declared.asked.Entry.{Entry}
-use Rattle.oram_trace.specs.Tape.{entry, greatest_below}
+use Rattle.oram_trace.specs.Tape.{greatest_below}
 use Rattle.oram_wire.specs.HostMessages.{put_body, store_body}
 use Rattle.oram_hash.specs.Path.{record_at}
 use Rattle.oram_run.specs.Shape.{Shape}
 use Rattle.oram_run.specs.Messages.{last_stored, written, level_on}
-use Rattle.oram_run.specs.Answers.{Outcome, path_in, outcome_of, good_answer, first_other}
+use Rattle.oram_run.specs.Answers.{path_in, outcome_of, good_answer, first_other}
 use Rattle.oram_run.specs.Answers.Outcome.{Good, NoRoom, Fails}
 use Rattle.oram_run.specs.Progress.{Setting, Step, accepted, progress, status_from, sent}
 use Rattle.oram_run.specs.Content.{content_after, data_in, named_in, accesses}

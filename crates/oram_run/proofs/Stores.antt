@@ -17,7 +17,8 @@ use Rattle.oram_run.specs.Content.{block_of, new_leaf, named_in, data_in, conten
 use Rattle.oram_run.specs.State.{State}
 use Rattle.oram_tree.specs.State.{State as Tree}
 use Rattle.oram_run.proofs.Nonces.{nonce_at}
-use Rattle.oram_run.specs.Moves.{found_in, edited, next_named, kept_of, put_in, leaf_for, stores}
+use Rattle.oram_run.specs.Blocks.{found_in, block_after, next_named, kept_of, put_in}
+use Rattle.oram_run.specs.Moves.{leaf_for, stores}
 use Rattle.oram_run.specs.declared.events.Submission.{Submission}
 use Rattle.oram_run.proofs.Bounds.{HasEntries}
 use Rattle.oram_run.proofs.Maps.{data_zero, content_more, found_is, next_is, named_here, named_there, named_range, leaf_small}
@@ -77,13 +78,13 @@ content_stored v past old rest s x fit l qu few even k below =
     let d = v.shape.device in
     let i : ℕ = stage_tree d s.stage in
     let a : ℕ = block_of d i x in
-    let h : Held = record { leaf = new_leaf d i x; content = edited d i x (found_in d (content_of v past i a)) } in
+    let h : Held = record { leaf = new_leaf d i x; content = block_after d i x (found_in d (content_of v past i a)) } in
     let was = content_before v past old rest s x fit l qu few even in
     fun_ext (λ b. elim (eqb_tells k i) [
       | inl t ↦
           let due : 2 * (trees_of d - 1 - k) < s.stage + 1 = omega (arith, stage_back (trees_of d) s.stage few even, t.1) in
           put_same (content_of v past) i a h k b t.1
-          ∙ ap (λ (f : Map). if b == a then Some (record { leaf = new_leaf d i x; content = edited d i x (found_in d (f a)) }) else f b) was
+          ∙ ap (λ (f : Map). if b == a then Some (record { leaf = new_leaf d i x; content = block_after d i x (found_in d (f a)) }) else f b) was
           ∙ sym (content_more d i old x b fit.words)
           ∙ ap (λ (n : ℕ). content_after d n (x ∷ old) b) (sym t.1)
           ∙ ap (λ xs. content_after d k xs b) (sym (applied_yes d old rest x (s.stage + 1) k due))

@@ -9,7 +9,7 @@ use Rattle.oram_run.specs.Shape.{Shape}
 use Rattle.oram_run.specs.Run.{has_bad_length}
 use Rattle.oram_run.specs.Content.{block_of, new_leaf}
 use Rattle.oram_run.specs.State.{State, World, name_of}
-use Rattle.oram_run.specs.Moves.{found_in, entry_in}
+use Rattle.oram_run.specs.Blocks.{found_in, entry_in}
 use Rattle.oram_run.specs.declared.events.Submission.{Submission}
 
 -- what is named for block b of tree i: in the table for the last tree, else in its map block

@@ -9,6 +9,7 @@ pub mod Trees
 pub mod Run
 pub mod State
 pub mod Formatting
+pub mod Blocks
 pub mod Moves
 pub mod Agree
 pub mod Law

@@ -1,9 +1,8 @@
 -- What one event does to a core, in a world.
-use Rattle.std.specs.Prelude.{◌≡◌, ℕ, zero, suc, ◌+◌, ◌-◌, ◌*◌, ◌%◌, ◌^◌, ◌≤◌, ◌==◌, ◌&&◌, Bool, true, false, if◌then◌else◌, List, [], ◌∷◌, ◌++◌, length, take, drop, slice_index, slice_range, slice_set, Option, Some, None, map, unwrap_or}
+use Rattle.std.specs.Prelude.{◌≡◌, ℕ, ◌+◌, ◌-◌, ◌*◌, ◌%◌, ◌^◌, ◌≤◌, ◌==◌, ◌&&◌, Bool, true, false, if◌then◌else◌, List, [], ◌∷◌, ◌++◌, length, slice_index, slice_set, Option, Some, None, map, unwrap_or}
 use Rattle.std.specs.List.{All}
-use Rattle.std.specs.Int.{w32, to_be_bytes, from_be_bytes}
 use Rattle.oram_geometry.specs.declared.Sizes.{Sizes}
-use Rattle.oram_geometry.specs.Sizes.{trees_of, fanout, depth_of, leaf_of}
+use Rattle.oram_geometry.specs.Sizes.{trees_of, depth_of, leaf_of}
 use Rattle.oram_trace.specs.declared.asked.Entry.{Entry}
 use Rattle.oram_run.specs.Content.{stage_tree}
 use Rattle.oram_run.specs.Events.{failed_reply}
@@ -11,16 +10,14 @@ use Rattle.oram_run.specs.Shape.{Shape}
 use Rattle.oram_run.specs.Messages.{IsMessage, asked, is_store, written}
 use Rattle.oram_run.specs.Answers.{Outcome, outcome_of, pair_in}
 use Rattle.oram_run.specs.Answers.Outcome.{Good, NoRoom, Fails}
-use Rattle.oram_tree.specs.Content.{Map, Entry as Held, put}
-use Rattle.oram_tree.specs.Access.{content_or_zeros}
+use Rattle.oram_tree.specs.Content.{Map}
 use Rattle.oram_run.specs.Content.{block_of, new_leaf}
+use Rattle.oram_run.specs.Blocks.{found_in, block_after, next_named, kept_of, put_in, body_from}
 use Rattle.oram_run.specs.Progress.{Status}
 use Rattle.oram_run.specs.Progress.Status.{Idle, Waiting, Stalling, Over}
 use Rattle.oram_run.specs.Run.{Shown, refusal_of, is_over, is_waiting}
 use Rattle.oram_run.specs.State.{State, World, Holds, status_in, named_now, name_of}
 use Rattle.oram_run.specs.Trees.{IsPlaced}
-use Rattle.oram_run.specs.declared.events.Command.{Command}
-use Rattle.oram_run.specs.declared.events.Command.TheVariants.{Read, Write}
 use Rattle.oram_run.specs.declared.events.Event.{Event}
 use Rattle.oram_run.specs.declared.events.Event.TheVariants.{Submit, Answer, Lost, Retry}
 use Rattle.oram_run.specs.declared.events.Reason.{Reason}
@@ -28,8 +25,6 @@ use Rattle.oram_run.specs.declared.events.Refusal.{Refusal}
 use Rattle.oram_run.specs.declared.events.Note.{Note}
 use Rattle.oram_run.specs.declared.events.Note.TheVariants.{Accepted, Refused, Taken, Stalled, FailedNow, Resent, Unexpected}
 use Rattle.oram_run.specs.declared.events.Reply.{Reply}
-use Rattle.oram_run.specs.declared.events.ReplyBody.{ReplyBody}
-use Rattle.oram_run.specs.declared.events.ReplyBody.TheVariants.{Data, Done}
 use Rattle.oram_run.specs.declared.events.Submission.{Submission}
 
 -- what is to be sent: nothing, the last message again, or a message that asks for an entry
@@ -45,44 +40,6 @@ pub record Moved : Type 0 where
   pub ask : Ask
   pub state : State
   pub content : ℕ → Map
-
--- what a tree has of a block, zeros where it has none
-abbrev pub found_in : Sizes → Option Held → List ℕ
-found_in d o = content_or_zeros d.block_bytes o
-
--- entry j of a map block
-unfoldable pub entry_in : List ℕ → ℕ → ℕ
-entry_in bytes j = from_be_bytes w32 (slice_range bytes (4 * j) (4 * j + 4))
-
-unfoldable pub with_entry : List ℕ → ℕ → ℕ → List ℕ
-with_entry bytes j e = take (4 * j) bytes ++ to_be_bytes w32 e ++ drop (4 * j + 4) bytes
-
-abbrev pub written_over : Command → List ℕ → List ℕ
-written_over (Read a) bytes = bytes
-written_over (Write a new) bytes = new
-
--- The block of tree i after the access: in tree 0 what the command leaves, else with the next tree's block named by its new leaf.
-unfoldable pub edited : Sizes → ℕ → Submission → List ℕ → List ℕ
-edited d zero x bytes = written_over x.command bytes
-edited d (suc i) x bytes = with_entry bytes (block_of d i x % fanout d) (new_leaf d i x + 1)
-
--- what the block named for the next tree's
-unfoldable pub next_named : Sizes → ℕ → Submission → List ℕ → ℕ
-next_named d zero x bytes = 0
-next_named d (suc i) x bytes = entry_in bytes (block_of d i x % fanout d)
-
--- what is kept of it for a reply
-abbrev pub kept_of : ℕ → List ℕ → List ℕ
-kept_of zero bytes = bytes
-kept_of (suc i) bytes = []
-
--- the trees' content with one block of tree i changed
-abbrev pub put_in : (ℕ → Map) → ℕ → ℕ → Held → ℕ → Map
-put_in content i a h k b = if k == i then put (content k) a h b else content k b
-
-abbrev pub body_from : List ℕ → Command → ReplyBody
-body_from bytes (Read a) = Data bytes
-body_from bytes (Write a new) = Done
 
 -- the leaf of a submission in tree i, where this is named: the spare word's if none is
 abbrev pub leaf_for : Sizes → ℕ → ℕ → Submission → ℕ
@@ -129,7 +86,7 @@ stores v s w x =
         named = next_named d i x bytes;
         before = kept_of i bytes;
       };
-      content = put_in w.content i a (record { leaf = new_leaf d i x; content = edited d i x bytes });
+      content = put_in w.content i a (record { leaf = new_leaf d i x; content = block_after d i x bytes });
     }
 
 -- a path is back, and the next tree's is fetched
