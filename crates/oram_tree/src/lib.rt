@@ -190,3 +190,6 @@ impl Tree {
         Ok(access)
     }
 }
+
+#[cfg(test)]
+mod tests;
