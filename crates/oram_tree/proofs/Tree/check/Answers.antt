@@ -1,4 +1,4 @@
-use Rattle.std.proofs.Common.{◌≡◌, ◌↔◌, ℕ, List, Err, ap, subst}
+use Rattle.std.proofs.Common.{◌≡◌, ◌↔◌, Err, subst}
 use Rattle.oram_hash.specs.declared.HashFault.TheVariants.{Tampered}
 use Rattle.oram_hash.specs.Path.{path_of, IsTamperedAt}
 use Rattle.oram_tree.specs.State.{State}
