@@ -1,10 +1,11 @@
 -- The steps of an access, put together.
-use Rattle.std.proofs.Common.{◌≡◌, ◌≢◌, ◌↔◌, ℕ, ◌+◌, ◌^◌, ◌<◌, ◌≤◌, Bool, true, false, List, [], ◌∷◌, ◌++◌, map, Vec, Global, length, get_or, Option, Some, is_some, All, Contains, inl, inr, refl, sym, ap, subst, ◌∙◌, arith}
+use Rattle.std.proofs.Common.{◌≡◌, ◌≢◌, ◌↔◌, ℕ, ◌+◌, ◌*◌, ◌^◌, ◌<◌, ◌≤◌, take, drop, Bool, true, false, List, [], ◌∷◌, ◌++◌, map, Vec, Global, length, get_or, Option, is_some, All, Contains, inl, inr, refl, sym, ap, subst, ◌∙◌, arith}
 use Rattle.std.proofs.lemmas.Bool.{cases_eq}
-use Rattle.std.proofs.lemmas.List.{length-replicate, length-map, map-append, get_or_push, get_or_append_left, get_or-map}
+use Rattle.std.proofs.lemmas.List.{length-replicate, length-append, length-take, length-drop, length-map, map-append, get_or_push, get_or_append_left, get_or-map}
 use Rattle.std.proofs.lemmas.List.Elements.{All-contains, Contains-get_or}
 use Rattle.std.proofs.lemmas.List.Sorted.{All-permutation, Contains-permutation, IsPermutation-sym}
 use Rattle.std.specs.List.Sorted.{IsPermutation}
+use Rattle.std.specs.Int.{w32, to_be_bytes}
 use Rattle.oram_geometry.specs.declared.Sizes.{Sizes}
 use Rattle.oram_geometry.specs.Sizes.{IsDevice, blocks_in, depth_of, record_len_of}
 use Rattle.oram_geometry.proofs.Nodes.{node_on-injective}
@@ -20,12 +21,12 @@ use Rattle.oram_stash.specs.Eviction.{IsEviction, listed, all_listed}
 use Rattle.oram_stash.proofs.Tight.{All-of_list, All-of_rest}
 use Rattle.oram_stash.proofs.Rising.{Contains-cases, Contains-first, Contains-later}
 use Rattle.oram_tree.specs.declared.edits.Edit.{Edit}
-use Rattle.oram_tree.specs.declared.edits.Edit.TheVariants.{Keep, Replace}
+use Rattle.oram_tree.specs.declared.edits.Edit.TheVariants.{Keep, Replace, Entry}
 use Rattle.oram_tree.specs.declared.faults.TreeFault.{TreeFault}
 use Rattle.oram_tree.specs.declared.faults.TreeFault.TheVariants.{Unreadable, OutOfMemory}
 use Rattle.oram_tree.specs.Content.{Map, HasContent}
 use Rattle.oram_tree.specs.State.{State, IsStoredWith}
-use Rattle.oram_tree.specs.Edits.{edited, IsEditOf}
+use Rattle.oram_tree.specs.Edits.{edited, with_entry, IsEditOf, HasRoomFor}
 use Rattle.oram_tree.specs.Access.{IsAtOrAbsent, IsNear, IsReadable, IsLookup, IsWaiting, IsRewritten, IsUpdate, part_at}
 use Rattle.oram_tree.proofs.Content.{reads_uniquely, Before, IsBefore, After, is_readable, told_by, access_content}
 use Rattle.oram_tree.proofs.Evicted.{evicted}
@@ -74,27 +75,37 @@ lookup_near near gathered len address found before same looked = record {
   absent = λ e. let n = looked.absent e in (λ c there. n.0 c ((same c).1 there), n.1);
 }
 
--- near blocks are of the tree
-pub near_block : (opening : List ℕ → Option (List ℕ)) (s : Sizes) (i : ℕ) (p : Path) (stash : List Cell) → All (IsBlockOf s i) stash → (d : Cell) → IsNear (Reads opening s i) p stash d → IsBlockOf s i d
-near_block opening s i p stash all d (inl stashed) = All-contains (IsBlockOf s i) stash d all stashed
-near_block opening s i p stash all d (inr (level, h, (cells, read, inside))) = All-contains (IsBlockOf s i) cells d read.spelled.bucket.blocks inside
-
 -- data that is looked up has a block's length
 pub before_len : (near : Cell → Type 0) (len address : ℕ) (found : Bool) (before : List ℕ) → IsLookup near len address found before → ((d : Cell) → near d → length d.content ≡ len) → length before ≡ len
 before_len near len address true before looked whole = let b = looked.present refl in ap length (sym b.3) ∙ whole b.0 b.1
 before_len near len address false before looked whole = let n = looked.absent refl in ap length n.1 ∙ length-replicate len 0
 
-edited_len : (len : ℕ) (e : Edit) (before : List ℕ) → IsEditOf len e → length before ≡ len → length (edited e before) ≡ len
+length-with_entry : (bytes : List ℕ) (j value : ℕ) → 4 * j + 4 ≤ length bytes → length (with_entry bytes j value) ≡ length bytes
+unfolding with_entry
+length-with_entry bytes j value fits =
+    let front = take (4 * j) bytes in
+    let back = drop (4 * j + 4) bytes in
+    let four : length (to_be_bytes w32 value) ≡ 4 = refl in
+    omega (arith, length-append (front ++ to_be_bytes w32 value) back, length-append front (to_be_bytes w32 value), length-take (4 * j) bytes, length-drop (4 * j + 4) bytes, four)
+
+-- a block has room for an edit of its tree
+pub room_for : (s : Sizes) (i : ℕ) (e : Edit) → IsEditOf s i e → HasRoomFor s.block_bytes e
+room_for s i Keep fits = tt
+room_for s i (Replace bytes) fits = fits
+room_for s i (Entry j value) fits = let within = fits.1 in omega arith
+
+edited_len : (len : ℕ) (e : Edit) (before : List ℕ) → HasRoomFor len e → length before ≡ len → length (edited e before) ≡ len
 edited_len len Keep before fits whole = whole
 edited_len len (Replace bytes) before fits whole = fits
+edited_len len (Entry j value) before fits whole = length-with_entry before j value (omega (arith, fits, whole)) ∙ whole
 
 -- the changed block is of the tree
-pub changed_block : (near : Cell → Type 0) (s : Sizes) (i address leaf : ℕ) (e : Edit) (found : Bool) (before : List ℕ) → address < blocks_in s i → leaf < 2 ^ depth_of s i → IsEditOf s.block_bytes e
+pub changed_block : (near : Cell → Type 0) (s : Sizes) (i address leaf : ℕ) (e : Edit) (found : Bool) (before : List ℕ) → address < blocks_in s i → leaf < 2 ^ depth_of s i → IsEditOf s i e
     → IsLookup near s.block_bytes address found before → ((d : Cell) → near d → IsBlockOf s i d) → (let c : Cell = record { address = address; leaf = leaf; content = edited e before } in IsBlockOf s i c)
 changed_block near s i address leaf e found before address_in leaf_in fits looked blocks = record {
   address_in = address_in;
   leaf_in = leaf_in;
-  whole = edited_len s.block_bytes e before fits (before_len near s.block_bytes address found before looked (λ d there. (blocks d there).whole));
+  whole = edited_len s.block_bytes e before (room_for s i e fits) (before_len near s.block_bytes address found before looked (λ d there. (blocks d there).whole));
 }
 
 -- the blocks that wait are of the tree
@@ -222,15 +233,11 @@ only_memory Unreadable other = absurd (other refl)
 only_memory OutOfMemory other = refl
 
 -- so all that waits is of the tree
-pub waiting_of_tree : (opening : List ℕ → Option (List ℕ)) (s : Sizes) (i : ℕ) (p : Path) (stash gathered waiting : List Cell) (address leaf : ℕ) (e : Edit) (found : Bool) (before : List ℕ)
-    → address < blocks_in s i → leaf < 2 ^ depth_of s i → IsEditOf s.block_bytes e → All (IsBlockOf s i) stash
-    → ((d : Cell) → Contains gathered d ↔ IsNear (Reads opening s i) p stash d) → IsLookup (Contains gathered) s.block_bytes address found before
-    → (let c : Cell = record { address = address; leaf = leaf; content = edited e before } in IsWaiting (Contains gathered) c waiting) → All (IsBlockOf s i) waiting
-waiting_of_tree opening s i p stash gathered waiting address leaf e found before address_in leaf_in fits all near looked waits =
-    let is_near = IsNear (Reads opening s i) p stash in
-    let blocks = near_block opening s i p stash all in
-    waiting_blocks is_near s i _ waiting (changed_block is_near s i address leaf e found before address_in leaf_in fits (lookup_near is_near gathered s.block_bytes address found before near looked) blocks) blocks
-    (waiting_near is_near gathered waiting _ near waits)
+pub waiting_of_tree : (s : Sizes) (i : ℕ) (gathered waiting : List Cell) (address leaf : ℕ) (e : Edit) (found : Bool) (before : List ℕ) → address < blocks_in s i → leaf < 2 ^ depth_of s i → IsEditOf s i e → All (IsBlockOf s i) gathered
+    → IsLookup (Contains gathered) s.block_bytes address found before → (let c : Cell = record { address = address; leaf = leaf; content = edited e before } in IsWaiting (Contains gathered) c waiting) → All (IsBlockOf s i) waiting
+waiting_of_tree s i gathered waiting address leaf e found before address_in leaf_in fits all looked waits =
+    let blocks = λ (d : Cell) (there : Contains gathered d). All-contains (IsBlockOf s i) gathered d all there in
+    waiting_blocks (Contains gathered) s i _ waiting (changed_block (Contains gathered) s i address leaf e found before address_in leaf_in fits looked blocks) blocks waits
 
 -- a fact on a tree's number and stash, at equal ones
 pub moved : (Q : ℕ → List Cell → Type 0) (n m : ℕ) (xs ys : List Cell) → n ≡ m → xs ≡ ys → Q n xs → Q m ys

@@ -1,5 +1,5 @@
 -- One access to a tree.
-use Rattle.std.specs.Prelude.{◌≡◌, ◌≢◌, ℕ, ◌+◌, ◌≤◌, ◌⊎◌, ◌↔◌, List, Option, Some, None, Bool, true, false, is_some, slice_index_or, [], Contains, length, replicate}
+use Rattle.std.specs.Prelude.{◌≡◌, ◌≢◌, ℕ, ◌+◌, ◌≤◌, ◌⊎◌, ◌↔◌, List, Option, Some, None, Bool, true, false, is_some, slice_index_or, [], Contains, replicate}
 use Rattle.oram_geometry.specs.declared.Sizes.{Sizes}
 use Rattle.oram_hash.specs.Path.{Path, record_at}
 use Rattle.oram_hash.specs.Record.{sealed_part}

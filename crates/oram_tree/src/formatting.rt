@@ -1,5 +1,5 @@
 //! The making of a tree of empty buckets.
-ghost use Rattle.std.specs.Prelude.{◌≡◌, ◌+◌, ◌*◌, ◌-◌, ◌^◌, ◌<◌, ◌≤◌, ℕ, List, [], ◌∷◌, ◌++◌, IfOk, OnOk};
+ghost use Rattle.std.specs.Prelude.{◌≡◌, ◌≢◌, ◌+◌, ◌*◌, ◌-◌, ◌^◌, ◌<◌, ◌≤◌, ℕ, List, [], ◌∷◌, ◌++◌, Err, IfOk, OnOk};
 ghost use Rattle.oram_geometry.specs.Sizes.{trees_of, depth_of, record_len_of};
 ghost use Rattle.oram_bucket.specs.Bucket.{spelling};
 ghost use Rattle.oram_wire.specs.HostMessages.{put_body, shape_body};
@@ -13,7 +13,7 @@ use oram_bucket::{Block, Sealer, seal_bucket};
 use oram_bytes::Bytes;
 use oram_geometry::Device;
 use oram_hash::{DIGEST_LEN, NO_DIGEST, node_digest};
-use oram_wire::{HostRequest, Sink};
+use oram_wire::{HostRequest, Sink, SinkFault};
 use std::alloc::{AllocError, Global};
 
 /// The record of an empty bucket with these children's digests.
@@ -50,6 +50,7 @@ fn put_node<S: Sealer, K: Sink>(
     right: &[u8; DIGEST_LEN],
 ) -> Result<[u8; DIGEST_LEN], FormatFault>
     requires { tree < trees_of device.now }
+    ensures memory { result ≢ Err (FormatFault.Sink SinkFault.OutOfMemory) }
     ensures put { let bytes = S.sealing sealer.now nonce (spelling device.now []) ++ left.now ++ right.now in
         OnOk result (K.putting sink.old (put_body tree node bytes) sink.new) }
     ensures digest { let bytes = S.sealing sealer.now nonce (spelling device.now []) ++ left.now ++ right.now in
@@ -88,6 +89,7 @@ fn grow<S: Sealer, K: Sink>(
     requires height { height ≤ 24 }
     requires nodes { (node + 2) * 2 ^ height ≤ 2 ^ 25 }
     requires nonces { nonce + node_count height ≤ 2 ^ 64 }
+    ensures memory { result ≢ Err (FormatFault.Sink SinkFault.OutOfMemory) }
     ensures put { let seal = λ (n : ℕ). S.sealing sealer.now n (spelling device.now []) in
         OnOk result (PutsAll K.putting sink.old (puts seal tree height nonce node) sink.new) }
     ensures digest { let seal = λ (n : ℕ). S.sealing sealer.now n (spelling device.now []) in
@@ -128,7 +130,8 @@ pub(crate) fn format_tree<S: Sealer, K: Sink>(
 ) -> Result<[u8; DIGEST_LEN], FormatFault>
     requires tree { tree < trees_of device.now }
     requires nonces { nonce + node_count (depth_of device.now tree) ≤ 2 ^ 64 }
-    ensures { IfOk result (λ root. (bodies : List (List ℕ)) × PutsAll K.putting sink.old bodies sink.new
+    ensures memory { result ≢ Err (FormatFault.Sink SinkFault.OutOfMemory) }
+    ensures made { IfOk result (λ root. (bodies : List (List ℕ)) × PutsAll K.putting sink.old bodies sink.new
         × IsFormat (S.opening sealer.now) (S.sealing sealer.now) (S.overhead sealer.now) device.now nonce
         (record { number = tree; root = root; stash = [] }) bodies) }
 {

@@ -1,7 +1,8 @@
 //! The reading of a path into a stash.
-ghost use Rattle.std.specs.Prelude.{◌≡◌, ◌≢◌, ◌⊎◌, ◌↔◌, ◌<◌, Err, OnOk, Contains};
+ghost use Rattle.std.specs.Prelude.{◌≡◌, ◌≢◌, ◌⊎◌, ◌↔◌, ◌<◌, Err, OnOk, All, Contains};
 ghost use Rattle.oram_geometry.specs.Sizes.{trees_of, depth_of};
 ghost use Rattle.oram_bucket.specs.Cell.{Cell, IsRising};
+ghost use Rattle.oram_bucket.specs.Bucket.{IsBlockOf};
 ghost use Rattle.oram_bucket.specs.Reading.{Reads};
 ghost use Rattle.oram_tree.specs.Access.{IsNear, IsReadable};
 
@@ -46,7 +47,9 @@ pub(crate) fn gather<S: Sealer>(
     requires tree { tree < trees_of device.now }
     requires depth { path.now.depth ≡ depth_of device.now tree }
     requires rising { IsRising stash.old }
+    requires blocks { All (IsBlockOf device.now tree) stash.old }
     ensures rising { OnOk result (IsRising stash.new) }
+    ensures blocks { OnOk result (All (IsBlockOf device.now tree) stash.new) }
     ensures near { let reads = Reads (S.opening sealer.now) device.now tree in
         OnOk result ((c : Cell) → Contains stash.new c ↔ IsNear reads path.now stash.old c) }
     ensures unreadable { let reads = Reads (S.opening sealer.now) device.now tree in

@@ -5,9 +5,9 @@
 //! who knows which leaf a block has, is the layer above.
 #![tactic(auto)]
 
-ghost use Rattle.std.specs.Prelude.{◌≡◌, ◌⊎◌, ◌+◌, ◌^◌, ◌<◌, ◌≤◌, ℕ, List, [], Err, IfOk, OnOk, OnErr, IfErr, MatchResult, All, length};
+ghost use Rattle.std.specs.Prelude.{◌≡◌, ◌≢◌, ◌⊎◌, ◌↔◌, ◌+◌, ◌^◌, ◌<◌, ◌≤◌, ℕ, List, [], Err, IsOk, IfOk, OnOk, OnErr, IfErr, MatchResult, All, length};
 ghost use Rattle.oram_geometry.specs.Sizes.{trees_of, blocks_in, depth_of};
-ghost use Rattle.oram_hash.specs.Path.{path_of, with_bytes, HasLength};
+ghost use Rattle.oram_hash.specs.Path.{path_of, with_bytes, HasLength, IsAccepted, IsTamperedAt};
 ghost use Rattle.oram_hash.specs.Tree.{Collides, IsPathOf, IsStored};
 ghost use Rattle.oram_hash.specs.Verdict.{IsFaultOf};
 ghost use Rattle.oram_bucket.specs.Bucket.{IsBlockOf};
@@ -31,14 +31,14 @@ use oram_bucket::Sealer;
 use oram_geometry::Device;
 use oram_hash::{DIGEST_LEN, HashFault, PathView, check_path};
 use oram_stash::Stash;
-use oram_wire::Sink;
+use oram_wire::{Sink, SinkFault};
 pub use rewriting::Access;
 use rewriting::{Rewritten, rewrite};
 use std::alloc::Global;
 use std::marker::Model;
 
 /// A tree as its client knows it.
-#[derive(Drop)]
+#[derive(Debug, Drop)]
 pub struct Tree {
     number: u8,
     root: [u8; DIGEST_LEN],
@@ -66,6 +66,7 @@ impl Tree {
     ) -> Result<Tree, FormatFault>
         requires number { number < trees_of device.now }
         requires nonces { nonce + node_count (depth_of device.now number) ≤ 2 ^ 64 }
+        ensures memory { result ≢ Err (FormatFault.Sink SinkFault.OutOfMemory) }
         ensures number { IfOk result (λ t. t.number ≡ number) }
         ensures stash { IfOk result (λ t. t.stash ≡ []) }
         ensures made { IfOk result (λ t. (bodies : List (List ℕ)) × PutsAll K.putting sink.old bodies sink.new
@@ -105,6 +106,15 @@ impl Tree {
         requires leaf { leaf < 2 ^ depth_of device.now self.now.number }
         requires overhead { overhead ≤ 64 }
         ensures view { IfOk result (λ v. v ≡ path_of device.now self.now.number leaf overhead bytes.now) }
+
+        ensures accepted { let p = path_of device.now self.now.number leaf overhead bytes.now in
+            IsOk result ↔ IsAccepted p self.now.root }
+        ensures length { let p = path_of device.now self.now.number leaf overhead bytes.now in
+            (result ≡ Err HashFault.Length) ↔ (¬ HasLength p) }
+        ensures tampered { let p = path_of device.now self.now.number leaf overhead bytes.now in
+            (level : ℕ) → (result ≡ Err (HashFault.Tampered level)) ↔ IsTamperedAt p self.now.root level }
+
+        // Against a stored tree of the root.
         ensures judged { let p = path_of device.now self.now.number leaf overhead bytes.now in
             (records : ℕ → List ℕ) → IsStored p.depth p.record_len self.now.root records
             → MatchResult result (λ _. IsPathOf records p) (IsFaultOf records p) ⊎ Collides records p }
@@ -132,7 +142,7 @@ impl Tree {
         requires old_leaf { old_leaf < 2 ^ depth_of device.now self.old.number }
         requires new_leaf { new_leaf < 2 ^ depth_of device.now self.old.number }
         requires nonces { nonce + depth_of device.now self.old.number < 2 ^ 64 }
-        requires edit { IsEditOf device.now.block_bytes edit }
+        requires edit { IsEditOf device.now self.old.number edit }
         requires blocks { All (IsBlockOf device.now self.old.number) self.old.stash }
 
         ensures err { OnErr result (self.new ≡ self.old) }
@@ -190,3 +200,6 @@ impl Tree {
         Ok(access)
     }
 }
+
+#[cfg(test)]
+mod tests;

@@ -7,7 +7,7 @@ ghost use Rattle.oram_bucket.specs.Cell.{Cell, IsRising};
 ghost use Rattle.oram_bucket.specs.Bucket.{IsBlockOf, IsBucketOf, spelling};
 ghost use Rattle.oram_bucket.specs.Reading.{Reads};
 ghost use Rattle.oram_stash.specs.Eviction.{listed};
-ghost use Rattle.oram_tree.specs.Edits.{edited, IsEditOf};
+ghost use Rattle.oram_tree.specs.Edits.{edited, IsEditOf, HasRoomFor};
 ghost use Rattle.oram_tree.specs.Access.{IsNear, IsReadable, IsLookup, IsWaiting, IsRewritten, part_at};
 
 use crate::edits::{Edit, apply};
@@ -77,7 +77,9 @@ fn change(
     leaf: u32,
     edit: Edit<'_>,
 ) -> Result<(Vec<u8>, bool), TreeFault>
-    requires { IsRising stash.old }
+    requires edit { HasRoomFor device.now.block_bytes edit }
+    requires rising { IsRising stash.old }
+    requires whole { All (λ block. length block.content ≡ device.now.block_bytes) stash.old }
     ensures rising { OnOk result (IsRising stash.new) }
     ensures lookup { IfOk result (λ r.
         IsLookup (Contains stash.old) device.now.block_bytes address r.1 r.0.items) }
@@ -149,7 +151,7 @@ pub(crate) fn rewrite<S: Sealer>(
     requires old_leaf { old_leaf < 2 ^ depth_of device.now tree }
     requires new_leaf { new_leaf < 2 ^ depth_of device.now tree }
     requires nonces { nonce + depth_of device.now tree < 2 ^ 64 }
-    requires edit { IsEditOf device.now.block_bytes edit }
+    requires edit { IsEditOf device.now tree edit }
     requires blocks { All (IsBlockOf device.now tree) stash }
     requires rising { IsRising stash }
 

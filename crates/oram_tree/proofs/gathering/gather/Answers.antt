@@ -1,8 +1,8 @@
-use Rattle.std.proofs.Common.{◌≡◌, ◌≤◌, ◌^◌, ℕ, List, sym, ap, subst, arith}
+use Rattle.std.proofs.Common.{◌≡◌, ◌≤◌, ℕ, List, sym, subst, arith}
 use Rattle.std.proofs.lemmas.Result.{err_from_is_err_and}
 use Rattle.oram_bucket.specs.Reading.{Reads}
 use Rattle.oram_tree.proofs.Content.{reads_uniquely}
-use Rattle.oram_tree.proofs.Gathered.{levels_more, levels_whole, readable_more, readable_whole, not_readable, not_once, unread}
+use Rattle.oram_tree.proofs.Gathered.{levels_more, levels_whole, readable_more, readable_whole, not_readable, not_once, unread, gathered_blocks}
 use Rattle.oram_tree.proofs.gathering.gather.Goals as goal
 
 pub returns-in_err-blocks-clause-unreadable : goal.returns-in_err-blocks-clause-unreadable
@@ -55,3 +55,7 @@ returns-in_ok-absorb_all-clause-readable g c =
     readable_whole reads c.args.path.now c.args.stash.now c.loop-level.level last
     (readable_more reads c.args.path.now c.args.stash.now c.loop-level.stash c.in_ok-blocks.blocks.items c.loop-level.level unique_here c.loop-level.invariant.readable c.loop-level.invariant.near
     (subst P c.sealed.ensures.exact c.in_ok-blocks.ensures.ok) c.in_ok-absorb_all.ensures.apart)
+
+pub returns-in_ok-absorb_all-clause-blocks : goal.returns-in_ok-absorb_all-clause-blocks
+returns-in_ok-absorb_all-clause-blocks g c =
+    gathered_blocks (g.S.Sealer.opening c.args.sealer.now) c.args.device.now c.args.tree c.args.path.now c.args.stash.now c.absorb_all.new.stash c.requires.blocks (returns-in_ok-absorb_all-clause-near g c)

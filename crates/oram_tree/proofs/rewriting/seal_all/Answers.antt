@@ -1,4 +1,4 @@
-use Rattle.std.proofs.Common.{rules, ◌≡◌, ◌+◌, ℕ, List, map, All, Vec, vec_len, Global, length, sym, ap, subst, ◌∙◌, arith}
+use Rattle.std.proofs.Common.{rules, ◌≡◌, ◌+◌, ℕ, List, map, All, Vec, vec_len, Global, length, sym, subst, ◌∙◌, arith}
 use Rattle.std.proofs.lemmas.List.Elements.{All-push}
 use Rattle.oram_geometry.specs.Sizes.{record_len_of}
 use Rattle.oram_bucket.specs.Cell.{Cell}
