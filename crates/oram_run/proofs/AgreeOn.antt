@@ -9,14 +9,15 @@ use Rattle.oram_run.specs.Content.{stage_tree}
 use Rattle.oram_run.specs.Shape.{Shape}
 use Rattle.oram_run.specs.Content.{block_of, new_leaf}
 use Rattle.oram_run.specs.State.{State, World, name_of}
-use Rattle.oram_run.specs.Blocks.{found_in, entry_in, with_entry, block_after, next_named, written_over, put_in}
+use Rattle.oram_tree.specs.Edits.{with_entry}
+use Rattle.oram_run.specs.Blocks.{found_in, entry_in, block_after, next_named, written_over, put_in}
 use Rattle.oram_run.specs.Run.{has_bad_length}
 use Rattle.oram_run.specs.Agree.{named_for, next_tree, IsAmid, IsBetween, AtBetween, IsNext, Agrees}
 use Rattle.oram_run.specs.declared.events.Command.{Command}
 use Rattle.oram_run.specs.declared.events.Command.TheVariants.{Read, Write}
 use Rattle.oram_run.specs.declared.events.Submission.{Submission}
 use Rattle.oram_run.proofs.Bounds.{HasEntries}
-use Rattle.oram_run.proofs.Maps.{above, leaf_small}
+use Rattle.oram_run.proofs.Maps.{block_after-suc, above, leaf_small}
 use Rattle.oram_run.proofs.Agreeing.{next_is_named}
 use Rattle.oram_run.proofs.MapEntries.{entry_here, entry_there, length-edit}
 
@@ -36,21 +37,16 @@ pub record Accessed (v : Shape) (s t : State) (w w' : World) (x : Submission) (r
   pub content' : (k b : ℕ)
       → w'.content k b ≡ put_in w.content i a (record { leaf = new_leaf v.device i x; content = block_after v.device i x bytes }) k b
 
-edited_suc : (d : Sizes) (k : ℕ) (x : Submission) (bytes : List ℕ)
-    → block_after d (suc k) x bytes ≡ with_entry bytes (block_of d k x % fanout d) (new_leaf d k x + 1)
-unfolding block_after
-edited_suc d k x bytes = refl
-
 written_length : (d : Sizes) (c : Command) (bytes : List ℕ) → length bytes ≡ d.block_bytes → has_bad_length d c ≡ false
     → length (written_over c bytes) ≡ d.block_bytes
 written_length d (Read b) bytes size ok = size
 written_length d (Write b new) bytes size ok = grind (arith, nat_tests, ok)
 
-edited_length : (d : Sizes) (i : ℕ) (x : Submission) (bytes : List ℕ) → HasEntries d → length bytes ≡ d.block_bytes
+length-block_after : (d : Sizes) (i : ℕ) (x : Submission) (bytes : List ℕ) → HasEntries d → length bytes ≡ d.block_bytes
     → has_bad_length d x.command ≡ false → length (block_after d i x bytes) ≡ d.block_bytes
 unfolding block_after
-edited_length d zero x bytes h size ok = written_length d x.command bytes size ok
-edited_length d (suc i) x bytes h size ok =
+length-block_after d zero x bytes h size ok = written_length d x.command bytes size ok
+length-block_after d (suc i) x bytes h size ok =
     let j : block_of d i x % fanout d < fanout d = mod_below (block_of d i x) (fanout d) h.some in
     length-edit bytes (block_of d i x % fanout d) (new_leaf d i x + 1) (omega (arith, h.whole)) ∙ size
 
@@ -91,9 +87,9 @@ module _ (v : Shape) (s t : State) (w w' : World) (x : Submission) (rest : List 
         | inr later ↦ ap (λ (c : Bool). slice_index (if c then slice_set s.table a (new_leaf v.device i x + 1) else s.table) b) later.0
       ]
 
-  edited_is : (k : ℕ) → k + 1 ≡ i
+  block_after_is : (k : ℕ) → k + 1 ≡ i
       → block_after v.device i x bytes ≡ with_entry bytes (block_of v.device k x % fanout v.device) (new_leaf v.device k x + 1)
-  edited_is k e = let z : i ≡ suc k = omega arith in ap (λ (n : ℕ). block_after v.device n x bytes) z ∙ edited_suc v.device k x bytes
+  block_after_is k e = let z : i ≡ suc k = omega arith in ap (λ (n : ℕ). block_after v.device n x bytes) z ∙ block_after-suc v.device k x bytes
 
   block_is : (k : ℕ) → k + 1 ≡ i → a ≡ block_of v.device k x / fanout v.device
   block_is k e = let z : i ≡ suc k = omega arith in q.block ∙ ap (λ (n : ℕ). block_of v.device n x) z ∙ above v.device k x
@@ -117,7 +113,7 @@ module _ (v : Shape) (s t : State) (w w' : World) (x : Submission) (rest : List 
       ap (λ n. entry_in (found_in v.device (w'.content n (b / fanout v.device))) (b % fanout v.device)) e
       ∙ ap (λ n. entry_in (found_in v.device (w'.content i n)) (b % fanout v.device)) up
       ∙ ap (λ o. entry_in (found_in v.device o) (b % fanout v.device)) content_here
-      ∙ ap (λ xs. entry_in xs (b % fanout v.device)) (edited_is k e)
+      ∙ ap (λ xs. entry_in xs (b % fanout v.device)) (block_after_is k e)
       ∙ entry_there bytes (block_of v.device k x % fanout v.device) (b % fanout v.device) (new_leaf v.device k x + 1) (place_fits k h agrees) apart
       ∙ ap (λ xs. entry_in xs (b % fanout v.device)) q.found
       ∙ sym (ap (λ n. entry_in (found_in v.device (w.content n (b / fanout v.device))) (b % fanout v.device)) e ∙ ap (λ n. entry_in (found_in v.device (w.content i n)) (b % fanout v.device)) up)
@@ -194,7 +190,7 @@ module _ (v : Shape) (s t : State) (w w' : World) (x : Submission) (rest : List 
     | inr other ↦ ap (λ o. length (found_in v.device o)) (content_other k b other.1) ∙ agrees.sized k b below
     | inl same ↦ ap (λ n. length (found_in v.device (w'.content n b))) same.1 ∙ elim (eqb_tells b a) [
       | inr beside ↦ ap (λ o. length (found_in v.device o)) (content_beside b beside.1) ∙ agrees.sized i b in_device
-      | inl here ↦ ap (λ n. length (found_in v.device (w'.content i n))) here.1 ∙ ap (λ o. length (found_in v.device o)) content_here ∙ edited_length v.device i x bytes h (ap length q.found ∙ agrees.sized i a in_device) ok
+      | inl here ↦ ap (λ n. length (found_in v.device (w'.content i n))) here.1 ∙ ap (λ o. length (found_in v.device o)) content_here ∙ length-block_after v.device i x bytes h (ap length q.found ∙ agrees.sized i a in_device) ok
     ]
   ]
 
@@ -261,7 +257,7 @@ module _ (v : Shape) (s t : State) (w w' : World) (x : Submission) (rest : List 
             ∙ ap (λ n. entry_in (found_in v.device (w'.content n (block_of v.device j x / fanout v.device))) (block_of v.device j x % fanout v.device)) next
             ∙ ap (λ n. entry_in (found_in v.device (w'.content i n)) (block_of v.device j x % fanout v.device)) under
             ∙ ap (λ o. entry_in (found_in v.device o) (block_of v.device j x % fanout v.device)) content_here
-            ∙ ap (λ xs. entry_in xs (block_of v.device j x % fanout v.device)) (edited_is j next)
+            ∙ ap (λ xs. entry_in xs (block_of v.device j x % fanout v.device)) (block_after_is j next)
             ∙ entry_here bytes (block_of v.device j x % fanout v.device) (new_leaf v.device j x + 1) (place_fits j h agrees) (omega (arith, small.0, small.1));
       }
 

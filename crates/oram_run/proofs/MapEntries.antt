@@ -6,7 +6,8 @@ use Rattle.std.proofs.lemmas.Slice.{between-put_mid, take-put_mid_below, drop-pu
 use Rattle.std.proofs.lemmas.List.{drop-take, drop-drop}
 use Rattle.std.proofs.lemmas.Nat.{from_be_bytes-to_be_bytes_4}
 use Rattle.std.proofs.lemmas.Bool.{cases_order}
-use Rattle.oram_run.specs.Blocks.{entry_in, with_entry}
+use Rattle.oram_tree.specs.Edits.{with_entry}
+use Rattle.oram_run.specs.Blocks.{entry_in}
 use Rattle.oram_run.proofs.Maps.{four_long}
 
 edit_is : (bytes : List ℕ) (j e : ℕ) → with_entry bytes j e ≡ put_mid (4 * j) 4 bytes (to_be_bytes w32 e)

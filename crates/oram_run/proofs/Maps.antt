@@ -13,7 +13,8 @@ use Rattle.oram_run.proofs.Bounds.{HasEntries, depth_small}
 use Rattle.oram_run.specs.Events.{address_of, array_at, bytes_written, bytes_of, writes_to}
 use Rattle.oram_run.specs.Content.{block_of, new_leaf, newest_in, named_in, data_in, content_after}
 use Rattle.oram_run.specs.State.{name_of}
-use Rattle.oram_run.specs.Blocks.{found_in, entry_in, with_entry, block_after, next_named, written_over}
+use Rattle.oram_tree.specs.Edits.{with_entry}
+use Rattle.oram_run.specs.Blocks.{found_in, entry_in, block_after, next_named, written_over}
 use Rattle.oram_run.specs.declared.events.Command.{Command}
 use Rattle.oram_run.specs.declared.events.Command.TheVariants.{Read, Write}
 use Rattle.oram_run.specs.declared.events.Submission.{Submission}
@@ -216,3 +217,23 @@ pub data_zero : (d : Sizes) (old : List Submission) (x : Submission)
     → data_in d 0 old (block_of d 0 x) ≡ array_at d old (address_of x.command)
 unfolding data_in
 data_zero d old x = ap (array_at d old) (own_block d x)
+
+-- what the access to tree 0 leaves of its block, and that to a map tree
+
+pub block_after-zero : (d : Sizes) (x : Submission) (bytes : List ℕ) → block_after d 0 x bytes ≡ written_over x.command bytes
+unfolding block_after
+block_after-zero d x bytes = refl
+
+pub block_after-suc : (d : Sizes) (i : ℕ) (x : Submission) (bytes : List ℕ)
+    → block_after d (suc i) x bytes ≡ with_entry bytes (block_of d i x % fanout d) (new_leaf d i x + 1)
+unfolding block_after
+block_after-suc d i x bytes = refl
+
+pub next_named-zero : (d : Sizes) (x : Submission) (bytes : List ℕ) → next_named d 0 x bytes ≡ 0
+unfolding next_named
+next_named-zero d x bytes = refl
+
+pub next_named-suc : (d : Sizes) (i : ℕ) (x : Submission) (bytes : List ℕ)
+    → next_named d (suc i) x bytes ≡ entry_in bytes (block_of d i x % fanout d)
+unfolding next_named
+next_named-suc d i x bytes = refl

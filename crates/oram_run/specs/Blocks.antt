@@ -5,6 +5,7 @@ use Rattle.oram_geometry.specs.declared.Sizes.{Sizes}
 use Rattle.oram_geometry.specs.Sizes.{fanout}
 use Rattle.oram_tree.specs.Content.{Map, Entry as Held, put}
 use Rattle.oram_tree.specs.Access.{content_or_zeros}
+use Rattle.oram_tree.specs.Edits.{with_entry}
 use Rattle.oram_run.specs.Content.{block_of, new_leaf}
 use Rattle.oram_run.specs.declared.events.Command.{Command}
 use Rattle.oram_run.specs.declared.events.Command.TheVariants.{Read, Write}
@@ -20,9 +21,7 @@ found_in d o = content_or_zeros d.block_bytes o
 unfoldable pub entry_in : List ℕ → ℕ → ℕ
 entry_in bytes j = from_be_bytes w32 (slice_range bytes (4 * j) (4 * j + 4))
 
-unfoldable pub with_entry : List ℕ → ℕ → ℕ → List ℕ
-with_entry bytes j e = take (4 * j) bytes ++ to_be_bytes w32 e ++ drop (4 * j + 4) bytes
-
+-- what a command leaves of a block's data
 abbrev pub written_over : Command → List ℕ → List ℕ
 written_over (Read a) bytes = bytes
 written_over (Write a new) bytes = new
@@ -37,7 +36,7 @@ unfoldable pub next_named : Sizes → ℕ → Submission → List ℕ → ℕ
 next_named d zero x bytes = 0
 next_named d (suc i) x bytes = entry_in bytes (block_of d i x % fanout d)
 
--- what is kept of it for a reply
+-- what is kept of a block for the reply: tree 0's, as it was read
 abbrev pub kept_of : ℕ → List ℕ → List ℕ
 kept_of zero bytes = bytes
 kept_of (suc i) bytes = []
@@ -46,6 +45,7 @@ kept_of (suc i) bytes = []
 abbrev pub put_in : (ℕ → Map) → ℕ → ℕ → Held → ℕ → Map
 put_in content i a h k b = if k == i then put (content k) a h b else content k b
 
+-- the reply to a command that found this block
 abbrev pub body_from : List ℕ → Command → ReplyBody
 body_from bytes (Read a) = Data bytes
 body_from bytes (Write a new) = Done
