@@ -1,0 +1,66 @@
+-- What a core that follows a past can tell of it.
+use Rattle.std.proofs.Common.{◌≡◌, ◌+◌, ◌-◌, ◌*◌, ◌<◌, List, [], length, Option, Some, None, refl, ap, sym, ◌∙◌, arith}
+use Rattle.oram_geometry.specs.Sizes.{trees_of}
+use Rattle.oram_run.specs.Progress.{Setting, Step, accepted, progress, status}
+use Rattle.oram_run.specs.Run.{answered_tickets}
+use Rattle.oram_run.specs.State.{State, status_by, status_in}
+use Rattle.oram_run.specs.declared.events.Reason.{Reason}
+use Rattle.oram_run.specs.declared.events.Submission.{Submission}
+use Rattle.oram_run.proofs.Bounds.{IsFit}
+use Rattle.oram_run.proofs.Follows.{FollowsAt, Follows, stage_few}
+use Rattle.oram_run.proofs.Counts.{accepted_len, answered_is, status_ends, status_is}
+
+next_by : (v : Setting) (past : List Step) (s : State) (old : List Submission) (failure : Option Reason)
+    → FollowsAt v past old s failure → s.next ≡ length (accepted past)
+next_by v past s old (Some e) f = f.next
+next_by v past s old None f = f.0.next ∙ sym (accepted_len past old s.queue f.0.split)
+
+-- the next ticket
+pub next_told : (v : Setting) (past : List Step) (s : State) → Follows v past s → s.next ≡ length (accepted past)
+next_told v past s f = next_by v past s f.old s.failure f.follows
+
+failure_by : (v : Setting) (past : List Step) (s : State) (old : List Submission) (failure : Option Reason)
+    → FollowsAt v past old s failure → failure ≡ (progress v past).failure
+failure_by v past s old (Some e) f = sym f.failed
+failure_by v past s old None f = sym f.0.alive
+
+-- the failure
+pub failure_told : (v : Setting) (past : List Step) (s : State) → Follows v past s → s.failure ≡ (progress v past).failure
+failure_told v past s f = failure_by v past s f.old s.failure f.follows
+
+status_told_by : (v : Setting) (past : List Step) (s : State) (old : List Submission) (failure : Option Reason)
+    → s.failure ≡ failure → IsFit v.shape.device → FollowsAt v past old s failure
+    → status_by failure s.queue s.lost ≡ status v past
+status_told_by v past s old (Some e) h fit f = sym (status_ends v past e f.failed)
+status_told_by v past s old None h fit f =
+    sym (status_is v past old s fit f.0 h ∙ ap (λ (o : Option Reason). status_by o s.queue s.lost) h)
+
+-- the status
+pub status_told : (v : Setting) (past : List Step) (s : State) → IsFit v.shape.device → Follows v past s
+    → status_in s ≡ status v past
+status_told v past s fit f = status_told_by v past s f.old s.failure refl fit f.follows
+
+waiting_by : (v : Setting) (past : List Step) (s : State) (old : List Submission) (failure : Option Reason) → failure ≡ None
+    → IsFit v.shape.device → FollowsAt v past old s failure
+    → length s.queue ≡ length (accepted past) - answered_tickets v past
+waiting_by v past s old (Some e) h fit f = absurd (let both : Some e ≡ None = h in cc)
+waiting_by v past s old None h fit f =
+    let l = f.0 in
+    let few : s.stage < 2 * trees_of v.shape.device = (stage_few v past old s s.queue fit l.work).0 in
+    let len : length (accepted past) ≡ length old + length s.queue = accepted_len past old s.queue l.split in
+    let tickets : answered_tickets v past ≡ length old = answered_is v past (length old) s.stage l.good few in
+    omega arith
+
+-- the commands without a reply
+pub waiting_told : (v : Setting) (past : List Step) (s : State) → s.failure ≡ None → IsFit v.shape.device → Follows v past s
+    → length s.queue ≡ length (accepted past) - answered_tickets v past
+waiting_told v past s h fit f = waiting_by v past s f.old s.failure h fit f.follows
+
+none_waits_by : (v : Setting) (past : List Step) (s : State) (old : List Submission) (failure : Option Reason) (e : Reason)
+    → failure ≡ Some e → FollowsAt v past old s failure → s.queue ≡ []
+none_waits_by v past s old (Some other) e h f = f.queue
+none_waits_by v past s old None e h f = absurd (let both : None ≡ Some e = h in cc)
+
+-- after a failure there are none
+pub none_waits : (v : Setting) (past : List Step) (s : State) (e : Reason) → s.failure ≡ Some e → Follows v past s → s.queue ≡ []
+none_waits v past s e h f = none_waits_by v past s f.old s.failure e h f.follows

@@ -1,0 +1,51 @@
+-- What an access finds in a block and leaves there.
+use Rattle.std.specs.Prelude.{ℕ, zero, suc, ◌+◌, ◌*◌, ◌%◌, ◌==◌, if◌then◌else◌, List, [], ◌++◌, take, drop, slice_range, Option}
+use Rattle.std.specs.Int.{w32, to_be_bytes, from_be_bytes}
+use Rattle.oram_geometry.specs.declared.Sizes.{Sizes}
+use Rattle.oram_geometry.specs.Sizes.{fanout}
+use Rattle.oram_tree.specs.Content.{Map, Entry as Held, put}
+use Rattle.oram_tree.specs.Access.{content_or_zeros}
+use Rattle.oram_tree.specs.Edits.{with_entry}
+use Rattle.oram_run.specs.Content.{block_of, new_leaf}
+use Rattle.oram_run.specs.declared.events.Command.{Command}
+use Rattle.oram_run.specs.declared.events.Command.TheVariants.{Read, Write}
+use Rattle.oram_run.specs.declared.events.ReplyBody.{ReplyBody}
+use Rattle.oram_run.specs.declared.events.ReplyBody.TheVariants.{Data, Done}
+use Rattle.oram_run.specs.declared.events.Submission.{Submission}
+
+-- what a tree has of a block, zeros where it has none
+abbrev pub found_in : Sizes → Option Held → List ℕ
+found_in d o = content_or_zeros d.block_bytes o
+
+-- entry j of a map block
+unfoldable pub entry_in : List ℕ → ℕ → ℕ
+entry_in bytes j = from_be_bytes w32 (slice_range bytes (4 * j) (4 * j + 4))
+
+-- what a command leaves of a block's data
+abbrev pub written_over : Command → List ℕ → List ℕ
+written_over (Read a) bytes = bytes
+written_over (Write a new) bytes = new
+
+-- The block of tree i after the access: in tree 0 what the command leaves, else with the next tree's block named by its new leaf.
+unfoldable pub block_after : Sizes → ℕ → Submission → List ℕ → List ℕ
+block_after d zero x bytes = written_over x.command bytes
+block_after d (suc i) x bytes = with_entry bytes (block_of d i x % fanout d) (new_leaf d i x + 1)
+
+-- what the block named for the next tree's
+unfoldable pub next_named : Sizes → ℕ → Submission → List ℕ → ℕ
+next_named d zero x bytes = 0
+next_named d (suc i) x bytes = entry_in bytes (block_of d i x % fanout d)
+
+-- what is kept of a block for the reply: tree 0's, as it was read
+abbrev pub kept_of : ℕ → List ℕ → List ℕ
+kept_of zero bytes = bytes
+kept_of (suc i) bytes = []
+
+-- the trees' content with one block of tree i changed
+abbrev pub put_in : (ℕ → Map) → ℕ → ℕ → Held → ℕ → Map
+put_in content i a h k b = if k == i then put (content k) a h b else content k b
+
+-- the reply to a command that found this block
+abbrev pub body_from : List ℕ → Command → ReplyBody
+body_from bytes (Read a) = Data bytes
+body_from bytes (Write a new) = Done

@@ -1,0 +1,27 @@
+-- The formatting of a device: the messages that make its trees, without blocks.
+use Rattle.std.specs.Prelude.{◌≡◌, ℕ, ◌<◌, List, [], length, slice_index_or}
+use Rattle.std.specs.List.{flat_map}
+use Rattle.oram_geometry.specs.Sizes.{trees_of}
+use Rattle.oram_tree.specs.Format.{IsFormat}
+use Rattle.oram_tree.specs.State.{State as Tree}
+use Rattle.oram_run.specs.Shape.{Shape}
+use Rattle.oram_run.specs.Progress.{Setting}
+use Rattle.oram_run.specs.Nonces.{formatted_below}
+use Rattle.oram_run.specs.State.{no_tree}
+
+-- the bodies make tree i, its nonces after those of the trees before it
+pub record IsTreeMade (v : Shape) (i : ℕ) (tree : Tree) (bodies : List (List ℕ)) : Type 0 where
+  pub number : tree.number ≡ i
+  pub made : IsFormat v.opening v.sealing v.overhead v.device (formatted_below v.device i) tree bodies
+
+-- the messages make the trees below tree n, one after the other
+pub record AreTreesMade (v : Shape) (n : ℕ) (trees : List Tree) (messages : List (List ℕ)) : Type 0 where
+  pub parts : List (List (List ℕ))
+  pub joined : messages ≡ flat_map (λ part. part) parts
+  pub trees_count : length trees ≡ n
+  pub parts_count : length parts ≡ n
+  pub each : (i : ℕ) → i < n → IsTreeMade v i (slice_index_or trees i no_tree) (slice_index_or parts i [])
+
+-- the messages of a run's formatting make all trees of its device
+abbrev pub IsFormatted : Setting → List Tree → Type 0
+IsFormatted v trees = AreTreesMade v.shape (trees_of v.shape.device) trees v.format

@@ -1,0 +1,15 @@
+pub mod Events
+pub mod Shape
+pub mod Messages
+pub mod Answers
+pub mod Progress
+pub mod Content
+pub mod Nonces
+pub mod Trees
+pub mod Run
+pub mod State
+pub mod Formatting
+pub mod Blocks
+pub mod Moves
+pub mod Agree
+pub mod Law

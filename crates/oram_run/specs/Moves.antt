@@ -1,0 +1,233 @@
+-- What one event does to a core, in a world.
+use Rattle.std.specs.Prelude.{◌≡◌, ℕ, ◌+◌, ◌-◌, ◌*◌, ◌%◌, ◌^◌, ◌≤◌, ◌==◌, ◌&&◌, Bool, true, false, if◌then◌else◌, List, [], ◌∷◌, ◌++◌, length, slice_index, slice_set, Option, Some, None, map, unwrap_or}
+use Rattle.std.specs.List.{All}
+use Rattle.oram_geometry.specs.declared.Sizes.{Sizes}
+use Rattle.oram_geometry.specs.Sizes.{trees_of, depth_of, leaf_of}
+use Rattle.oram_trace.specs.declared.asked.Entry.{Entry}
+use Rattle.oram_run.specs.Content.{stage_tree}
+use Rattle.oram_run.specs.Events.{failed_reply}
+use Rattle.oram_run.specs.Shape.{Shape}
+use Rattle.oram_run.specs.Messages.{IsMessage, asked, is_store, written}
+use Rattle.oram_run.specs.Answers.{Outcome, outcome_of, pair_in}
+use Rattle.oram_run.specs.Answers.Outcome.{Good, NoRoom, Fails}
+use Rattle.oram_tree.specs.Content.{Map}
+use Rattle.oram_run.specs.Content.{block_of, new_leaf}
+use Rattle.oram_run.specs.Blocks.{found_in, block_after, next_named, kept_of, put_in, body_from}
+use Rattle.oram_run.specs.Progress.{Status}
+use Rattle.oram_run.specs.Progress.Status.{Idle, Waiting, Stalling, Over}
+use Rattle.oram_run.specs.Run.{Shown, refusal_of, is_over, is_waiting}
+use Rattle.oram_run.specs.State.{State, World, Holds, status_in, named_now, name_of}
+use Rattle.oram_run.specs.Trees.{IsPlaced}
+use Rattle.oram_run.specs.declared.events.Event.{Event}
+use Rattle.oram_run.specs.declared.events.Event.TheVariants.{Submit, Answer, Lost, Retry}
+use Rattle.oram_run.specs.declared.events.Reason.{Reason}
+use Rattle.oram_run.specs.declared.events.Refusal.{Refusal}
+use Rattle.oram_run.specs.declared.events.Note.{Note}
+use Rattle.oram_run.specs.declared.events.Note.TheVariants.{Accepted, Refused, Taken, Stalled, FailedNow, Resent, Unexpected}
+use Rattle.oram_run.specs.declared.events.Reply.{Reply}
+use Rattle.oram_run.specs.declared.events.Submission.{Submission}
+
+-- what is to be sent: nothing, the last message again, or a message that asks for an entry
+pub data Ask : Type 0 where
+  Nothing : Ask
+  Again : Ask
+  For : Entry → Ask
+
+-- what a core shows at an event, and what it and the trees are afterwards. The state's trees, nonce and last message are those of before.
+pub record Moved : Type 0 where
+  pub note : Note
+  pub replies : List Reply
+  pub ask : Ask
+  pub state : State
+  pub content : ℕ → Map
+
+-- the leaf of a submission in tree i, where this is named: the spare word's if none is
+abbrev pub leaf_for : Sizes → ℕ → ℕ → Submission → ℕ
+leaf_for d i named x = if named == 0 then leaf_of d i (slice_index x.words (2 * i)) else named - 1
+
+-- the fetch at this stage, where this is named
+abbrev pub fetch_at : Sizes → ℕ → ℕ → Submission → Entry
+fetch_at d stage named x = record { fetch = true; tree = stage_tree d stage; leaf = leaf_for d (stage_tree d stage) named x }
+
+abbrev pub first_fetch : Sizes → List ℕ → List Submission → Ask
+first_fetch d table [] = Nothing
+first_fetch d table (x ∷ rest) = For (fetch_at d 0 (slice_index table (block_of d (trees_of d - 1) x)) x)
+
+abbrev pub if_idle : List Submission → Ask → Ask
+if_idle [] ask = ask
+if_idle (x ∷ rest) ask = Nothing
+
+abbrev pub stays : State → World → Note → Moved
+stays s w note = record { note = note; replies = []; ask = Nothing; state = s; content = w.content }
+
+abbrev pub accepts : Shape → State → World → Submission → Moved
+accepts v s w x = record {
+  note = Accepted x.ticket;
+  replies = [];
+  ask = if_idle s.queue (first_fetch v.device s.table (x ∷ []));
+  state = record s { next = s.next + 1; queue = s.queue ++ x ∷ [] };
+  content = w.content;
+}
+
+-- a path came: its block is changed, mapped to the new word's leaf, and the path goes back
+abbrev pub stores : Shape → State → World → Submission → Moved
+stores v s w x =
+    let d = v.device in
+    let i = stage_tree d s.stage in
+    let a = block_of d i x in
+    let bytes = found_in d (w.content i a) in
+    record {
+      note = Taken;
+      replies = [];
+      ask = For (record { fetch = false; tree = i; leaf = (asked s.last).leaf });
+      state = record s {
+        table = if s.stage == 0 then slice_set s.table a (new_leaf d i x + 1) else s.table;
+        stage = s.stage + 1;
+        named = next_named d i x bytes;
+        before = kept_of i bytes;
+      };
+      content = put_in w.content i a (record { leaf = new_leaf d i x; content = block_after d i x bytes });
+    }
+
+-- a path is back, and the next tree's is fetched
+abbrev pub fetches : Shape → State → World → Submission → Moved
+fetches v s w x = record {
+  note = Taken;
+  replies = [];
+  ask = For (fetch_at v.device (s.stage + 1) s.named x);
+  state = record s { stage = s.stage + 1 };
+  content = w.content;
+}
+
+-- the last path is back: the reply goes out, and the next command begins
+abbrev pub finishes : Shape → State → World → Submission → List Submission → Moved
+finishes v s w x rest = record {
+  note = Taken;
+  replies = (record { session = x.session; ticket = x.ticket; body = body_from s.before x.command }) ∷ [];
+  ask = first_fetch v.device s.table rest;
+  state = record s { queue = rest; stage = 0; named = 0; before = [] };
+  content = w.content;
+}
+
+abbrev pub goes_on : Shape → State → World → List Submission → Moved
+goes_on v s w [] = stays s w Unexpected
+goes_on v s w (x ∷ rest) =
+    if s.stage % 2 == 0 then stores v s w x
+    else if s.stage + 1 == 2 * trees_of v.device then finishes v s w x rest
+    else fetches v s w x
+
+abbrev pub stalls : State → World → Moved
+stalls s w = record { note = Stalled; replies = []; ask = Nothing; state = record s { lost = true }; content = w.content }
+
+abbrev pub resends : State → World → Moved
+resends s w = record { note = Resent; replies = []; ask = Again; state = record s { lost = false }; content = w.content }
+
+abbrev pub fails : State → World → Reason → Moved
+fails s w e = record { note = FailedNow e; replies = map failed_reply s.queue; ask = Nothing; state = record s { queue = []; failure = Some e }; content = w.content }
+
+abbrev pub on_submission : Shape → State → World → Submission → Option Refusal → Moved
+on_submission v s w x (Some e) = stays s w (Refused e)
+on_submission v s w x None = accepts v s w x
+
+abbrev pub on_answer : Shape → State → World → Status → Outcome → Moved
+on_answer v s w Waiting Good = goes_on v s w s.queue
+on_answer v s w Waiting NoRoom = stalls s w
+on_answer v s w Waiting (Fails e) = fails s w e
+on_answer v s w Idle o = stays s w Unexpected
+on_answer v s w Stalling o = stays s w Unexpected
+on_answer v s w Over o = stays s w Unexpected
+
+abbrev pub on_loss : State → World → Status → Moved
+on_loss s w Waiting = stalls s w
+on_loss s w Idle = stays s w Unexpected
+on_loss s w Stalling = stays s w Unexpected
+on_loss s w Over = stays s w Unexpected
+
+abbrev pub on_retry : State → World → Status → Moved
+on_retry s w Stalling = resends s w
+on_retry s w Idle = stays s w Unexpected
+on_retry s w Waiting = stays s w Unexpected
+on_retry s w Over = stays s w Unexpected
+
+abbrev pub moved : Shape → State → World → Event → Moved
+moved v s w (Submit session c words) =
+    on_submission v s w (record { session = session; ticket = s.next; command = c; words = words }) (refusal_of v.device (is_over (status_in s)) (length s.queue) s.next c words)
+moved v s w (Answer bytes) = on_answer v s w (status_in s) (outcome_of v w.records (asked s.last) bytes)
+moved v s w Lost = on_loss s w (status_in s)
+moved v s w Retry = on_retry s w (status_in s)
+
+-- the messages are what is to be sent
+abbrev pub Sends : Shape → List ℕ → Ask → List (List ℕ) → Type 0
+Sends v last Nothing xs = xs ≡ []
+Sends v last Again xs = xs ≡ last ∷ []
+Sends v last (For e) xs = (m : List ℕ) × (xs ≡ m ∷ []) × IsMessage v e m
+
+abbrev pub latest : List (List ℕ) → List ℕ → List ℕ
+latest [] last = last
+latest (m ∷ ms) last = m
+
+-- what stands at the host once these are sent, the newest first
+abbrev pub records_after : Shape → (ℕ → ℕ → List ℕ) → List (List ℕ) → ℕ → ℕ → List ℕ
+records_after v records [] i n = records i n
+records_after v records (m ∷ older) i n = unwrap_or (written v m i n) (records_after v records older i n)
+
+-- the last message again changes nothing
+abbrev pub records_next : Shape → (ℕ → ℕ → List ℕ) → Ask → List (List ℕ) → ℕ → ℕ → List ℕ
+records_next v records Nothing sends = records
+records_next v records Again sends = records
+records_next v records (For e) sends = records_after v records sends
+
+abbrev pub world_after : Shape → World → Moved → List (List ℕ) → World
+world_after v w m sends = record { records = records_next v w.records m.ask sends; content = m.content }
+
+abbrev pub is_new : Ask → Bool
+is_new (For e) = true
+is_new Nothing = false
+is_new Again = false
+
+-- seals of one message
+abbrev pub buckets_in : Sizes → Ask → ℕ
+buckets_in d Nothing = 0
+buckets_in d Again = 0
+buckets_in d (For e) = if e.fetch then 0 else depth_of d e.tree + 1
+
+-- at a STORE, the records that stand from now on hold the tree's content
+abbrev pub PlacedIn : Shape → ℕ → World → List ℕ → Type 0
+PlacedIn v nonce w m = is_store m ≡ true →
+    let i = (asked m).tree in
+    IsPlaced v i (asked m).leaf nonce (w.records i) (w.content i)
+
+-- The core shows what it is to show and goes on to t, with trees and messages of its own choice.
+pub record MovesTo (v : Shape) (s : State) (w : World) (m : Moved) (x : Shown) (t : State) : Type 0 where
+  pub note : x.note ≡ m.note
+  pub replies : x.replies ≡ m.replies
+  pub sends : Sends v s.last m.ask x.sends
+  pub state : t ≡ record m.state { trees = t.trees; nonce = s.nonce + buckets_in v.device m.ask; last = latest x.sends s.last }
+  pub holds : t.failure ≡ None → Holds v t (world_after v w m x.sends)
+  pub placed : is_new m.ask ≡ true → All (PlacedIn v s.nonce (world_after v w m x.sends)) x.sends
+
+-- In a world, at an event, the core may show this and go on to t.
+abbrev pub Moves : Shape → State → World → Event → Shown → State → Type 0
+Moves v s w event x t = MovesTo v s w (moved v s w event) x t
+
+-- Where a fetch is outstanding, its block is in the tree's content as it is named, and what the block names is a leaf of the next tree.
+pub record IsReadyFor (v : Shape) (s : State) (w : World) (x : Submission) : Type 0 where
+  pub named :
+      name_of (w.content (stage_tree v.device s.stage) (block_of v.device (stage_tree v.device s.stage) x)) ≡ named_now v s x
+  pub next :
+      next_named v.device (stage_tree v.device s.stage) x (found_in v.device (w.content (stage_tree v.device s.stage) (block_of v.device (stage_tree v.device s.stage) x))) ≤ 2 ^ depth_of v.device (stage_tree v.device s.stage - 1)
+
+abbrev pub IsReady : Shape → State → World → List Submission → Type 0
+IsReady v s w [] = Unit {0}
+IsReady v s w (x ∷ rest) = s.stage % 2 ≡ 0 → IsReadyFor v s w x
+
+-- the world is one that the core can go on in: one that has failed asks nothing of it
+abbrev pub Fits : Shape → State → World → Type 0
+Fits v s w = s.failure ≡ None → Holds v s w × IsReady v s w s.queue
+
+-- whether two records of one digest stand in an answer
+abbrev pub shows_in : Shape → State → World → Event → Bool
+shows_in v s w (Answer bytes) = is_waiting (status_in s) && pair_in v w.records (asked s.last) bytes
+shows_in v s w (Submit session c words) = false
+shows_in v s w Lost = false
+shows_in v s w Retry = false

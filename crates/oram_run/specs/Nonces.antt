@@ -1,0 +1,39 @@
+-- Which nonce each sealed bucket of a run has: so many buckets were sealed before it, in all trees.
+use Rattle.std.specs.Prelude.{◌≡◌, ◌≢◌, ℕ, ◌<◌, ◌≤◌, zero, suc, ◌+◌, ◌-◌, ◌*◌}
+use Rattle.oram_geometry.specs.declared.Sizes.{Sizes}
+use Rattle.oram_geometry.specs.Sizes.{trees_of, depth_of}
+use Rattle.oram_tree.specs.Content.{node_count}
+
+-- buckets of the formatting of the trees below tree n: one for each node
+unfoldable pub formatted_below : Sizes → ℕ → ℕ
+formatted_below d zero = 0
+formatted_below d (suc n) = formatted_below d n + node_count (depth_of d n)
+
+-- buckets of a whole formatting
+abbrev pub formatted : Sizes → ℕ
+formatted d = formatted_below d (trees_of d)
+
+-- buckets of a path of each tree below tree n
+unfoldable pub buckets_below : Sizes → ℕ → ℕ
+buckets_below d zero = 0
+buckets_below d (suc n) = buckets_below d n + (depth_of d n + 1)
+
+-- buckets of a path of each tree after tree i: a ticket stores theirs before tree i's
+abbrev pub buckets_after : Sizes → ℕ → ℕ
+buckets_after d i = buckets_below d (trees_of d) - buckets_below d (i + 1)
+
+-- the nonce of the root's bucket in the STORE of tree i by ticket t; that of level l is greater by l
+abbrev pub store_nonce : Sizes → ℕ → ℕ → ℕ
+store_nonce d t i = formatted d + t * buckets_below d (trees_of d) + buckets_after d i
+
+-- No two sealed buckets of a run have one nonce: not two of the formatting, each told by its tree and its place in the order
+-- of the PUTs, not two of STOREs, each told by its ticket, tree and level, and not one of each.
+pub record AreNoncesApart (d : Sizes) : Type 0 where
+  pub puts : (i j k m : ℕ) → i < trees_of d → j < trees_of d → k < node_count (depth_of d i) → m < node_count (depth_of d j)
+      → formatted_below d i + k ≡ formatted_below d j + m → (i ≡ j) × (k ≡ m)
+  pub stores : (t u i j l m : ℕ) → i < trees_of d → j < trees_of d → l ≤ depth_of d i → m ≤ depth_of d j
+      → store_nonce d t i + l ≡ store_nonce d u j + m → (t ≡ u) × (i ≡ j) × (l ≡ m)
+  pub between : (t i j k l : ℕ) → i < trees_of d → k < node_count (depth_of d i) → formatted_below d i + k ≢ store_nonce d t j + l
+
+abbrev pub NoncesAreApart : Type 0
+NoncesAreApart = (d : Sizes) → AreNoncesApart d

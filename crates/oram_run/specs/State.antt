@@ -1,0 +1,54 @@
+-- A core as plain data, and the world that it stands in.
+use Rattle.std.specs.Prelude.{ℕ, ◌<◌, ◌+◌, ◌-◌, ◌==◌, Bool, if◌then◌else◌, List, [], ◌∷◌, Option, Some, None, slice_index, slice_index_or}
+use Rattle.std.specs.Option.{option_map_or}
+use Rattle.oram_geometry.specs.Sizes.{trees_of}
+use Rattle.oram_run.specs.Shape.{Shape}
+use Rattle.oram_tree.specs.Content.{Map, Entry as Held}
+use Rattle.oram_tree.specs.State.{State as Tree}
+use Rattle.oram_run.specs.Content.{block_of}
+use Rattle.oram_run.specs.Progress.{Status}
+use Rattle.oram_run.specs.Progress.Status.{Idle, Waiting, Stalling, Over}
+use Rattle.oram_run.specs.Trees.{Stands}
+use Rattle.oram_run.specs.declared.events.Reason.{Reason}
+use Rattle.oram_run.specs.declared.events.Submission.{Submission}
+
+pub record State : Type 0 where
+  pub table : List ℕ  -- by block of the last tree: 0, or one more than its leaf
+  pub trees : List Tree
+  pub next : ℕ  -- the next ticket
+  pub nonce : ℕ  -- of the next bucket that is sealed
+  pub queue : List Submission  -- those without a reply, the oldest first
+  pub stage : ℕ  -- the entry of the oldest of them that is outstanding: 0 to 2H - 1
+  pub named : ℕ  -- what the map named for the tree of the next fetch, or of the one sent last
+  pub before : List ℕ  -- the block of tree 0 as it was read
+  pub last : List ℕ  -- the message sent last
+  pub lost : Bool  -- whether that counts as lost
+  pub failure : Option Reason
+
+-- what stands at the host, by tree and node, and what the trees hold, by tree and block
+pub record World : Type 0 where
+  pub records : ℕ → ℕ → List ℕ
+  pub content : ℕ → Map
+
+abbrev pub no_tree : Tree
+no_tree = record { number = 0; root = []; stash = [] }
+
+-- each tree of the core stands in the world
+abbrev pub Holds : Shape → State → World → Type 0
+Holds v s w = (i : ℕ) → i < trees_of v.device → Stands v i (slice_index_or s.trees i no_tree) (w.records i) (w.content i)
+
+abbrev pub status_by : Option Reason → List Submission → Bool → Status
+status_by (Some e) queue lost = Over
+status_by None [] lost = Idle
+status_by None (x ∷ rest) lost = if lost then Stalling else Waiting
+
+abbrev pub status_in : State → Status
+status_in s = status_by s.failure s.queue s.lost
+
+-- what is named for the block of the fetch that is outstanding
+abbrev pub named_now : Shape → State → Submission → ℕ
+named_now v s x = if s.stage == 0 then slice_index s.table (block_of v.device (trees_of v.device - 1) x) else s.named
+
+-- what is to be named for a block that a tree has so
+abbrev pub name_of : Option Held → ℕ
+name_of o = option_map_or (λ h. h.leaf + 1) o 0

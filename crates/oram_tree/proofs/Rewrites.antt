@@ -1,0 +1,244 @@
+-- The steps of an access, put together.
+use Rattle.std.proofs.Common.{◌≡◌, ◌≢◌, ◌↔◌, ℕ, ◌+◌, ◌*◌, ◌^◌, ◌<◌, ◌≤◌, take, drop, Bool, true, false, List, [], ◌∷◌, ◌++◌, map, Vec, Global, length, get_or, Option, is_some, All, Contains, inl, inr, refl, sym, ap, subst, ◌∙◌, arith}
+use Rattle.std.proofs.lemmas.Bool.{cases_eq}
+use Rattle.std.proofs.lemmas.List.{length-replicate, length-append, length-take, length-drop, length-map, map-append, get_or_push, get_or_append_left, get_or-map}
+use Rattle.std.proofs.lemmas.List.Elements.{All-contains, Contains-get_or}
+use Rattle.std.proofs.lemmas.List.Sorted.{All-permutation, Contains-permutation, IsPermutation-sym}
+use Rattle.std.specs.List.Sorted.{IsPermutation}
+use Rattle.std.specs.Int.{w32, to_be_bytes}
+use Rattle.oram_geometry.specs.declared.Sizes.{Sizes}
+use Rattle.oram_geometry.specs.Sizes.{IsDevice, blocks_in, depth_of, record_len_of}
+use Rattle.oram_geometry.proofs.Nodes.{node_on-injective}
+use Rattle.oram_hash.specs.Path.{Path, path_of, with_bytes, record_at}
+use Rattle.oram_hash.specs.Record.{sealed_part}
+use Rattle.oram_hash.specs.Tree.{IsPathOf}
+use Rattle.oram_hash.specs.Rebuild.{StandsRebuilt}
+use Rattle.oram_bucket.specs.Cell.{Cell, IsRising}
+use Rattle.oram_bucket.specs.Bucket.{IsBlockOf, IsBucketOf, spelling}
+use Rattle.oram_bucket.specs.Reading.{Reads}
+use Rattle.oram_stash.specs.Blocks.{block_at}
+use Rattle.oram_stash.specs.Eviction.{IsEviction, listed, all_listed}
+use Rattle.oram_stash.proofs.Tight.{All-of_list, All-of_rest}
+use Rattle.oram_stash.proofs.Rising.{Contains-cases, Contains-first, Contains-later}
+use Rattle.oram_tree.specs.declared.edits.Edit.{Edit}
+use Rattle.oram_tree.specs.declared.edits.Edit.TheVariants.{Keep, Replace, Entry}
+use Rattle.oram_tree.specs.declared.faults.TreeFault.{TreeFault}
+use Rattle.oram_tree.specs.declared.faults.TreeFault.TheVariants.{Unreadable, OutOfMemory}
+use Rattle.oram_tree.specs.Content.{Map, HasContent}
+use Rattle.oram_tree.specs.State.{State, IsStoredWith}
+use Rattle.oram_tree.specs.Edits.{edited, with_entry, IsEditOf, HasRoomFor}
+use Rattle.oram_tree.specs.Access.{IsAtOrAbsent, IsNear, IsReadable, IsLookup, IsWaiting, IsRewritten, IsUpdate, part_at}
+use Rattle.oram_tree.proofs.Content.{reads_uniquely, Before, IsBefore, After, is_readable, told_by, access_content}
+use Rattle.oram_tree.proofs.Evicted.{evicted}
+use Rattle.oram_tree.proofs.Gathered.{found_at}
+
+-- what vectors hold
+abbrev pub items_of : Vec ℕ Global → List ℕ
+items_of part = part.items
+
+abbrev pub blocks_of : Vec Cell Global → List Cell
+blocks_of list = list.items
+
+-- a changed block goes in beside the others
+pub waits_from : (old after new : List Cell) (b c : Cell) → b ≡ c → IsPermutation (b ∷ after) new → ((d : Cell) → Contains after d ↔ (Contains old d × (d.address ≢ c.address))) → IsWaiting (Contains old) c new
+waits_from old after new b c same moved others d = (
+  λ inside. elim (Contains-cases b after d (Contains-permutation new (b ∷ after) d (IsPermutation-sym (b ∷ after) new moved) inside)) [
+    | inl is ↦ inl (is ∙ same)
+    | inr stayed ↦ inr ((others d).0 stayed)
+  ],
+  λ from. Contains-permutation (b ∷ after) new d moved (elim from [
+    | inl is ↦ let P : Cell → Type 0 = λ e. Contains (b ∷ after) e in subst P (same ∙ sym is) (Contains-first b after)
+    | inr stays ↦ Contains-later b after d ((others d).1 stays)
+  ]),
+)
+
+-- once an address is taken it is not found
+pub not_twice : (old after : List Cell) (address : ℕ) → ((d : Cell) → Contains after d ↔ (Contains old d × (d.address ≢ address))) → (let o = block_at after address in is_some o ≡ true) → ⊥
+not_twice old after address others found = let d = found_at after address found in ((others d.0).0 d.1).1 d.2
+
+-- what holds of the gathered blocks holds of the near ones
+pub waiting_near : (near : Cell → Type 0) (gathered waiting : List Cell) (c : Cell) → ((d : Cell) → Contains gathered d ↔ near d) → IsWaiting (Contains gathered) c waiting → IsWaiting near c waiting
+waiting_near near gathered waiting c same waits d = (
+  λ inside. elim ((waits d).0 inside) [
+    | inl is ↦ inl is
+    | inr (there, other) ↦ inr ((same d).0 there, other)
+  ],
+  λ from. (waits d).1 (elim from [
+    | inl is ↦ inl is
+    | inr (there, other) ↦ inr ((same d).1 there, other)
+  ]),
+)
+
+pub lookup_near : (near : Cell → Type 0) (gathered : List Cell) (len address : ℕ) (found : Bool) (before : List ℕ) → ((d : Cell) → Contains gathered d ↔ near d) → IsLookup (Contains gathered) len address found before → IsLookup near len address found before
+lookup_near near gathered len address found before same looked = record {
+  present = λ e. let b = looked.present e in (b.0, (same b.0).0 b.1, b.2, b.3);
+  absent = λ e. let n = looked.absent e in (λ c there. n.0 c ((same c).1 there), n.1);
+}
+
+-- data that is looked up has a block's length
+pub before_len : (near : Cell → Type 0) (len address : ℕ) (found : Bool) (before : List ℕ) → IsLookup near len address found before → ((d : Cell) → near d → length d.content ≡ len) → length before ≡ len
+before_len near len address true before looked whole = let b = looked.present refl in ap length (sym b.3) ∙ whole b.0 b.1
+before_len near len address false before looked whole = let n = looked.absent refl in ap length n.1 ∙ length-replicate len 0
+
+length-with_entry : (bytes : List ℕ) (j value : ℕ) → 4 * j + 4 ≤ length bytes → length (with_entry bytes j value) ≡ length bytes
+unfolding with_entry
+length-with_entry bytes j value fits =
+    let front = take (4 * j) bytes in
+    let back = drop (4 * j + 4) bytes in
+    let four : length (to_be_bytes w32 value) ≡ 4 = refl in
+    omega (arith, length-append (front ++ to_be_bytes w32 value) back, length-append front (to_be_bytes w32 value), length-take (4 * j) bytes, length-drop (4 * j + 4) bytes, four)
+
+-- a block has room for an edit of its tree
+pub room_for : (s : Sizes) (i : ℕ) (e : Edit) → IsEditOf s i e → HasRoomFor s.block_bytes e
+room_for s i Keep fits = tt
+room_for s i (Replace bytes) fits = fits
+room_for s i (Entry j value) fits = let within = fits.1 in omega arith
+
+edited_len : (len : ℕ) (e : Edit) (before : List ℕ) → HasRoomFor len e → length before ≡ len → length (edited e before) ≡ len
+edited_len len Keep before fits whole = whole
+edited_len len (Replace bytes) before fits whole = fits
+edited_len len (Entry j value) before fits whole = length-with_entry before j value (omega (arith, fits, whole)) ∙ whole
+
+-- the changed block is of the tree
+pub changed_block : (near : Cell → Type 0) (s : Sizes) (i address leaf : ℕ) (e : Edit) (found : Bool) (before : List ℕ) → address < blocks_in s i → leaf < 2 ^ depth_of s i → IsEditOf s i e
+    → IsLookup near s.block_bytes address found before → ((d : Cell) → near d → IsBlockOf s i d) → (let c : Cell = record { address = address; leaf = leaf; content = edited e before } in IsBlockOf s i c)
+changed_block near s i address leaf e found before address_in leaf_in fits looked blocks = record {
+  address_in = address_in;
+  leaf_in = leaf_in;
+  whole = edited_len s.block_bytes e before (room_for s i e fits) (before_len near s.block_bytes address found before looked (λ d there. (blocks d there).whole));
+}
+
+-- the blocks that wait are of the tree
+pub waiting_blocks : (near : Cell → Type 0) (s : Sizes) (i : ℕ) (c : Cell) (waiting : List Cell) → IsBlockOf s i c → ((d : Cell) → near d → IsBlockOf s i d) → IsWaiting near c waiting → All (IsBlockOf s i) waiting
+waiting_blocks near s i c waiting changed blocks waits k d lt =
+    elim ((waits (get_or waiting k d)).0 (Contains-get_or waiting k d lt)) [
+      | inl is ↦ let P : Cell → Type 0 = IsBlockOf s i in subst P (sym is) changed
+      | inr (there, other) ↦ blocks (get_or waiting k d) there
+    ]
+
+-- an eviction's lists are buckets, and its rest is of the tree
+pub list_is_bucket : (s : Sizes) (i depth leaf : ℕ) (waiting : List Cell) (lists : List (List Cell)) (rest : List Cell) → IsEviction depth s.slots leaf waiting lists rest → All (IsBlockOf s i) waiting → (l : ℕ) → IsBucketOf s i (listed lists l)
+list_is_bucket s i depth leaf waiting lists rest e blocks l = record {
+  within = e.placement.within l;
+  rising = e.greedy.rising l;
+  blocks = All-of_list (IsBlockOf s i) lists rest l (All-permutation (IsBlockOf s i) waiting (all_listed lists ++ rest) e.placement.each_once blocks);
+}
+
+pub rest_blocks : (s : Sizes) (i depth leaf : ℕ) (waiting : List Cell) (lists : List (List Cell)) (rest : List Cell) → IsEviction depth s.slots leaf waiting lists rest → All (IsBlockOf s i) waiting → All (IsBlockOf s i) rest
+rest_blocks s i depth leaf waiting lists rest e blocks = All-of_rest (IsBlockOf s i) lists rest (All-permutation (IsBlockOf s i) waiting (all_listed lists ++ rest) e.placement.each_once blocks)
+
+-- what holds of each part at its level, once one more is there
+pub parts_more : (P : ℕ → List ℕ → Type 0) (old new : List (Vec ℕ Global)) (part : Vec ℕ Global) (n : ℕ) → new ≡ old ++ part ∷ [] → length old ≡ n
+    → ((k : ℕ) → k < n → P k (part_at (map items_of old) k)) → P n part.items → (k : ℕ) → k < n + 1 → P k (part_at (map items_of new) k)
+parts_more P old new part n is long before here k lt =
+    let whole : map items_of new ≡ map items_of old ++ part.items ∷ [] = ap (map items_of) is ∙ map-append items_of old (part ∷ []) in
+    let kept : length (map items_of old) ≡ length old = simp length-map in
+    let mapped : length (map items_of old) ≡ n = kept ∙ long in
+    elim (cases_eq k n) [
+      | inl last ↦
+          let read : part_at (map items_of new) k ≡ part.items = ap (λ (xs : List (List ℕ)). part_at xs k) whole ∙ get_or_push (map items_of old) part.items [] k (mapped ∙ sym last) in
+          subst (P k) (sym read) (let Q : ℕ → Type 0 = λ j. P j part.items in subst Q (sym last) here)
+      | inr other ↦
+          let read : part_at (map items_of new) k ≡ part_at (map items_of old) k = ap (λ (xs : List (List ℕ)). part_at xs k) whole ∙ get_or_append_left (map items_of old) (part.items ∷ []) [] k (omega (arith, mapped)) in
+          subst (P k) (sym read) (before k (omega arith))
+    ]
+
+-- the list at a level, as it is read
+pub list_at : (lists : List (Vec Cell Global)) (level : ℕ) (list : Vec Cell Global) → level < length lists → list ≡ get_or lists level list → listed (map blocks_of lists) level ≡ list.items
+list_at lists level list lt is = get_or-map blocks_of lists level list [] lt ∙ ap blocks_of (sym is)
+
+-- the lists, sealed and written to the path
+pub rewritten : (opening : List ℕ → Option (List ℕ)) (sealing : ℕ → List ℕ → List ℕ) (s : Sizes) (i nonce depth leaf : ℕ) (p q : Path) (stash waiting : List Cell) (c : Cell) (lists : List (List Cell)) (rest : List Cell) (parts : List (List ℕ))
+    → p.depth ≡ depth → p.leaf ≡ leaf → IsRising waiting → IsWaiting (IsNear (Reads opening s i) p stash) c waiting → IsEviction depth s.slots leaf waiting lists rest
+    → ((level : ℕ) → level ≤ p.depth → sealed_part (record_at q level) ≡ part_at parts level)
+    → ((level : ℕ) → level < length lists → part_at parts level ≡ sealing (nonce + level) (spelling s (listed lists level)))
+    → ((level : ℕ) → level < length lists → Reads opening s i (part_at parts level) (listed lists level))
+    → IsRewritten (Reads opening s i) sealing s nonce p stash q c rest
+rewritten opening sealing s i nonce depth leaf p q stash waiting c lists rest parts depth_is leaf_is rising waits e written exact opens =
+    record {
+      waiting = waiting;
+      lists = lists;
+      rising = rising;
+      waits = waits;
+      evicted = rw (depth_is, leaf_is) e;
+      sealed = λ level h. written level h ∙ exact level (omega (arith, e.placement.levels));
+      read_back = λ level h. let P : List ℕ → Type 0 = λ part. Reads opening s i part (listed lists level) in subst P (sym (written level h)) (opens level (omega (arith, e.placement.levels)));
+    }
+
+-- a stored tree, its depth and lengths as a path has them
+record IsPathIn (p : Path) (d : Sizes) (i overhead leaf : ℕ) : Type 0 where
+  depth_is : p.depth ≡ depth_of d i
+  len_is : p.record_len ≡ record_len_of d overhead
+  leaf_is : p.leaf ≡ leaf
+  fits : p.leaf < 2 ^ p.depth
+
+path_in : (p : Path) (d : Sizes) (i overhead leaf : ℕ) → p ≡ path_of d i leaf overhead p.bytes → leaf < 2 ^ depth_of d i → IsPathIn p d i overhead leaf
+path_in p d i overhead leaf e fits =
+    let depth_is : p.depth ≡ depth_of d i = ap (λ (x : Path). x.depth) e in
+    let leaf_is : p.leaf ≡ leaf = ap (λ (x : Path). x.leaf) e in
+    record {
+      depth_is = depth_is;
+      len_is = ap (λ (x : Path). x.record_len) e;
+      leaf_is = leaf_is;
+      fits = omega (arith, leaf_is, ap (λ (x : ℕ). 2 ^ x) depth_is, fits);
+    }
+
+held_by : (opening : List ℕ → Option (List ℕ)) (overhead leaf : ℕ) (d : Sizes) (p : Path) (t : State) (records : ℕ → List ℕ) (content : Map) → IsPathIn p d t.number overhead leaf → IsStoredWith opening overhead d t records content
+    → HasContent (Reads opening d t.number) p.depth records t.stash content
+held_by opening overhead leaf d p t records content in_tree stored = rw in_tree.depth_is stored.holds
+
+-- a stored tree's path is readable
+pub readable_before : (opening : List ℕ → Option (List ℕ)) (overhead leaf : ℕ) (d : Sizes) (p : Path) (t : State) (records : ℕ → List ℕ) (content : Map) → p ≡ path_of d t.number leaf overhead p.bytes → leaf < 2 ^ depth_of d t.number
+    → IsStoredWith opening overhead d t records content → IsPathOf records p → IsReadable (Reads opening d t.number) p t.stash
+readable_before opening overhead leaf d p t records content e fits stored path =
+    let in_tree = path_in p d t.number overhead leaf e fits in
+    is_readable (Reads opening d t.number) (record { p = p; old = records; stash = t.stash; content = content })
+    (record { fits = in_tree.fits; held = held_by opening overhead leaf d p t records content in_tree stored; path = path })
+    (λ i k ih kh same. node_on-injective p.depth p.leaf i k ih kh same)
+
+-- what an access does to the map
+pub updated : (opening : List ℕ → Option (List ℕ)) (sealing : ℕ → List ℕ → List ℕ) (overhead nonce leaf : ℕ) (d : Sizes) (p : Path) (bytes : List ℕ) (t : State) (root : List ℕ) (rest : List Cell)
+    (records : ℕ → List ℕ) (content : Map) (c : Cell) (found : Bool) (before : List ℕ) → IsDevice d → p ≡ path_of d t.number leaf overhead p.bytes → leaf < 2 ^ depth_of d t.number
+    → IsStoredWith opening overhead d t records content → IsPathOf records p → IsAtOrAbsent content c.address leaf
+    → IsLookup (IsNear (Reads opening d t.number) p t.stash) d.block_bytes c.address found before
+    → IsRewritten (Reads opening d t.number) sealing d nonce p t.stash (with_bytes p bytes) c rest → StandsRebuilt p bytes root
+    → (let after : State = record { number = t.number; root = root; stash = rest } in IsUpdate opening overhead d p (with_bytes p bytes) records content c found before after)
+updated opening sealing overhead nonce leaf d p bytes t root rest records content c found before of e fits stored path named looked w stands =
+    let reads = Reads opening d t.number in
+    let in_tree = path_in p d t.number overhead leaf e fits in
+    let named_here : IsAtOrAbsent content c.address p.leaf = λ entry there. named entry there ∙ sym in_tree.leaf_is in
+    let x : Before = record { p = p; old = records; stash = t.stash; content = content } in
+    let b : IsBefore reads x = record { fits = in_tree.fits; held = held_by opening overhead leaf d p t records content in_tree stored; path = path } in
+    let told = told_by reads x b c.address d.block_bytes found before named_here looked (content c.address) refl in
+    record {
+      told = told.0;
+      data_told = told.1;
+      updated = λ new replaced.
+          let y : After = record { q = with_bytes p bytes; new = new; c = c; waiting = w.waiting; lists = w.lists; rest = rest } in
+          let held = access_content reads x y (reads_uniquely opening d t.number of) b (record {
+            named = named_here;
+            replaced = replaced;
+            waits = w.waits;
+            evicted = evicted p.depth d.slots p.leaf w.waiting w.lists rest w.rising w.evicted;
+            rest_rising = w.evicted.rising;
+            stored = w.read_back;
+          }) in
+          let stood = stands t.root records new (rw (in_tree.depth_is, in_tree.len_is) stored.stands) path replaced in
+          record { stands = rw (in_tree.depth_is, in_tree.len_is) at stood; holds = rw in_tree.depth_is at held };
+    }
+
+-- a fault that isn't the one is the other
+pub only_memory : (f : TreeFault) → (let u : TreeFault = Unreadable in f ≡ u → ⊥) → f ≡ OutOfMemory
+only_memory Unreadable other = absurd (other refl)
+only_memory OutOfMemory other = refl
+
+-- so all that waits is of the tree
+pub waiting_of_tree : (s : Sizes) (i : ℕ) (gathered waiting : List Cell) (address leaf : ℕ) (e : Edit) (found : Bool) (before : List ℕ) → address < blocks_in s i → leaf < 2 ^ depth_of s i → IsEditOf s i e → All (IsBlockOf s i) gathered
+    → IsLookup (Contains gathered) s.block_bytes address found before → (let c : Cell = record { address = address; leaf = leaf; content = edited e before } in IsWaiting (Contains gathered) c waiting) → All (IsBlockOf s i) waiting
+waiting_of_tree s i gathered waiting address leaf e found before address_in leaf_in fits all looked waits =
+    let blocks = λ (d : Cell) (there : Contains gathered d). All-contains (IsBlockOf s i) gathered d all there in
+    waiting_blocks (Contains gathered) s i _ waiting (changed_block (Contains gathered) s i address leaf e found before address_in leaf_in fits looked blocks) blocks waits
+
+-- a fact on a tree's number and stash, at equal ones
+pub moved : (Q : ℕ → List Cell → Type 0) (n m : ℕ) (xs ys : List Cell) → n ≡ m → xs ≡ ys → Q n xs → Q m ys
+moved Q n m xs ys number stash fact = subst (Q m) stash (let P : ℕ → Type 0 = λ k. Q k xs in subst P number fact)

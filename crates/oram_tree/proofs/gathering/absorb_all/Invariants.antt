@@ -1,0 +1,10 @@
+use Rattle.std.proofs.Common.{◌≢◌, ◌⊎◌, ◌↔◌, Contains}
+use Rattle.oram_bucket.specs.Cell.{Cell, IsRising}
+use Rattle.oram_tree.proofs.gathering.absorb_all.Given as goal
+
+abbrev pub invariant-loop-block : goal.invariant-loop-block
+invariant-loop-block l = record {
+  rising : IsRising l.stash;
+  apart : (c d : Cell) → Contains l.yielded c → Contains l.initial.stash d → c.address ≢ d.address;
+  all : (c : Cell) → Contains l.stash c ↔ (Contains l.initial.stash c ⊎ Contains l.yielded c);
+}

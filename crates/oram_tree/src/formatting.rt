@@ -1,0 +1,148 @@
+//! The making of a tree of empty buckets.
+ghost use Rattle.std.specs.Prelude.{◌≡◌, ◌≢◌, ◌+◌, ◌*◌, ◌-◌, ◌^◌, ◌<◌, ◌≤◌, ℕ, List, [], ◌∷◌, ◌++◌, Err, IfOk, OnOk};
+ghost use Rattle.oram_geometry.specs.Sizes.{trees_of, depth_of, record_len_of};
+ghost use Rattle.oram_bucket.specs.Bucket.{spelling};
+ghost use Rattle.oram_wire.specs.HostMessages.{put_body, shape_body};
+ghost use Rattle.sha2.specs.Sha256.{sha256};
+ghost use Rattle.oram_tree.specs.Content.{node_count};
+ghost use Rattle.oram_tree.specs.Format.{PutsAll, IsFormat};
+ghost use Rattle.oram_tree.specs.Subtree.{puts, root_record};
+
+use crate::faults::FormatFault;
+use oram_bucket::{Block, Sealer, seal_bucket};
+use oram_bytes::Bytes;
+use oram_geometry::Device;
+use oram_hash::{DIGEST_LEN, NO_DIGEST, node_digest};
+use oram_wire::{HostRequest, Sink, SinkFault};
+use std::alloc::{AllocError, Global};
+
+/// The record of an empty bucket with these children's digests.
+fn empty_record<S: Sealer>(
+    alloc: Global,
+    device: &Device,
+    tree: u8,
+    sealer: &S,
+    nonce: u64,
+    left: &[u8; DIGEST_LEN],
+    right: &[u8; DIGEST_LEN],
+) -> Result<Vec<u8>, AllocError>
+    requires { tree < trees_of device.now }
+    ensures { IfOk result (λ v.
+        v.items ≡ S.sealing sealer.now nonce (spelling device.now []) ++ left.now ++ right.now) }
+{
+    let no_blocks: [Block; 0] = [];
+    let mut record = seal_bucket(alloc, sealer, device, tree, nonce, &no_blocks)?;
+    record.extend_from_slice(left)?;
+    record.extend_from_slice(right)?;
+    Ok(record)
+}
+
+/// Puts an empty bucket with these children's digests at a node, and gives its record's digest.
+fn put_node<S: Sealer, K: Sink>(
+    alloc: Global,
+    device: &Device,
+    tree: u8,
+    sealer: &S,
+    sink: &mut K,
+    node: u32,
+    nonce: u64,
+    left: &[u8; DIGEST_LEN],
+    right: &[u8; DIGEST_LEN],
+) -> Result<[u8; DIGEST_LEN], FormatFault>
+    requires { tree < trees_of device.now }
+    ensures memory { result ≢ Err (FormatFault.Sink SinkFault.OutOfMemory) }
+    ensures put { let bytes = S.sealing sealer.now nonce (spelling device.now []) ++ left.now ++ right.now in
+        OnOk result (K.putting sink.old (put_body tree node bytes) sink.new) }
+    ensures digest { let bytes = S.sealing sealer.now nonce (spelling device.now []) ++ left.now ++ right.now in
+        IfOk result (λ d. d ≡ sha256 bytes) }
+{
+    let record = empty_record(alloc, device, tree, sealer, nonce, left, right)?;
+    let digest = node_digest(&record);
+    let bytes = Bytes::from_vec(record);
+    let body = HostRequest::Put { tree, node, bytes }.encode(alloc)?;
+    sink.put(&body)?;
+    Ok(digest)
+}
+
+/// The nodes of the left subtree of a node of this height.
+fn nodes_below(height: u8) -> u64
+    requires some { 0 < height }
+    requires height { height ≤ 24 }
+    ensures { result ≡ node_count (height - 1) }
+{
+    (1 << height) - 1
+}
+
+/// Puts empty buckets at the nodes below a node and at it: those of the left subtree, those of the right one, the node.
+/// Gives the digest of the node's record.
+fn grow<S: Sealer, K: Sink>(
+    alloc: Global,
+    device: &Device,
+    tree: u8,
+    sealer: &S,
+    sink: &mut K,
+    height: u8,
+    node: u32,
+    nonce: u64,
+) -> Result<[u8; DIGEST_LEN], FormatFault>
+    requires tree { tree < trees_of device.now }
+    requires height { height ≤ 24 }
+    requires nodes { (node + 2) * 2 ^ height ≤ 2 ^ 25 }
+    requires nonces { nonce + node_count height ≤ 2 ^ 64 }
+    ensures memory { result ≢ Err (FormatFault.Sink SinkFault.OutOfMemory) }
+    ensures put { let seal = λ (n : ℕ). S.sealing sealer.now n (spelling device.now []) in
+        OnOk result (PutsAll K.putting sink.old (puts seal tree height nonce node) sink.new) }
+    ensures digest { let seal = λ (n : ℕ). S.sealing sealer.now n (spelling device.now []) in
+        IfOk result (λ d. d ≡ sha256 (root_record seal height nonce)) }
+{
+    if height == 0 {
+        return put_node(
+            alloc, device, tree, sealer, sink, node, nonce, &NO_DIGEST, &NO_DIGEST,
+        );
+    }
+    let below = nodes_below(height);
+    let (left, right) = (2 * node + 1, 2 * node + 2);
+    let left = grow(alloc, device, tree, sealer, sink, height - 1, left, nonce)?;
+    let right = grow(
+        alloc,
+        device,
+        tree,
+        sealer,
+        sink,
+        height - 1,
+        right,
+        nonce + below,
+    )?;
+    let nonce = nonce + 2 * below;
+    put_node(
+        alloc, device, tree, sealer, sink, node, nonce, &left, &right,
+    )
+}
+
+/// Makes a tree of empty buckets, and gives the digest of its root's record.
+pub(crate) fn format_tree<S: Sealer, K: Sink>(
+    alloc: Global,
+    device: &Device,
+    tree: u8,
+    sealer: &S,
+    nonce: u64,
+    sink: &mut K,
+) -> Result<[u8; DIGEST_LEN], FormatFault>
+    requires tree { tree < trees_of device.now }
+    requires nonces { nonce + node_count (depth_of device.now tree) ≤ 2 ^ 64 }
+    ensures memory { result ≢ Err (FormatFault.Sink SinkFault.OutOfMemory) }
+    ensures made { IfOk result (λ root. (bodies : List (List ℕ)) × PutsAll K.putting sink.old bodies sink.new
+        × IsFormat (S.opening sealer.now) (S.sealing sealer.now) (S.overhead sealer.now) device.now nonce
+        (record { number = tree; root = root; stash = [] }) bodies) }
+{
+    prove!(tree < device.trees());
+    let depth = device.depth(tree);
+    let record_len = device.record_len(sealer.overhead()) as u32;
+    let shape = HostRequest::Shape {
+        tree,
+        depth,
+        record_len,
+    };
+    sink.put(&shape.encode(alloc)?)?;
+    grow(alloc, device, tree, sealer, sink, depth, 0, nonce)
+}

@@ -1,0 +1,205 @@
+//! One tree of the store, as its client knows it: the stash and the digest of the root's record.
+//!
+//! An access reads the path of a block's leaf into the stash, gives the block a new leaf, reads or changes its data, and
+//! moves blocks back to the path (Path ORAM, CCS 2013, section 3). It makes the records to be stored; who sends them, and
+//! who knows which leaf a block has, is the layer above.
+#![tactic(auto)]
+
+ghost use Rattle.std.specs.Prelude.{◌≡◌, ◌≢◌, ◌⊎◌, ◌↔◌, ◌+◌, ◌^◌, ◌<◌, ◌≤◌, ℕ, List, [], Err, IsOk, IfOk, OnOk, OnErr, IfErr, MatchResult, All, length};
+ghost use Rattle.oram_geometry.specs.Sizes.{trees_of, blocks_in, depth_of};
+ghost use Rattle.oram_hash.specs.Path.{path_of, with_bytes, HasLength, IsAccepted, IsTamperedAt};
+ghost use Rattle.oram_hash.specs.Tree.{Collides, IsPathOf, IsStored};
+ghost use Rattle.oram_hash.specs.Verdict.{IsFaultOf};
+ghost use Rattle.oram_bucket.specs.Bucket.{IsBlockOf};
+ghost use Rattle.oram_bucket.specs.Reading.{Reads};
+ghost use Rattle.oram_tree.specs.Content.{Map, node_count};
+ghost use Rattle.oram_tree.specs.State.{IsStoredWith};
+ghost use Rattle.oram_tree.specs.Edits.{edited, IsEditOf};
+ghost use Rattle.oram_tree.specs.Access.{IsAtOrAbsent, IsNear, IsReadable, IsLookup, IsRewritten, IsUpdate};
+ghost use Rattle.oram_tree.specs.Format.{PutsAll, IsFormat};
+
+mod edits;
+mod faults;
+mod formatting;
+mod gathering;
+mod rewriting;
+
+pub use edits::Edit;
+pub use faults::{FormatFault, TreeFault};
+use formatting::format_tree;
+use oram_bucket::Sealer;
+use oram_geometry::Device;
+use oram_hash::{DIGEST_LEN, HashFault, PathView, check_path};
+use oram_stash::Stash;
+use oram_wire::{Sink, SinkFault};
+pub use rewriting::Access;
+use rewriting::{Rewritten, rewrite};
+use std::alloc::Global;
+use std::marker::Model;
+
+/// A tree as its client knows it.
+#[derive(Debug, Drop)]
+pub struct Tree {
+    number: u8,
+    root: [u8; DIGEST_LEN],
+    stash: Stash,
+}
+
+impl Model for Tree {
+    ghost use Rattle.oram_tree.specs.State.{State};
+
+    ghost Value = { State };
+
+    ghost view = { λ t. record { number = t.number; root = t.root; stash = t.stash } };
+}
+
+impl Tree {
+    /// Makes a tree of empty buckets, by messages to a sink: its shape, and then its nodes' records, those of the left
+    /// subtree, those of the right one, the root. Of these it keeps one digest a level.
+    pub fn format<S: Sealer, K: Sink>(
+        alloc: Global,
+        device: &Device,
+        number: u8,
+        sealer: &S,
+        nonce: u64,
+        sink: &mut K,
+    ) -> Result<Tree, FormatFault>
+        requires number { number < trees_of device.now }
+        requires nonces { nonce + node_count (depth_of device.now number) ≤ 2 ^ 64 }
+        ensures memory { result ≢ Err (FormatFault.Sink SinkFault.OutOfMemory) }
+        ensures number { IfOk result (λ t. t.number ≡ number) }
+        ensures stash { IfOk result (λ t. t.stash ≡ []) }
+        ensures made { IfOk result (λ t. (bodies : List (List ℕ)) × PutsAll K.putting sink.old bodies sink.new
+            × IsFormat (S.opening sealer.now) (S.sealing sealer.now) (S.overhead sealer.now) device.now nonce t bodies) }
+    {
+        let root = format_tree(alloc, device, number, sealer, nonce, sink)?;
+        Ok(Tree {
+            number,
+            root,
+            stash: Stash::new(alloc),
+        })
+    }
+
+    /// The digest of the root's record.
+    pub fn root(&self) -> &[u8; DIGEST_LEN]
+        ensures { result.now ≡ self.now.root }
+    {
+        &self.root
+    }
+
+    /// How many blocks lie in no bucket.
+    pub fn stash_len(&self) -> usize
+        ensures { result ≡ length self.now.stash }
+    {
+        self.stash.len()
+    }
+
+    /// Reads bytes as the records of a path of the tree, root first, and checks them against its root digest.
+    pub fn check<'a>(
+        &self,
+        device: &Device,
+        leaf: u32,
+        overhead: usize,
+        bytes: &'a [u8],
+    ) -> Result<PathView<'a>, HashFault>
+        requires number { self.now.number < trees_of device.now }
+        requires leaf { leaf < 2 ^ depth_of device.now self.now.number }
+        requires overhead { overhead ≤ 64 }
+        ensures view { IfOk result (λ v. v ≡ path_of device.now self.now.number leaf overhead bytes.now) }
+
+        ensures accepted { let p = path_of device.now self.now.number leaf overhead bytes.now in
+            IsOk result ↔ IsAccepted p self.now.root }
+        ensures length { let p = path_of device.now self.now.number leaf overhead bytes.now in
+            (result ≡ Err HashFault.Length) ↔ (¬ HasLength p) }
+        ensures tampered { let p = path_of device.now self.now.number leaf overhead bytes.now in
+            (level : ℕ) → (result ≡ Err (HashFault.Tampered level)) ↔ IsTamperedAt p self.now.root level }
+
+        // Against a stored tree of the root.
+        ensures judged { let p = path_of device.now self.now.number leaf overhead bytes.now in
+            (records : ℕ → List ℕ) → IsStored p.depth p.record_len self.now.root records
+            → MatchResult result (λ _. IsPathOf records p) (IsFaultOf records p) ⊎ Collides records p }
+    {
+        check_path(device, self.number, leaf, overhead, &self.root, bytes)
+    }
+
+    /// Reads or changes a block on the path of its old leaf, or makes it, and gives it a new leaf. The path is what
+    /// `check` gave for the old leaf.
+    pub fn access<S: Sealer>(
+        &mut self,
+        alloc: Global,
+        device: &Device,
+        sealer: &S,
+        path: &PathView<'_>,
+        address: u32,
+        old_leaf: u32,
+        new_leaf: u32,
+        nonce: u64,
+        edit: Edit<'_>,
+    ) -> Result<Access, TreeFault>
+        requires number { self.old.number < trees_of device.now }
+        requires path { path.now ≡ path_of device.now self.old.number old_leaf (S.overhead sealer.now) path.now.bytes }
+        requires address { address < blocks_in device.now self.old.number }
+        requires old_leaf { old_leaf < 2 ^ depth_of device.now self.old.number }
+        requires new_leaf { new_leaf < 2 ^ depth_of device.now self.old.number }
+        requires nonces { nonce + depth_of device.now self.old.number < 2 ^ 64 }
+        requires edit { IsEditOf device.now self.old.number edit }
+        requires blocks { All (IsBlockOf device.now self.old.number) self.old.stash }
+
+        ensures err { OnErr result (self.new ≡ self.old) }
+        ensures number { self.new.number ≡ self.old.number }
+        ensures blocks { All (IsBlockOf device.now self.old.number) self.new.stash }
+
+        // A readable path is read unless memory runs out, and no other is.
+        ensures unreadable { let reads = Reads (S.opening sealer.now) device.now self.old.number in
+            result ≡ Err TreeFault.Unreadable → ¬ IsReadable reads path.now self.old.stash }
+        ensures readable { let reads = Reads (S.opening sealer.now) device.now self.old.number in
+            OnOk result (IsReadable reads path.now self.old.stash) }
+
+        ensures lookup { let reads = Reads (S.opening sealer.now) device.now self.old.number in
+            IfOk result (λ a. IsLookup (IsNear reads path.now self.old.stash) device.now.block_bytes address
+            a.found a.before.items) }
+        ensures data_len { IfOk result (λ a. length a.before.items ≡ device.now.block_bytes) }
+
+        // The buckets and the stash are the outcome of an eviction, sealed under rising nonces.
+        ensures whole { IfOk result (λ a. HasLength (with_bytes path.now a.records.items)) }
+        ensures written { let reads = Reads (S.opening sealer.now) device.now self.old.number in
+            IfOk result (λ a. let changed = edited edit.entry a.before.items in
+            IsRewritten reads (S.sealing sealer.now) device.now nonce path.now self.old.stash
+            (with_bytes path.now a.records.items) (record { address = address; leaf = new_leaf; content = changed }) self.new.stash) }
+
+        // Over each stored tree that has the path, and the map that it and the stash hold.
+        ensures updates { (records : ℕ → List ℕ) (content : Map)
+            → IsStoredWith (S.opening sealer.now) (S.overhead sealer.now) device.now self.old records content
+            → IsPathOf records path.now → IsAtOrAbsent content address old_leaf
+            → MatchResult result (λ a. let changed = edited edit.entry a.before.items in
+            IsUpdate (S.opening sealer.now) (S.overhead sealer.now) device.now path.now (with_bytes path.now a.records.items) records
+            content (record { address = address; leaf = new_leaf; content = changed }) a.found a.before.items self.new)
+            (λ f. f ≡ TreeFault.OutOfMemory) }
+    {
+        prove!(self.number < device.trees());
+        let stash = self.stash.copy(alloc)?;
+        let Rewritten {
+            stash,
+            root,
+            access,
+        } = rewrite(
+            alloc,
+            device,
+            self.number,
+            sealer,
+            path,
+            stash,
+            address,
+            old_leaf,
+            new_leaf,
+            nonce,
+            edit,
+        )?;
+        self.stash = stash;
+        self.root = root;
+        Ok(access)
+    }
+}
+
+#[cfg(test)]
+mod tests;
