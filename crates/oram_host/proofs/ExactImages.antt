@@ -1,5 +1,5 @@
 -- What is read is spelled so: a text of bytes that reads as a host is its image.
-use Rattle.std.proofs.Common.{◌≡◌, ℕ, zero, suc, ◌+◌, ◌-◌, ◌*◌, ◌^◌, ◌<◌, ◌≤◌, Bool, true, false, cond, eqb, leb, ltb, List, [], ◌∷◌, ◌++◌, length, get_or, take, drop, All, Result, Ok, Err, ◌↔◌, inl, inr, refl, sym, ap, subst, ◌∙◌, append_assoc, append-nil, arith}
+use Rattle.std.proofs.Common.{◌≡◌, ℕ, zero, suc, ◌+◌, ◌-◌, ◌^◌, ◌<◌, ◌≤◌, Bool, true, false, cond, eqb, leb, ltb, List, [], ◌∷◌, ◌++◌, length, get_or, take, drop, All, Result, Ok, Err, ◌↔◌, inl, inr, refl, sym, ap, subst, ◌∙◌, append_assoc, append-nil, arith}
 use Rattle.std.specs.Prelude.{◌&&◌, codes, nat_eq}
 use Rattle.std.specs.Int.{w32, from_be_bytes, to_be_bytes}
 use Rattle.std.specs.List.{AllByRecursion, flat_map, starts_with}
@@ -9,8 +9,8 @@ use Rattle.std.proofs.lemmas.List.{get_or-drop, get_or-take, get_or_past, length
 use Rattle.std.proofs.lemmas.List.Concat.{flat_map-cons}
 use Rattle.std.proofs.lemmas.Nat.{be_bytes_4}
 use Rattle.oram_host.specs.declared.images.ImageFault.{ImageFault}
-use Rattle.oram_host.specs.declared.images.ImageFault.TheVariants.{Content, Length, Magic, Version}
-use Rattle.oram_host.specs.Host.{Host, IsHost, IsKept, IsKeptTree, IsRecordOf, IsShape, Kept, RisesFrom}
+use Rattle.oram_host.specs.declared.images.ImageFault.TheVariants.{Length, Magic, Version}
+use Rattle.oram_host.specs.Host.{Host, IsHost, IsKept, IsKeptTree, IsRecordOf, Kept, RisesFrom}
 use Rattle.oram_host.specs.Image.{entries_text, image, kept_text, record_text, tree_text}
 use Rattle.oram_host.specs.ImageReading.{Reading, after_end, after_letters, after_version, host_in, is_shape, lawful, next_byte, next_bytes, next_entries, next_kept, next_number, next_record, next_rising, next_tree, ◌>>=◌}
 use Rattle.oram_host.proofs.ReadImages.{both_held, host_again, is_passed}
@@ -140,7 +140,7 @@ kept_takes : (text : List ℕ) (x : Kept × List ℕ) → IsBytes text → next_
 unfolding next_kept
 kept_takes text x h e =
     let after : ℕ → ℕ → List ℕ → Reading Kept =
-        λ depth record_len rest. next_entries (2 ^ (depth + 1) - 1) (next_record (2 ^ (depth + 1) - 1) record_len) rest >>= λ records. Ok (record { depth = depth; record_len = record_len; records = records.0 }, records.1) in
+    λ depth record_len rest. next_entries (2 ^ (depth + 1) - 1) (next_record (2 ^ (depth + 1) - 1) record_len) rest >>= λ records. Ok (record { depth = depth; record_len = record_len; records = records.0 }, records.1) in
     let a = bind_ok (next_byte text) (λ depth. next_number depth.1 >>= λ record_len. lawful (is_shape depth.0 record_len.0) >>= λ _. after depth.0 record_len.0 record_len.1) x e in
     let b = bind_ok (next_number a.0.1) (λ record_len. lawful (is_shape a.0.0 record_len.0) >>= λ _. after a.0.0 record_len.0 record_len.1) x a.2 in
     let c = lawful_ok (is_shape a.0.0 b.0.0) (λ _. after a.0.0 b.0.0 b.0.1) x b.2 in

@@ -39,8 +39,7 @@ const VERSION: u32 = 1;
 pub fn images_are_exact()
     ensures { (text : List ℕ) (host : Host) → All (λ b. b < 256) text
         → (host_in text ≡ Ok host) ↔ (IsHost host × (text ≡ image host)) }
-{
-}
+{}
 
 impl ImageFault {
     /// The number that is shown, from 1 to 4 in the order above. What a reader or a writer failed at
