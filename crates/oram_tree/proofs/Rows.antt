@@ -1,5 +1,5 @@
 -- The definitions on worked examples.
-use Rattle.std.proofs.Common.{◌≡◌, ℕ, List, [], ◌∷◌, ◌++◌, replicate, Some, None, refl}
+use Rattle.std.proofs.Common.{◌≡◌, [], ◌∷◌, ◌++◌, replicate, Some, None, refl}
 use Rattle.oram_tree.specs.Content.{Entry, no_blocks, put}
 use Rattle.oram_tree.specs.Edits.{with_entry}
 use Rattle.oram_tree.specs.Format.{post_order}
