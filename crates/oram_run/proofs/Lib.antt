@@ -24,6 +24,7 @@ pub mod Placing
 pub mod PostOrder
 pub mod Formatting
 pub mod Moving
+pub mod Beginnings
 pub mod Told
 pub mod NoncesApart
 pub mod AgreeKept

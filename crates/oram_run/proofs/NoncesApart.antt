@@ -89,7 +89,7 @@ no_tree : (d : Sizes) → formatted_below d 0 ≡ 0
 unfolding formatted_below
 no_tree d = refl
 
-node_count-small : (depth : ℕ) → depth ≤ 24 → node_count depth ≤ 2 ^ 25
+pub node_count-small : (depth : ℕ) → depth ≤ 24 → node_count depth ≤ 2 ^ 25
 node_count-small depth few =
     let most : 2 ^ depth ≤ 2 ^ 24 = pow-le-pow_right {n = 2} (omega arith) {i = depth} {j = 24} few in
     omega (arith, pow-add 2 depth 1)
