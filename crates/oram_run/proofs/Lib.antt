@@ -30,3 +30,4 @@ pub mod NoncesApart
 pub mod AgreeKept
 pub mod AgreeSteps
 pub mod AgreeNew
+pub mod Serving
