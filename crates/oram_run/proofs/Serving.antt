@@ -1,9 +1,8 @@
 -- A core without a past answers as a plain array begun with what tree 0 holds.
-use Rattle.std.proofs.Common.{◌≡◌, ◌≢◌, ℕ, zero, suc, ◌+◌, ◌-◌, ◌*◌, ◌/◌, ◌%◌, ◌<◌, ◌≤◌, ◌==◌, ◌⊎◌, Bool, true, false, if◌then◌else◌, List, [], ◌∷◌, ◌++◌, length, Option, Some, None, refl, ap, sym, ◌∙◌, subst, arith, inl, inr}
+use Rattle.std.proofs.Common.{◌≡◌, ◌≢◌, ℕ, zero, suc, ◌+◌, ◌*◌, ◌%◌, ◌<◌, ◌==◌, Bool, false, if◌then◌else◌, List, [], ◌∷◌, ◌++◌, length, Option, Some, None, refl, ap, sym, ◌∙◌, subst, arith, inl, inr}
 use Rattle.std.proofs.lemmas.Bool.Decides.{nat_tests, eqb_tells}
-use Rattle.oram_geometry.specs.declared.Sizes.{Sizes}
 use Rattle.oram_geometry.specs.Sizes.{trees_of}
-use Rattle.oram_tree.specs.Content.{Map, Entry as Held, put}
+use Rattle.oram_tree.specs.Content.{Entry as Held, put}
 use Rattle.oram_run.specs.Shape.{Shape}
 use Rattle.oram_run.specs.Messages.{asked}
 use Rattle.oram_run.specs.Answers.{Outcome, outcome_of}
@@ -17,7 +16,7 @@ use Rattle.oram_run.specs.Run.{Shown, refusal_of, is_over}
 use Rattle.oram_run.specs.State.{State, World, status_in}
 use Rattle.oram_run.specs.Moves.{Moved, MovesTo, Moves, moved, stays, stalls, resends, accepts, stores, fetches, finishes, goes_on, on_submission, on_answer, on_loss, on_retry, world_after}
 use Rattle.oram_run.specs.Agree.{IsOrderly}
-use Rattle.oram_run.specs.Serving.{array_in, array_after, reply_by, ServesAmid, ServesBy, Serves, HasServed}
+use Rattle.oram_run.specs.Serving.{array_in, array_after, ServesAmid, ServesBy, Serves, HasServed}
 use Rattle.oram_run.specs.declared.events.Command.{Command}
 use Rattle.oram_run.specs.declared.events.Command.TheVariants.{Read, Write}
 use Rattle.oram_run.specs.declared.events.Event.{Event}
@@ -25,7 +24,9 @@ use Rattle.oram_run.specs.declared.events.Event.TheVariants.{Submit, Answer, Los
 use Rattle.oram_run.specs.declared.events.Note.TheVariants.{Refused, Unexpected}
 use Rattle.oram_run.specs.declared.events.Refusal.{Refusal}
 use Rattle.oram_run.specs.declared.events.Submission.{Submission}
-use Rattle.oram_run.proofs.Bounds.{IsFit}
+use Rattle.oram_run.specs.Law.{CoresServe}
+use Rattle.oram_run.proofs.Bounds.{IsFit, fit_device}
+use Rattle.oram_run.proofs.AgreeSteps.{agrees_moved, agreeing_fits}
 use Rattle.oram_run.proofs.Maps.{own_block, block_after-zero}
 
 -- stage, what was found and content stay
@@ -206,3 +207,10 @@ serves_moved v s t w array Retry y fit o h = serves_retried v s t w array y (sta
 -- A core at rest serves what its tree 0 holds.
 pub serves_at_rest : (v : Shape) (s : State) (w : World) → s.queue ≡ [] → Serves v s w (array_in v w)
 serves_at_rest v s w none = subst (ServesBy v s w (array_in v w)) (sym none) (λ a. refl)
+
+pub cores_serve : CoresServe
+cores_serve v s t w array event x device o holds agrees serves apart steps healthy =
+    let fit : IsFit v.device = fit_device v.device device in
+    let mv : Moves v s w event x t = steps w (agreeing_fits v s w fit o agrees holds) apart in
+    let left = agrees_moved v s t w event x fit o agrees mv healthy in
+    record { orderly = left.orderly; holds = mv.holds healthy; agrees = left.agrees; served = serves_moved v s t w array event x fit o serves mv healthy }
