@@ -27,34 +27,47 @@ all_taken [] = refl
 all_taken (body ∷ bodies) = (0, tt, all_taken bodies)
 
 -- each tree can be made
-tree_made : (v : Shape) (i : ℕ) → IsDevice v.device → IsLawful v → i < trees_of v.device → (tree : Tree) × (bodies : List (List ℕ)) × IsTreeMade v i tree bodies
+tree_made : (v : Shape) (i : ℕ) → IsDevice v.device → IsLawful v → i < trees_of v.device
+    → (tree : Tree) × (bodies : List (List ℕ)) × IsTreeMade v i tree bodies
 tree_made v i device law below =
     let d = v.device in
     let nonce : ℕ = formatted_below d i in
     let few : trees_of d ≤ 13 = trees_of-few d device in
-    let fits : nonce + node_count (depth_of d i) ≤ 2 ^ 64 = omega (arith, formatted_small d i, node_count-small (depth_of d i) (depth_small d i)) in
+    let fits : nonce + node_count (depth_of d i) ≤ 2 ^ 64 =
+    omega (arith, formatted_small d i, node_count-small (depth_of d i) (depth_small d i)) in
     let bodies = puts (λ n. v.sealing n (spelling d [])) i (depth_of d i) nonce 0 in
     let is = made takes_all 0 0 0 v.opening v.sealing d i (depth_of d i) (record_len_of d v.overhead) v.overhead nonce (shape_body i (depth_of d i) (record_len_of d v.overhead)) (sha256 (root_record (λ n. v.sealing n (spelling d [])) (depth_of d i) nonce))
     device refl refl law.longer law.undoes fits refl tt (all_taken bodies) refl in
     (record { number = i; root = sha256 (root_record (λ n. v.sealing n (spelling d [])) (depth_of d i) nonce); stash = [] }, is.0, record { number = refl; made = is.2 })
 
 -- and so those that are left
-rest_made : (v : Shape) (left n : ℕ) (trees : List Tree) (messages : List (List ℕ)) → IsDevice v.device → IsLawful v → n + left ≡ trees_of v.device → AreTreesMade v n trees messages → IsFormatBegun v messages
+rest_made : (v : Shape) (left n : ℕ) (trees : List Tree) (messages : List (List ℕ)) → IsDevice v.device → IsLawful v
+    → n + left ≡ trees_of v.device → AreTreesMade v n trees messages → IsFormatBegun v messages
 rest_made v zero n trees messages device law all are =
     let same : n ≡ trees_of v.device = omega arith in
     ([], trees, subst (λ (ms : List (List ℕ)). AreTreesMade v (trees_of v.device) trees ms) (sym (append-nil messages)) (subst (λ (k : ℕ). AreTreesMade v k trees messages) same are))
 rest_made v (suc left) n trees messages device law all are =
     let one = tree_made v n device law (omega arith) in
-    let next = rest_made v left (n + 1) (trees ++ one.0 ∷ []) (messages ++ one.1) device law (omega arith) (one_more_made v n trees messages one.1 one.0 are one.2) in
+    let next =
+    rest_made v left (n + 1) (trees ++ one.0 ∷ []) (messages ++ one.1) device law (omega arith) (one_more_made v n trees messages one.1 one.0 are one.2) in
     (one.1 ++ next.0, next.1, subst (λ (ms : List (List ℕ)). AreTreesMade v (trees_of v.device) next.1 ms) (append_assoc messages one.1 next.0) next.2)
 
 -- where some trees were made,
-pub begun_between : (v : Shape) (n : ℕ) (trees : List Tree) (messages : List (List ℕ)) → IsDevice v.device → IsLawful v → n ≤ trees_of v.device → AreTreesMade v n trees messages → IsFormatBegun v messages
-begun_between v n trees messages device law few are = rest_made v (trees_of v.device - n) n trees messages device law (omega arith) are
+pub begun_between : (v : Shape) (n : ℕ) (trees : List Tree) (messages : List (List ℕ)) → IsDevice v.device → IsLawful v
+    → n ≤ trees_of v.device → AreTreesMade v n trees messages → IsFormatBegun v messages
+begun_between v n trees messages device law few are =
+    rest_made v (trees_of v.device - n) n trees messages device law (omega arith) are
 
 -- and the next one in part
-pub begun_within : (v : Shape) (n : ℕ) (trees : List Tree) (tree : Tree) (messages taken more : List (List ℕ)) → IsDevice v.device → IsLawful v → n < trees_of v.device → AreTreesMade v n trees messages → IsTreeMade v n tree (taken ++ more) → IsFormatBegun v (messages ++ taken)
+pub begun_within : (v : Shape) (n : ℕ) (trees : List Tree) (tree : Tree) (messages taken more : List (List ℕ))
+    → IsDevice v.device → IsLawful v → n < trees_of v.device → AreTreesMade v n trees messages
+    → IsTreeMade v n tree (taken ++ more) → IsFormatBegun v (messages ++ taken)
 begun_within v n trees tree messages taken more device law few are one =
-    let next = begun_between v (n + 1) (trees ++ tree ∷ []) (messages ++ (taken ++ more)) device law (omega arith) (one_more_made v n trees messages (taken ++ more) tree are one) in
-    (more ++ next.0, next.1, subst (λ (ms : List (List ℕ)). AreTreesMade v (trees_of v.device) next.1 ms) (
-    append_assoc messages (taken ++ more) next.0 ∙ ap (λ ms. messages ++ ms) (append_assoc taken more next.0) ∙ sym (append_assoc messages taken (more ++ next.0))) next.2)
+    let next =
+    begun_between v (n + 1) (trees ++ tree ∷ []) (messages ++ (taken ++ more)) device law (omega arith) (one_more_made v n trees messages (taken ++ more) tree are one) in (
+      more ++ next.0,
+      next.1,
+      subst (λ (ms : List (List ℕ)). AreTreesMade v (trees_of v.device) next.1 ms) (
+          append_assoc messages (taken ++ more) next.0 ∙ ap (λ ms. messages ++ ms) (append_assoc taken more next.0)
+          ∙ sym (append_assoc messages taken (more ++ next.0))) next.2,
+    )

@@ -82,7 +82,8 @@ pub record IsQuiet (s : State) (w : World) (m : Moved) : Type 0 where
   pub last : m.state.last ≡ s.last
   pub content : m.content ≡ w.content
 
-quiet_state : (m : Moved) (s : State) (n : ℕ) (last : List ℕ) → m.state.nonce ≡ s.nonce → n ≡ 0 → record m.state { last = last } ≡ record m.state { nonce = s.nonce + n; last = last }
+quiet_state : (m : Moved) (s : State) (n : ℕ) (last : List ℕ) → m.state.nonce ≡ s.nonce → n ≡ 0
+    → record m.state { last = last } ≡ record m.state { nonce = s.nonce + n; last = last }
 quiet_state m s n last same none =
     let whole : m.state.nonce ≡ s.nonce + n = omega arith in
     ap (λ (k : ℕ). record m.state { nonce = k; last = last }) whole
@@ -113,12 +114,13 @@ fetch_message v e fetch = record {
 }
 
 -- an event at which a path is fetched
-pub moves_fetching : (v : Shape) (s t : State) (w : World) (m : Moved) (x : Shown) (e : Entry) → m.ask ≡ For e → e.fetch ≡ true → IsQuiet s w m
-    → x.note ≡ m.note → x.replies ≡ m.replies → x.sends ≡ fetch_body e.tree e.leaf ∷ [] → t ≡ record m.state { last = fetch_body e.tree e.leaf }
-    → (t.failure ≡ None → Holds v s w) → MovesTo v s w m x t
+pub moves_fetching : (v : Shape) (s t : State) (w : World) (m : Moved) (x : Shown) (e : Entry) → m.ask ≡ For e
+    → e.fetch ≡ true → IsQuiet s w m → x.note ≡ m.note → x.replies ≡ m.replies → x.sends ≡ fetch_body e.tree e.leaf ∷ []
+    → t ≡ record m.state { last = fetch_body e.tree e.leaf } → (t.failure ≡ None → Holds v s w) → MovesTo v s w m x t
 moves_fetching v s t w m x e ask fetch q note replies sent is holds =
     let body : List ℕ = fetch_body e.tree e.leaf in
-    let seals : buckets_in v.device m.ask ≡ 0 = ap (buckets_in v.device) ask ∙ ap (λ (b : Bool). if b then 0 else depth_of v.device e.tree + 1) fetch in
+    let seals : buckets_in v.device m.ask ≡ 0 =
+    ap (buckets_in v.device) ask ∙ ap (λ (b : Bool). if b then 0 else depth_of v.device e.tree + 1) fetch in
     let last : body ≡ latest x.sends s.last = sym (ap (λ ms. latest ms s.last) sent) in
     moves_calmly v s t w m x (subst IsCalm (sym ask) fetch) q.content q.trees note replies (subst (λ (a : Ask). Sends v s.last a x.sends) (sym ask) (body, sent, fetch_message v e fetch))
     (is ∙ ap (λ (l : List ℕ). record m.state { last = l }) last ∙ quiet_state m s (buckets_in v.device m.ask) (latest x.sends s.last) q.nonce seals) holds

@@ -28,4 +28,5 @@ IsFormatted v trees = AreTreesMade v.shape (trees_of v.shape.device) trees v.for
 
 -- the messages are a beginning of such
 abbrev pub IsFormatBegun : Shape → List (List ℕ) → Type 0
-IsFormatBegun v messages = (more : List (List ℕ)) × (trees : List Tree) × AreTreesMade v (trees_of v.device) trees (messages ++ more)
+IsFormatBegun v messages =
+    (more : List (List ℕ)) × (trees : List Tree) × AreTreesMade v (trees_of v.device) trees (messages ++ more)
