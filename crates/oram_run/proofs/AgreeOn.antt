@@ -89,7 +89,9 @@ module _ (v : Shape) (s t : State) (w w' : World) (x : Submission) (rest : List 
 
   block_after_is : (k : ℕ) → k + 1 ≡ i
       → block_after v.device i x bytes ≡ with_entry bytes (block_of v.device k x % fanout v.device) (new_leaf v.device k x + 1)
-  block_after_is k e = let z : i ≡ suc k = omega arith in ap (λ (n : ℕ). block_after v.device n x bytes) z ∙ block_after-suc v.device k x bytes
+  block_after_is k e =
+      let z : i ≡ suc k = omega arith in
+      ap (λ (n : ℕ). block_after v.device n x bytes) z ∙ block_after-suc v.device k x bytes
 
   block_is : (k : ℕ) → k + 1 ≡ i → a ≡ block_of v.device k x / fanout v.device
   block_is k e = let z : i ≡ suc k = omega arith in q.block ∙ ap (λ (n : ℕ). block_of v.device n x) z ∙ above v.device k x

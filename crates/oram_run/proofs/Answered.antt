@@ -93,7 +93,8 @@ middle_keep v past s t u old rest x y bytes m e fit l qu few taken none ask mv i
     nonce (store_entry_is v.shape e sends.0 sends.2 store) ∙ ap (λ k. store_nonce d k e.tree) (sym before)
     ∙ ap (λ (f : Entry). store_nonce d (answered_tickets v past) f.tree) (sym asks) in
     let tree : (asked sends.0).tree < trees_of d =
-    let some : 0 < trees_of d = fit.some in subst (λ (k : ℕ). k < trees_of d) (sym (ap (λ (f : Entry). f.tree) (asks ∙ due))) (omega arith) in
+    let some : 0 < trees_of d =
+    fit.some in subst (λ (k : ℕ). k < trees_of d) (sym (ap (λ (f : Entry). f.tree) (asks ∙ due))) (omega arith) in
     record {
       right = record {
         note = note ∙ is;

@@ -24,8 +24,10 @@ pub mod Placing
 pub mod PostOrder
 pub mod Formatting
 pub mod Moving
+pub mod Beginnings
 pub mod Told
 pub mod NoncesApart
 pub mod AgreeKept
 pub mod AgreeSteps
 pub mod AgreeNew
+pub mod Serving

@@ -55,7 +55,7 @@ calm_placed v last n w (For e) xs calm sends new =
     subst (All (PlacedIn v n w)) (sym sends.1) (all_one (PlacedIn v n w) sends.0 (λ store. absurd (let both : true ≡ false = sym store ∙ fetch in cc)))
 
 -- The local rule at an event whose message, if any, is no STORE: the trees and what they hold stay.
-pub moves_calmly : (v : Shape) (s t : State) (w : World) (m : Moved) (x : Shown) → IsCalm m.ask → m.content ≡ w.content
+moves_calmly : (v : Shape) (s t : State) (w : World) (m : Moved) (x : Shown) → IsCalm m.ask → m.content ≡ w.content
     → m.state.trees ≡ s.trees → x.note ≡ m.note → x.replies ≡ m.replies → Sends v s.last m.ask x.sends
     → t ≡ record m.state { nonce = s.nonce + buckets_in v.device m.ask; last = latest x.sends s.last }
     → (t.failure ≡ None → Holds v s w) → MovesTo v s w m x t
@@ -74,6 +74,56 @@ moves_calmly v s t w m x calm content trees note replies sends is holds =
           (subst (λ (ts : List Tree). Stands v i (slice_index_or ts i no_tree) (w.records i) (w.content i)) (sym same) (holds healthy i below)));
       placed = calm_placed v s.last s.nonce (world_after v w m x.sends) m.ask x.sends calm sends;
     }
+
+-- what stays at an event without a STORE
+pub record IsQuiet (s : State) (w : World) (m : Moved) : Type 0 where
+  pub trees : m.state.trees ≡ s.trees
+  pub nonce : m.state.nonce ≡ s.nonce
+  pub last : m.state.last ≡ s.last
+  pub content : m.content ≡ w.content
+
+quiet_state : (m : Moved) (s : State) (n : ℕ) (last : List ℕ) → m.state.nonce ≡ s.nonce → n ≡ 0
+    → record m.state { last = last } ≡ record m.state { nonce = s.nonce + n; last = last }
+quiet_state m s n last same none =
+    let whole : m.state.nonce ≡ s.nonce + n = omega arith in
+    ap (λ (k : ℕ). record m.state { nonce = k; last = last }) whole
+
+-- an event at which nothing is sent
+pub moves_silently : (v : Shape) (s t : State) (w : World) (m : Moved) (x : Shown) → m.ask ≡ Nothing → IsQuiet s w m
+    → x.note ≡ m.note → x.replies ≡ m.replies → x.sends ≡ [] → t ≡ m.state → (t.failure ≡ None → Holds v s w) → MovesTo v s w m x t
+moves_silently v s t w m x ask q note replies none is holds =
+    let seals : buckets_in v.device m.ask ≡ 0 = ap (buckets_in v.device) ask in
+    let last : m.state.last ≡ latest x.sends s.last = q.last ∙ sym (ap (λ ms. latest ms s.last) none) in
+    moves_calmly v s t w m x (subst IsCalm (sym ask) tt) q.content q.trees note replies (subst (λ (a : Ask). Sends v s.last a x.sends) (sym ask) none)
+    (is ∙ ap (λ (l : List ℕ). record m.state { last = l }) last ∙ quiet_state m s (buckets_in v.device m.ask) (latest x.sends s.last) q.nonce seals) holds
+
+-- an event at which the last message is sent again
+pub moves_again : (v : Shape) (s t : State) (w : World) (m : Moved) (x : Shown) → m.ask ≡ Again → IsQuiet s w m
+    → x.note ≡ m.note → x.replies ≡ m.replies → x.sends ≡ s.last ∷ [] → t ≡ m.state → (t.failure ≡ None → Holds v s w) → MovesTo v s w m x t
+moves_again v s t w m x ask q note replies sent is holds =
+    let seals : buckets_in v.device m.ask ≡ 0 = ap (buckets_in v.device) ask in
+    let last : m.state.last ≡ latest x.sends s.last = q.last ∙ sym (ap (λ ms. latest ms s.last) sent) in
+    moves_calmly v s t w m x (subst IsCalm (sym ask) tt) q.content q.trees note replies (subst (λ (a : Ask). Sends v s.last a x.sends) (sym ask) sent)
+    (is ∙ ap (λ (l : List ℕ). record m.state { last = l }) last ∙ quiet_state m s (buckets_in v.device m.ask) (latest x.sends s.last) q.nonce seals) holds
+
+fetch_message : (v : Shape) (e : Entry) → e.fetch ≡ true → IsMessage v e (fetch_body e.tree e.leaf)
+fetch_message v e fetch = record {
+  records = [];
+  body = sym (ap (λ (b : Bool). if b then fetch_body e.tree e.leaf else store_body e.tree e.leaf []) fetch);
+  length_is = sym (ap (λ (b : Bool). if b then 0 else (depth_of v.device e.tree + 1) * record_len v) fetch);
+}
+
+-- an event at which a path is fetched
+pub moves_fetching : (v : Shape) (s t : State) (w : World) (m : Moved) (x : Shown) (e : Entry) → m.ask ≡ For e
+    → e.fetch ≡ true → IsQuiet s w m → x.note ≡ m.note → x.replies ≡ m.replies → x.sends ≡ fetch_body e.tree e.leaf ∷ []
+    → t ≡ record m.state { last = fetch_body e.tree e.leaf } → (t.failure ≡ None → Holds v s w) → MovesTo v s w m x t
+moves_fetching v s t w m x e ask fetch q note replies sent is holds =
+    let body : List ℕ = fetch_body e.tree e.leaf in
+    let seals : buckets_in v.device m.ask ≡ 0 =
+    ap (buckets_in v.device) ask ∙ ap (λ (b : Bool). if b then 0 else depth_of v.device e.tree + 1) fetch in
+    let last : body ≡ latest x.sends s.last = sym (ap (λ ms. latest ms s.last) sent) in
+    moves_calmly v s t w m x (subst IsCalm (sym ask) fetch) q.content q.trees note replies (subst (λ (a : Ask). Sends v s.last a x.sends) (sym ask) (body, sent, fetch_message v e fetch))
+    (is ∙ ap (λ (l : List ℕ). record m.state { last = l }) last ∙ quiet_state m s (buckets_in v.device m.ask) (latest x.sends s.last) q.nonce seals) holds
 
 -- the block of an access, as the rule leaves it
 abbrev pub stored_block : Shape → State → World → Submission → Cell

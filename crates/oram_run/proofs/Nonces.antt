@@ -23,7 +23,7 @@ pub one_more : (d : Sizes) (n m : ℕ) → m ≡ n + 1 → buckets_below d m ≡
 unfolding buckets_below
 one_more d n m e = let z : m ≡ suc n = omega arith in ap (buckets_below d) z
 
-no_buckets : (d : Sizes) → buckets_below d 0 ≡ 0
+pub no_buckets : (d : Sizes) → buckets_below d 0 ≡ 0
 unfolding buckets_below
 no_buckets d = refl
 

@@ -1,12 +1,14 @@
 -- No two sealed buckets have one nonce.
-use Rattle.std.proofs.Common.{◌≡◌, ℕ, zero, suc, ◌+◌, ◌-◌, ◌*◌, ◌/◌, ◌%◌, ◌<◌, ◌≤◌, refl, ap, sym, ◌∙◌, subst, arith, inl, inr}
+use Rattle.std.proofs.Common.{◌≡◌, ℕ, zero, suc, ◌+◌, ◌-◌, ◌*◌, ◌/◌, ◌%◌, ◌^◌, ◌<◌, ◌≤◌, refl, ap, sym, ◌∙◌, subst, arith, inl, inr}
 use Rattle.std.proofs.lemmas.Bool.{cases_order}
-use Rattle.std.proofs.lemmas.Nat.{div-mul-add, mod-mul-add}
+use Rattle.std.proofs.Math.Nat.{pow-le-pow_right}
+use Rattle.std.proofs.lemmas.Nat.{div-mul-add, mod-mul-add, pow-add}
 use Rattle.oram_geometry.specs.declared.Sizes.{Sizes}
 use Rattle.oram_geometry.specs.Sizes.{trees_of, depth_of}
 use Rattle.oram_tree.specs.Content.{node_count}
 use Rattle.oram_run.specs.Nonces.{formatted_below, buckets_below, buckets_after, store_nonce, NoncesAreApart}
-use Rattle.oram_run.proofs.Nonces.{rises_to, one_more}
+use Rattle.oram_run.proofs.Bounds.{depth_small}
+use Rattle.oram_run.proofs.Nonces.{rises_to, one_more, no_buckets}
 
 one_tree : (d : Sizes) (n : ℕ) → formatted_below d (suc n) ≡ formatted_below d n + node_count (depth_of d n)
 unfolding formatted_below
@@ -74,3 +76,24 @@ nonces_apart d = record {
   stores = stores_apart d;
   between = λ t i j k l few small e. omega (arith, puts_end d i (trees_of d) few);
 }
+
+-- and there are few: a path has 25 buckets at most, a tree fewer than 2 ^ 25
+
+pub buckets_small : (d : Sizes) (n : ℕ) → buckets_below d n ≤ 25 * n
+buckets_small d zero = omega (arith, no_buckets d)
+buckets_small d (suc n) =
+    let next : suc n ≡ n + 1 = omega arith in
+    omega (arith, one_more d n (suc n) next, buckets_small d n, depth_small d n)
+
+no_tree : (d : Sizes) → formatted_below d 0 ≡ 0
+unfolding formatted_below
+no_tree d = refl
+
+pub node_count-small : (depth : ℕ) → depth ≤ 24 → node_count depth ≤ 2 ^ 25
+node_count-small depth few =
+    let most : 2 ^ depth ≤ 2 ^ 24 = pow-le-pow_right {n = 2} (omega arith) {i = depth} {j = 24} few in
+    omega (arith, pow-add 2 depth 1)
+
+pub formatted_small : (d : Sizes) (n : ℕ) → formatted_below d n ≤ 2 ^ 25 * n
+formatted_small d zero = omega (arith, no_tree d)
+formatted_small d (suc n) = omega (arith, one_tree d n, formatted_small d n, node_count-small (depth_of d n) (depth_small d n))

@@ -49,7 +49,8 @@ unfolding trees_of blocks_in least_from accesses
 ninth = refl
 
 -- 127, 31 and 7 buckets are put, and a ticket stores 3, 5 and 7, from the last tree to tree 0
-nonces : formatted recursive ∷ store_nonce recursive 0 2 ∷ store_nonce recursive 0 1 ∷ store_nonce recursive 0 0 ∷ store_nonce recursive 1 2 ∷ []
+nonces :
+    formatted recursive ∷ store_nonce recursive 0 2 ∷ store_nonce recursive 0 1 ∷ store_nonce recursive 0 0 ∷ store_nonce recursive 1 2 ∷ []
     ≡ 165 ∷ 165 ∷ 168 ∷ 173 ∷ 180 ∷ []
 unfolding trees_of blocks_in least_from level_for formatted_below buckets_below
 nonces = refl
@@ -68,7 +69,8 @@ abbrev filled : ℕ → List ℕ
 filled byte = replicate 88 byte
 
 abbrev messages : List (List ℕ)
-messages = store_body 0 1 (filled 7 ++ filled 8) ∷ put_body 0 0 (filled 3) ∷ put_body 0 2 (filled 2) ∷ put_body 0 1 (filled 1) ∷ []
+messages =
+    store_body 0 1 (filled 7 ++ filled 8) ∷ put_body 0 0 (filled 3) ∷ put_body 0 2 (filled 2) ∷ put_body 0 1 (filled 1) ∷ []
 
 -- the STORE of the path of leaf 1 replaced the root and the right leaf
 stored : map (last_stored small messages 0) (0 ∷ 1 ∷ 2 ∷ []) ≡ filled 7 ∷ filled 1 ∷ filled 8 ∷ []

@@ -1,6 +1,6 @@
 -- What an access finds in a block and leaves there.
-use Rattle.std.specs.Prelude.{ℕ, zero, suc, ◌+◌, ◌*◌, ◌%◌, ◌==◌, if◌then◌else◌, List, [], ◌++◌, take, drop, slice_range, Option}
-use Rattle.std.specs.Int.{w32, to_be_bytes, from_be_bytes}
+use Rattle.std.specs.Prelude.{ℕ, zero, suc, ◌+◌, ◌*◌, ◌%◌, ◌==◌, if◌then◌else◌, List, [], slice_range, Option}
+use Rattle.std.specs.Int.{w32, from_be_bytes}
 use Rattle.oram_geometry.specs.declared.Sizes.{Sizes}
 use Rattle.oram_geometry.specs.Sizes.{fanout}
 use Rattle.oram_tree.specs.Content.{Map, Entry as Held, put}

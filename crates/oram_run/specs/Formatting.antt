@@ -1,5 +1,5 @@
 -- The formatting of a device: the messages that make its trees, without blocks.
-use Rattle.std.specs.Prelude.{◌≡◌, ℕ, ◌<◌, List, [], length, slice_index_or}
+use Rattle.std.specs.Prelude.{◌≡◌, ℕ, ◌<◌, List, [], ◌++◌, length, slice_index_or}
 use Rattle.std.specs.List.{flat_map}
 use Rattle.oram_geometry.specs.Sizes.{trees_of}
 use Rattle.oram_tree.specs.Format.{IsFormat}
@@ -25,3 +25,8 @@ pub record AreTreesMade (v : Shape) (n : ℕ) (trees : List Tree) (messages : Li
 -- the messages of a run's formatting make all trees of its device
 abbrev pub IsFormatted : Setting → List Tree → Type 0
 IsFormatted v trees = AreTreesMade v.shape (trees_of v.shape.device) trees v.format
+
+-- the messages are a beginning of such
+abbrev pub IsFormatBegun : Shape → List (List ℕ) → Type 0
+IsFormatBegun v messages =
+    (more : List (List ℕ)) × (trees : List Tree) × AreTreesMade v (trees_of v.device) trees (messages ++ more)

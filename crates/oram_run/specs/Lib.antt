@@ -12,4 +12,5 @@ pub mod Formatting
 pub mod Blocks
 pub mod Moves
 pub mod Agree
+pub mod Serving
 pub mod Law

@@ -1,7 +1,8 @@
 -- A device, and what its sealer does.
-use Rattle.std.specs.Prelude.{ℕ, List, Option}
+use Rattle.std.specs.Prelude.{◌≡◌, ℕ, ◌+◌, ◌^◌, ◌<◌, List, length, Option, Some}
 use Rattle.oram_geometry.specs.declared.Sizes.{Sizes}
 use Rattle.oram_geometry.specs.Sizes.{record_len_of}
+use Rattle.oram_bucket.specs.Bytes.{IsBytes}
 
 pub record Shape : Type 0 where
   pub device : Sizes
@@ -12,3 +13,8 @@ pub record Shape : Type 0 where
 -- bytes of a record
 abbrev pub record_len : Shape → ℕ
 record_len v = record_len_of v.device v.overhead
+
+-- what its sealer keeps to: sealing adds so many bytes, and opening undoes it
+pub record IsLawful (v : Shape) : Type 0 where
+  pub longer : (nonce : ℕ) (plain : List ℕ) → length (v.sealing nonce plain) ≡ v.overhead + length plain
+  pub undoes : (nonce : ℕ) (plain : List ℕ) → nonce < 2 ^ 64 → IsBytes plain → v.opening (v.sealing nonce plain) ≡ Some plain

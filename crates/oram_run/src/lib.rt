@@ -12,7 +12,7 @@ mod events;
 mod law;
 
 pub use events::{Command, Event, Note, Reaction, Reason, Refusal, Reply, ReplyBody, Submission};
-pub use law::{nonces_are_apart, steps_are_right};
+pub use law::{cores_serve, nonces_are_apart, steps_are_right};
 
 #[cfg(test)]
 mod tests;

@@ -1,0 +1,240 @@
+-- A core without a past answers as a plain array begun with what tree 0 holds.
+use Rattle.std.proofs.Common.{◌≡◌, ◌≢◌, ℕ, zero, suc, ◌+◌, ◌*◌, ◌%◌, ◌<◌, ◌==◌, Bool, false, if◌then◌else◌, List, [], ◌∷◌, ◌++◌, length, Option, Some, None, refl, ap, sym, ◌∙◌, subst, arith, inl, inr}
+use Rattle.std.proofs.lemmas.Bool.Decides.{nat_tests, eqb_tells}
+use Rattle.oram_geometry.specs.Sizes.{trees_of}
+use Rattle.oram_tree.specs.Content.{Entry as Held, put}
+use Rattle.oram_run.specs.Shape.{Shape}
+use Rattle.oram_run.specs.Messages.{asked}
+use Rattle.oram_run.specs.Answers.{Outcome, outcome_of}
+use Rattle.oram_run.specs.Answers.Outcome.{Good, NoRoom, Fails}
+use Rattle.oram_run.specs.Events.{address_of}
+use Rattle.oram_run.specs.Content.{block_of, new_leaf, stage_tree}
+use Rattle.oram_run.specs.Blocks.{found_in, block_after, body_from, kept_of, put_in, written_over}
+use Rattle.oram_run.specs.Progress.{Status}
+use Rattle.oram_run.specs.Progress.Status.{Idle, Waiting, Stalling, Over}
+use Rattle.oram_run.specs.Run.{Shown, refusal_of, is_over}
+use Rattle.oram_run.specs.State.{State, World, status_in}
+use Rattle.oram_run.specs.Moves.{Moved, MovesTo, Moves, moved, stays, stalls, resends, accepts, stores, fetches, finishes, goes_on, on_submission, on_answer, on_loss, on_retry, world_after}
+use Rattle.oram_run.specs.Agree.{IsOrderly}
+use Rattle.oram_run.specs.Serving.{array_in, array_after, ServesAmid, ServesBy, Serves, HasServed}
+use Rattle.oram_run.specs.declared.events.Command.{Command}
+use Rattle.oram_run.specs.declared.events.Command.TheVariants.{Read, Write}
+use Rattle.oram_run.specs.declared.events.Event.{Event}
+use Rattle.oram_run.specs.declared.events.Event.TheVariants.{Submit, Answer, Lost, Retry}
+use Rattle.oram_run.specs.declared.events.Note.TheVariants.{Refused, Unexpected}
+use Rattle.oram_run.specs.declared.events.Refusal.{Refusal}
+use Rattle.oram_run.specs.declared.events.Submission.{Submission}
+use Rattle.oram_run.specs.Law.{CoresServe}
+use Rattle.oram_run.proofs.Bounds.{IsFit, fit_device}
+use Rattle.oram_run.proofs.AgreeSteps.{agrees_moved, agreeing_fits}
+use Rattle.oram_run.proofs.Maps.{own_block, block_after-zero}
+
+-- stage, what was found and content stay
+serves_same : (v : Shape) (s t : State) (w w' : World) (array : ℕ → List ℕ) (queue : List Submission) → t.stage ≡ s.stage
+    → t.before ≡ s.before → ((a : ℕ) → w'.content 0 a ≡ w.content 0 a) → ServesBy v s w array queue
+    → ServesBy v t w' array queue
+serves_same v s t w w' array [] stage before content h = λ a. ap (found_in v.device) (content a) ∙ h a
+serves_same v s t w w' array (x ∷ rest) stage before content h = record {
+  before = λ less a. ap (found_in v.device) (content a) ∙ h.before (omega arith) a;
+  found = λ last. before ∙ h.found (omega arith);
+  after = λ last a. ap (found_in v.device) (content a) ∙ h.after (omega arith) a;
+}
+
+serves_push : (v : Shape) (t : State) (w : World) (array : ℕ → List ℕ) (queue : List Submission) (x : Submission)
+    → (length queue ≡ 0 → t.stage ≡ 0) → 0 < trees_of v.device → ServesBy v t w array queue
+    → ServesBy v t w array (queue ++ x ∷ [])
+serves_push v t w array [] x rests some h =
+    let none : t.stage ≡ 0 = rests refl in
+    record {
+      before = λ less. h;
+      found = λ last. absurd (omega arith);
+      after = λ last. absurd (omega arith);
+    }
+serves_push v t w array (y ∷ rest) x rests some h = h
+
+begins_serving : (v : Shape) (t : State) (w : World) (array : ℕ → List ℕ) (queue : List Submission) → t.stage ≡ 0
+    → 0 < trees_of v.device → ((a : ℕ) → array_in v w a ≡ array a) → ServesBy v t w array queue
+begins_serving v t w array [] none some h = h
+begins_serving v t w array (x ∷ rest) none some h = record {
+  before = λ less. h;
+  found = λ last. absurd (omega arith);
+  after = λ last. absurd (omega arith);
+}
+
+-- what an event that doesn't fail the device has to do
+abbrev After : Shape → State → State → World → (ℕ → List ℕ) → Shown → Moved → Type 0
+After v s t w array y m = MovesTo v s w m y t → t.failure ≡ None → HasServed v s t (world_after v w m y.sends) array y.replies
+
+serves_quiet : (v : Shape) (s t : State) (w : World) (array : ℕ → List ℕ) (y : Shown) (m : Moved) → m.replies ≡ []
+    → m.state.queue ≡ s.queue → m.state.stage ≡ s.stage → m.state.before ≡ s.before
+    → ((a : ℕ) → m.content 0 a ≡ w.content 0 a) → Serves v s w array → After v s t w array y m
+serves_quiet v s t w array y m none queue stage before content h mv healthy = inl (
+  mv.replies ∙ none,
+  subst (ServesBy v t (world_after v w m y.sends) array) (sym (ap (λ (u : State). u.queue) mv.state ∙ queue))
+      (serves_same v s t w (world_after v w m y.sends) array s.queue (ap (λ (u : State). u.stage) mv.state ∙ stage) (ap (λ (u : State). u.before) mv.state ∙ before) content h),
+)
+
+serves_submitted : (v : Shape) (s t : State) (w : World) (array : ℕ → List ℕ) (y : Shown) (x : Submission)
+    (o : Option Refusal) → IsFit v.device → IsOrderly v s → Serves v s w array
+    → After v s t w array y (on_submission v s w x o)
+serves_submitted v s t w array y x (Some e) fit o h =
+    serves_quiet v s t w array y (stays s w (Refused e)) refl refl refl refl (λ a. refl) h
+serves_submitted v s t w array y x None fit o h = λ mv healthy.
+    let stage : t.stage ≡ s.stage = ap (λ (u : State). u.stage) mv.state in
+    inl (
+      mv.replies,
+      subst (ServesBy v t (world_after v w (accepts v s w x) y.sends) array) (sym (ap (λ (u : State). u.queue) mv.state))
+          (serves_push v t (world_after v w (accepts v s w x) y.sends) array s.queue x (λ none. stage ∙ o.rests none) fit.some
+          (serves_same v s t w (world_after v w (accepts v s w x) y.sends) array s.queue stage (ap (λ (u : State). u.before) mv.state) (λ a. refl) h)),
+    )
+
+-- the array after a command, as the access leaves it
+array_put : (c : Command) (array : ℕ → List ℕ) (a b : ℕ) (bytes : List ℕ) → a ≡ address_of c → bytes ≡ array a
+    → (if b == a then written_over c bytes else array b) ≡ array_after c array b
+array_put (Read e) array a b bytes at found = elim (eqb_tells b a) [
+  | inl same ↦ ap (λ (t : Bool). if t then bytes else array b) same.0 ∙ found ∙ ap array (sym same.1)
+  | inr other ↦ ap (λ (t : Bool). if t then bytes else array b) other.0
+]
+array_put (Write e new) array a b bytes at found = ap (λ k. if b == k then new else array b) at
+
+module _ (v : Shape) (s t : State) (w : World) (array : ℕ → List ℕ) (x : Submission) (rest : List Submission) (y : Shown) (qu : s.queue ≡ x ∷ rest) (even : s.stage % 2 ≡ 0) (few : s.stage < 2 * trees_of v.device) (h : Serves v s w array) (mv : MovesTo v s w (stores v s w x) y t) where
+  amid : ServesAmid v s w array x
+  amid = subst (ServesBy v s w array) qu h
+
+  holds_before : (a : ℕ) → array_in v w a ≡ array a
+  holds_before = amid.before (omega arith)
+
+  stage_is : t.stage ≡ s.stage + 1
+  stage_is = ap (λ (u : State). u.stage) mv.state
+
+  -- the bytes that the access finds
+  bytes_found : ℕ → List ℕ
+  bytes_found i = found_in v.device (w.content i (block_of v.device i x))
+
+  kept_is : (i : ℕ) → i ≡ 0 → kept_of i (found_in v.device (w.content i (block_of v.device i x))) ≡ array (address_of x.command)
+  kept_is zero e = ap (array_in v w) (own_block v.device x) ∙ holds_before (address_of x.command)
+  kept_is (suc i) e = absurd (omega arith)
+
+  -- what tree 0 holds after the access of another tree, and of its own
+  held_other : (i b : ℕ) (e : Held) → i ≢ 0 → put_in w.content i (block_of v.device i x) e 0 b ≡ w.content 0 b
+  held_other i b e ne =
+      let other : (0 == i) ≡ false = grind (arith, nat_tests) in
+      ap (λ (q : Bool). if q then put (w.content 0) (block_of v.device i x) e b else w.content 0 b) other
+
+  held_own : (i b : ℕ) → i ≡ 0
+      → found_in v.device (put_in w.content i (block_of v.device i x) (record { leaf = new_leaf v.device i x; content = block_after v.device i x (found_in v.device (w.content i (block_of v.device i x))) }) 0 b) ≡ array_after x.command array b
+  held_own zero b e =
+      let a : ℕ = block_of v.device 0 x in
+      let bytes : List ℕ = found_in v.device (w.content 0 a) in
+      elim (eqb_tells b a) [
+        | inl same ↦
+            ap (λ (q : Bool). found_in v.device (if q then Some (record { leaf = new_leaf v.device 0 x; content = block_after v.device 0 x bytes }) else w.content 0 b)) same.0
+            ∙ block_after-zero v.device x bytes
+            ∙ sym (ap (λ (q : Bool). if q then written_over x.command bytes else array b) same.0)
+            ∙ array_put x.command array a b bytes (own_block v.device x) (holds_before a)
+        | inr other ↦
+            ap (λ (q : Bool). found_in v.device (if q then Some (record { leaf = new_leaf v.device 0 x; content = block_after v.device 0 x bytes }) else w.content 0 b)) other.0
+            ∙ holds_before b
+            ∙ sym (ap (λ (q : Bool). if q then written_over x.command bytes else array b) other.0)
+            ∙ array_put x.command array a b bytes (own_block v.device x) (holds_before a)
+      ]
+  held_own (suc i) b e = absurd (omega arith)
+
+  serves_stored : HasServed v s t (world_after v w (stores v s w x) y.sends) array y.replies
+  serves_stored =
+      let i : ℕ = stage_tree v.device s.stage in
+      inl (
+        mv.replies,
+        subst (ServesBy v t (world_after v w (stores v s w x) y.sends) array) (sym (ap (λ (u : State). u.queue) mv.state ∙ qu)) (record {
+          before = λ less a. ap (found_in v.device) (held_other i a _ (λ e. omega (arith, stage_is))) ∙ holds_before a;
+          found = λ last. ap (λ (u : State). u.before) mv.state ∙ kept_is i (omega (arith, stage_is));
+          after = λ last a. held_own i a (omega (arith, stage_is));
+        }),
+      )
+
+serves_good : (v : Shape) (s t : State) (w : World) (array : ℕ → List ℕ) (y : Shown) (queue : List Submission)
+    → IsFit v.device → s.queue ≡ queue → IsOrderly v s → Serves v s w array → After v s t w array y (goes_on v s w queue)
+serves_good v s t w array y [] fit qu o h = serves_quiet v s t w array y (stays s w Unexpected) refl refl refl refl (λ a. refl) h
+serves_good v s t w array y (x ∷ rest) fit qu o h =
+    let P : Moved → Type 0 = λ m. After v s t w array y m in
+    let few : s.stage < 2 * trees_of v.device = o.stage in
+    let amid : ServesAmid v s w array x = subst (ServesBy v s w array) qu h in
+    let go : P (goes_on v s w (x ∷ rest)) = elim (eqb_tells (s.stage % 2) 0) [
+      | inl even ↦ subst (λ (b : Bool). P (if b then stores v s w x else if s.stage + 1 == 2 * trees_of v.device then finishes v s w x rest else fetches v s w x)) (sym even.0)
+          (λ mv healthy. serves_stored v s t w array x rest y qu even.1 few h mv)
+      | inr odd ↦
+          subst (λ (b : Bool). P (if b then stores v s w x else if s.stage + 1 == 2 * trees_of v.device then finishes v s w x rest else fetches v s w x)) (sym odd.0)
+          (elim (eqb_tells (s.stage + 1) (2 * trees_of v.device)) [
+            | inl last ↦ subst (λ (b : Bool). P (if b then finishes v s w x rest else fetches v s w x)) (sym last.0) (λ mv healthy. inr (
+              x,
+              rest,
+              qu,
+              mv.replies
+                  ∙ ap (λ bytes. (record { session = x.session; ticket = x.ticket; body = body_from bytes x.command }) ∷ []) (amid.found last.1),
+              subst (ServesBy v t (world_after v w (finishes v s w x rest) y.sends) (array_after x.command array)) (sym (ap (λ (u : State). u.queue) mv.state))
+                  (begins_serving v t (world_after v w (finishes v s w x rest) y.sends) (array_after x.command array) rest (ap (λ (u : State). u.stage) mv.state) fit.some (amid.after last.1)),
+            ))
+            | inr more ↦ subst (λ (b : Bool). P (if b then finishes v s w x rest else fetches v s w x)) (sym more.0) (λ mv healthy.
+                let ne : s.stage + 1 ≢ 2 * trees_of v.device = more.1 in
+                let odd_one : s.stage % 2 ≢ 0 = odd.1 in
+                let stage : t.stage ≡ s.stage + 1 = ap (λ (u : State). u.stage) mv.state in
+                inl (
+                  mv.replies,
+                  subst (ServesBy v t (world_after v w (fetches v s w x) y.sends) array) (sym (ap (λ (u : State). u.queue) mv.state ∙ qu)) (record {
+                    before = λ less a. amid.before (omega arith) a;
+                    found = λ last. absurd (omega arith);
+                    after = λ last. absurd (omega arith);
+                  }),
+                ))
+          ])
+    ] in
+    go
+
+serves_answered : (v : Shape) (s t : State) (w : World) (array : ℕ → List ℕ) (y : Shown) (now : Status) (o : Outcome)
+    → IsFit v.device → IsOrderly v s → Serves v s w array → After v s t w array y (on_answer v s w now o)
+serves_answered v s t w array y Waiting Good fit o h = serves_good v s t w array y s.queue fit refl o h
+serves_answered v s t w array y Waiting NoRoom fit o h =
+    serves_quiet v s t w array y (stalls s w) refl refl refl refl (λ a. refl) h
+serves_answered v s t w array y Waiting (Fails e) fit o h = λ mv healthy. absurd (let both : Some e ≡ None = sym (ap (λ (u : State). u.failure) mv.state) ∙ healthy in cc)
+serves_answered v s t w array y Idle outcome fit o h =
+    serves_quiet v s t w array y (stays s w Unexpected) refl refl refl refl (λ a. refl) h
+serves_answered v s t w array y Stalling outcome fit o h =
+    serves_quiet v s t w array y (stays s w Unexpected) refl refl refl refl (λ a. refl) h
+serves_answered v s t w array y Over outcome fit o h =
+    serves_quiet v s t w array y (stays s w Unexpected) refl refl refl refl (λ a. refl) h
+
+serves_lost : (v : Shape) (s t : State) (w : World) (array : ℕ → List ℕ) (y : Shown) (now : Status) → Serves v s w array
+    → After v s t w array y (on_loss s w now)
+serves_lost v s t w array y Waiting h = serves_quiet v s t w array y (stalls s w) refl refl refl refl (λ a. refl) h
+serves_lost v s t w array y Idle h = serves_quiet v s t w array y (stays s w Unexpected) refl refl refl refl (λ a. refl) h
+serves_lost v s t w array y Stalling h = serves_quiet v s t w array y (stays s w Unexpected) refl refl refl refl (λ a. refl) h
+serves_lost v s t w array y Over h = serves_quiet v s t w array y (stays s w Unexpected) refl refl refl refl (λ a. refl) h
+
+serves_retried : (v : Shape) (s t : State) (w : World) (array : ℕ → List ℕ) (y : Shown) (now : Status) → Serves v s w array
+    → After v s t w array y (on_retry s w now)
+serves_retried v s t w array y Stalling h = serves_quiet v s t w array y (resends s w) refl refl refl refl (λ a. refl) h
+serves_retried v s t w array y Idle h = serves_quiet v s t w array y (stays s w Unexpected) refl refl refl refl (λ a. refl) h
+serves_retried v s t w array y Waiting h = serves_quiet v s t w array y (stays s w Unexpected) refl refl refl refl (λ a. refl) h
+serves_retried v s t w array y Over h = serves_quiet v s t w array y (stays s w Unexpected) refl refl refl refl (λ a. refl) h
+
+-- Each event that doesn't fail the device brings no reply, or the array's to the oldest command.
+pub serves_moved : (v : Shape) (s t : State) (w : World) (array : ℕ → List ℕ) (event : Event) (y : Shown) → IsFit v.device
+    → IsOrderly v s → Serves v s w array → Moves v s w event y t → t.failure ≡ None
+    → HasServed v s t (world_after v w (moved v s w event) y.sends) array y.replies
+serves_moved v s t w array (Submit session c words) y fit o h =
+    serves_submitted v s t w array y (record { session = session; ticket = s.next; command = c; words = words }) (refusal_of v.device (is_over (status_in s)) (length s.queue) s.next c words) fit o h
+serves_moved v s t w array (Answer bytes) y fit o h =
+    serves_answered v s t w array y (status_in s) (outcome_of v w.records (asked s.last) bytes) fit o h
+serves_moved v s t w array Lost y fit o h = serves_lost v s t w array y (status_in s) h
+serves_moved v s t w array Retry y fit o h = serves_retried v s t w array y (status_in s) h
+
+-- A core at rest serves what its tree 0 holds.
+pub serves_at_rest : (v : Shape) (s : State) (w : World) → s.queue ≡ [] → Serves v s w (array_in v w)
+serves_at_rest v s w none = subst (ServesBy v s w (array_in v w)) (sym none) (λ a. refl)
+
+pub cores_serve : CoresServe
+cores_serve v s t w array event x device o holds agrees serves apart steps healthy =
+    let fit : IsFit v.device = fit_device v.device device in
+    let mv : Moves v s w event x t = steps w (agreeing_fits v s w fit o agrees holds) apart in
+    let left = agrees_moved v s t w event x fit o agrees mv healthy in
+    record { orderly = left.orderly; holds = mv.holds healthy; agrees = left.agrees; served = serves_moved v s t w array event x fit o serves mv healthy }
