@@ -18,10 +18,10 @@ use Rattle.oram_bucket.proofs.Spelling.{reads_once}
 use Rattle.oram_stash.specs.Eviction.{listed}
 use Rattle.oram_tree.proofs.Evicted.{IsEvicted}
 
-put-same : (content : Map) (address a : ℕ) (e : Entry) → a ≡ address → put content address e a ≡ Some e
+pub put-same : (content : Map) (address a : ℕ) (e : Entry) → a ≡ address → put content address e a ≡ Some e
 put-same content address a e same = let t : nat_eq a address ≡ true = (Decides-eqb a address).1 same in rw t refl
 
-put-other : (content : Map) (address a : ℕ) (e : Entry) → a ≢ address → put content address e a ≡ content a
+pub put-other : (content : Map) (address a : ℕ) (e : Entry) → a ≢ address → put content address e a ≡ content a
 put-other content address a e other = let t : nat_eq a address ≡ false = elim (eqb_tells a address) [ inl (told, same) ↦ absurd (other same) | inr (told, differs) ↦ told ] in rw t refl
 
 pub node_within : (p : Path) (level : ℕ) → p.leaf < 2 ^ p.depth → level ≤ p.depth → node_at p level < node_count p.depth

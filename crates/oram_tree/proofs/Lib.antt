@@ -5,3 +5,4 @@ pub mod Rewrites
 pub mod Puts
 pub mod Grown
 pub mod Formed
+mod Rows

@@ -26,7 +26,7 @@ use Rattle.oram_tree.specs.declared.faults.TreeFault.{TreeFault}
 use Rattle.oram_tree.specs.declared.faults.TreeFault.TheVariants.{Unreadable, OutOfMemory}
 use Rattle.oram_tree.specs.Content.{Map, HasContent}
 use Rattle.oram_tree.specs.State.{State, IsStoredWith}
-use Rattle.oram_tree.specs.Edits.{edited, with_entry, IsEditOf, HasRoomFor}
+use Rattle.oram_tree.specs.Edits.{edited_content, edited_block, with_entry, IsEditOf, HasRoomFor}
 use Rattle.oram_tree.specs.Access.{IsAtOrAbsent, IsNear, IsReadable, IsLookup, IsWaiting, IsRewritten, IsUpdate, part_at}
 use Rattle.oram_tree.proofs.Content.{reads_uniquely, Before, IsBefore, After, is_readable, told_by, access_content}
 use Rattle.oram_tree.proofs.Evicted.{evicted}
@@ -94,14 +94,14 @@ room_for s i Keep fits = tt
 room_for s i (Replace bytes) fits = fits
 room_for s i (Entry j value) fits = let within = fits.1 in omega arith
 
-edited_len : (len : ℕ) (e : Edit) (before : List ℕ) → HasRoomFor len e → length before ≡ len → length (edited e before) ≡ len
+edited_len : (len : ℕ) (e : Edit) (before : List ℕ) → HasRoomFor len e → length before ≡ len → length (edited_content e before) ≡ len
 edited_len len Keep before fits whole = whole
 edited_len len (Replace bytes) before fits whole = fits
 edited_len len (Entry j value) before fits whole = length-with_entry before j value (omega (arith, fits, whole)) ∙ whole
 
 -- the changed block is of the tree
 pub changed_block : (near : Cell → Type 0) (s : Sizes) (i address leaf : ℕ) (e : Edit) (found : Bool) (before : List ℕ) → address < blocks_in s i → leaf < 2 ^ depth_of s i → IsEditOf s i e
-    → IsLookup near s.block_bytes address found before → ((d : Cell) → near d → IsBlockOf s i d) → (let c : Cell = record { address = address; leaf = leaf; content = edited e before } in IsBlockOf s i c)
+    → IsLookup near s.block_bytes address found before → ((d : Cell) → near d → IsBlockOf s i d) → IsBlockOf s i (edited_block address leaf e before)
 changed_block near s i address leaf e found before address_in leaf_in fits looked blocks = record {
   address_in = address_in;
   leaf_in = leaf_in;
@@ -234,7 +234,7 @@ only_memory OutOfMemory other = refl
 
 -- so all that waits is of the tree
 pub waiting_of_tree : (s : Sizes) (i : ℕ) (gathered waiting : List Cell) (address leaf : ℕ) (e : Edit) (found : Bool) (before : List ℕ) → address < blocks_in s i → leaf < 2 ^ depth_of s i → IsEditOf s i e → All (IsBlockOf s i) gathered
-    → IsLookup (Contains gathered) s.block_bytes address found before → (let c : Cell = record { address = address; leaf = leaf; content = edited e before } in IsWaiting (Contains gathered) c waiting) → All (IsBlockOf s i) waiting
+    → IsLookup (Contains gathered) s.block_bytes address found before → IsWaiting (Contains gathered) (edited_block address leaf e before) waiting → All (IsBlockOf s i) waiting
 waiting_of_tree s i gathered waiting address leaf e found before address_in leaf_in fits all looked waits =
     let blocks = λ (d : Cell) (there : Contains gathered d). All-contains (IsBlockOf s i) gathered d all there in
     waiting_blocks (Contains gathered) s i _ waiting (changed_block (Contains gathered) s i address leaf e found before address_in leaf_in fits looked blocks) blocks waits

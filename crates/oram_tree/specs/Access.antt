@@ -46,18 +46,21 @@ IsWaiting near c waiting = (d : Cell) → Contains waiting d ↔ ((d ≡ c) ⊎ 
 
 -- the blocks that wait are evicted to the path p; the buckets of its new records q are the lists, sealed under rising
 -- nonces, and read as them
-pub record IsRewritten (reads : List ℕ → List Cell → Type 0) (sealing : ℕ → List ℕ → List ℕ) (s : Sizes) (nonce : ℕ) (p : Path) (stash : List Cell) (q : Path) (c : Cell) (rest : List Cell) : Type 0 where
+pub record IsRewritten (reads : List ℕ → List Cell → Type 0) (sealing : ℕ → List ℕ → List ℕ) (d : Sizes) (nonce : ℕ)
+    (p : Path) (stash : List Cell) (q : Path) (c : Cell) (rest : List Cell) : Type 0 where
   pub waiting : List Cell
   pub lists : List (List Cell)
   pub rising : IsRising waiting
   pub waits : IsWaiting (IsNear reads p stash) c waiting
-  pub evicted : IsEviction p.depth s.slots p.leaf waiting lists rest
-  pub sealed : (level : ℕ) → level ≤ p.depth → sealed_part (record_at q level) ≡ sealing (nonce + level) (spelling s (listed lists level))
+  pub evicted : IsEviction p.depth d.slots p.leaf waiting lists rest
+  pub sealed : (level : ℕ) → level ≤ p.depth → sealed_part (record_at q level) ≡ sealing (nonce + level) (spelling d (listed lists level))
   pub read_back : (level : ℕ) → level ≤ p.depth → reads (sealed_part (record_at q level)) (listed lists level)
 
--- the map's data at the block's address is told, and wherever the path's new records q take the place of p, they stand
+-- the map'd data at the block'd address is told, and wherever the path'd new records q take the place of p, they stand
 -- under the new tree and hold the map with that address alone changed
-pub record IsUpdate (opening : List ℕ → Option (List ℕ)) (overhead : ℕ) (s : Sizes) (p q : Path) (records : ℕ → List ℕ) (content : Map) (c : Cell) (found : Bool) (before : List ℕ) (t : State) : Type 0 where
+pub record IsUpdate (opening : List ℕ → Option (List ℕ)) (overhead : ℕ) (d : Sizes)
+    (p q : Path) (records : ℕ → List ℕ) (content : Map)
+    (c : Cell) (found : Bool) (before : List ℕ) (t : State) : Type 0 where
   pub told : found ≡ is_some (content c.address)
-  pub data_told : before ≡ content_or_zeros s.block_bytes (content c.address)
-  pub updated : (new : ℕ → List ℕ) → IsReplaced p q records new → IsStoredWith opening overhead s t new (put content c.address (entry_of c))
+  pub data_told : before ≡ content_or_zeros d.block_bytes (content c.address)
+  pub updated : (new : ℕ → List ℕ) → IsReplaced p q records new → IsStoredWith opening overhead d t new (put content c.address (entry_of c))

@@ -3,6 +3,7 @@ use Rattle.std.specs.Prelude.{◌≡◌, ℕ, ◌+◌, ◌-◌, ◌*◌, ◌^◌
 use Rattle.std.specs.Int.{w32, to_be_bytes}
 use Rattle.oram_geometry.specs.declared.Sizes.{Sizes}
 use Rattle.oram_geometry.specs.Sizes.{depth_of, fanout}
+use Rattle.oram_bucket.specs.Cell.{Cell}
 use Rattle.oram_tree.specs.declared.edits.Edit.{Edit}
 use Rattle.oram_tree.specs.declared.edits.Edit.TheVariants.{Keep, Replace, Entry}
 
@@ -11,10 +12,14 @@ unfoldable pub with_entry : List ℕ → ℕ → ℕ → List ℕ
 with_entry bytes j value = take (4 * j) bytes ++ to_be_bytes w32 value ++ drop (4 * j + 4) bytes
 
 -- a block's data after an edit
-abbrev pub edited : Edit → List ℕ → List ℕ
-edited Keep content = content
-edited (Replace bytes) content = bytes.now
-edited (Entry j value) content = with_entry content j value
+abbrev pub edited_content : Edit → List ℕ → List ℕ
+edited_content Keep content = content
+edited_content (Replace bytes) content = bytes.now
+edited_content (Entry j value) content = with_entry content j value
+
+-- a block after an access: at its new leaf, its data after the edit
+abbrev pub edited_block : ℕ → ℕ → Edit → List ℕ → Cell
+edited_block address leaf edit before = record { address = address; leaf = leaf; content = edited_content edit before }
 
 -- the edit is one of a block of tree i; an entry is that of a block of the tree below, one more than its leaf or 0
 abbrev pub IsEditOf : Sizes → ℕ → Edit → Type 0

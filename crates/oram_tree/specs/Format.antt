@@ -19,10 +19,13 @@ unfoldable pub post_order : ℕ → ℕ → List ℕ
 post_order zero n = n ∷ []
 post_order (suc h) n = post_order h (2 * n + 1) ++ post_order h (2 * n + 2) ++ n ∷ []
 
--- the bodies are the SHAPE of the tree and the PUTs of records of empty buckets, sealed under rising nonces, that stand
--- under it
-pub record IsFormat (opening : List ℕ → Option (List ℕ)) (sealing : ℕ → List ℕ → List ℕ) (overhead : ℕ) (s : Sizes) (nonce : ℕ) (t : State) (bodies : List (List ℕ)) : Type 0 where
+-- the bodies are the SHAPE of the tree and then the PUTs, in that order, of its nodes' records, whose empty buckets are
+-- sealed under rising nonces; the records stand under the tree and hold no blocks
+pub record IsFormat (opening : List ℕ → Option (List ℕ)) (sealing : ℕ → List ℕ → List ℕ) (overhead : ℕ)
+    (d : Sizes) (nonce : ℕ) (t : State) (bodies : List (List ℕ)) : Type 0 where
   pub records : ℕ → List ℕ
-  pub bodies_are : bodies ≡ shape_body t.number (depth_of s t.number) (record_len_of s overhead) ∷ map (λ n. put_body t.number n (records n)) (post_order (depth_of s t.number) 0)
-  pub sealed : (k : ℕ) → k < node_count (depth_of s t.number) → sealed_part (records (slice_index (post_order (depth_of s t.number) 0) k)) ≡ sealing (nonce + k) (spelling s [])
-  pub empty : IsStoredWith opening overhead s t records no_blocks
+  pub bodies_are : bodies ≡ shape_body t.number (depth_of d t.number) (record_len_of d overhead)
+      ∷ map (λ n. put_body t.number n (records n)) (post_order (depth_of d t.number) 0)
+  pub sealed : (k : ℕ) → k < node_count (depth_of d t.number)
+      → sealed_part (records (slice_index (post_order (depth_of d t.number) 0) k)) ≡ sealing (nonce + k) (spelling d [])
+  pub empty : IsStoredWith opening overhead d t records no_blocks

@@ -15,6 +15,7 @@ pub record State : Type 0 where
 
 -- the records stand under the tree's root, and with its stash they hold this map: under a sealer that opens so and adds so
 -- many bytes
-pub record IsStoredWith (opening : List ℕ → Option (List ℕ)) (overhead : ℕ) (d : Sizes) (t : State) (records : ℕ → List ℕ) (content : Map) : Type 0 where
+pub record IsStoredWith (opening : List ℕ → Option (List ℕ)) (overhead : ℕ) (d : Sizes) (t : State)
+    (records : ℕ → List ℕ) (content : Map) : Type 0 where
   pub stands : IsStored (depth_of d t.number) (record_len_of d overhead) t.root records
   pub holds : HasContent (Reads opening d t.number) (depth_of d t.number) records t.stash content

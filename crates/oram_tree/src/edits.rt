@@ -1,6 +1,6 @@
 //! What an access does to a block's data.
 ghost use Rattle.std.specs.Prelude.{◌≡◌, ◌≤◌, ◌+◌, ◌*◌, length, IfOk};
-ghost use Rattle.oram_tree.specs.Edits.{edited, with_entry, HasRoomFor};
+ghost use Rattle.oram_tree.specs.Edits.{edited_content, with_entry, HasRoomFor};
 
 use byteorder::{BigEndian, ByteOrder};
 use std::alloc::{AllocError, Global};
@@ -25,7 +25,7 @@ pub enum Edit<'a> {
 /// A block's data after an edit.
 pub(crate) fn apply(alloc: Global, edit: Edit<'_>, before: &[u8]) -> Result<Vec<u8>, AllocError>
     requires { HasRoomFor (length before.now) edit }
-    ensures { IfOk result (λ v. v.items ≡ edited edit.entry before.now) }
+    ensures { IfOk result (λ v. v.items ≡ edited_content edit.entry before.now) }
 {
     match edit {
         Edit::Keep => before.to_vec(alloc),

@@ -51,10 +51,10 @@ fn put_node<S: Sealer, K: Sink>(
 ) -> Result<[u8; DIGEST_LEN], FormatFault>
     requires { tree < trees_of device.now }
     ensures memory { result ≢ Err (FormatFault.Sink SinkFault.OutOfMemory) }
-    ensures put { let bytes = S.sealing sealer.now nonce (spelling device.now []) ++ left.now ++ right.now in
-        OnOk result (K.putting sink.old (put_body tree node bytes) sink.new) }
-    ensures digest { let bytes = S.sealing sealer.now nonce (spelling device.now []) ++ left.now ++ right.now in
-        IfOk result (λ d. d ≡ sha256 bytes) }
+    ensures put { let sealed = S.sealing sealer.now nonce (spelling device.now []) in
+        OnOk result (K.putting sink.old (put_body tree node (sealed ++ left.now ++ right.now)) sink.new) }
+    ensures digest { let sealed = S.sealing sealer.now nonce (spelling device.now []) in
+        IfOk result (λ d. d ≡ sha256 (sealed ++ left.now ++ right.now)) }
 {
     let record = empty_record(alloc, device, tree, sealer, nonce, left, right)?;
     let digest = node_digest(&record);
@@ -73,8 +73,8 @@ fn nodes_below(height: u8) -> u64
     (1 << height) - 1
 }
 
-/// Puts empty buckets at the nodes below a node and at it: those of the left subtree, those of the right one, the node.
-/// Gives the digest of the node's record.
+/// Puts empty buckets at the nodes below a node and at it: at those of the left subtree, at those of the right one, at
+/// the node. Gives the digest of the node's record.
 fn grow<S: Sealer, K: Sink>(
     alloc: Global,
     device: &Device,
@@ -131,9 +131,10 @@ pub(crate) fn format_tree<S: Sealer, K: Sink>(
     requires tree { tree < trees_of device.now }
     requires nonces { nonce + node_count (depth_of device.now tree) ≤ 2 ^ 64 }
     ensures memory { result ≢ Err (FormatFault.Sink SinkFault.OutOfMemory) }
-    ensures made { IfOk result (λ root. (bodies : List (List ℕ)) × PutsAll K.putting sink.old bodies sink.new
-        × IsFormat (S.opening sealer.now) (S.sealing sealer.now) (S.overhead sealer.now) device.now nonce
-        (record { number = tree; root = root; stash = [] }) bodies) }
+    ensures made { IfOk result (λ root. (bodies : List (List ℕ))
+        × PutsAll K.putting sink.old bodies sink.new
+        × IsFormat (S.opening sealer.now) (S.sealing sealer.now) (S.overhead sealer.now)
+        device.now nonce (record { number = tree; root = root; stash = [] }) bodies) }
 {
     prove!(tree < device.trees());
     let depth = device.depth(tree);

@@ -14,7 +14,7 @@ ghost use Rattle.oram_bucket.specs.Bucket.{IsBlockOf};
 ghost use Rattle.oram_bucket.specs.Reading.{Reads};
 ghost use Rattle.oram_tree.specs.Content.{Map, node_count};
 ghost use Rattle.oram_tree.specs.State.{IsStoredWith};
-ghost use Rattle.oram_tree.specs.Edits.{edited, IsEditOf};
+ghost use Rattle.oram_tree.specs.Edits.{edited_block, IsEditOf};
 ghost use Rattle.oram_tree.specs.Access.{IsAtOrAbsent, IsNear, IsReadable, IsLookup, IsRewritten, IsUpdate};
 ghost use Rattle.oram_tree.specs.Format.{PutsAll, IsFormat};
 
@@ -69,8 +69,10 @@ impl Tree {
         ensures memory { result ≢ Err (FormatFault.Sink SinkFault.OutOfMemory) }
         ensures number { IfOk result (λ t. t.number ≡ number) }
         ensures stash { IfOk result (λ t. t.stash ≡ []) }
-        ensures made { IfOk result (λ t. (bodies : List (List ℕ)) × PutsAll K.putting sink.old bodies sink.new
-            × IsFormat (S.opening sealer.now) (S.sealing sealer.now) (S.overhead sealer.now) device.now nonce t bodies) }
+        ensures made { IfOk result (λ t. (bodies : List (List ℕ))
+            × PutsAll K.putting sink.old bodies sink.new
+            × IsFormat (S.opening sealer.now) (S.sealing sealer.now) (S.overhead sealer.now)
+            device.now nonce t bodies) }
     {
         let root = format_tree(alloc, device, number, sealer, nonce, sink)?;
         Ok(Tree {
@@ -105,7 +107,8 @@ impl Tree {
         requires number { self.now.number < trees_of device.now }
         requires leaf { leaf < 2 ^ depth_of device.now self.now.number }
         requires overhead { overhead ≤ 64 }
-        ensures view { IfOk result (λ v. v ≡ path_of device.now self.now.number leaf overhead bytes.now) }
+        ensures view { IfOk result (λ v.
+            v ≡ path_of device.now self.now.number leaf overhead bytes.now) }
 
         ensures accepted { let p = path_of device.now self.now.number leaf overhead bytes.now in
             IsOk result ↔ IsAccepted p self.now.root }
@@ -137,7 +140,8 @@ impl Tree {
         edit: Edit<'_>,
     ) -> Result<Access, TreeFault>
         requires number { self.old.number < trees_of device.now }
-        requires path { path.now ≡ path_of device.now self.old.number old_leaf (S.overhead sealer.now) path.now.bytes }
+        requires path { path.now ≡ path_of device.now self.old.number old_leaf
+            (S.overhead sealer.now) path.now.bytes }
         requires address { address < blocks_in device.now self.old.number }
         requires old_leaf { old_leaf < 2 ^ depth_of device.now self.old.number }
         requires new_leaf { new_leaf < 2 ^ depth_of device.now self.old.number }
@@ -156,24 +160,26 @@ impl Tree {
             OnOk result (IsReadable reads path.now self.old.stash) }
 
         ensures lookup { let reads = Reads (S.opening sealer.now) device.now self.old.number in
-            IfOk result (λ a. IsLookup (IsNear reads path.now self.old.stash) device.now.block_bytes address
-            a.found a.before.items) }
+            IfOk result (λ a. IsLookup (IsNear reads path.now self.old.stash)
+            device.now.block_bytes address a.found a.before.items) }
         ensures data_len { IfOk result (λ a. length a.before.items ≡ device.now.block_bytes) }
 
         // The buckets and the stash are the outcome of an eviction, sealed under rising nonces.
         ensures whole { IfOk result (λ a. HasLength (with_bytes path.now a.records.items)) }
         ensures written { let reads = Reads (S.opening sealer.now) device.now self.old.number in
-            IfOk result (λ a. let changed = edited edit.entry a.before.items in
-            IsRewritten reads (S.sealing sealer.now) device.now nonce path.now self.old.stash
-            (with_bytes path.now a.records.items) (record { address = address; leaf = new_leaf; content = changed }) self.new.stash) }
+            IfOk result (λ a. IsRewritten reads (S.sealing sealer.now) device.now nonce
+            path.now self.old.stash (with_bytes path.now a.records.items)
+            (edited_block address new_leaf edit.entry a.before.items) self.new.stash) }
 
         // Over each stored tree that has the path, and the map that it and the stash hold.
-        ensures updates { (records : ℕ → List ℕ) (content : Map)
-            → IsStoredWith (S.opening sealer.now) (S.overhead sealer.now) device.now self.old records content
+        ensures updates { let opens = S.opening sealer.now in let overhead = S.overhead sealer.now in
+            (records : ℕ → List ℕ) (content : Map)
+            → IsStoredWith opens overhead device.now self.old records content
             → IsPathOf records path.now → IsAtOrAbsent content address old_leaf
-            → MatchResult result (λ a. let changed = edited edit.entry a.before.items in
-            IsUpdate (S.opening sealer.now) (S.overhead sealer.now) device.now path.now (with_bytes path.now a.records.items) records
-            content (record { address = address; leaf = new_leaf; content = changed }) a.found a.before.items self.new)
+            → MatchResult result (λ a. IsUpdate opens overhead device.now
+            path.now (with_bytes path.now a.records.items) records content
+            (edited_block address new_leaf edit.entry a.before.items)
+            a.found a.before.items self.new)
             (λ f. f ≡ TreeFault.OutOfMemory) }
     {
         prove!(self.number < device.trees());

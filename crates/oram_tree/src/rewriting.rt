@@ -7,7 +7,7 @@ ghost use Rattle.oram_bucket.specs.Cell.{Cell, IsRising};
 ghost use Rattle.oram_bucket.specs.Bucket.{IsBlockOf, IsBucketOf, spelling};
 ghost use Rattle.oram_bucket.specs.Reading.{Reads};
 ghost use Rattle.oram_stash.specs.Eviction.{listed};
-ghost use Rattle.oram_tree.specs.Edits.{edited, IsEditOf, HasRoomFor};
+ghost use Rattle.oram_tree.specs.Edits.{edited_block, IsEditOf, HasRoomFor};
 ghost use Rattle.oram_tree.specs.Access.{IsNear, IsReadable, IsLookup, IsWaiting, IsRewritten, part_at};
 
 use crate::edits::{Edit, apply};
@@ -83,8 +83,8 @@ fn change(
     ensures rising { OnOk result (IsRising stash.new) }
     ensures lookup { IfOk result (λ r.
         IsLookup (Contains stash.old) device.now.block_bytes address r.1 r.0.items) }
-    ensures waits { IfOk result (λ r. let content = edited edit.entry r.0.items in
-        IsWaiting (Contains stash.old) (record { address = address; leaf = leaf; content = content }) stash.new) }
+    ensures waits { IfOk result (λ r.
+        IsWaiting (Contains stash.old) (edited_block address leaf edit.entry r.0.items) stash.new) }
     ensures memory { IfErr result (λ f. f ≡ TreeFault.OutOfMemory) }
 {
     let (before, found) = take_content(alloc, device, stash, address)?;
@@ -115,13 +115,14 @@ fn seal_all<S: Sealer>(
     requires nonces { nonce + length lists.now ≤ 2 ^ 64 }
     ensures count { IfOk result (λ v. vec_len v ≡ length lists.now) }
     ensures sealed { IfOk result (λ v. (level : ℕ) → level < length lists.now →
+        let cells = listed (map (λ list. list.items) lists.now) level in
         part_at (map (λ part. part.items) v.items) level
-        ≡ S.sealing sealer.now (nonce + level) (spelling device.now (listed (map (λ list. list.items) lists.now) level))) }
+        ≡ S.sealing sealer.now (nonce + level) (spelling device.now cells)) }
     ensures opens { IfOk result (λ v. (level : ℕ) → level < length lists.now →
-        Reads (S.opening sealer.now) device.now tree
-        (part_at (map (λ part. part.items) v.items) level) (listed (map (λ list. list.items) lists.now) level)) }
-    ensures lengths { IfOk result (λ v.
-        All (λ part. vec_len part + 64 ≡ record_len_of device.now (S.overhead sealer.now)) v.items) }
+        let cells = listed (map (λ list. list.items) lists.now) level in
+        Reads (S.opening sealer.now) device.now tree (part_at (map (λ part. part.items) v.items) level) cells) }
+    ensures lengths { let len = record_len_of device.now (S.overhead sealer.now) in
+        IfOk result (λ v. All (λ part. vec_len part + 64 ≡ len) v.items) }
 {
     let mut sealed = Vec::with_capacity(alloc, lists.len())?;
     for (level, list) in lists.iter().enumerate() {
@@ -146,7 +147,8 @@ pub(crate) fn rewrite<S: Sealer>(
     edit: Edit<'_>,
 ) -> Result<Rewritten, TreeFault>
     requires tree { tree < trees_of device.now }
-    requires path { path.now ≡ path_of device.now tree old_leaf (S.overhead sealer.now) path.now.bytes }
+    requires path { path.now ≡ path_of device.now tree old_leaf
+        (S.overhead sealer.now) path.now.bytes }
     requires address { address < blocks_in device.now tree }
     requires old_leaf { old_leaf < 2 ^ depth_of device.now tree }
     requires new_leaf { new_leaf < 2 ^ depth_of device.now tree }
@@ -160,14 +162,15 @@ pub(crate) fn rewrite<S: Sealer>(
     ensures readable { let reads = Reads (S.opening sealer.now) device.now tree in
         OnOk result (IsReadable reads path.now stash) }
 
-    ensures lookup { let near = IsNear (Reads (S.opening sealer.now) device.now tree) path.now stash in
-        IfOk result (λ r. IsLookup near device.now.block_bytes address r.access.found r.access.before.items) }
+    ensures lookup { let reads = Reads (S.opening sealer.now) device.now tree in
+        IfOk result (λ r. IsLookup (IsNear reads path.now stash)
+        device.now.block_bytes address r.access.found r.access.before.items) }
     ensures data_len { IfOk result (λ r. length r.access.before.items ≡ device.now.block_bytes) }
     ensures whole { IfOk result (λ r. HasLength (with_bytes path.now r.access.records.items)) }
     ensures written { let reads = Reads (S.opening sealer.now) device.now tree in
-        IfOk result (λ r. let content = edited edit.entry r.access.before.items in
-        IsRewritten reads (S.sealing sealer.now) device.now nonce path.now stash
-        (with_bytes path.now r.access.records.items) (record { address = address; leaf = new_leaf; content = content }) r.stash) }
+        IfOk result (λ r. IsRewritten reads (S.sealing sealer.now) device.now nonce
+        path.now stash (with_bytes path.now r.access.records.items)
+        (edited_block address new_leaf edit.entry r.access.before.items) r.stash) }
     ensures stands { IfOk result (λ r. StandsRebuilt path.now r.access.records.items r.root) }
     ensures blocks { IfOk result (λ r. All (IsBlockOf device.now tree) r.stash) }
 {

@@ -1,10 +1,9 @@
 use Rattle.std.proofs.Common.{◌≡◌, ℕ, sym, ap, subst, ◌∙◌}
 use Rattle.std.proofs.lemmas.Result.{err_from_is_err_and}
 use Rattle.oram_hash.specs.Path.{with_bytes}
-use Rattle.oram_bucket.specs.Cell.{Cell}
 use Rattle.oram_bucket.specs.Reading.{Reads}
 use Rattle.oram_tree.specs.State.{State}
-use Rattle.oram_tree.specs.Edits.{edited}
+use Rattle.oram_tree.specs.Edits.{edited_block}
 use Rattle.oram_tree.specs.Access.{IsNear, IsReadable, IsLookup, IsRewritten, IsUpdate}
 use Rattle.oram_tree.proofs.Rewrites.{updated, readable_before, only_memory, moved}
 use Rattle.oram_tree.proofs.Tree.access.Goals as goal
@@ -30,7 +29,7 @@ returns-clause-updates g c records content stored path named =
     let view = c.args.path.now in
     let made = c.in_ok-stash-2.field-0 in
     let q = with_bytes view made.access.records.items in
-    let cell : Cell = record { address = c.args.address; leaf = c.args.new_leaf; content = edited c.args.edit made.access.before.items } in
+    let cell = edited_block c.args.address c.args.new_leaf c.args.edit made.access.before.items in
     let number_is : c.self.inside.number ≡ c.args.self.now.number = ap (λ (t : State). t.number) c.self.view_is in
     let stash_is : c.in_ok-stash.stash ≡ c.args.self.now.stash = c.in_ok-stash.ensures.same ∙ ap (λ (t : State). t.stash) c.self.view_is in
     let reads = λ (n : ℕ). Reads opening device n in

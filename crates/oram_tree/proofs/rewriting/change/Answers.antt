@@ -1,7 +1,7 @@
 use Rattle.std.proofs.Common.{◌≡◌, ℕ, List, Err, Contains, length, sym, ap, subst, ◌∙◌}
 use Rattle.std.proofs.lemmas.List.Elements.{All-contains}
 use Rattle.oram_bucket.specs.Cell.{Cell}
-use Rattle.oram_tree.specs.Edits.{edited, HasRoomFor}
+use Rattle.oram_tree.specs.Edits.{edited_content, HasRoomFor}
 use Rattle.oram_tree.proofs.Gathered.{duplicate_is}
 use Rattle.oram_tree.proofs.Rewrites.{waits_from, not_twice, before_len}
 use Rattle.oram_tree.proofs.rewriting.change.Goals as goal
@@ -22,5 +22,5 @@ apply-requires c =
 pub returns-in-Ok-clause-waits : goal.returns-in-Ok-clause-waits
 returns-in-Ok-clause-waits c =
     let block : List ℕ → Cell = λ bytes. record { address = c.args.address; leaf = c.args.leaf; content = bytes } in
-    let data_is : c.in_ok-content.content.items ≡ edited c.args.edit c.in_ok-before.before.items = c.in_ok-content.ensures ∙ ap (edited c.args.edit) c.deref.ensures.value in
-    waits_from c.args.stash.now c.take_content.new.stash c.absorb.new.self (block c.in_ok-content.content.items) (block (edited c.args.edit c.in_ok-before.before.items)) (ap block data_is) c.in-Ok.ensures.ok c.in_ok-before.ensures.others
+    let data_is : c.in_ok-content.content.items ≡ edited_content c.args.edit c.in_ok-before.before.items = c.in_ok-content.ensures ∙ ap (edited_content c.args.edit) c.deref.ensures.value in
+    waits_from c.args.stash.now c.take_content.new.stash c.absorb.new.self (block c.in_ok-content.content.items) (block (edited_content c.args.edit c.in_ok-before.before.items)) (ap block data_is) c.in-Ok.ensures.ok c.in_ok-before.ensures.others
