@@ -1,4 +1,4 @@
--- Trees that agree: what the outstanding fetch needs, and that they agree after it.
+-- Trees that agree have what the outstanding fetch needs.
 use Rattle.std.proofs.Common.{◌≡◌, ℕ, zero, suc, ◌+◌, ◌-◌, ◌*◌, ◌/◌, ◌%◌, ◌^◌, ◌<◌, ◌≤◌, ◌==◌, Bool, true, false, if◌then◌else◌, List, ◌∷◌, slice_index, refl, ap, sym, ◌∙◌, subst, arith}
 use Rattle.std.proofs.lemmas.Bool.Decides.{nat_tests}
 use Rattle.oram_geometry.specs.Sizes.{trees_of, depth_of, blocks_in, fanout}

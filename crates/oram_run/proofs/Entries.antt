@@ -1,4 +1,4 @@
--- With any number of trees: which leaf an entry shows, by the submissions before it.
+-- Which leaf an entry shows, by the submissions before it.
 use Rattle.std.proofs.Common.{◌≡◌, ℕ, ◌+◌, ◌*◌, ◌%◌, ◌<◌, ◌==◌, Bool, true, false, if◌then◌else◌, cond, List, [], ◌∷◌, ◌++◌, length, reverse, slice_index, Option, Some, None, refl, ap, sym, ◌∙◌, arith, length-append, append_assoc}
 use Rattle.std.specs.List.{find}
 use Rattle.std.specs.Option.{option_map_or}

@@ -10,7 +10,7 @@ use Rattle.oram_run.specs.Shape.{Shape}
 use Rattle.oram_run.specs.Messages.{IsMessage, asked, is_store, written}
 use Rattle.oram_run.specs.Answers.{Outcome, outcome_of, pair_in}
 use Rattle.oram_run.specs.Answers.Outcome.{Good, NoRoom, Fails}
-use Rattle.oram_tree.specs.Content.{Map}
+use Rattle.oram_tree.specs.Content.{Map, Entry as Held}
 use Rattle.oram_run.specs.Content.{block_of, new_leaf}
 use Rattle.oram_run.specs.Blocks.{found_in, block_after, next_named, kept_of, put_in, body_from}
 use Rattle.oram_run.specs.Progress.{Status}
@@ -33,7 +33,8 @@ pub data Ask : Type 0 where
   Again : Ask
   For : Entry → Ask
 
--- what a core shows at an event, and what it and the trees are afterwards. The state's trees, nonce and last message are those of before.
+-- What a core shows at an event, and what it and the trees are afterwards. The state's trees, nonce and last message are those of
+-- before.
 pub record Moved : Type 0 where
   pub note : Note
   pub replies : List Reply
@@ -49,6 +50,7 @@ leaf_for d i named x = if named == 0 then leaf_of d i (slice_index x.words (2 * 
 abbrev pub fetch_at : Sizes → ℕ → ℕ → Submission → Entry
 fetch_at d stage named x = record { fetch = true; tree = stage_tree d stage; leaf = leaf_for d (stage_tree d stage) named x }
 
+-- the first fetch of the oldest command, if there is one
 abbrev pub first_fetch : Sizes → List ℕ → List Submission → Ask
 first_fetch d table [] = Nothing
 first_fetch d table (x ∷ rest) = For (fetch_at d 0 (slice_index table (block_of d (trees_of d - 1) x)) x)
@@ -57,9 +59,11 @@ abbrev pub if_idle : List Submission → Ask → Ask
 if_idle [] ask = ask
 if_idle (x ∷ rest) ask = Nothing
 
+-- nothing but the note
 abbrev pub stays : State → World → Note → Moved
 stays s w note = record { note = note; replies = []; ask = Nothing; state = s; content = w.content }
 
+-- a command joins the queue, and an idle core fetches its first path
 abbrev pub accepts : Shape → State → World → Submission → Moved
 accepts v s w x = record {
   note = Accepted x.ticket;
@@ -109,6 +113,7 @@ finishes v s w x rest = record {
   content = w.content;
 }
 
+-- what a good answer does to the oldest command without a reply
 abbrev pub goes_on : Shape → State → World → List Submission → Moved
 goes_on v s w [] = stays s w Unexpected
 goes_on v s w (x ∷ rest) =
@@ -116,12 +121,15 @@ goes_on v s w (x ∷ rest) =
     else if s.stage + 1 == 2 * trees_of v.device then finishes v s w x rest
     else fetches v s w x
 
+-- the message counts as lost
 abbrev pub stalls : State → World → Moved
 stalls s w = record { note = Stalled; replies = []; ask = Nothing; state = record s { lost = true }; content = w.content }
 
+-- and goes out again
 abbrev pub resends : State → World → Moved
 resends s w = record { note = Resent; replies = []; ask = Again; state = record s { lost = false }; content = w.content }
 
+-- each command without a reply is answered Failed
 abbrev pub fails : State → World → Reason → Moved
 fails s w e = record { note = FailedNow e; replies = map failed_reply s.queue; ask = Nothing; state = record s { queue = []; failure = Some e }; content = w.content }
 
@@ -149,9 +157,11 @@ on_retry s w Idle = stays s w Unexpected
 on_retry s w Waiting = stays s w Unexpected
 on_retry s w Over = stays s w Unexpected
 
+-- what an event does to a core in a world
 abbrev pub moved : Shape → State → World → Event → Moved
 moved v s w (Submit session c words) =
-    on_submission v s w (record { session = session; ticket = s.next; command = c; words = words }) (refusal_of v.device (is_over (status_in s)) (length s.queue) s.next c words)
+    on_submission v s w (record { session = session; ticket = s.next; command = c; words = words })
+    (refusal_of v.device (is_over (status_in s)) (length s.queue) s.next c words)
 moved v s w (Answer bytes) = on_answer v s w (status_in s) (outcome_of v w.records (asked s.last) bytes)
 moved v s w Lost = on_loss s w (status_in s)
 moved v s w Retry = on_retry s w (status_in s)
@@ -162,11 +172,12 @@ Sends v last Nothing xs = xs ≡ []
 Sends v last Again xs = xs ≡ last ∷ []
 Sends v last (For e) xs = (m : List ℕ) × (xs ≡ m ∷ []) × IsMessage v e m
 
+-- the message sent last, once these are sent
 abbrev pub latest : List (List ℕ) → List ℕ → List ℕ
 latest [] last = last
 latest (m ∷ ms) last = m
 
--- what stands at the host once these are sent, the newest first
+-- what stands at the host once these messages are sent, the newest first
 abbrev pub records_after : Shape → (ℕ → ℕ → List ℕ) → List (List ℕ) → ℕ → ℕ → List ℕ
 records_after v records [] i n = records i n
 records_after v records (m ∷ older) i n = unwrap_or (written v m i n) (records_after v records older i n)
@@ -185,7 +196,7 @@ is_new (For e) = true
 is_new Nothing = false
 is_new Again = false
 
--- seals of one message
+-- how many buckets are sealed for a message
 abbrev pub buckets_in : Sizes → Ask → ℕ
 buckets_in d Nothing = 0
 buckets_in d Again = 0
@@ -210,12 +221,16 @@ pub record MovesTo (v : Shape) (s : State) (w : World) (m : Moved) (x : Shown) (
 abbrev pub Moves : Shape → State → World → Event → Shown → State → Type 0
 Moves v s w event x t = MovesTo v s w (moved v s w event) x t
 
+-- what the tree of the fetch that is outstanding has of the command's block
+abbrev pub held_now : Shape → State → World → Submission → Option Held
+held_now v s w x = let i = stage_tree v.device s.stage in w.content i (block_of v.device i x)
+
 -- Where a fetch is outstanding, its block is in the tree's content as it is named, and what the block names is a leaf of the next tree.
 pub record IsReadyFor (v : Shape) (s : State) (w : World) (x : Submission) : Type 0 where
-  pub named :
-      name_of (w.content (stage_tree v.device s.stage) (block_of v.device (stage_tree v.device s.stage) x)) ≡ named_now v s x
+  pub named : name_of (held_now v s w x) ≡ named_now v s x
   pub next :
-      next_named v.device (stage_tree v.device s.stage) x (found_in v.device (w.content (stage_tree v.device s.stage) (block_of v.device (stage_tree v.device s.stage) x))) ≤ 2 ^ depth_of v.device (stage_tree v.device s.stage - 1)
+      let i = stage_tree v.device s.stage in
+      next_named v.device i x (found_in v.device (held_now v s w x)) ≤ 2 ^ depth_of v.device (i - 1)
 
 abbrev pub IsReady : Shape → State → World → List Submission → Type 0
 IsReady v s w [] = Unit {0}
