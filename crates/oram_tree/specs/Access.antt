@@ -56,7 +56,7 @@ pub record IsRewritten (reads : List ℕ → List Cell → Type 0) (sealing : �
   pub sealed : (level : ℕ) → level ≤ p.depth → sealed_part (record_at q level) ≡ sealing (nonce + level) (spelling d (listed lists level))
   pub read_back : (level : ℕ) → level ≤ p.depth → reads (sealed_part (record_at q level)) (listed lists level)
 
--- the map'd data at the block'd address is told, and wherever the path'd new records q take the place of p, they stand
+-- the map's data at the block's address is told, and wherever the path's new records q take the place of p, they stand
 -- under the new tree and hold the map with that address alone changed
 pub record IsUpdate (opening : List ℕ → Option (List ℕ)) (overhead : ℕ) (d : Sizes)
     (p q : Path) (records : ℕ → List ℕ) (content : Map)
