@@ -1,0 +1,59 @@
+//! The formatting of a device.
+
+use crate::machine::Core;
+use oram_bucket::Sealer;
+use oram_bytes::Bytes;
+use oram_geometry::Device;
+use oram_tree::{FormatFault, Tree};
+use oram_wire::Sink;
+use std::alloc::{AllocError, Global};
+use std::collections::VecDeque;
+
+/// Formats the trees of a device, from tree 0 on: gives them, and how many buckets were sealed.
+fn format_trees<S: Sealer, K: Sink>(
+    alloc: Global,
+    device: &Device,
+    sealer: &S,
+    sink: &mut K,
+) -> Result<(Vec<Tree>, u64), FormatFault> {
+    let mut trees = Vec::with_capacity(alloc, usize::from(device.trees()))?;
+    let mut nonce = 0;
+    for tree in 0..device.trees() {
+        let formatted = Tree::format(alloc, device, tree, sealer, nonce, sink)?;
+        if let Err(refused) = trees.push(formatted) {
+            return Err(AllocError::from(refused).into());
+        }
+        nonce += (2 << device.depth(tree)) - 1;
+    }
+    Ok((trees, nonce))
+}
+
+impl<S: Sealer> Core<S> {
+    /// Formats a device and gives its core: the sink takes the messages, for each tree its shape and a record of an empty
+    /// bucket for each of its nodes.
+    pub fn format<K: Sink>(
+        alloc: Global,
+        device: Device,
+        sealer: S,
+        sink: &mut K,
+    ) -> Result<Core<S>, FormatFault> {
+        let (trees, nonce) = format_trees(alloc, &device, &sealer, sink)?;
+        let blocks = device.blocks_in(device.trees() - 1) as usize;
+        let table = vec![in alloc; 0; blocks]?;
+        Ok(Core {
+            device,
+            sealer,
+            table,
+            trees,
+            next: 0,
+            nonce,
+            queue: VecDeque::new(alloc),
+            stage: 0,
+            named: 0,
+            before: Bytes::from_vec(Vec::new(alloc)),
+            last: Bytes::from_vec(Vec::new(alloc)),
+            lost: false,
+            failure: None,
+        })
+    }
+}
