@@ -4,10 +4,10 @@ use Rattle.std.specs.Prelude.{codes}
 use Rattle.std.specs.Fmt.{digits}
 use Rattle.hex.proofs.OnLiterals.{hex_on_literals}
 use Rattle.hex.specs.Hex.{encode_with}
-use Rattle.oram_core.specs.declared.events.Note.TheVariants.{Accepted, Refused, FailedNow}
-use Rattle.oram_core.specs.declared.events.Reason.TheVariants.{Malformed}
-use Rattle.oram_core.specs.declared.events.Refusal.TheVariants.{Exhausted}
-use Rattle.oram_core.specs.declared.events.ReplyBody.TheVariants.{Data}
+use Rattle.oram_run.specs.declared.events.Note.TheVariants.{Accepted, Refused, FailedNow}
+use Rattle.oram_run.specs.declared.events.Reason.TheVariants.{Malformed}
+use Rattle.oram_run.specs.declared.events.Refusal.TheVariants.{Exhausted}
+use Rattle.oram_run.specs.declared.events.ReplyBody.TheVariants.{Data}
 use Rattle.oramsim.specs.Printing.{note_text, reply_text, send_text, error_text}
 use Rattle.oramsim.specs.Reading.{lines_of, line_of, line_from, device_from, read_from, write_from, number_below, numbers_below, hex_bytes}
 use Rattle.oramsim.specs.declared.line.Line.TheVariants.{Device, Read, Write, Drain}

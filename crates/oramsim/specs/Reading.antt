@@ -7,7 +7,7 @@ use Rattle.std.specs.Str.{bytes_eq}
 use Rattle.std.specs.Str.Parse.{digits_value}
 use Rattle.hex.specs.Hex.{decode_of}
 use Rattle.oramsim.specs.declared.line.Line.{Line}
-use Rattle.oramsim.specs.declared.line.Line.TheVariants.{Device, Read, Write, Answer, Drain}
+use Rattle.oramsim.specs.declared.line.Line.TheVariants.{Device, Read, Write, Answer, Raw, Drain, Lost, Late, Retry, Tamper, Snapshot, Restore}
 
 infixl 10 ◌>>=◌
 abbrev pub ◌>>=◌ : {A B : Type 0} → Option A → (A → Option B) → Option B
@@ -77,10 +77,36 @@ write_from (s ∷ a ∷ h ∷ w) = do
   Some (Write session address bytes words)
 write_from _ = None
 
+unfoldable pub raw_from : List (List ℕ) → Option Line
+raw_from (h ∷ []) = do
+  bytes ← hex_bytes h
+  Some (Raw bytes)
+raw_from _ = None
+
+unfoldable pub tamper_from : List (List ℕ) → Option Line
+tamper_from (t ∷ n ∷ o ∷ []) = do
+  tree ← number_below (2 ^ 64) t
+  node ← number_below (2 ^ 64) n
+  offset ← number_below (2 ^ 64) o
+  Some (Tamper tree node offset)
+tamper_from _ = None
+
+-- the line that a word alone makes
+unfoldable pub named_line : List ℕ → Option Line
+named_line word =
+    if bytes_eq word (codes "answer") then Some Answer
+    else if bytes_eq word (codes "drain") then Some Drain
+    else if bytes_eq word (codes "lost") then Some Lost
+    else if bytes_eq word (codes "late") then Some Late
+    else if bytes_eq word (codes "retry") then Some Retry
+    else if bytes_eq word (codes "snapshot") then Some Snapshot
+    else if bytes_eq word (codes "restore") then Some Restore
+    else None
+
 -- a line of one word
-abbrev pub alone : Line → List (List ℕ) → Option Line
-alone line [] = Some line
-alone line (field ∷ fields) = None
+abbrev pub alone : List ℕ → List (List ℕ) → Option Line
+alone word [] = named_line word
+alone word (field ∷ fields) = None
 
 -- what a word and the fields after it say
 unfoldable pub line_from : List ℕ → List (List ℕ) → Option Line
@@ -88,9 +114,9 @@ line_from word fields =
     if bytes_eq word (codes "device") then device_from fields
     else if bytes_eq word (codes "read") then read_from fields
     else if bytes_eq word (codes "write") then write_from fields
-    else if bytes_eq word (codes "answer") then alone Answer fields
-    else if bytes_eq word (codes "drain") then alone Drain fields
-    else None
+    else if bytes_eq word (codes "raw") then raw_from fields
+    else if bytes_eq word (codes "tamper") then tamper_from fields
+    else alone word fields
 
 abbrev pub line_of_fields : List (List ℕ) → Option Line
 line_of_fields [] = None

@@ -1,23 +1,24 @@
 //! A device at work, with its host.
-ghost use Rattle.std.specs.Prelude.{◌≡◌, ◌≢◌, ℕ, ◌<◌, true, false, List, length, take, nat_lt, is_some, IfOk, IfErr, OnOk, IsErrOf};
+ghost use Rattle.std.specs.Prelude.{◌≡◌, ◌≢◌, ◌×◌, ℕ, ◌<◌, true, false, List, take, is_some, IfOk, IfErr, OnOk, IsErrOf, Some, None};
 ghost use Rattle.std.specs.Io.KnownBytes.{Appends};
-ghost use Rattle.std.specs.List.{flat_map, FoldsTo};
-ghost use Rattle.oram_core.specs.Follows.{Follows};
-ghost use Rattle.oram_core.specs.Moves.{moved};
-ghost use Rattle.oram_core.specs.Run.{Shown};
-ghost use Rattle.oram_core.specs.declared.events.Command.TheVariants as command;
-ghost use Rattle.oram_core.specs.declared.events.Event.TheVariants as event;
+ghost use Rattle.oram_host.specs.Host.{Host};
+ghost use Rattle.oram_run.specs.Run.{Shown};
+ghost use Rattle.oram_run.specs.declared.events.Command.TheVariants as command;
+ghost use Rattle.oram_run.specs.declared.events.Event.TheVariants as event;
+ghost use Rattle.oram_core.specs.Steps.{Steps};
 ghost use Rattle.oramsim.specs.Printing.{reaction_text};
-ghost use Rattle.oramsim.specs.Script.{Running, Stage, Reacts, IsAnswered, Obeys, Starts, answer_event, has_message, is_due};
-ghost use Rattle.oramsim.specs.Standing.{IsWhole, AreWhole, Stands, StandsAt, entries_left};
+ghost use Rattle.oramsim.specs.Script.{Point, Running, AtEvent, IsAnswered, IsDrained, IsUnfit, Obeys, Replies, Starts, after_turn, newest_of, plain_shape, with_host};
+ghost use Rattle.oramsim.specs.Standing.{AreWhole, IsWhole, Stands, StandsAt, Tells, TellsAt, entries_left};
 
+use crate::formatting::Handing;
 use crate::line::Line;
 use crate::printing::{FaultText, ReactionText, ReadyText};
 use crate::script::SimFault;
-use crate::server::Server;
+use oram_bucket::PlainSeal;
 use oram_bytes::{Bytes, Words};
 use oram_core::{Command, Core, Event};
 use oram_geometry::{Device, ShapeFault};
+use oram_host::Server;
 use std::alloc::{AllocError, Global};
 use std::io::{ErrorKind, Write};
 
@@ -46,10 +47,12 @@ pub fn put<W: Write>(writer: &mut W, text: &[u8]) -> Result<(), SimFault>
 }
 
 /// A device at work, with its host and the message that has no answer yet.
-#[derive(Debug, Drop)]
+#[derive(Drop)]
 pub struct Machine {
-    pub core: Core,
+    pub core: Core<PlainSeal>,
     pub server: Server,
+    /// The copy of the server that was kept, if one was.
+    pub snapshot: Option<Server>,
     pub outstanding: Option<Bytes>,
 }
 
@@ -57,14 +60,9 @@ pub struct Machine {
 fn play<W: Write>(
     alloc: Global,
     writer: &mut W,
-    core: &mut Core,
+    core: &mut Core<PlainSeal>,
     event: &Event,
 ) -> Result<Option<Bytes>, SimFault>
-    ensures state { OnOk result (core.new ≡ (moved core.old event.now).state) }
-    ensures sent { IfOk result (λ sent. is_some sent ≡ nat_lt 0 (length (moved core.old event.now).sends)) }
-    ensures ok { (r : Running) → Follows r.device r.past core.old → OnOk result ((x : Shown) × (later : Running)
-        × Reacts r event.now x later × Follows later.device later.past core.new
-        × Appends (W.contents writer.old) (W.contents writer.new) (reaction_text x)) }
 {
     let mut reaction = core.step(alloc, event)?;
     let text = format!(in alloc; "{}", ReactionText(&reaction))?;
@@ -73,6 +71,31 @@ fn play<W: Write>(
 }
 
 impl Machine {
+    /// An event of which the outstanding message knows nothing.
+    fn meet<W: Write>(
+        &mut self,
+        alloc: Global,
+        writer: &mut W,
+        event: &Event,
+    ) -> Result<(), SimFault>
+    {
+        let sent = play(alloc, writer, &mut self.core, event)?;
+        self.outstanding = sent.or(self.outstanding.take());
+        Ok(())
+    }
+
+    /// An event that ends the wait for an answer.
+    fn settle<W: Write>(
+        &mut self,
+        alloc: Global,
+        writer: &mut W,
+        event: &Event,
+    ) -> Result<(), SimFault>
+    {
+        self.outstanding = play(alloc, writer, &mut self.core, event)?;
+        Ok(())
+    }
+
     /// A command of a session.
     pub fn submit<W: Write>(
         &mut self,
@@ -82,56 +105,34 @@ impl Machine {
         command: Command,
         words: Words,
     ) -> Result<(), SimFault>
-        requires { IsWhole self.old }
-        ensures whole { OnOk result (IsWhole self.new) }
-        ensures ok { (r : Running) → Stands r self.old → OnOk result ((x : Shown) × (later : Running)
-            × Reacts r (event.Submit session command words) x later × Stands later self.new
-            × Appends (W.contents writer.old) (W.contents writer.new) (reaction_text x)) }
     {
         let event = Event::Submit {
             session,
             command,
             words,
         };
-        let sent = play(alloc, writer, &mut self.core, &event)?;
-        self.outstanding = sent.or(self.outstanding.take());
-        Ok(())
+        self.meet(alloc, writer, &event)
     }
 
-    /// The event of the host's answer to the outstanding message. With none outstanding there are no bytes.
-    fn answer_of_host(&mut self, alloc: Global) -> Result<Event, AllocError>
-        ensures event { IfOk result (λ e. e ≡ answer_event (is_some self.old.outstanding)) }
-        ensures core { self.new.core ≡ self.old.core }
-        ensures outstanding { self.new.outstanding ≡ self.old.outstanding }
+    /// The bytes by which the host answers the outstanding message. With none outstanding there are none.
+    fn answer_of_host(&mut self, alloc: Global) -> Result<Bytes, AllocError>
     {
         let bytes = match &self.outstanding {
             Some(message) => self.server.handle(message.as_slice()).encode(alloc)?,
             None => Vec::new(alloc),
         };
-        Ok(Event::Answer(Bytes::from_vec(bytes)))
+        Ok(Bytes::from_vec(bytes))
     }
 
     /// The host answers the outstanding message. With none outstanding the core is told an answer of no bytes.
     pub fn answer<W: Write>(&mut self, alloc: Global, writer: &mut W) -> Result<(), SimFault>
-        requires { IsWhole self.old }
-        ensures whole { OnOk result (IsWhole self.new) }
-        ensures left { OnOk result (is_some self.old.outstanding ≡ true → entries_left self.new.core < entries_left self.old.core) }
-        ensures ok { (r : Running) → Stands r self.old → OnOk result ((x : Shown) × (later : Running)
-            × Reacts r (answer_event (is_some self.old.outstanding)) x later × Stands later self.new
-            × Appends (W.contents writer.old) (W.contents writer.new) (reaction_text x)) }
     {
-        let event = self.answer_of_host(alloc)?;
-        self.outstanding = play(alloc, writer, &mut self.core, &event)?;
-        Ok(())
+        let bytes = self.answer_of_host(alloc)?;
+        self.settle(alloc, writer, &Event::Answer(bytes))
     }
 
     /// The host answers until no message is outstanding.
     pub fn drain<W: Write>(&mut self, alloc: Global, writer: &mut W) -> Result<(), SimFault>
-        requires { IsWhole self.old }
-        ensures whole { OnOk result (IsWhole self.new) }
-        ensures ok { (r : Running) → Stands r self.old → OnOk result ((xs : List Shown) × (later : Running)
-            × FoldsTo IsAnswered r xs later × (has_message later ≡ false) × Stands later self.new
-            × Appends (W.contents writer.old) (W.contents writer.new) (flat_map reaction_text xs)) }
     {
         while self.outstanding.is_some() {
             self.answer(alloc, writer)?;
@@ -139,51 +140,63 @@ impl Machine {
         Ok(())
     }
 
-    /// Does what a line says. False is a second device, which there is not.
+    /// The host gets the outstanding message, and its answer is lost.
+    pub fn lose_answer<W: Write>(&mut self, alloc: Global, writer: &mut W) -> Result<(), SimFault>
+    {
+        let _bytes = self.answer_of_host(alloc)?;
+        self.settle(alloc, writer, &Event::Lost)
+    }
+
+    /// Keeps a copy of the host.
+    pub fn keep(&mut self, alloc: Global) -> Result<(), SimFault>
+    {
+        self.snapshot = Some(self.server.copy(alloc)?);
+        Ok(())
+    }
+
+    /// Puts the host back that was kept. False is that none was.
+    pub fn restore(&mut self, alloc: Global) -> Result<bool, SimFault>
+    {
+        let Some(kept) = &self.snapshot else {
+            return Ok(false);
+        };
+        self.server = kept.copy(alloc)?;
+        Ok(true)
+    }
+
+    /// Does what a line says of messages and answers.
+    fn pass_on<W: Write>(&mut self, alloc: Global, writer: &mut W, line: Line) -> Result<(), SimFault> {
+        match line {
+            Line::Read { session, address, words } => self.submit(alloc, writer, session, Command::Read(address), words),
+            Line::Write { session, address, bytes, words } => {
+                self.submit(alloc, writer, session, Command::Write(address, bytes), words)
+            }
+            Line::Answer => self.answer(alloc, writer),
+            Line::Raw(bytes) => self.settle(alloc, writer, &Event::Answer(bytes)),
+            Line::Drain => self.drain(alloc, writer),
+            Line::Lost => self.settle(alloc, writer, &Event::Lost),
+            Line::Late => self.lose_answer(alloc, writer),
+            Line::Retry => self.meet(alloc, writer, &Event::Retry),
+            Line::Snapshot => self.keep(alloc),
+            Line::Device { .. } | Line::Tamper { .. } | Line::Restore => Ok(()),
+        }
+    }
+
+    /// Does what a line says. False is a line that the device doesn't take: a second device, a byte that isn't there or a
+    /// host that wasn't kept.
     pub fn obey<W: Write>(
         &mut self,
         alloc: Global,
         writer: &mut W,
         line: Line,
     ) -> Result<bool, SimFault>
-        requires { IsWhole self.old }
-        ensures whole { OnOk result (IsWhole self.new) }
-        ensures ok { (r : Running) → Stands r self.old → result ≡ Ok true → (xs : List Shown) × (later : Running)
-            × Obeys r line xs later × Stands later self.new
-            × Appends (W.contents writer.old) (W.contents writer.new) (flat_map reaction_text xs) }
-        ensures bad { (r : Running) → result ≡ Ok false → (is_due (Some r) line ≡ false) × (W.contents writer.new ≡ W.contents writer.old) }
     {
         match line {
             Line::Device { .. } => Ok(false),
-            Line::Read {
-                session,
-                address,
-                words,
-            } => {
-                self.submit(alloc, writer, session, Command::Read(address), words)?;
-                Ok(true)
-            }
-            Line::Write {
-                session,
-                address,
-                bytes,
-                words,
-            } => {
-                self.submit(
-                    alloc,
-                    writer,
-                    session,
-                    Command::Write(address, bytes),
-                    words,
-                )?;
-                Ok(true)
-            }
-            Line::Answer => {
-                self.answer(alloc, writer)?;
-                Ok(true)
-            }
-            Line::Drain => {
-                self.drain(alloc, writer)?;
+            Line::Tamper { tree, node, offset } => Ok(self.server.flip(tree, node, offset)),
+            Line::Restore => self.restore(alloc),
+            line => {
+                self.pass_on(alloc, writer, line)?;
                 Ok(true)
             }
         }
@@ -196,21 +209,14 @@ pub fn begin<W: Write>(
     writer: &mut W,
     device: Result<Device, ShapeFault>,
 ) -> Result<Option<Machine>, SimFault>
-    ensures whole { IfOk result (λ machine. AreWhole machine) }
-    ensures ok { IfOk result (λ machine. (text : List ℕ) × (stage : Stage) × Starts device text stage × StandsAt stage machine
-        × Appends (W.contents writer.old) (W.contents writer.new) text) }
 {
     match device {
         Ok(device) => {
             let trees = device.trees();
-            let core = Core::start(alloc, device)?;
+            let machine = formatted(alloc, device)?;
             let text = format!(in alloc; "{}", ReadyText(trees))?;
             put(writer, text.as_bytes())?;
-            Ok(Some(Machine {
-                core,
-                server: Server::new(alloc),
-                outstanding: None,
-            }))
+            Ok(Some(machine))
         }
         Err(fault) => {
             let text = format!(in alloc; "{}", FaultText(fault))?;
@@ -218,4 +224,20 @@ pub fn begin<W: Write>(
             Ok(None)
         }
     }
+}
+
+/// Formats a device on a host that keeps nothing yet.
+fn formatted(alloc: Global, device: Device) -> Result<Machine, SimFault>
+{
+    let mut sink = Handing::new(alloc);
+    // Such a host refuses a formatting for want of memory alone.
+    let Ok(core) = Core::format(alloc, device, PlainSeal, &mut sink) else {
+        return Err(SimFault::OutOfMemory);
+    };
+    Ok(Machine {
+        core,
+        server: sink.into_server(),
+        snapshot: None,
+        outstanding: None,
+    })
 }

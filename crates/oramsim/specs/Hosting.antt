@@ -1,0 +1,15 @@
+-- What a bucket host does with whatever it is sent.
+use Rattle.std.specs.Prelude.{◌≡◌, ℕ, false, List}
+use Rattle.oram_wire.specs.HostMessages.{request_body}
+use Rattle.oram_wire.specs.HostReading.{HasNumbers, IsMisfit, names_request}
+use Rattle.oram_wire.specs.declared.host_messages.HostAnswer.{HostAnswer}
+use Rattle.oram_wire.specs.declared.host_messages.HostAnswer.TheVariants.{Refused}
+use Rattle.oram_wire.specs.declared.host_messages.HostRequest.{HostRequest}
+use Rattle.oram_host.specs.Answers.{Answers}
+use Rattle.oram_host.specs.Host.{Host}
+
+-- A host answers a body and keeps this then: a request's as requests are answered, and any other is refused and changes nothing.
+pub record Serves (host : Host) (body : List ℕ) (answer : HostAnswer) (after : Host) : Type 0 where
+  pub request : (message : HostRequest) → HasNumbers message → body ≡ request_body message → Answers host message answer after
+  pub op : names_request body ≡ false → (answer ≡ Refused 7) × (after ≡ host)
+  pub misfit : IsMisfit body → (answer ≡ Refused 4) × (after ≡ host)
