@@ -1,9 +1,7 @@
 pub mod Numbers
 pub mod Hex
 pub mod Writes
-pub mod Moving
-pub mod Waiting
-pub mod Drained
-pub mod Passing
 pub mod Lines
+pub mod Whole
+pub mod Turning
 mod Rows

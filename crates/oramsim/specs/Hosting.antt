@@ -1,10 +1,12 @@
 -- What a bucket host does with whatever it is sent.
-use Rattle.std.specs.Prelude.{◌≡◌, ℕ, false, List}
+use Rattle.std.specs.Prelude.{◌≡◌, ℕ, ◌==◌, if◌then◌else◌, false, List, Option, Some, None}
 use Rattle.oram_wire.specs.HostMessages.{request_body}
 use Rattle.oram_wire.specs.HostReading.{HasNumbers, IsMisfit, names_request}
 use Rattle.oram_wire.specs.declared.host_messages.HostAnswer.{HostAnswer}
-use Rattle.oram_wire.specs.declared.host_messages.HostAnswer.TheVariants.{Refused}
+use Rattle.oram_wire.specs.declared.host_messages.HostAnswer.TheVariants.{Done, Payload, Refused}
 use Rattle.oram_wire.specs.declared.host_messages.HostRequest.{HostRequest}
+use Rattle.oram_wire.specs.declared.sinks.SinkFault.{SinkFault}
+use Rattle.oram_wire.specs.declared.sinks.SinkFault.TheVariants as fault
 use Rattle.oram_host.specs.Answers.{Answers}
 use Rattle.oram_host.specs.Host.{Host}
 
@@ -13,3 +15,9 @@ pub record Serves (host : Host) (body : List ℕ) (answer : HostAnswer) (after :
   pub request : (message : HostRequest) → HasNumbers message → body ≡ request_body message → Answers host message answer after
   pub op : names_request body ≡ false → (answer ≡ Refused 7) × (after ≡ host)
   pub misfit : IsMisfit body → (answer ≡ Refused 4) × (after ≡ host)
+
+-- how a host that gives this answer has refused to take part in a formatting, if it has
+abbrev pub fault_by : HostAnswer → Option SinkFault
+fault_by Done = None
+fault_by (Payload bytes) = Some fault.Refused
+fault_by (Refused code) = if code == 8 then Some fault.OutOfMemory else Some fault.Refused

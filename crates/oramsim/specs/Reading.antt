@@ -6,8 +6,10 @@ use Rattle.std.specs.Result.{result_ok}
 use Rattle.std.specs.Str.{bytes_eq}
 use Rattle.std.specs.Str.Parse.{digits_value}
 use Rattle.hex.specs.Hex.{decode_of}
+use Rattle.oram_run.specs.declared.events.Command.TheVariants.{Read, Write}
+use Rattle.oram_run.specs.declared.events.Event.TheVariants as event
 use Rattle.oramsim.specs.declared.line.Line.{Line}
-use Rattle.oramsim.specs.declared.line.Line.TheVariants.{Device, Read, Write, Answer, Raw, Drain, Lost, Late, Retry, Tamper, Snapshot, Restore}
+use Rattle.oramsim.specs.declared.line.Line.TheVariants.{Device, Told, Answer, Drain, Late, Tamper, Snapshot, Restore}
 
 infixl 10 ◌>>=◌
 abbrev pub ◌>>=◌ : {A B : Type 0} → Option A → (A → Option B) → Option B
@@ -65,7 +67,7 @@ read_from (s ∷ a ∷ w) = do
   session ← number_below (2 ^ 32) s
   address ← number_below (2 ^ 32) a
   words ← numbers_below (2 ^ 64) w
-  Some (Read session address words)
+  Some (Told (event.Submit session (Read address) words))
 read_from _ = None
 
 unfoldable pub write_from : List (List ℕ) → Option Line
@@ -74,13 +76,13 @@ write_from (s ∷ a ∷ h ∷ w) = do
   address ← number_below (2 ^ 32) a
   bytes ← hex_bytes h
   words ← numbers_below (2 ^ 64) w
-  Some (Write session address bytes words)
+  Some (Told (event.Submit session (Write address bytes) words))
 write_from _ = None
 
 unfoldable pub raw_from : List (List ℕ) → Option Line
 raw_from (h ∷ []) = do
   bytes ← hex_bytes h
-  Some (Raw bytes)
+  Some (Told (event.Answer bytes))
 raw_from _ = None
 
 unfoldable pub tamper_from : List (List ℕ) → Option Line
@@ -96,9 +98,9 @@ unfoldable pub named_line : List ℕ → Option Line
 named_line word =
     if bytes_eq word (codes "answer") then Some Answer
     else if bytes_eq word (codes "drain") then Some Drain
-    else if bytes_eq word (codes "lost") then Some Lost
+    else if bytes_eq word (codes "lost") then Some (Told event.Lost)
     else if bytes_eq word (codes "late") then Some Late
-    else if bytes_eq word (codes "retry") then Some Retry
+    else if bytes_eq word (codes "retry") then Some (Told event.Retry)
     else if bytes_eq word (codes "snapshot") then Some Snapshot
     else if bytes_eq word (codes "restore") then Some Restore
     else None

@@ -14,14 +14,13 @@ use Rattle.oram_run.specs.Shape.{Shape}
 use Rattle.oram_run.specs.Progress.{Setting}
 use Rattle.oram_run.specs.Formatting.{IsFormatted}
 use Rattle.oram_run.specs.Run.{Shown, AllRight, fails_now}
-use Rattle.oram_run.specs.declared.events.Command.TheVariants as command
 use Rattle.oram_run.specs.declared.events.Event.{Event}
 use Rattle.oram_run.specs.declared.events.Event.TheVariants as event
 use Rattle.oramsim.specs.Hosting.{Serves}
 use Rattle.oramsim.specs.Printing.{reaction_text, ready_text, shape_text, error_text}
 use Rattle.oramsim.specs.Reading.{lines_of, line_of}
 use Rattle.oramsim.specs.declared.line.Line.{Line}
-use Rattle.oramsim.specs.declared.line.Line.TheVariants.{Device, Read, Write, Answer, Raw, Drain, Lost, Late, Retry, Tamper, Snapshot, Restore}
+use Rattle.oramsim.specs.declared.line.Line.TheVariants.{Device, Told, Answer, Drain, Late, Tamper, Snapshot, Restore}
 use Rattle.oramsim.specs.declared.script.Ending.{Ending}
 use Rattle.oramsim.specs.declared.script.Ending.TheVariants.{End, BadLine}
 
@@ -81,14 +80,10 @@ AtEvent r e after = (x : Shown) × (after ≡ after_turn r e x)
 -- what a line does to a device and its host
 abbrev pub Obeys : Running → Line → Running → Type 0
 Obeys r (Device blocks block_bytes slots top lifetime) after = ⊥
-Obeys r (Read session address words) after = AtEvent r (event.Submit session (command.Read address) words) after
-Obeys r (Write session address bytes words) after = AtEvent r (event.Submit session (command.Write address bytes) words) after
+Obeys r (Told e) after = AtEvent r e after
 Obeys r Answer after = (x : Shown) × IsAnswered r x after
-Obeys r (Raw bytes) after = AtEvent r (event.Answer bytes) after
 Obeys r Drain after = (xs : List Shown) × FoldsTo IsDrained r xs after × (after.message ≡ None)
-Obeys r Lost after = AtEvent r event.Lost after
 Obeys r Late after = (bytes : List ℕ) × (host : Host) × Replies r.host r.message bytes host × AtEvent (with_host r host) event.Lost after
-Obeys r Retry after = AtEvent r event.Retry after
 Obeys r (Tamper tree node offset) after = (host : Host) × IsFlipped r.host tree node offset host × (after ≡ with_host r host)
 Obeys r Snapshot after = after ≡ record r { copy = Some r.host }
 Obeys r Restore after = (host : Host) × (r.copy ≡ Some host) × (after ≡ with_host r host)
@@ -140,14 +135,10 @@ abbrev pub IsDone : Point → Stage → Line → Point → Type 0
 IsDone p (Some r) line q = (later : Running) × Obeys r line later × (q ≡ record { stage = Some later; head = p.head })
 IsDone p None (Device blocks block_bytes slots top lifetime) q =
     Starts p.head (device_of (record { blocks = blocks; block_bytes = block_bytes; slots = slots; top = top; lifetime = lifetime })) q
-IsDone p None (Read session address words) q = ⊥
-IsDone p None (Write session address bytes words) q = ⊥
+IsDone p None (Told e) q = ⊥
 IsDone p None Answer q = ⊥
-IsDone p None (Raw bytes) q = ⊥
 IsDone p None Drain q = ⊥
-IsDone p None Lost q = ⊥
 IsDone p None Late q = ⊥
-IsDone p None Retry q = ⊥
 IsDone p None (Tamper tree node offset) q = ⊥
 IsDone p None Snapshot q = ⊥
 IsDone p None Restore q = ⊥
@@ -162,26 +153,18 @@ abbrev pub IsUnfit : Running → Line → Type 0
 IsUnfit r (Device blocks block_bytes slots top lifetime) = ⊤
 IsUnfit r (Tamper tree node offset) = IsByteless r.host tree node offset
 IsUnfit r Restore = r.copy ≡ None
-IsUnfit r (Read session address words) = ⊥
-IsUnfit r (Write session address bytes words) = ⊥
+IsUnfit r (Told e) = ⊥
 IsUnfit r Answer = ⊥
-IsUnfit r (Raw bytes) = ⊥
 IsUnfit r Drain = ⊥
-IsUnfit r Lost = ⊥
 IsUnfit r Late = ⊥
-IsUnfit r Retry = ⊥
 IsUnfit r Snapshot = ⊥
 
 abbrev pub is_device : Line → Bool
 is_device (Device blocks block_bytes slots top lifetime) = true
-is_device (Read session address words) = false
-is_device (Write session address bytes words) = false
+is_device (Told e) = false
 is_device Answer = false
-is_device (Raw bytes) = false
 is_device Drain = false
-is_device Lost = false
 is_device Late = false
-is_device Retry = false
 is_device (Tamper tree node offset) = false
 is_device Snapshot = false
 is_device Restore = false
@@ -209,19 +192,21 @@ IsScriptText input text (BadLine n) =
     × (lines_of input ≡ lines ++ bad ∷ rest) × FoldsTo IsPassed start lines q × HasRun q.stage × IsBad q.stage bad × (n ≡ length lines + 1)
     × (text ≡ text_at q ++ error_text n)
 
+abbrev pub is_answer : Event → Bool
+is_answer (event.Submit session c words) = false
+is_answer (event.Answer bytes) = true
+is_answer event.Lost = false
+is_answer event.Retry = false
+
 -- a line that forges an answer, or changes what the host keeps
 abbrev pub is_meddling : Line → Bool
-is_meddling (Raw bytes) = true
+is_meddling (Told e) = is_answer e
 is_meddling (Tamper tree node offset) = true
 is_meddling Restore = true
 is_meddling (Device blocks block_bytes slots top lifetime) = false
-is_meddling (Read session address words) = false
-is_meddling (Write session address bytes words) = false
 is_meddling Answer = false
 is_meddling Drain = false
-is_meddling Lost = false
 is_meddling Late = false
-is_meddling Retry = false
 is_meddling Snapshot = false
 
 abbrev pub IsHonest : Option Line → Type 0

@@ -1,31 +1,43 @@
 -- How a machine stands to the run of a script.
-use Rattle.std.specs.Prelude.{◌≡◌, ℕ, ◌+◌, ◌-◌, ◌*◌, ◌<◌, Bool, false, if◌then◌else◌, List, length, ◌++◌, Option, Some, None, is_some, IfSome, ⊤}
+use Rattle.std.specs.Prelude.{◌≡◌, ℕ, ◌+◌, ◌-◌, ◌*◌, ◌<◌, Bool, false, if◌then◌else◌, List, [], length, ◌++◌, Option, Some, None, is_some, IfSome, ⊤}
 use Rattle.std.specs.Io.KnownBytes.{Appends}
 use Rattle.std.specs.List.{FoldsTo}
+use Rattle.oram_geometry.specs.declared.Sizes.{Sizes}
 use Rattle.oram_geometry.specs.Sizes.{IsDevice, trees_of}
 use Rattle.oram_tree.specs.State.{State as Tree}
 use Rattle.oram_run.specs.Formatting.{IsFormatted}
-use Rattle.oram_run.specs.Law.{Steps, new_state}
+use Rattle.oram_run.specs.Law.{Steps as Moving, new_state}
 use Rattle.oram_run.specs.Progress.{Setting}
-use Rattle.oram_run.specs.Run.{is_waiting}
+use Rattle.oram_run.specs.Run.{Shown, is_waiting}
 use Rattle.oram_run.specs.State.{State, status_in}
-use Rattle.oramsim.specs.Script.{Point, Running, Stage, Turn, plain_shape, stage_text, text_at}
+use Rattle.oram_run.specs.declared.events.Event.{Event}
+use Rattle.oram_core.specs.Steps.{Steps}
+use Rattle.oramsim.specs.Printing.{reaction_text}
+use Rattle.oramsim.specs.Script.{Point, Running, Stage, Turn, newest_of, plain_shape, stage_text, text_at}
 use Rattle.oramsim.specs.declared.machine.Machine.{Machine}
 
--- The parts of a machine fit one another: the message that is outstanding is the one that the core waits for the answer to.
-pub record IsWhole (m : Machine) : Type 0 where
-  pub message : is_some m.outstanding ≡ is_waiting (status_in m.core.state)
-  pub latest : IfSome m.outstanding (λ x. x ≡ m.core.state.last)
-  pub rests : length m.core.state.queue ≡ 0 → m.core.state.lost ≡ false
-  pub stage : m.core.state.stage < 2 * trees_of m.core.device
+-- A core and the message that is outstanding: it is the one that the core waits for the answer to.
+pub record IsWhole (d : Sizes) (s : State) (message : Option (List ℕ)) : Type 0 where
+  pub waits : is_some message ≡ is_waiting (status_in s)
+  pub latest : IfSome message (λ m. m ≡ s.last)
+  pub rests : s.failure ≡ None → length s.queue ≡ 0 → s.lost ≡ false
+  pub stage : s.failure ≡ None → s.stage < 2 * trees_of d
+
+abbrev pub IsWholeMachine : Machine → Type 0
+IsWholeMachine m = IsWhole m.core.device m.core.state m.outstanding
 
 -- how many answers the commands without a reply still want
-abbrev pub entries_left : Machine → ℕ
-entries_left m = if is_some m.outstanding then 2 * trees_of m.core.device * length m.core.state.queue - m.core.state.stage + 1 else 0
+abbrev pub answers_left : Sizes → State → Option (List ℕ) → ℕ
+answers_left d s message = if is_some message then 2 * trees_of d * length s.queue - s.stage + 1 else 0
+
+-- A step was made at an event: it shows x, and this is the newest message that it sent.
+pub record IsPlayed (d : Sizes) (s : State) (event : Event) (x : Shown) (sent : Option (List ℕ)) (t : State) : Type 0 where
+  pub steps : Steps (plain_shape d) s event x t
+  pub newest : sent ≡ newest_of x.sends None
 
 -- steps lead from a core just formatted to this one
 abbrev pub LeadsTo : Setting → List Turn → State → Type 0
-LeadsTo v turns s = (trees : List Tree) × IsFormatted v trees × FoldsTo (λ a t b. Steps v.shape a t.event t.shown b) (new_state v trees) turns s
+LeadsTo v turns s = (trees : List Tree) × IsFormatted v trees × FoldsTo (λ a t b. Moving v.shape a t.event t.shown b) (new_state v trees) turns s
 
 -- the machine is at work as the run says
 pub record Stands (r : Running) (m : Machine) : Type 0 where
@@ -38,7 +50,7 @@ pub record Stands (r : Running) (m : Machine) : Type 0 where
 
 abbrev pub AreWhole : Option Machine → Type 0
 AreWhole None = ⊤
-AreWhole (Some m) = IsWhole m
+AreWhole (Some m) = IsWholeMachine m
 
 abbrev pub StandsAt : Stage → Option Machine → Type 0
 StandsAt None None = ⊤
@@ -46,9 +58,13 @@ StandsAt None (Some m) = ⊥
 StandsAt (Some r) None = ⊥
 StandsAt (Some r) (Some m) = Stands r m
 
--- what a run prints between two points
-abbrev pub Tells : Point → Point → Option (List ℕ) → Option (List ℕ) → Type 0
-Tells p q old new = (out : List ℕ) × (text_at q ≡ text_at p ++ out) × Appends old new out
+-- what is printed between two points
+abbrev pub Tells : List ℕ → List ℕ → Option (List ℕ) → Option (List ℕ) → Type 0
+Tells before after old new = (out : List ℕ) × (after ≡ before ++ out) × Appends old new out
 
-abbrev pub TellsAt : Running → Running → Option (List ℕ) → Option (List ℕ) → Type 0
-TellsAt r later old new = (out : List ℕ) × (stage_text (Some later) ≡ stage_text (Some r) ++ out) × Appends old new out
+-- the machine goes on, and so does the run
+abbrev pub GoesOn : Running → Running → Machine → Option (List ℕ) → Option (List ℕ) → Type 0
+GoesOn r later m old new = Stands later m × Tells (stage_text (Some r)) (stage_text (Some later)) old new
+
+abbrev pub GoesOnAt : Point → Point → Option Machine → Option (List ℕ) → Option (List ℕ) → Type 0
+GoesOnAt p q m old new = StandsAt q.stage m × Tells (text_at p) (text_at q) old new

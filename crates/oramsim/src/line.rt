@@ -7,6 +7,7 @@ ghost use Rattle.oramsim.specs.Reading as spec;
 
 use hex::FromHexError;
 use oram_bytes::{Bytes, Words};
+use oram_run::{Command, Event};
 use std::alloc::{AllocError, Global};
 use std::str;
 
@@ -21,31 +22,14 @@ pub enum Line {
         top: u64,
         lifetime: u64,
     },
-    /// A session reads a block.
-    Read {
-        session: u32,
-        address: u32,
-        words: Words,
-    },
-    /// A session writes a block.
-    Write {
-        session: u32,
-        address: u32,
-        bytes: Bytes,
-        words: Words,
-    },
+    /// The device is told this event, of which the server hears nothing.
+    Told(Event),
     /// The server answers the outstanding message.
     Answer,
-    /// These bytes answer the outstanding message, which the server doesn't get.
-    Raw(Bytes),
     /// The server answers until no message is outstanding.
     Drain,
-    /// The outstanding message is lost on its way to the server.
-    Lost,
-    /// The server's answer to the outstanding message is lost on its way back.
+    /// The server gets the outstanding message, and its answer is lost.
     Late,
-    /// A message that counts as lost is sent again.
-    Retry,
     /// The lowest bit of a byte of a stored record flips.
     Tamper {
         tree: u64,
@@ -54,7 +38,7 @@ pub enum Line {
     },
     /// A copy of the server is kept, in place of an earlier one.
     Snapshot,
-    /// The server is the copy again that was kept.
+    /// The server is again the copy that was kept.
     Restore,
 }
 
@@ -156,11 +140,11 @@ fn read_in(alloc: Global, fields: &[&[u8]]) -> Result<Option<Line>, AllocError>
     let Some(words) = words_in(alloc, words)? else {
         return Ok(None);
     };
-    Ok(Some(Line::Read {
+    Ok(Some(Line::Told(Event::Submit {
         session,
-        address,
+        command: Command::Read(address),
         words,
-    }))
+    })))
 }
 
 #[tactic(auto, unfolding(crate::specs::Reading::write_from))]
@@ -179,12 +163,11 @@ fn write_in(alloc: Global, fields: &[&[u8]]) -> Result<Option<Line>, AllocError>
     let Some(words) = words_in(alloc, words)? else {
         return Ok(None);
     };
-    Ok(Some(Line::Write {
+    Ok(Some(Line::Told(Event::Submit {
         session,
-        address,
-        bytes,
+        command: Command::Write(address, bytes),
         words,
-    }))
+    })))
 }
 
 #[tactic(auto, unfolding(crate::specs::Reading::raw_from))]
@@ -197,7 +180,7 @@ fn raw_in(alloc: Global, fields: &[&[u8]]) -> Result<Option<Line>, AllocError>
     let Some(bytes) = bytes_in(alloc, bytes)? else {
         return Ok(None);
     };
-    Ok(Some(Line::Raw(bytes)))
+    Ok(Some(Line::Told(Event::Answer(bytes))))
 }
 
 #[tactic(auto, unfolding(crate::specs::Reading::tamper_from))]
@@ -224,11 +207,11 @@ fn word_line(word: &[u8]) -> Option<Line>
     } else if word == b"drain".as_slice() {
         Some(Line::Drain)
     } else if word == b"lost".as_slice() {
-        Some(Line::Lost)
+        Some(Line::Told(Event::Lost))
     } else if word == b"late".as_slice() {
         Some(Line::Late)
     } else if word == b"retry".as_slice() {
-        Some(Line::Retry)
+        Some(Line::Told(Event::Retry))
     } else if word == b"snapshot".as_slice() {
         Some(Line::Snapshot)
     } else if word == b"restore".as_slice() {

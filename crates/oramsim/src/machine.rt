@@ -1,22 +1,23 @@
 //! A device at work, with its host.
-ghost use Rattle.std.specs.Prelude.{◌≡◌, ◌≢◌, ◌×◌, ℕ, ◌<◌, true, false, List, take, is_some, IfOk, IfErr, OnOk, IsErrOf, Some, None};
+ghost use Rattle.std.specs.Prelude.{◌≡◌, ◌++◌, ℕ, ◌<◌, true, false, List, take, is_some, IfOk, IfErr, OnOk, IsErrOf, MatchBool, Some, None};
 ghost use Rattle.std.specs.Io.KnownBytes.{Appends};
+ghost use Rattle.std.specs.List.{FoldsTo};
 ghost use Rattle.oram_host.specs.Host.{Host};
+ghost use Rattle.oram_host.specs.Flips.{IsByteless, IsFlipped};
 ghost use Rattle.oram_run.specs.Run.{Shown};
-ghost use Rattle.oram_run.specs.declared.events.Command.TheVariants as command;
 ghost use Rattle.oram_run.specs.declared.events.Event.TheVariants as event;
-ghost use Rattle.oram_core.specs.Steps.{Steps};
 ghost use Rattle.oramsim.specs.Printing.{reaction_text};
-ghost use Rattle.oramsim.specs.Script.{Point, Running, AtEvent, IsAnswered, IsDrained, IsUnfit, Obeys, Replies, Starts, after_turn, newest_of, plain_shape, with_host};
-ghost use Rattle.oramsim.specs.Standing.{AreWhole, IsWhole, Stands, StandsAt, Tells, TellsAt, entries_left};
+ghost use Rattle.oramsim.specs.Script.{Point, Running, IsAnswered, IsDrained, IsNew, IsUnfit, Obeys, Replies, Starts, after_turn, with_host};
+ghost use Rattle.oramsim.specs.Script as spec;
+ghost use Rattle.oramsim.specs.Standing.{AreWhole, GoesOn, GoesOnAt, IsPlayed, IsWholeMachine, Stands, StandsAt, answers_left};
 
 use crate::formatting::Handing;
 use crate::line::Line;
 use crate::printing::{FaultText, ReactionText, ReadyText};
 use crate::script::SimFault;
 use oram_bucket::PlainSeal;
-use oram_bytes::{Bytes, Words};
-use oram_core::{Command, Core, Event};
+use oram_bytes::Bytes;
+use oram_core::{Core, Event};
 use oram_geometry::{Device, ShapeFault};
 use oram_host::Server;
 use std::alloc::{AllocError, Global};
@@ -63,6 +64,9 @@ fn play<W: Write>(
     core: &mut Core<PlainSeal>,
     event: &Event,
 ) -> Result<Option<Bytes>, SimFault>
+    ensures device { core.new.device ≡ core.old.device }
+    ensures ok { IfOk result (λ sent. (x : Shown) × IsPlayed core.old.device core.old.state event.now x sent core.new.state
+        × Appends (W.contents writer.old) (W.contents writer.new) (reaction_text x)) }
 {
     let mut reaction = core.step(alloc, event)?;
     let text = format!(in alloc; "{}", ReactionText(&reaction))?;
@@ -70,69 +74,70 @@ fn play<W: Write>(
     Ok(reaction.sends.pop())
 }
 
+/// What an event leaves outstanding: an answer and a loss end the wait for the answer.
+fn left_at(event: &Event, outstanding: Option<Bytes>) -> Option<Bytes>
+    ensures { result ≡ spec.left_at event.now outstanding }
+{
+    match event {
+        Event::Submit { .. } | Event::Retry => outstanding,
+        Event::Answer(_) | Event::Lost => None,
+    }
+}
+
 impl Machine {
-    /// An event of which the outstanding message knows nothing.
-    fn meet<W: Write>(
+    /// Tells the device an event.
+    pub fn tell<W: Write>(
         &mut self,
         alloc: Global,
         writer: &mut W,
         event: &Event,
     ) -> Result<(), SimFault>
+        requires { IsWholeMachine self.old }
+        ensures whole { OnOk result (IsWholeMachine self.new) }
+        ensures left { OnOk result (spec.is_answer event.now ≡ true → is_some self.old.outstanding ≡ true
+            → answers_left self.new.core.device self.new.core.state self.new.outstanding < answers_left self.old.core.device self.old.core.state self.old.outstanding) }
+        ensures ok { (r : Running) → Stands r self.old → OnOk result ((x : Shown) × GoesOn r (after_turn r event.now x) self.new (W.contents writer.old) (W.contents writer.new)) }
     {
         let sent = play(alloc, writer, &mut self.core, event)?;
-        self.outstanding = sent.or(self.outstanding.take());
+        let left = left_at(event, self.outstanding.take());
+        self.outstanding = sent.or(left);
         Ok(())
-    }
-
-    /// An event that ends the wait for an answer.
-    fn settle<W: Write>(
-        &mut self,
-        alloc: Global,
-        writer: &mut W,
-        event: &Event,
-    ) -> Result<(), SimFault>
-    {
-        self.outstanding = play(alloc, writer, &mut self.core, event)?;
-        Ok(())
-    }
-
-    /// A command of a session.
-    pub fn submit<W: Write>(
-        &mut self,
-        alloc: Global,
-        writer: &mut W,
-        session: u32,
-        command: Command,
-        words: Words,
-    ) -> Result<(), SimFault>
-    {
-        let event = Event::Submit {
-            session,
-            command,
-            words,
-        };
-        self.meet(alloc, writer, &event)
     }
 
     /// The bytes by which the host answers the outstanding message. With none outstanding there are none.
     fn answer_of_host(&mut self, alloc: Global) -> Result<Bytes, AllocError>
+        ensures bytes { IfOk result (λ bytes. Replies self.old.server self.old.outstanding bytes self.new.server) }
+        ensures core { self.new.core ≡ self.old.core }
+        ensures outstanding { self.new.outstanding ≡ self.old.outstanding }
+        ensures snapshot { self.new.snapshot ≡ self.old.snapshot }
     {
-        let bytes = match &self.outstanding {
-            Some(message) => self.server.handle(message.as_slice()).encode(alloc)?,
-            None => Vec::new(alloc),
+        let Some(message) = &self.outstanding else {
+            return Ok(Bytes::from_vec(Vec::new(alloc)));
         };
+        let bytes = self.server.handle(message.as_slice()).encode(alloc)?;
         Ok(Bytes::from_vec(bytes))
     }
 
-    /// The host answers the outstanding message. With none outstanding the core is told an answer of no bytes.
+    /// The host answers the outstanding message. With none outstanding the device is told an answer of no bytes.
     pub fn answer<W: Write>(&mut self, alloc: Global, writer: &mut W) -> Result<(), SimFault>
+        requires { IsWholeMachine self.old }
+        ensures whole { OnOk result (IsWholeMachine self.new) }
+        ensures left { OnOk result (is_some self.old.outstanding ≡ true
+            → answers_left self.new.core.device self.new.core.state self.new.outstanding < answers_left self.old.core.device self.old.core.state self.old.outstanding) }
+        ensures ok { (r : Running) → Stands r self.old → OnOk result ((x : Shown) × (later : Running) × IsAnswered r x later
+            × GoesOn r later self.new (W.contents writer.old) (W.contents writer.new)) }
     {
         let bytes = self.answer_of_host(alloc)?;
-        self.settle(alloc, writer, &Event::Answer(bytes))
+        self.tell(alloc, writer, &Event::Answer(bytes))
     }
 
     /// The host answers until no message is outstanding.
     pub fn drain<W: Write>(&mut self, alloc: Global, writer: &mut W) -> Result<(), SimFault>
+        requires { IsWholeMachine self.old }
+        ensures whole { OnOk result (IsWholeMachine self.new) }
+        ensures ok { (r : Running) → Stands r self.old → OnOk result ((xs : List Shown) × (later : Running)
+            × FoldsTo IsDrained r xs later × (later.message ≡ None)
+            × GoesOn r later self.new (W.contents writer.old) (W.contents writer.new)) }
     {
         while self.outstanding.is_some() {
             self.answer(alloc, writer)?;
@@ -142,20 +147,31 @@ impl Machine {
 
     /// The host gets the outstanding message, and its answer is lost.
     pub fn lose_answer<W: Write>(&mut self, alloc: Global, writer: &mut W) -> Result<(), SimFault>
+        requires { IsWholeMachine self.old }
+        ensures whole { OnOk result (IsWholeMachine self.new) }
+        ensures ok { (r : Running) → Stands r self.old → OnOk result ((later : Running) × Obeys r Line.Late later
+            × GoesOn r later self.new (W.contents writer.old) (W.contents writer.new)) }
     {
-        let _bytes = self.answer_of_host(alloc)?;
-        self.settle(alloc, writer, &Event::Lost)
+        let _unheard = self.answer_of_host(alloc)?;
+        self.tell(alloc, writer, &Event::Lost)
     }
 
     /// Keeps a copy of the host.
-    pub fn keep(&mut self, alloc: Global) -> Result<(), SimFault>
+    pub fn keep(&mut self, alloc: Global) -> Result<(), AllocError>
+        requires { IsWholeMachine self.old }
+        ensures whole { OnOk result (IsWholeMachine self.new) }
+        ensures ok { (r : Running) → Stands r self.old → OnOk result ((later : Running) × Obeys r Line.Snapshot later × Stands later self.new) }
     {
         self.snapshot = Some(self.server.copy(alloc)?);
         Ok(())
     }
 
     /// Puts the host back that was kept. False is that none was.
-    pub fn restore(&mut self, alloc: Global) -> Result<bool, SimFault>
+    pub fn restore(&mut self, alloc: Global) -> Result<bool, AllocError>
+        requires { IsWholeMachine self.old }
+        ensures whole { OnOk result (IsWholeMachine self.new) }
+        ensures ok { (r : Running) → Stands r self.old → IfOk result (λ done. MatchBool done ((later : Running) × Obeys r Line.Restore later × Stands later self.new)
+            (r.copy ≡ None)) }
     {
         let Some(kept) = &self.snapshot else {
             return Ok(false);
@@ -164,22 +180,14 @@ impl Machine {
         Ok(true)
     }
 
-    /// Does what a line says of messages and answers.
-    fn pass_on<W: Write>(&mut self, alloc: Global, writer: &mut W, line: Line) -> Result<(), SimFault> {
-        match line {
-            Line::Read { session, address, words } => self.submit(alloc, writer, session, Command::Read(address), words),
-            Line::Write { session, address, bytes, words } => {
-                self.submit(alloc, writer, session, Command::Write(address, bytes), words)
-            }
-            Line::Answer => self.answer(alloc, writer),
-            Line::Raw(bytes) => self.settle(alloc, writer, &Event::Answer(bytes)),
-            Line::Drain => self.drain(alloc, writer),
-            Line::Lost => self.settle(alloc, writer, &Event::Lost),
-            Line::Late => self.lose_answer(alloc, writer),
-            Line::Retry => self.meet(alloc, writer, &Event::Retry),
-            Line::Snapshot => self.keep(alloc),
-            Line::Device { .. } | Line::Tamper { .. } | Line::Restore => Ok(()),
-        }
+    /// Flips the lowest bit of a byte of a record that the host keeps. False is that there is no such byte.
+    pub fn tamper(&mut self, tree: u64, node: u64, offset: u64) -> bool
+        requires { IsWholeMachine self.old }
+        ensures whole { IsWholeMachine self.new }
+        ensures ok { (r : Running) → Stands r self.old → MatchBool result ((later : Running) × Obeys r (Line.Tamper tree node offset) later × Stands later self.new)
+            (IsByteless r.host tree node offset) }
+    {
+        self.server.flip(tree, node, offset)
     }
 
     /// Does what a line says. False is a line that the device doesn't take: a second device, a byte that isn't there or a
@@ -190,17 +198,60 @@ impl Machine {
         writer: &mut W,
         line: Line,
     ) -> Result<bool, SimFault>
+        requires { IsWholeMachine self.old }
+        ensures whole { OnOk result (IsWholeMachine self.new) }
+        ensures ok { (r : Running) → Stands r self.old → result ≡ Ok true → (later : Running) × Obeys r line later
+            × GoesOn r later self.new (W.contents writer.old) (W.contents writer.new) }
+        ensures bad { (r : Running) → Stands r self.old → result ≡ Ok false → IsUnfit r line × (W.contents writer.new ≡ W.contents writer.old) }
     {
         match line {
-            Line::Device { .. } => Ok(false),
-            Line::Tamper { tree, node, offset } => Ok(self.server.flip(tree, node, offset)),
-            Line::Restore => self.restore(alloc),
-            line => {
-                self.pass_on(alloc, writer, line)?;
+            Line::Told(event) => {
+                self.tell(alloc, writer, &event)?;
                 Ok(true)
             }
+            Line::Answer => {
+                self.answer(alloc, writer)?;
+                Ok(true)
+            }
+            Line::Drain => {
+                self.drain(alloc, writer)?;
+                Ok(true)
+            }
+            Line::Late => {
+                self.lose_answer(alloc, writer)?;
+                Ok(true)
+            }
+            Line::Snapshot => {
+                self.keep(alloc)?;
+                Ok(true)
+            }
+            Line::Tamper {
+                tree,
+                node,
+                offset,
+            } => Ok(self.tamper(tree, node, offset)),
+            Line::Restore => Ok(self.restore(alloc)?),
+            Line::Device { .. } => Ok(false),
         }
     }
+}
+
+/// Formats a device, on a host that keeps nothing yet.
+fn formatted(alloc: Global, device: Device) -> Result<Machine, SimFault>
+    ensures whole { IfOk result (λ machine. IsWholeMachine machine) }
+    ensures ok { IfOk result (λ machine. (r : Running) × IsNew device r × Stands r machine) }
+{
+    let mut sink = Handing::new(alloc);
+    // Such a host refuses a formatting for want of memory alone.
+    let Ok(core) = Core::format(alloc, device, PlainSeal, &mut sink) else {
+        return Err(SimFault::OutOfMemory);
+    };
+    Ok(Machine {
+        core,
+        server: sink.into_server(),
+        snapshot: None,
+        outstanding: None,
+    })
 }
 
 /// Makes a device of five numbers and tells how many trees it has, or tells why there is no device.
@@ -209,6 +260,8 @@ pub fn begin<W: Write>(
     writer: &mut W,
     device: Result<Device, ShapeFault>,
 ) -> Result<Option<Machine>, SimFault>
+    ensures whole { IfOk result (λ machine. AreWhole machine) }
+    ensures ok { (head : List ℕ) → IfOk result (λ machine. (q : Point) × Starts head device q × GoesOnAt (record { stage = None; head = head }) q machine (W.contents writer.old) (W.contents writer.new)) }
 {
     match device {
         Ok(device) => {
@@ -224,20 +277,4 @@ pub fn begin<W: Write>(
             Ok(None)
         }
     }
-}
-
-/// Formats a device on a host that keeps nothing yet.
-fn formatted(alloc: Global, device: Device) -> Result<Machine, SimFault>
-{
-    let mut sink = Handing::new(alloc);
-    // Such a host refuses a formatting for want of memory alone.
-    let Ok(core) = Core::format(alloc, device, PlainSeal, &mut sink) else {
-        return Err(SimFault::OutOfMemory);
-    };
-    Ok(Machine {
-        core,
-        server: sink.into_server(),
-        snapshot: None,
-        outstanding: None,
-    })
 }

@@ -4,7 +4,6 @@
 //! what becomes of the messages on their way. What the device replies and sends is printed, a line each.
 #![tactic(auto)]
 
-mod formatting;
 mod line;
 mod machine;
 mod printing;
