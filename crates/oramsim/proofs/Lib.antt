@@ -6,4 +6,6 @@ pub mod Waiting
 pub mod Drained
 pub mod Passing
 pub mod Lines
+pub mod Hosted
+pub mod HostedFormat
 mod Rows
