@@ -8,4 +8,6 @@ pub mod Passing
 pub mod Lines
 pub mod Hosted
 pub mod HostedFormat
+pub mod HostedPast
+pub mod HostedSteps
 mod Rows
