@@ -94,7 +94,7 @@ impl<S: Sealer> Core<S> {
     pub fn is_idle(&self) -> bool
         ensures { result ≡ is_idle (status_in self.now.state) }
     {
-        self.failure.is_none() && self.queue.is_empty()
+        self.queue.is_empty() && self.failure.is_none()
     }
 
     /// Why the device failed, if it did.
@@ -108,14 +108,14 @@ impl<S: Sealer> Core<S> {
     fn is_waiting(&self) -> bool
         ensures { result ≡ is_waiting (status_in self.now.state) }
     {
-        self.failure.is_none() && !self.queue.is_empty() && !self.lost
+        !self.lost && !self.queue.is_empty() && self.failure.is_none()
     }
 
     /// Whether the message sent last counts as lost.
     fn is_stalled(&self) -> bool
         ensures { result ≡ is_stalled (status_in self.now.state) }
     {
-        self.failure.is_none() && !self.queue.is_empty() && self.lost
+        self.lost && !self.queue.is_empty() && self.failure.is_none()
     }
 
     /// Makes one step. Without memory the core stays as it was, and the step may be made again.
