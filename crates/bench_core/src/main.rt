@@ -32,12 +32,19 @@ struct Times {
 }
 
 /// A read or a write of some block, with words of its own.
-fn some_access(alloc: Global, device: &Device, random: &mut ChaCha20Rng) -> Result<Event, AllocError> {
+fn some_access(
+    alloc: Global,
+    device: &Device,
+    random: &mut ChaCha20Rng,
+) -> Result<Event, AllocError> {
     let address = random.next_u32() % device.blocks_in(0).max(1);
     let command = if random.next_u32() % 2 == 0 {
         Command::Read(address)
     } else {
-        Command::Write(address, Bytes::from_vec(vec![in alloc; 7; device.block_bytes()]?))
+        Command::Write(
+            address,
+            Bytes::from_vec(vec![in alloc; 7; device.block_bytes()]?),
+        )
     };
     let mut words = Vec::new(alloc);
     for _ in 0..2 * usize::from(device.trees()) {
@@ -111,11 +118,7 @@ fn access(
 }
 
 /// Makes the accesses to a device just formatted, and prints what they took.
-fn measure(
-    rt: &(impl Alloc<A = Global> + std::rt::Clock + std::io::Stdout),
-    name: &str,
-    device: Device,
-) -> io::Result<()> {
+fn measure(rt: &HostRuntime, name: &str, device: Device) -> io::Result<()> {
     let record_len = device.record_len(0);
     let mut server = Server::new(rt.alloc());
     let Ok(mut core) = Core::format(rt.alloc(), device, PlainSeal, &mut server) else {
@@ -132,4 +135,53 @@ fn measure(
         access(rt, &mut core, &mut server, &command, record_len, &mut times)?;
     }
     report(rt, name, &core, &times)
+}
+
+/// A part of a whole, in hundredths.
+fn hundredths(part: Duration, whole: Duration) -> u128 {
+    part.as_micros() * 100 / whole.as_micros().max(1)
+}
+
+/// Prints what the accesses took, on average, and how many blocks lie in no bucket at the end.
+fn report(rt: &HostRuntime, name: &str, core: &Core<PlainSeal>, times: &Times) -> io::Result<()> {
+    let micros = |time: Duration| time.as_micros() / u128::from(ACCESSES);
+    let whole = times.core.saturating_add(times.host);
+    let ratio = hundredths(times.core, times.hashing);
+    println!(rt; "{name}")?;
+    println!(rt;
+        "  an access: {} us, of which the server {} %",
+        micros(whole),
+        hundredths(times.host, whole)
+    )?;
+    println!(rt; "  the core alone: {} us", micros(times.core))?;
+    println!(rt;
+        "  two hashings of the same bytes: {} us",
+        micros(times.hashing)
+    )?;
+    println!(rt;
+        "  the core is {}.{:02} times these",
+        ratio / 100,
+        ratio % 100
+    )?;
+    for tree in 0..core.device().trees() {
+        println!(rt;
+            "  stash of tree {tree} at the end: {}",
+            core.stash_len(tree)
+        )?;
+    }
+    Ok(())
+}
+
+fn main(rt: HostRuntime) -> io::Result<()> {
+    let wanted = env::args(&rt)?.nth(1);
+    if wanted.is_none_or(|word| word.as_str() != "run") {
+        return println!(rt; "bench_core run");
+    }
+    if let Ok(device) = Device::new(4_096, 4_096, 4, 4_096, 1 << 40) {
+        measure(&rt, "one tree of depth 12, blocks of 4,096 bytes", device)?;
+    }
+    if let Ok(device) = Device::new(64, 16, 4, 4, 1 << 40) {
+        measure(&rt, "three trees, blocks of 16 bytes", device)?;
+    }
+    Ok(())
 }
