@@ -26,7 +26,8 @@ use Rattle.oram_run.specs.State.{no_tree}
 use Rattle.oram_run.proofs.Bounds.{depth_small}
 use Rattle.oram_run.proofs.PostOrder.{Each, Some1, each_append, each_put, some_put, order_cut, order_leaf}
 use Rattle.oram_run.proofs.Formatting.{each_joined, some_joined, left_there}
-use Rattle.oramsim.specs.Hosting.{Serves, Takes, KeepsAll, IsServed}
+use Rattle.oram_host.specs.Serving.{Serves}
+use Rattle.oramsim.specs.Hosting.{Takes, KeepsAll, IsServed}
 use Rattle.oramsim.proofs.Hosted.{kept_same, IsFull}
 
 -- the shape of each tree is one that a host takes

@@ -26,7 +26,8 @@ use Rattle.oram_run.proofs.Bounds.{IsFit, some_trees, depth_small}
 use Rattle.oram_run.proofs.Follows.{AtWork, Live, FollowsAt, Follows}
 use Rattle.oram_run.proofs.Counts.{accepted_cons, again_same, accepted_len, status_is}
 use Rattle.oram_run.proofs.Keeps.{asked_now}
-use Rattle.oramsim.specs.Hosting.{Serves, KeepsAll, IsServed, IsHanded}
+use Rattle.oram_host.specs.Serving.{Serves}
+use Rattle.oramsim.specs.Hosting.{KeepsAll, IsServed, IsHanded}
 use Rattle.oramsim.proofs.Hosted.{IsGood, IsFull, handed}
 
 -- an entry asks for a path of the device

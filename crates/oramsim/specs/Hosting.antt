@@ -1,13 +1,11 @@
 -- An honest host: what it answers to the messages of a run, and what it keeps of them.
-use Rattle.std.specs.Prelude.{◌≡◌, ◌⊎◌, ℕ, ◌<◌, false, List, [], ◌∷◌, Some, None}
+use Rattle.std.specs.Prelude.{◌≡◌, ◌⊎◌, ℕ, ◌<◌, List, [], ◌∷◌, Some, None}
 use Rattle.std.specs.List.{AllByRecursion}
 use Rattle.oram_geometry.specs.Sizes.{trees_of, depth_of}
-use Rattle.oram_wire.specs.HostMessages.{request_body, answer_body}
-use Rattle.oram_wire.specs.HostReading.{HasNumbers, IsMisfit, names_request}
-use Rattle.oram_wire.specs.declared.host_messages.HostRequest.{HostRequest}
+use Rattle.oram_wire.specs.HostMessages.{answer_body}
 use Rattle.oram_wire.specs.declared.host_messages.HostAnswer.{HostAnswer}
-use Rattle.oram_wire.specs.declared.host_messages.HostAnswer.TheVariants.{Done, Refused}
-use Rattle.oram_host.specs.Answers.{Answers}
+use Rattle.oram_wire.specs.declared.host_messages.HostAnswer.TheVariants.{Done}
+use Rattle.oram_host.specs.Serving.{Serves}
 use Rattle.oram_host.specs.Host.{Host, Kept, record_of, tree_at}
 use Rattle.oram_tree.specs.Content.{node_count}
 use Rattle.oram_run.specs.Shape.{Shape, record_len}
@@ -17,12 +15,6 @@ use Rattle.oram_run.specs.Progress.Status.{Idle, Waiting, Stalling, Over}
 use Rattle.oram_run.specs.Moves.{records_after}
 use Rattle.oram_run.specs.declared.events.Event.{Event}
 use Rattle.oram_run.specs.declared.events.Event.TheVariants.{Submit, Answer, Lost, Retry}
-
--- The host is handed a body, answers it so, and is this afterwards.
-pub record Serves (host : Host) (body : List ℕ) (answer : HostAnswer) (after : Host) : Type 0 where
-  pub request : (message : HostRequest) → HasNumbers message → body ≡ request_body message → Answers host message answer after
-  pub op : names_request body ≡ false → (answer ≡ Refused 7) × (after ≡ host)
-  pub misfit : IsMisfit body → (answer ≡ Refused 4) × (after ≡ host)
 
 -- a body that the host carries out
 abbrev pub Takes : Host → List ℕ → Host → Type 0
