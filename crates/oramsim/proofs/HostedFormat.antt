@@ -1,5 +1,5 @@
 -- A host is formatted: it takes each message, unless it has no room, and then keeps each tree whole.
-use Rattle.std.proofs.Common.{◌≡◌, ◌⊎◌, ℕ, ◌+◌, ◌-◌, ◌*◌, ◌^◌, ◌<◌, ◌≤◌, List, [], ◌∷◌, ◌++◌, length, map, slice_index_or, append_assoc, Option, Some, None, refl, ap, sym, ◌∙◌, subst, arith, inl, inr, zero, suc}
+use Rattle.std.proofs.Common.{◌≡◌, ◌⊎◌, ℕ, ◌+◌, ◌-◌, ◌*◌, ◌^◌, ◌<◌, ◌≤◌, List, [], ◌∷◌, ◌++◌, length, map, slice_index_or, append_assoc, Option, Some, None, unwrap_or, refl, ap, sym, ◌∙◌, subst, arith, inl, inr, zero, suc}
 use Rattle.std.specs.Prelude.{MatchOption}
 use Rattle.std.specs.List.{flat_map}
 use Rattle.std.proofs.Math.Nat.{pow-le-pow_right, mul-le-mul_left}
@@ -17,7 +17,12 @@ use Rattle.oram_host.specs.Answers.{Answers, IsPut, IsShaped}
 use Rattle.oram_host.specs.Host.{Host, IsShape, Kept, record_of, tree_at}
 use Rattle.oram_host.specs.Refusals.{RefusesPut, RefusesShape, code_of}
 use Rattle.oram_tree.specs.Content.{node_count}
-use Rattle.oram_tree.specs.Format.{PutsAll, post_order}
+use Rattle.oram_tree.specs.Faults.{format_fault}
+use Rattle.oram_tree.specs.Format.{PutsAll, IsBrokenOff, post_order}
+use Rattle.oram_tree.specs.declared.faults.FormatFault.{FormatFault}
+use Rattle.oram_tree.specs.declared.faults.FormatFault.TheVariants as formatting
+use Rattle.oram_wire.specs.declared.sinks.SinkFault.{SinkFault}
+use Rattle.oram_wire.specs.declared.sinks.SinkFault.TheVariants as sinking
 use Rattle.oram_tree.specs.State.{State as Tree}
 use Rattle.oram_run.specs.Shape.{Shape, record_len}
 use Rattle.oram_run.specs.Formatting.{IsTreeMade, AreTreesMade, IsFormatted, IsFormatBegun}
@@ -26,8 +31,8 @@ use Rattle.oram_run.specs.State.{no_tree}
 use Rattle.oram_run.proofs.Bounds.{depth_small}
 use Rattle.oram_run.proofs.PostOrder.{Each, Some1, each_append, each_put, some_put, order_cut, order_leaf}
 use Rattle.oram_run.proofs.Formatting.{each_joined, some_joined, left_there}
-use Rattle.oram_host.specs.Serving.{Serves}
-use Rattle.oramsim.specs.Hosting.{Takes, KeepsAll, IsServed}
+use Rattle.oram_host.specs.Serving.{Serves, fault_by}
+use Rattle.oramsim.specs.Hosting.{Refusing, Takes, KeepsAll, IsServed}
 use Rattle.oramsim.proofs.Hosted.{kept_same, IsFull}
 
 -- the shape of each tree is one that a host takes
@@ -410,3 +415,21 @@ format_taken v taken body host after answer device light begun puts serves =
     (all_grow v (trees_of v.device) begun.1 ((taken ++ body ∷ []) ++ begun.0) begun.2) in
     let m : Midway v (body ∷ begun.0) (trees_of v.device) host = midway v 0 (trees_of v.device) taken (body ∷ begun.0) [] host fits (no_shapes v) grows puts in
     next_taken v m.count (trees_of v.device) body begun.0 host after answer fits m.shapes m.left serves
+
+room_alone : (answer : HostAnswer) (why : SinkFault) (host after : Host) → (answer ≡ Done) ⊎ IsFull host answer after
+    → fault_by answer ≡ Some why → format_fault why ≡ formatting.OutOfMemory
+room_alone answer why host after (inl done) is = absurd (some_none (fault_by answer) why is (ap fault_by done))
+room_alone answer why host after (inr full) is = ap format_fault (why_is why (sym is ∙ ap fault_by full.refused))
+  where
+    why_is : (w : SinkFault) → Some w ≡ Some sinking.OutOfMemory → w ≡ sinking.OutOfMemory
+    why_is w e = ap (λ (o : Option SinkFault). unwrap_or o sinking.OutOfMemory) e
+
+-- So the formatting of a new server is broken off for want of memory alone.
+pub broken_off_for_room : (v : Shape) (fault : FormatFault) (to : Host) → IsDevice v.device → v.overhead ≤ 64
+    → IsBrokenOff Takes Refusing (IsFormatBegun v) [] fault to → fault ≡ formatting.OutOfMemory
+broken_off_for_room v fault to device light broken = elim broken.ended [
+  | inl elsewhere ↦ elsewhere.0
+  | inr refused ↦
+      let by = refused.refused in
+      refused.told ∙ room_alone by.0 refused.why broken.mid to (format_taken v broken.taken refused.body broken.mid to by.0 device light refused.begun broken.puts by.1) by.2
+]

@@ -27,7 +27,7 @@ use Rattle.oram_run.proofs.Follows.{AtWork, Live, FollowsAt, Follows}
 use Rattle.oram_run.proofs.Counts.{accepted_cons, again_same, accepted_len, status_is}
 use Rattle.oram_run.proofs.Keeps.{asked_now}
 use Rattle.oram_host.specs.Serving.{Serves}
-use Rattle.oramsim.specs.Hosting.{KeepsAll, IsServed, IsHanded}
+use Rattle.oramsim.specs.Hosting.{KeepsAll, IsServed}
 use Rattle.oramsim.proofs.Hosted.{IsGood, IsFull, handed}
 
 -- an entry asks for a path of the device
@@ -66,26 +66,25 @@ good_few v past s alive f =
     let l = live_by v past s f.old s.failure alive f.follows in
     few_by v past f.old s s.queue l.1 refl l.1.work
 
--- the message that is outstanding
-pub record Outstanding (v : Setting) (past : List Step) : Type 0 where
-  pub message : List ℕ
+-- the message m is outstanding
+pub record Outstanding (v : Setting) (past : List Step) (m : List ℕ) : Type 0 where
   pub older : List (List ℕ)
-  pub latest : sent past ≡ message ∷ older
-  pub asks : asked message ≡ entry_at v past (progress v past).good
+  pub latest : sent past ≡ m ∷ older
+  pub asks : asked m ≡ entry_at v past (progress v past).good
 
 out_by : (v : Setting) (past : List Step) (old : List Submission) (s : State) (queue : List Submission) → IsFit v.shape.device
     → Live v past old s → s.failure ≡ None → s.queue ≡ queue → AtWork v past old s queue → status v past ≡ Waiting
-    → Outstanding v past
+    → Outstanding v past s.last
 out_by v past old s [] fit l healthy qu w waits =
     let idle : status v past ≡ Idle =
     status_is v past old s fit l healthy ∙ ap (λ (f : Option Reason). status_by f s.queue s.lost) healthy
     ∙ ap (λ (q : List Submission). status_by None q s.lost) qu in
     absurd (let both : Idle ≡ Waiting = sym idle ∙ waits in let no_way : ⊥ = cc in no_way)
 out_by v past old s (x ∷ rest) fit l healthy qu w waits =
-    record { message = s.last; older = w.older; latest = w.latest; asks = asked_now v past old rest s x l qu w }
+    record { older = w.older; latest = w.latest; asks = asked_now v past old rest s x l qu w }
 
 pub outstanding : (v : Setting) (past : List Step) (s : State) → IsFit v.shape.device → (progress v past).failure ≡ None
-    → Follows v past s → status v past ≡ Waiting → Outstanding v past
+    → Follows v past s → status v past ≡ Waiting → Outstanding v past s.last
 outstanding v past s fit alive f waits =
     let l = live_by v past s f.old s.failure alive f.follows in
     out_by v past f.old s s.queue fit l.1 l.0 refl l.1.work waits
@@ -133,12 +132,10 @@ met_by v past host after answer m records leaves keeps whole asks serves =
     (entry_fits d (addresses (accepted past)) (tape (accepted past)) (progress v past).good)
     keeps (subst (λ (x : Entry). IsMessage v.shape x m) asks whole) serves)
 
-pub met_now : (v : Setting) (past : List Step) (host after : Host) (answer : HostAnswer) → Outstanding v past → IsServed v past host
-    → IsHanded past host answer after → Met v past host answer after
-met_now v past host after answer out h hand =
-    let m : List ℕ = out.message in
+pub met_now : (v : Setting) (past : List Step) (m : List ℕ) (host after : Host) (answer : HostAnswer) → Outstanding v past m
+    → IsServed v past host → Serves host m answer after → Met v past host answer after
+met_now v past m host after answer out h serves =
     let whole : IsMessage v.shape (asked m) m = (subst (AllByRecursion (λ x. IsMessage v.shape (asked x) x)) out.latest h.whole).0 in
-    let serves : Serves host m answer after = subst (λ (x : List ℕ). Serves host x answer after) (ap first_of (sym hand.latest ∙ out.latest)) hand.serves in
     elim h.keeps [
       | inl kept ↦ met_by v past host after answer m (records_of v past) (sym (again v past m out.older out.latest)) kept whole out.asks serves
       | inr lack ↦ met_by v past host after answer m lack.records (lack.leaves ∙ ap (λ x. records_after v.shape lack.records (x ∷ [])) (ap first_of (sym lack.latest ∙ out.latest))) lack.keeps whole out.asks serves

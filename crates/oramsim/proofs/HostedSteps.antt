@@ -28,7 +28,9 @@ use Rattle.oram_run.proofs.Follows.{Follows}
 use Rattle.oram_run.proofs.Counts.{progress_cons, sent_cons, records_more, asked_is}
 use Rattle.oram_run.proofs.Keeps.{Kept, records_quiet}
 use Rattle.oram_run.proofs.Going.{one_step}
-use Rattle.oramsim.specs.Hosting.{KeepsAll, IsServed, IsHonestBy, IsHonest}
+use Rattle.oram_run.proofs.Told.{status_told}
+use Rattle.oram_run.specs.State.{status_in}
+use Rattle.oramsim.specs.Hosting.{KeepsAll, IsServed, IsHonest}
 use Rattle.oramsim.proofs.Hosted.{full_outcome, full_apart}
 use Rattle.oramsim.proofs.HostedPast.{entry_fits, good_few, outstanding, waits_missing, first_of, again, Met, met_now, handed_served, onward, progress_next, IsBare, entries_same, entries_more, quiet_sends, next_sends}
 
@@ -147,12 +149,12 @@ submit_calm : (n : ℕ) (o : Option Refusal) → (is_resent (submit_note n o) �
 submit_calm n None = (refl, refl)
 submit_calm n (Some e) = (refl, refl)
 
-submit_host : (st : Status) (past : List Step) (session : ℕ) (c : Command) (w : List ℕ) (host after : Host)
-    → IsHonestBy st past (Submit session c w) host after → after ≡ host
-submit_host Idle past session c w host after is = is
-submit_host Waiting past session c w host after is = is
-submit_host Stalling past session c w host after is = is
-submit_host Over past session c w host after is = is
+submit_host : (st : Status) (m : List ℕ) (session : ℕ) (c : Command) (w : List ℕ) (host after : Host)
+    → IsHonest st m (Submit session c w) host after → after ≡ host
+submit_host Idle m session c w host after is = is
+submit_host Waiting m session c w host after is = is
+submit_host Stalling m session c w host after is = is
+submit_host Over m session c w host after is = is
 
 no_lack : (v : Setting) (past : List Step) (host : Host) → IsServed v past host → (progress v past).good ≡ entries v past
     → KeepsAll v.shape (records_of v past) host
@@ -252,7 +254,7 @@ heard v past bytes host after answer waits some is h (inr full) =
     }
 
 answer_meets : (v : Setting) (past : List Step) (s : State) (bytes : List ℕ) (host after : Host) (st : Status) → IsFit v.shape.device
-    → Follows v past s → IsServed v past host → status v past ≡ st → IsHonestBy st past (Answer bytes) host after
+    → Follows v past s → IsServed v past host → status v past ≡ st → IsHonest st s.last (Answer bytes) host after
     → Meets v past (Answer bytes) after
 answer_meets v past s bytes host after Idle fit f h is honest = unheard v past bytes host after Idle is refl refl refl h honest
 answer_meets v past s bytes host after Stalling fit f h is honest = unheard v past bytes host after Stalling is refl refl refl h honest
@@ -260,12 +262,12 @@ answer_meets v past s bytes host after Over fit f h is honest = unheard v past b
 answer_meets v past s bytes host after Waiting fit f h is honest =
     heard v past bytes host after honest.0 is
     (waits_missing v past s h.alive f (λ idle. absurd (let both : Waiting ≡ Idle = sym is ∙ idle in let no_way : ⊥ = cc in no_way)))
-    honest.1 h (met_now v past host after honest.0 (outstanding v past s fit h.alive f is) h honest.2)
+    honest.1 h (met_now v past s.last host after honest.0 (outstanding v past s fit h.alive f is) h honest.2)
 
 -- a loss
 
 loss_meets : (v : Setting) (past : List Step) (s : State) (host after : Host) (st : Status) → IsFit v.shape.device
-    → Follows v past s → IsServed v past host → status v past ≡ st → IsHonestBy st past Lost host after
+    → Follows v past s → IsServed v past host → status v past ≡ st → IsHonest st s.last Lost host after
     → Meets v past Lost after
 loss_meets v past s host after st fit f h is honest = record {
   apart = refl;
@@ -299,13 +301,13 @@ loss_meets v past s host after st fit f h is honest = record {
     alive Stalling = h.alive
     alive Over = h.alive
 
-    served : (q : Status) → status v past ≡ q → IsHonestBy q past Lost host after → IsServed v past after
+    served : (q : Status) → status v past ≡ q → IsHonest q s.last Lost host after → IsServed v past after
     served Idle e same = subst (IsServed v past) (sym same) h
     served Stalling e same = subst (IsServed v past) (sym same) h
     served Over e same = subst (IsServed v past) (sym same) h
     served Waiting e (inl same) = subst (IsServed v past) (sym same) h
     served Waiting e (inr late) =
-        handed_served v past host after late.0 h (met_now v past host after late.0 (outstanding v past s fit h.alive f e) h late.1)
+        handed_served v past host after late.0 h (met_now v past s.last host after late.0 (outstanding v past s fit h.alive f e) h late.1)
 
 -- a retry
 
@@ -320,12 +322,12 @@ unasked v past host after st is note stays h same =
       next = quiet_next v past Retry after (λ t. refl) (ap is_resent said) (ap (λ (q : Progress). q.good) p) (ap (λ (q : Progress). q.failure) p ∙ h.alive) (subst (IsServed v past) (sym same) h);
     }
 
-retry_meets : (v : Setting) (past : List Step) (host after : Host) (st : Status) → IsServed v past host → status v past ≡ st
-    → IsHonestBy st past Retry host after → Meets v past Retry after
-retry_meets v past host after Idle h is same = unasked v past host after Idle is refl refl h same
-retry_meets v past host after Waiting h is same = unasked v past host after Waiting is refl refl h same
-retry_meets v past host after Over h is same = unasked v past host after Over is refl refl h same
-retry_meets v past host after Stalling h is same =
+retry_meets : (v : Setting) (past : List Step) (m : List ℕ) (host after : Host) (st : Status) → IsServed v past host
+    → status v past ≡ st → IsHonest st m Retry host after → Meets v past Retry after
+retry_meets v past m host after Idle h is same = unasked v past host after Idle is refl refl h same
+retry_meets v past m host after Waiting h is same = unasked v past host after Waiting is refl refl h same
+retry_meets v past m host after Over h is same = unasked v past host after Over is refl refl h same
+retry_meets v past m host after Stalling h is same =
     let p : progress_next v past Retry ≡ record { good = (progress v past).good; lost = false; failure = None } =
     ap (λ (q : Status). after_retry (progress v past) q) is in
     let said : note_of v past Retry ≡ Resent = ap retry_note is in
@@ -342,9 +344,9 @@ retry_meets v past host after Stalling h is same =
 
 -- any event
 meets : (v : Setting) (past : List Step) (s : State) (event : Event) (host after : Host) → IsFit v.shape.device
-    → Follows v past s → IsServed v past host → IsHonest v past event host after → Meets v past event after
+    → Follows v past s → IsServed v past host → IsHonest (status v past) s.last event host after → Meets v past event after
 meets v past s (Submit session c w) host after fit f h honest =
-    let same : after ≡ host = submit_host (status v past) past session c w host after honest in
+    let same : after ≡ host = submit_host (status v past) s.last session c w host after honest in
     record {
       apart = refl;
       calm = (submit_calm (length (accepted past)) (refusal_of v.shape.device (is_over (status v past)) (length (accepted past) - answered_tickets v past) (length (accepted past)) c w)).1;
@@ -352,7 +354,7 @@ meets v past s (Submit session c w) host after fit f h honest =
     }
 meets v past s (Answer bytes) host after fit f h honest = answer_meets v past s bytes host after (status v past) fit f h refl honest
 meets v past s Lost host after fit f h honest = loss_meets v past s host after (status v past) fit f h refl honest
-meets v past s Retry host after fit f h honest = retry_meets v past host after (status v past) h refl honest
+meets v past s Retry host after fit f h honest = retry_meets v past s.last host after (status v past) h refl honest
 
 -- One step of a core that follows the past, over an honest host: it is right, shows no pair, fails nothing, and the host serves the
 -- longer past.
@@ -364,8 +366,10 @@ pub record IsStepServed (v : Setting) (past : List Step) (event : Event) (x : Sh
 
 pub step_served : (v : Setting) (past : List Step) (s t : State) (event : Event) (x : Shown) (host after : Host)
     → IsFit v.shape.device → Follows v past s → Steps v.shape s event x t → IsServed v past host
-    → IsHonest v past event host after → IsStepServed v past event x t after
+    → IsHonest (status_in s) s.last event host after → IsStepServed v past event x t after
 step_served v past s t event x host after fit f step h honest =
-    let m : Meets v past event after = meets v past s event host after fit f h honest in
+    let told : IsHonest (status v past) s.last event host after =
+    subst (λ (st : Status). IsHonest st s.last event host after) (status_told v past s fit f) honest in
+    let m : Meets v past event after = meets v past s event host after fit f h told in
     let k : Kept v past event x t = one_step v past s t event x fit f step m.apart in
     record { apart = m.apart; calm = ap fails_now k.right.note ∙ m.calm; kept = k; served = m.next x k.right }

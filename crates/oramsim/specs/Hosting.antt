@@ -5,12 +5,13 @@ use Rattle.oram_geometry.specs.Sizes.{trees_of, depth_of}
 use Rattle.oram_wire.specs.HostMessages.{answer_body}
 use Rattle.oram_wire.specs.declared.host_messages.HostAnswer.{HostAnswer}
 use Rattle.oram_wire.specs.declared.host_messages.HostAnswer.TheVariants.{Done}
-use Rattle.oram_host.specs.Serving.{Serves}
+use Rattle.oram_wire.specs.declared.sinks.SinkFault.{SinkFault}
+use Rattle.oram_host.specs.Serving.{Serves, fault_by}
 use Rattle.oram_host.specs.Host.{Host, Kept, record_of, tree_at}
 use Rattle.oram_tree.specs.Content.{node_count}
 use Rattle.oram_run.specs.Shape.{Shape, record_len}
 use Rattle.oram_run.specs.Messages.{IsMessage, asked}
-use Rattle.oram_run.specs.Progress.{Setting, Step, Status, sent, records_of, entries, progress, status}
+use Rattle.oram_run.specs.Progress.{Setting, Step, Status, sent, records_of, entries, progress}
 use Rattle.oram_run.specs.Progress.Status.{Idle, Waiting, Stalling, Over}
 use Rattle.oram_run.specs.Moves.{records_after}
 use Rattle.oram_run.specs.declared.events.Event.{Event}
@@ -48,29 +49,23 @@ pub record IsServed (v : Setting) (past : List Step) (host : Host) : Type 0 wher
   pub whole : AllByRecursion (λ m. IsMessage v.shape (asked m) m) (sent past)
   pub keeps : KeepsAll v.shape (records_of v past) host ⊎ LacksLast v past host
 
--- the message sent last comes to the host, which answers it so
-pub record IsHanded (past : List Step) (host : Host) (answer : HostAnswer) (after : Host) : Type 0 where
-  pub message : List ℕ
-  pub older : List (List ℕ)
-  pub latest : sent past ≡ message ∷ older
-  pub serves : Serves host message answer after
+-- What an event has to do with the host while a message is outstanding: an answer is the host's to that message, and a loss is
+-- that of the message, or of its answer.
+abbrev pub IsHonestWaiting : List ℕ → Event → Host → Host → Type 0
+IsHonestWaiting message (Answer bytes) host after =
+    (answer : HostAnswer) × (bytes ≡ answer_body answer) × Serves host message answer after
+IsHonestWaiting message Lost host after = (after ≡ host) ⊎ ((answer : HostAnswer) × Serves host message answer after)
+IsHonestWaiting message Retry host after = after ≡ host
+IsHonestWaiting message (Submit s c w) host after = after ≡ host
 
--- what an event has to do with the host while a message is outstanding: an answer is the host's, and a loss is that of the
--- message or of its answer
-abbrev pub IsHonestAt : List Step → Event → Host → Host → Type 0
-IsHonestAt past (Answer bytes) host after =
-    (answer : HostAnswer) × (bytes ≡ answer_body answer) × IsHanded past host answer after
-IsHonestAt past Lost host after = (after ≡ host) ⊎ ((answer : HostAnswer) × IsHanded past host answer after)
-IsHonestAt past Retry host after = after ≡ host
-IsHonestAt past (Submit s c w) host after = after ≡ host
+-- At an event the host does what an honest one does, where the core has this status and sent this message last: otherwise
+-- nothing comes to it.
+abbrev pub IsHonest : Status → List ℕ → Event → Host → Host → Type 0
+IsHonest Waiting message event host after = IsHonestWaiting message event host after
+IsHonest Idle message event host after = after ≡ host
+IsHonest Stalling message event host after = after ≡ host
+IsHonest Over message event host after = after ≡ host
 
--- otherwise nothing comes to it
-abbrev pub IsHonestBy : Status → List Step → Event → Host → Host → Type 0
-IsHonestBy Waiting past event host after = IsHonestAt past event host after
-IsHonestBy Idle past event host after = after ≡ host
-IsHonestBy Stalling past event host after = after ≡ host
-IsHonestBy Over past event host after = after ≡ host
-
--- at this event the host does what an honest one does
-abbrev pub IsHonest : Setting → List Step → Event → Host → Host → Type 0
-IsHonest v past event host after = IsHonestBy (status v past) past event host after
+-- how a server that is formatted refuses a body
+abbrev pub Refusing : Host → List ℕ → SinkFault → Host → Type 0
+Refusing host body fault after = (answer : HostAnswer) × Serves host body answer after × (fault_by answer ≡ Some fault)
