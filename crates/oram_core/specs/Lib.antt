@@ -3,3 +3,4 @@ pub mod Doing
 pub mod Rooms
 pub mod Verdicts
 pub mod Steps
+pub mod Formatting

@@ -1,11 +1,16 @@
 //! The formatting of a device.
+ghost use Rattle.std.specs.Prelude.{◌≡◌, ◌≢◌, Err, IfOk, IfErr};
+ghost use Rattle.oram_tree.specs.Format.{IsBrokenOff};
+ghost use Rattle.oram_run.specs.Formatting.{IsFormatBegun};
+ghost use Rattle.oram_core.specs.Core.{CoreValue};
+ghost use Rattle.oram_core.specs.Formatting.{IsNew, shape_with};
 
 use crate::machine::Core;
 use oram_bucket::Sealer;
 use oram_bytes::Bytes;
 use oram_geometry::Device;
 use oram_tree::{FormatFault, Tree};
-use oram_wire::Sink;
+use oram_wire::{Sink, SinkFault};
 use std::alloc::{AllocError, Global};
 use std::collections::VecDeque;
 
@@ -36,7 +41,15 @@ impl<S: Sealer> Core<S> {
         device: Device,
         sealer: S,
         sink: &mut K,
-    ) -> Result<Core<S>, FormatFault> {
+    ) -> Result<Core<S>, FormatFault>
+        ensures memory { result ≢ Err (FormatFault.Sink SinkFault.OutOfMemory) }
+        ensures device { IfOk result (λ c. c.device ≡ device) }
+        ensures sealer { IfOk result (λ c. c.sealer ≡ sealer) }
+        ensures made { let v = shape_with S.overhead S.sealing S.opening device sealer in
+            IfOk result (λ c. IsNew v K.putting sink.old c.state sink.new) }
+        ensures broken_off { let v = shape_with S.overhead S.sealing S.opening device sealer in
+            IfErr result (λ fault. IsBrokenOff K.putting K.refusing (IsFormatBegun v) sink.old fault sink.new) }
+    {
         let (trees, nonce) = format_trees(alloc, &device, &sealer, sink)?;
         let blocks = device.blocks_in(device.trees() - 1) as usize;
         let table = vec![in alloc; 0; blocks]?;

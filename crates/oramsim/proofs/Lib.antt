@@ -4,4 +4,8 @@ pub mod Writes
 pub mod Lines
 pub mod Whole
 pub mod Turning
+pub mod Hosted
+pub mod HostedFormat
+pub mod HostedPast
+pub mod HostedSteps
 mod Rows
