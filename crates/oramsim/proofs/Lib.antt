@@ -8,4 +8,9 @@ pub mod Hosted
 pub mod HostedFormat
 pub mod HostedPast
 pub mod HostedSteps
+pub mod Faithful
+pub mod Answering
+pub mod Drained
+pub mod Meddling
+pub mod Obeyed
 mod Rows

@@ -1,5 +1,5 @@
 -- One more turn of a run.
-use Rattle.std.proofs.Common.{◌≡◌, ℕ, List, [], ◌∷◌, ◌++◌, Option, Some, None, refl, sym, ap, ◌∙◌, subst, append-nil, append_assoc, map}
+use Rattle.std.proofs.Common.{◌≡◌, ℕ, List, [], ◌∷◌, ◌++◌, Option, Some, None, Result, Ok, Err, OnOk, refl, sym, ap, ◌∙◌, subst, append-nil, append_assoc, map}
 use Rattle.std.specs.Io.KnownBytes.{Appends}
 use Rattle.std.specs.List.{flat_map, FoldsTo}
 use Rattle.std.specs.Option.{option_or}
@@ -29,7 +29,7 @@ turn_text r e x =
     let turn : Turn = record { event = e; shown = x } in
     ap (flat_map reaction_text) (map-append (λ (t : Turn). t.shown) r.turns (turn ∷ [])) ∙ (flat_map-append reaction_text (all_shown r) (x ∷ []) ∙ ap (λ l. stage_text (Some r) ++ l) (append-nil (reaction_text x)))
 
-moving : (v w : Shape) (s t : State) (e : Event) (x : Shown) → w ≡ v → Steps v s e x t → Moving w s e x t
+pub moving : (v w : Shape) (s t : State) (e : Event) (x : Shown) → w ≡ v → Steps v s e x t → Moving w s e x t
 moving v w s t e x same step = subst (λ (u : Shape). Moving u s e x t) (sym same) step.moves
 
 pub goes_on : (r : Running) (m n : Machine) (e : Event) (x : Shown) (sent old new : Option (List ℕ)) → Stands r m → IsPlayed m.core.device m.core.state e x sent n.core.state
@@ -45,9 +45,7 @@ goes_on r m n e x sent old new f played device out server snapshot wrote = (
     host = server ∙ f.host;
     copy = snapshot ∙ f.copy;
   },
-  reaction_text x,
-  turn_text r e x,
-  wrote,
+  (reaction_text x, turn_text r e x, wrote),
 )
 
 -- nothing more is printed
@@ -56,3 +54,7 @@ silent a b old e = ([], e ∙ sym (append-nil a), Appends-nil old)
 
 pub tells_more : (a b c : List ℕ) (old mid new : Option (List ℕ)) → Tells a b old mid → Tells b c mid new → Tells a c old new
 tells_more a b c old mid new p q = (p.0 ++ q.0, q.1 ∙ (ap (λ l. l ++ q.0) p.1 ∙ append_assoc a p.0 q.0), Appends-trans old mid new p.0 q.0 p.2 q.2)
+
+pub on_ok : {T E : Type 0} (P Q : Type 0) (r : Result T E) → (P → Q) → OnOk r P → OnOk r Q
+on_ok P Q (Ok x) f p = f p
+on_ok P Q (Err e) f p = tt

@@ -1,22 +1,23 @@
 -- The run of a script: what its lines make a device and its host do, and what is printed.
-use Rattle.std.specs.Prelude.{◌≡◌, ◌≢◌, ℕ, ◌+◌, Bool, true, false, List, [], ◌∷◌, ◌++◌, length, map, Option, Some, None, Result, Ok, Err, ⊤}
+use Rattle.std.specs.Prelude.{◌≡◌, ◌≢◌, ℕ, ◌+◌, Bool, true, false, List, [], ◌∷◌, ◌++◌, length, map, take, codes, Option, Some, None, Result, Ok, Err, ⊤}
 use Rattle.std.specs.List.{All, flat_map, FoldsTo}
 use Rattle.oram_geometry.specs.declared.Sizes.{Sizes}
 use Rattle.oram_geometry.specs.declared.ShapeFault.{ShapeFault}
 use Rattle.oram_geometry.specs.Sizes.{device_of, trees_of}
 use Rattle.oram_wire.specs.HostMessages.{answer_body}
 use Rattle.oram_wire.specs.declared.host_messages.HostAnswer.{HostAnswer}
-use Rattle.oram_wire.specs.declared.host_messages.HostAnswer.TheVariants.{Done}
 use Rattle.oram_host.specs.Host.{Host}
 use Rattle.oram_host.specs.Flips.{IsFlipped, IsByteless}
+use Rattle.oram_host.specs.Serving.{Serves}
+use Rattle.oram_tree.specs.Format.{PutsAll}
 use Rattle.oram_tree.specs.State.{State as Tree}
 use Rattle.oram_run.specs.Shape.{Shape}
 use Rattle.oram_run.specs.Progress.{Setting}
 use Rattle.oram_run.specs.Formatting.{IsFormatted}
-use Rattle.oram_run.specs.Run.{Shown, AllRight, fails_now}
+use Rattle.oram_run.specs.Run.{Shown, AllRight}
 use Rattle.oram_run.specs.declared.events.Event.{Event}
 use Rattle.oram_run.specs.declared.events.Event.TheVariants as event
-use Rattle.oramsim.specs.Hosting.{Serves}
+use Rattle.oramsim.specs.Hosting.{Takes}
 use Rattle.oramsim.specs.Printing.{reaction_text, ready_text, shape_text, error_text}
 use Rattle.oramsim.specs.Reading.{lines_of, line_of}
 use Rattle.oramsim.specs.declared.line.Line.{Line}
@@ -88,10 +89,6 @@ Obeys r (Tamper tree node offset) after = (host : Host) × IsFlipped r.host tree
 Obeys r Snapshot after = after ≡ record r { copy = Some r.host }
 Obeys r Restore after = (host : Host) × (r.copy ≡ Some host) × (after ≡ with_host r host)
 
--- the host is done with each message of a list
-abbrev pub TakesAll : Host → List (List ℕ) → Host → Type 0
-TakesAll host messages after = FoldsTo (λ old message new. Serves old message Done new) host messages after
-
 -- a device and what the sealer does that changes nothing
 abbrev pub plain_shape : Sizes → Shape
 plain_shape d = record { device = d; overhead = 0; sealing = λ nonce plain. plain; opening = λ bytes. Some bytes }
@@ -101,7 +98,7 @@ pub record IsNew (d : Sizes) (r : Running) : Type 0 where
   pub shape : r.setting.shape ≡ plain_shape d
   pub trees : List Tree
   pub formatted : IsFormatted r.setting trees
-  pub taken : TakesAll [] r.setting.format r.host
+  pub taken : PutsAll Takes [] r.setting.format r.host
   pub turns : r.turns ≡ []
   pub message : r.message ≡ None
   pub copy : r.copy ≡ None
@@ -209,10 +206,14 @@ is_meddling Drain = false
 is_meddling Late = false
 is_meddling Snapshot = false
 
-abbrev pub IsHonest : Option Line → Type 0
-IsHonest None = ⊤
-IsHonest (Some line) = is_meddling line ≡ false
+abbrev pub IsHarmless : Option Line → Type 0
+IsHarmless None = ⊤
+IsHarmless (Some line) = is_meddling line ≡ false
 
--- no line of the script meddles with the host
-abbrev pub IsHonestScript : List ℕ → Type 0
-IsHonestScript input = All (λ bytes. IsHonest (line_of bytes)) (lines_of input)
+-- no line of the script meddles
+abbrev pub IsHarmlessScript : List ℕ → Type 0
+IsHarmlessScript input = All (λ bytes. IsHarmless (line_of bytes)) (lines_of input)
+
+-- no line of the text tells of a failure
+abbrev pub HasNoFailure : List ℕ → Type 0
+HasNoFailure text = All (λ line. take 6 line ≢ codes "failed") (lines_of text)

@@ -1,19 +1,20 @@
 -- How a machine stands to the run of a script.
-use Rattle.std.specs.Prelude.{◌≡◌, ℕ, ◌+◌, ◌-◌, ◌*◌, ◌<◌, Bool, false, if◌then◌else◌, List, [], length, ◌++◌, Option, Some, None, is_some, IfSome, ⊤}
+use Rattle.std.specs.Prelude.{◌≡◌, ℕ, ◌+◌, ◌-◌, ◌*◌, ◌<◌, Bool, false, if◌then◌else◌, List, [], ◌∷◌, length, ◌++◌, Option, Some, None, is_some, IfSome, ⊤}
 use Rattle.std.specs.Io.KnownBytes.{Appends}
-use Rattle.std.specs.List.{FoldsTo}
+use Rattle.std.specs.List.{AllByRecursion, FoldsTo}
 use Rattle.oram_geometry.specs.declared.Sizes.{Sizes}
 use Rattle.oram_geometry.specs.Sizes.{IsDevice, trees_of}
+use Rattle.oram_host.specs.Host.{Host}
 use Rattle.oram_tree.specs.State.{State as Tree}
 use Rattle.oram_run.specs.Formatting.{IsFormatted}
 use Rattle.oram_run.specs.Law.{Steps as Moving, new_state}
-use Rattle.oram_run.specs.Progress.{Setting}
-use Rattle.oram_run.specs.Run.{Shown, is_waiting}
+use Rattle.oram_run.specs.Progress.{Setting, Step}
+use Rattle.oram_run.specs.Run.{Shown, fails_now, is_waiting, shows_pair, step_of}
 use Rattle.oram_run.specs.State.{State, status_in}
 use Rattle.oram_run.specs.declared.events.Event.{Event}
 use Rattle.oram_core.specs.Steps.{Steps}
-use Rattle.oramsim.specs.Printing.{reaction_text}
-use Rattle.oramsim.specs.Script.{Point, Running, Stage, Turn, newest_of, plain_shape, stage_text, text_at}
+use Rattle.oramsim.specs.Hosting.{IsHonest, IsServed}
+use Rattle.oramsim.specs.Script.{Point, Running, Stage, Turn, after_turn, newest_of, plain_shape, stage_text, text_at, with_host}
 use Rattle.oramsim.specs.declared.machine.Machine.{Machine}
 
 -- A core and the message that is outstanding: it is the one that the core waits for the answer to.
@@ -47,6 +48,30 @@ pub record Stands (r : Running) (m : Machine) : Type 0 where
   pub message : m.outstanding ≡ r.message
   pub host : m.server ≡ r.host
   pub copy : m.snapshot ≡ r.copy
+
+-- the steps of these turns, the newest first, after a past
+abbrev pub past_from : List Step → List Turn → List Step
+past_from past [] = past
+past_from past (t ∷ turns) = past_from (step_of t.event t.shown ∷ past) turns
+
+-- no two records of one digest stand in an answer of these turns, after a past
+abbrev pub AllApart : Setting → List Step → List Turn → Type 0
+AllApart v past [] = ⊤
+AllApart v past (t ∷ turns) = (shows_pair v past t.event ≡ false) × AllApart v (step_of t.event t.shown ∷ past) turns
+
+-- the host has served the run so far, and the device never failed
+pub record IsFaithful (r : Running) : Type 0 where
+  pub apart : AllApart r.setting [] r.turns
+  pub calm : AllByRecursion (λ t. fails_now t.shown.note ≡ false) r.turns
+  pub served : IsServed r.setting (past_from [] r.turns) r.host
+
+abbrev pub IsFaithfulAt : Stage → Type 0
+IsFaithfulAt None = ⊤
+IsFaithfulAt (Some r) = IsFaithful r
+
+-- a run goes on so where the host was `before`, and is now, what an honest one is
+abbrev pub StaysFaithful : Running → State → Event → Shown → Type 0
+StaysFaithful r s e x = (before : Host) → IsHonest (status_in s) s.last e before r.host → IsFaithful (with_host r before) → IsFaithful (after_turn r e x)
 
 abbrev pub AreWhole : Option Machine → Type 0
 AreWhole None = ⊤

@@ -2,16 +2,13 @@
 ghost use Rattle.std.specs.Prelude.{◌≡◌, ◌++◌, ℕ, ◌<◌, true, false, List, take, is_some, IfOk, IfErr, OnOk, IsErrOf, MatchBool, Some, None};
 ghost use Rattle.std.specs.Io.KnownBytes.{Appends};
 ghost use Rattle.std.specs.List.{FoldsTo};
-ghost use Rattle.oram_host.specs.Host.{Host};
-ghost use Rattle.oram_host.specs.Flips.{IsByteless, IsFlipped};
+ghost use Rattle.oram_host.specs.Flips.{IsByteless};
 ghost use Rattle.oram_run.specs.Run.{Shown};
-ghost use Rattle.oram_run.specs.declared.events.Event.TheVariants as event;
 ghost use Rattle.oramsim.specs.Printing.{reaction_text};
-ghost use Rattle.oramsim.specs.Script.{Point, Running, IsAnswered, IsDrained, IsNew, IsUnfit, Obeys, Replies, Starts, after_turn, with_host};
+ghost use Rattle.oramsim.specs.Script.{Point, Running, IsAnswered, IsDrained, IsNew, IsUnfit, Obeys, Replies, Starts, after_turn};
 ghost use Rattle.oramsim.specs.Script as spec;
-ghost use Rattle.oramsim.specs.Standing.{AreWhole, GoesOn, GoesOnAt, IsPlayed, IsWholeMachine, Stands, StandsAt, answers_left};
+ghost use Rattle.oramsim.specs.Standing.{AreWhole, GoesOn, GoesOnAt, IsFaithful, IsFaithfulAt, IsPlayed, IsWholeMachine, Stands, StaysFaithful, answers_left};
 
-use crate::formatting::Handing;
 use crate::line::Line;
 use crate::printing::{FaultText, ReactionText, ReadyText};
 use crate::script::SimFault;
@@ -96,7 +93,8 @@ impl Machine {
         ensures whole { OnOk result (IsWholeMachine self.new) }
         ensures left { OnOk result (spec.is_answer event.now ≡ true → is_some self.old.outstanding ≡ true
             → answers_left self.new.core.device self.new.core.state self.new.outstanding < answers_left self.old.core.device self.old.core.state self.old.outstanding) }
-        ensures ok { (r : Running) → Stands r self.old → OnOk result ((x : Shown) × GoesOn r (after_turn r event.now x) self.new (W.contents writer.old) (W.contents writer.new)) }
+        ensures ok { (r : Running) → Stands r self.old → OnOk result ((x : Shown) × GoesOn r (after_turn r event.now x) self.new (W.contents writer.old) (W.contents writer.new)
+            × StaysFaithful r self.old.core.state event.now x) }
     {
         let sent = play(alloc, writer, &mut self.core, event)?;
         let left = left_at(event, self.outstanding.take());
@@ -125,7 +123,7 @@ impl Machine {
         ensures left { OnOk result (is_some self.old.outstanding ≡ true
             → answers_left self.new.core.device self.new.core.state self.new.outstanding < answers_left self.old.core.device self.old.core.state self.old.outstanding) }
         ensures ok { (r : Running) → Stands r self.old → OnOk result ((x : Shown) × (later : Running) × IsAnswered r x later
-            × GoesOn r later self.new (W.contents writer.old) (W.contents writer.new)) }
+            × GoesOn r later self.new (W.contents writer.old) (W.contents writer.new) × (IsFaithful r → IsFaithful later)) }
     {
         let bytes = self.answer_of_host(alloc)?;
         self.tell(alloc, writer, &Event::Answer(bytes))
@@ -137,7 +135,7 @@ impl Machine {
         ensures whole { OnOk result (IsWholeMachine self.new) }
         ensures ok { (r : Running) → Stands r self.old → OnOk result ((xs : List Shown) × (later : Running)
             × FoldsTo IsDrained r xs later × (later.message ≡ None)
-            × GoesOn r later self.new (W.contents writer.old) (W.contents writer.new)) }
+            × GoesOn r later self.new (W.contents writer.old) (W.contents writer.new) × (IsFaithful r → IsFaithful later)) }
     {
         while self.outstanding.is_some() {
             self.answer(alloc, writer)?;
@@ -150,7 +148,7 @@ impl Machine {
         requires { IsWholeMachine self.old }
         ensures whole { OnOk result (IsWholeMachine self.new) }
         ensures ok { (r : Running) → Stands r self.old → OnOk result ((later : Running) × Obeys r Line.Late later
-            × GoesOn r later self.new (W.contents writer.old) (W.contents writer.new)) }
+            × GoesOn r later self.new (W.contents writer.old) (W.contents writer.new) × (IsFaithful r → IsFaithful later)) }
     {
         let _unheard = self.answer_of_host(alloc)?;
         self.tell(alloc, writer, &Event::Lost)
@@ -160,7 +158,8 @@ impl Machine {
     pub fn keep(&mut self, alloc: Global) -> Result<(), AllocError>
         requires { IsWholeMachine self.old }
         ensures whole { OnOk result (IsWholeMachine self.new) }
-        ensures ok { (r : Running) → Stands r self.old → OnOk result ((later : Running) × Obeys r Line.Snapshot later × Stands later self.new) }
+        ensures ok { (r : Running) → Stands r self.old → OnOk result ((later : Running) × Obeys r Line.Snapshot later × Stands later self.new
+            × (IsFaithful r → IsFaithful later)) }
     {
         self.snapshot = Some(self.server.copy(alloc)?);
         Ok(())
@@ -201,7 +200,7 @@ impl Machine {
         requires { IsWholeMachine self.old }
         ensures whole { OnOk result (IsWholeMachine self.new) }
         ensures ok { (r : Running) → Stands r self.old → result ≡ Ok true → (later : Running) × Obeys r line later
-            × GoesOn r later self.new (W.contents writer.old) (W.contents writer.new) }
+            × GoesOn r later self.new (W.contents writer.old) (W.contents writer.new) × (spec.is_meddling line ≡ false → IsFaithful r → IsFaithful later) }
         ensures bad { (r : Running) → Stands r self.old → result ≡ Ok false → IsUnfit r line × (W.contents writer.new ≡ W.contents writer.old) }
     {
         match line {
@@ -239,16 +238,16 @@ impl Machine {
 /// Formats a device, on a host that keeps nothing yet.
 fn formatted(alloc: Global, device: Device) -> Result<Machine, SimFault>
     ensures whole { IfOk result (λ machine. IsWholeMachine machine) }
-    ensures ok { IfOk result (λ machine. (r : Running) × IsNew device r × Stands r machine) }
+    ensures ok { IfOk result (λ machine. (r : Running) × IsNew device r × Stands r machine × IsFaithful r) }
 {
-    let mut sink = Handing::new(alloc);
+    let mut server = Server::new(alloc);
     // Such a host refuses a formatting for want of memory alone.
-    let Ok(core) = Core::format(alloc, device, PlainSeal, &mut sink) else {
+    let Ok(core) = Core::format(alloc, device, PlainSeal, &mut server) else {
         return Err(SimFault::OutOfMemory);
     };
     Ok(Machine {
         core,
-        server: sink.into_server(),
+        server,
         snapshot: None,
         outstanding: None,
     })
@@ -261,7 +260,8 @@ pub fn begin<W: Write>(
     device: Result<Device, ShapeFault>,
 ) -> Result<Option<Machine>, SimFault>
     ensures whole { IfOk result (λ machine. AreWhole machine) }
-    ensures ok { (head : List ℕ) → IfOk result (λ machine. (q : Point) × Starts head device q × GoesOnAt (record { stage = None; head = head }) q machine (W.contents writer.old) (W.contents writer.new)) }
+    ensures ok { (head : List ℕ) → IfOk result (λ machine. (q : Point) × Starts head device q
+            × GoesOnAt (record { stage = None; head = head }) q machine (W.contents writer.old) (W.contents writer.new) × IsFaithfulAt q.stage) }
 {
     match device {
         Ok(device) => {

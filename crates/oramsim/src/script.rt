@@ -4,8 +4,9 @@ ghost use Rattle.std.specs.Io.BufRead.{strip_last};
 ghost use Rattle.std.specs.Io.KnownBytes.{Appends, IsAtEnd};
 ghost use Rattle.oramsim.specs.declared.script.SimFault.TheVariants.{OutOfMemory};
 ghost use Rattle.oramsim.specs.Printing.{error_text};
-ghost use Rattle.oramsim.specs.Script.{Point, IsPassed, IsBad, IsScriptText};
-ghost use Rattle.oramsim.specs.Standing.{AreWhole, GoesOnAt, StandsAt};
+ghost use Rattle.oramsim.specs.Reading.{line_of};
+ghost use Rattle.oramsim.specs.Script.{Point, HasNoFailure, IsBad, IsHarmless, IsHarmlessScript, IsPassed, IsScriptText};
+ghost use Rattle.oramsim.specs.Standing.{AreWhole, GoesOnAt, IsFaithfulAt, StandsAt};
 
 use crate::line::Line;
 use crate::machine::{Machine, begin, put};
@@ -73,7 +74,8 @@ fn pass<W: Write>(
     requires { AreWhole machine.old }
     ensures whole { OnOk result (AreWhole machine.new) }
     ensures ok { (p : Point) → StandsAt p.stage machine.old → result ≡ Ok true → (q : Point) × IsPassed p bytes.now q
-        × GoesOnAt p q machine.new (W.contents writer.old) (W.contents writer.new) }
+        × GoesOnAt p q machine.new (W.contents writer.old) (W.contents writer.new)
+        × (IsHarmless (line_of bytes.now) → IsFaithfulAt p.stage → IsFaithfulAt q.stage) }
     ensures bad { (p : Point) → StandsAt p.stage machine.old → result ≡ Ok false → IsBad p.stage bytes.now × (W.contents writer.new ≡ W.contents writer.old) }
 {
     if bytes.is_empty() {
@@ -117,7 +119,7 @@ fn run_lines<R: BufRead, W: Write>(
     writer: &mut W,
 ) -> Result<Ending, SimFault>
     ensures ok { IfOk result (λ ending. IfSome (R.remaining reader.old) (λ input. (text : List ℕ) × IsScriptText input text ending
-        × Appends (W.contents writer.old) (W.contents writer.new) text)) }
+        × (IsHarmlessScript input → HasNoFailure text) × Appends (W.contents writer.old) (W.contents writer.new) text)) }
     ensures end { result ≡ Ok Ending.End → IfSome (R.remaining reader.old) (λ _. IsAtEnd (R.remaining reader.new)) }
 {
     let mut machine = None;
@@ -147,7 +149,7 @@ pub fn run_script<R: BufRead, W: Write>(
     writer: &mut W,
 ) -> Result<Ending, SimFault>
     ensures ok { IfOk result (λ ending. IfSome (R.remaining reader.old) (λ input. (text : List ℕ) × IsScriptText input text ending
-        × Appends (W.contents writer.old) (W.contents writer.new) text)) }
+        × (IsHarmlessScript input → HasNoFailure text) × Appends (W.contents writer.old) (W.contents writer.new) text)) }
     ensures end { result ≡ Ok Ending.End → IfSome (R.remaining reader.old) (λ _. IsAtEnd (R.remaining reader.new)) }
 {
     match run_lines(alloc, reader, writer) {
