@@ -13,4 +13,8 @@ pub mod Answering
 pub mod Drained
 pub mod Meddling
 pub mod Obeyed
+pub mod Formatted
+pub mod Started
+pub mod Clean
+pub mod Passing
 mod Rows

@@ -39,8 +39,12 @@ goes_on r m n e x sent old new f played device out server snapshot wrote = (
   record {
     ranges = rw device f.ranges;
     shape = f.shape ∙ ap plain_shape (sym device);
-    leads = (f.leads.0, f.leads.1, FoldsTo-push (λ a (t : Turn) b. Moving r.setting.shape a t.event t.shown b) (new_state r.setting f.leads.0) r.turns m.core.state (record { event = e; shown = x }) n.core.state f.leads.2
-        (moving (plain_shape m.core.device) r.setting.shape m.core.state n.core.state e x f.shape played.steps));
+    leads = (
+      f.leads.0,
+      f.leads.1,
+      FoldsTo-push (λ a (t : Turn) b. Moving r.setting.shape a t.event t.shown b) (new_state r.setting f.leads.0) r.turns m.core.state (record { event = e; shown = x }) n.core.state f.leads.2
+          (moving (plain_shape m.core.device) r.setting.shape m.core.state n.core.state e x f.shape played.steps),
+    );
     message = out ∙ ap (λ o. newest_of x.sends (left_at e o)) f.message;
     host = server ∙ f.host;
     copy = snapshot ∙ f.copy;

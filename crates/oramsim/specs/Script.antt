@@ -1,6 +1,6 @@
 -- The run of a script: what its lines make a device and its host do, and what is printed.
 use Rattle.std.specs.Prelude.{◌≡◌, ◌≢◌, ℕ, ◌+◌, Bool, true, false, List, [], ◌∷◌, ◌++◌, length, map, take, codes, Option, Some, None, Result, Ok, Err, ⊤}
-use Rattle.std.specs.List.{All, flat_map, FoldsTo}
+use Rattle.std.specs.List.{AllByRecursion, flat_map, FoldsTo}
 use Rattle.oram_geometry.specs.declared.Sizes.{Sizes}
 use Rattle.oram_geometry.specs.declared.ShapeFault.{ShapeFault}
 use Rattle.oram_geometry.specs.Sizes.{device_of, trees_of}
@@ -212,8 +212,8 @@ IsHarmless (Some line) = is_meddling line ≡ false
 
 -- no line of the script meddles
 abbrev pub IsHarmlessScript : List ℕ → Type 0
-IsHarmlessScript input = All (λ bytes. IsHarmless (line_of bytes)) (lines_of input)
+IsHarmlessScript input = AllByRecursion (λ bytes. IsHarmless (line_of bytes)) (lines_of input)
 
 -- no line of the text tells of a failure
 abbrev pub HasNoFailure : List ℕ → Type 0
-HasNoFailure text = All (λ line. take 6 line ≢ codes "failed") (lines_of text)
+HasNoFailure text = AllByRecursion (λ line. take 6 line ≢ codes "failed") (lines_of text)

@@ -225,7 +225,11 @@ fn word_line(word: &[u8]) -> Option<Line>
 fn alone(word: &[u8], fields: &[&[u8]]) -> Option<Line>
     ensures { result ≡ spec.alone word.now (map (λ x. x.now) fields.now) }
 {
-    if fields.is_empty() { word_line(word) } else { None }
+    if fields.is_empty() {
+        word_line(word)
+    } else {
+        None
+    }
 }
 
 /// What a word and the fields after it say.

@@ -2,6 +2,7 @@
 ghost use Rattle.std.specs.Prelude.{◌≡◌, ◌++◌, ℕ, ◌<◌, true, false, List, take, is_some, IfOk, IfErr, OnOk, IsErrOf, MatchBool, Some, None};
 ghost use Rattle.std.specs.Io.KnownBytes.{Appends};
 ghost use Rattle.std.specs.List.{FoldsTo};
+ghost use Rattle.oram_geometry.specs.Sizes.{IsDevice};
 ghost use Rattle.oram_host.specs.Flips.{IsByteless};
 ghost use Rattle.oram_run.specs.Run.{Shown};
 ghost use Rattle.oramsim.specs.Printing.{reaction_text};
@@ -224,11 +225,7 @@ impl Machine {
                 self.keep(alloc)?;
                 Ok(true)
             }
-            Line::Tamper {
-                tree,
-                node,
-                offset,
-            } => Ok(self.tamper(tree, node, offset)),
+            Line::Tamper { tree, node, offset } => Ok(self.tamper(tree, node, offset)),
             Line::Restore => Ok(self.restore(alloc)?),
             Line::Device { .. } => Ok(false),
         }
@@ -237,6 +234,7 @@ impl Machine {
 
 /// Formats a device, on a host that keeps nothing yet.
 fn formatted(alloc: Global, device: Device) -> Result<Machine, SimFault>
+    requires { IsDevice device }
     ensures whole { IfOk result (λ machine. IsWholeMachine machine) }
     ensures ok { IfOk result (λ machine. (r : Running) × IsNew device r × Stands r machine × IsFaithful r) }
 {
@@ -261,7 +259,7 @@ pub fn begin<W: Write>(
 ) -> Result<Option<Machine>, SimFault>
     ensures whole { IfOk result (λ machine. AreWhole machine) }
     ensures ok { (head : List ℕ) → IfOk result (λ machine. (q : Point) × Starts head device q
-            × GoesOnAt (record { stage = None; head = head }) q machine (W.contents writer.old) (W.contents writer.new) × IsFaithfulAt q.stage) }
+        × GoesOnAt (record { stage = None; head = head }) q machine (W.contents writer.old) (W.contents writer.new) × IsFaithfulAt q.stage) }
 {
     match device {
         Ok(device) => {

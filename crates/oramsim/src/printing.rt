@@ -5,8 +5,8 @@ ghost use Rattle.oram_run.specs.Run.{shown};
 ghost use Rattle.oramsim.specs.Printing.{refusal_text, reason_text, note_text, body_text, reply_text, send_text, reaction_text, ready_text, shape_text, error_text};
 
 use byteorder::{BigEndian, ByteOrder};
-use oram_run::{Note, Reaction, Reason, Refusal, Reply, ReplyBody};
 use oram_geometry::ShapeFault;
+use oram_run::{Note, Reaction, Reason, Refusal, Reply, ReplyBody};
 use std::fmt;
 
 /// The bytes of a message that say what it asks for: its kind, its tree and its leaf.
