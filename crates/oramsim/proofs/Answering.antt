@@ -1,9 +1,9 @@
 -- What the host answers, and what a machine makes of it.
-use Rattle.std.proofs.Common.{◌≡◌, ◌<◌, true, ℕ, List, Option, IfSome, refl, sym, ap, ◌∙◌, subst}
+use Rattle.std.proofs.Common.{◌≡◌, ◌<◌, true, ℕ, List, Option, refl, ap, ◌∙◌, subst}
 use Rattle.std.specs.Prelude.{is_some}
 use Rattle.oram_host.specs.Host.{Host}
-use Rattle.oram_run.specs.Run.{Shown, is_waiting}
-use Rattle.oram_run.specs.State.{State, status_in}
+use Rattle.oram_run.specs.Run.{Shown}
+use Rattle.oram_run.specs.State.{status_in}
 use Rattle.oram_run.specs.declared.events.Event.TheVariants.{Answer, Lost}
 use Rattle.oramsim.specs.Hosting.{IsHonest}
 use Rattle.oramsim.specs.Script.{IsAnswered, Obeys, Replies, Running, after_turn, with_host}

@@ -1,6 +1,6 @@
 -- Texts in which no line tells of a failure.
-use Rattle.std.proofs.Common.{◌≡◌, ◌≢◌, ℕ, zero, suc, ◌+◌, ◌/◌, ◌%◌, ◌<◌, Bool, true, false, List, [], ◌∷◌, ◌++◌, get_or, map, take, Option, Some, None, Result, Ok, Err, refl, sym, ap, ◌∙◌, subst, arith, append_assoc, append-nil}
-use Rattle.std.specs.Prelude.{◌==◌, ◌&&◌, not, nat_le, nat_lt, if◌then◌else◌, codes, length, slice_index, slice_range}
+use Rattle.std.proofs.Common.{◌≡◌, ◌≢◌, ℕ, zero, suc, ◌/◌, ◌%◌, Bool, true, false, List, [], ◌∷◌, ◌++◌, get_or, map, take, refl, sym, ap, ◌∙◌, subst, arith, append_assoc, append-nil}
+use Rattle.std.specs.Prelude.{◌==◌, not, nat_le, nat_lt, if◌then◌else◌, codes, length, slice_index, slice_range}
 use Rattle.std.specs.Fmt.{decimal, digits, digits_onto, digit_glyph}
 use Rattle.std.specs.List.{AllByRecursion, flat_map, list_all}
 use Rattle.std.proofs.lemmas.Bool.{eqb-true, eqb-false, false_from_ne_true}
@@ -17,7 +17,7 @@ use Rattle.oram_run.specs.declared.events.Reply.{Reply}
 use Rattle.oram_run.specs.declared.events.ReplyBody.{ReplyBody}
 use Rattle.oram_run.specs.declared.events.ReplyBody.TheVariants as body
 use Rattle.oramsim.specs.Printing.{newline, space, refusal_text, note_text, body_text, reply_text, send_text, reaction_text, ready_text, shape_text, error_text}
-use Rattle.oramsim.specs.Reading.{lines_of, onto_line}
+use Rattle.oramsim.specs.Reading.{lines_of}
 use Rattle.oramsim.specs.Script.{HasNoFailure, Turn}
 use Rattle.oramsim.proofs.Numbers.{both_true}
 

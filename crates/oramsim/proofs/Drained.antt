@@ -1,11 +1,11 @@
 -- One more answer of a drain.
-use Rattle.std.proofs.Common.{◌≡◌, ◌≢◌, ℕ, Bool, true, false, List, [], ◌∷◌, ◌++◌, Option, Some, None, refl, ◌∙◌}
+use Rattle.std.proofs.Common.{◌≡◌, ◌≢◌, ℕ, true, false, List, [], ◌∷◌, ◌++◌, Option, Some, None, refl, ◌∙◌}
 use Rattle.std.specs.Prelude.{is_some}
 use Rattle.std.specs.List.{FoldsTo}
 use Rattle.std.proofs.lemmas.Fn.{FoldsTo-push}
 use Rattle.oram_run.specs.Run.{Shown}
 use Rattle.oramsim.specs.Script.{IsAnswered, IsDrained, Running}
-use Rattle.oramsim.specs.Standing.{GoesOn, IsFaithful, Stands}
+use Rattle.oramsim.specs.Standing.{GoesOn, IsFaithful}
 use Rattle.oramsim.specs.declared.machine.Machine.{Machine}
 use Rattle.oramsim.proofs.Turning.{tells_more}
 

@@ -1,5 +1,5 @@
 -- A run whose host is honest.
-use Rattle.std.proofs.Common.{◌≡◌, ℕ, Bool, true, false, List, [], ◌∷◌, ◌++◌, Option, Some, None, IfSome, inl, inr, map, refl, sym, ap, ◌∙◌, subst}
+use Rattle.std.proofs.Common.{◌≡◌, ℕ, true, false, List, [], ◌∷◌, ◌++◌, Option, Some, None, IfSome, inl, inr, map, refl, sym, subst}
 use Rattle.std.specs.Prelude.{is_some}
 use Rattle.std.specs.List.{AllByRecursion, FoldsTo}
 use Rattle.oram_geometry.specs.Sizes.{IsDevice}
@@ -17,10 +17,9 @@ use Rattle.oram_run.proofs.Bounds.{IsFit, fit_device}
 use Rattle.oram_run.proofs.Follows.{Follows}
 use Rattle.oram_run.proofs.Formatting.{formatted_holds}
 use Rattle.oram_run.proofs.Going.{new_follows, one_step, steps_are_right}
-use Rattle.oram_core.specs.Steps.{Steps}
 use Rattle.oramsim.specs.Hosting.{IsHonest}
-use Rattle.oramsim.specs.Script.{Replies, Running, Turn, after_turn, all_shown, events, is_answer, plain_shape, with_host}
-use Rattle.oramsim.specs.Standing.{AllApart, IsFaithful, IsPlayed, IsWhole, LeadsTo, Stands, StaysFaithful, past_from}
+use Rattle.oramsim.specs.Script.{Replies, Running, Turn, all_shown, events, is_answer, plain_shape}
+use Rattle.oramsim.specs.Standing.{AllApart, IsPlayed, LeadsTo, Stands, StaysFaithful, past_from}
 use Rattle.oramsim.specs.declared.machine.Machine.{Machine}
 use Rattle.oramsim.proofs.HostedSteps.{step_served}
 use Rattle.oramsim.proofs.Turning.{moving}

@@ -1,12 +1,9 @@
 -- A device just formatted.
-use Rattle.std.proofs.Common.{◌≡◌, ◌<◌, ◌*◌, ◌≤◌, ℕ, List, [], ◌∷◌, Option, Some, None, refl, sym, ap, ◌∙◌, subst, arith}
-use Rattle.std.specs.List.{FoldsTo}
+use Rattle.std.proofs.Common.{◌≡◌, ◌<◌, ◌*◌, [], None, refl, sym, ap, subst, arith}
 use Rattle.oram_geometry.specs.declared.Sizes.{Sizes}
 use Rattle.oram_geometry.specs.Sizes.{IsDevice, trees_of}
 use Rattle.oram_host.specs.Host.{Host}
 use Rattle.oram_tree.specs.Format.{PutsAll}
-use Rattle.oram_tree.specs.State.{State as Tree}
-use Rattle.oram_run.specs.Law.{new_state}
 use Rattle.oram_run.specs.Progress.{Setting}
 use Rattle.oram_run.specs.State.{State}
 use Rattle.oram_run.proofs.Bounds.{some_trees}

@@ -1,5 +1,5 @@
 -- A host that is kept, put back or changed.
-use Rattle.std.proofs.Common.{◌≡◌, ℕ, Bool, true, false, List, Option, Some, None, refl, sym, ap, ◌∙◌, subst}
+use Rattle.std.proofs.Common.{◌≡◌, ℕ, Bool, true, false, Some, refl, sym, ap, ◌∙◌, subst}
 use Rattle.std.specs.Prelude.{MatchBool}
 use Rattle.oram_host.specs.Host.{Host}
 use Rattle.oram_host.specs.Flips.{IsByteless, IsFlipped}

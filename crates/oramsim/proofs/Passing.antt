@@ -21,7 +21,6 @@ use Rattle.oramsim.specs.Standing.{GoesOnAt, IsFaithfulAt, Stands, StandsAt, Tel
 use Rattle.oramsim.specs.declared.line.Line.{Line}
 use Rattle.oramsim.specs.declared.line.Line.TheVariants.{Device, Told, Answer, Drain, Late, Tamper, Snapshot, Restore}
 use Rattle.oramsim.specs.declared.machine.Machine.{Machine}
-use Rattle.oramsim.specs.declared.script.Ending.{Ending}
 use Rattle.oramsim.specs.declared.script.Ending.TheVariants.{End, BadLine}
 use Rattle.oramsim.specs.declared.script.SimFault.{SimFault}
 

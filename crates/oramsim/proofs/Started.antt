@@ -1,13 +1,12 @@
 -- A script's device, just made or not.
-use Rattle.std.proofs.Common.{◌≡◌, ℕ, List, [], ◌++◌, Option, Some, None, Result, Ok, Err, refl, sym, ap, ◌∙◌, subst, append-nil, append_assoc}
+use Rattle.std.proofs.Common.{◌≡◌, ℕ, List, [], ◌++◌, Option, Some, None, Result, Ok, Err, refl, sym, ap, ◌∙◌, subst, append-nil}
 use Rattle.std.specs.Io.KnownBytes.{Appends}
-use Rattle.std.specs.List.{flat_map}
 use Rattle.oram_geometry.specs.declared.Sizes.{Sizes}
 use Rattle.oram_geometry.specs.declared.ShapeFault.{ShapeFault}
 use Rattle.oram_geometry.specs.Sizes.{trees_of}
 use Rattle.oramsim.specs.Printing.{ready_text, shape_text}
-use Rattle.oramsim.specs.Script.{IsNew, Point, Running, Starts, Turn, stage_text, text_at}
-use Rattle.oramsim.specs.Standing.{GoesOnAt, IsFaithful, IsFaithfulAt, Stands, StandsAt}
+use Rattle.oramsim.specs.Script.{IsNew, Point, Running, Starts, stage_text}
+use Rattle.oramsim.specs.Standing.{GoesOnAt, IsFaithful, IsFaithfulAt, Stands}
 use Rattle.oramsim.specs.declared.machine.Machine.{Machine}
 
 nothing_shown : (r : Running) → r.turns ≡ [] → stage_text (Some r) ≡ []

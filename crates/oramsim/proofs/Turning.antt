@@ -1,13 +1,12 @@
 -- One more turn of a run.
-use Rattle.std.proofs.Common.{◌≡◌, ℕ, List, [], ◌∷◌, ◌++◌, Option, Some, None, Result, Ok, Err, OnOk, refl, sym, ap, ◌∙◌, subst, append-nil, append_assoc, map}
+use Rattle.std.proofs.Common.{◌≡◌, ℕ, List, [], ◌∷◌, ◌++◌, Option, Some, None, Result, Ok, Err, OnOk, sym, ap, ◌∙◌, subst, append-nil, append_assoc}
 use Rattle.std.specs.Io.KnownBytes.{Appends}
-use Rattle.std.specs.List.{flat_map, FoldsTo}
+use Rattle.std.specs.List.{flat_map}
 use Rattle.std.specs.Option.{option_or}
 use Rattle.std.proofs.KnownBytes.{Appends-trans, Appends-nil}
 use Rattle.std.proofs.lemmas.Fn.{FoldsTo-push}
 use Rattle.std.proofs.lemmas.Grind.{flat_map-append}
 use Rattle.std.proofs.lemmas.List.{map-append}
-use Rattle.oram_geometry.specs.declared.Sizes.{Sizes}
 use Rattle.oram_run.specs.Law.{Steps as Moving, new_state}
 use Rattle.oram_run.specs.Run.{Shown}
 use Rattle.oram_run.specs.Shape.{Shape}
@@ -16,7 +15,7 @@ use Rattle.oram_run.specs.declared.events.Event.{Event}
 use Rattle.oram_core.specs.Steps.{Steps}
 use Rattle.oramsim.specs.Printing.{reaction_text}
 use Rattle.oramsim.specs.Script.{Running, Turn, after_turn, all_shown, left_at, newest_of, plain_shape, stage_text}
-use Rattle.oramsim.specs.Standing.{GoesOn, IsPlayed, LeadsTo, Stands, Tells}
+use Rattle.oramsim.specs.Standing.{GoesOn, IsPlayed, Stands, Tells}
 use Rattle.oramsim.specs.declared.machine.Machine.{Machine}
 use Rattle.oramsim.proofs.Whole.{newest_or}
 

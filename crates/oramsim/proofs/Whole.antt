@@ -1,5 +1,5 @@
 -- What a step leaves of a core and the message that is outstanding.
-use Rattle.std.proofs.Common.{◌≡◌, ℕ, ◌+◌, ◌-◌, ◌*◌, ◌<◌, ◌≤◌, suc, ◌⊎◌, inl, inr, Bool, true, false, List, [], ◌∷◌, ◌++◌, length, Option, Some, None, IfSome, refl, sym, ap, ◌∙◌, subst, arith}
+use Rattle.std.proofs.Common.{◌≡◌, ℕ, ◌+◌, ◌-◌, ◌*◌, ◌<◌, suc, inl, inr, Bool, true, false, List, [], ◌∷◌, ◌++◌, length, Option, Some, None, IfSome, refl, sym, ap, ◌∙◌, subst, arith}
 use Rattle.std.specs.Prelude.{is_some, option_to_list, MatchOption}
 use Rattle.std.specs.Option.{option_or}
 use Rattle.std.specs.Str.{bytes_eq}
@@ -18,8 +18,8 @@ use Rattle.oram_run.specs.declared.events.Reason.{Reason}
 use Rattle.oram_run.specs.declared.events.Refusal.{Refusal}
 use Rattle.oram_run.specs.declared.events.Submission.{Submission}
 use Rattle.oram_run.proofs.Judged.{bytes_same}
-use Rattle.oram_core.specs.Doing.{Done, noted, accepted_by, stalled_by, resent_by, finished_by, first_message, first_messages, sent_if_idle, submitted_by, lost_by, retried_by}
-use Rattle.oram_core.specs.Steps.{Steps, Fails, GoesOn, Replies, Heard, did}
+use Rattle.oram_core.specs.Doing.{Done, noted, stalled_by, finished_by, first_message, first_messages, sent_if_idle, submitted_by, lost_by, retried_by}
+use Rattle.oram_core.specs.Steps.{Steps, Heard, did}
 use Rattle.oramsim.specs.Script.{is_answer, left_at, newest_of, plain_shape}
 use Rattle.oramsim.specs.Standing.{IsWhole, answers_left}
 

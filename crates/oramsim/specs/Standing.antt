@@ -1,5 +1,5 @@
 -- How a machine stands to the run of a script.
-use Rattle.std.specs.Prelude.{◌≡◌, ℕ, ◌+◌, ◌-◌, ◌*◌, ◌<◌, Bool, false, if◌then◌else◌, List, [], ◌∷◌, length, ◌++◌, Option, Some, None, is_some, IfSome, ⊤}
+use Rattle.std.specs.Prelude.{◌≡◌, ℕ, ◌+◌, ◌-◌, ◌*◌, ◌<◌, false, if◌then◌else◌, List, [], ◌∷◌, length, ◌++◌, Option, Some, None, is_some, IfSome, ⊤}
 use Rattle.std.specs.Io.KnownBytes.{Appends}
 use Rattle.std.specs.List.{AllByRecursion, FoldsTo}
 use Rattle.oram_geometry.specs.declared.Sizes.{Sizes}

@@ -1,9 +1,5 @@
-use Rattle.std.proofs.Common.{[], Some, Result, refl, sym, ap, ◌∙◌, subst}
+use Rattle.std.proofs.Common.{◌∙◌, subst}
 use Rattle.std.specs.Io.KnownBytes.{Appends}
-use Rattle.oram_geometry.specs.declared.Sizes.{Sizes}
-use Rattle.oram_geometry.specs.declared.ShapeFault.{ShapeFault}
-use Rattle.oramsim.specs.Script.{Point, Starts}
-use Rattle.oramsim.proofs.Clean.{turns_clean}
 use Rattle.oramsim.proofs.Started.{begun, faulted}
 use Rattle.oramsim.proofs.machine.begin.Goals as goal
 

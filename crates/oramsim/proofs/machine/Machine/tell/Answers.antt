@@ -1,7 +1,5 @@
 use Rattle.std.proofs.Common.{ap, ◌∙◌, refl}
-use Rattle.std.specs.Option.{option_or}
 use Rattle.oramsim.specs.Script.{left_at, newest_of}
-use Rattle.oramsim.specs.Standing.{IsWhole, answers_left}
 use Rattle.oramsim.proofs.Faithful.{stays_faithful}
 use Rattle.oramsim.proofs.Turning.{goes_on, outstanding_is}
 use Rattle.oramsim.proofs.Whole.{whole_after, fewer}
