@@ -16,12 +16,13 @@ use Rattle.oram_run.specs.State.{State, World, Holds, status_by, status_in}
 use Rattle.oram_run.specs.declared.events.Command.{Command}
 use Rattle.oram_run.specs.declared.events.Event.{Event}
 use Rattle.oram_run.specs.declared.events.Event.TheVariants.{Submit, Answer, Lost, Retry}
+use Rattle.oram_run.specs.declared.events.Note.{Note}
 use Rattle.oram_run.specs.declared.events.Note.TheVariants.{Unexpected, Refused}
 use Rattle.oram_run.specs.declared.events.Reaction.{Reaction}
 use Rattle.oram_run.specs.declared.events.Reason.{Reason}
 use Rattle.oram_run.specs.declared.events.Refusal.{Refusal}
 use Rattle.oram_run.specs.declared.events.Submission.{Submission}
-use Rattle.oram_core.specs.Doing.{is_stalled, Done, done, noted, plain_step, submitted_by, lost_by, retried_by, unheard_by, accepted_by, finished_by, fetched_by, failed_by, stalled_by, resent_by}
+use Rattle.oram_core.specs.Doing.{is_stalled, is_free_note, Done, done, noted, plain_step, submitted_by, lost_by, retried_by, unheard_by, accepted_by, finished_by, fetched_by, failed_by, stalled_by, resent_by}
 use Rattle.oram_core.specs.Steps.{Steps, Heard}
 use Rattle.oram_core.proofs.Quiet.{Meets, shown_by, stays_met, accepts_met, stalls_met, resends_met, fails_met, finishes_met, fetches_met}
 
@@ -206,3 +207,43 @@ stall_moves v s w y t now fits e = subst (λ (d : Done). Meets v s w (on_answer 
 -- an answer that fails the device
 pub fail_moves : (v : Shape) (s : State) (w : World) (reason : Reason) (y : Reaction) (t : State) → done y t ≡ failed_by s reason → MovesTo v s w (on_answer v s w Waiting (Fails reason)) (shown y) t
 fail_moves v s w reason y t e = subst (λ (d : Done). Meets v s w (on_answer v s w Waiting (Fails reason)) d) (sym e) (fails_met v s w reason)
+
+-- a reaction of a note alone
+pub only_noted : (s : State) (y : Reaction) (n : Note) → y.note ≡ n → y.replies.items ≡ [] → y.sends.items ≡ [] → done y s ≡ noted s n
+only_noted s y n note replies sends = rw (note, replies, sends) refl
+
+pub waiting_by : (n : Status) → is_waiting n ≡ true → n ≡ Waiting
+waiting_by Waiting h = refl
+waiting_by Idle h = absurd (let no_way : false ≡ true = h in cc)
+waiting_by Stalling h = absurd (let no_way : false ≡ true = h in cc)
+waiting_by Over h = absurd (let no_way : false ≡ true = h in cc)
+
+pub stalling_by : (n : Status) → is_stalled n ≡ true → n ≡ Stalling
+stalling_by Stalling h = refl
+stalling_by Idle h = absurd (let no_way : false ≡ true = h in cc)
+stalling_by Waiting h = absurd (let no_way : false ≡ true = h in cc)
+stalling_by Over h = absurd (let no_way : false ≡ true = h in cc)
+
+-- a command that joins the queue takes memory
+pub accept_bound : (v : Shape) (s : State) (session : ℕ) (c : Command) (words : List ℕ) (d : Done) → refusal_of v.device (is_over (status_in s)) (length s.queue) s.next c words ≡ None →
+    plain_step v s (Submit session c words) ≡ Some d → is_free_note d.note ≡ true → ⊥
+accept_bound v s session c words d free is note =
+    let x : Submission = record { session = session; ticket = s.next; command = c; words = words } in
+    let rule : Some (submitted_by v s x (refusal_of v.device (is_over (status_in s)) (length s.queue) s.next c words)) ≡ Some (accepted_by v s x) = ap (λ o. Some (submitted_by v s x o)) free in
+    let same : accepted_by v s x ≡ d = ap (λ o. unwrap_or o d) (sym rule ∙ is) in
+    let no_way : false ≡ true = ap (λ (k : Done). is_free_note k.note) same ∙ note in
+    cc
+
+-- and so does a message that is sent again
+pub resend_bound : (v : Shape) (s : State) (d : Done) → status_in s ≡ Stalling → plain_step v s Retry ≡ Some d → is_free_note d.note ≡ true → ⊥
+resend_bound v s d now is note =
+    let rule : Some (retried_by s (status_in s)) ≡ Some (resent_by s) = ap (λ n. Some (retried_by s n)) now in
+    let same : resent_by s ≡ d = ap (λ o. unwrap_or o d) (sym rule ∙ is) in
+    let no_way : false ≡ true = ap (λ (k : Done). is_free_note k.note) same ∙ note in
+    cc
+
+-- of the answers that are waited for, what is known outright is the refusal for want of room
+pub plain_refusal : (v : Shape) (s : State) (bytes : List ℕ) (d : Done) → status_in s ≡ Waiting → plain_step v s (Answer bytes) ≡ Some d → bytes ≡ 129 ∷ 8 ∷ []
+plain_refusal v s bytes d now is =
+    let told = told_room s d (bytes_eq bytes (129 ∷ 8 ∷ [])) (sym (ap (unheard_by s (bytes_eq bytes (129 ∷ 8 ∷ []))) now) ∙ is) in
+    (bytes_eq-Decides bytes (129 ∷ 8 ∷ [])).0 told.0

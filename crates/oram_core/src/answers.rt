@@ -354,10 +354,12 @@ impl<S: Sealer> Core<S> {
         );
         match accessed {
             Ok(access) => Ok(self.take_over(alloc, errand, access, room, failed)),
-            Err(TreeFault::Unreadable) => {
-                Ok(self.fail(alloc, Reason::Tampered(errand.tree, 0), failed))
-            }
-            Err(TreeFault::OutOfMemory) => Err(AllocError),
+            Err(fault) => match fault {
+                TreeFault::Unreadable => {
+                    Ok(self.fail(alloc, Reason::Tampered(errand.tree, 0), failed))
+                }
+                TreeFault::OutOfMemory => Err(AllocError),
+            },
         }
     }
 

@@ -12,3 +12,6 @@ mod messages;
 
 pub use machine::Core;
 pub use oram_run::{Command, Event, Note, Reaction, Reason, Refusal, Reply, ReplyBody, Submission};
+
+#[cfg(test)]
+mod tests;

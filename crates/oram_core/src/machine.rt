@@ -1,11 +1,11 @@
 //! The core.
-ghost use Rattle.std.specs.Prelude.{◌≡◌, ◌+◌, ◌*◌, ◌<◌, ◌≤◌, ◌^◌, ℕ, true, false, List, [], ◌∷◌, ◌++◌, length, IsOk, IfOk, OnOk, OnErr, Option, Some, None, slice_index};
+ghost use Rattle.std.specs.Prelude.{◌≡◌, ◌+◌, ◌*◌, ◌<◌, ◌≤◌, ◌^◌, ℕ, true, false, List, [], ◌∷◌, ◌++◌, length, IsOk, IfOk, OnOk, OnErr, Option, Some, None, slice_index, slice_index_or};
 ghost use Rattle.oram_geometry.specs.Sizes.{trees_of, depth_of};
 ghost use Rattle.oram_wire.specs.HostMessages.{fetch_body};
 ghost use Rattle.oram_run.specs.Run.{refusal_of, is_over, is_waiting, shown};
 ghost use Rattle.oram_run.specs.Progress.Status.{Waiting};
 ghost use Rattle.oram_run.specs.declared.events.Note.TheVariants as note;
-ghost use Rattle.oram_run.specs.State.{World, status_in};
+ghost use Rattle.oram_run.specs.State.{World, no_tree, status_in};
 ghost use Rattle.oram_run.specs.Moves.{Fits, Moves, shows_in, fetch_at, leaf_for};
 ghost use Rattle.oram_core.specs.Core.{CoreValue, IsAllowed, IsSound, IsSameDevice, shape_of};
 ghost use Rattle.oram_core.specs.Steps.{Steps};
@@ -94,7 +94,15 @@ impl<S: Sealer> Core<S> {
     pub fn is_idle(&self) -> bool
         ensures { result ≡ is_idle (status_in self.now.state) }
     {
-        self.failure.is_none() && self.queue.is_empty()
+        self.queue.is_empty() && self.failure.is_none()
+    }
+
+    /// How many blocks of a tree lie in no bucket.
+    pub fn stash_len(&self, tree: u8) -> usize
+        requires { tree < trees_of self.now.device }
+        ensures { result ≡ length (slice_index_or self.now.state.trees tree no_tree).stash }
+    {
+        self.trees[usize::from(tree)].stash_len()
     }
 
     /// Why the device failed, if it did.
@@ -108,14 +116,14 @@ impl<S: Sealer> Core<S> {
     fn is_waiting(&self) -> bool
         ensures { result ≡ is_waiting (status_in self.now.state) }
     {
-        self.failure.is_none() && !self.queue.is_empty() && !self.lost
+        !self.lost && !self.queue.is_empty() && self.failure.is_none()
     }
 
     /// Whether the message sent last counts as lost.
     fn is_stalled(&self) -> bool
         ensures { result ≡ is_stalled (status_in self.now.state) }
     {
-        self.failure.is_none() && !self.queue.is_empty() && self.lost
+        self.lost && !self.queue.is_empty() && self.failure.is_none()
     }
 
     /// Makes one step. Without memory the core stays as it was, and the step may be made again.

@@ -93,8 +93,8 @@ invariant_of-self g c =
     subst (λ (u : CoreValue g.row.S.Denot). IsSound (shape_of g.S.Sealer.overhead g.S.Sealer.sealing g.S.Sealer.opening u) (record u.state { trees = slice_set u.state.trees c.from.result new })) (sym c.self.view_is)
     (sound_accessed v now.state c.from.result new sound within kept)
 
-pub invariant_of-self-in-Err-Unreadable : goal.invariant_of-self-in-Err-Unreadable
-invariant_of-self-in-Err-Unreadable g c =
+pub invariant_of-self-in-Unreadable : goal.invariant_of-self-in-Unreadable
+invariant_of-self-in-Unreadable g c =
     let now = c.args.self.now in
     let v = shape_of g.S.Sealer.overhead g.S.Sealer.sealing g.S.Sealer.opening now in
     let sound : IsSound v now.state = subst (λ (u : CoreValue g.row.S.Denot). IsSound (shape_of g.S.Sealer.overhead g.S.Sealer.sealing g.S.Sealer.opening u) u.state) c.self.view_is c.self.invariant in
@@ -156,8 +156,8 @@ returns-in-Ok-clause-moves g c = λ w fits on_path.
     subst (λ (d : Cell). IsRewritten (Reads v.opening now.device told.number) v.sealing now.device now.state.nonce path told.stash (with_bytes path records) d new.stash) same written in
     access_moves v now.state w told new path found before records why c.take_over.result c.take_over.new.self.state o sound c.requires.stage fits t c.requires.path long c.access-accessed.ensures.number update made does_at
 
-pub returns-in-Err-Unreadable-clause-moves : goal.returns-in-Err-Unreadable-clause-moves
-returns-in-Err-Unreadable-clause-moves g c = λ w fits on_path.
+pub returns-in-Unreadable-clause-moves : goal.returns-in-Unreadable-clause-moves
+returns-in-Unreadable-clause-moves g c = λ w fits on_path.
     let now = c.args.self.now in
     let v = shape_of g.S.Sealer.overhead g.S.Sealer.sealing g.S.Sealer.opening now in
     let sound : IsSound v now.state = subst (λ (u : CoreValue g.row.S.Denot). IsSound (shape_of g.S.Sealer.overhead g.S.Sealer.sealing g.S.Sealer.opening u) u.state) c.self.view_is c.self.invariant in
@@ -177,7 +177,7 @@ returns-in-Err-Unreadable-clause-moves g c = λ w fits on_path.
     (subst (λ (k : ℕ). IsAtOrAbsent (w.content i) k (asked now.state.last).leaf) (sym at_block) ready.at_leaf) in
     let updates = subst (λ (u : CoreValue g.row.S.Denot). (rs : ℕ → List ℕ) (held : Map) → IsStoredWith (g.S.Sealer.opening u.sealer) (g.S.Sealer.overhead u.sealer) u.device told rs held → IsPathOf rs path → IsAtOrAbsent held c.errand-errand.result.block c.errand-errand.result.leaf
     → MatchResult c.access-accessed.result (λ a. IsUpdate (g.S.Sealer.opening u.sealer) (g.S.Sealer.overhead u.sealer) u.device path (with_bytes path a.records.items) rs held (edited_block c.errand-errand.result.block c.errand-errand.result.new_leaf c.edit_for.result a.before.items) a.found a.before.items new) (λ f. f ≡ fault.OutOfMemory)) c.self.view_is c.access-accessed.ensures.updates in
-    let told_so = subst (λ r. MatchResult r (λ a. IsUpdate v.opening v.overhead now.device path (with_bytes path a.records.items) (w.records i) (w.content i) (edited_block c.errand-errand.result.block c.errand-errand.result.new_leaf c.edit_for.result a.before.items) a.found a.before.items new) (λ f. f ≡ fault.OutOfMemory)) (c.in-Err-Unreadable.is ∙ ap Err c.in-Err-Unreadable.field-0-is) (updates (w.records i) (w.content i) ready.stored on_path absent) in
+    let told_so = subst (λ r. MatchResult r (λ a. IsUpdate v.opening v.overhead now.device path (with_bytes path a.records.items) (w.records i) (w.content i) (edited_block c.errand-errand.result.block c.errand-errand.result.new_leaf c.edit_for.result a.before.items) a.found a.before.items new) (λ f. f ≡ fault.OutOfMemory)) (c.in-Err.is ∙ ap Err c.in-Unreadable.is) (updates (w.records i) (w.content i) ready.stored on_path absent) in
     absurd (let no_way : fault.Unreadable ≡ fault.OutOfMemory = told_so in cc)
 
 pub returns-in-Ok-clause-heard : goal.returns-in-Ok-clause-heard
@@ -193,8 +193,8 @@ returns-in-Ok-clause-heard g c =
     subst (Heard v now.state) (sym (does o.oldest o.rest o.queue))
     (taken_heard v now.state (slice_set now.state.trees c.from.result new) o.oldest c.in-Ok.access.found before records (reason.Tampered (stage_tree now.device now.state.stage) 0) c.requires.waiting c.requires.stage sound.stage)
 
-pub returns-in-Err-Unreadable-clause-heard : goal.returns-in-Err-Unreadable-clause-heard
-returns-in-Err-Unreadable-clause-heard g c =
+pub returns-in-Unreadable-clause-heard : goal.returns-in-Unreadable-clause-heard
+returns-in-Unreadable-clause-heard g c =
     let now = c.args.self.now in
     let v = shape_of g.S.Sealer.overhead g.S.Sealer.sealing g.S.Sealer.opening now in
     let new = c.access-accessed.new.self in
