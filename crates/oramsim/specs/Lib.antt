@@ -3,3 +3,4 @@ pub mod Printing
 pub mod Host
 pub mod Script
 pub mod Standing
+pub mod Hosting
