@@ -19,7 +19,7 @@ use std::alloc::{AllocError, Global};
 /// Formats a device and makes one step an event. At the first refusal of memory it ends.
 pub fn run<S: Sealer>(alloc: Global, device: Device, sealer: S, events: &[Event]) -> Run
     // Each reply is the plain array's, in order of submission, and each message shows the tape's word at a place that
-    // the addresses alone fix.
+    // the addresses alone fix, up to an answer in which two records of one digest stand.
     ensures right { let v = shape_with S.overhead S.sealing S.opening device sealer in
         AllRight (setting_by v result.format.items) [] events.now (map shown result.reactions.items) }
     // No place is shown by two commands.
