@@ -7,3 +7,5 @@ pub mod Hearing
 pub mod Accessing
 pub mod Closing
 pub mod Heard
+pub mod Made
+pub mod Running

@@ -9,9 +9,13 @@ mod answers;
 mod formatting;
 mod machine;
 mod messages;
+mod outcome;
+mod whole;
 
 pub use machine::Core;
 pub use oram_run::{Command, Event, Note, Reaction, Reason, Refusal, Reply, ReplyBody, Submission};
+pub use outcome::Run;
+pub use whole::run;
 
 #[cfg(test)]
 mod tests;

@@ -223,6 +223,11 @@ fn accesses_of_three_trees(rt: &impl Abort, alloc: Global) -> Result<(), AllocEr
         (3, 0, true)
     );
     assert_eq!(rt; core.failure(), None);
+    // Three blocks at most fit into the root's bucket.
+    assert_eq!(rt;
+        (core.stash_len(0), core.stash_len(1), core.stash_len(2)),
+        (0, 0, 0)
+    );
     Ok(())
 }
 
