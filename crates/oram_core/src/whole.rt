@@ -65,3 +65,6 @@ fn step_all<S: Sealer>(
     }
     Ok(())
 }
+
+#[cfg(test)]
+mod tests;
