@@ -1,5 +1,5 @@
 //! Worked runs over a plain host.
-use crate::{Command, Core, Event, Note, Reaction, Reason, Refusal, ReplyBody};
+use crate::{Command, Core, Event, Note, Reaction, Reason, Refusal, ReplyBody, run};
 use oram_bucket::{ChaChaSeal, PlainSeal, Sealer};
 use oram_bytes::{Bytes, Words};
 use oram_geometry::Device;
@@ -396,6 +396,43 @@ fn lost_and_failed(rt: &impl Abort, alloc: Global) -> Result<(), AllocError> {
     assert_eq!(rt; sent.len(), 3);
     for message in &sent {
         assert_eq!(rt; message.as_slice(), [1, 0, 0, 0, 0, 6].as_slice());
+    }
+    Ok(())
+}
+
+#[test]
+fn a_whole_run(rt: HostRuntime) -> Result<(), Fail> {
+    if run_to_a_failure(&rt, rt.alloc()).is_err() {
+        run_to_a_failure(&rt, rt.alloc())?;
+    }
+    Ok(())
+}
+
+/// A run whose message is lost and sent again, and then refused.
+fn run_to_a_failure(rt: &impl Abort, alloc: Global) -> Result<(), AllocError> {
+    let device = Device::new(8, 16, 4, 8, 100).expect(rt, "a device");
+    let table = [
+        (Happening::Read(5, &[6, 3]), Note::Accepted(0)),
+        (Happening::Lost, Note::Stalled),
+        (Happening::Retry, Note::Resent),
+        (
+            Happening::Answer(&[0x80]),
+            Note::FailedNow(Reason::Malformed),
+        ),
+    ];
+    let mut events = Vec::new(alloc);
+    for (happening, _) in &table {
+        events.push(happening.event(alloc)?)?;
+    }
+    let run = run(alloc, device, PlainSeal, &events);
+    if run.out_of_memory {
+        return Err(AllocError);
+    }
+    // The tree's shape, and its 15 nodes.
+    assert_eq!(rt; run.format.len(), 16);
+    assert_eq!(rt; run.reactions.len(), 4);
+    for (reaction, (_, note)) in run.reactions.iter().zip(&table) {
+        assert_eq!(rt; reaction.note, *note);
     }
     Ok(())
 }
