@@ -65,6 +65,3 @@ fn step_all<S: Sealer>(
     }
     Ok(())
 }
-
-#[cfg(test)]
-mod tests;
