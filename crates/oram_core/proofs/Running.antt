@@ -18,8 +18,8 @@ use Rattle.oram_run.specs.State.{State}
 use Rattle.oram_run.specs.declared.events.Event.{Event}
 use Rattle.oram_run.specs.declared.events.Reaction.{Reaction}
 use Rattle.oram_run.proofs.Going.{steps_are_right}
-use Rattle.oram_core.specs.Core.{CoreValue, IsSameDevice, shape_of}
-use Rattle.oram_core.specs.Formatting.{IsNew, shape_with}
+use Rattle.oram_core.specs.Core.{CoreValue, IsSameDevice, shape_of, shape_with}
+use Rattle.oram_core.specs.Formatting.{IsNew}
 use Rattle.oram_core.specs.Runs.{IsCutShort, IsWhole}
 use Rattle.oram_core.specs.declared.outcome.Run.{Run}
 

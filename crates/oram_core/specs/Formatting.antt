@@ -10,10 +10,6 @@ use Rattle.oram_run.specs.Progress.{Setting}
 use Rattle.oram_run.specs.Shape.{Shape}
 use Rattle.oram_run.specs.State.{State, no_tree}
 
--- a device under a sealer, by what the sealer does
-abbrev pub shape_with : {S : Type 0} → (S → ℕ) → (S → ℕ → List ℕ → List ℕ) → (S → List ℕ → Option (List ℕ)) → Sizes → S → Shape
-shape_with overhead sealing opening d s = record { device = d; overhead = overhead s; sealing = sealing s; opening = opening s }
-
 -- the sink took messages that make tree n, which joins the others
 pub record IsMade {K : Type 0} (v : Shape) (putting : K → List ℕ → K → Type 0) (from : K) (n : ℕ) (others trees : List Tree) (to : K) : Type 0 where
   pub tree : Tree

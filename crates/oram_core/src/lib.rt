@@ -10,6 +10,7 @@ mod formatting;
 mod machine;
 mod messages;
 mod outcome;
+mod verdicts;
 mod whole;
 
 pub use machine::Core;

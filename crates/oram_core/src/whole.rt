@@ -4,8 +4,7 @@ ghost use Rattle.oram_trace.specs.Tape.{ArePlacesApart};
 ghost use Rattle.oram_run.specs.Law.{StepsAlong};
 ghost use Rattle.oram_run.specs.Nonces.{AreNoncesApart};
 ghost use Rattle.oram_run.specs.Run.{AllRight, shown};
-ghost use Rattle.oram_core.specs.Core.{CoreValue, shape_of};
-ghost use Rattle.oram_core.specs.Formatting.{shape_with};
+ghost use Rattle.oram_core.specs.Core.{CoreValue, shape_of, shape_with};
 ghost use Rattle.oram_core.specs.Runs.{setting_by, IsCutShort, IsWhole};
 
 use crate::machine::Core;

@@ -3,8 +3,7 @@ use Rattle.oram_trace.proofs.Apart.{places_apart}
 use Rattle.oram_run.proofs.NoncesApart.{nonces_apart}
 use Rattle.oram_run.specs.Run.{shown}
 use Rattle.oram_wire.specs.ListOfBodies.{bodies_in}
-use Rattle.oram_core.specs.Core.{shape_of}
-use Rattle.oram_core.specs.Formatting.{shape_with}
+use Rattle.oram_core.specs.Core.{shape_of, shape_with}
 use Rattle.oram_core.proofs.Running.{cut_short, right_along, whole_along, new_shape}
 use Rattle.oram_core.proofs.whole.run.Goals as goal
 
