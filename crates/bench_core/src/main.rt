@@ -37,6 +37,7 @@ fn some_access(
     device: &Device,
     random: &mut ChaCha20Rng,
 ) -> Result<Event, AllocError> {
+    prove!(0 < device.trees());
     let address = random.next_u32() % device.blocks_in(0).max(1);
     let command = if random.next_u32() % 2 == 0 {
         Command::Read(address)

@@ -28,7 +28,7 @@ use Rattle.oram_run.specs.declared.events.Reason.TheVariants.{Malformed}
 use Rattle.oram_run.proofs.Outcomes.{fetched_is, stored_is, malformed_store, malformed_is}
 use Rattle.oram_core.specs.Core.{IsSound, IsAtWork, AtWork, IsKept}
 use Rattle.oram_core.specs.Verdicts.{Means, refusal_in}
-use Rattle.oram_core.specs.declared.answers.Verdict.{Verdict}
+use Rattle.oram_core.specs.declared.verdicts.Verdict.{Verdict}
 use Rattle.oram_core.proofs.Meeting.{Waits, waits, holds_of}
 use Rattle.oram_core.proofs.Sound.{tree_within}
 

@@ -8,3 +8,4 @@ pub mod Accessing
 pub mod Closing
 pub mod Heard
 pub mod Made
+pub mod Running

@@ -20,9 +20,13 @@ pub record CoreValue (S : Type 0) : Type 0 where
   pub sealer : S
   pub state : State
 
--- the device and what the sealer does
+-- a device under a sealer, by what the sealer does
+abbrev pub shape_with : {S : Type 0} → (S → ℕ) → (S → ℕ → List ℕ → List ℕ) → (S → List ℕ → Option (List ℕ)) → Sizes → S → Shape
+shape_with overhead sealing opening d s = record { device = d; overhead = overhead s; sealing = sealing s; opening = opening s }
+
+-- that of a core
 abbrev pub shape_of : {S : Type 0} → (S → ℕ) → (S → ℕ → List ℕ → List ℕ) → (S → List ℕ → Option (List ℕ)) → CoreValue S → Shape
-shape_of overhead sealing opening c = record { device = c.device; overhead = overhead c.sealer; sealing = sealing c.sealer; opening = opening c.sealer }
+shape_of overhead sealing opening c = shape_with overhead sealing opening c.device c.sealer
 
 -- the device and the sealer stay
 abbrev pub IsSameDevice : {S : Type 0} → CoreValue S → CoreValue S → Type 0

@@ -1,6 +1,7 @@
 -- A core that was just formatted.
 use Rattle.std.specs.Prelude.{◌≡◌, ℕ, ◌<◌, List, [], ◌∷◌, ◌++◌, Option, slice_index_or}
 use Rattle.oram_geometry.specs.declared.Sizes.{Sizes}
+use Rattle.oram_geometry.specs.Sizes.{IsDevice}
 use Rattle.oram_tree.specs.Format.{PutsAll}
 use Rattle.oram_tree.specs.State.{State as Tree}
 use Rattle.oram_run.specs.Formatting.{IsTreeMade, AreTreesMade, IsFormatted}
@@ -8,10 +9,6 @@ use Rattle.oram_run.specs.Law.{new_state}
 use Rattle.oram_run.specs.Progress.{Setting}
 use Rattle.oram_run.specs.Shape.{Shape}
 use Rattle.oram_run.specs.State.{State, no_tree}
-
--- a device under a sealer, by what the sealer does
-abbrev pub shape_with : {S : Type 0} → (S → ℕ) → (S → ℕ → List ℕ → List ℕ) → (S → List ℕ → Option (List ℕ)) → Sizes → S → Shape
-shape_with overhead sealing opening d s = record { device = d; overhead = overhead s; sealing = sealing s; opening = opening s }
 
 -- the sink took messages that make tree n, which joins the others
 pub record IsMade {K : Type 0} (v : Shape) (putting : K → List ℕ → K → Type 0) (from : K) (n : ℕ) (others trees : List Tree) (to : K) : Type 0 where
@@ -31,6 +28,7 @@ pub record AreMade {K : Type 0} (v : Shape) (putting : K → List ℕ → K → 
 
 -- The state is new: the sink took messages that make all trees of the device, and the core has these trees.
 pub record IsNew {K : Type 0} (v : Shape) (putting : K → List ℕ → K → Type 0) (from : K) (s : State) (to : K) : Type 0 where
+  pub ranges : IsDevice v.device
   pub format : List (List ℕ)
   pub puts : PutsAll putting from format to
   pub trees : List Tree

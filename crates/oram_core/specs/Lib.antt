@@ -4,3 +4,4 @@ pub mod Rooms
 pub mod Verdicts
 pub mod Steps
 pub mod Formatting
+pub mod Runs

@@ -8,8 +8,8 @@ use Rattle.oram_run.specs.Content.{stage_tree}
 use Rattle.oram_run.specs.Messages.{asked}
 use Rattle.oram_run.specs.Shape.{Shape}
 use Rattle.oram_run.specs.State.{State, World}
-use Rattle.oram_core.specs.declared.answers.Verdict.{Verdict}
-use Rattle.oram_core.specs.declared.answers.Verdict.TheVariants as verdict
+use Rattle.oram_core.specs.declared.verdicts.Verdict.{Verdict}
+use Rattle.oram_core.specs.declared.verdicts.Verdict.TheVariants as verdict
 
 -- in a world
 abbrev pub Means : Shape → State → World → List ℕ → Verdict → Type 0

@@ -4,8 +4,8 @@ ghost use Rattle.oram_geometry.specs.Sizes.{trees_of};
 ghost use Rattle.oram_tree.specs.Format.{IsBegun, IsBrokenOff};
 ghost use Rattle.oram_run.specs.Formatting.{IsFormatBegun};
 ghost use Rattle.oram_run.specs.Nonces.{formatted, formatted_below};
-ghost use Rattle.oram_core.specs.Core.{CoreValue};
-ghost use Rattle.oram_core.specs.Formatting.{AreMade, IsMade, IsNew, shape_with};
+ghost use Rattle.oram_core.specs.Core.{CoreValue, shape_with};
+ghost use Rattle.oram_core.specs.Formatting.{AreMade, IsMade, IsNew};
 
 use crate::machine::Core;
 use oram_bucket::Sealer;

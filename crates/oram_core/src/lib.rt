@@ -9,9 +9,14 @@ mod answers;
 mod formatting;
 mod machine;
 mod messages;
+mod outcome;
+mod verdicts;
+mod whole;
 
 pub use machine::Core;
 pub use oram_run::{Command, Event, Note, Reaction, Reason, Refusal, Reply, ReplyBody, Submission};
+pub use outcome::Run;
+pub use whole::run;
 
 #[cfg(test)]
 mod tests;

@@ -1,6 +1,5 @@
 //! Worked runs over a plain host.
-use crate::{Command, Core, Event, Note, Reaction, Reason, Refusal, ReplyBody};
-use byteorder::{BigEndian, ByteOrder};
+use crate::{Command, Core, Event, Note, Reaction, Reason, Refusal, ReplyBody, run};
 use oram_bucket::{ChaChaSeal, PlainSeal, Sealer};
 use oram_bytes::{Bytes, Words};
 use oram_geometry::Device;
@@ -9,69 +8,108 @@ use std::alloc::{AllocError, Global};
 use std::process::Abort;
 use std::test::Fail;
 
-/// The records at a host, by tree and node.
+/// A record at a host.
+#[derive(Drop)]
+struct Place {
+    tree: u8,
+    node: u64,
+    bytes: Vec<u8>,
+}
+
+/// What a host keeps.
 #[derive(Drop)]
 struct Shelf {
-    record_len: usize,
     depths: Vec<u8>,
-    records: Vec<Vec<Vec<u8>>>,
+    record_len: usize,
+    places: Vec<Place>,
 }
 
-fn empty_shelf(alloc: Global, device: &Device, overhead: usize) -> Result<Shelf, AllocError> {
-    let mut depths = Vec::new(alloc);
-    let mut records = Vec::new(alloc);
-    for tree in 0..device.trees() {
-        let depth = device.depth(tree);
-        depths.push(depth)?;
+impl Shelf {
+    /// The nodes of a path, from the leaf up.
+    fn path(&self, alloc: Global, tree: u8, leaf: u32) -> Result<Vec<u64>, AllocError> {
+        let depth = self.depths.get(usize::from(tree)).map_or(0, |depth| *depth);
+        let leaves = 1u64 << depth.min(24);
+        let mut node = (leaves - 1) + u64::from(leaf);
         let mut nodes = Vec::new(alloc);
-        for _ in 0..(2u32 << depth) - 1 {
-            nodes.push(Vec::new(alloc))?;
+        for _ in 0..=depth {
+            nodes.push(node)?;
+            node = node.saturating_sub(1) / 2;
         }
-        records.push(nodes)?;
+        Ok(nodes)
+    }
+
+    fn place(&mut self, tree: u8, node: u64, bytes: Vec<u8>) -> Result<(), AllocError> {
+        let found = self
+            .places
+            .iter_mut()
+            .find(|place| place.tree == tree && place.node == node);
+        match found {
+            Some(place) => place.bytes = bytes,
+            None => self.places.push(Place { tree, node, bytes })?,
+        }
+        Ok(())
+    }
+
+    /// The records of a path behind byte 80, root first.
+    fn fetch(&self, alloc: Global, tree: u8, leaf: u32) -> Result<Vec<u8>, AllocError> {
+        let mut answer = vec![in alloc; 0x80]?;
+        for node in self.path(alloc, tree, leaf)?.iter().rev() {
+            let found = self
+                .places
+                .iter()
+                .find(|place| place.tree == tree && place.node == *node);
+            if let Some(place) = found {
+                answer.extend_from_slice(&place.bytes)?;
+            }
+        }
+        Ok(answer)
+    }
+
+    fn store(
+        &mut self,
+        alloc: Global,
+        tree: u8,
+        leaf: u32,
+        records: &[u8],
+    ) -> Result<(), AllocError> {
+        let nodes = self.path(alloc, tree, leaf)?;
+        let records = records.chunks(self.record_len.max(1));
+        for (node, record) in nodes.iter().rev().zip(records) {
+            self.place(tree, *node, record.to_vec(alloc)?)?;
+        }
+        Ok(())
+    }
+
+    /// What the host answers to a message.
+    fn answer(&mut self, alloc: Global, body: &[u8]) -> Result<Vec<u8>, AllocError> {
+        match HostView::read(body) {
+            Ok(HostView::Fetch { tree, leaf }) => return self.fetch(alloc, tree, leaf),
+            Ok(
+                HostView::Store {
+                    tree,
+                    leaf,
+                    records,
+                },
+            ) => self.store(alloc, tree, leaf, records)?,
+            Ok(HostView::Put { tree, node, bytes }) => {
+                self.place(tree, u64::from(node), bytes.to_vec(alloc)?)?;
+            }
+            _ => {}
+        }
+        Ok(vec![in alloc; 0x80]?)
+    }
+}
+
+fn empty_shelf(alloc: Global, device: &Device, record_len: usize) -> Result<Shelf, AllocError> {
+    let mut depths = Vec::new(alloc);
+    for tree in 0..device.trees() {
+        depths.push(device.depth(tree))?;
     }
     Ok(Shelf {
-        record_len: device.record_len(overhead),
         depths,
-        records,
+        record_len,
+        places: Vec::new(alloc),
     })
-}
-
-fn node_on(depth: u8, leaf: u32, level: u8) -> usize {
-    ((1u32 << level) - 1 + (leaf >> (depth - level))) as usize
-}
-
-/// What a host answers.
-fn answer(alloc: Global, shelf: &mut Shelf, body: &[u8]) -> Result<Vec<u8>, AllocError> {
-    let mut bytes = vec![in alloc; 0x80]?;
-    match HostView::read(body) {
-        Ok(HostView::Fetch { tree, leaf }) => {
-            let depth = shelf.depths[usize::from(tree)];
-            for level in 0..=depth {
-                bytes.extend_from_slice(
-                    &shelf.records[usize::from(tree)][node_on(depth, leaf, level)],
-                )?;
-            }
-        }
-        Ok(
-            HostView::Store {
-                tree,
-                leaf,
-                records,
-            },
-        ) => {
-            let depth = shelf.depths[usize::from(tree)];
-            for (level, record) in records.chunks_exact(shelf.record_len).enumerate() {
-                shelf.records[usize::from(tree)][node_on(depth, leaf, level as u8)] = record.to_vec(
-                    alloc,
-                )?;
-            }
-        }
-        Ok(HostView::Put { tree, node, bytes }) => {
-            shelf.records[usize::from(tree)][node as usize] = bytes.to_vec(alloc)?;
-        }
-        _ => {}
-    }
-    Ok(bytes)
 }
 
 /// A device just formatted, with its host.
@@ -81,17 +119,15 @@ fn formatted<S: Sealer>(
     device: Device,
     sealer: S,
 ) -> Result<(Core<S>, Shelf), AllocError> {
-    let mut shelf = empty_shelf(alloc, &device, sealer.overhead())?;
+    let record_len = device.record_len(sealer.overhead());
+    let mut shelf = empty_shelf(alloc, &device, record_len)?;
     let mut sink = ListSink::new(alloc);
     let core = match Core::format(alloc, device, sealer, &mut sink) {
         Ok(core) => core,
         Err(_) => return Err(AllocError),
     };
     for body in sink.bodies() {
-        assert_eq!(rt;
-            answer(alloc, &mut shelf, body)?.as_slice(),
-            [0x80].as_slice()
-        );
+        assert_eq!(rt; shelf.answer(alloc, body)?.as_slice(), [0x80].as_slice());
     }
     Ok((core, shelf))
 }
@@ -112,10 +148,6 @@ fn write(alloc: Global, address: u32, bytes: &[u8], words: &[u64]) -> Result<Eve
     })
 }
 
-fn bytes(alloc: Global, bytes: &[u8]) -> Result<Event, AllocError> {
-    Ok(Event::Answer(Bytes::copy(alloc, bytes)?))
-}
-
 /// What a message or a reply is, its tree or session, its leaf or ticket.
 type Sign = (&'static str, u32, u64);
 
@@ -131,10 +163,11 @@ fn show(reaction: &mut Reaction, shown: &mut Vec<Sign>) -> Result<Option<Bytes>,
     }
     let sent = reaction.sends.pop();
     if let Some(message) = &sent {
-        let bytes = message.as_slice();
-        let word = if bytes[0] == 1 { "fetch" } else { "store" };
-        let leaf = u64::from(BigEndian::read_u32(&bytes[2..6]));
-        shown.push((word, u32::from(bytes[1]), leaf))?;
+        if let [op, tree, a, b, c, d, ..] = message.as_slice() {
+            let word = if *op == 1 { "fetch" } else { "store" };
+            let leaf = u32::from_be_bytes([*a, *b, *c, *d]);
+            shown.push((word, u32::from(*tree), u64::from(leaf)))?;
+        }
     }
     Ok(sent)
 }
@@ -155,7 +188,7 @@ fn drain<S: Sealer>(
         let Some(message) = show(&mut reaction, shown)? else {
             return Ok((note, data));
         };
-        let answered = answer(alloc, shelf, message.as_slice())?;
+        let answered = shelf.answer(alloc, message.as_slice())?;
         reaction = core.step(alloc, &Event::Answer(Bytes::from_vec(answered)))?;
         assert_eq!(rt; reaction.note, Note::Taken);
         if let Some(reply) = reaction.replies.first() {
@@ -224,10 +257,9 @@ fn accesses_of_three_trees(rt: &impl Abort, alloc: Global) -> Result<(), AllocEr
     );
     assert_eq!(rt; core.failure(), None);
     // Three blocks at most fit into the root's bucket.
-    assert_eq!(rt;
-        (core.stash_len(0), core.stash_len(1), core.stash_len(2)),
-        (0, 0, 0)
-    );
+    for tree in 0..core.device().trees() {
+        assert_eq!(rt; core.stash_len(tree), 0, "in tree {tree}");
+    }
     Ok(())
 }
 
@@ -259,66 +291,148 @@ fn written_and_read(rt: &impl Abort, alloc: Global) -> Result<(), AllocError> {
     Ok(())
 }
 
-#[test]
-fn losses_and_refusals(rt: HostRuntime) -> Result<(), Fail> {
-    if lost_and_refused(&rt, rt.alloc()).is_err() {
-        lost_and_refused(&rt, rt.alloc())?;
-    }
-    Ok(())
+/// An event of a table.
+#[derive(Clone, Copy)]
+enum Happening {
+    /// A read of a block with these words.
+    Read(u32, &'static [u64]),
+    /// A write of so many bytes.
+    Write(u32, usize),
+    Answer(&'static [u8]),
+    Lost,
+    Retry,
 }
 
-/// What an idle core refuses or doesn't expect; then a message that is lost twice, and an answer that fails the device.
-fn lost_and_refused(rt: &impl Abort, alloc: Global) -> Result<(), AllocError> {
-    let device = Device::new(8, 16, 4, 8, 100).expect(rt, "a device");
-    let (mut core, _) = formatted(rt, alloc, device, PlainSeal)?;
-    let notes = [
-        (bytes(alloc, &[0x80])?, Note::Unexpected),
-        (Event::Lost, Note::Unexpected),
-        (Event::Retry, Note::Unexpected),
-        (
-            read(alloc, 1, 8, &[0, 0])?,
-            Note::Refused(Refusal::BadAddress),
-        ),
-        (
-            write(alloc, 7, &[1; 15], &[0, 0])?,
-            Note::Refused(Refusal::BadLength),
-        ),
-        (read(alloc, 1, 7, &[0])?, Note::Refused(Refusal::BadWords)),
-    ];
-    for (event, note) in &notes {
-        let reaction = core.step(alloc, event)?;
-        assert_eq!(rt; reaction.note, *note);
-        assert!(rt; reaction.replies.is_empty() && reaction.sends.is_empty());
+impl Happening {
+    fn event(self, alloc: Global) -> Result<Event, AllocError> {
+        match self {
+            Happening::Read(address, words) => read(alloc, 1, address, words),
+            Happening::Write(address, len) => {
+                let bytes = vec![in alloc; 1; len]?;
+                write(alloc, address, &bytes, &[0, 0])
+            }
+            Happening::Answer(bytes) => Ok(Event::Answer(Bytes::copy(alloc, bytes)?)),
+            Happening::Lost => Ok(Event::Lost),
+            Happening::Retry => Ok(Event::Retry),
+        }
     }
+}
+
+/// Makes the steps of a table, compares the notes, and gives the messages sent.
+fn follow(
+    rt: &impl Abort,
+    alloc: Global,
+    core: &mut Core<PlainSeal>,
+    table: &[(Happening, Note)],
+) -> Result<Vec<Bytes>, AllocError> {
     let mut sent = Vec::new(alloc);
-    let notes = [
-        (read(alloc, 1, 5, &[6, 3])?, Note::Accepted(0)),
-        (bytes(alloc, &[0x81, 8])?, Note::Stalled),
-        (bytes(alloc, &[0x80])?, Note::Unexpected),
-        (Event::Retry, Note::Resent),
-        (Event::Retry, Note::Unexpected),
-        (Event::Lost, Note::Stalled),
-        (Event::Lost, Note::Unexpected),
-        (Event::Retry, Note::Resent),
-        (
-            bytes(alloc, &[0x81, 6])?,
-            Note::FailedNow(Reason::HostRefused(6)),
-        ),
-        (Event::Retry, Note::Unexpected),
-        (read(alloc, 1, 5, &[6, 3])?, Note::Refused(Refusal::Failed)),
-    ];
-    for (event, note) in &notes {
-        let mut reaction = core.step(alloc, event)?;
+    for (happening, note) in table {
+        let mut reaction = core.step(alloc, &happening.event(alloc)?)?;
         assert_eq!(rt; reaction.note, *note);
         if let Some(message) = reaction.sends.pop() {
             sent.push(message)?;
         }
     }
-    assert_eq!(rt; core.failure(), Some(Reason::HostRefused(6)));
+    Ok(sent)
+}
+
+#[test]
+fn an_idle_core_refuses(rt: HostRuntime) -> Result<(), Fail> {
+    if refused_when_idle(&rt, rt.alloc()).is_err() {
+        refused_when_idle(&rt, rt.alloc())?;
+    }
+    Ok(())
+}
+
+fn refused_when_idle(rt: &impl Abort, alloc: Global) -> Result<(), AllocError> {
+    let device = Device::new(8, 16, 4, 8, 100).expect(rt, "a device");
+    let (mut core, _) = formatted(rt, alloc, device, PlainSeal)?;
+    let table = [
+        (Happening::Answer(&[0x80]), Note::Unexpected),
+        (Happening::Lost, Note::Unexpected),
+        (Happening::Retry, Note::Unexpected),
+        (
+            Happening::Read(8, &[0, 0]),
+            Note::Refused(Refusal::BadAddress),
+        ),
+        (Happening::Write(7, 15), Note::Refused(Refusal::BadLength)),
+        (Happening::Read(7, &[0]), Note::Refused(Refusal::BadWords)),
+    ];
+    let sent = follow(rt, alloc, &mut core, &table)?;
+    assert_eq!(rt; sent.len(), 0);
+    assert_eq!(rt; core.is_idle(), true);
+    Ok(())
+}
+
+#[test]
+fn losses_and_a_failure(rt: HostRuntime) -> Result<(), Fail> {
+    if lost_and_failed(&rt, rt.alloc()).is_err() {
+        lost_and_failed(&rt, rt.alloc())?;
+    }
+    Ok(())
+}
+
+/// A message that is lost twice, and an answer that fails the device.
+fn lost_and_failed(rt: &impl Abort, alloc: Global) -> Result<(), AllocError> {
+    let device = Device::new(8, 16, 4, 8, 100).expect(rt, "a device");
+    let (mut core, _) = formatted(rt, alloc, device, PlainSeal)?;
+    let failed = Reason::HostRefused(6);
+    let table = [
+        (Happening::Read(5, &[6, 3]), Note::Accepted(0)),
+        (Happening::Answer(&[0x81, 8]), Note::Stalled),
+        (Happening::Answer(&[0x80]), Note::Unexpected),
+        (Happening::Retry, Note::Resent),
+        (Happening::Retry, Note::Unexpected),
+        (Happening::Lost, Note::Stalled),
+        (Happening::Lost, Note::Unexpected),
+        (Happening::Retry, Note::Resent),
+        (Happening::Answer(&[0x81, 6]), Note::FailedNow(failed)),
+        (Happening::Retry, Note::Unexpected),
+        (Happening::Read(5, &[6, 3]), Note::Refused(Refusal::Failed)),
+    ];
+    let sent = follow(rt, alloc, &mut core, &table)?;
+    assert_eq!(rt; core.failure(), Some(failed));
     assert_eq!(rt; core.is_idle(), false);
     assert_eq!(rt; sent.len(), 3);
     for message in &sent {
         assert_eq!(rt; message.as_slice(), [1, 0, 0, 0, 0, 6].as_slice());
+    }
+    Ok(())
+}
+
+#[test]
+fn a_whole_run(rt: HostRuntime) -> Result<(), Fail> {
+    if run_to_a_failure(&rt, rt.alloc()).is_err() {
+        run_to_a_failure(&rt, rt.alloc())?;
+    }
+    Ok(())
+}
+
+/// A run whose message is lost and sent again, and then refused.
+fn run_to_a_failure(rt: &impl Abort, alloc: Global) -> Result<(), AllocError> {
+    let device = Device::new(8, 16, 4, 8, 100).expect(rt, "a device");
+    let table = [
+        (Happening::Read(5, &[6, 3]), Note::Accepted(0)),
+        (Happening::Lost, Note::Stalled),
+        (Happening::Retry, Note::Resent),
+        (
+            Happening::Answer(&[0x80]),
+            Note::FailedNow(Reason::Malformed),
+        ),
+    ];
+    let mut events = Vec::new(alloc);
+    for (happening, _) in &table {
+        events.push(happening.event(alloc)?)?;
+    }
+    let run = run(alloc, device, PlainSeal, &events);
+    if run.out_of_memory {
+        return Err(AllocError);
+    }
+    // The tree's shape, and its 15 nodes.
+    assert_eq!(rt; run.format.len(), 16);
+    assert_eq!(rt; run.reactions.len(), 4);
+    for (reaction, (_, note)) in run.reactions.iter().zip(&table) {
+        assert_eq!(rt; reaction.note, *note);
     }
     Ok(())
 }
@@ -344,9 +458,9 @@ fn a_step_without_memory_changes_nothing(rt: HostRuntime) -> Result<(), Fail> {
             Err(_) => core.step(alloc, &event)?,
         };
         if let Some(message) = reaction.sends.pop() {
-            let answered = match answer(alloc, &mut shelf, message.as_slice()) {
+            let answered = match shelf.answer(alloc, message.as_slice()) {
                 Ok(answered) => answered,
-                Err(_) => answer(alloc, &mut shelf, message.as_slice())?,
+                Err(_) => shelf.answer(alloc, message.as_slice())?,
             };
             event = Event::Answer(Bytes::from_vec(answered));
         }

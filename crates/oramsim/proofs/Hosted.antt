@@ -91,9 +91,6 @@ store_room kept leaf records BadOp small long r = absurd r
 store_room kept leaf records OutOfMemory small long r = refl
 
 module _ (v : Shape) (i leaf : ℕ) (records : ℕ → List ℕ) (host : Host) (k : KeepsTree v i records host) (fits : leaf < 2 ^ depth_of v.device i) where
-  deep : ℕ
-  deep = depth_of v.device i
-
   leaf_fits : leaf < 2 ^ k.kept.depth
   leaf_fits = subst (λ (n : ℕ). leaf < 2 ^ n) (sym k.depth) fits
 

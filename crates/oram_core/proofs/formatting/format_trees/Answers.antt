@@ -3,7 +3,8 @@ use Rattle.oram_geometry.specs.Sizes.{trees_of}
 use Rattle.oram_run.specs.Formatting.{IsFormatBegun}
 use Rattle.oram_run.specs.Nonces.{formatted_below}
 use Rattle.oram_run.specs.Shape.{IsLawful}
-use Rattle.oram_core.specs.Formatting.{AreMade, shape_with}
+use Rattle.oram_core.specs.Formatting.{AreMade}
+use Rattle.oram_core.specs.Core.{shape_with}
 use Rattle.oram_tree.proofs.Puts.{if_err, broken_told}
 use Rattle.oram_core.proofs.Made.{below_none, none_made, next_made, broken_between, broken_within}
 use Rattle.oram_core.proofs.formatting.format_trees.Goals as goal

@@ -1,6 +1,7 @@
 use Rattle.std.proofs.Common.{◌≡◌}
 use Rattle.oram_run.specs.Nonces.{formatted_below}
-use Rattle.oram_core.specs.Formatting.{AreMade, shape_with}
+use Rattle.oram_core.specs.Formatting.{AreMade}
+use Rattle.oram_core.specs.Core.{shape_with}
 use Rattle.oram_core.proofs.formatting.format_trees.Given as goal
 
 abbrev pub invariant-loop-tree : goal.invariant-loop-tree

@@ -1,7 +1,7 @@
 use Rattle.std.proofs.Common.{◌-◌, ℕ, refl, ap, ◌∙◌, arith, replicate}
 use Rattle.oram_geometry.specs.Sizes.{trees_of, blocks_in}
 use Rattle.oram_run.specs.Shape.{IsLawful}
-use Rattle.oram_core.specs.Formatting.{shape_with}
+use Rattle.oram_core.specs.Core.{shape_with}
 use Rattle.oram_tree.proofs.Puts.{if_err}
 use Rattle.oram_core.proofs.Made.{new_sound, broken_between}
 use Rattle.oram_core.proofs.machine.Core.format.Goals as goal
