@@ -18,6 +18,7 @@ use oram_bytes::Bytes;
 use oram_core::{Core, Event};
 use oram_geometry::{Device, ShapeFault};
 use oram_host::Server;
+use oram_tree::FormatFault;
 use std::alloc::{AllocError, Global};
 use std::io::{ErrorKind, Write};
 
@@ -232,17 +233,15 @@ impl Machine {
     }
 }
 
-/// Formats a device, on a host that keeps nothing yet.
-fn formatted(alloc: Global, device: Device) -> Result<Machine, SimFault>
+/// Formats a device, on a host that keeps nothing yet. Such a host refuses a formatting for want of memory alone.
+fn formatted(alloc: Global, device: Device) -> Result<Machine, FormatFault>
     requires { IsDevice device }
     ensures whole { IfOk result (λ machine. IsWholeMachine machine) }
     ensures ok { IfOk result (λ machine. (r : Running) × IsNew device r × Stands r machine × IsFaithful r) }
+    ensures err { IfErr result (λ fault. fault ≡ FormatFault.OutOfMemory) }
 {
     let mut server = Server::new(alloc);
-    // Such a host refuses a formatting for want of memory alone.
-    let Ok(core) = Core::format(alloc, device, PlainSeal, &mut server) else {
-        return Err(SimFault::OutOfMemory);
-    };
+    let core = Core::format(alloc, device, PlainSeal, &mut server)?;
     Ok(Machine {
         core,
         server,
@@ -264,7 +263,9 @@ pub fn begin<W: Write>(
     match device {
         Ok(device) => {
             let trees = device.trees();
-            let machine = formatted(alloc, device)?;
+            let Ok(machine) = formatted(alloc, device) else {
+                return Err(SimFault::OutOfMemory);
+            };
             let text = format!(in alloc; "{}", ReadyText(trees))?;
             put(writer, text.as_bytes())?;
             Ok(Some(machine))
