@@ -1,5 +1,5 @@
 -- What becomes of an answer that is waited for, whoever gives it.
-use Rattle.std.proofs.Common.{◌≡◌, ℕ, ◌+◌, ◌-◌, ◌*◌, ◌%◌, ◌<◌, ◌==◌, Bool, true, false, if◌then◌else◌, List, [], ◌∷◌, map, Some, Result, Ok, Err, IfOk, refl, ap, sym, ◌∙◌, subst, arith, inl, inr}
+use Rattle.std.proofs.Common.{◌≡◌, ℕ, ◌+◌, ◌*◌, ◌%◌, ◌<◌, Bool, true, false, if◌then◌else◌, List, ◌∷◌, map, Result, Ok, Err, IfOk, refl, ap, sym, subst, arith, inl, inr}
 use Rattle.oram_geometry.specs.Sizes.{trees_of}
 use Rattle.oram_tree.specs.State.{State as Tree}
 use Rattle.oram_run.specs.Events.{failed_reply}
@@ -10,8 +10,8 @@ use Rattle.oram_run.specs.declared.events.Reaction.{Reaction}
 use Rattle.oram_run.specs.declared.events.Reason.{Reason}
 use Rattle.oram_run.specs.declared.events.Submission.{Submission}
 use Rattle.oram_core.specs.Core.{IsSound}
-use Rattle.oram_core.specs.Doing.{Done, done, failed_by, fetched_by, finished_by, stored_by, is_misled}
-use Rattle.oram_core.specs.Steps.{Fails, GoesOn, Replies, Heard}
+use Rattle.oram_core.specs.Doing.{done, failed_by, fetched_by, finished_by, stored_by, is_misled}
+use Rattle.oram_core.specs.Steps.{Heard}
 use Rattle.oram_core.proofs.Sound.{HasOldest, has_oldest}
 
 -- what is claimed of an Ok follows from what is known of it

@@ -1,5 +1,5 @@
 -- What the code makes of an answer is what the answer means.
-use Rattle.std.proofs.Common.{◌≡◌, ◌≢◌, ◌⊎◌, ◌↔◌, ℕ, ◌+◌, ◌-◌, ◌*◌, ◌%◌, ◌^◌, ◌<◌, ◌≤◌, ◌==◌, ◌&&◌, Bool, true, false, if◌then◌else◌, List, [], ◌∷◌, length, drop, slice_index, slice_index_or, nat_le, nat_lt, not, Option, Some, None, Result, Ok, Err, MatchResult, refl, ap, sym, ◌∙◌, subst, arith, inl, inr}
+use Rattle.std.proofs.Common.{◌≡◌, ◌≢◌, ◌⊎◌, ◌↔◌, ℕ, ◌+◌, ◌*◌, ◌%◌, ◌^◌, ◌<◌, ◌≤◌, ◌==◌, ◌&&◌, Bool, true, false, if◌then◌else◌, List, [], ◌∷◌, length, drop, slice_index, slice_index_or, nat_le, nat_lt, not, Some, None, Result, Ok, Err, MatchResult, refl, ap, sym, ◌∙◌, subst, arith, inl, inr}
 use Rattle.std.specs.List.{All}
 use Rattle.std.proofs.lemmas.List.{get_or_read}
 use Rattle.std.proofs.lemmas.Bool.{cases_eq}
@@ -13,9 +13,9 @@ use Rattle.oram_hash.specs.declared.HashFault.TheVariants as fault
 use Rattle.oram_hash.specs.Path.{Path, path_of, HasLength}
 use Rattle.oram_hash.specs.Tree.{IsStored, IsPathOf, Collides}
 use Rattle.oram_hash.specs.Verdict.{IsFaultOf}
-use Rattle.oram_tree.specs.State.{State as Tree, IsStoredWith}
-use Rattle.oram_run.specs.Answers.{Outcome, answered_path, outcome_of, outcome_by, pair_in, is_payload, is_refusal}
-use Rattle.oram_run.specs.Answers.Outcome.{Good, NoRoom, Fails}
+use Rattle.oram_tree.specs.State.{State as Tree}
+use Rattle.oram_run.specs.Answers.{answered_path, outcome_of, outcome_by, pair_in, is_payload, is_refusal}
+use Rattle.oram_run.specs.Answers.Outcome.{Good, Fails}
 use Rattle.oram_run.specs.Content.{stage_tree}
 use Rattle.oram_run.specs.Messages.{asked}
 use Rattle.oram_run.specs.Moves.{Fits}
@@ -29,7 +29,7 @@ use Rattle.oram_run.proofs.Outcomes.{fetched_is, stored_is, malformed_store, mal
 use Rattle.oram_core.specs.Core.{IsSound, IsAtWork, AtWork, IsKept}
 use Rattle.oram_core.specs.Verdicts.{Means, refusal_in}
 use Rattle.oram_core.specs.declared.verdicts.Verdict.{Verdict}
-use Rattle.oram_core.proofs.Meeting.{Waits, waits, holds_of}
+use Rattle.oram_core.proofs.Meeting.{waits, holds_of}
 use Rattle.oram_core.proofs.Sound.{tree_within}
 
 -- a checked path of the right length is the tree's, where no two records of one digest stand in it

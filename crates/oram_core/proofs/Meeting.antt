@@ -1,16 +1,16 @@
 -- What the code of a step does meets the local rule.
-use Rattle.std.proofs.Common.{◌≡◌, ◌≢◌, ◌&&◌, ℕ, ◌+◌, ◌*◌, ◌%◌, ◌<◌, ◌==◌, Bool, true, false, not, if◌then◌else◌, List, [], ◌∷◌, length, Option, Some, None, unwrap_or, Result, Ok, Err, IfOk, refl, ap, sym, ◌∙◌, subst, arith}
+use Rattle.std.proofs.Common.{◌≡◌, ◌≢◌, ◌&&◌, ℕ, ◌+◌, ◌*◌, ◌%◌, ◌<◌, ◌==◌, Bool, true, false, if◌then◌else◌, List, [], ◌∷◌, length, Option, Some, None, unwrap_or, Result, Ok, Err, IfOk, refl, ap, sym, ◌∙◌, subst, arith}
 use Rattle.std.specs.Str.{bytes_eq}
 use Rattle.std.proofs.lemmas.Slice.Eq.{bytes_eq-Decides}
 use Rattle.std.proofs.lemmas.Bool.Decides.{nat_tests}
 use Rattle.oram_geometry.specs.Sizes.{trees_of}
 use Rattle.oram_run.specs.Answers.{Outcome, outcome_of, pair_in}
-use Rattle.oram_run.specs.Answers.Outcome.{Good, NoRoom, Fails}
+use Rattle.oram_run.specs.Answers.Outcome.{NoRoom, Fails}
 use Rattle.oram_run.specs.Messages.{asked}
-use Rattle.oram_run.specs.Moves.{Moved, MovesTo, Fits, Moves, moved, shows_in, goes_on, stays, on_answer, on_loss, on_retry, on_submission, finishes, fetches}
+use Rattle.oram_run.specs.Moves.{Moved, MovesTo, Fits, moved, goes_on, stays, on_answer, on_loss, on_retry, on_submission, finishes, fetches}
 use Rattle.oram_run.specs.Progress.{Status}
 use Rattle.oram_run.specs.Progress.Status.{Idle, Waiting, Stalling, Over}
-use Rattle.oram_run.specs.Run.{Shown, shown, refusal_of, is_over, is_waiting}
+use Rattle.oram_run.specs.Run.{shown, refusal_of, is_over, is_waiting}
 use Rattle.oram_run.specs.Shape.{Shape}
 use Rattle.oram_run.specs.State.{State, World, Holds, status_by, status_in}
 use Rattle.oram_run.specs.declared.events.Command.{Command}
@@ -24,7 +24,7 @@ use Rattle.oram_run.specs.declared.events.Refusal.{Refusal}
 use Rattle.oram_run.specs.declared.events.Submission.{Submission}
 use Rattle.oram_core.specs.Doing.{is_stalled, is_free_note, Done, done, noted, plain_step, submitted_by, lost_by, retried_by, unheard_by, accepted_by, finished_by, fetched_by, failed_by, stalled_by, resent_by}
 use Rattle.oram_core.specs.Steps.{Steps, Heard}
-use Rattle.oram_core.proofs.Quiet.{Meets, shown_by, stays_met, accepts_met, stalls_met, resends_met, fails_met, finishes_met, fetches_met}
+use Rattle.oram_core.proofs.Quiet.{Meets, stays_met, accepts_met, stalls_met, resends_met, fails_met, finishes_met, fetches_met}
 
 -- a command is at work, and its message is outstanding
 pub record Waits (s : State) : Type 0 where

@@ -1,25 +1,22 @@
 -- Steps that ask nothing of the trees meet the local rule in every world.
 use Rattle.std.proofs.Math.Path.{fun_ext}
-use Rattle.std.proofs.Common.{◌≡◌, ℕ, ◌+◌, ◌-◌, ◌==◌, Bool, true, false, not, if◌then◌else◌, List, [], ◌∷◌, ◌++◌, slice_index, Option, Some, None, map, refl, ap, sym, ◌∙◌, subst, arith}
+use Rattle.std.proofs.Common.{◌≡◌, ℕ, ◌+◌, ◌-◌, ◌==◌, true, false, not, if◌then◌else◌, List, [], ◌∷◌, ◌++◌, slice_index, Option, Some, None, refl, ap, sym, subst, arith}
 use Rattle.std.specs.List.{All}
 use Rattle.oram_geometry.specs.Sizes.{trees_of}
 use Rattle.oram_trace.specs.declared.asked.Entry.{Entry}
 use Rattle.oram_wire.specs.HostMessages.{fetch_body}
-use Rattle.oram_run.specs.Events.{failed_reply}
-use Rattle.oram_run.specs.Messages.{IsMessage, written, is_store}
-use Rattle.oram_run.specs.Moves.{Moved, MovesTo, Ask, Sends, PlacedIn, stays, accepts, fetches, finishes, stalls, resends, fails, if_idle, first_fetch, fetch_at, records_after, world_after, latest}
-use Rattle.oram_run.specs.Blocks.{body_from}
-use Rattle.oram_run.specs.Moves.Ask.{For}
+use Rattle.oram_run.specs.Messages.{IsMessage, written}
+use Rattle.oram_run.specs.Moves.{Moved, MovesTo, Ask, PlacedIn, stays, accepts, fetches, finishes, stalls, resends, fails, if_idle, first_fetch, fetch_at, records_after, world_after, latest}
 use Rattle.oram_run.specs.Run.{Shown}
 use Rattle.oram_run.specs.Shape.{Shape}
 use Rattle.oram_run.specs.State.{State, World, Holds}
 use Rattle.oram_run.specs.Content.{block_of}
 use Rattle.oram_run.specs.declared.events.Note.{Note}
-use Rattle.oram_run.specs.declared.events.Note.TheVariants.{Accepted, Taken}
+use Rattle.oram_run.specs.declared.events.Note.TheVariants.{Accepted}
 use Rattle.oram_run.specs.declared.events.Reason.{Reason}
 use Rattle.oram_run.specs.declared.events.Submission.{Submission}
 use Rattle.oram_run.proofs.Others.{all_none, all_one}
-use Rattle.oram_core.specs.Doing.{Done, noted, fetch_of, first_message, first_messages, sent_if_idle, accepted_by, stalled_by, resent_by, failed_by, fetched_by, finished_by}
+use Rattle.oram_core.specs.Doing.{Done, noted, fetch_of, first_message, sent_if_idle, accepted_by, stalled_by, resent_by, failed_by, fetched_by, finished_by}
 
 -- what is shown of it
 abbrev pub shown_by : Done → Shown

@@ -15,7 +15,6 @@ use Rattle.oram_run.proofs.Bounds.{depth_small}
 use Rattle.oram_run.proofs.Maps.{block_after-zero, block_after-suc}
 use Rattle.oram_run.specs.declared.events.Command.{Command}
 use Rattle.oram_run.specs.declared.events.Command.TheVariants.{Read, Write}
-use Rattle.oram_run.specs.declared.events.Refusal.{Refusal}
 use Rattle.oram_run.specs.declared.events.Refusal.TheVariants as refusal
 use Rattle.oram_run.specs.declared.events.Submission.{Submission}
 use Rattle.oram_geometry.proofs.Measuring.{blocks_in-zero}

@@ -1,5 +1,5 @@
 -- What holds of each core stays so.
-use Rattle.std.proofs.Common.{◌≡◌, ℕ, zero, suc, ◌+◌, ◌-◌, ◌*◌, ◌/◌, ◌%◌, ◌^◌, ◌<◌, ◌≤◌, ◌==◌, Bool, true, false, not, if◌then◌else◌, nat_le, List, [], ◌∷◌, ◌++◌, length, length-append, slice_index, slice_index_or, slice_set, Option, Some, None, refl, ap, sym, ◌∙◌, subst, arith, inl, inr}
+use Rattle.std.proofs.Common.{◌≡◌, ℕ, zero, suc, ◌+◌, ◌-◌, ◌*◌, ◌%◌, ◌^◌, ◌<◌, ◌≤◌, ◌==◌, Bool, true, false, if◌then◌else◌, List, [], ◌∷◌, ◌++◌, length, length-append, slice_index, slice_set, Option, Some, None, refl, ap, sym, ◌∙◌, subst, arith, inl, inr}
 use Rattle.std.specs.List.{All}
 use Rattle.std.specs.Int.{w32, to_be_bytes}
 use Rattle.std.proofs.lemmas.List.{get_or-set_same, get_or-set_other, length-set}
@@ -10,21 +10,17 @@ use Rattle.std.proofs.lemmas.Nat.{from_be_bytes-to_be_bytes_4, pow_pos}
 use Rattle.std.proofs.Math.Nat.{mod-lt}
 use Rattle.std.proofs.Math.Pow.{pow_mono}
 use Rattle.oram_geometry.specs.declared.Sizes.{Sizes}
-use Rattle.oram_geometry.specs.Sizes.{IsDevice, trees_of, depth_of, blocks_in, leaf_of}
+use Rattle.oram_geometry.specs.Sizes.{trees_of, depth_of, blocks_in}
 use Rattle.oram_geometry.proofs.Measuring.{trees_of-few}
 use Rattle.oram_wire.specs.HostMessages.{fetch_body, store_body}
-use Rattle.oram_bucket.specs.Bucket.{IsBlockOf}
 use Rattle.oram_tree.specs.State.{State as Tree}
 use Rattle.oram_run.specs.Content.{block_of, new_leaf, stage_tree}
-use Rattle.oram_run.specs.Events.{address_of}
 use Rattle.oram_run.specs.Messages.{asked}
 use Rattle.oram_run.specs.Moves.{fetch_at, leaf_for, latest}
 use Rattle.oram_run.specs.Blocks.{next_named, kept_of}
-use Rattle.oram_run.specs.Run.{refusal_of, has_bad_length}
 use Rattle.oram_run.specs.Shape.{Shape}
 use Rattle.oram_run.specs.Progress.Status.{Idle, Waiting, Stalling, Over}
 use Rattle.oram_run.specs.State.{State, named_now, no_tree, status_by, status_in}
-use Rattle.oram_run.specs.declared.events.Command.{Command}
 use Rattle.oram_run.specs.declared.events.Reason.{Reason}
 use Rattle.oram_run.specs.declared.events.Submission.{Submission}
 use Rattle.oram_run.proofs.Bounds.{some_trees, depth_small}

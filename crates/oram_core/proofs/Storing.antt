@@ -1,35 +1,31 @@
 -- The answer to a fetch is taken over: the tree has the access, and its path goes back.
 use Rattle.std.proofs.Math.Path.{fun_ext}
-use Rattle.std.proofs.Common.{◌≡◌, ℕ, ◌+◌, ◌-◌, ◌*◌, ◌^◌, ◌<◌, ◌≤◌, ◌==◌, ◌&&◌, ◌||◌, not, nat_lt, is_some, Bool, true, false, if◌then◌else◌, List, [], ◌∷◌, ◌++◌, length, slice_index, slice_index_or, slice_set, Option, Some, None, refl, ap, sym, ◌∙◌, subst, arith}
-use Rattle.std.specs.List.{All}
+use Rattle.std.proofs.Common.{◌≡◌, ℕ, ◌+◌, ◌-◌, ◌*◌, ◌^◌, ◌<◌, ◌≤◌, ◌==◌, ◌&&◌, not, nat_lt, Bool, true, false, if◌then◌else◌, List, [], ◌∷◌, length, slice_index_or, slice_set, refl, ap, sym, ◌∙◌, subst, arith}
 use Rattle.std.proofs.lemmas.Bool.Decides.{nat_tests}
-use Rattle.std.proofs.lemmas.Nat.{from_be_bytes-to_be_bytes_4}
 use Rattle.std.proofs.Math.Pow.{pow_mono}
 use Rattle.oram_geometry.specs.Sizes.{depth_of, trees_of}
 use Rattle.oram_trace.specs.declared.asked.Entry.{Entry}
 use Rattle.oram_wire.specs.HostMessages.{store_body}
 use Rattle.oram_hash.specs.Path.{Path, path_of, with_bytes}
-use Rattle.oram_hash.specs.Tree.{IsPathOf}
 use Rattle.oram_bucket.specs.Cell.{Cell}
 use Rattle.oram_bucket.specs.Reading.{Reads}
-use Rattle.oram_tree.specs.Content.{Map, Entry as Held, entry_of, put}
+use Rattle.oram_tree.specs.Content.{Map, entry_of, put}
 use Rattle.oram_tree.specs.State.{State as Tree}
 use Rattle.oram_tree.specs.Access.{IsRewritten, IsUpdate}
 use Rattle.oram_run.specs.Content.{block_of, new_leaf, stage_tree}
-use Rattle.oram_run.specs.Messages.{IsMessage, asked, is_store}
-use Rattle.oram_run.specs.Moves.{Moved, MovesTo, PlacedIn, IsReadyFor, stores, records_after, world_after}
-use Rattle.oram_run.specs.Blocks.{found_in, block_after, next_named, kept_of, put_in}
-use Rattle.oram_run.specs.Run.{Shown}
+use Rattle.oram_run.specs.Messages.{asked}
+use Rattle.oram_run.specs.Moves.{PlacedIn, IsReadyFor, stores, records_after}
+use Rattle.oram_run.specs.Blocks.{found_in, block_after, next_named, put_in}
 use Rattle.oram_run.specs.Shape.{Shape, record_len}
-use Rattle.oram_run.specs.State.{State, World, Holds, named_now, name_of, no_tree}
+use Rattle.oram_run.specs.State.{State, World, Holds, named_now, no_tree}
 use Rattle.oram_run.specs.Trees.{Stands, IsPlaced}
 use Rattle.oram_run.specs.declared.events.Submission.{Submission}
 use Rattle.oram_run.proofs.Others.{all_one}
 use Rattle.oram_run.proofs.Bounds.{some_trees, depth_small}
 use Rattle.oram_run.proofs.Placing.{IsMade, store_stands, store_places, holds_stored, there_if_named}
-use Rattle.oram_core.specs.Core.{IsSound, IsAtWork, IsKept}
+use Rattle.oram_core.specs.Core.{IsSound, IsAtWork}
 use Rattle.oram_core.specs.Doing.{stored_by, is_misled}
-use Rattle.oram_core.proofs.Quiet.{Meets, shown_by}
+use Rattle.oram_core.proofs.Quiet.{Meets}
 use Rattle.oram_core.proofs.Sound.{asked_store}
 
 -- an access to the tree at work: the block as changed, and the tree and the records that it has made

@@ -1,7 +1,6 @@
 -- What the steps of a core do that ask nothing of the trees.
-use Rattle.std.specs.Prelude.{◌≡◌, ℕ, ◌+◌, ◌-◌, ◌*◌, ◌^◌, ◌==◌, ◌&&◌, ◌||◌, not, Bool, true, false, if◌then◌else◌, List, [], ◌∷◌, ◌++◌, length, slice_index, slice_set, Option, Some, None, map, nat_lt}
+use Rattle.std.specs.Prelude.{ℕ, ◌+◌, ◌-◌, ◌^◌, ◌==◌, ◌&&◌, ◌||◌, not, Bool, true, false, if◌then◌else◌, List, [], ◌∷◌, ◌++◌, length, slice_index, slice_set, Option, Some, None, map, nat_lt}
 use Rattle.std.specs.Str.{bytes_eq}
-use Rattle.oram_geometry.specs.declared.Sizes.{Sizes}
 use Rattle.oram_geometry.specs.Sizes.{trees_of, depth_of}
 use Rattle.oram_trace.specs.declared.asked.Entry.{Entry}
 use Rattle.oram_wire.specs.HostMessages.{fetch_body, store_body}
@@ -13,7 +12,7 @@ use Rattle.oram_run.specs.Moves.{fetch_at, latest}
 use Rattle.oram_run.specs.Blocks.{body_from, next_named, kept_of}
 use Rattle.oram_run.specs.Progress.{Status}
 use Rattle.oram_run.specs.Progress.Status.{Idle, Waiting, Stalling, Over}
-use Rattle.oram_run.specs.Run.{Shown, refusal_of, is_over}
+use Rattle.oram_run.specs.Run.{refusal_of, is_over}
 use Rattle.oram_run.specs.State.{State, named_now, status_in}
 use Rattle.oram_run.specs.declared.events.Event.{Event}
 use Rattle.oram_run.specs.declared.events.Event.TheVariants.{Submit, Answer, Lost, Retry}

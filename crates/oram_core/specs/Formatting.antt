@@ -1,6 +1,5 @@
 -- A core that was just formatted.
-use Rattle.std.specs.Prelude.{◌≡◌, ℕ, ◌<◌, List, [], ◌∷◌, ◌++◌, Option, slice_index_or}
-use Rattle.oram_geometry.specs.declared.Sizes.{Sizes}
+use Rattle.std.specs.Prelude.{◌≡◌, ℕ, ◌<◌, List, [], ◌∷◌, ◌++◌, slice_index_or}
 use Rattle.oram_geometry.specs.Sizes.{IsDevice}
 use Rattle.oram_tree.specs.Format.{PutsAll}
 use Rattle.oram_tree.specs.State.{State as Tree}

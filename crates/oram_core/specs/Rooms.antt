@@ -1,5 +1,5 @@
 -- Room for a message that is made later.
-use Rattle.std.specs.Prelude.{◌≡◌, ℕ, ◌+◌, ◌<◌, ◌≤◌, List, [], ◌∷◌, ◌++◌, vec_len, vec_capacity}
+use Rattle.std.specs.Prelude.{◌≡◌, ℕ, ◌+◌, ◌<◌, ◌≤◌, [], ◌∷◌, ◌++◌, vec_len, vec_capacity}
 use Rattle.std.specs.Int.{w32, to_be_bytes}
 use Rattle.oram_core.specs.declared.messages.Room.{Room}
 

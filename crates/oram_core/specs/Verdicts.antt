@@ -1,6 +1,6 @@
 -- What a verdict says of an answer.
 use Rattle.std.specs.Prelude.{◌≡◌, ℕ, ◌%◌, ◌==◌, not, if◌then◌else◌, List, length, slice_index, Option, Some, None, nat_lt}
-use Rattle.oram_hash.specs.Path.{Path, path_of}
+use Rattle.oram_hash.specs.Path.{path_of}
 use Rattle.oram_hash.specs.Tree.{IsPathOf}
 use Rattle.oram_run.specs.Answers.{outcome_of}
 use Rattle.oram_run.specs.Answers.Outcome.{Good, NoRoom, Fails}

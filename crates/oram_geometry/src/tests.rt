@@ -45,10 +45,9 @@ fn one_bucket(rt: HostRuntime) {
 fn three_trees(rt: HostRuntime) {
     let device = Device::new(64, 16, 4, 4, 100).expect(&rt, "a device");
     assert_eq!(rt; device.trees(), 3);
-    for (tree, blocks, depth) in [(0, 64, 6), (1, 16, 4), (2, 4, 2)] {
-        assert_eq!(rt; device.blocks_in(tree), blocks, "in tree {tree}");
-        assert_eq!(rt; device.depth(tree), depth, "of tree {tree}");
-    }
+    assert_eq!(rt; (device.blocks_in(0), device.depth(0)), (64, 6));
+    assert_eq!(rt; (device.blocks_in(1), device.depth(1)), (16, 4));
+    assert_eq!(rt; (device.blocks_in(2), device.depth(2)), (4, 2));
     assert_eq!(rt; device.address_in(2, 37), 2);
     assert_eq!(rt; device.leaf_of(1, 12), 12);
 }

@@ -86,6 +86,7 @@ impl Sink for ListSink {
     ghost use Rattle.oram_wire.specs.declared.sinks.SinkFault.TheVariants.{OutOfMemory};
 
     ghost putting = { λ old body new. new ≡ old ++ body ∷ [] };
+
     ghost refusing = { λ old body fault new. (new ≡ old) × (fault ≡ OutOfMemory) };
 
     fn put(&mut self, body: &[u8]) -> Result<(), SinkFault>

@@ -1,5 +1,3 @@
-use Rattle.std.proofs.Common.{◌≡◌, None, length, refl, ap, sym, ◌∙◌, subst}
-use Rattle.oram_core.specs.Core.{CoreValue, IsAllowed}
 use Rattle.oram_core.proofs.Small.{fine, fine_allowed}
 use Rattle.oram_core.proofs.machine.Core.accept.Goals as goal
 

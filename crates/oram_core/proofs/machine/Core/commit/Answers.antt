@@ -1,9 +1,5 @@
-use Rattle.std.proofs.Common.{◌≡◌, ◌+◌, ◌%◌, ◌^◌, ◌-◌, ◌≤◌, ◌∷◌, ◌==◌, if◌then◌else◌, List, ℕ, slice_set, length, sym, subst, ap, ◌∙◌}
+use Rattle.std.proofs.Common.{◌≡◌, ◌+◌, ◌==◌, if◌then◌else◌, slice_set, sym, subst, ap, ◌∙◌}
 use Rattle.oram_geometry.specs.Sizes.{depth_of}
-use Rattle.oram_wire.specs.HostMessages.{store_body}
-use Rattle.oram_run.specs.Content.{block_of, new_leaf, stage_tree}
-use Rattle.oram_run.specs.Messages.{asked}
-use Rattle.oram_run.specs.Blocks.{next_named}
 use Rattle.oram_core.specs.Core.{CoreValue, IsSound, shape_of}
 use Rattle.oram_core.proofs.Small.{leaf_fits}
 use Rattle.oram_core.proofs.Closing.{commit_sound}

@@ -9,7 +9,7 @@ use Rattle.oram_run.specs.Messages.{asked, message_place}
 use Rattle.oram_core.specs.Core.{CoreValue, IsSound, shape_of}
 use Rattle.oram_core.proofs.Small.{asked_leaf}
 use Rattle.oram_core.proofs.Closing.{leaf_here}
-use Rattle.oram_core.proofs.Hearing.{IsTreeAt, IsChecked, tree_at, checked_as, path_means, path_stands, by_own_bytes}
+use Rattle.oram_core.proofs.Hearing.{IsTreeAt, tree_at, checked_as, path_means, path_stands, by_own_bytes}
 use Rattle.oram_core.proofs.machine.Core.path_verdict.Goals as goal
 
 pub check-requires-clause-leaf : goal.check-requires-clause-leaf

@@ -1,11 +1,9 @@
-use Rattle.std.proofs.Common.{◌≡◌, Some, IfOk, IsOk, refl, ap, sym, ◌∙◌, subst}
+use Rattle.std.proofs.Common.{◌≡◌, Some, IfOk, sym, ◌∙◌, subst}
 use Rattle.oram_run.specs.Run.{shown}
-use Rattle.oram_run.specs.State.{status_in}
 use Rattle.oram_run.specs.declared.events.Event.{Event}
-use Rattle.oram_run.specs.declared.events.Event.TheVariants.{Submit, Answer, Lost, Retry}
 use Rattle.oram_run.specs.declared.events.Note.TheVariants as note
 use Rattle.oram_core.specs.Core.{shape_of}
-use Rattle.oram_core.specs.Doing.{Done, done, noted, plain_step}
+use Rattle.oram_core.specs.Doing.{done, noted, plain_step}
 use Rattle.oram_core.specs.Steps.{Steps}
 use Rattle.oram_core.proofs.Meeting.{accept_steps, refuse_steps, hear_steps, stall_steps, resend_steps, answer_ignored, loss_ignored, retry_ignored, only_noted, waiting_by, stalling_by, accept_bound, resend_bound, plain_refusal}
 use Rattle.oram_core.proofs.machine.Core.step.Goals.{in-Answer+else-is_waiting, in-Lost+else-is_waiting-2, in-Retry+else-is_stalled}

@@ -2,7 +2,6 @@ use Rattle.std.proofs.Common.{◌≡◌, if◌then◌else◌, ℕ, slice_set, �
 use Rattle.std.specs.List.{All}
 use Rattle.oram_geometry.specs.Sizes.{depth_of, trees_of}
 use Rattle.oram_bucket.specs.Bucket.{IsBlockOf}
-use Rattle.oram_tree.specs.Edits.{IsEditOf}
 use Rattle.oram_run.specs.Content.{block_of, new_leaf}
 use Rattle.oram_run.specs.declared.events.Submission.{Submission}
 use Rattle.oram_core.specs.Core.{CoreValue, IsSound, IsKept, shape_of}

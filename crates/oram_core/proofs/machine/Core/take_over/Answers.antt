@@ -1,13 +1,12 @@
-use Rattle.std.proofs.Common.{◌≡◌, ◌+◌, ◌-◌, ◌^◌, ◌≤◌, ◌∷◌, [], ℕ, List, Bool, true, false, if◌then◌else◌, ap, sym, ◌∙◌, subst, arith}
-use Rattle.oram_geometry.specs.Sizes.{depth_of}
-use Rattle.oram_run.specs.Content.{block_of, stage_tree}
+use Rattle.std.proofs.Common.{◌≡◌, ℕ, Bool, true, false, if◌then◌else◌, ap, sym, ◌∙◌}
+use Rattle.oram_run.specs.Content.{stage_tree}
 use Rattle.oram_run.specs.Messages.{asked}
 use Rattle.oram_run.specs.Blocks.{next_named}
 use Rattle.oram_wire.specs.HostMessages.{store_body}
 use Rattle.oram_run.specs.declared.events.Reason.TheVariants as reason
 use Rattle.oram_run.specs.declared.events.Submission.{Submission}
 use Rattle.oram_core.specs.Core.{CoreValue, shape_of}
-use Rattle.oram_core.specs.Doing.{Done, failed_by, stored_by, is_misled}
+use Rattle.oram_core.specs.Doing.{failed_by, stored_by, is_misled}
 use Rattle.oram_core.proofs.Meeting.{Waits, waits}
 use Rattle.oram_core.proofs.Closing.{stored_so, led_right}
 use Rattle.oram_core.proofs.machine.Core.take_over.Goals as goal
