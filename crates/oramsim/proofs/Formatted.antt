@@ -3,16 +3,19 @@ use Rattle.std.proofs.Common.{◌≡◌, ◌<◌, ◌*◌, [], None, refl, sym, 
 use Rattle.oram_geometry.specs.declared.Sizes.{Sizes}
 use Rattle.oram_geometry.specs.Sizes.{IsDevice, trees_of}
 use Rattle.oram_host.specs.Host.{Host}
-use Rattle.oram_tree.specs.Format.{PutsAll}
+use Rattle.oram_tree.specs.declared.faults.FormatFault.{FormatFault}
+use Rattle.oram_tree.specs.declared.faults.FormatFault.TheVariants as formatting
+use Rattle.oram_run.specs.Formatting.{IsFormatBegun}
+use Rattle.oram_tree.specs.Format.{IsBrokenOff, PutsAll}
 use Rattle.oram_run.specs.Progress.{Setting}
 use Rattle.oram_run.specs.State.{State}
 use Rattle.oram_run.proofs.Bounds.{some_trees}
 use Rattle.oram_core.specs.Formatting as core
-use Rattle.oramsim.specs.Hosting.{Takes}
+use Rattle.oramsim.specs.Hosting.{Refusing, Takes}
 use Rattle.oramsim.specs.Script.{IsNew, Running, plain_shape}
 use Rattle.oramsim.specs.Standing.{IsFaithful, IsWhole, Stands}
 use Rattle.oramsim.specs.declared.machine.Machine.{Machine}
-use Rattle.oramsim.proofs.HostedFormat.{formatted_served}
+use Rattle.oramsim.proofs.HostedFormat.{broken_off_for_room, formatted_served}
 
 some_stages : (d : Sizes) → 0 < 2 * trees_of d
 some_stages d = let some : 0 < trees_of d = some_trees d in omega (arith, some)
@@ -31,3 +34,8 @@ new_run d m from is device empty k out copy =
       record { ranges = rw device is; shape = ap plain_shape (sym device); leads = (k.trees, k.formatted, sym k.state); message = out; host = refl; copy = copy },
       record { apart = tt; calm = tt; served = formatted_served v k.trees m.server is (omega arith) k.formatted puts },
     )
+
+-- a formatting of a host that keeps nothing is broken off for want of memory alone
+pub room_alone : (d : Sizes) (from to : Host) (fault : FormatFault) → IsDevice d → from ≡ [] → IsBrokenOff Takes Refusing (IsFormatBegun (plain_shape d)) from fault to → fault ≡ formatting.OutOfMemory
+room_alone d from to fault is empty broken =
+    broken_off_for_room (plain_shape d) fault to is (omega arith) (subst (λ (h : Host). IsBrokenOff Takes Refusing (IsFormatBegun (plain_shape d)) h fault to) empty broken)

@@ -5,7 +5,7 @@ use Rattle.oramsim.proofs.machine.begin.Goals as goal
 
 pub returns-in_ok-put-in-Ok-clause-ok : goal.returns-in_ok-put-in-Ok-clause-ok
 returns-in_ok-put-in-Ok-clause-ok g c = λ head.
-    begun head c.args.device c.in-Ok.device c.trees-trees.result c.in_ok-machine-in-Ok.machine _ _ c.in-Ok.is c.trees-trees.ensures.count c.in_ok-machine-in-Ok.ensures.ok
+    begun head c.args.device c.in-Ok.device c.trees-trees.result c.in-Ok-formatted.machine _ _ c.in-Ok.is c.trees-trees.ensures.count c.in-Ok-formatted.ensures.ok
     (subst (Appends _ _) (c.as_bytes.ensures.value ∙ c.in_ok-text-in-Ok.ensures.ok) c.in_ok-put-in-Ok.ensures.ok)
 
 pub returns-in_ok-put-in-Err-clause-ok : goal.returns-in_ok-put-in-Err-clause-ok
