@@ -31,6 +31,9 @@ IsWholeMachine m = IsWhole m.core.device m.core.state m.outstanding
 abbrev pub answers_left : Sizes → State → Option (List ℕ) → ℕ
 answers_left d s message = if is_some message then 2 * trees_of d * length s.queue - s.stage + 1 else 0
 
+abbrev pub still_wanted : Machine → ℕ
+still_wanted m = answers_left m.core.device m.core.state m.outstanding
+
 -- A step was made at an event: it shows x, and this is the newest message that it sent.
 pub record IsPlayed (d : Sizes) (s : State) (event : Event) (x : Shown) (sent : Option (List ℕ)) (t : State) : Type 0 where
   pub steps : Steps (plain_shape d) s event x t

@@ -8,7 +8,7 @@ ghost use Rattle.oram_run.specs.Run.{Shown};
 ghost use Rattle.oramsim.specs.Printing.{reaction_text};
 ghost use Rattle.oramsim.specs.Script.{Point, Running, IsAnswered, IsDrained, IsNew, IsUnfit, Obeys, Replies, Starts, after_turn};
 ghost use Rattle.oramsim.specs.Script as spec;
-ghost use Rattle.oramsim.specs.Standing.{AreWhole, GoesOn, GoesOnAt, IsFaithful, IsFaithfulAt, IsPlayed, IsWholeMachine, Stands, StaysFaithful, answers_left};
+ghost use Rattle.oramsim.specs.Standing.{AreWhole, GoesOn, GoesOnAt, IsFaithful, IsFaithfulAt, IsPlayed, IsWholeMachine, Stands, StaysFaithful, still_wanted};
 
 use crate::line::Line;
 use crate::printing::{FaultText, ReactionText, ReadyText};
@@ -93,8 +93,7 @@ impl Machine {
     ) -> Result<(), SimFault>
         requires { IsWholeMachine self.old }
         ensures whole { OnOk result (IsWholeMachine self.new) }
-        ensures left { OnOk result (spec.is_answer event.now ≡ true → is_some self.old.outstanding ≡ true
-            → answers_left self.new.core.device self.new.core.state self.new.outstanding < answers_left self.old.core.device self.old.core.state self.old.outstanding) }
+        ensures left { OnOk result (spec.is_answer event.now ≡ true → is_some self.old.outstanding ≡ true → still_wanted self.new < still_wanted self.old) }
         ensures ok { (r : Running) → Stands r self.old → OnOk result ((x : Shown) × GoesOn r (after_turn r event.now x) self.new (W.contents writer.old) (W.contents writer.new)
             × StaysFaithful r self.old.core.state event.now x) }
     {
@@ -122,8 +121,7 @@ impl Machine {
     pub fn answer<W: Write>(&mut self, alloc: Global, writer: &mut W) -> Result<(), SimFault>
         requires { IsWholeMachine self.old }
         ensures whole { OnOk result (IsWholeMachine self.new) }
-        ensures left { OnOk result (is_some self.old.outstanding ≡ true
-            → answers_left self.new.core.device self.new.core.state self.new.outstanding < answers_left self.old.core.device self.old.core.state self.old.outstanding) }
+        ensures left { OnOk result (is_some self.old.outstanding ≡ true → still_wanted self.new < still_wanted self.old) }
         ensures ok { (r : Running) → Stands r self.old → OnOk result ((x : Shown) × (later : Running) × IsAnswered r x later
             × GoesOn r later self.new (W.contents writer.old) (W.contents writer.new) × (IsFaithful r → IsFaithful later)) }
     {

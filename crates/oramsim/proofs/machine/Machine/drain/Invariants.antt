@@ -2,7 +2,7 @@ use Rattle.std.proofs.Common.{List}
 use Rattle.std.specs.List.{FoldsTo}
 use Rattle.oram_run.specs.Run.{Shown}
 use Rattle.oramsim.specs.Script.{Running, IsDrained}
-use Rattle.oramsim.specs.Standing.{GoesOn, IsFaithful, IsWholeMachine, Stands, answers_left}
+use Rattle.oramsim.specs.Standing.{GoesOn, IsFaithful, IsWholeMachine, Stands, still_wanted}
 use Rattle.oramsim.proofs.machine.Machine.drain.Given as goal
 
 abbrev pub invariant-loop-alloc : goal.invariant-loop-alloc
@@ -13,4 +13,4 @@ invariant-loop-alloc g l = record {
 }
 
 abbrev pub decreases-loop-alloc : goal.decreases-loop-alloc
-decreases-loop-alloc g l = answers_left l.self.core.device l.self.core.state l.self.outstanding
+decreases-loop-alloc g l = still_wanted l.self
