@@ -1,6 +1,11 @@
-pub mod Entries
-pub mod Arrays
-pub mod Keeps
+pub mod Quiet
+pub mod Storing
 pub mod Sound
-pub mod Going
-pub mod Rows
+pub mod Small
+pub mod Meeting
+pub mod Hearing
+pub mod Accessing
+pub mod Closing
+pub mod Heard
+pub mod Made
+pub mod Running

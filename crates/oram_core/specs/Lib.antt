@@ -1,7 +1,7 @@
-pub mod Messages
-pub mod Events
-pub mod Progress
-pub mod Run
-pub mod State
-pub mod Moves
-pub mod Follows
+pub mod Core
+pub mod Doing
+pub mod Rooms
+pub mod Verdicts
+pub mod Steps
+pub mod Formatting
+pub mod Runs

@@ -1,17 +1,21 @@
 //! The core of the block store: a machine over events, which says what to reply and what to send the host.
 //!
-//! One event is one atomic step. This core keeps one tree's table of leaves and its blocks by address; what the host
-//! sees of it is the path of each access.
+//! One event is one atomic step. The core keeps the trees' root digests and stashes, the position map of the last tree,
+//! the commands without a reply and the message that is outstanding (Path ORAM, CCS 2013, sections 3 and 4, with the
+//! position map of each tree in the next one). What it is to do is told by `oram_run`.
 #![tactic(auto)]
 
-mod events;
+mod answers;
+mod formatting;
 mod machine;
+mod messages;
+mod outcome;
+mod verdicts;
 mod whole;
 
-pub use events::{
-    Command, Event, Note, Phase, Reaction, Reason, Refusal, Reply, ReplyBody, Run, Submission,
-};
 pub use machine::Core;
+pub use oram_run::{Command, Event, Note, Reaction, Reason, Refusal, Reply, ReplyBody, Submission};
+pub use outcome::Run;
 pub use whole::run;
 
 #[cfg(test)]

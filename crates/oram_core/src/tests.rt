@@ -1,9 +1,136 @@
+//! Worked runs over a plain host.
 use crate::{Command, Core, Event, Note, Reaction, Reason, Refusal, ReplyBody, run};
+use oram_bucket::{ChaChaSeal, PlainSeal, Sealer};
 use oram_bytes::{Bytes, Words};
 use oram_geometry::Device;
+use oram_wire::{HostView, ListSink};
 use std::alloc::{AllocError, Global};
 use std::process::Abort;
 use std::test::Fail;
+
+/// A record at a host.
+#[derive(Drop)]
+struct Place {
+    tree: u8,
+    node: u64,
+    bytes: Vec<u8>,
+}
+
+/// What a host keeps.
+#[derive(Drop)]
+struct Shelf {
+    depths: Vec<u8>,
+    record_len: usize,
+    places: Vec<Place>,
+}
+
+impl Shelf {
+    /// The nodes of a path, from the leaf up.
+    fn path(&self, alloc: Global, tree: u8, leaf: u32) -> Result<Vec<u64>, AllocError> {
+        let depth = self.depths.get(usize::from(tree)).map_or(0, |depth| *depth);
+        let leaves = 1u64 << depth.min(24);
+        let mut node = (leaves - 1) + u64::from(leaf);
+        let mut nodes = Vec::new(alloc);
+        for _ in 0..=depth {
+            nodes.push(node)?;
+            node = node.saturating_sub(1) / 2;
+        }
+        Ok(nodes)
+    }
+
+    fn place(&mut self, tree: u8, node: u64, bytes: Vec<u8>) -> Result<(), AllocError> {
+        let found = self
+            .places
+            .iter_mut()
+            .find(|place| place.tree == tree && place.node == node);
+        match found {
+            Some(place) => place.bytes = bytes,
+            None => self.places.push(Place { tree, node, bytes })?,
+        }
+        Ok(())
+    }
+
+    /// The records of a path behind byte 80, root first.
+    fn fetch(&self, alloc: Global, tree: u8, leaf: u32) -> Result<Vec<u8>, AllocError> {
+        let mut answer = vec![in alloc; 0x80]?;
+        for node in self.path(alloc, tree, leaf)?.iter().rev() {
+            let found = self
+                .places
+                .iter()
+                .find(|place| place.tree == tree && place.node == *node);
+            if let Some(place) = found {
+                answer.extend_from_slice(&place.bytes)?;
+            }
+        }
+        Ok(answer)
+    }
+
+    fn store(
+        &mut self,
+        alloc: Global,
+        tree: u8,
+        leaf: u32,
+        records: &[u8],
+    ) -> Result<(), AllocError> {
+        let nodes = self.path(alloc, tree, leaf)?;
+        let records = records.chunks(self.record_len.max(1));
+        for (node, record) in nodes.iter().rev().zip(records) {
+            self.place(tree, *node, record.to_vec(alloc)?)?;
+        }
+        Ok(())
+    }
+
+    /// What the host answers to a message.
+    fn answer(&mut self, alloc: Global, body: &[u8]) -> Result<Vec<u8>, AllocError> {
+        match HostView::read(body) {
+            Ok(HostView::Fetch { tree, leaf }) => return self.fetch(alloc, tree, leaf),
+            Ok(
+                HostView::Store {
+                    tree,
+                    leaf,
+                    records,
+                },
+            ) => self.store(alloc, tree, leaf, records)?,
+            Ok(HostView::Put { tree, node, bytes }) => {
+                self.place(tree, u64::from(node), bytes.to_vec(alloc)?)?;
+            }
+            _ => {}
+        }
+        Ok(vec![in alloc; 0x80]?)
+    }
+}
+
+fn empty_shelf(alloc: Global, device: &Device, record_len: usize) -> Result<Shelf, AllocError> {
+    let mut depths = Vec::new(alloc);
+    for tree in 0..device.trees() {
+        depths.push(device.depth(tree))?;
+    }
+    Ok(Shelf {
+        depths,
+        record_len,
+        places: Vec::new(alloc),
+    })
+}
+
+/// A device just formatted, with its host.
+fn formatted<S: Sealer>(
+    rt: &impl Abort,
+    alloc: Global,
+    device: Device,
+    sealer: S,
+) -> Result<(Core<S>, Shelf), AllocError> {
+    let record_len = device.record_len(sealer.overhead());
+    let mut shelf = empty_shelf(alloc, &device, record_len)?;
+    let mut sink = ListSink::new(alloc);
+    let core = match Core::format(alloc, device, sealer, &mut sink) {
+        Ok(core) => core,
+        Err(_) => return Err(AllocError),
+    };
+    for body in sink.bodies() {
+        assert_eq!(rt; shelf.answer(alloc, body)?.as_slice(), [0x80].as_slice());
+    }
+    Ok((core, shelf))
+}
 
 fn read(alloc: Global, session: u32, address: u32, words: &[u64]) -> Result<Event, AllocError> {
     Ok(Event::Submit {
@@ -21,174 +148,327 @@ fn write(alloc: Global, address: u32, bytes: &[u8], words: &[u64]) -> Result<Eve
     })
 }
 
-fn good(alloc: Global) -> Result<Event, AllocError> {
-    Ok(Event::Answer(Bytes::copy(alloc, &[0x80])?))
+/// What a message or a reply is, its tree or session, its leaf or ticket.
+type Sign = (&'static str, u32, u64);
+
+/// Adds what a reaction shows beside its note, the replies first. The message that it sends is handed back.
+fn show(reaction: &mut Reaction, shown: &mut Vec<Sign>) -> Result<Option<Bytes>, AllocError> {
+    for reply in &reaction.replies {
+        let word = match reply.body {
+            ReplyBody::Data(_) => "data",
+            ReplyBody::Done => "done",
+            ReplyBody::Failed => "failed",
+        };
+        shown.push((word, reply.session, reply.ticket))?;
+    }
+    let sent = reaction.sends.pop();
+    if let Some(message) = &sent {
+        if let [op, tree, a, b, c, d, ..] = message.as_slice() {
+            let word = if *op == 1 { "fetch" } else { "store" };
+            let leaf = u32::from_be_bytes([*a, *b, *c, *d]);
+            shown.push((word, u32::from(*tree), u64::from(leaf)))?;
+        }
+    }
+    Ok(sent)
 }
 
-/// Whether what was sent is one message with this first byte, for the path of this leaf; or nothing, for a byte 0.
-fn asks(reaction: &Reaction, first: u8, leaf: u8) -> bool {
-    match reaction.sends.as_slice() {
-        [] => first == 0,
-        [body] => body.as_slice() == [first, 0, 0, 0, 0, leaf].as_slice(),
-        _ => false,
+/// Makes a step, and lets the host answer until nothing is outstanding. Gives the note of the step and the last data.
+fn drain<S: Sealer>(
+    rt: &impl Abort,
+    alloc: Global,
+    core: &mut Core<S>,
+    shelf: &mut Shelf,
+    event: &Event,
+    shown: &mut Vec<Sign>,
+) -> Result<(Note, Option<Bytes>), AllocError> {
+    let mut reaction = core.step(alloc, event)?;
+    let note = reaction.note;
+    let mut data = None;
+    for _ in 0..1000 {
+        let Some(message) = show(&mut reaction, shown)? else {
+            return Ok((note, data));
+        };
+        let answered = shelf.answer(alloc, message.as_slice())?;
+        reaction = core.step(alloc, &Event::Answer(Bytes::from_vec(answered)))?;
+        assert_eq!(rt; reaction.note, Note::Taken);
+        if let Some(reply) = reaction.replies.first() {
+            if let ReplyBody::Data(bytes) = &reply.body {
+                data = Some(Bytes::copy(alloc, bytes.as_slice())?);
+            }
+        }
     }
+    panic!(rt; "the core goes on asking");
 }
 
 // Each test runs a second time where an allocation was refused, so it holds whichever one is.
 
 #[test]
-fn replies_of_a_plain_array(rt: HostRuntime) -> Result<(), Fail> {
-    if three_accesses(&rt, rt.alloc()).is_err() {
-        three_accesses(&rt, rt.alloc())?;
+fn three_trees(rt: HostRuntime) -> Result<(), Fail> {
+    if accesses_of_three_trees(&rt, rt.alloc()).is_err() {
+        accesses_of_three_trees(&rt, rt.alloc())?;
     }
     Ok(())
 }
 
-/// A read, a write and a read of one block, and an answer that nobody waits for.
-fn three_accesses(rt: &impl Abort, alloc: Global) -> Result<(), AllocError> {
-    let device = Device::new(8, 16, 4, 8, 100).expect(rt, "a device");
-    let mut events = Vec::new(alloc);
-    events.push(read(alloc, 1, 5, &[6, 3])?)?;
-    events.push(good(alloc)?)?;
-    events.push(good(alloc)?)?;
-    events.push(write(alloc, 5, &[0xff; 16], &[7, 1])?)?;
-    events.push(good(alloc)?)?;
-    events.push(good(alloc)?)?;
-    events.push(read(alloc, 2, 5, &[0, 0])?)?;
-    events.push(good(alloc)?)?;
-    events.push(good(alloc)?)?;
-    events.push(good(alloc)?)?;
-    let run = run(alloc, device, events.as_slice());
-    if run.out_of_memory {
-        return Err(AllocError);
-    }
-    assert_eq!(rt; run.format.len(), 0);
-    assert_eq!(rt; run.reactions.len(), 10);
-    let shown = [
-        (Note::Accepted(0), 1, 6),
-        (Note::Taken, 2, 6),
-        (Note::Taken, 0, 0),
-        (Note::Accepted(1), 1, 3),
-        (Note::Taken, 2, 3),
-        (Note::Taken, 0, 0),
-        (Note::Accepted(2), 1, 1),
-        (Note::Taken, 2, 1),
-        (Note::Taken, 0, 0),
-        (Note::Unexpected, 0, 0),
+/// Reads of two blocks that share their map blocks, and of the first of them again.
+fn accesses_of_three_trees(rt: &impl Abort, alloc: Global) -> Result<(), AllocError> {
+    let device = Device::new(64, 16, 4, 4, 100).expect(rt, "a device");
+    let (mut core, mut shelf) = formatted(rt, alloc, device, PlainSeal)?;
+    assert_eq!(rt; core.device().trees(), 3);
+    let mut shown = Vec::new(alloc);
+    let submissions: [(u32, [u64; 6]); 3] = [
+        (37, [10, 11, 12, 13, 14, 15]),
+        (38, [20, 21, 22, 23, 24, 25]),
+        (37, [30, 31, 32, 33, 34, 35]),
     ];
-    for (reaction, (note, first, leaf)) in run.reactions.iter().zip(shown) {
-        assert_eq!(rt; reaction.note, note);
-        assert!(rt; asks(reaction, first, leaf), "after {note:?}");
+    for (ticket, (address, words)) in submissions.iter().enumerate() {
+        let event = read(alloc, 1, *address, words)?;
+        let (note, data) = drain(rt, alloc, &mut core, &mut shelf, &event, &mut shown)?;
+        assert_eq!(rt; note, Note::Accepted(ticket as u64));
+        assert_eq!(rt; data, Some(Bytes::copy(alloc, &[0; 16])?));
     }
-    let data = run
-        .reactions
-        .iter()
-        .filter_map(|reaction| reaction.replies.first())
-        .filter(
-            |reply| matches!(&reply.body, ReplyBody::Data(bytes) if bytes.as_slice() == [0xff; 16].as_slice()),
-        )
-        .map(|reply| (reply.session, reply.ticket));
+    let expected: [Sign; 21] = [
+        ("fetch", 2, 2),
+        ("store", 2, 2),
+        ("fetch", 1, 12),
+        ("store", 1, 12),
+        ("fetch", 0, 10),
+        ("store", 0, 10),
+        ("data", 1, 0),
+        ("fetch", 2, 3),
+        ("store", 2, 3),
+        ("fetch", 1, 13),
+        ("store", 1, 13),
+        ("fetch", 0, 20),
+        ("store", 0, 20),
+        ("data", 1, 1),
+        ("fetch", 2, 1),
+        ("store", 2, 1),
+        ("fetch", 1, 7),
+        ("store", 1, 7),
+        ("fetch", 0, 11),
+        ("store", 0, 11),
+        ("data", 1, 2),
+    ];
+    assert_eq!(rt; shown.as_slice(), expected.as_slice());
     assert_eq!(rt;
-        data.collect::<Vec<_>>(alloc)?.as_slice(),
-        [(2, 2)].as_slice()
+        (core.next_ticket(), core.waiting(), core.is_idle()),
+        (3, 0, true)
     );
+    assert_eq!(rt; core.failure(), None);
+    // Three blocks at most fit into the root's bucket.
+    for tree in 0..core.device().trees() {
+        assert_eq!(rt; core.stash_len(tree), 0, "in tree {tree}");
+    }
     Ok(())
 }
 
 #[test]
-fn refusals_and_a_failure(rt: HostRuntime) -> Result<(), Fail> {
-    if refused_and_failed(&rt, rt.alloc()).is_err() {
-        refused_and_failed(&rt, rt.alloc())?;
+fn sealed_trees_answer_as_an_array(rt: HostRuntime) -> Result<(), Fail> {
+    if written_and_read(&rt, rt.alloc()).is_err() {
+        written_and_read(&rt, rt.alloc())?;
     }
     Ok(())
 }
 
-fn refused_and_failed(rt: &impl Abort, alloc: Global) -> Result<(), AllocError> {
-    let device = Device::new(8, 16, 4, 8, 100).expect(rt, "a device");
-    let mut core = Core::start(alloc, device)?;
-    let refused = [
-        (read(alloc, 1, 8, &[0, 0])?, Refusal::BadAddress, 1),
-        (write(alloc, 7, &[1; 15], &[0, 0])?, Refusal::BadLength, 2),
-        (read(alloc, 1, 7, &[0])?, Refusal::BadWords, 3),
-    ];
-    for (event, refusal, number) in &refused {
-        assert_eq!(rt; core.step(alloc, event)?.note, Note::Refused(*refusal));
-        assert_eq!(rt; refusal.number(), *number);
+/// Blocks that are written and read through three sealed trees.
+fn written_and_read(rt: &impl Abort, alloc: Global) -> Result<(), AllocError> {
+    let device = Device::new(64, 16, 4, 4, 100).expect(rt, "a device");
+    let (mut core, mut shelf) = formatted(rt, alloc, device, ChaChaSeal { key: [7; 32] })?;
+    let mut shown = Vec::new(alloc);
+    for turn in 0..4u8 {
+        let words = [u64::from(turn); 6];
+        let event = write(alloc, 9 * u32::from(turn), &[turn + 1; 16], &words)?;
+        let (_, data) = drain(rt, alloc, &mut core, &mut shelf, &event, &mut shown)?;
+        assert_eq!(rt; data, None);
     }
-    assert_eq!(rt; core.device().block_bytes(), 16);
-    assert_eq!(rt;
-        (core.next_ticket(), core.waiting(), core.is_idle()),
-        (0, 0, true)
-    );
-    let _ = core.step(alloc, &read(alloc, 1, 7, &[0, 0])?)?;
-    assert_eq!(rt;
-        (core.next_ticket(), core.waiting(), core.is_idle()),
-        (1, 1, false)
-    );
-    let failing = core.step(alloc, &Event::Answer(Bytes::copy(alloc, &[0x80, 0])?))?;
-    assert_eq!(rt; failing.note, Note::FailedNow(Reason::Malformed));
-    assert_eq!(rt; failing.replies.len(), 1);
-    assert_eq!(rt; core.failure(), Some(Reason::Malformed));
-    let late = core.step(alloc, &read(alloc, 1, 7, &[0, 0])?)?;
-    assert_eq!(rt; late.note, Note::Refused(Refusal::Failed));
+    for turn in 0..4u8 {
+        let words = [u64::from(turn) + 9; 6];
+        let event = read(alloc, 2, 9 * u32::from(turn), &words)?;
+        let (_, data) = drain(rt, alloc, &mut core, &mut shelf, &event, &mut shown)?;
+        assert_eq!(rt; data, Some(Bytes::copy(alloc, &[turn + 1; 16])?));
+    }
     Ok(())
 }
 
-/// Makes a step, once more where memory was refused the first time, which changed nothing.
-fn step_again(
-    rt: &impl Abort,
-    alloc: Global,
-    core: &mut Core,
-    event: &Event,
-) -> Result<Reaction, AllocError> {
-    let before = (core.next_ticket(), core.waiting(), core.is_idle());
-    match core.step(alloc, event) {
-        Ok(reaction) => Ok(reaction),
-        Err(_) => {
-            assert_eq!(rt;
-                (core.next_ticket(), core.waiting(), core.is_idle()),
-                before
-            );
-            core.step(alloc, event)
+/// An event of a table.
+#[derive(Clone, Copy)]
+enum Happening {
+    /// A read of a block with these words.
+    Read(u32, &'static [u64]),
+    /// A write of so many bytes.
+    Write(u32, usize),
+    Answer(&'static [u8]),
+    Lost,
+    Retry,
+}
+
+impl Happening {
+    fn event(self, alloc: Global) -> Result<Event, AllocError> {
+        match self {
+            Happening::Read(address, words) => read(alloc, 1, address, words),
+            Happening::Write(address, len) => {
+                let bytes = vec![in alloc; 1; len]?;
+                write(alloc, address, &bytes, &[0, 0])
+            }
+            Happening::Answer(bytes) => Ok(Event::Answer(Bytes::copy(alloc, bytes)?)),
+            Happening::Lost => Ok(Event::Lost),
+            Happening::Retry => Ok(Event::Retry),
         }
     }
 }
 
+/// Makes the steps of a table, compares the notes, and gives the messages sent.
+fn follow(
+    rt: &impl Abort,
+    alloc: Global,
+    core: &mut Core<PlainSeal>,
+    table: &[(Happening, Note)],
+) -> Result<Vec<Bytes>, AllocError> {
+    let mut sent = Vec::new(alloc);
+    for (happening, note) in table {
+        let mut reaction = core.step(alloc, &happening.event(alloc)?)?;
+        assert_eq!(rt; reaction.note, *note);
+        if let Some(message) = reaction.sends.pop() {
+            sent.push(message)?;
+        }
+    }
+    Ok(sent)
+}
+
 #[test]
-fn refused_memory_changes_nothing(rt: HostRuntime) -> Result<(), Fail> {
+fn an_idle_core_refuses(rt: HostRuntime) -> Result<(), Fail> {
+    if refused_when_idle(&rt, rt.alloc()).is_err() {
+        refused_when_idle(&rt, rt.alloc())?;
+    }
+    Ok(())
+}
+
+fn refused_when_idle(rt: &impl Abort, alloc: Global) -> Result<(), AllocError> {
+    let device = Device::new(8, 16, 4, 8, 100).expect(rt, "a device");
+    let (mut core, _) = formatted(rt, alloc, device, PlainSeal)?;
+    let table = [
+        (Happening::Answer(&[0x80]), Note::Unexpected),
+        (Happening::Lost, Note::Unexpected),
+        (Happening::Retry, Note::Unexpected),
+        (
+            Happening::Read(8, &[0, 0]),
+            Note::Refused(Refusal::BadAddress),
+        ),
+        (Happening::Write(7, 15), Note::Refused(Refusal::BadLength)),
+        (Happening::Read(7, &[0]), Note::Refused(Refusal::BadWords)),
+    ];
+    let sent = follow(rt, alloc, &mut core, &table)?;
+    assert_eq!(rt; sent.len(), 0);
+    assert_eq!(rt; core.is_idle(), true);
+    Ok(())
+}
+
+#[test]
+fn losses_and_a_failure(rt: HostRuntime) -> Result<(), Fail> {
+    if lost_and_failed(&rt, rt.alloc()).is_err() {
+        lost_and_failed(&rt, rt.alloc())?;
+    }
+    Ok(())
+}
+
+/// A message that is lost twice, and an answer that fails the device.
+fn lost_and_failed(rt: &impl Abort, alloc: Global) -> Result<(), AllocError> {
+    let device = Device::new(8, 16, 4, 8, 100).expect(rt, "a device");
+    let (mut core, _) = formatted(rt, alloc, device, PlainSeal)?;
+    let failed = Reason::HostRefused(6);
+    let table = [
+        (Happening::Read(5, &[6, 3]), Note::Accepted(0)),
+        (Happening::Answer(&[0x81, 8]), Note::Stalled),
+        (Happening::Answer(&[0x80]), Note::Unexpected),
+        (Happening::Retry, Note::Resent),
+        (Happening::Retry, Note::Unexpected),
+        (Happening::Lost, Note::Stalled),
+        (Happening::Lost, Note::Unexpected),
+        (Happening::Retry, Note::Resent),
+        (Happening::Answer(&[0x81, 6]), Note::FailedNow(failed)),
+        (Happening::Retry, Note::Unexpected),
+        (Happening::Read(5, &[6, 3]), Note::Refused(Refusal::Failed)),
+    ];
+    let sent = follow(rt, alloc, &mut core, &table)?;
+    assert_eq!(rt; core.failure(), Some(failed));
+    assert_eq!(rt; core.is_idle(), false);
+    assert_eq!(rt; sent.len(), 3);
+    for message in &sent {
+        assert_eq!(rt; message.as_slice(), [1, 0, 0, 0, 0, 6].as_slice());
+    }
+    Ok(())
+}
+
+#[test]
+fn a_whole_run(rt: HostRuntime) -> Result<(), Fail> {
+    if run_to_a_failure(&rt, rt.alloc()).is_err() {
+        run_to_a_failure(&rt, rt.alloc())?;
+    }
+    Ok(())
+}
+
+/// A run whose message is lost and sent again, and then refused.
+fn run_to_a_failure(rt: &impl Abort, alloc: Global) -> Result<(), AllocError> {
+    let device = Device::new(8, 16, 4, 8, 100).expect(rt, "a device");
+    let table = [
+        (Happening::Read(5, &[6, 3]), Note::Accepted(0)),
+        (Happening::Lost, Note::Stalled),
+        (Happening::Retry, Note::Resent),
+        (
+            Happening::Answer(&[0x80]),
+            Note::FailedNow(Reason::Malformed),
+        ),
+    ];
+    let mut events = Vec::new(alloc);
+    for (happening, _) in &table {
+        events.push(happening.event(alloc)?)?;
+    }
+    let run = run(alloc, device, PlainSeal, &events);
+    if run.out_of_memory {
+        return Err(AllocError);
+    }
+    // The tree's shape, and its 15 nodes.
+    assert_eq!(rt; run.format.len(), 16);
+    assert_eq!(rt; run.reactions.len(), 4);
+    for (reaction, (_, note)) in run.reactions.iter().zip(&table) {
+        assert_eq!(rt; reaction.note, *note);
+    }
+    Ok(())
+}
+
+#[test]
+fn a_step_without_memory_changes_nothing(rt: HostRuntime) -> Result<(), Fail> {
     let alloc = rt.alloc();
     let device = Device::new(8, 16, 4, 8, 100).expect(&rt, "a device");
-    let mut core = match Core::start(alloc, device) {
-        Ok(core) => core,
-        Err(_) => return Ok(()),
+    let (mut core, mut shelf) = match formatted(&rt, alloc, device, PlainSeal) {
+        Ok(whole) => whole,
+        Err(_) => {
+            let device = Device::new(8, 16, 4, 8, 100).expect(&rt, "a device");
+            formatted(&rt, alloc, device, PlainSeal)?
+        }
     };
-    let events = [
-        (write(alloc, 5, &[0xff; 16], &[6, 3]), 1, 6),
-        (good(alloc), 2, 6),
-        (good(alloc), 0, 0),
-        (read(alloc, 1, 5, &[7, 1]), 1, 3),
-        (good(alloc), 2, 3),
-    ];
-    for (event, first, leaf) in events {
-        let Ok(event) = event else {
-            return Ok(());
+    let mut event = match read(alloc, 1, 5, &[6, 3]) {
+        Ok(event) => event,
+        Err(_) => read(alloc, 1, 5, &[6, 3])?,
+    };
+    for _ in 0..3 {
+        let mut reaction = match core.step(alloc, &event) {
+            Ok(reaction) => reaction,
+            Err(_) => core.step(alloc, &event)?,
         };
-        let reaction = step_again(&rt, alloc, &mut core, &event)?;
-        assert!(rt;
-            asks(&reaction, first, leaf),
-            "message {first} for leaf {leaf}"
-        );
+        if let Some(message) = reaction.sends.pop() {
+            let answered = match shelf.answer(alloc, message.as_slice()) {
+                Ok(answered) => answered,
+                Err(_) => shelf.answer(alloc, message.as_slice())?,
+            };
+            event = Event::Answer(Bytes::from_vec(answered));
+        }
+        assert!(&rt; !matches!(reaction.note, Note::FailedNow(_)));
     }
-    let last = step_again(
-        &rt,
-        alloc,
-        &mut core,
-        &Event::Answer(Bytes::from_vec(vec![in alloc; 0x80]?)),
-    )?;
-    assert_eq!(rt; last.replies.len(), 1);
-    match &last.replies[0].body {
-        ReplyBody::Data(bytes) => assert_eq!(rt; bytes.as_slice(), [0xff; 16].as_slice()),
-        ReplyBody::Done | ReplyBody::Failed => assert!(rt; false, "a read is answered with data"),
-    }
+    assert_eq!(&rt;
+        (core.next_ticket(), core.waiting(), core.is_idle()),
+        (1, 0, true)
+    );
     Ok(())
 }

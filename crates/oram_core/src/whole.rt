@@ -1,43 +1,63 @@
 //! A whole run.
-ghost use Rattle.std.specs.Prelude.{◌≡◌, ℕ, false, List, [], length, map, OnOk};
+ghost use Rattle.std.specs.Prelude.{◌≡◌, ◌⊎◌, ℕ, false, List, [], length, map, OnOk};
 ghost use Rattle.oram_trace.specs.Tape.{ArePlacesApart};
-ghost use Rattle.oram_core.specs.Run.{AllRight, shown};
+ghost use Rattle.oram_run.specs.Law.{StepsAlong};
+ghost use Rattle.oram_run.specs.Nonces.{AreNoncesApart};
+ghost use Rattle.oram_run.specs.Run.{AllRight, shown};
+ghost use Rattle.oram_core.specs.Core.{CoreValue, shape_of, shape_with};
+ghost use Rattle.oram_core.specs.Runs.{setting_by, IsCutShort, IsWhole};
 
-use crate::{Core, Event, Reaction, Run};
+use crate::machine::Core;
+use crate::outcome::Run;
+use oram_bucket::Sealer;
 use oram_geometry::Device;
+use oram_run::{Event, Reaction};
+use oram_wire::ListSink;
 use std::alloc::{AllocError, Global};
 
-/// Makes one step an event, from a new core on. At the first refusal of memory it ends, and `reactions` are those to a
-/// beginning of the events.
-pub fn run(alloc: Global, device: Device, events: &[Event]) -> Run
+/// Formats a device and makes one step an event. At the first refusal of memory it ends.
+pub fn run<S: Sealer>(alloc: Global, device: Device, sealer: S, events: &[Event]) -> Run
     // Each reply is the plain array's, in order of submission, and each message shows the tape's word at a place that
-    // the addresses alone fix.
-    ensures right { AllRight device [] events.now (map shown result.reactions.items) }
+    // the addresses alone fix, up to an answer in which two records of one digest stand.
+    ensures right { let v = shape_with S.overhead S.sealing S.opening device sealer in
+        AllRight (setting_by v result.format.items) [] events.now (map shown result.reactions.items) }
     // No place is shown by two commands.
-    ensures apart { (addresses : List ℕ) → ArePlacesApart device addresses }
+    ensures places { (addresses : List ℕ) → ArePlacesApart device addresses }
+    // No nonce is of two sealed buckets.
+    ensures nonces { AreNoncesApart device }
     ensures complete { result.out_of_memory ≡ false → length result.reactions.items ≡ length events.now }
-    ensures format { result.format.items ≡ [] }
+    ensures formatted { let v = shape_with S.overhead S.sealing S.opening device sealer in
+        IsCutShort v result ⊎ IsWhole v result.format.items }
 {
+    let mut sink = ListSink::new(alloc);
     let mut reactions = Vec::new(alloc);
-    let out_of_memory = run_into(alloc, device, events, &mut reactions).is_err();
+    let Ok(mut core) = Core::format(alloc, device, sealer, &mut sink) else {
+        return Run {
+            format: sink.into_bodies(),
+            reactions,
+            out_of_memory: true,
+        };
+    };
+    let stepped = step_all(alloc, &mut core, events, &mut reactions);
     Run {
-        format: Vec::new(alloc),
+        format: sink.into_bodies(),
         reactions,
-        out_of_memory,
+        out_of_memory: stepped.is_err(),
     }
 }
 
-fn run_into(
+/// Makes one step an event, and keeps the reactions.
+fn step_all<S: Sealer>(
     alloc: Global,
-    device: Device,
+    core: &mut Core<S>,
     events: &[Event],
     reactions: &mut Vec<Reaction>,
 ) -> Result<(), AllocError>
     requires { reactions.old.items ≡ [] }
-    ensures right { AllRight device [] events.now (map shown reactions.new.items) }
+    ensures along { let v = shape_of S.overhead S.sealing S.opening core.old in
+        StepsAlong v core.old.state events.now (map shown reactions.new.items) }
     ensures complete { OnOk result (length reactions.new.items ≡ length events.now) }
 {
-    let mut core = Core::start(alloc, device)?;
     for event in events {
         let reaction = core.step(alloc, event)?;
         reactions.push(reaction)?;

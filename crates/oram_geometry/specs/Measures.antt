@@ -7,6 +7,5 @@ use Rattle.oram_geometry.specs.Sizes.{IsDevice, blocks_in, trees_of, depth_of}
 pub record IsMeasured (d : Sizes) (trees : ℕ) (blocks depths : List ℕ) : Type 0 where
   pub ranges : IsDevice d
   pub count : trees ≡ trees_of d
-  pub single : trees ≡ 1  -- as long as the core keeps one tree alone
   pub each_blocks : (i : ℕ) → i < 13 → slice_index blocks i ≡ blocks_in d i
   pub each_depth : (i : ℕ) → i < 13 → slice_index depths i ≡ depth_of d i

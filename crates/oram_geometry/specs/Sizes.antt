@@ -1,10 +1,10 @@
 -- The sizes of a device and of its trees.
-use Rattle.std.specs.Prelude.{◌≡◌, ℕ, zero, suc, ◌≤◌, ◌+◌, ◌-◌, ◌*◌, ◌/◌, ◌%◌, ◌^◌, ◌==◌, ◌&&◌, Bool, if◌then◌else◌, nat_le, nat_lt, not, Option, Some, None, Result, Ok, Err}
+use Rattle.std.specs.Prelude.{◌≡◌, ℕ, zero, suc, ◌≤◌, ◌+◌, ◌-◌, ◌*◌, ◌/◌, ◌%◌, ◌^◌, ◌==◌, ◌&&◌, Bool, if◌then◌else◌, nat_le, not, Option, Some, None, Result, Ok, Err}
 use Rattle.std.specs.Int.{div_ceil}
 use Rattle.oram_geometry.specs.Least.{least_from}
 use Rattle.oram_geometry.specs.declared.Sizes.{Sizes}
 use Rattle.oram_geometry.specs.declared.ShapeFault.{ShapeFault}
-use Rattle.oram_geometry.specs.declared.ShapeFault.TheVariants.{Blocks, BlockBytes, Slots, Top, Lifetime, Recursion}
+use Rattle.oram_geometry.specs.declared.ShapeFault.TheVariants.{Blocks, BlockBytes, Slots, Top, Lifetime}
 
 -- entries of a map block: four bytes each
 abbrev pub fanout : Sizes → ℕ
@@ -65,7 +65,7 @@ range_fault d =
     else None
 
 abbrev pub device_unless : Sizes → Option ShapeFault → Result Sizes ShapeFault
-device_unless d None = if nat_lt 1 (trees_of d) then Err Recursion else Ok d
+device_unless d None = Ok d
 device_unless d (Some fault) = Err fault
 
 -- the device of five numbers, or the first fault
@@ -78,7 +78,6 @@ fault_number BlockBytes = 2
 fault_number Slots = 3
 fault_number Top = 4
 fault_number Lifetime = 5
-fault_number Recursion = 6
 
 -- the ranges of a device's five numbers
 pub record IsDevice (d : Sizes) : Type 0 where

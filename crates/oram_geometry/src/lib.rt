@@ -43,8 +43,6 @@ pub enum ShapeFault {
     Slots,
     Top,
     Lifetime,
-    /// The device would need more than one tree, which the core doesn't keep yet.
-    Recursion,
 }
 
 impl ShapeFault {
@@ -58,7 +56,6 @@ impl ShapeFault {
             ShapeFault::Slots => 3,
             ShapeFault::Top => 4,
             ShapeFault::Lifetime => 5,
-            ShapeFault::Recursion => 6,
         }
     }
 }
@@ -107,10 +104,6 @@ impl Device {
         }
         let blocks = block_counts(&sizes);
         let trees = tree_count(&sizes, &blocks);
-        // As long as the core keeps one tree alone.
-        if trees > 1 {
-            return Err(ShapeFault::Recursion);
-        }
         let depths = depths_for(&blocks);
         Ok(Device {
             sizes,
@@ -125,8 +118,6 @@ impl Device {
         ensures count { result ≡ trees_of self.now }
         ensures least { IsLeastFrom (fits_table self.now) 1 result }
         ensures few { result ≤ 13 }
-        // As long as `new` answers `ShapeFault::Recursion`.
-        ensures single { result ≡ 1 }
         ensures ranges { IsDevice self.now }
     {
         self.trees

@@ -42,6 +42,17 @@ fn one_bucket(rt: HostRuntime) {
 }
 
 #[test]
+fn three_trees(rt: HostRuntime) {
+    let device = Device::new(64, 16, 4, 4, 100).expect(&rt, "a device");
+    assert_eq!(rt; device.trees(), 3);
+    assert_eq!(rt; (device.blocks_in(0), device.depth(0)), (64, 6));
+    assert_eq!(rt; (device.blocks_in(1), device.depth(1)), (16, 4));
+    assert_eq!(rt; (device.blocks_in(2), device.depth(2)), (4, 2));
+    assert_eq!(rt; device.address_in(2, 37), 2);
+    assert_eq!(rt; device.leaf_of(1, 12), 12);
+}
+
+#[test]
 fn first_fault(rt: HostRuntime) {
     let rows = [
         ([0, 18, 0, 0, 0], ShapeFault::Blocks, 1),
@@ -52,7 +63,6 @@ fn first_fault(rt: HostRuntime) {
         ([8, 16, 4, 0, 0], ShapeFault::Top, 4),
         ([8, 16, 4, 8, 0], ShapeFault::Lifetime, 5),
         ([8, 16, 4, 8, (1 << 40) + 1], ShapeFault::Lifetime, 5),
-        ([64, 16, 4, 4, 100], ShapeFault::Recursion, 6),
     ];
     for ([blocks, block_bytes, slots, top, lifetime], fault, number) in rows {
         let refused = Device::new(blocks, block_bytes, slots, top, lifetime);

@@ -4,6 +4,7 @@ pub mod ImageReading
 pub mod Path
 pub mod Refusals
 pub mod Answers
+pub mod Serving
 pub mod Flips
 pub mod Trees
 pub use Rattle.oram_wire.specs.HostMessages

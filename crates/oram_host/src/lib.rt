@@ -7,6 +7,7 @@
 mod images;
 mod refusals;
 mod serving;
+mod sinks;
 mod trees;
 
 pub use images::{ImageFault, images_are_exact};

@@ -1,6 +1,6 @@
 //! The server of a bucket host, in memory.
 
-ghost use Rattle.std.specs.Prelude.{◌≡◌, ◌↔◌, [], true, false, IfErr, IfOk, IsTrue, OnOk, None, Some, MatchBool, MatchResult};
+ghost use Rattle.std.specs.Prelude.{◌≡◌, ◌<◌, ◌↔◌, [], length, true, false, IfErr, IfOk, IsTrue, OnOk, None, Some, MatchBool, MatchResult};
 ghost use Rattle.std.specs.Io.KnownBytes.{Appends, Consumes, IsAtEnd};
 ghost use Rattle.oram_host.specs.Image.{image};
 ghost use Rattle.oram_host.specs.ImageReading.{IsFirstFault, fault_number, host_in};
@@ -9,7 +9,7 @@ ghost use Rattle.oram_host.specs.Flips.{IsByteless, IsFlipped};
 ghost use Rattle.oram_host.specs.Answers.{Answers, IsFetched, IsPut, IsShaped, IsStored};
 ghost use Rattle.oram_host.specs.Refusals.{Refuses};
 ghost use Rattle.oram_wire.specs.HostMessages.{request_body};
-ghost use Rattle.oram_wire.specs.HostReading.{HasNumbers, IsMisfit, names_request, request_of};
+ghost use Rattle.oram_wire.specs.HostReading.{HasNumbers, IsAnswer, IsMisfit, names_request, request_of};
 
 use crate::images::{ImageFault, load_trees, save_trees};
 use crate::refusals::HostRefusal;
@@ -54,8 +54,9 @@ impl Server {
     }
 
     fn fetch(&self, tree: u8, leaf: u32) -> Result<Bytes, HostRefusal>
-        ensures { MatchResult result (IsFetched self.now tree leaf) (Refuses self.now
+        ensures fetched { MatchResult result (IsFetched self.now tree leaf) (Refuses self.now
             (HostRequest.Fetch tree leaf)) }
+        ensures some { IfOk result (λ bytes. 0 < length bytes) }
     {
         let Some(kept) = self.trees.get(&tree) else {
             return Err(HostRefusal::NoShape);
@@ -109,9 +110,10 @@ impl Server {
 
     /// Carries out a request.
     fn serve(&mut self, request: HostView<'_>) -> Result<HostAnswer, HostRefusal>
-        ensures { MatchResult result (λ answer. Answers self.old
+        ensures answers { MatchResult result (λ answer. Answers self.old
             (request_of request.entry) answer self.new)
             (λ why. Refuses self.old (request_of request.entry) why × (self.new ≡ self.old)) }
+        ensures spelled { IfOk result IsAnswer }
     {
         match request {
             HostView::Fetch { tree, leaf } => {
@@ -151,6 +153,9 @@ impl Server {
             × (self.new ≡ self.old) }
         ensures misfit { IsMisfit body.now → (result ≡ HostAnswer.Refused 4)
             × (self.new ≡ self.old) }
+
+        // The answer has a body.
+        ensures spelled { IsAnswer result }
     {
         let served = match HostView::read(body) {
             Ok(request) => self.serve(request),

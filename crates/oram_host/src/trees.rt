@@ -272,9 +272,10 @@ impl Tree {
     /// The records of the path of a leaf, root first.
     pub(crate) fn fetch(&self, alloc: Global, leaf: u32) -> Result<Bytes, HostRefusal>
         requires { IsTree self.now }
-        ensures { MatchResult result (λ bytes. (leaf < 2 ^ self.now.depth)
+        ensures fetched { MatchResult result (λ bytes. (leaf < 2 ^ self.now.depth)
             × IsPath (kept_by self.now) leaf bytes) (λ why. RefusesFetch
             (kept_by self.now) leaf why) }
+        ensures some { IfOk result (λ bytes. 0 < length bytes) }
     {
         if leaf >= 1 << self.depth {
             return Err(HostRefusal::BadLeaf);

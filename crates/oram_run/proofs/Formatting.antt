@@ -105,20 +105,20 @@ some_part v i n tree bodies made below =
 
 -- so do the messages of all trees
 
-each_joined : {X : Type 0} (P : X → Type 0) (parts : List (List X))
+pub each_joined : {X : Type 0} (P : X → Type 0) (parts : List (List X))
     → ((k : ℕ) → k < length parts → Each P (slice_index_or parts k [])) → Each P (flat_map (λ part. part) parts)
 each_joined P [] h = tt
 each_joined P (part ∷ parts) h =
     each_append P part (flat_map (λ part. part) parts) (h 0 (omega arith)) (each_joined P parts (λ k below. h (suc k) (omega arith)))
 
-some_joined : {X : Type 0} (P : X → Type 0) (parts : List (List X)) (k : ℕ) → k < length parts
+pub some_joined : {X : Type 0} (P : X → Type 0) (parts : List (List X)) (k : ℕ) → k < length parts
     → Some1 P (slice_index_or parts k []) → Some1 P (flat_map (λ part. part) parts)
 some_joined P [] k below h = absurd (omega arith)
 some_joined P (part ∷ parts) zero below h = some_left P part (flat_map (λ part. part) parts) h
 some_joined P (part ∷ parts) (suc k) below h =
     some_right P part (flat_map (λ part. part) parts) (some_joined P parts k (omega arith) h)
 
-left_there : (v : Shape) (n : ℕ) (trees : List Tree) (messages : List (List ℕ)) (made : AreTreesMade v n trees messages)
+pub left_there : (v : Shape) (n : ℕ) (trees : List Tree) (messages : List (List ℕ)) (made : AreTreesMade v n trees messages)
     (i m : ℕ) (below : i < n) → m < node_count (depth_of v.device i)
     → last_stored v (reverse messages) i m ≡ (made.each i below).made.records m
 left_there v n trees messages made i m below small =

@@ -114,7 +114,7 @@ put_leaves v j k i n records r small is = elim (eqb_tells j i) [
 lt_or_le : (m n : ℕ) → (m < n) ⊎ (n ≤ m)
 lt_or_le m n = elim (cases_order m n) [ inl same ↦ inr (omega arith) | inr apart ↦ elim apart [ inl below ↦ inl below | inr above ↦ inr (omega arith) ] ]
 
-order_cut : (f : ℕ → List ℕ) (h n : ℕ)
+pub order_cut : (f : ℕ → List ℕ) (h n : ℕ)
     → map f (post_order (suc h) n) ≡ map f (post_order h (2 * n + 1)) ++ (map f (post_order h (2 * n + 2)) ++ f n ∷ [])
 unfolding post_order
 order_cut f h n =
@@ -122,7 +122,7 @@ order_cut f h n =
     ∙ ap (λ xs. xs ++ f n ∷ []) (map-append f (post_order h (2 * n + 1)) (post_order h (2 * n + 2)))
     ∙ append_assoc (map f (post_order h (2 * n + 1))) (map f (post_order h (2 * n + 2))) (f n ∷ [])
 
-order_leaf : (f : ℕ → List ℕ) (n : ℕ) → map f (post_order 0 n) ≡ f n ∷ []
+pub order_leaf : (f : ℕ → List ℕ) (n : ℕ) → map f (post_order 0 n) ≡ f n ∷ []
 unfolding post_order
 order_leaf f n = refl
 

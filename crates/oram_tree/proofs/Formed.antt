@@ -17,8 +17,8 @@ use Rattle.oram_bucket.specs.Bucket.{IsBucketOf, spelling}
 use Rattle.oram_bucket.specs.Reading.{Reads}
 use Rattle.oram_tree.specs.Content.{Holds, node_count, no_blocks, HasContent}
 use Rattle.oram_tree.specs.State.{State}
-use Rattle.oram_tree.specs.Format.{PutsAll, post_order, IsFormat}
-use Rattle.oram_tree.specs.Subtree.{puts, root_record}
+use Rattle.oram_tree.specs.Format.{PutsAll, post_order, IsFormat, IsBegun}
+use Rattle.oram_tree.specs.Subtree.{puts, root_record, IsStartOf}
 use Rattle.oram_tree.proofs.Content.{IsUnique, reads_uniquely}
 use Rattle.oram_tree.proofs.Grown.{IsGrown, grown_stands, all_grown}
 use Rattle.oram_tree.proofs.Puts.{node_count-twice}
@@ -312,6 +312,16 @@ made putting from next to opening sealing d i depth len overhead nonce shape roo
       (next, subst F body_is first, subst P depth_is others),
       subst R (sym (root_is ∙ ap (λ (x : ℕ). sha256 (root_record seal x nonce)) depth_is)) (formed opening sealing overhead d i nonce of (record { longer = longer; undoes = undoes }) fits),
     )
+
+-- a beginning of what formatting sends
+pub begun : (opening : List ℕ → Option (List ℕ)) (sealing : ℕ → List ℕ → List ℕ) (d : Sizes) (i overhead nonce : ℕ) (xs : List (List ℕ)) → IsDevice d
+    → ((n : ℕ) (plain : List ℕ) → length (sealing n plain) ≡ overhead + length plain) → ((n : ℕ) (plain : List ℕ) → n < 2 ^ 64 → IsBytes plain → opening (sealing n plain) ≡ Some plain)
+    → nonce + node_count (depth_of d i) ≤ 2 ^ 64 → IsStartOf (shape_body i (depth_of d i) (record_len_of d overhead) ∷ puts (λ n. sealing n (spelling d [])) i (depth_of d i) nonce 0) xs
+    → IsBegun opening sealing overhead d nonce i xs
+begun opening sealing d i overhead nonce xs of longer undoes fits starts =
+    let root = sha256 (root_record (seal_empty sealing d) (depth_of d i) nonce) in
+    let F = λ (bodies : List (List ℕ)). let t : State = record { number = i; root = root; stash = [] } in IsFormat opening sealing overhead d nonce t bodies in
+    (starts.0, root, subst F (sym starts.1) (formed opening sealing overhead d i nonce of (record { longer = longer; undoes = undoes }) fits))
 
 -- both facts of an answer
 pub both : {T E : Type 0} (r : Result T E) (P : T → Type 0) (Q : Type 0) (R : T → Type 0) → IfOk r P → OnOk r Q → ((x : T) → P x → Q → R x) → IfOk r R

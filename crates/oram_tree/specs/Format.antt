@@ -1,12 +1,16 @@
 -- The messages that make a tree of empty buckets.
-use Rattle.std.specs.Prelude.{◌≡◌, ℕ, zero, suc, ◌+◌, ◌*◌, ◌<◌, List, Option, [], ◌∷◌, ◌++◌, map, slice_index}
+use Rattle.std.specs.Prelude.{◌≡◌, ℕ, zero, suc, ◌+◌, ◌*◌, ◌<◌, ◌⊎◌, List, Option, [], ◌∷◌, ◌++◌, map, slice_index}
 use Rattle.oram_geometry.specs.declared.Sizes.{Sizes}
 use Rattle.oram_geometry.specs.Sizes.{depth_of, record_len_of}
 use Rattle.oram_hash.specs.Record.{sealed_part}
 use Rattle.oram_bucket.specs.Bucket.{spelling}
 use Rattle.oram_wire.specs.HostMessages.{put_body, shape_body}
+use Rattle.oram_wire.specs.declared.sinks.SinkFault.{SinkFault}
 use Rattle.oram_tree.specs.Content.{no_blocks, node_count}
+use Rattle.oram_tree.specs.Faults.{format_fault}
 use Rattle.oram_tree.specs.State.{State, IsStoredWith}
+use Rattle.oram_tree.specs.declared.faults.FormatFault.{FormatFault}
+use Rattle.oram_tree.specs.declared.faults.FormatFault.TheVariants.{OutOfMemory}
 
 -- a sink takes these bodies in turn
 abbrev pub PutsAll : {K : Type 0} → (K → List ℕ → K → Type 0) → K → List (List ℕ) → K → Type 0
@@ -29,3 +33,28 @@ pub record IsFormat (opening : List ℕ → Option (List ℕ)) (sealing : ℕ �
   pub sealed : (k : ℕ) → k < node_count (depth_of d t.number)
       → sealed_part (records (slice_index (post_order (depth_of d t.number) 0) k)) ≡ sealing (nonce + k) (spelling d [])
   pub empty : IsStoredWith opening overhead d t records no_blocks
+
+-- the bodies are a beginning of those that make a tree of this number
+abbrev pub IsBegun : (List ℕ → Option (List ℕ)) → (ℕ → List ℕ → List ℕ) → ℕ → Sizes → ℕ → ℕ → List (List ℕ) → Type 0
+IsBegun opening sealing overhead d nonce number bodies =
+    (more : List (List ℕ)) × (root : List ℕ)
+    × IsFormat opening sealing overhead d nonce (record { number = number; root = root; stash = [] }) (bodies ++ more)
+
+-- a sink that stood as `from` and had taken a beginning refused the next body, and this is the fault that is told
+pub record IsRefused {K : Type 0} (refusing : K → List ℕ → SinkFault → K → Type 0) (Begins : List (List ℕ) → Type 0)
+    (taken : List (List ℕ)) (from : K) (fault : FormatFault) (to : K) : Type 0 where
+  pub body : List ℕ
+  pub begun : Begins (taken ++ body ∷ [])
+  pub why : SinkFault
+  pub refused : refusing from body why to
+  pub told : fault ≡ format_fault why
+
+-- A formatting was broken off: the sink took a beginning of it, and then either memory was refused elsewhere and the sink
+-- stands so, or it refused the next body.
+pub record IsBrokenOff {K : Type 0} (putting : K → List ℕ → K → Type 0) (refusing : K → List ℕ → SinkFault → K → Type 0)
+    (Begins : List (List ℕ) → Type 0) (from : K) (fault : FormatFault) (to : K) : Type 0 where
+  pub taken : List (List ℕ)
+  pub begun : Begins taken
+  pub mid : K
+  pub puts : PutsAll putting from taken mid
+  pub ended : ((fault ≡ OutOfMemory) × (to ≡ mid)) ⊎ IsRefused refusing Begins taken mid fault to

@@ -1,12 +1,12 @@
 //! The making of a tree of empty buckets.
-ghost use Rattle.std.specs.Prelude.{◌≡◌, ◌≢◌, ◌+◌, ◌*◌, ◌-◌, ◌^◌, ◌<◌, ◌≤◌, ℕ, List, [], ◌∷◌, ◌++◌, Err, IfOk, OnOk};
+ghost use Rattle.std.specs.Prelude.{◌≡◌, ◌≢◌, ◌+◌, ◌*◌, ◌-◌, ◌^◌, ◌<◌, ◌≤◌, ℕ, List, [], ◌∷◌, ◌++◌, Err, IfOk, IfErr, OnOk};
 ghost use Rattle.oram_geometry.specs.Sizes.{trees_of, depth_of, record_len_of};
 ghost use Rattle.oram_bucket.specs.Bucket.{spelling};
 ghost use Rattle.oram_wire.specs.HostMessages.{put_body, shape_body};
 ghost use Rattle.sha2.specs.Sha256.{sha256};
 ghost use Rattle.oram_tree.specs.Content.{node_count};
-ghost use Rattle.oram_tree.specs.Format.{PutsAll, IsFormat};
-ghost use Rattle.oram_tree.specs.Subtree.{puts, root_record};
+ghost use Rattle.oram_tree.specs.Format.{PutsAll, IsFormat, IsBegun, IsBrokenOff};
+ghost use Rattle.oram_tree.specs.Subtree.{puts, root_record, IsStartOf};
 
 use crate::faults::FormatFault;
 use oram_bucket::{Block, Sealer, seal_bucket};
@@ -37,6 +37,14 @@ fn empty_record<S: Sealer>(
     Ok(record)
 }
 
+/// The message that puts a record at a node.
+fn put_message(alloc: Global, tree: u8, node: u32, bytes: Vec<u8>) -> Result<Vec<u8>, AllocError>
+    ensures { IfOk result (λ v. v.items ≡ put_body tree node bytes.items) }
+{
+    let bytes = Bytes::from_vec(bytes);
+    HostRequest::Put { tree, node, bytes }.encode(alloc)
+}
+
 /// Puts an empty bucket with these children's digests at a node, and gives its record's digest.
 fn put_node<S: Sealer, K: Sink>(
     alloc: Global,
@@ -55,11 +63,12 @@ fn put_node<S: Sealer, K: Sink>(
         OnOk result (K.putting sink.old (put_body tree node (sealed ++ left.now ++ right.now)) sink.new) }
     ensures digest { let sealed = S.sealing sealer.now nonce (spelling device.now []) in
         IfOk result (λ d. d ≡ sha256 (sealed ++ left.now ++ right.now)) }
+    ensures broken_off { let sealed = S.sealing sealer.now nonce (spelling device.now []) in
+        IfErr result (λ fault. IsBrokenOff K.putting K.refusing (IsStartOf (put_body tree node (sealed ++ left.now ++ right.now) ∷ [])) sink.old fault sink.new) }
 {
     let record = empty_record(alloc, device, tree, sealer, nonce, left, right)?;
     let digest = node_digest(&record);
-    let bytes = Bytes::from_vec(record);
-    let body = HostRequest::Put { tree, node, bytes }.encode(alloc)?;
+    let body = put_message(alloc, tree, node, record)?;
     sink.put(&body)?;
     Ok(digest)
 }
@@ -94,6 +103,8 @@ fn grow<S: Sealer, K: Sink>(
         OnOk result (PutsAll K.putting sink.old (puts seal tree height nonce node) sink.new) }
     ensures digest { let seal = λ (n : ℕ). S.sealing sealer.now n (spelling device.now []) in
         IfOk result (λ d. d ≡ sha256 (root_record seal height nonce)) }
+    ensures broken_off { let seal = λ (n : ℕ). S.sealing sealer.now n (spelling device.now []) in
+        IfErr result (λ fault. IsBrokenOff K.putting K.refusing (IsStartOf (puts seal tree height nonce node)) sink.old fault sink.new) }
 {
     if height == 0 {
         return put_node(
@@ -119,6 +130,29 @@ fn grow<S: Sealer, K: Sink>(
     )
 }
 
+/// The message that tells the shape of a tree.
+fn shape_message(
+    alloc: Global,
+    device: &Device,
+    tree: u8,
+    overhead: usize,
+) -> Result<Vec<u8>, AllocError>
+    requires tree { tree < trees_of device.now }
+    requires overhead { overhead ≤ 64 }
+    ensures { IfOk result (λ v.
+        v.items ≡ shape_body tree (depth_of device.now tree) (record_len_of device.now overhead)) }
+{
+    prove!(tree < device.trees());
+    let depth = device.depth(tree);
+    let record_len = device.record_len(overhead) as u32;
+    let shape = HostRequest::Shape {
+        tree,
+        depth,
+        record_len,
+    };
+    shape.encode(alloc)
+}
+
 /// Makes a tree of empty buckets, and gives the digest of its root's record.
 pub(crate) fn format_tree<S: Sealer, K: Sink>(
     alloc: Global,
@@ -135,15 +169,21 @@ pub(crate) fn format_tree<S: Sealer, K: Sink>(
         × PutsAll K.putting sink.old bodies sink.new
         × IsFormat (S.opening sealer.now) (S.sealing sealer.now) (S.overhead sealer.now)
         device.now nonce (record { number = tree; root = root; stash = [] }) bodies) }
+    ensures broken_off { IfErr result (λ fault. IsBrokenOff K.putting K.refusing
+        (IsBegun (S.opening sealer.now) (S.sealing sealer.now) (S.overhead sealer.now) device.now nonce tree)
+        sink.old fault sink.new) }
 {
     prove!(tree < device.trees());
-    let depth = device.depth(tree);
-    let record_len = device.record_len(sealer.overhead()) as u32;
-    let shape = HostRequest::Shape {
+    let shape = shape_message(alloc, device, tree, sealer.overhead())?;
+    sink.put(&shape)?;
+    grow(
+        alloc,
+        device,
         tree,
-        depth,
-        record_len,
-    };
-    sink.put(&shape.encode(alloc)?)?;
-    grow(alloc, device, tree, sealer, sink, depth, 0, nonce)
+        sealer,
+        sink,
+        device.depth(tree),
+        0,
+        nonce,
+    )
 }

@@ -16,7 +16,7 @@ ghost use Rattle.oram_tree.specs.Content.{Map, node_count};
 ghost use Rattle.oram_tree.specs.State.{IsStoredWith};
 ghost use Rattle.oram_tree.specs.Edits.{edited_block, IsEditOf};
 ghost use Rattle.oram_tree.specs.Access.{IsAtOrAbsent, IsNear, IsReadable, IsLookup, IsRewritten, IsUpdate};
-ghost use Rattle.oram_tree.specs.Format.{PutsAll, IsFormat};
+ghost use Rattle.oram_tree.specs.Format.{PutsAll, IsFormat, IsBegun, IsBrokenOff};
 
 mod edits;
 mod faults;
@@ -73,6 +73,9 @@ impl Tree {
             × PutsAll K.putting sink.old bodies sink.new
             × IsFormat (S.opening sealer.now) (S.sealing sealer.now) (S.overhead sealer.now)
             device.now nonce t bodies) }
+        ensures broken_off { IfErr result (λ fault. IsBrokenOff K.putting K.refusing
+            (IsBegun (S.opening sealer.now) (S.sealing sealer.now) (S.overhead sealer.now) device.now nonce number)
+            sink.old fault sink.new) }
     {
         let root = format_tree(alloc, device, number, sealer, nonce, sink)?;
         Ok(Tree {

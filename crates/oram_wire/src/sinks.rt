@@ -19,11 +19,17 @@ pub enum SinkFault {
 
 /// What takes the messages that format a host, one body after the other.
 pub trait Sink {
+    ghost use Rattle.oram_wire.specs.declared.sinks.SinkFault.{SinkFault};
+
     /// What taking a body leaves.
     ghost putting: { Self → List ℕ → Self → Type 0 };
 
+    /// What refusing a body for a fault leaves.
+    ghost refusing: { Self → List ℕ → SinkFault → Self → Type 0 };
+
     fn put(&mut self, body: &[u8]) -> Result<(), SinkFault>
-        ensures { OnOk result (putting self.old body.now self.new) };
+        ensures taken { OnOk result (putting self.old body.now self.new) }
+        ensures refused { IfErr result (λ fault. refusing self.old body.now fault self.new) };
 }
 
 /// A sink that keeps the bodies, in order.
@@ -59,6 +65,13 @@ impl ListSink {
         self.bodies.as_slice()
     }
 
+    /// The bodies that were put, the first one first.
+    pub fn into_bodies(self) -> Vec<Vec<u8>>
+        ensures { bodies_in result.items ≡ self }
+    {
+        self.bodies
+    }
+
     fn keep(&mut self, body: &[u8]) -> Result<(), AllocError>
         ensures ok { OnOk result (self.new ≡ self.old ++ body.now ∷ []) }
         ensures err { OnErr result (self.new ≡ self.old) }
@@ -70,12 +83,15 @@ impl ListSink {
 }
 
 impl Sink for ListSink {
+    ghost use Rattle.oram_wire.specs.declared.sinks.SinkFault.TheVariants.{OutOfMemory};
+
     ghost putting = { λ old body new. new ≡ old ++ body ∷ [] };
 
+    ghost refusing = { λ old body fault new. (new ≡ old) × (fault ≡ OutOfMemory) };
+
     fn put(&mut self, body: &[u8]) -> Result<(), SinkFault>
-        ensures ok { OnOk result (self.new ≡ self.old ++ body.now ∷ []) }
-        ensures err { OnErr result (self.new ≡ self.old) }
-        ensures fault { IfErr result (λ f. f ≡ SinkFault.OutOfMemory) }
+        ensures taken { OnOk result (self.new ≡ self.old ++ body.now ∷ []) }
+        ensures refused { IfErr result (λ fault. (self.new ≡ self.old) × (fault ≡ SinkFault.OutOfMemory)) }
     {
         match self.keep(body) {
             Ok(()) => Ok(()),

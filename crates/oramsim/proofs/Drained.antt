@@ -1,24 +1,29 @@
 -- One more answer of a drain.
-use Rattle.std.proofs.Common.{◌≡◌, Bool, true, ℕ, List, [], ◌∷◌, ◌++◌, Option, sym, ap, ◌∙◌, subst, append-nil}
+use Rattle.std.proofs.Common.{◌≡◌, ◌≢◌, ℕ, true, false, List, [], ◌∷◌, ◌++◌, Option, Some, None, refl, ◌∙◌}
+use Rattle.std.specs.Prelude.{is_some}
+use Rattle.std.specs.List.{FoldsTo}
 use Rattle.std.proofs.lemmas.Fn.{FoldsTo-push}
-use Rattle.std.proofs.lemmas.Grind.{flat_map-append}
-use Rattle.std.proofs.KnownBytes.{Appends-trans}
-use Rattle.std.specs.Io.KnownBytes.{Appends}
-use Rattle.std.specs.List.{flat_map, FoldsTo}
-use Rattle.oram_core.specs.Run.{Shown}
-use Rattle.oramsim.specs.Printing.{reaction_text}
-use Rattle.oramsim.specs.Script.{Running, Reacts, IsAnswered, has_message, answer_event}
+use Rattle.oram_run.specs.Run.{Shown}
+use Rattle.oramsim.specs.Script.{IsAnswered, IsDrained, Running}
+use Rattle.oramsim.specs.Standing.{GoesOn, IsFaithful}
+use Rattle.oramsim.specs.declared.machine.Machine.{Machine}
+use Rattle.oramsim.proofs.Turning.{tells_more}
 
-pub one_text : (x : Shown) → flat_map reaction_text (x ∷ []) ≡ reaction_text x
-one_text x = append-nil (reaction_text x)
+pub none_left : (o : Option (List ℕ)) → is_some o ≡ false → o ≡ None
+none_left None e = refl
+none_left (Some m) e = cc
 
-pub texts_more : (xs : List Shown) (x : Shown) → flat_map reaction_text (xs ++ x ∷ []) ≡ flat_map reaction_text xs ++ reaction_text x
-texts_more xs x = flat_map-append reaction_text xs (x ∷ []) ∙ ap (λ l. flat_map reaction_text xs ++ l) (one_text x)
+some_there : (o p : Option (List ℕ)) → is_some o ≡ true → o ≡ p → p ≢ None
+some_there None p e same = cc
+some_there (Some m) p e same = λ none. let both : Some m ≡ None = same ∙ none in cc
 
-pub answered_more : (r : Running) (xs : List Shown) (mid : Running) (x : Shown) (later : Running) (has : Bool) → FoldsTo IsAnswered r xs mid → has_message mid ≡ has → has ≡ true → Reacts mid (answer_event has) x later
-    → FoldsTo IsAnswered r (xs ++ x ∷ []) later
-answered_more r xs mid x later has folds same on reacts =
-    FoldsTo-push IsAnswered r xs mid x later folds (same ∙ on, subst (λ b. Reacts mid (answer_event b) x later) on reacts)
-
-pub written_more : (a b c : Option (List ℕ)) (xs : List Shown) (x : Shown) → Appends a b (flat_map reaction_text xs) → Appends b c (reaction_text x) → Appends a c (flat_map reaction_text (xs ++ x ∷ []))
-written_more a b c xs x p q = subst (Appends a c) (sym (texts_more xs x)) (Appends-trans a b c _ _ p q)
+pub drained_more : (r mid later : Running) (m n : Machine) (old between new : Option (List ℕ)) (xs : List Shown) (x : Shown) → FoldsTo IsDrained r xs mid → GoesOn r mid m old between
+    → is_some m.outstanding ≡ true → IsAnswered mid x later → GoesOn mid later n between new → (IsFaithful r → IsFaithful later)
+    → (xs' : List Shown) × (last : Running) × FoldsTo IsDrained r xs' last × GoesOn r last n old new × (IsFaithful r → IsFaithful last)
+drained_more r mid later m n old between new xs x folds gone some answered next faithful = (
+  xs ++ x ∷ [],
+  later,
+  FoldsTo-push IsDrained r xs mid x later folds (some_there m.outstanding mid.message some gone.0.message, answered),
+  (next.0, tells_more _ _ _ old between new gone.1 next.1),
+  faithful,
+)

@@ -1,9 +1,20 @@
 pub mod Numbers
 pub mod Hex
 pub mod Writes
-pub mod Moving
-pub mod Waiting
-pub mod Drained
-pub mod Passing
 pub mod Lines
+pub mod Whole
+pub mod Turning
+pub mod Hosted
+pub mod HostedFormat
+pub mod HostedPast
+pub mod HostedSteps
+pub mod Faithful
+pub mod Answering
+pub mod Drained
+pub mod Meddling
+pub mod Obeyed
+pub mod Formatted
+pub mod Started
+pub mod Clean
+pub mod Passing
 mod Rows

@@ -4,13 +4,15 @@ use Rattle.std.specs.Prelude.{codes}
 use Rattle.std.specs.Fmt.{digits}
 use Rattle.hex.proofs.OnLiterals.{hex_on_literals}
 use Rattle.hex.specs.Hex.{encode_with}
-use Rattle.oram_core.specs.declared.events.Note.TheVariants.{Accepted, Refused, FailedNow}
-use Rattle.oram_core.specs.declared.events.Reason.TheVariants.{Malformed}
-use Rattle.oram_core.specs.declared.events.Refusal.TheVariants.{Exhausted}
-use Rattle.oram_core.specs.declared.events.ReplyBody.TheVariants.{Data}
+use Rattle.oram_run.specs.declared.events.Command.TheVariants.{Read, Write}
+use Rattle.oram_run.specs.declared.events.Event.TheVariants as event
+use Rattle.oram_run.specs.declared.events.Note.TheVariants.{Accepted, Refused, FailedNow, Resent}
+use Rattle.oram_run.specs.declared.events.Reason.TheVariants.{Malformed, Tampered}
+use Rattle.oram_run.specs.declared.events.Refusal.TheVariants.{Exhausted}
+use Rattle.oram_run.specs.declared.events.ReplyBody.TheVariants.{Data}
 use Rattle.oramsim.specs.Printing.{note_text, reply_text, send_text, error_text}
-use Rattle.oramsim.specs.Reading.{lines_of, line_of, line_from, device_from, read_from, write_from, number_below, numbers_below, hex_bytes}
-use Rattle.oramsim.specs.declared.line.Line.TheVariants.{Device, Read, Write, Drain}
+use Rattle.oramsim.specs.Reading.{lines_of, line_of, line_from, device_from, read_from, write_from, raw_from, tamper_from, named_line, number_below, numbers_below, hex_bytes}
+use Rattle.oramsim.specs.declared.line.Line.TheVariants.{Device, Told, Drain, Tamper, Restore}
 
 lines_ended : lines_of (97 ∷ 10 ∷ 10 ∷ 98 ∷ 10 ∷ []) ≡ (97 ∷ []) ∷ [] ∷ (98 ∷ []) ∷ []
 lines_ended = refl
@@ -22,7 +24,7 @@ device_line : line_of (codes "device 8 16 4 8 100") ≡ Some (Device 8 16 4 8 10
 unfolding line_from device_from number_below
 device_line = refl
 
-read_line : line_of (codes "read 1 0 18446744073709551615 0") ≡ Some (Read 1 0 (18446744073709551615 ∷ 0 ∷ []))
+read_line : line_of (codes "read 1 0 18446744073709551615 0") ≡ Some (Told (event.Submit 1 (Read 0) (18446744073709551615 ∷ 0 ∷ [])))
 unfolding line_from read_from number_below numbers_below
 read_line = refl
 
@@ -34,7 +36,7 @@ address_too_large : line_of (codes "read 1 4294967296") ≡ None
 unfolding line_from read_from number_below numbers_below
 address_too_large = refl
 
-no_words : line_of (codes "read 1 5") ≡ Some (Read 1 5 [])
+no_words : line_of (codes "read 1 5") ≡ Some (Told (event.Submit 1 (Read 5) []))
 unfolding line_from read_from number_below numbers_below
 no_words = refl
 
@@ -51,20 +53,44 @@ unfolding line_from read_from number_below numbers_below
 double_space = refl
 
 space_at_the_end : line_of (codes "drain ") ≡ None
-unfolding line_from
+unfolding line_from named_line
 space_at_the_end = refl
 
 drain_line : line_of (codes "drain") ≡ Some Drain
-unfolding line_from
+unfolding line_from named_line
 drain_line = refl
 
-write_line : line_of (codes "write 2 3 0aFf 7") ≡ Some (Write 2 3 (10 ∷ 255 ∷ []) (7 ∷ []))
+write_line : line_of (codes "write 2 3 0aFf 7") ≡ Some (Told (event.Submit 2 (Write 3 (10 ∷ 255 ∷ [])) (7 ∷ [])))
 unfolding line_from write_from number_below numbers_below hex_bytes hex_on_literals
 write_line = refl
 
 odd_digits : line_of (codes "write 2 3 0aF 7") ≡ None
 unfolding line_from write_from number_below numbers_below hex_bytes hex_on_literals
 odd_digits = refl
+
+raw_line : line_of (codes "raw 8106") ≡ Some (Told (event.Answer (129 ∷ 6 ∷ [])))
+unfolding line_from raw_from hex_bytes hex_on_literals
+raw_line = refl
+
+raw_of_nothing : line_of (codes "raw") ≡ None
+unfolding line_from raw_from hex_bytes hex_on_literals
+raw_of_nothing = refl
+
+tamper_line : line_of (codes "tamper 0 13 18446744073709551615") ≡ Some (Tamper 0 13 18446744073709551615)
+unfolding line_from tamper_from number_below
+tamper_line = refl
+
+lost_line : line_of (codes "lost") ≡ Some (Told event.Lost)
+unfolding line_from named_line
+lost_line = refl
+
+restore_line : line_of (codes "restore") ≡ Some Restore
+unfolding line_from named_line
+restore_line = refl
+
+restore_of_something : line_of (codes "restore 1") ≡ None
+unfolding line_from named_line
+restore_of_something = refl
 
 no_digits : line_of (codes "write 2 3") ≡ None
 unfolding line_from write_from
@@ -75,6 +101,13 @@ exhausted_text = refl
 
 failed_text : note_text (FailedNow Malformed) ≡ codes "failed malformed\n"
 failed_text = refl
+
+tampered_text : note_text (FailedNow (Tampered 0 3)) ≡ codes "failed tampered 0 3\n"
+unfolding digits
+tampered_text = refl
+
+resent_text : note_text Resent ≡ []
+resent_text = refl
 
 accepted_text : note_text (Accepted 10) ≡ codes "accepted 10\n"
 unfolding digits

@@ -1,5 +1,5 @@
 pub mod Reading
 pub mod Printing
-pub mod Host
+pub mod Hosting
 pub mod Script
 pub mod Standing

@@ -6,16 +6,16 @@ use Rattle.byteorder.specs.Endian.{big_number}
 use Rattle.hex.specs.Hex.{encode_lower}
 use Rattle.oram_geometry.specs.declared.ShapeFault.{ShapeFault}
 use Rattle.oram_geometry.specs.Sizes.{fault_number}
-use Rattle.oram_core.specs.Run.{Shown}
-use Rattle.oram_core.specs.declared.events.Note.{Note}
-use Rattle.oram_core.specs.declared.events.Note.TheVariants.{Accepted, Refused, Taken, FailedNow, Unexpected}
-use Rattle.oram_core.specs.declared.events.Reason.{Reason}
-use Rattle.oram_core.specs.declared.events.Reason.TheVariants.{Malformed}
-use Rattle.oram_core.specs.declared.events.Refusal.{Refusal}
-use Rattle.oram_core.specs.declared.events.Refusal.TheVariants as refusal
-use Rattle.oram_core.specs.declared.events.Reply.{Reply}
-use Rattle.oram_core.specs.declared.events.ReplyBody.{ReplyBody}
-use Rattle.oram_core.specs.declared.events.ReplyBody.TheVariants as body
+use Rattle.oram_run.specs.Run.{Shown}
+use Rattle.oram_run.specs.declared.events.Note.{Note}
+use Rattle.oram_run.specs.declared.events.Note.TheVariants.{Accepted, Refused, Taken, Stalled, FailedNow, Resent, Unexpected}
+use Rattle.oram_run.specs.declared.events.Reason.{Reason}
+use Rattle.oram_run.specs.declared.events.Reason.TheVariants.{Malformed, Tampered, HostRefused}
+use Rattle.oram_run.specs.declared.events.Refusal.{Refusal}
+use Rattle.oram_run.specs.declared.events.Refusal.TheVariants as refusal
+use Rattle.oram_run.specs.declared.events.Reply.{Reply}
+use Rattle.oram_run.specs.declared.events.ReplyBody.{ReplyBody}
+use Rattle.oram_run.specs.declared.events.ReplyBody.TheVariants as body
 
 abbrev pub newline : List ℕ
 newline = 10 ∷ []
@@ -34,13 +34,17 @@ refusal_text refusal.Failed = codes "6 failed"
 
 abbrev pub reason_text : Reason → List ℕ
 reason_text Malformed = codes "malformed"
+reason_text (Tampered tree level) = codes "tampered " ++ decimal tree ++ space ++ decimal level
+reason_text (HostRefused code) = codes "host " ++ decimal code
 
--- a note's line; an answer that was taken has none
+-- a note's line; an answer that was taken has none, nor has a message that was sent again
 abbrev pub note_text : Note → List ℕ
 note_text (Accepted ticket) = codes "accepted " ++ decimal ticket ++ newline
 note_text (Refused refused) = codes "refused " ++ refusal_text refused ++ newline
 note_text Taken = []
+note_text Stalled = codes "stalled" ++ newline
 note_text (FailedNow reason) = codes "failed " ++ reason_text reason ++ newline
+note_text Resent = []
 note_text Unexpected = codes "unexpected" ++ newline
 
 abbrev pub body_text : ReplyBody → List ℕ

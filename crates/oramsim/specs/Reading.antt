@@ -6,8 +6,10 @@ use Rattle.std.specs.Result.{result_ok}
 use Rattle.std.specs.Str.{bytes_eq}
 use Rattle.std.specs.Str.Parse.{digits_value}
 use Rattle.hex.specs.Hex.{decode_of}
+use Rattle.oram_run.specs.declared.events.Command.TheVariants.{Read, Write}
+use Rattle.oram_run.specs.declared.events.Event.TheVariants as event
 use Rattle.oramsim.specs.declared.line.Line.{Line}
-use Rattle.oramsim.specs.declared.line.Line.TheVariants.{Device, Read, Write, Answer, Drain}
+use Rattle.oramsim.specs.declared.line.Line.TheVariants.{Device, Told, Answer, Drain, Late, Tamper, Snapshot, Restore}
 
 infixl 10 ◌>>=◌
 abbrev pub ◌>>=◌ : {A B : Type 0} → Option A → (A → Option B) → Option B
@@ -65,7 +67,7 @@ read_from (s ∷ a ∷ w) = do
   session ← number_below (2 ^ 32) s
   address ← number_below (2 ^ 32) a
   words ← numbers_below (2 ^ 64) w
-  Some (Read session address words)
+  Some (Told (event.Submit session (Read address) words))
 read_from _ = None
 
 unfoldable pub write_from : List (List ℕ) → Option Line
@@ -74,13 +76,39 @@ write_from (s ∷ a ∷ h ∷ w) = do
   address ← number_below (2 ^ 32) a
   bytes ← hex_bytes h
   words ← numbers_below (2 ^ 64) w
-  Some (Write session address bytes words)
+  Some (Told (event.Submit session (Write address bytes) words))
 write_from _ = None
 
+unfoldable pub raw_from : List (List ℕ) → Option Line
+raw_from (h ∷ []) = do
+  bytes ← hex_bytes h
+  Some (Told (event.Answer bytes))
+raw_from _ = None
+
+unfoldable pub tamper_from : List (List ℕ) → Option Line
+tamper_from (t ∷ n ∷ o ∷ []) = do
+  tree ← number_below (2 ^ 64) t
+  node ← number_below (2 ^ 64) n
+  offset ← number_below (2 ^ 64) o
+  Some (Tamper tree node offset)
+tamper_from _ = None
+
+-- the line that a word alone makes
+unfoldable pub named_line : List ℕ → Option Line
+named_line word =
+    if bytes_eq word (codes "answer") then Some Answer
+    else if bytes_eq word (codes "drain") then Some Drain
+    else if bytes_eq word (codes "lost") then Some (Told event.Lost)
+    else if bytes_eq word (codes "late") then Some Late
+    else if bytes_eq word (codes "retry") then Some (Told event.Retry)
+    else if bytes_eq word (codes "snapshot") then Some Snapshot
+    else if bytes_eq word (codes "restore") then Some Restore
+    else None
+
 -- a line of one word
-abbrev pub alone : Line → List (List ℕ) → Option Line
-alone line [] = Some line
-alone line (field ∷ fields) = None
+abbrev pub alone : List ℕ → List (List ℕ) → Option Line
+alone word [] = named_line word
+alone word (field ∷ fields) = None
 
 -- what a word and the fields after it say
 unfoldable pub line_from : List ℕ → List (List ℕ) → Option Line
@@ -88,9 +116,9 @@ line_from word fields =
     if bytes_eq word (codes "device") then device_from fields
     else if bytes_eq word (codes "read") then read_from fields
     else if bytes_eq word (codes "write") then write_from fields
-    else if bytes_eq word (codes "answer") then alone Answer fields
-    else if bytes_eq word (codes "drain") then alone Drain fields
-    else None
+    else if bytes_eq word (codes "raw") then raw_from fields
+    else if bytes_eq word (codes "tamper") then tamper_from fields
+    else alone word fields
 
 abbrev pub line_of_fields : List (List ℕ) → Option Line
 line_of_fields [] = None

@@ -1,121 +1,219 @@
--- The run of a script: what its lines make a device do, and what is printed.
-use Rattle.std.specs.Prelude.{◌≡◌, ℕ, ◌+◌, Bool, true, false, if◌then◌else◌, List, [], ◌∷◌, ◌++◌, length, Option, Some, None, Result, Ok, Err, ⊤}
-use Rattle.std.specs.List.{flat_map, FoldsTo}
+-- The run of a script: what its lines make a device and its host do, and what is printed.
+use Rattle.std.specs.Prelude.{◌≡◌, ◌≢◌, ℕ, ◌+◌, Bool, true, false, List, [], ◌∷◌, ◌++◌, length, map, take, codes, Option, Some, None, Result, Ok, Err, ⊤}
+use Rattle.std.specs.List.{AllByRecursion, flat_map, FoldsTo}
 use Rattle.oram_geometry.specs.declared.Sizes.{Sizes}
 use Rattle.oram_geometry.specs.declared.ShapeFault.{ShapeFault}
 use Rattle.oram_geometry.specs.Sizes.{device_of, trees_of}
-use Rattle.oram_core.specs.Progress.{Step, Status, status}
-use Rattle.oram_core.specs.Progress.Status.{Idle, Waiting, Over}
-use Rattle.oram_core.specs.Run.{Shown, IsRight, step_of}
-use Rattle.oram_core.specs.declared.events.Command.TheVariants as command
-use Rattle.oram_core.specs.declared.events.Event.{Event}
-use Rattle.oram_core.specs.declared.events.Event.TheVariants as event
-use Rattle.oramsim.specs.Host.{spelled, host_answer}
+use Rattle.oram_wire.specs.HostMessages.{answer_body}
+use Rattle.oram_wire.specs.declared.host_messages.HostAnswer.{HostAnswer}
+use Rattle.oram_host.specs.Host.{Host}
+use Rattle.oram_host.specs.Flips.{IsFlipped, IsByteless}
+use Rattle.oram_host.specs.Serving.{Serves}
+use Rattle.oram_tree.specs.Format.{PutsAll}
+use Rattle.oram_tree.specs.State.{State as Tree}
+use Rattle.oram_run.specs.Shape.{Shape}
+use Rattle.oram_run.specs.Progress.{Setting}
+use Rattle.oram_run.specs.Formatting.{IsFormatted}
+use Rattle.oram_run.specs.Run.{Shown, AllRight}
+use Rattle.oram_run.specs.declared.events.Event.{Event}
+use Rattle.oram_run.specs.declared.events.Event.TheVariants as event
+use Rattle.oramsim.specs.Hosting.{Takes}
 use Rattle.oramsim.specs.Printing.{reaction_text, ready_text, shape_text, error_text}
 use Rattle.oramsim.specs.Reading.{lines_of, line_of}
 use Rattle.oramsim.specs.declared.line.Line.{Line}
-use Rattle.oramsim.specs.declared.line.Line.TheVariants.{Device, Read, Write, Answer, Drain}
+use Rattle.oramsim.specs.declared.line.Line.TheVariants.{Device, Told, Answer, Drain, Late, Tamper, Snapshot, Restore}
 use Rattle.oramsim.specs.declared.script.Ending.{Ending}
 use Rattle.oramsim.specs.declared.script.Ending.TheVariants.{End, BadLine}
 
--- a device at work, and the steps that it made, the newest first
+-- an event, and what the device showed at it
+pub record Turn : Type 0 where
+  pub event : Event
+  pub shown : Shown
+
+-- a device at work, and its host
 pub record Running : Type 0 where
-  pub device : Sizes
-  pub past : List Step
+  pub setting : Setting  -- the device's shape, and the messages that formatted it
+  pub turns : List Turn  -- so far, the oldest first
+  pub message : Option (List ℕ)  -- the one that is outstanding
+  pub host : Host
+  pub copy : Option Host  -- the snapshot of it
+
+abbrev pub events : Running → List Event
+events r = map (λ t. t.event) r.turns
+
+abbrev pub all_shown : Running → List Shown
+all_shown r = map (λ t. t.shown) r.turns
+
+-- what an event leaves outstanding: an answer and a loss end the wait for the answer
+abbrev pub left_at : Event → Option (List ℕ) → Option (List ℕ)
+left_at (event.Submit session c words) message = message
+left_at (event.Answer bytes) message = None
+left_at event.Lost message = None
+left_at event.Retry message = message
+
+-- the newest of the messages that were sent, else the one of before
+abbrev pub newest_of : List (List ℕ) → Option (List ℕ) → Option (List ℕ)
+newest_of [] message = message
+newest_of (m ∷ more) message = newest_of more (Some m)
+
+-- the device shows x at an event
+abbrev pub after_turn : Running → Event → Shown → Running
+after_turn r e x = record r { turns = r.turns ++ (record { event = e; shown = x }) ∷ []; message = newest_of x.sends (left_at e r.message) }
+
+abbrev pub with_host : Running → Host → Running
+with_host r host = record r { host = host }
+
+-- the host answers the outstanding message by these bytes; with none outstanding there are no bytes
+abbrev pub Replies : Host → Option (List ℕ) → List ℕ → Host → Type 0
+Replies host None bytes after = (bytes ≡ []) × (after ≡ host)
+Replies host (Some message) bytes after = (answer : HostAnswer) × Serves host message answer after × (bytes ≡ answer_body answer)
+
+-- the event is the host's answer
+abbrev pub IsAnswered : Running → Shown → Running → Type 0
+IsAnswered r x after = (bytes : List ℕ) × (host : Host) × Replies r.host r.message bytes host × (after ≡ after_turn (with_host r host) (event.Answer bytes) x)
+
+abbrev pub IsDrained : Running → Shown → Running → Type 0
+IsDrained r x after = (r.message ≢ None) × IsAnswered r x after
+
+abbrev pub AtEvent : Running → Event → Running → Type 0
+AtEvent r e after = (x : Shown) × (after ≡ after_turn r e x)
+
+-- what a line does to a device and its host
+abbrev pub Obeys : Running → Line → Running → Type 0
+Obeys r (Device blocks block_bytes slots top lifetime) after = ⊥
+Obeys r (Told e) after = AtEvent r e after
+Obeys r Answer after = (x : Shown) × IsAnswered r x after
+Obeys r Drain after = (xs : List Shown) × FoldsTo IsDrained r xs after × (after.message ≡ None)
+Obeys r Late after = (bytes : List ℕ) × (host : Host) × Replies r.host r.message bytes host × AtEvent (with_host r host) event.Lost after
+Obeys r (Tamper tree node offset) after = (host : Host) × IsFlipped r.host tree node offset host × (after ≡ with_host r host)
+Obeys r Snapshot after = after ≡ record r { copy = Some r.host }
+Obeys r Restore after = (host : Host) × (r.copy ≡ Some host) × (after ≡ with_host r host)
+
+-- a device and what the sealer does that changes nothing
+abbrev pub plain_shape : Sizes → Shape
+plain_shape d = record { device = d; overhead = 0; sealing = λ nonce plain. plain; opening = λ bytes. Some bytes }
+
+-- a device that was just formatted, on a host that kept nothing before
+pub record IsNew (d : Sizes) (r : Running) : Type 0 where
+  pub shape : r.setting.shape ≡ plain_shape d
+  pub trees : List Tree
+  pub formatted : IsFormatted r.setting trees
+  pub taken : PutsAll Takes [] r.setting.format r.host
+  pub turns : r.turns ≡ []
+  pub message : r.message ≡ None
+  pub copy : r.copy ≡ None
 
 -- where a script stands: there is no device yet, or one is at work
 abbrev pub Stage : Type 0
 Stage = Option Running
 
-abbrev pub is_waiting : Status → Bool
-is_waiting Idle = false
-is_waiting Waiting = true
-is_waiting Over = false
-
--- whether a message to the host has no answer
-abbrev pub has_message : Running → Bool
-has_message r = is_waiting (status r.device r.past)
-
--- the host's answer to the outstanding message, or no bytes where there is none
-abbrev pub answer_event : Bool → Event
-answer_event has_message = event.Answer (if has_message then spelled host_answer else [])
-
--- at an event the device shows x, as is right after the steps so far, and the event is its newest step then
-pub record Reacts (r : Running) (e : Event) (x : Shown) (after : Running) : Type 0 where
-  pub right : IsRight r.device r.past e x
-  pub step : after ≡ record { device = r.device; past = step_of e x ∷ r.past }
-
--- the outstanding message is answered
-abbrev pub IsAnswered : Running → Shown → Running → Type 0
-IsAnswered r x after = (has_message r ≡ true) × Reacts r (answer_event true) x after
-
-abbrev pub ReactsOnce : Running → Event → List Shown → Running → Type 0
-ReactsOnce r e xs after = (x : Shown) × (xs ≡ x ∷ []) × Reacts r e x after
-
--- what a device shows at a line
-abbrev pub Obeys : Running → Line → List Shown → Running → Type 0
-Obeys r (Device blocks block_bytes slots top lifetime) xs after = ⊥
-Obeys r (Read session address words) xs after = ReactsOnce r (event.Submit session (command.Read address) words) xs after
-Obeys r (Write session address bytes words) xs after = ReactsOnce r (event.Submit session (command.Write address bytes) words) xs after
-Obeys r Answer xs after = ReactsOnce r (answer_event (has_message r)) xs after
-Obeys r Drain xs after = FoldsTo IsAnswered r xs after × (has_message after ≡ false)
-
--- five numbers make a device, or not
-abbrev pub Starts : Result Sizes ShapeFault → List ℕ → Stage → Type 0
-Starts (Ok d) text after = (text ≡ ready_text (trees_of d)) × (after ≡ Some (record { device = d; past = [] }))
-Starts (Err fault) text after = (text ≡ shape_text fault) × (after ≡ None)
-
--- what a line prints, and where the script stands then
-abbrev pub Prints : Stage → Line → List ℕ → Stage → Type 0
-Prints (Some r) line text after = (xs : List Shown) × (later : Running) × Obeys r line xs later × (text ≡ flat_map reaction_text xs) × (after ≡ Some later)
-Prints None (Device blocks block_bytes slots top lifetime) text after =
-    Starts (device_of (record { blocks = blocks; block_bytes = block_bytes; slots = slots; top = top; lifetime = lifetime })) text after
-Prints None (Read session address words) text after = ⊥
-Prints None (Write session address bytes words) text after = ⊥
-Prints None Answer text after = ⊥
-Prints None Drain text after = ⊥
-
--- where a script stands, and what is printed so far
+-- and what was printed before the device's turns
 pub record Point : Type 0 where
   pub stage : Stage
-  pub text : List ℕ
+  pub head : List ℕ
 
 abbrev pub start : Point
-start = record { stage = None; text = [] }
+start = record { stage = None; head = [] }
+
+-- what was printed so far
+abbrev pub stage_text : Stage → List ℕ
+stage_text None = []
+stage_text (Some r) = flat_map reaction_text (all_shown r)
+
+abbrev pub text_at : Point → List ℕ
+text_at p = p.head ++ stage_text p.stage
+
+-- five numbers make a device, or not
+abbrev pub Starts : List ℕ → Result Sizes ShapeFault → Point → Type 0
+Starts head (Ok d) q = (r : Running) × IsNew d r × (q ≡ record { stage = Some r; head = head ++ ready_text (trees_of d) })
+Starts head (Err fault) q = q ≡ record { stage = None; head = head ++ shape_text fault }
+
+abbrev pub IsDone : Point → Stage → Line → Point → Type 0
+IsDone p (Some r) line q = (later : Running) × Obeys r line later × (q ≡ record { stage = Some later; head = p.head })
+IsDone p None (Device blocks block_bytes slots top lifetime) q =
+    Starts p.head (device_of (record { blocks = blocks; block_bytes = block_bytes; slots = slots; top = top; lifetime = lifetime })) q
+IsDone p None (Told e) q = ⊥
+IsDone p None Answer q = ⊥
+IsDone p None Drain q = ⊥
+IsDone p None Late q = ⊥
+IsDone p None (Tamper tree node offset) q = ⊥
+IsDone p None Snapshot q = ⊥
+IsDone p None Restore q = ⊥
 
 -- one line of the script, which is passed over where it is empty
-abbrev pub Passes : Stage → List ℕ → List ℕ → Stage → Type 0
-Passes stage [] out after = (out ≡ []) × (after ≡ stage)
-Passes stage (b ∷ bytes) out after = (line : Line) × (line_of (b ∷ bytes) ≡ Some line) × Prints stage line out after
-
 abbrev pub IsPassed : Point → List ℕ → Point → Type 0
-IsPassed p bytes q = (out : List ℕ) × Passes p.stage bytes out q.stage × (q.text ≡ p.text ++ out)
+IsPassed p [] q = q ≡ p
+IsPassed p (b ∷ bytes) q = (line : Line) × (line_of (b ∷ bytes) ≡ Some line) × IsDone p p.stage line q
 
--- whether a script may have the line where it stands: a device first, and then no other
-abbrev pub is_due : Stage → Line → Bool
-is_due None (Device blocks block_bytes slots top lifetime) = true
-is_due None (Read session address words) = false
-is_due None (Write session address bytes words) = false
-is_due None Answer = false
-is_due None Drain = false
-is_due (Some r) (Device blocks block_bytes slots top lifetime) = false
-is_due (Some r) (Read session address words) = true
-is_due (Some r) (Write session address bytes words) = true
-is_due (Some r) Answer = true
-is_due (Some r) Drain = true
+-- a line that a device at work doesn't take: another device, a byte that isn't there, or a snapshot that wasn't taken
+abbrev pub IsUnfit : Running → Line → Type 0
+IsUnfit r (Device blocks block_bytes slots top lifetime) = ⊤
+IsUnfit r (Tamper tree node offset) = IsByteless r.host tree node offset
+IsUnfit r Restore = r.copy ≡ None
+IsUnfit r (Told e) = ⊥
+IsUnfit r Answer = ⊥
+IsUnfit r Drain = ⊥
+IsUnfit r Late = ⊥
+IsUnfit r Snapshot = ⊥
 
+abbrev pub is_device : Line → Bool
+is_device (Device blocks block_bytes slots top lifetime) = true
+is_device (Told e) = false
+is_device Answer = false
+is_device Drain = false
+is_device Late = false
+is_device (Tamper tree node offset) = false
+is_device Snapshot = false
+is_device Restore = false
+
+-- a line that the script can't have where it stands: none of a script's, any but a device's where there is none, or one that the device doesn't take
 abbrev pub IsRefused : Stage → Option Line → Type 0
 IsRefused stage None = ⊤
-IsRefused stage (Some line) = is_due stage line ≡ false
+IsRefused None (Some line) = is_device line ≡ false
+IsRefused (Some r) (Some line) = IsUnfit r line
 
--- a line that the script can't have there
 abbrev pub IsBad : Stage → List ℕ → Type 0
 IsBad stage [] = ⊥
 IsBad stage (b ∷ bytes) = IsRefused stage (line_of (b ∷ bytes))
 
+-- what the device showed at its events is right, by all that a run of it is to do
+abbrev pub HasRun : Stage → Type 0
+HasRun None = ⊤
+HasRun (Some r) = AllRight r.setting [] (events r) (all_shown r)
+
 -- What is printed for an input, and how its run ends: each line is passed, or the first that can't be has its number in the last line.
 abbrev pub IsScriptText : List ℕ → List ℕ → Ending → Type 0
-IsScriptText input text End = (q : Point) × FoldsTo IsPassed start (lines_of input) q × (text ≡ q.text)
+IsScriptText input text End = (q : Point) × FoldsTo IsPassed start (lines_of input) q × HasRun q.stage × (text ≡ text_at q)
 IsScriptText input text (BadLine n) =
     (lines rest : List (List ℕ)) × (bad : List ℕ) × (q : Point)
-    × (lines_of input ≡ lines ++ bad ∷ rest) × FoldsTo IsPassed start lines q × IsBad q.stage bad × (n ≡ length lines + 1) × (text ≡ q.text ++ error_text n)
+    × (lines_of input ≡ lines ++ bad ∷ rest) × FoldsTo IsPassed start lines q × HasRun q.stage × IsBad q.stage bad × (n ≡ length lines + 1)
+    × (text ≡ text_at q ++ error_text n)
+
+abbrev pub is_answer : Event → Bool
+is_answer (event.Submit session c words) = false
+is_answer (event.Answer bytes) = true
+is_answer event.Lost = false
+is_answer event.Retry = false
+
+-- a line that forges an answer, or changes what the host keeps
+abbrev pub is_meddling : Line → Bool
+is_meddling (Told e) = is_answer e
+is_meddling (Tamper tree node offset) = true
+is_meddling Restore = true
+is_meddling (Device blocks block_bytes slots top lifetime) = false
+is_meddling Answer = false
+is_meddling Drain = false
+is_meddling Late = false
+is_meddling Snapshot = false
+
+abbrev pub IsHarmless : Option Line → Type 0
+IsHarmless None = ⊤
+IsHarmless (Some line) = is_meddling line ≡ false
+
+-- no line of the script meddles
+abbrev pub IsHarmlessScript : List ℕ → Type 0
+IsHarmlessScript input = AllByRecursion (λ bytes. IsHarmless (line_of bytes)) (lines_of input)
+
+-- no line of the text tells of a failure
+abbrev pub HasNoFailure : List ℕ → Type 0
+HasNoFailure text = AllByRecursion (λ line. take 6 line ≢ codes "failed") (lines_of text)

@@ -1,46 +1,98 @@
--- How a machine stands to the steps that it made.
-use Rattle.std.specs.Prelude.{◌≡◌, ℕ, ◌-◌, ◌*◌, Bool, true, false, length, Option, Some, None, is_some, ⊤}
-use Rattle.oram_geometry.specs.Sizes.{trees_of}
-use Rattle.oram_core.specs.Follows.{Follows}
-use Rattle.oram_core.specs.State.{State, PhaseFits}
-use Rattle.oram_core.specs.declared.events.Phase.{Phase}
-use Rattle.oram_core.specs.declared.events.Phase.TheVariants.{Idle, Fetching, Storing, Failed}
-use Rattle.oramsim.specs.Script.{Running, Stage}
+-- How a machine stands to the run of a script.
+use Rattle.std.specs.Prelude.{◌≡◌, ℕ, ◌+◌, ◌-◌, ◌*◌, ◌<◌, false, if◌then◌else◌, List, [], ◌∷◌, length, ◌++◌, Option, Some, None, is_some, IfSome, ⊤}
+use Rattle.std.specs.Io.KnownBytes.{Appends}
+use Rattle.std.specs.List.{AllByRecursion, FoldsTo}
+use Rattle.oram_geometry.specs.declared.Sizes.{Sizes}
+use Rattle.oram_geometry.specs.Sizes.{IsDevice, trees_of}
+use Rattle.oram_host.specs.Host.{Host}
+use Rattle.oram_tree.specs.State.{State as Tree}
+use Rattle.oram_run.specs.Formatting.{IsFormatted}
+use Rattle.oram_run.specs.Law.{Steps as Moving, new_state}
+use Rattle.oram_run.specs.Progress.{Setting, Step}
+use Rattle.oram_run.specs.Run.{Shown, fails_now, is_waiting, shows_pair, step_of}
+use Rattle.oram_run.specs.State.{State, status_in}
+use Rattle.oram_run.specs.declared.events.Event.{Event}
+use Rattle.oram_core.specs.Steps.{Steps}
+use Rattle.oramsim.specs.Hosting.{IsHonest, IsServed}
+use Rattle.oramsim.specs.Script.{Point, Running, Stage, Turn, after_turn, newest_of, plain_shape, stage_text, text_at, with_host}
 use Rattle.oramsim.specs.declared.machine.Machine.{Machine}
 
--- whether the core has sent a message that has no answer
-abbrev pub is_busy : Phase → Bool
-is_busy Idle = false
-is_busy Fetching = true
-is_busy Storing = true
-is_busy (Failed e) = false
+-- A core and the message that is outstanding: it is the one that the core waits for the answer to.
+pub record IsWhole (d : Sizes) (s : State) (message : Option (List ℕ)) : Type 0 where
+  pub waits : is_some message ≡ is_waiting (status_in s)
+  pub latest : IfSome message (λ m. m ≡ s.last)
+  pub rests : s.failure ≡ None → length s.queue ≡ 0 → s.lost ≡ false
+  pub stage : s.failure ≡ None → s.stage < 2 * trees_of d
 
-abbrev pub entries_done : Phase → ℕ
-entries_done Idle = 0
-entries_done Fetching = 0
-entries_done Storing = 1
-entries_done (Failed e) = 0
+abbrev pub IsWholeMachine : Machine → Type 0
+IsWholeMachine m = IsWhole m.core.device m.core.state m.outstanding
 
--- how many messages the commands without a reply still want answered
-abbrev pub entries_left : State → ℕ
-entries_left s = 2 * length s.queue - entries_done s.phase
+-- how many answers the commands without a reply still want
+abbrev pub answers_left : Sizes → State → Option (List ℕ) → ℕ
+answers_left d s message = if is_some message then 2 * trees_of d * length s.queue - s.stage + 1 else 0
 
--- the parts of a machine fit one another
-pub record IsWhole (m : Machine) : Type 0 where
-  pub message : is_some m.outstanding ≡ is_busy m.core.phase
-  pub phase : PhaseFits m.core.phase m.core.queue
-  pub one : trees_of m.core.device ≡ 1
+abbrev pub still_wanted : Machine → ℕ
+still_wanted m = answers_left m.core.device m.core.state m.outstanding
 
--- the machine has made these steps
-abbrev pub Stands : Running → Machine → Type 0
-Stands r m = Follows r.device r.past m.core
+-- A step was made at an event: it shows x, and this is the newest message that it sent.
+pub record IsPlayed (d : Sizes) (s : State) (event : Event) (x : Shown) (sent : Option (List ℕ)) (t : State) : Type 0 where
+  pub steps : Steps (plain_shape d) s event x t
+  pub newest : sent ≡ newest_of x.sends None
+
+-- steps lead from a core just formatted to this one
+abbrev pub LeadsTo : Setting → List Turn → State → Type 0
+LeadsTo v turns s = (trees : List Tree) × IsFormatted v trees × FoldsTo (λ a t b. Moving v.shape a t.event t.shown b) (new_state v trees) turns s
+
+-- the machine is at work as the run says
+pub record Stands (r : Running) (m : Machine) : Type 0 where
+  pub ranges : IsDevice m.core.device
+  pub shape : r.setting.shape ≡ plain_shape m.core.device
+  pub leads : LeadsTo r.setting r.turns m.core.state
+  pub message : m.outstanding ≡ r.message
+  pub host : m.server ≡ r.host
+  pub copy : m.snapshot ≡ r.copy
+
+-- the steps of these turns, the newest first, after a past
+abbrev pub past_from : List Step → List Turn → List Step
+past_from past [] = past
+past_from past (t ∷ turns) = past_from (step_of t.event t.shown ∷ past) turns
+
+-- no two records of one digest stand in an answer of these turns, after a past
+abbrev pub AllApart : Setting → List Step → List Turn → Type 0
+AllApart v past [] = ⊤
+AllApart v past (t ∷ turns) = (shows_pair v past t.event ≡ false) × AllApart v (step_of t.event t.shown ∷ past) turns
+
+-- the host has served the run so far, and the device never failed
+pub record IsFaithful (r : Running) : Type 0 where
+  pub apart : AllApart r.setting [] r.turns
+  pub calm : AllByRecursion (λ t. fails_now t.shown.note ≡ false) r.turns
+  pub served : IsServed r.setting (past_from [] r.turns) r.host
+
+abbrev pub IsFaithfulAt : Stage → Type 0
+IsFaithfulAt None = ⊤
+IsFaithfulAt (Some r) = IsFaithful r
+
+-- a run goes on so where the host was `before`, and is now, what an honest one is
+abbrev pub StaysFaithful : Running → State → Event → Shown → Type 0
+StaysFaithful r s e x = (before : Host) → IsHonest (status_in s) s.last e before r.host → IsFaithful (with_host r before) → IsFaithful (after_turn r e x)
 
 abbrev pub AreWhole : Option Machine → Type 0
 AreWhole None = ⊤
-AreWhole (Some m) = IsWhole m
+AreWhole (Some m) = IsWholeMachine m
 
 abbrev pub StandsAt : Stage → Option Machine → Type 0
 StandsAt None None = ⊤
 StandsAt None (Some m) = ⊥
 StandsAt (Some r) None = ⊥
 StandsAt (Some r) (Some m) = Stands r m
+
+-- what is printed between two points
+abbrev pub Tells : List ℕ → List ℕ → Option (List ℕ) → Option (List ℕ) → Type 0
+Tells before after old new = (out : List ℕ) × (after ≡ before ++ out) × Appends old new out
+
+-- the machine goes on, and so does the run
+abbrev pub GoesOn : Running → Running → Machine → Option (List ℕ) → Option (List ℕ) → Type 0
+GoesOn r later m old new = Stands later m × Tells (stage_text (Some r)) (stage_text (Some later)) old new
+
+abbrev pub GoesOnAt : Point → Point → Option Machine → Option (List ℕ) → Option (List ℕ) → Type 0
+GoesOnAt p q m old new = StandsAt q.stage m × Tells (text_at p) (text_at q) old new

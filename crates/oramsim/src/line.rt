@@ -2,11 +2,12 @@
 ghost use Rattle.std.specs.Prelude.{◌≡◌, ◌^◌, map, IfOk, Some};
 ghost use Rattle.std.specs.Char.{is_ascii_digit};
 ghost use Rattle.std.specs.List.{list_all};
-ghost use Rattle.oramsim.specs.Reading.{has_leading_zero, is_numeral, number_below, numbers_below, hex_bytes, device_from, read_from, write_from, line_from, line_of, fields_of};
+ghost use Rattle.oramsim.specs.Reading.{has_leading_zero, is_numeral, number_below, numbers_below, hex_bytes, device_from, read_from, write_from, raw_from, tamper_from, named_line, line_from, line_of, fields_of};
 ghost use Rattle.oramsim.specs.Reading as spec;
 
 use hex::FromHexError;
 use oram_bytes::{Bytes, Words};
+use oram_run::{Command, Event};
 use std::alloc::{AllocError, Global};
 use std::str;
 
@@ -21,23 +22,24 @@ pub enum Line {
         top: u64,
         lifetime: u64,
     },
-    /// A session reads a block.
-    Read {
-        session: u32,
-        address: u32,
-        words: Words,
-    },
-    /// A session writes a block.
-    Write {
-        session: u32,
-        address: u32,
-        bytes: Bytes,
-        words: Words,
-    },
+    /// The device is told this event, of which the server hears nothing.
+    Told(Event),
     /// The server answers the outstanding message.
     Answer,
     /// The server answers until no message is outstanding.
     Drain,
+    /// The server gets the outstanding message, and its answer is lost.
+    Late,
+    /// The lowest bit of a byte of a stored record flips.
+    Tamper {
+        tree: u64,
+        node: u64,
+        offset: u64,
+    },
+    /// A copy of the server is kept, in place of an earlier one.
+    Snapshot,
+    /// The server is again the copy that was kept.
+    Restore,
 }
 
 fn is_padded(field: &[u8]) -> bool
@@ -138,11 +140,11 @@ fn read_in(alloc: Global, fields: &[&[u8]]) -> Result<Option<Line>, AllocError>
     let Some(words) = words_in(alloc, words)? else {
         return Ok(None);
     };
-    Ok(Some(Line::Read {
+    Ok(Some(Line::Told(Event::Submit {
         session,
-        address,
+        command: Command::Read(address),
         words,
-    }))
+    })))
 }
 
 #[tactic(auto, unfolding(crate::specs::Reading::write_from))]
@@ -161,19 +163,73 @@ fn write_in(alloc: Global, fields: &[&[u8]]) -> Result<Option<Line>, AllocError>
     let Some(words) = words_in(alloc, words)? else {
         return Ok(None);
     };
-    Ok(Some(Line::Write {
+    Ok(Some(Line::Told(Event::Submit {
         session,
-        address,
-        bytes,
+        command: Command::Write(address, bytes),
         words,
-    }))
+    })))
+}
+
+#[tactic(auto, unfolding(crate::specs::Reading::raw_from))]
+fn raw_in(alloc: Global, fields: &[&[u8]]) -> Result<Option<Line>, AllocError>
+    ensures { IfOk result (λ o. o ≡ raw_from (map (λ x. x.now) fields.now)) }
+{
+    let [bytes] = fields else {
+        return Ok(None);
+    };
+    let Some(bytes) = bytes_in(alloc, bytes)? else {
+        return Ok(None);
+    };
+    Ok(Some(Line::Told(Event::Answer(bytes))))
+}
+
+#[tactic(auto, unfolding(crate::specs::Reading::tamper_from))]
+fn tamper_in(fields: &[&[u8]]) -> Option<Line>
+    ensures { result ≡ tamper_from (map (λ x. x.now) fields.now) }
+{
+    let [tree, node, offset] = fields else {
+        return None;
+    };
+    Some(Line::Tamper {
+        tree: long_number(tree)?,
+        node: long_number(node)?,
+        offset: long_number(offset)?,
+    })
+}
+
+/// The line that a word alone makes.
+#[tactic(auto, unfolding(crate::specs::Reading::named_line))]
+fn word_line(word: &[u8]) -> Option<Line>
+    ensures { result ≡ named_line word.now }
+{
+    if word == b"answer".as_slice() {
+        Some(Line::Answer)
+    } else if word == b"drain".as_slice() {
+        Some(Line::Drain)
+    } else if word == b"lost".as_slice() {
+        Some(Line::Told(Event::Lost))
+    } else if word == b"late".as_slice() {
+        Some(Line::Late)
+    } else if word == b"retry".as_slice() {
+        Some(Line::Told(Event::Retry))
+    } else if word == b"snapshot".as_slice() {
+        Some(Line::Snapshot)
+    } else if word == b"restore".as_slice() {
+        Some(Line::Restore)
+    } else {
+        None
+    }
 }
 
 /// A line of one word.
-fn alone(line: Line, fields: &[&[u8]]) -> Option<Line>
-    ensures { result ≡ spec.alone line (map (λ x. x.now) fields.now) }
+fn alone(word: &[u8], fields: &[&[u8]]) -> Option<Line>
+    ensures { result ≡ spec.alone word.now (map (λ x. x.now) fields.now) }
 {
-    if fields.is_empty() { Some(line) } else { None }
+    if fields.is_empty() {
+        word_line(word)
+    } else {
+        None
+    }
 }
 
 /// What a word and the fields after it say.
@@ -187,12 +243,12 @@ fn command_in(alloc: Global, word: &[u8], fields: &[&[u8]]) -> Result<Option<Lin
         read_in(alloc, fields)
     } else if word == b"write".as_slice() {
         write_in(alloc, fields)
-    } else if word == b"answer".as_slice() {
-        Ok(alone(Line::Answer, fields))
-    } else if word == b"drain".as_slice() {
-        Ok(alone(Line::Drain, fields))
+    } else if word == b"raw".as_slice() {
+        raw_in(alloc, fields)
+    } else if word == b"tamper".as_slice() {
+        Ok(tamper_in(fields))
     } else {
-        Ok(None)
+        Ok(alone(word, fields))
     }
 }
 

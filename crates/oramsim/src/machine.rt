@@ -1,23 +1,24 @@
 //! A device at work, with its host.
-ghost use Rattle.std.specs.Prelude.{◌≡◌, ◌≢◌, ℕ, ◌<◌, true, false, List, length, take, nat_lt, is_some, IfOk, IfErr, OnOk, IsErrOf};
+ghost use Rattle.std.specs.Prelude.{◌≡◌, ◌++◌, ℕ, ◌<◌, true, false, List, take, is_some, IfOk, IfErr, OnOk, IsErrOf, MatchBool, Some, None};
 ghost use Rattle.std.specs.Io.KnownBytes.{Appends};
-ghost use Rattle.std.specs.List.{flat_map, FoldsTo};
-ghost use Rattle.oram_core.specs.Follows.{Follows};
-ghost use Rattle.oram_core.specs.Moves.{moved};
-ghost use Rattle.oram_core.specs.Run.{Shown};
-ghost use Rattle.oram_core.specs.declared.events.Command.TheVariants as command;
-ghost use Rattle.oram_core.specs.declared.events.Event.TheVariants as event;
+ghost use Rattle.std.specs.List.{FoldsTo};
+ghost use Rattle.oram_geometry.specs.Sizes.{IsDevice};
+ghost use Rattle.oram_host.specs.Flips.{IsByteless};
+ghost use Rattle.oram_run.specs.Run.{Shown};
 ghost use Rattle.oramsim.specs.Printing.{reaction_text};
-ghost use Rattle.oramsim.specs.Script.{Running, Stage, Reacts, IsAnswered, Obeys, Starts, answer_event, has_message, is_due};
-ghost use Rattle.oramsim.specs.Standing.{IsWhole, AreWhole, Stands, StandsAt, entries_left};
+ghost use Rattle.oramsim.specs.Script.{Point, Running, IsAnswered, IsDrained, IsNew, IsUnfit, Obeys, Replies, Starts, after_turn};
+ghost use Rattle.oramsim.specs.Script as spec;
+ghost use Rattle.oramsim.specs.Standing.{AreWhole, GoesOn, GoesOnAt, IsFaithful, IsFaithfulAt, IsPlayed, IsWholeMachine, Stands, StaysFaithful, still_wanted};
 
 use crate::line::Line;
 use crate::printing::{FaultText, ReactionText, ReadyText};
 use crate::script::SimFault;
-use crate::server::Server;
-use oram_bytes::{Bytes, Words};
-use oram_core::{Command, Core, Event};
+use oram_bucket::PlainSeal;
+use oram_bytes::Bytes;
+use oram_core::{Core, Event};
 use oram_geometry::{Device, ShapeFault};
+use oram_host::Server;
+use oram_tree::FormatFault;
 use std::alloc::{AllocError, Global};
 use std::io::{ErrorKind, Write};
 
@@ -46,10 +47,12 @@ pub fn put<W: Write>(writer: &mut W, text: &[u8]) -> Result<(), SimFault>
 }
 
 /// A device at work, with its host and the message that has no answer yet.
-#[derive(Debug, Drop)]
+#[derive(Drop)]
 pub struct Machine {
-    pub core: Core,
+    pub core: Core<PlainSeal>,
     pub server: Server,
+    /// The copy of the server that was kept, if one was.
+    pub snapshot: Option<Server>,
     pub outstanding: Option<Bytes>,
 }
 
@@ -57,13 +60,11 @@ pub struct Machine {
 fn play<W: Write>(
     alloc: Global,
     writer: &mut W,
-    core: &mut Core,
+    core: &mut Core<PlainSeal>,
     event: &Event,
 ) -> Result<Option<Bytes>, SimFault>
-    ensures state { OnOk result (core.new ≡ (moved core.old event.now).state) }
-    ensures sent { IfOk result (λ sent. is_some sent ≡ nat_lt 0 (length (moved core.old event.now).sends)) }
-    ensures ok { (r : Running) → Follows r.device r.past core.old → OnOk result ((x : Shown) × (later : Running)
-        × Reacts r event.now x later × Follows later.device later.past core.new
+    ensures device { core.new.device ≡ core.old.device }
+    ensures ok { IfOk result (λ sent. (x : Shown) × IsPlayed core.old.device core.old.state event.now x sent core.new.state
         × Appends (W.contents writer.old) (W.contents writer.new) (reaction_text x)) }
 {
     let mut reaction = core.step(alloc, event)?;
@@ -72,66 +73,69 @@ fn play<W: Write>(
     Ok(reaction.sends.pop())
 }
 
+/// What an event leaves outstanding: an answer and a loss end the wait for the answer.
+fn left_at(event: &Event, outstanding: Option<Bytes>) -> Option<Bytes>
+    ensures { result ≡ spec.left_at event.now outstanding }
+{
+    match event {
+        Event::Submit { .. } | Event::Retry => outstanding,
+        Event::Answer(_) | Event::Lost => None,
+    }
+}
+
 impl Machine {
-    /// A command of a session.
-    pub fn submit<W: Write>(
+    /// Tells the device an event.
+    pub fn tell<W: Write>(
         &mut self,
         alloc: Global,
         writer: &mut W,
-        session: u32,
-        command: Command,
-        words: Words,
+        event: &Event,
     ) -> Result<(), SimFault>
-        requires { IsWhole self.old }
-        ensures whole { OnOk result (IsWhole self.new) }
-        ensures ok { (r : Running) → Stands r self.old → OnOk result ((x : Shown) × (later : Running)
-            × Reacts r (event.Submit session command words) x later × Stands later self.new
-            × Appends (W.contents writer.old) (W.contents writer.new) (reaction_text x)) }
+        requires { IsWholeMachine self.old }
+        ensures whole { OnOk result (IsWholeMachine self.new) }
+        ensures left { OnOk result (spec.is_answer event.now ≡ true → is_some self.old.outstanding ≡ true → still_wanted self.new < still_wanted self.old) }
+        ensures ok { (r : Running) → Stands r self.old → OnOk result ((x : Shown) × GoesOn r (after_turn r event.now x) self.new (W.contents writer.old) (W.contents writer.new)
+            × StaysFaithful r self.old.core.state event.now x) }
     {
-        let event = Event::Submit {
-            session,
-            command,
-            words,
-        };
-        let sent = play(alloc, writer, &mut self.core, &event)?;
-        self.outstanding = sent.or(self.outstanding.take());
+        let sent = play(alloc, writer, &mut self.core, event)?;
+        let left = left_at(event, self.outstanding.take());
+        self.outstanding = sent.or(left);
         Ok(())
     }
 
-    /// The event of the host's answer to the outstanding message. With none outstanding there are no bytes.
-    fn answer_of_host(&mut self, alloc: Global) -> Result<Event, AllocError>
-        ensures event { IfOk result (λ e. e ≡ answer_event (is_some self.old.outstanding)) }
+    /// The bytes by which the host answers the outstanding message. With none outstanding there are none.
+    fn answer_of_host(&mut self, alloc: Global) -> Result<Bytes, AllocError>
+        ensures bytes { IfOk result (λ bytes. Replies self.old.server self.old.outstanding bytes self.new.server) }
         ensures core { self.new.core ≡ self.old.core }
         ensures outstanding { self.new.outstanding ≡ self.old.outstanding }
+        ensures snapshot { self.new.snapshot ≡ self.old.snapshot }
     {
-        let bytes = match &self.outstanding {
-            Some(message) => self.server.handle(message.as_slice()).encode(alloc)?,
-            None => Vec::new(alloc),
+        let Some(message) = &self.outstanding else {
+            return Ok(Bytes::from_vec(Vec::new(alloc)));
         };
-        Ok(Event::Answer(Bytes::from_vec(bytes)))
+        let bytes = self.server.handle(message.as_slice()).encode(alloc)?;
+        Ok(Bytes::from_vec(bytes))
     }
 
-    /// The host answers the outstanding message. With none outstanding the core is told an answer of no bytes.
+    /// The host answers the outstanding message. With none outstanding the device is told an answer of no bytes.
     pub fn answer<W: Write>(&mut self, alloc: Global, writer: &mut W) -> Result<(), SimFault>
-        requires { IsWhole self.old }
-        ensures whole { OnOk result (IsWhole self.new) }
-        ensures left { OnOk result (is_some self.old.outstanding ≡ true → entries_left self.new.core < entries_left self.old.core) }
-        ensures ok { (r : Running) → Stands r self.old → OnOk result ((x : Shown) × (later : Running)
-            × Reacts r (answer_event (is_some self.old.outstanding)) x later × Stands later self.new
-            × Appends (W.contents writer.old) (W.contents writer.new) (reaction_text x)) }
+        requires { IsWholeMachine self.old }
+        ensures whole { OnOk result (IsWholeMachine self.new) }
+        ensures left { OnOk result (is_some self.old.outstanding ≡ true → still_wanted self.new < still_wanted self.old) }
+        ensures ok { (r : Running) → Stands r self.old → OnOk result ((x : Shown) × (later : Running) × IsAnswered r x later
+            × GoesOn r later self.new (W.contents writer.old) (W.contents writer.new) × (IsFaithful r → IsFaithful later)) }
     {
-        let event = self.answer_of_host(alloc)?;
-        self.outstanding = play(alloc, writer, &mut self.core, &event)?;
-        Ok(())
+        let bytes = self.answer_of_host(alloc)?;
+        self.tell(alloc, writer, &Event::Answer(bytes))
     }
 
     /// The host answers until no message is outstanding.
     pub fn drain<W: Write>(&mut self, alloc: Global, writer: &mut W) -> Result<(), SimFault>
-        requires { IsWhole self.old }
-        ensures whole { OnOk result (IsWhole self.new) }
+        requires { IsWholeMachine self.old }
+        ensures whole { OnOk result (IsWholeMachine self.new) }
         ensures ok { (r : Running) → Stands r self.old → OnOk result ((xs : List Shown) × (later : Running)
-            × FoldsTo IsAnswered r xs later × (has_message later ≡ false) × Stands later self.new
-            × Appends (W.contents writer.old) (W.contents writer.new) (flat_map reaction_text xs)) }
+            × FoldsTo IsDrained r xs later × (later.message ≡ None)
+            × GoesOn r later self.new (W.contents writer.old) (W.contents writer.new) × (IsFaithful r → IsFaithful later)) }
     {
         while self.outstanding.is_some() {
             self.answer(alloc, writer)?;
@@ -139,43 +143,69 @@ impl Machine {
         Ok(())
     }
 
-    /// Does what a line says. False is a second device, which there is not.
+    /// The host gets the outstanding message, and its answer is lost.
+    pub fn lose_answer<W: Write>(&mut self, alloc: Global, writer: &mut W) -> Result<(), SimFault>
+        requires { IsWholeMachine self.old }
+        ensures whole { OnOk result (IsWholeMachine self.new) }
+        ensures ok { (r : Running) → Stands r self.old → OnOk result ((later : Running) × Obeys r Line.Late later
+            × GoesOn r later self.new (W.contents writer.old) (W.contents writer.new) × (IsFaithful r → IsFaithful later)) }
+    {
+        let _unheard = self.answer_of_host(alloc)?;
+        self.tell(alloc, writer, &Event::Lost)
+    }
+
+    /// Keeps a copy of the host.
+    pub fn keep(&mut self, alloc: Global) -> Result<(), AllocError>
+        requires { IsWholeMachine self.old }
+        ensures whole { OnOk result (IsWholeMachine self.new) }
+        ensures ok { (r : Running) → Stands r self.old → OnOk result ((later : Running) × Obeys r Line.Snapshot later × Stands later self.new
+            × (IsFaithful r → IsFaithful later)) }
+    {
+        self.snapshot = Some(self.server.copy(alloc)?);
+        Ok(())
+    }
+
+    /// Puts the host back that was kept. False is that none was.
+    pub fn restore(&mut self, alloc: Global) -> Result<bool, AllocError>
+        requires { IsWholeMachine self.old }
+        ensures whole { OnOk result (IsWholeMachine self.new) }
+        ensures ok { (r : Running) → Stands r self.old → IfOk result (λ done. MatchBool done ((later : Running) × Obeys r Line.Restore later × Stands later self.new)
+            (r.copy ≡ None)) }
+    {
+        let Some(kept) = &self.snapshot else {
+            return Ok(false);
+        };
+        self.server = kept.copy(alloc)?;
+        Ok(true)
+    }
+
+    /// Flips the lowest bit of a byte of a record that the host keeps. False is that there is no such byte.
+    pub fn tamper(&mut self, tree: u64, node: u64, offset: u64) -> bool
+        requires { IsWholeMachine self.old }
+        ensures whole { IsWholeMachine self.new }
+        ensures ok { (r : Running) → Stands r self.old → MatchBool result ((later : Running) × Obeys r (Line.Tamper tree node offset) later × Stands later self.new)
+            (IsByteless r.host tree node offset) }
+    {
+        self.server.flip(tree, node, offset)
+    }
+
+    /// Does what a line says. False is a line that the device doesn't take: a second device, a byte that isn't there or a
+    /// host that wasn't kept.
     pub fn obey<W: Write>(
         &mut self,
         alloc: Global,
         writer: &mut W,
         line: Line,
     ) -> Result<bool, SimFault>
-        requires { IsWhole self.old }
-        ensures whole { OnOk result (IsWhole self.new) }
-        ensures ok { (r : Running) → Stands r self.old → result ≡ Ok true → (xs : List Shown) × (later : Running)
-            × Obeys r line xs later × Stands later self.new
-            × Appends (W.contents writer.old) (W.contents writer.new) (flat_map reaction_text xs) }
-        ensures bad { (r : Running) → result ≡ Ok false → (is_due (Some r) line ≡ false) × (W.contents writer.new ≡ W.contents writer.old) }
+        requires { IsWholeMachine self.old }
+        ensures whole { OnOk result (IsWholeMachine self.new) }
+        ensures ok { (r : Running) → Stands r self.old → result ≡ Ok true → (later : Running) × Obeys r line later
+            × GoesOn r later self.new (W.contents writer.old) (W.contents writer.new) × (spec.is_meddling line ≡ false → IsFaithful r → IsFaithful later) }
+        ensures bad { (r : Running) → Stands r self.old → result ≡ Ok false → IsUnfit r line × (W.contents writer.new ≡ W.contents writer.old) }
     {
         match line {
-            Line::Device { .. } => Ok(false),
-            Line::Read {
-                session,
-                address,
-                words,
-            } => {
-                self.submit(alloc, writer, session, Command::Read(address), words)?;
-                Ok(true)
-            }
-            Line::Write {
-                session,
-                address,
-                bytes,
-                words,
-            } => {
-                self.submit(
-                    alloc,
-                    writer,
-                    session,
-                    Command::Write(address, bytes),
-                    words,
-                )?;
+            Line::Told(event) => {
+                self.tell(alloc, writer, &event)?;
                 Ok(true)
             }
             Line::Answer => {
@@ -186,8 +216,36 @@ impl Machine {
                 self.drain(alloc, writer)?;
                 Ok(true)
             }
+            Line::Late => {
+                self.lose_answer(alloc, writer)?;
+                Ok(true)
+            }
+            Line::Snapshot => {
+                self.keep(alloc)?;
+                Ok(true)
+            }
+            Line::Tamper { tree, node, offset } => Ok(self.tamper(tree, node, offset)),
+            Line::Restore => Ok(self.restore(alloc)?),
+            Line::Device { .. } => Ok(false),
         }
     }
+}
+
+/// Formats a device, on a host that keeps nothing yet. Such a host refuses a formatting for want of memory alone.
+fn formatted(alloc: Global, device: Device) -> Result<Machine, FormatFault>
+    requires { IsDevice device }
+    ensures whole { IfOk result (λ machine. IsWholeMachine machine) }
+    ensures ok { IfOk result (λ machine. (r : Running) × IsNew device r × Stands r machine × IsFaithful r) }
+    ensures err { IfErr result (λ fault. fault ≡ FormatFault.OutOfMemory) }
+{
+    let mut server = Server::new(alloc);
+    let core = Core::format(alloc, device, PlainSeal, &mut server)?;
+    Ok(Machine {
+        core,
+        server,
+        snapshot: None,
+        outstanding: None,
+    })
 }
 
 /// Makes a device of five numbers and tells how many trees it has, or tells why there is no device.
@@ -197,20 +255,18 @@ pub fn begin<W: Write>(
     device: Result<Device, ShapeFault>,
 ) -> Result<Option<Machine>, SimFault>
     ensures whole { IfOk result (λ machine. AreWhole machine) }
-    ensures ok { IfOk result (λ machine. (text : List ℕ) × (stage : Stage) × Starts device text stage × StandsAt stage machine
-        × Appends (W.contents writer.old) (W.contents writer.new) text) }
+    ensures ok { (head : List ℕ) → IfOk result (λ machine. (q : Point) × Starts head device q
+        × GoesOnAt (record { stage = None; head = head }) q machine (W.contents writer.old) (W.contents writer.new) × IsFaithfulAt q.stage) }
 {
     match device {
         Ok(device) => {
             let trees = device.trees();
-            let core = Core::start(alloc, device)?;
+            let Ok(machine) = formatted(alloc, device) else {
+                return Err(SimFault::OutOfMemory);
+            };
             let text = format!(in alloc; "{}", ReadyText(trees))?;
             put(writer, text.as_bytes())?;
-            Ok(Some(Machine {
-                core,
-                server: Server::new(alloc),
-                outstanding: None,
-            }))
+            Ok(Some(machine))
         }
         Err(fault) => {
             let text = format!(in alloc; "{}", FaultText(fault))?;

@@ -1,14 +1,13 @@
 //! A program that runs scripts over the block store.
 //!
-//! A script is lines of text: a device's five numbers, then reads and writes of its sessions and what the host
-//! answers. What the device replies and sends is printed, a line each.
+//! A script is lines of text: a device's five numbers, then reads and writes of its sessions, what the host answers and
+//! what becomes of the messages on their way. What the device replies and sends is printed, a line each.
 #![tactic(auto)]
 
 mod line;
 mod machine;
 mod printing;
 mod script;
-mod server;
 
 pub use script::{Ending, SimFault, run_script};
 use std::io;

@@ -1,12 +1,12 @@
 //! What the run of a script prints.
 ghost use Rattle.std.specs.Prelude.{◌≡◌, Some};
 ghost use Rattle.hex.specs.Hex.{encode_lower};
-ghost use Rattle.oram_core.specs.Run.{shown};
+ghost use Rattle.oram_run.specs.Run.{shown};
 ghost use Rattle.oramsim.specs.Printing.{refusal_text, reason_text, note_text, body_text, reply_text, send_text, reaction_text, ready_text, shape_text, error_text};
 
 use byteorder::{BigEndian, ByteOrder};
-use oram_core::{Note, Reaction, Reason, Refusal, Reply, ReplyBody};
 use oram_geometry::ShapeFault;
+use oram_run::{Note, Reaction, Reason, Refusal, Reply, ReplyBody};
 use std::fmt;
 
 /// The bytes of a message that say what it asks for: its kind, its tree and its leaf.
@@ -42,11 +42,13 @@ impl fmt::Display for ReasonText {
     fn fmt<W: fmt::Write>(&self, f: &mut fmt::Formatter<W>) -> fmt::Result {
         match self.0 {
             Reason::Malformed => write!(f, "malformed"),
+            Reason::Tampered(tree, level) => write!(f, "tampered {tree} {level}"),
+            Reason::HostRefused(code) => write!(f, "host {code}"),
         }
     }
 }
 
-/// The line of a note, or nothing for an answer that was taken.
+/// The line of a note, or nothing for an answer that was taken and for a message that was sent again.
 #[derive(Drop)]
 struct NoteText(Note);
 
@@ -60,7 +62,8 @@ impl fmt::Display for NoteText {
                 let refusal = RefusalText(refusal);
                 writeln!(f, "refused {refusal}")
             }
-            Note::Taken => Ok(()),
+            Note::Taken | Note::Resent => Ok(()),
+            Note::Stalled => writeln!(f, "stalled"),
             Note::FailedNow(reason) => {
                 let reason = ReasonText(reason);
                 writeln!(f, "failed {reason}")

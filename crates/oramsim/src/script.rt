@@ -4,8 +4,9 @@ ghost use Rattle.std.specs.Io.BufRead.{strip_last};
 ghost use Rattle.std.specs.Io.KnownBytes.{Appends, IsAtEnd};
 ghost use Rattle.oramsim.specs.declared.script.SimFault.TheVariants.{OutOfMemory};
 ghost use Rattle.oramsim.specs.Printing.{error_text};
-ghost use Rattle.oramsim.specs.Script.{Stage, Passes, IsBad, IsScriptText};
-ghost use Rattle.oramsim.specs.Standing.{AreWhole, StandsAt};
+ghost use Rattle.oramsim.specs.Reading.{line_of};
+ghost use Rattle.oramsim.specs.Script.{Point, HasNoFailure, IsBad, IsHarmless, IsHarmlessScript, IsPassed, IsScriptText};
+ghost use Rattle.oramsim.specs.Standing.{AreWhole, GoesOnAt, IsFaithfulAt, StandsAt};
 
 use crate::line::Line;
 use crate::machine::{Machine, begin, put};
@@ -72,9 +73,10 @@ fn pass<W: Write>(
 ) -> Result<bool, SimFault>
     requires { AreWhole machine.old }
     ensures whole { OnOk result (AreWhole machine.new) }
-    ensures ok { (stage : Stage) → StandsAt stage machine.old → result ≡ Ok true → (out : List ℕ) × (after : Stage)
-        × Passes stage bytes.now out after × StandsAt after machine.new × Appends (W.contents writer.old) (W.contents writer.new) out }
-    ensures bad { (stage : Stage) → StandsAt stage machine.old → result ≡ Ok false → IsBad stage bytes.now × (W.contents writer.new ≡ W.contents writer.old) }
+    ensures ok { (p : Point) → StandsAt p.stage machine.old → result ≡ Ok true → (q : Point) × IsPassed p bytes.now q
+        × GoesOnAt p q machine.new (W.contents writer.old) (W.contents writer.new)
+        × (IsHarmless (line_of bytes.now) → IsFaithfulAt p.stage → IsFaithfulAt q.stage) }
+    ensures bad { (p : Point) → StandsAt p.stage machine.old → result ≡ Ok false → IsBad p.stage bytes.now × (W.contents writer.new ≡ W.contents writer.old) }
 {
     if bytes.is_empty() {
         return Ok(true);
@@ -117,7 +119,7 @@ fn run_lines<R: BufRead, W: Write>(
     writer: &mut W,
 ) -> Result<Ending, SimFault>
     ensures ok { IfOk result (λ ending. IfSome (R.remaining reader.old) (λ input. (text : List ℕ) × IsScriptText input text ending
-        × Appends (W.contents writer.old) (W.contents writer.new) text)) }
+        × (IsHarmlessScript input → HasNoFailure text) × Appends (W.contents writer.old) (W.contents writer.new) text)) }
     ensures end { result ≡ Ok Ending.End → IfSome (R.remaining reader.old) (λ _. IsAtEnd (R.remaining reader.new)) }
 {
     let mut machine = None;
@@ -147,7 +149,7 @@ pub fn run_script<R: BufRead, W: Write>(
     writer: &mut W,
 ) -> Result<Ending, SimFault>
     ensures ok { IfOk result (λ ending. IfSome (R.remaining reader.old) (λ input. (text : List ℕ) × IsScriptText input text ending
-        × Appends (W.contents writer.old) (W.contents writer.new) text)) }
+        × (IsHarmlessScript input → HasNoFailure text) × Appends (W.contents writer.old) (W.contents writer.new) text)) }
     ensures end { result ≡ Ok Ending.End → IfSome (R.remaining reader.old) (λ _. IsAtEnd (R.remaining reader.new)) }
 {
     match run_lines(alloc, reader, writer) {

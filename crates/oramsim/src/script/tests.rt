@@ -69,6 +69,14 @@ impl BufRead for Torn<'_> {
     }
 }
 
+/// Whether the text is a beginning of what is expected, and then tells of a message that the host had no memory for.
+fn is_stalled(text: &[u8], expected: &[u8]) -> bool {
+    (0..text.len()).any(|at| match text.split_at_checked(at) {
+        Some((front, rest)) => expected.starts_with(front) && rest.starts_with(b"stalled\n"),
+        None => false,
+    })
+}
+
 /// Runs a script and compares what it prints. Where memory was refused, a beginning of that is there, and the line
 /// that tells so.
 fn check(rt: &impl Abort, alloc: Global, script: &[u8], ending: Ending, expected: &[u8]) {
@@ -77,13 +85,16 @@ fn check(rt: &impl Abort, alloc: Global, script: &[u8], ending: Ending, expected
     let ended = run_script(alloc, &mut reader, &mut page);
     match ended {
         Ok(found) => {
-            assert!(rt; found == ending);
-            assert!(rt; page.text() == expected);
+            let text = page.text();
+            assert!(rt; (found == ending && text == expected) || is_stalled(text, expected));
         }
         Err(fault) => {
             assert!(rt; fault == SimFault::OutOfMemory);
             let front = page.text().strip_suffix(b"out of memory\n");
-            assert!(rt; front.is_some_and(|front| expected.starts_with(front)));
+            assert!(rt;
+                front.is_some_and(|front| expected.starts_with(front)
+                    || is_stalled(front, expected))
+            );
         }
     }
 }
@@ -175,14 +186,6 @@ fn lines_that_a_script_cannot_have(rt: HostRuntime) {
         Ending::BadLine(1),
         b"error line 1\n",
     );
-    let script = b"device 64 16 4 4 100\nread 1 37 10 11 12 13 14 15\ndrain\n";
-    check(
-        &rt,
-        alloc,
-        script,
-        Ending::BadLine(2),
-        b"shape 6\nerror line 2\n",
-    );
     let script = b"device 0 16 4 8 100\n\n\ndevice 8 16 4 8 100\ndevice 8 16 4 8 100";
     check(
         &rt,
@@ -191,6 +194,112 @@ fn lines_that_a_script_cannot_have(rt: HostRuntime) {
         Ending::BadLine(5),
         b"shape 1\nready 1\nerror line 5\n",
     );
+}
+
+#[test]
+fn three_trees_share_their_maps(rt: HostRuntime) {
+    let alloc = rt.alloc();
+    let script =
+        b"device 64 16 4 4 100\nread 1 37 10 11 12 13 14 15\ndrain\nread 1 38 20 21 22 23 24 25\ndrain\nread 1 37 30 31 32 33 34 35\ndrain\n";
+    let expected =
+        b"ready 3\naccepted 0\nfetch 2 2\nstore 2 2\nfetch 1 12\nstore 1 12\nfetch 0 10\nstore 0 10\nreply 1 0 data 00000000000000000000000000000000\naccepted 1\nfetch 2 3\nstore 2 3\nfetch 1 13\nstore 1 13\nfetch 0 20\nstore 0 20\nreply 1 1 data 00000000000000000000000000000000\naccepted 2\nfetch 2 1\nstore 2 1\nfetch 1 7\nstore 1 7\nfetch 0 11\nstore 0 11\nreply 1 2 data 00000000000000000000000000000000\n";
+    check(&rt, alloc, script, Ending::End, expected);
+}
+
+#[test]
+fn a_byte_flipped_on_the_path(rt: HostRuntime) {
+    let alloc = rt.alloc();
+    let script = b"device 8 16 4 8 100\nread 1 5 6 3\ntamper 0 13 0\nanswer\nread 1 5 0 0\nretry\n";
+    let expected =
+        b"ready 1\naccepted 0\nfetch 0 6\nfailed tampered 0 3\nreply 1 0 failed\nrefused 6 failed\nunexpected\n";
+    check(&rt, alloc, script, Ending::End, expected);
+}
+
+#[test]
+fn a_byte_flipped_off_the_path(rt: HostRuntime) {
+    let alloc = rt.alloc();
+    let script = b"device 8 16 4 8 100\nread 1 5 6 3\ntamper 0 14 0\ndrain\nread 1 2 7 0\nanswer\n";
+    let expected =
+        b"ready 1\naccepted 0\nfetch 0 6\nstore 0 6\nreply 1 0 data 00000000000000000000000000000000\naccepted 1\nfetch 0 7\nfailed tampered 0 3\nreply 1 1 failed\n";
+    check(&rt, alloc, script, Ending::End, expected);
+}
+
+#[test]
+fn an_older_tree_is_replayed(rt: HostRuntime) {
+    let alloc = rt.alloc();
+    let script =
+        b"device 8 16 4 8 100\nread 1 5 6 3\ndrain\nsnapshot\nwrite 1 5 ffffffffffffffffffffffffffffffff 7 1\ndrain\nrestore\nread 2 5 0 0\nanswer\n";
+    let expected =
+        b"ready 1\naccepted 0\nfetch 0 6\nstore 0 6\nreply 1 0 data 00000000000000000000000000000000\naccepted 1\nfetch 0 3\nstore 0 3\nreply 1 1 done\naccepted 2\nfetch 0 1\nfailed tampered 0 0\nreply 2 2 failed\n";
+    check(&rt, alloc, script, Ending::End, expected);
+    let script =
+        b"device 8 16 4 8 100\nsnapshot\nread 1 5 6 3\ndrain\nsnapshot\nrestore\nrestore\nwrite 1 5 ffffffffffffffffffffffffffffffff 7 1\ndrain\nsnapshot\nrestore\nread 2 5 0 0\ndrain\n";
+    let expected =
+        b"ready 1\naccepted 0\nfetch 0 6\nstore 0 6\nreply 1 0 data 00000000000000000000000000000000\naccepted 1\nfetch 0 3\nstore 0 3\nreply 1 1 done\naccepted 2\nfetch 0 1\nstore 0 1\nreply 2 2 data ffffffffffffffffffffffffffffffff\n";
+    check(&rt, alloc, script, Ending::End, expected);
+}
+
+#[test]
+fn losses_and_retries(rt: HostRuntime) {
+    let alloc = rt.alloc();
+    let script = b"device 8 16 4 8 100\nread 1 5 6 3\nlost\nretry\nanswer\nlate\nretry\nanswer\n";
+    let expected =
+        b"ready 1\naccepted 0\nfetch 0 6\nstalled\nfetch 0 6\nstore 0 6\nstalled\nstore 0 6\nreply 1 0 data 00000000000000000000000000000000\n";
+    check(&rt, alloc, script, Ending::End, expected);
+}
+
+#[test]
+fn nothing_is_waited_for(rt: HostRuntime) {
+    let alloc = rt.alloc();
+    let script = b"device 8 16 4 8 100\nanswer\nraw 80\nlost\nlate\nretry\n";
+    let expected = b"ready 1\nunexpected\nunexpected\nunexpected\nunexpected\nunexpected\n";
+    check(&rt, alloc, script, Ending::End, expected);
+}
+
+#[test]
+fn answers_that_the_host_did_not_give(rt: HostRuntime) {
+    let alloc = rt.alloc();
+    let script = b"device 8 16 4 8 100\nread 1 5 6 3\nraw 80\n";
+    let expected = b"ready 1\naccepted 0\nfetch 0 6\nfailed malformed\nreply 1 0 failed\n";
+    check(&rt, alloc, script, Ending::End, expected);
+    let script = b"device 8 16 4 8 100\nread 1 5 6 3\nraw 8106\n";
+    let expected = b"ready 1\naccepted 0\nfetch 0 6\nfailed host 6\nreply 1 0 failed\n";
+    check(&rt, alloc, script, Ending::End, expected);
+    let script = b"device 8 16 4 8 100\nread 1 5 6 3\nraw 8108\n";
+    let expected = b"ready 1\naccepted 0\nfetch 0 6\nstalled\n";
+    check(&rt, alloc, script, Ending::End, expected);
+    let script = b"device 8 16 4 8 100\nread 1 5 6 3\nraw 8109\n";
+    let expected = b"ready 1\naccepted 0\nfetch 0 6\nfailed malformed\nreply 1 0 failed\n";
+    check(&rt, alloc, script, Ending::End, expected);
+}
+
+#[test]
+fn a_store_acknowledged_and_dropped(rt: HostRuntime) {
+    let alloc = rt.alloc();
+    let script = b"device 8 16 4 8 100\nread 1 5 6 3\nanswer\nraw 80\nread 1 5 7 1\nanswer\n";
+    let expected =
+        b"ready 1\naccepted 0\nfetch 0 6\nstore 0 6\nreply 1 0 data 00000000000000000000000000000000\naccepted 1\nfetch 0 3\nfailed tampered 0 0\nreply 1 1 failed\n";
+    check(&rt, alloc, script, Ending::End, expected);
+}
+
+#[test]
+fn what_is_not_there(rt: HostRuntime) {
+    let alloc = rt.alloc();
+    let script = b"device 8 16 4 8 100\ntamper 0 13 160\n";
+    let expected = b"ready 1\nerror line 2\n";
+    check(&rt, alloc, script, Ending::BadLine(2), expected);
+    let script = b"device 8 16 4 8 100\ntamper 1 0 0\n";
+    let expected = b"ready 1\nerror line 2\n";
+    check(&rt, alloc, script, Ending::BadLine(2), expected);
+    let script = b"device 8 16 4 8 100\nrestore\n";
+    let expected = b"ready 1\nerror line 2\n";
+    check(&rt, alloc, script, Ending::BadLine(2), expected);
+    let script = b"lost\n";
+    let expected = b"error line 1\n";
+    check(&rt, alloc, script, Ending::BadLine(1), expected);
+    let script = b"device 8 16 4 8 100\nraw\n";
+    let expected = b"ready 1\nerror line 2\n";
+    check(&rt, alloc, script, Ending::BadLine(2), expected);
 }
 
 const SCRIPT: &[u8; 40] = b"device 8 16 4 8 100\nread 1 5 6 3\nanswer\n";
@@ -203,7 +312,10 @@ fn a_reader_that_fails(rt: HostRuntime) {
     let mut page = Page::new(4096);
     let ended = run_script(rt.alloc(), &mut reader, &mut page);
     match ended {
-        Err(SimFault::Read) => assert!(rt; page.text() == PRINTED.as_slice()),
+        Err(SimFault::Read) => {
+            let text = page.text();
+            assert!(rt; text == PRINTED.as_slice() || is_stalled(text, PRINTED));
+        }
         Err(fault) => assert!(rt; fault == SimFault::OutOfMemory),
         Ok(_) => assert!(rt; false),
     }
@@ -218,12 +330,13 @@ fn a_writer_that_fails(rt: HostRuntime) {
         match ended {
             Err(SimFault::Write) => assert!(rt; page.len <= room),
             Err(fault) => assert!(rt; fault == SimFault::OutOfMemory),
-            Ok(_) => assert!(rt; false),
+            Ok(_) => assert!(rt; is_stalled(page.text(), PRINTED)),
         }
         assert!(rt;
             PRINTED.starts_with(page.text())
                 || page.text().ends_with(b"out of memory\n")
                 || page.len == room
+                || is_stalled(page.text(), PRINTED)
         );
     }
 }

@@ -1,5 +1,37 @@
+use Rattle.std.proofs.Common.{map, inl, inr, refl}
 use Rattle.oram_trace.proofs.Apart.{places_apart}
+use Rattle.oram_run.proofs.NoncesApart.{nonces_apart}
+use Rattle.oram_run.specs.Run.{shown}
+use Rattle.oram_wire.specs.ListOfBodies.{bodies_in}
+use Rattle.oram_core.specs.Core.{shape_of, shape_with}
+use Rattle.oram_core.proofs.Running.{cut_short, right_along, whole_along, new_shape}
 use Rattle.oram_core.proofs.whole.run.Goals as goal
 
-pub returns-clause-apart : goal.returns-clause-apart
-returns-clause-apart c = places_apart c.args.device
+pub returns-in_default-clause-places : goal.returns-in_default-clause-places
+returns-in_default-clause-places g c = places_apart c.args.device
+
+pub returns-in_default-clause-nonces : goal.returns-in_default-clause-nonces
+returns-in_default-clause-nonces g c = nonces_apart c.args.device
+
+pub returns-in_default-clause-formatted : goal.returns-in_default-clause-formatted
+returns-in_default-clause-formatted g c =
+    let v = shape_with g.S.Sealer.overhead g.S.Sealer.sealing g.S.Sealer.opening c.args.device c.args.sealer in
+    inl (cut_short v c.in_default.field-0 c.new-sink.result c.format.new.sink _ c.new-sink.ensures c.into_bodies.ensures c.new-reactions.ensures.items refl c.in_default.ensures.broken_off)
+
+pub returns-clause-right : goal.returns-clause-right
+returns-clause-right g c =
+    let v = shape_with g.S.Sealer.overhead g.S.Sealer.sealing g.S.Sealer.opening c.args.device c.args.sealer in
+    let core = c.in-Ok.core in
+    right_along v (shape_of g.S.Sealer.overhead g.S.Sealer.sealing g.S.Sealer.opening core) core.state c.new-sink.result c.format.new.sink (bodies_in c.into_bodies-2.result.items) c.args.events.now (map shown c.step_all-stepped.new.reactions.items) c.new-sink.ensures c.into_bodies-2.ensures
+    (new_shape g.S.Sealer.overhead g.S.Sealer.sealing g.S.Sealer.opening core c.args.device c.args.sealer c.in-Ok.ensures.device c.in-Ok.ensures.sealer) c.in-Ok.ensures.made c.step_all-stepped.ensures.along
+
+pub returns-clause-places : goal.returns-clause-places
+returns-clause-places g c = places_apart c.args.device
+
+pub returns-clause-nonces : goal.returns-clause-nonces
+returns-clause-nonces g c = nonces_apart c.args.device
+
+pub returns-clause-formatted : goal.returns-clause-formatted
+returns-clause-formatted g c =
+    let v = shape_with g.S.Sealer.overhead g.S.Sealer.sealing g.S.Sealer.opening c.args.device c.args.sealer in
+    inr (whole_along v c.in-Ok.core.state c.new-sink.result c.format.new.sink c.into_bodies-2.result.items c.new-sink.ensures c.into_bodies-2.ensures c.in-Ok.ensures.made)

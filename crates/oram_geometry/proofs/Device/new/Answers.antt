@@ -1,7 +1,7 @@
-use Rattle.std.proofs.Common.{arith, ap, sym, ◌∙◌}
+use Rattle.std.proofs.Common.{ap, sym, ◌∙◌}
 use Rattle.oram_geometry.specs.declared.Sizes.{Sizes}
 use Rattle.oram_geometry.specs.Sizes.{IsDevice, level_for}
-use Rattle.oram_geometry.proofs.Measuring.{blocks_in-range, trees_of-least}
+use Rattle.oram_geometry.proofs.Measuring.{blocks_in-range}
 use Rattle.oram_geometry.proofs.Ranges.{in_ranges}
 use Rattle.oram_geometry.proofs.Device.new.Goals as goal
 
@@ -17,7 +17,6 @@ invariant_of-result c =
     record {
       ranges = in_ranges d (sym c.shape_fault.ensures ∙ c.in_default.is);
       count = c.tree_count-trees.ensures;
-      single = omega (arith, c.if-trees-gt1.false, c.tree_count-trees.ensures, (trees_of-least d (in_ranges d (sym c.shape_fault.ensures ∙ c.in_default.is))).begins);
       each_blocks = c.block_counts-blocks.ensures;
       each_depth = λ i h. c.depths_for-depths.ensures i h ∙ ap level_for (c.block_counts-blocks.ensures i h);
     }

@@ -12,7 +12,6 @@ returns c =
     record {
       count = m.count;
       least = rw m.count (trees_of-least d m.ranges);
-      single = m.single;
       few = rw m.count (trees_of-few d m.ranges);
       ranges = m.ranges;
     }

@@ -1,16 +1,21 @@
-use Rattle.std.proofs.Common.{[], sym, ◌∙◌, subst}
-use Rattle.std.proofs.KnownBytes.{Appends-nil}
+use Rattle.std.proofs.Common.{Some, sym, ap, ◌∙◌, subst}
 use Rattle.oramsim.specs.Standing.{StandsAt}
-use Rattle.oramsim.proofs.Passing.{passes_empty, passed_some, refused_some}
+use Rattle.oramsim.specs.declared.line.Line.{Line}
+use Rattle.oramsim.proofs.Passing.{empty_passed, passed_some, refused_some, started}
 use Rattle.oramsim.proofs.script.pass.Goals as goal
 
 pub returns-then-is_empty-clause-ok : goal.returns-then-is_empty-clause-ok
-returns-then-is_empty-clause-ok g c = λ stage f e. ([], stage, passes_empty stage c.args.bytes.now (sym c.if-is_empty.ensures), f, Appends-nil _)
+returns-then-is_empty-clause-ok g c = λ p f e. empty_passed p _ c.args.bytes.now _ (sym c.if-is_empty.ensures) f
 
 pub returns-in-Some-machine-clause-ok : goal.returns-in-Some-machine-clause-ok
-returns-in-Some-machine-clause-ok g c = λ stage f e.
-    passed_some stage c.in-Some-machine.machine c.obey.new.self c.args.bytes.now c.in-Some.line c.obey.result _ _ c.obey.ensures.ok (sym c.if-is_empty.ensures) (sym c.in_ok-line.ensures ∙ c.in-Some.is) (subst (StandsAt stage) c.in-Some-machine.is f) e
+returns-in-Some-machine-clause-ok g c = λ p f e.
+    passed_some p c.in-Some-machine.machine c.obey.new.self c.args.bytes.now c.in-Some.line c.obey.result _ _ c.obey.ensures.ok (sym c.if-is_empty.ensures) (sym c.in_ok-line.ensures ∙ c.in-Some.is) (subst (StandsAt p.stage) c.in-Some-machine.is f) e
 
 pub returns-in-Some-machine-clause-bad : goal.returns-in-Some-machine-clause-bad
-returns-in-Some-machine-clause-bad g c = λ stage f e.
-    refused_some stage c.in-Some-machine.machine c.args.bytes.now c.in-Some.line c.obey.result _ _ c.obey.ensures.bad (sym c.if-is_empty.ensures) (sym c.in_ok-line.ensures ∙ c.in-Some.is) (subst (StandsAt stage) c.in-Some-machine.is f) e
+returns-in-Some-machine-clause-bad g c = λ p f e.
+    refused_some p c.in-Some-machine.machine c.args.bytes.now c.in-Some.line c.obey.result _ _ c.obey.ensures.bad (sym c.if-is_empty.ensures) (sym c.in_ok-line.ensures ∙ c.in-Some.is) (subst (StandsAt p.stage) c.in-Some-machine.is f) e
+
+pub returns-in_ok-machine-in-None-clause-ok : goal.returns-in_ok-machine-in-None-clause-ok
+returns-in_ok-machine-in-None-clause-ok g c = λ p f e.
+    started p c.in_ok-machine-in-None.field-0 c.args.bytes.now _ _ _ _ _ c.new-device.result _ _ c.new-device.ensures
+    c.in_ok-machine-in-None.ensures.ok (sym c.if-is_empty.ensures) (sym c.in_ok-line.ensures ∙ (c.in-Some.is ∙ ap (λ (l : Line). Some l) c.in-Device.is)) (subst (StandsAt p.stage) c.in-None.is f)

@@ -15,11 +15,11 @@ loop-number-preserved g c =
     record {
       whole = c.in_ok-pass.ensures.whole;
       came = came_more _ _ _ _ _ _ _ _ _ c.read_until.new.buf.items c.without_end.result.now c.loop-number.invariant.came (fresh _ _ _ c.clear.ensures.items c.in-Ok.ensures.bytes) c.in-Ok.ensures.rest some
-          (c.without_end.ensures ∙ ap (strip_last 10) c.as_slice.ensures.value) (λ stage f. c.in_ok-pass.ensures.ok stage f (ap Ok c.if-not-branch.false));
+          (c.without_end.ensures ∙ ap (strip_last 10) c.as_slice.ensures.value) (λ p f. c.in_ok-pass.ensures.ok p f (ap Ok c.if-not-branch.false));
     }
 
 pub returns-then-not-branch-clause-ok : goal.returns-then-not-branch-clause-ok
 returns-then-not-branch-clause-ok g c =
     let some : 0 < length c.read_until.new.buf.items = omega (arith, c.in-Ok.ensures.ok, c.read_until.new.buf.ok.0, c.clear.ensures.len) in
     came_bad _ _ _ _ _ _ _ _ _ c.read_until.new.buf.items c.without_end.result.now c.loop-number.invariant.came (fresh _ _ _ c.clear.ensures.items c.in-Ok.ensures.bytes) c.in-Ok.ensures.rest some
-    (c.without_end.ensures ∙ ap (strip_last 10) c.as_slice.ensures.value) (λ stage f. c.in_ok-pass.ensures.bad stage f (ap Ok c.if-not-branch.true)) c.in_ok-tell_bad.ensures
+    (c.without_end.ensures ∙ ap (strip_last 10) c.as_slice.ensures.value) (λ p f. c.in_ok-pass.ensures.bad p f (ap Ok c.if-not-branch.true)) c.in_ok-tell_bad.ensures

@@ -1,10 +1,16 @@
-use Rattle.std.proofs.Common.{sym, subst}
-use Rattle.oram_core.specs.Follows.{Follows}
-use Rattle.oram_core.specs.declared.events.Event.{Event}
-use Rattle.oramsim.specs.Script.{Reacts}
+use Rattle.oramsim.proofs.Answering.{answered, fewer_as, heard_stands, IsHeard}
+use Rattle.oramsim.proofs.Turning.{on_ok}
 use Rattle.oramsim.proofs.machine.Machine.answer.Goals as goal
+
+pub returns-clause-whole : goal.returns-clause-whole
+returns-clause-whole g c = c.tell.ensures.whole
+
+pub returns-clause-left : goal.returns-clause-left
+returns-clause-left g c = on_ok _ _ c.tell.result (fewer_as c.args.self.now c.answer_of_host.new.self c.tell.new.self c.answer_of_host.ensures.core c.answer_of_host.ensures.outstanding) c.tell.ensures.left
 
 pub returns-clause-ok : goal.returns-clause-ok
 returns-clause-ok g c = λ r f.
-    let e = c.in_ok-self.ensures.ok r (subst (Follows r.device r.past) (sym c.answer_of_host.ensures.core) f) in
-    (e.0, e.1, subst (λ (v : Event). Reacts r v e.0 e.1) c.in_ok-event.ensures.event e.2, e.3, e.4)
+    let m = c.args.self.now in
+    let n = c.answer_of_host.new.self in
+    let h : IsHeard m n c.in_ok-bytes.bytes = record { replies = c.in_ok-bytes.ensures.bytes; core = c.answer_of_host.ensures.core; outstanding = c.answer_of_host.ensures.outstanding; snapshot = c.answer_of_host.ensures.snapshot } in
+    on_ok _ _ c.tell.result (λ q. answered r m n c.tell.new.self c.in_ok-bytes.bytes _ _ c.requires f h q) (c.tell.ensures.ok _ (heard_stands r m n c.in_ok-bytes.bytes f h))

@@ -1,28 +1,35 @@
-use Rattle.std.proofs.Common.{[], ◌∷◌, refl, sym, subst}
-use Rattle.std.specs.Io.KnownBytes.{Appends}
-use Rattle.oramsim.specs.Script.{Obeys, Reacts, answer_event}
-use Rattle.oramsim.specs.declared.line.Line.{Line}
-use Rattle.oramsim.proofs.Drained.{one_text}
-use Rattle.oramsim.proofs.Waiting.{message_is}
+use Rattle.std.proofs.Common.{refl}
+use Rattle.oramsim.specs.declared.line.Line.TheVariants.{Late}
+use Rattle.oramsim.proofs.Obeyed.{answer_obeyed, drain_obeyed, restore_obeyed, restore_unfit, snapshot_obeyed, spoken_obeyed, tamper_obeyed, tamper_unfit, told_obeyed, when_false, when_true}
 use Rattle.oramsim.proofs.machine.Machine.obey.Goals as goal
 
-pub returns-in_ok-submit-in-Read-clause-ok : goal.returns-in_ok-submit-in-Read-clause-ok
-returns-in_ok-submit-in-Read-clause-ok g c = λ r f e.
-    let q = c.in_ok-submit-in-Read.ensures.ok r f in
-    (q.0 ∷ [], q.1, subst (λ (l : Line). Obeys r l (q.0 ∷ []) q.1) (sym c.in-Read.is) (q.0, refl, q.2), q.3, subst (Appends _ _) (sym (one_text q.0)) q.4)
-
-pub returns-in_ok-submit-in-Write-clause-ok : goal.returns-in_ok-submit-in-Write-clause-ok
-returns-in_ok-submit-in-Write-clause-ok g c = λ r f e.
-    let q = c.in_ok-submit-in-Write.ensures.ok r f in
-    (q.0 ∷ [], q.1, subst (λ (l : Line). Obeys r l (q.0 ∷ []) q.1) (sym c.in-Write.is) (q.0, refl, q.2), q.3, subst (Appends _ _) (sym (one_text q.0)) q.4)
+pub returns-in_ok-tell-in-Told-clause-ok : goal.returns-in_ok-tell-in-Told-clause-ok
+returns-in_ok-tell-in-Told-clause-ok g c = λ r f e. told_obeyed r c.args.line c.args.self.now.core.state c.in-Told.event c.tell.new.self _ _ c.in-Told.is (c.in_ok-tell-in-Told.ensures.ok r f)
 
 pub returns-in_ok-answer-in-Answer-clause-ok : goal.returns-in_ok-answer-in-Answer-clause-ok
-returns-in_ok-answer-in-Answer-clause-ok g c = λ r f e.
-    let q = c.in_ok-answer-in-Answer.ensures.ok r f in
-    let reacts = subst (λ b. Reacts r (answer_event b) q.0 q.1) (sym (message_is r c.args.self.now c.requires f)) q.2 in
-    (q.0 ∷ [], q.1, subst (λ (l : Line). Obeys r l (q.0 ∷ []) q.1) (sym c.in-Answer.is) (q.0, refl, reacts), q.3, subst (Appends _ _) (sym (one_text q.0)) q.4)
+returns-in_ok-answer-in-Answer-clause-ok g c = λ r f e. answer_obeyed r c.args.line c.answer.new.self _ _ c.in-Answer.is (c.in_ok-answer-in-Answer.ensures.ok r f)
 
 pub returns-in_ok-drain-in-Drain-clause-ok : goal.returns-in_ok-drain-in-Drain-clause-ok
-returns-in_ok-drain-in-Drain-clause-ok g c = λ r f e.
-    let q = c.in_ok-drain-in-Drain.ensures.ok r f in
-    (q.0, q.1, subst (λ (l : Line). Obeys r l q.0 q.1) (sym c.in-Drain.is) (q.2, q.3), q.4, q.5)
+returns-in_ok-drain-in-Drain-clause-ok g c = λ r f e. drain_obeyed r c.args.line c.drain.new.self _ _ c.in-Drain.is (c.in_ok-drain-in-Drain.ensures.ok r f)
+
+pub returns-in_ok-lose_answer-in-Late-clause-ok : goal.returns-in_ok-lose_answer-in-Late-clause-ok
+returns-in_ok-lose_answer-in-Late-clause-ok g c = λ r f e. spoken_obeyed r c.args.line Late c.lose_answer.new.self _ _ c.in-Late.is (c.in_ok-lose_answer-in-Late.ensures.ok r f)
+
+pub returns-in_ok-keep-in-Snapshot-clause-ok : goal.returns-in_ok-keep-in-Snapshot-clause-ok
+returns-in_ok-keep-in-Snapshot-clause-ok g c = λ r f e. snapshot_obeyed r c.args.line c.keep.new.self _ c.in-Snapshot.is (c.in_ok-keep-in-Snapshot.ensures.ok r f)
+
+pub returns-in-Tamper-clause-ok : goal.returns-in-Tamper-clause-ok
+returns-in-Tamper-clause-ok g c = λ r f e.
+    tamper_obeyed r c.args.line c.tamper.new.self c.in-Tamper.tree c.in-Tamper.node c.in-Tamper.offset _ c.in-Tamper.is (when_true _ _ c.tamper.result _ refl (c.tamper.ensures.ok r f) e)
+
+pub returns-in-Tamper-clause-bad : goal.returns-in-Tamper-clause-bad
+returns-in-Tamper-clause-bad g c = λ r f e.
+    (tamper_unfit r c.args.line c.in-Tamper.tree c.in-Tamper.node c.in-Tamper.offset c.in-Tamper.is (when_false _ _ c.tamper.result _ refl (c.tamper.ensures.ok r f) e), refl)
+
+pub returns-in_ok-restore-in-Restore-clause-ok : goal.returns-in_ok-restore-in-Restore-clause-ok
+returns-in_ok-restore-in-Restore-clause-ok g c = λ r f e.
+    restore_obeyed r c.args.line c.restore.new.self _ c.in-Restore.is (when_true _ _ c.in_ok-restore-in-Restore.field-0 _ refl (c.in_ok-restore-in-Restore.ensures.ok r f) e)
+
+pub returns-in_ok-restore-in-Restore-clause-bad : goal.returns-in_ok-restore-in-Restore-clause-bad
+returns-in_ok-restore-in-Restore-clause-bad g c = λ r f e.
+    (restore_unfit r c.args.line c.in-Restore.is (when_false _ _ c.in_ok-restore-in-Restore.field-0 _ refl (c.in_ok-restore-in-Restore.ensures.ok r f) e), refl)

@@ -1,0 +1,188 @@
+//! How long an access takes through the core and the server, beside two hashings of the same bytes.
+//!
+//! Run it with the word `run`: two devices, one of a single tree of large blocks and one of three trees of small ones, and
+//! 2,000 accesses each.
+#![tactic(auto)]
+
+use oram_bucket::PlainSeal;
+use oram_bytes::{Bytes, Words};
+use oram_core::{Command, Core, Event};
+use oram_geometry::Device;
+use oram_hash::node_digest;
+use oram_host::Server;
+use rand_chacha::ChaCha20Rng;
+use rand_core::{Rng, SeedableRng};
+use std::alloc::{AllocError, Global};
+use std::time::{Duration, Instant};
+use std::{env, io};
+
+const ACCESSES: u32 = 2_000;
+
+/// Messages of an access are fewer: a fetch and a store for each of at most 13 trees.
+const MOST_MESSAGES: u32 = 27;
+
+const FETCH: u8 = 1;
+
+/// What each took in all accesses.
+#[derive(Clone, Copy)]
+struct Times {
+    core: Duration,
+    host: Duration,
+    hashing: Duration,
+}
+
+/// A read or a write of some block, with words of its own.
+fn some_access(
+    alloc: Global,
+    device: &Device,
+    random: &mut ChaCha20Rng,
+) -> Result<Event, AllocError> {
+    prove!(0 < device.trees());
+    let address = random.next_u32() % device.blocks_in(0).max(1);
+    let command = if random.next_u32() % 2 == 0 {
+        Command::Read(address)
+    } else {
+        Command::Write(
+            address,
+            Bytes::from_vec(vec![in alloc; 7; device.block_bytes()]?),
+        )
+    };
+    let mut words = Vec::new(alloc);
+    for _ in 0..2 * usize::from(device.trees()) {
+        words.push(random.next_u64())?;
+    }
+    Ok(Event::Submit {
+        session: 0,
+        command,
+        words: Words::from_vec(words),
+    })
+}
+
+/// SHA-256 of each record, twice over.
+fn hash_twice(records: &[u8], record_len: usize) -> u8 {
+    let once = |mixed, record: &[u8]| mixed ^ node_digest(record)[0];
+    let first = records.chunks(record_len.max(1)).fold(0, once);
+    records.chunks(record_len.max(1)).fold(first, once)
+}
+
+/// Makes a step. The message that it sends, if any, is handed back.
+fn step(
+    rt: &(impl Alloc<A = Global> + std::rt::Clock),
+    core: &mut Core<PlainSeal>,
+    event: &Event,
+    times: &mut Times,
+) -> io::Result<Option<Bytes>> {
+    let start = Instant::now(rt)?;
+    let mut reaction = core.step(rt.alloc(), event)?;
+    times.core = times.core.saturating_add(start.elapsed(rt)?);
+    Ok(reaction.sends.pop())
+}
+
+/// The server's answer to a message. The records of a path are hashed twice, apart from it.
+fn serve(
+    rt: &(impl Alloc<A = Global> + std::rt::Clock),
+    server: &mut Server,
+    message: &[u8],
+    record_len: usize,
+    times: &mut Times,
+) -> io::Result<Event> {
+    let start = Instant::now(rt)?;
+    let answer = server.handle(message).encode(rt.alloc())?;
+    times.host = times.host.saturating_add(start.elapsed(rt)?);
+    if message.first() == Some(&FETCH) {
+        let records = answer.get(1..).unwrap_or_default();
+        let start = Instant::now(rt)?;
+        let _ = hash_twice(records, record_len);
+        times.hashing = times.hashing.saturating_add(start.elapsed(rt)?);
+    }
+    Ok(Event::Answer(Bytes::from_vec(answer)))
+}
+
+/// Submits a command, and lets the server answer until nothing is outstanding.
+fn access(
+    rt: &(impl Alloc<A = Global> + std::rt::Clock),
+    core: &mut Core<PlainSeal>,
+    server: &mut Server,
+    command: &Event,
+    record_len: usize,
+    times: &mut Times,
+) -> io::Result<()> {
+    let mut outstanding = step(rt, core, command, times)?;
+    for _ in 0..MOST_MESSAGES {
+        let Some(message) = outstanding else {
+            return Ok(());
+        };
+        let answer = serve(rt, server, message.as_slice(), record_len, times)?;
+        outstanding = step(rt, core, &answer, times)?;
+    }
+    Ok(())
+}
+
+/// Makes the accesses to a device just formatted, and prints what they took.
+fn measure(rt: &HostRuntime, name: &str, device: Device) -> io::Result<()> {
+    let record_len = device.record_len(0);
+    let mut server = Server::new(rt.alloc());
+    let Ok(mut core) = Core::format(rt.alloc(), device, PlainSeal, &mut server) else {
+        return Err(AllocError.into());
+    };
+    let mut times = Times {
+        core: Duration::ZERO,
+        host: Duration::ZERO,
+        hashing: Duration::ZERO,
+    };
+    let mut random = ChaCha20Rng::from_seed([1; 32]);
+    for _ in 0..ACCESSES {
+        let command = some_access(rt.alloc(), core.device(), &mut random)?;
+        access(rt, &mut core, &mut server, &command, record_len, &mut times)?;
+    }
+    report(rt, name, &core, &times)
+}
+
+/// A part of a whole, in hundredths.
+fn hundredths(part: Duration, whole: Duration) -> u128 {
+    part.as_micros() * 100 / whole.as_micros().max(1)
+}
+
+/// Prints what the accesses took, on average, and how many blocks lie in no bucket at the end.
+fn report(rt: &HostRuntime, name: &str, core: &Core<PlainSeal>, times: &Times) -> io::Result<()> {
+    let micros = |time: Duration| time.as_micros() / u128::from(ACCESSES);
+    let whole = times.core.saturating_add(times.host);
+    let ratio = hundredths(times.core, times.hashing);
+    println!(rt; "{name}")?;
+    println!(rt;
+        "  an access: {} us, of which the server {} %",
+        micros(whole),
+        hundredths(times.host, whole)
+    )?;
+    println!(rt; "  the core alone: {} us", micros(times.core))?;
+    println!(rt;
+        "  two hashings of the same bytes: {} us",
+        micros(times.hashing)
+    )?;
+    println!(rt;
+        "  the core is {}.{:02} times these",
+        ratio / 100,
+        ratio % 100
+    )?;
+    for tree in 0..core.device().trees() {
+        println!(rt;
+            "  stash of tree {tree} at the end: {}",
+            core.stash_len(tree)
+        )?;
+    }
+    Ok(())
+}
+
+fn main(rt: HostRuntime) -> io::Result<()> {
+    let wanted = env::args(&rt)?.nth(1);
+    if wanted.is_none_or(|word| word.as_str() != "run") {
+        return println!(rt; "bench_core run");
+    }
+    if let Ok(device) = Device::new(4_096, 4_096, 4, 4_096, 1 << 40) {
+        measure(&rt, "one tree of depth 12, blocks of 4,096 bytes", device)?;
+    }
+    if let Ok(device) = Device::new(64, 16, 4, 4, 1 << 40) {
+        measure(&rt, "three trees, blocks of 16 bytes", device)?;
+    }
+    Ok(())
+}

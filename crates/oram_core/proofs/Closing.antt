@@ -1,0 +1,157 @@
+-- What a method owes at its end: the fields as it leaves them are sound, and what it has done is what it was to do.
+use Rattle.std.proofs.Common.{◌≡◌, ℕ, ◌+◌, ◌-◌, ◌*◌, ◌%◌, ◌^◌, ◌<◌, ◌≤◌, ◌==◌, ◌&&◌, ◌||◌, not, nat_lt, Bool, true, false, inl, inr, if◌then◌else◌, List, [], ◌∷◌, length, drop, slice_set, refl, ap, sym, ◌∙◌, subst, arith}
+use Rattle.std.proofs.lemmas.Bool.{cases_eq}
+use Rattle.std.proofs.lemmas.Bool.Decides.{nat_tests}
+use Rattle.oram_geometry.specs.Sizes.{trees_of, depth_of}
+use Rattle.oram_geometry.proofs.Measuring.{trees_of-few}
+use Rattle.oram_wire.specs.HostMessages.{store_body}
+use Rattle.oram_run.specs.Content.{block_of, new_leaf, stage_tree}
+use Rattle.oram_run.specs.Messages.{asked}
+use Rattle.oram_run.specs.Moves.{fetch_at, latest}
+use Rattle.oram_run.specs.Blocks.{next_named, kept_of, body_from}
+use Rattle.oram_run.specs.Shape.{Shape}
+use Rattle.oram_run.specs.Progress.Status.{Waiting}
+use Rattle.oram_run.specs.State.{State, status_in, named_now}
+use Rattle.oram_run.specs.declared.events.Note.TheVariants.{Taken}
+use Rattle.oram_run.specs.declared.events.Reply.{Reply}
+use Rattle.oram_run.specs.declared.events.Submission.{Submission}
+use Rattle.oram_core.specs.Core.{IsSound}
+use Rattle.oram_core.specs.Doing.{Done, fetch_of, first_message, first_messages, fetched_by, finished_by, stored_by, is_misled}
+use Rattle.oram_core.proofs.Small.{named_none}
+use Rattle.oram_core.proofs.Sound.{HasOldest, has_oldest, fetched_as, finished_as, stored_as}
+
+-- stages are few
+pub stage_small : (v : Shape) (s : State) → IsSound v s → s.stage < 26
+stage_small v s h =
+    let few : trees_of v.device ≤ 13 = trees_of-few v.device h.ranges in
+    let within : s.stage < 2 * trees_of v.device = h.stage in
+    omega arith
+
+-- the leaf of the outstanding message is one of its tree's
+pub leaf_here : (v : Shape) (s : State) → IsSound v s → status_in s ≡ Waiting → (asked s.last).leaf < 2 ^ depth_of v.device (stage_tree v.device s.stage)
+leaf_here v s h now = (has_oldest v s h now).work.leaf
+
+-- a path goes back
+pub commit_sound : (v : Shape) (s : State) (tree block leaf named nonce : ℕ) (before table kept last : List ℕ) → IsSound v s → status_in s ≡ Waiting → s.stage % 2 ≡ 0 → tree ≡ stage_tree v.device s.stage →
+    length before ≡ v.device.block_bytes → ((records : List ℕ) × (last ≡ store_body tree (asked s.last).leaf records)) →
+    ((x : Submission) (rest : List Submission) → s.queue ≡ x ∷ rest → (block ≡ block_of v.device tree x) × (leaf ≡ new_leaf v.device tree x) × (named ≡ next_named v.device tree x before)) →
+    named ≤ 2 ^ depth_of v.device (tree - 1) →
+    table ≡ (if s.stage == 0 then slice_set s.table block (leaf + 1) else s.table) → nonce ≡ s.nonce + (depth_of v.device tree + 1) → kept ≡ kept_of tree before →
+    IsSound v (record s { table = table; nonce = nonce; stage = s.stage + 1; named = named; before = kept; last = last })
+commit_sound v s tree block leaf named nonce before table kept last h now even here long sent oldest low t n k =
+    let o : HasOldest v s = has_oldest v s h now in
+    let x : Submission = o.oldest in
+    let of = oldest x o.rest o.queue in
+    let d = v.device in
+    let i : ℕ = stage_tree d s.stage in
+    let block_is : block ≡ block_of d i x = of.0 ∙ ap (λ j. block_of d j x) here in
+    let leaf_is : leaf ≡ new_leaf d i x = of.1 ∙ ap (λ j. new_leaf d j x) here in
+    let named_is : named ≡ next_named d i x before = of.2 ∙ ap (λ j. next_named d j x before) here in
+    let table_is : table ≡ (if s.stage == 0 then slice_set s.table (block_of d i x) (new_leaf d i x + 1) else s.table) =
+    t ∙ ap (λ b. if s.stage == 0 then slice_set s.table b (leaf + 1) else s.table) block_is ∙ ap (λ l. if s.stage == 0 then slice_set s.table (block_of d i x) (l + 1) else s.table) leaf_is in
+    let fits : next_named d i x before ≤ 2 ^ depth_of d (i - 1) = subst (λ (z : ℕ). z ≤ 2 ^ depth_of d (i - 1)) named_is (subst (λ (j : ℕ). named ≤ 2 ^ depth_of d (j - 1)) here low) in
+    stored_as v s x o.rest before sent.0 table nonce named kept last h o.queue even long fits table_is (n ∙ ap (λ j. s.nonce + (depth_of d j + 1)) here) named_is (k ∙ ap (λ j. kept_of j before) here)
+    (sent.1 ∙ ap (λ j. store_body j (asked s.last).leaf sent.0) here)
+
+-- the path of the next tree is fetched
+pub fetch_sound : (v : Shape) (s : State) (last : List ℕ) → IsSound v s → status_in s ≡ Waiting → s.stage % 2 ≡ 1 → s.stage + 1 < 2 * trees_of v.device →
+    ((x : Submission) (rest : List Submission) → s.queue ≡ x ∷ rest → last ≡ fetch_of (fetch_at v.device (s.stage + 1) s.named x)) → IsSound v (record s { stage = s.stage + 1; last = last })
+fetch_sound v s last h now odd more fetch =
+    let o : HasOldest v s = has_oldest v s h now in
+    fetched_as v s o.oldest o.rest last h o.queue odd more (fetch o.oldest o.rest o.queue)
+
+only_one : (x : Submission) (rest : List Submission) → length (x ∷ rest) ≡ 1 → rest ≡ []
+only_one x [] one = refl
+only_one x (y ∷ rest) one = absurd (omega arith)
+
+-- the last command has its reply
+pub end_sound : (v : Shape) (s : State) (queue : List Submission) (before : List ℕ) → IsSound v s → status_in s ≡ Waiting → s.stage + 1 ≡ 2 * trees_of v.device → length s.queue ≡ 1 →
+    queue ≡ drop 1 s.queue → before ≡ [] → IsSound v (record s { queue = queue; stage = 0; named = 0; before = before })
+end_sound v s queue before h now end alone q b =
+    let o : HasOldest v s = has_oldest v s h now in
+    let none : o.rest ≡ [] = only_one o.oldest o.rest (sym (ap length o.queue) ∙ alone) in
+    finished_as v s o.oldest o.rest queue before s.last h o.queue o.calm end (q ∙ ap (drop 1) o.queue) b (sym (ap (λ r. latest (first_messages v s r) s.last) none))
+
+next_sent : (v : Shape) (s : State) (x : Submission) (rest : List Submission) (last : List ℕ) → s.queue ≡ x ∷ rest → 1 < length s.queue →
+    ((x y : Submission) (rest : List Submission) → s.queue ≡ x ∷ y ∷ rest → last ≡ first_message v s y) → last ≡ latest (first_messages v s rest) s.last
+next_sent v s x [] last q more next = absurd (omega (arith, ap length q))
+next_sent v s x (y ∷ rest) last q more next = next x y rest q
+
+-- another one has, and the next begins
+pub pass_sound : (v : Shape) (s : State) (queue : List Submission) (before last : List ℕ) → IsSound v s → status_in s ≡ Waiting → s.stage + 1 ≡ 2 * trees_of v.device → 1 < length s.queue →
+    ((x y : Submission) (rest : List Submission) → s.queue ≡ x ∷ y ∷ rest → last ≡ first_message v s y) →
+    queue ≡ drop 1 s.queue → before ≡ [] → IsSound v (record s { queue = queue; stage = 0; named = 0; before = before; last = last })
+pass_sound v s queue before last h now end more next q b =
+    let o : HasOldest v s = has_oldest v s h now in
+    finished_as v s o.oldest o.rest queue before last h o.queue o.calm end (q ∙ ap (drop 1) o.queue) b (next_sent v s o.oldest o.rest last o.queue more next)
+
+-- what was done where nothing waits behind the oldest command
+pub ended_by : (v : Shape) (s : State) (x : Submission) (rest queue : List Submission) (replies : List Reply) (sends : List (List ℕ)) (before : List ℕ) → IsSound v s → s.queue ≡ x ∷ rest → length s.queue ≡ 1 →
+    replies ≡ (record { session = x.session; ticket = x.ticket; body = body_from s.before x.command }) ∷ [] → sends ≡ [] → queue ≡ drop 1 s.queue → before ≡ [] →
+    (let d : Done = record { note = Taken; replies = replies; sends = sends; state = record s { queue = queue; stage = 0; named = 0; before = before } } in d ≡ finished_by v s x rest)
+ended_by v s x [] queue replies sends before h q alone r m k b = let e : queue ≡ [] = k ∙ ap (drop 1) q in cc
+ended_by v s x (y ∷ rest) queue replies sends before h q alone r m k b = absurd (omega (arith, ap length q))
+
+-- and where one does
+pub passed_by : (v : Shape) (s : State) (x : Submission) (rest queue : List Submission) (replies : List Reply) (sends : List (List ℕ)) (before last : List ℕ) → IsSound v s → s.queue ≡ x ∷ rest → 1 < length s.queue →
+    ((x y : Submission) (rest : List Submission) → s.queue ≡ x ∷ y ∷ rest → last ≡ first_message v s y) →
+    replies ≡ (record { session = x.session; ticket = x.ticket; body = body_from s.before x.command }) ∷ [] → sends ≡ last ∷ [] → queue ≡ drop 1 s.queue → before ≡ [] →
+    (let d : Done = record { note = Taken; replies = replies; sends = sends; state = record s { queue = queue; stage = 0; named = 0; before = before; last = last } } in d ≡ finished_by v s x rest)
+passed_by v s x [] queue replies sends before last h q more next r m k b = absurd (omega (arith, ap length q))
+passed_by v s x (y ∷ rest) queue replies sends before last h q more next r m k b =
+    let e : queue ≡ y ∷ rest = k ∙ ap (drop 1) q in
+    let l : last ≡ first_message v s y = next x y rest q in
+    let one : sends ≡ first_message v s y ∷ [] = m ∙ ap (λ b. b ∷ []) l in
+    cc
+
+-- what was done where another tree's path is fetched
+pub fetched_so : (v : Shape) (s : State) (x : Submission) (replies : List Reply) (sends : List (List ℕ)) (last : List ℕ) → IsSound v s →
+    last ≡ fetch_of (fetch_at v.device (s.stage + 1) s.named x) → sends ≡ last ∷ [] → replies ≡ [] →
+    (let d : Done = record { note = Taken; replies = replies; sends = sends; state = record s { stage = s.stage + 1; last = last } } in d ≡ fetched_by v s x)
+fetched_so v s x replies sends last h l m r =
+    let one : sends ≡ fetch_of (fetch_at v.device (s.stage + 1) s.named x) ∷ [] = m ∙ ap (λ b. b ∷ []) l in
+    cc
+
+-- what was done where a path goes back
+pub stored_so : (v : Shape) (s : State) (x : Submission) (tree block new named : ℕ) (before records kept : List ℕ) → tree ≡ stage_tree v.device s.stage → block ≡ block_of v.device tree x → new ≡ new_leaf v.device tree x →
+    named ≡ next_named v.device tree x before → kept ≡ store_body tree (asked s.last).leaf records →
+    (let d : Done = record {
+      note = Taken;
+      replies = [];
+      sends = kept ∷ [];
+      state = record s { table = if s.stage == 0 then slice_set s.table block (new + 1) else s.table; nonce = s.nonce + (depth_of v.device tree + 1); stage = s.stage + 1; named = named; before = kept_of tree before; last = kept };
+    } in d ≡ stored_by v s x before records)
+stored_so v s x tree block new named before records kept t b n m k =
+    let i : ℕ = stage_tree v.device s.stage in
+    let block_is : block ≡ block_of v.device i x = b ∙ ap (λ j. block_of v.device j x) t in
+    let new_is : new ≡ new_leaf v.device i x = n ∙ ap (λ j. new_leaf v.device j x) t in
+    let named_is : named ≡ next_named v.device i x before = m ∙ ap (λ j. next_named v.device j x before) t in
+    let kept_is : kept ≡ store_body i (asked s.last).leaf records = k ∙ ap (λ j. store_body j (asked s.last).leaf records) t in
+    let deep : depth_of v.device tree ≡ depth_of v.device i = ap (λ j. depth_of v.device j) t in
+    let read : kept_of tree before ≡ kept_of i before = ap (λ j. kept_of j before) t in
+    let table : (if s.stage == 0 then slice_set s.table block (new + 1) else s.table) ≡ (if s.stage == 0 then slice_set s.table (block_of v.device i x) (new_leaf v.device i x + 1) else s.table) =
+    ap (λ a. if s.stage == 0 then slice_set s.table a (new + 1) else s.table) block_is ∙ ap (λ l. if s.stage == 0 then slice_set s.table (block_of v.device i x) (l + 1) else s.table) new_is in
+    let nonce : s.nonce + (depth_of v.device tree + 1) ≡ s.nonce + (depth_of v.device i + 1) = ap (λ z. s.nonce + (z + 1)) deep in
+    let sent : kept ∷ [] ≡ store_body i (asked s.last).leaf records ∷ [] = ap (λ body. body ∷ []) kept_is in
+    cc
+
+neither : (a b : Bool) → (a || b) ≡ false → b ≡ false
+neither true b e = absurd (let no_way : true ≡ false = e in cc)
+neither false b e = e
+
+not_both : (a b : Bool) → a ≡ true → (a && b) ≡ false → b ≡ false
+not_both true b first e = e
+not_both false b first e = absurd (let no_way : false ≡ true = first in cc)
+
+-- where the map leads right, it names a leaf of the tree below
+pub led_right : (v : Shape) (s : State) (x : Submission) (found : Bool) (before : List ℕ) (tree named : ℕ) → is_misled v s x found before ≡ false → tree ≡ stage_tree v.device s.stage → named ≡ next_named v.device tree x before →
+    named ≤ 2 ^ depth_of v.device (tree - 1)
+led_right v s x found before tree named right t m =
+    let i : ℕ = stage_tree v.device s.stage in
+    let n : ℕ = next_named v.device i x before in
+    let low : (nat_lt 0 i && nat_lt (2 ^ depth_of v.device (i - 1)) n) ≡ false = neither (not (named_now v s x == 0) && not found) _ right in
+    let fits : n ≤ 2 ^ depth_of v.device (i - 1) = elim (cases_eq i 0) [
+      | inl none ↦ subst (λ (z : ℕ). z ≤ 2 ^ depth_of v.device (i - 1)) (named_none v.device i x before none) (omega arith)
+      | inr some ↦ let positive : nat_lt 0 i ≡ true = grind (arith, nat_tests) in let small : nat_lt (2 ^ depth_of v.device (i - 1)) n ≡ false = not_both (nat_lt 0 i) _ positive low in grind (arith, nat_tests)
+    ] in
+    subst (λ (z : ℕ). z ≤ 2 ^ depth_of v.device (tree - 1)) (sym (m ∙ ap (λ j. next_named v.device j x before) t)) (subst (λ (j : ℕ). n ≤ 2 ^ depth_of v.device (j - 1)) (sym t) fits)

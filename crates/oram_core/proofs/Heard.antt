@@ -1,0 +1,53 @@
+-- What becomes of an answer that is waited for, whoever gives it.
+use Rattle.std.proofs.Common.{◌≡◌, ℕ, ◌+◌, ◌*◌, ◌%◌, ◌<◌, Bool, true, false, if◌then◌else◌, List, ◌∷◌, map, Result, Ok, Err, IfOk, refl, ap, sym, subst, arith, inl, inr}
+use Rattle.oram_geometry.specs.Sizes.{trees_of}
+use Rattle.oram_tree.specs.State.{State as Tree}
+use Rattle.oram_run.specs.Events.{failed_reply}
+use Rattle.oram_run.specs.Shape.{Shape}
+use Rattle.oram_run.specs.Progress.Status.{Waiting}
+use Rattle.oram_run.specs.State.{State, status_in}
+use Rattle.oram_run.specs.declared.events.Reaction.{Reaction}
+use Rattle.oram_run.specs.declared.events.Reason.{Reason}
+use Rattle.oram_run.specs.declared.events.Submission.{Submission}
+use Rattle.oram_core.specs.Core.{IsSound}
+use Rattle.oram_core.specs.Doing.{done, failed_by, fetched_by, finished_by, stored_by, is_misled}
+use Rattle.oram_core.specs.Steps.{Heard}
+use Rattle.oram_core.proofs.Sound.{HasOldest, has_oldest}
+
+-- what is claimed of an Ok follows from what is known of it
+pub if_ok : {A E : Type 0} (P Q : A → Type 0) (r : Result A E) → ((a : A) → P a → Q a) → IfOk r P → IfOk r Q
+if_ok P Q (Ok a) f h = f a h
+if_ok P Q (Err e) f h = h
+
+finished_heard : (v : Shape) (s : State) (o : HasOldest v s) → s.stage + 1 ≡ 2 * trees_of v.device → Heard v s (finished_by v s o.oldest o.rest)
+finished_heard v s o end = inr (inr (record { oldest = o.oldest; rest = o.rest; queue = o.queue; does = refl; long = o.work.before end }))
+
+pub finish_heard : {E : Type 0} (v : Shape) (s : State) (r : Result Reaction E) (t : State) → IsSound v s → status_in s ≡ Waiting → s.stage + 1 ≡ 2 * trees_of v.device →
+    ((x : Submission) (rest : List Submission) → s.queue ≡ x ∷ rest → IfOk r (λ y. done y t ≡ finished_by v s x rest)) → IfOk r (λ y. Heard v s (done y t))
+finish_heard v s r t h now end does =
+    let o : HasOldest v s = has_oldest v s h now in
+    if_ok _ _ r (λ y e. subst (Heard v s) (sym e) (finished_heard v s o end)) (does o.oldest o.rest o.queue)
+
+pub fetch_heard : {E : Type 0} (v : Shape) (s : State) (r : Result Reaction E) (t : State) → IsSound v s → status_in s ≡ Waiting → s.stage + 1 < 2 * trees_of v.device →
+    ((x : Submission) (rest : List Submission) → s.queue ≡ x ∷ rest → IfOk r (λ y. done y t ≡ fetched_by v s x)) → IfOk r (λ y. Heard v s (done y t))
+fetch_heard v s r t h now more does =
+    let o : HasOldest v s = has_oldest v s h now in
+    if_ok _ _ r (λ y e. subst (Heard v s) (sym e) (inr (inl (record { note = refl; replies = refl; sends = refl; queue = refl; waits = now; next = refl; stage = refl; within = more })))) (does o.oldest o.rest o.queue)
+
+-- the device fails, whatever the trees are by then
+pub failed_heard : (v : Shape) (s t : State) (e : Reason) → t.queue ≡ s.queue → Heard v s (failed_by t e)
+failed_heard v s t e same = inl (record { reason = e; note = refl; replies = ap (map failed_reply) same; sends = refl; queue = refl; failure = refl })
+
+-- the path of an access goes back
+pub stored_heard : (v : Shape) (s : State) (trees : List Tree) (x : Submission) (before records : List ℕ) → status_in s ≡ Waiting → s.stage % 2 ≡ 0 → s.stage < 2 * trees_of v.device → Heard v s (stored_by v (record s { trees = trees }) x before records)
+stored_heard v s trees x before records now even within =
+    inr (inl (record { note = refl; replies = refl; sends = refl; queue = refl; waits = now; next = refl; stage = refl; within = omega arith }))
+
+pub taken_heard : (v : Shape) (s : State) (trees : List Tree) (x : Submission) (found : Bool) (before records : List ℕ) (e : Reason) → status_in s ≡ Waiting → s.stage % 2 ≡ 0 → s.stage < 2 * trees_of v.device →
+    (let t : State = record s { trees = trees } in Heard v s (if is_misled v t x found before then failed_by t e else stored_by v t x before records))
+taken_heard v s trees x found before records e now even within =
+    let t : State = record s { trees = trees } in
+    elim (is_misled v t x found before) as (λ b. Heard v s (if b then failed_by t e else stored_by v t x before records)) [
+      | true ↦ failed_heard v s t e refl
+      | false ↦ stored_heard v s trees x before records now even within
+    ]

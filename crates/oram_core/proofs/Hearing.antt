@@ -1,0 +1,216 @@
+-- What the code makes of an answer is what the answer means.
+use Rattle.std.proofs.Common.{◌≡◌, ◌≢◌, ◌⊎◌, ◌↔◌, ℕ, ◌+◌, ◌*◌, ◌%◌, ◌^◌, ◌<◌, ◌≤◌, ◌==◌, ◌&&◌, Bool, true, false, if◌then◌else◌, List, [], ◌∷◌, length, drop, slice_index, slice_index_or, nat_le, nat_lt, not, Some, None, Result, Ok, Err, MatchResult, refl, ap, sym, ◌∙◌, subst, arith, inl, inr}
+use Rattle.std.specs.List.{All}
+use Rattle.std.proofs.lemmas.List.{get_or_read}
+use Rattle.std.proofs.lemmas.Bool.{cases_eq}
+use Rattle.std.proofs.lemmas.Bool.Decides.{nat_tests}
+use Rattle.oram_geometry.specs.declared.Sizes.{Sizes}
+use Rattle.oram_geometry.specs.Sizes.{depth_of, trees_of}
+use Rattle.oram_bucket.specs.Bucket.{IsBlockOf}
+use Rattle.oram_trace.specs.declared.asked.Entry.{Entry}
+use Rattle.oram_hash.specs.declared.HashFault.{HashFault}
+use Rattle.oram_hash.specs.declared.HashFault.TheVariants as fault
+use Rattle.oram_hash.specs.Path.{Path, path_of, HasLength}
+use Rattle.oram_hash.specs.Tree.{IsStored, IsPathOf, Collides}
+use Rattle.oram_hash.specs.Verdict.{IsFaultOf}
+use Rattle.oram_tree.specs.State.{State as Tree}
+use Rattle.oram_run.specs.Answers.{answered_path, outcome_of, outcome_by, pair_in, is_payload, is_refusal}
+use Rattle.oram_run.specs.Answers.Outcome.{Good, Fails}
+use Rattle.oram_run.specs.Content.{stage_tree}
+use Rattle.oram_run.specs.Messages.{asked}
+use Rattle.oram_run.specs.Moves.{Fits}
+use Rattle.oram_run.specs.Progress.Status.{Waiting}
+use Rattle.oram_run.specs.Shape.{Shape, record_len}
+use Rattle.oram_run.specs.State.{State, World, no_tree, status_in}
+use Rattle.oram_run.specs.Trees.{Stands}
+use Rattle.oram_run.proofs.Judged.{pair_is}
+use Rattle.oram_run.specs.declared.events.Reason.TheVariants.{Malformed}
+use Rattle.oram_run.proofs.Outcomes.{fetched_is, stored_is, malformed_store, malformed_is}
+use Rattle.oram_core.specs.Core.{IsSound, IsAtWork, AtWork, IsKept}
+use Rattle.oram_core.specs.Verdicts.{Means, refusal_in}
+use Rattle.oram_core.specs.declared.verdicts.Verdict.{Verdict}
+use Rattle.oram_core.proofs.Meeting.{waits, holds_of}
+use Rattle.oram_core.proofs.Sound.{tree_within}
+
+-- a checked path of the right length is the tree's, where no two records of one digest stand in it
+path_told : (v : Shape) (records : ℕ → ℕ → List ℕ) (e : Entry) (bytes : List ℕ) → e.fetch ≡ true → HasLength (answered_path v e (128 ∷ bytes)) → pair_in v records e (128 ∷ bytes) ≡ false →
+    (IsPathOf (records e.tree) (answered_path v e (128 ∷ bytes)) ⊎ Collides (records e.tree) (answered_path v e (128 ∷ bytes))) → IsPathOf (records e.tree) (answered_path v e (128 ∷ bytes))
+path_told v records e bytes fetch whole apart (inl told) = told
+path_told v records e bytes fetch whole apart (inr pair) =
+    let long : (length (128 ∷ bytes) == 1 + (depth_of v.device e.tree + 1) * record_len v) ≡ true = grind (arith, nat_tests, whole) in
+    let payload : is_payload v e (128 ∷ bytes) ≡ true = rw (fetch, long) refl in
+    absurd (let both : true ≡ false = sym (pair_is v records e (128 ∷ bytes) payload pair) ∙ apart in cc)
+
+-- what is known of the check of an answer to the outstanding fetch
+pub record IsChecked {A : Type 0} (v : Shape) (i leaf : ℕ) (root bytes : List ℕ) (r : Result A HashFault) : Type 0 where
+  pub short : (r ≡ Err fault.Length) ↔ (¬ HasLength (path_of v.device i leaf v.overhead bytes))
+  pub judged : (records : ℕ → List ℕ) → IsStored (depth_of v.device i) (record_len v) root records →
+      MatchResult r (λ _. IsPathOf records (path_of v.device i leaf v.overhead bytes)) (IsFaultOf records (path_of v.device i leaf v.overhead bytes)) ⊎ Collides records (path_of v.device i leaf v.overhead bytes)
+
+-- the outstanding fetch
+fetch_out : (v : Shape) (s : State) → IsSound v s → status_in s ≡ Waiting → s.stage % 2 ≡ 0 → ((asked s.last).fetch ≡ true) × ((asked s.last).tree ≡ stage_tree v.device s.stage) × ((asked s.last).leaf < 2 ^ depth_of v.device (stage_tree v.device s.stage))
+fetch_out v s h now even =
+    let o = waits s now in
+    let work : IsAtWork v s o.oldest = subst (AtWork v s) o.queue h.work in
+    let e = work.fetch even in
+    (ap (λ (x : Entry). x.fetch) e, ap (λ (x : Entry). x.tree) e, work.leaf)
+
+-- the answer means what its check told
+pub path_means : {A : Type 0} (v : Shape) (s : State) (w : World) (t : Tree) (bytes : List ℕ) (r : Result A HashFault) → IsSound v s → status_in s ≡ Waiting → s.stage % 2 ≡ 0 → Fits v s w →
+    pair_in v w.records (asked s.last) (128 ∷ bytes) ≡ false → t ≡ slice_index_or s.trees (stage_tree v.device s.stage) no_tree → IsChecked v (stage_tree v.device s.stage) (asked s.last).leaf t.root bytes r →
+    outcome_of v w.records (asked s.last) (128 ∷ bytes) ≡ outcome_by (stage_tree v.device s.stage) r
+path_means v s w t bytes r h now even fits apart is checked =
+    let o = waits s now in
+    let i : ℕ = stage_tree v.device s.stage in
+    let out = fetch_out v s h now even in
+    let e : Entry = asked s.last in
+    let stands : Stands v i (slice_index_or s.trees i no_tree) (w.records i) (w.content i) = holds_of v s w fits o.healthy i (tree_within v s h) in
+    let stored : IsStored (depth_of v.device i) (record_len v) t.root (w.records i) = rw is (subst (λ (k : ℕ). IsStored (depth_of v.device k) (record_len v) (slice_index_or s.trees i no_tree).root (w.records i)) stands.number stands.stored.stands) in
+    subst (λ (k : ℕ). outcome_of v w.records e (128 ∷ bytes) ≡ outcome_by k r) out.1
+    (fetched_is v w.records e (128 ∷ bytes) t.root r out.0 refl
+    (subst (λ (k : ℕ). e.leaf < 2 ^ depth_of v.device k) (sym out.1) out.2)
+    (subst (λ (k : ℕ). IsStored (depth_of v.device k) (record_len v) t.root (w.records k)) (sym out.1) stored)
+    apart
+    (subst (λ (k : ℕ). (r ≡ Err fault.Length) ↔ (¬ HasLength (path_of v.device k e.leaf v.overhead bytes))) (sym out.1) checked.short)
+    (subst (λ (k : ℕ). MatchResult r (λ _. IsPathOf (w.records k) (path_of v.device k e.leaf v.overhead bytes)) (IsFaultOf (w.records k) (path_of v.device k e.leaf v.overhead bytes)) ⊎ Collides (w.records k) (path_of v.device k e.leaf v.overhead bytes)) (sym out.1)
+    (checked.judged (w.records i) stored)))
+
+-- the check's own words
+pub checked_as : {A : Type 0} (v : Shape) (i leaf number l overhead : ℕ) (device : Sizes) (root bytes : List ℕ) (r : Result A HashFault) → device ≡ v.device → number ≡ i → l ≡ leaf → overhead ≡ v.overhead →
+    (let p = path_of device number l overhead bytes in (r ≡ Err fault.Length) ↔ (¬ HasLength p)) →
+    (let p = path_of device number l overhead bytes in
+    (records : ℕ → List ℕ) → IsStored p.depth p.record_len root records → MatchResult r (λ _. IsPathOf records p) (IsFaultOf records p) ⊎ Collides records p) →
+    IsChecked v i leaf root bytes r
+checked_as v i leaf number l overhead device root bytes r d n e o short judged =
+    let same : path_of device number l overhead bytes ≡ path_of v.device i leaf v.overhead bytes = cc in
+    record {
+      short = subst (λ (p : Path). (r ≡ Err fault.Length) ↔ (¬ HasLength p)) same short;
+      judged = subst (λ (p : Path). (records : ℕ → List ℕ) → IsStored p.depth p.record_len root records → MatchResult r (λ _. IsPathOf records p) (IsFaultOf records p) ⊎ Collides records p) same judged;
+    }
+
+whole_by : {A : Type 0} (p : Path) (a : A) (r : Result A HashFault) → r ≡ Ok a → (r ≡ Err fault.Length) ↔ (¬ HasLength p) → HasLength p
+whole_by p a r ok short = elim (cases_eq (length p.bytes) ((p.depth + 1) * p.record_len)) [
+  | inl whole ↦ whole
+  | inr other ↦ absurd (let no_way : Ok a ≡ Err fault.Length = sym ok ∙ short.1 other in cc)
+]
+
+told_ok : {A P C : Type 0} (Q : HashFault → Type 0) (r : Result A HashFault) (a : A) → r ≡ Ok a → MatchResult r (λ _. P) Q ⊎ C → P ⊎ C
+told_ok {A} {P} {C} Q r a ok h = subst (λ (o : Result A HashFault). MatchResult o (λ _. P) Q ⊎ C) ok h
+
+-- and a path that passes is the one that stands there
+pub path_stands : {A : Type 0} (v : Shape) (s : State) (w : World) (t : Tree) (bytes : List ℕ) (a : A) (r : Result A HashFault) → IsSound v s → status_in s ≡ Waiting → s.stage % 2 ≡ 0 → Fits v s w →
+    pair_in v w.records (asked s.last) (128 ∷ bytes) ≡ false → t ≡ slice_index_or s.trees (stage_tree v.device s.stage) no_tree → IsChecked v (stage_tree v.device s.stage) (asked s.last).leaf t.root bytes r → r ≡ Ok a →
+    IsPathOf (w.records (stage_tree v.device s.stage)) (path_of v.device (stage_tree v.device s.stage) (asked s.last).leaf v.overhead bytes)
+path_stands v s w t bytes a r h now even fits apart is checked ok =
+    let o = waits s now in
+    let i : ℕ = stage_tree v.device s.stage in
+    let out = fetch_out v s h now even in
+    let whole : HasLength (path_of v.device i (asked s.last).leaf v.overhead bytes) = whole_by (path_of v.device i (asked s.last).leaf v.overhead bytes) a r ok checked.short in
+    let e : Entry = asked s.last in
+    let stands : Stands v i (slice_index_or s.trees i no_tree) (w.records i) (w.content i) = holds_of v s w fits o.healthy i (tree_within v s h) in
+    let stored : IsStored (depth_of v.device i) (record_len v) t.root (w.records i) = rw is (subst (λ (k : ℕ). IsStored (depth_of v.device k) (record_len v) (slice_index_or s.trees i no_tree).root (w.records i)) stands.number stands.stored.stands) in
+    subst (λ (k : ℕ). IsPathOf (w.records k) (path_of v.device k e.leaf v.overhead bytes)) out.1
+    (path_told v w.records e bytes out.0 (subst (λ (k : ℕ). HasLength (path_of v.device k e.leaf v.overhead bytes)) (sym out.1) whole) apart
+    (subst (λ (k : ℕ). IsPathOf (w.records k) (path_of v.device k e.leaf v.overhead bytes) ⊎ Collides (w.records k) (path_of v.device k e.leaf v.overhead bytes)) (sym out.1) (told_ok _ r a ok (checked.judged (w.records i) stored))))
+
+-- the tree at work, as the code reads it
+pub record IsTreeAt (v : Shape) (s : State) (t : Tree) : Type 0 where
+  pub is : t ≡ slice_index_or s.trees (stage_tree v.device s.stage) no_tree
+  pub number : t.number ≡ stage_tree v.device s.stage
+  pub blocks : All (IsBlockOf v.device (stage_tree v.device s.stage)) t.stash
+
+pub tree_at : (v : Shape) (s : State) (t : Tree) (i tree : ℕ) → IsSound v s → i ≡ tree → tree ≡ stage_tree v.device s.stage → t ≡ slice_index_or s.trees i t → IsTreeAt v s t
+tree_at v s t i tree h from of read =
+    let n : ℕ = stage_tree v.device s.stage in
+    let same : i ≡ n = from ∙ of in
+    let within : n < trees_of v.device = tree_within v s h in
+    let inside : n < length s.trees = let count : length s.trees ≡ trees_of v.device = h.count in omega arith in
+    let is : t ≡ slice_index_or s.trees n no_tree = get_or_read s.trees n t inside (subst (λ (k : ℕ). t ≡ slice_index_or s.trees k t) same read) no_tree in
+    let kept : IsKept v.device n t = subst (IsKept v.device n) (sym is) (h.kept n within) in
+    record { is = is; number = kept.number; blocks = kept.blocks }
+
+-- the same path by its own bytes
+pub by_own_bytes : (d : Sizes) (i leaf overhead : ℕ) (bytes : List ℕ) (p : Path) → p ≡ path_of d i leaf overhead bytes → p ≡ path_of d i leaf overhead p.bytes
+by_own_bytes d i leaf overhead bytes p e = e ∙ ap (λ b. path_of d i leaf overhead b) (sym (ap (λ (q : Path). q.bytes) e))
+
+-- a refusal, by its code
+pub record IsRefused (bytes : List ℕ) (code : ℕ) : Type 0 where
+  pub is : bytes ≡ 129 ∷ code ∷ []
+  pub low : 1 ≤ code
+  pub high : code ≤ 8
+
+refused_two : (x y code : ℕ) (a b c : Bool) → (x == 129) ≡ a → (y == 0) ≡ b → nat_lt 8 y ≡ c → (if not a then None else if b then None else if c then None else Some y) ≡ Some code → IsRefused (x ∷ y ∷ []) code
+refused_two x y code false b c p q r e = absurd (let no_way : None ≡ Some code = e in cc)
+refused_two x y code true true c p q r e = absurd (let no_way : None ≡ Some code = e in cc)
+refused_two x y code true false true p q r e = absurd (let no_way : None ≡ Some code = e in cc)
+refused_two x y code true false false p q r e =
+    let first : x ≡ 129 = grind (arith, nat_tests) in
+    let second : y ≡ code = let some : Some y ≡ Some code = e in cc in
+    let low : 1 ≤ y = grind (arith, nat_tests) in
+    let high : y ≤ 8 = grind (arith, nat_tests) in
+    record { is = cc; low = omega arith; high = omega arith }
+
+both_true : (a b : Bool) → (a && b) ≡ true → (a ≡ true) × (b ≡ true)
+both_true true b e = (refl, e)
+both_true false b e = (e, absurd (let no_way : false ≡ true = e in cc))
+
+is_refused : (bytes : List ℕ) → is_refusal bytes ≡ true → refusal_in bytes ≡ Some (slice_index bytes 1)
+is_refused bytes told =
+    let three = both_true ((length bytes == 2) && (slice_index bytes 0 == 129) && nat_le 1 (slice_index bytes 1)) (nat_le (slice_index bytes 1) 7) told in
+    let two = both_true ((length bytes == 2) && (slice_index bytes 0 == 129)) (nat_le 1 (slice_index bytes 1)) three.0 in
+    let one = both_true (length bytes == 2) (slice_index bytes 0 == 129) two.0 in
+    let some : (slice_index bytes 1 == 0) ≡ false = grind (arith, nat_tests, two.1) in
+    let few : nat_lt 8 (slice_index bytes 1) ≡ false = grind (arith, nat_tests, three.1) in
+    rw (one.0, one.1, some, few) refl
+
+pub refused_so : (bytes : List ℕ) (code : ℕ) → refusal_in bytes ≡ Some code → IsRefused bytes code
+refused_so [] code e = absurd (let no_way : None ≡ Some code = e in cc)
+refused_so (x ∷ []) code e = absurd (let no_way : None ≡ Some code = e in cc)
+refused_so (x ∷ y ∷ []) code e = refused_two x y code (x == 129) (y == 0) (nat_lt 8 y) refl refl refl e
+refused_so (x ∷ y ∷ z ∷ more) code e =
+    let long : (length (x ∷ y ∷ z ∷ more) == 2) ≡ false = grind (arith, nat_tests) in
+    absurd (let no_way : None ≡ Some code = sym (ap (λ (b : Bool). if not b then None else if not (x == 129) then None else if y == 0 then None else if nat_lt 8 y then None else Some y) long) ∙ e in cc)
+
+-- nothing of the kind
+pub record IsNoRefusal (bytes : List ℕ) : Type 0 where
+  pub refusal : is_refusal bytes ≡ false
+  pub room : bytes ≢ 129 ∷ 8 ∷ []
+
+pub not_refused : (bytes : List ℕ) → refusal_in bytes ≡ None → IsNoRefusal bytes
+not_refused bytes none = record {
+  refusal = elim (is_refusal bytes) as (λ b. is_refusal bytes ≡ b → b ≡ false) [ true ↦ λ told. absurd (let no_way : Some (slice_index bytes 1) ≡ None = sym (is_refused bytes told) ∙ none in cc) | false ↦ λ told. refl ] refl;
+  room = λ is. absurd (let no_way : Some 8 ≡ None = sym (ap refusal_in is) ∙ none in cc);
+}
+
+store_out : (v : Shape) (s : State) → IsSound v s → status_in s ≡ Waiting → s.stage % 2 ≡ 1 → (asked s.last).fetch ≡ false
+store_out v s h now odd =
+    let o = waits s now in
+    let work : IsAtWork v s o.oldest = subst (AtWork v s) o.queue h.work in
+    ap (λ (x : Entry). x.fetch) (work.store odd)
+
+nothing : (bytes : List ℕ) → length bytes ≡ 0 → bytes ≡ []
+nothing [] none = refl
+nothing (x ∷ bytes) none = absurd (omega arith)
+
+-- byte 80 alone answers a store,
+pub stored_means : (v : Shape) (s : State) (w : World) (records : List ℕ) → IsSound v s → status_in s ≡ Waiting → s.stage % 2 ≡ 1 → length records ≡ 0 → outcome_of v w.records (asked s.last) (128 ∷ records) ≡ Good
+stored_means v s w records h now odd none = stored_is v w.records (asked s.last) (128 ∷ records) (store_out v s h now odd) (ap (λ r. 128 ∷ r) (nothing records none))
+
+-- more than that doesn't,
+pub longer_means : (v : Shape) (s : State) (w : World) (records : List ℕ) → IsSound v s → status_in s ≡ Waiting → s.stage % 2 ≡ 1 → 0 < length records → outcome_of v w.records (asked s.last) (128 ∷ records) ≡ Fails Malformed
+longer_means v s w records h now odd some = malformed_store v w.records (asked s.last) (128 ∷ records) (store_out v s h now odd) refl (λ same. absurd (omega (arith, ap length same)))
+
+-- and nothing else begins a good answer
+pub other_means : (v : Shape) (s : State) (w : World) (bytes : List ℕ) → refusal_in bytes ≡ None → slice_index bytes 0 ≢ 128 → outcome_of v w.records (asked s.last) bytes ≡ Fails Malformed
+other_means v s w bytes none first = malformed_is v w.records (asked s.last) bytes first (not_refused bytes none).room (not_refused bytes none).refusal
+
+pub empty_means : (v : Shape) (s : State) (w : World) (bytes : List ℕ) → refusal_in bytes ≡ None → length bytes ≡ 0 → outcome_of v w.records (asked s.last) bytes ≡ Fails Malformed
+empty_means v s w bytes none empty = other_means v s w bytes none (λ first. absurd (let zero : slice_index bytes 0 ≡ 0 = ap (λ xs. slice_index xs 0) (nothing bytes empty) in omega arith))
+
+-- byte 80 and the bytes after it
+pub payload_means : (v : Shape) (s : State) (bytes xs : List ℕ) (r : Verdict) → ((w : World) → Fits v s w → pair_in v w.records (asked s.last) (128 ∷ xs) ≡ false → Means v s w (128 ∷ xs) r) → xs ≡ drop 1 bytes → slice_index bytes 0 ≡ 128 →
+    (w : World) → Fits v s w → pair_in v w.records (asked s.last) bytes ≡ false → Means v s w bytes r
+payload_means v s [] xs r told is first = absurd (omega arith)
+payload_means v s (x ∷ bytes) xs r told is first =
+    let whole : 128 ∷ xs ≡ x ∷ bytes = cc in
+    λ w fits apart. subst (λ (ys : List ℕ). pair_in v w.records (asked s.last) ys ≡ false → Means v s w ys r) whole (told w fits) apart

@@ -1,0 +1,169 @@
+-- What the steps of a core do that ask nothing of the trees.
+use Rattle.std.specs.Prelude.{ℕ, ◌+◌, ◌-◌, ◌^◌, ◌==◌, ◌&&◌, ◌||◌, not, Bool, true, false, if◌then◌else◌, List, [], ◌∷◌, ◌++◌, length, slice_index, slice_set, Option, Some, None, map, nat_lt}
+use Rattle.std.specs.Str.{bytes_eq}
+use Rattle.oram_geometry.specs.Sizes.{trees_of, depth_of}
+use Rattle.oram_trace.specs.declared.asked.Entry.{Entry}
+use Rattle.oram_wire.specs.HostMessages.{fetch_body, store_body}
+use Rattle.oram_run.specs.Events.{failed_reply}
+use Rattle.oram_run.specs.Shape.{Shape}
+use Rattle.oram_run.specs.Content.{block_of, new_leaf, stage_tree}
+use Rattle.oram_run.specs.Messages.{asked}
+use Rattle.oram_run.specs.Moves.{fetch_at, latest}
+use Rattle.oram_run.specs.Blocks.{body_from, next_named, kept_of}
+use Rattle.oram_run.specs.Progress.{Status}
+use Rattle.oram_run.specs.Progress.Status.{Idle, Waiting, Stalling, Over}
+use Rattle.oram_run.specs.Run.{refusal_of, is_over}
+use Rattle.oram_run.specs.State.{State, named_now, status_in}
+use Rattle.oram_run.specs.declared.events.Event.{Event}
+use Rattle.oram_run.specs.declared.events.Event.TheVariants.{Submit, Answer, Lost, Retry}
+use Rattle.oram_run.specs.declared.events.Note.{Note}
+use Rattle.oram_run.specs.declared.events.Note.TheVariants.{Accepted, Refused, Taken, Stalled, FailedNow, Resent, Unexpected}
+use Rattle.oram_run.specs.declared.events.Reason.{Reason}
+use Rattle.oram_run.specs.declared.events.Refusal.{Refusal}
+use Rattle.oram_run.specs.declared.events.Reply.{Reply}
+use Rattle.oram_run.specs.declared.events.Reaction.{Reaction}
+use Rattle.oram_run.specs.declared.events.Submission.{Submission}
+
+-- what a core shows, and what it is afterwards
+pub record Done : Type 0 where
+  pub note : Note
+  pub replies : List Reply
+  pub sends : List (List ℕ)
+  pub state : State
+
+abbrev pub done : Reaction → State → Done
+done r s = record { note = r.note; replies = r.replies.items; sends = r.sends.items; state = s }
+
+-- nothing is shown but the note
+abbrev pub noted : State → Note → Done
+noted s note = record { note = note; replies = []; sends = []; state = s }
+
+-- the FETCH of an entry
+abbrev pub fetch_of : Entry → List ℕ
+fetch_of e = fetch_body e.tree e.leaf
+
+-- the first FETCH of a command
+abbrev pub first_message : Shape → State → Submission → List ℕ
+first_message v s x = fetch_of (fetch_at v.device 0 (slice_index s.table (block_of v.device (trees_of v.device - 1) x)) x)
+
+abbrev pub first_messages : Shape → State → List Submission → List (List ℕ)
+first_messages v s [] = []
+first_messages v s (x ∷ rest) = first_message v s x ∷ []
+
+abbrev pub sent_if_idle : List Submission → List ℕ → List (List ℕ)
+sent_if_idle [] m = m ∷ []
+sent_if_idle (x ∷ rest) m = []
+
+abbrev pub accepted_by : Shape → State → Submission → Done
+accepted_by v s x =
+    let sends = sent_if_idle s.queue (first_message v s x) in
+    record { note = Accepted x.ticket; replies = []; sends = sends; state = record s { next = s.next + 1; queue = s.queue ++ x ∷ []; last = latest sends s.last } }
+
+abbrev pub stalled_by : State → Done
+stalled_by s = noted (record s { lost = true }) Stalled
+
+abbrev pub resent_by : State → Done
+resent_by s = record { note = Resent; replies = []; sends = s.last ∷ []; state = record s { lost = false } }
+
+abbrev pub failed_by : State → Reason → Done
+failed_by s e = record { note = FailedNow e; replies = map failed_reply s.queue; sends = []; state = record s { queue = []; failure = Some e } }
+
+-- the next tree's path is fetched
+abbrev pub fetched_by : Shape → State → Submission → Done
+fetched_by v s x =
+    let m = fetch_of (fetch_at v.device (s.stage + 1) s.named x) in
+    record { note = Taken; replies = []; sends = m ∷ []; state = record s { stage = s.stage + 1; last = m } }
+
+-- the oldest command has its reply
+abbrev pub finished_by : Shape → State → Submission → List Submission → Done
+finished_by v s x rest =
+    let sends = first_messages v s rest in
+    record {
+      note = Taken;
+      replies = (record { session = x.session; ticket = x.ticket; body = body_from s.before x.command }) ∷ [];
+      sends = sends;
+      state = record s { queue = rest; stage = 0; named = 0; before = []; last = latest sends s.last };
+    }
+
+-- a path is stored, in a tree that holds the access already
+abbrev pub stored_by : Shape → State → Submission → List ℕ → List ℕ → Done
+stored_by v s x before records =
+    let d = v.device in
+    let i = stage_tree d s.stage in
+    let m = store_body i (asked s.last).leaf records in
+    record {
+      note = Taken;
+      replies = [];
+      sends = m ∷ [];
+      state = record s {
+        table = if s.stage == 0 then slice_set s.table (block_of d i x) (new_leaf d i x + 1) else s.table;
+        nonce = s.nonce + (depth_of d i + 1);
+        stage = s.stage + 1;
+        named = next_named d i x before;
+        before = kept_of i before;
+        last = m;
+      };
+    }
+
+abbrev pub is_idle : Status → Bool
+is_idle Idle = true
+is_idle Waiting = false
+is_idle Stalling = false
+is_idle Over = false
+
+abbrev pub is_stalled : Status → Bool
+is_stalled Stalling = true
+is_stalled Idle = false
+is_stalled Waiting = false
+is_stalled Over = false
+
+-- the path's map led astray: it names a block that isn't found, or names below what is no leaf there
+abbrev pub is_misled : Shape → State → Submission → Bool → List ℕ → Bool
+is_misled v s x found before =
+    let i = stage_tree v.device s.stage in
+    (not (named_now v s x == 0) && not found) || (nat_lt 0 i && nat_lt (2 ^ depth_of v.device (i - 1)) (next_named v.device i x before))
+
+-- a submission is refused, or joins the queue
+abbrev pub submitted_by : Shape → State → Submission → Option Refusal → Done
+submitted_by v s x (Some e) = noted s (Refused e)
+submitted_by v s x None = accepted_by v s x
+
+-- the outstanding message is lost
+abbrev pub lost_by : State → Status → Done
+lost_by s Waiting = stalled_by s
+lost_by s Idle = noted s Unexpected
+lost_by s Stalling = noted s Unexpected
+lost_by s Over = noted s Unexpected
+
+-- the message that was lost is to be sent again
+abbrev pub retried_by : State → Status → Done
+retried_by s Stalling = resent_by s
+retried_by s Idle = noted s Unexpected
+retried_by s Waiting = noted s Unexpected
+retried_by s Over = noted s Unexpected
+
+-- an answer that nobody waits for, or that the host has no room
+abbrev pub unheard_by : State → Bool → Status → Option Done
+unheard_by s no_room Waiting = if no_room then Some (stalled_by s) else None
+unheard_by s no_room Idle = Some (noted s Unexpected)
+unheard_by s no_room Stalling = Some (noted s Unexpected)
+unheard_by s no_room Over = Some (noted s Unexpected)
+
+-- What a core does at an event whatever stands at the host: at any but an answer that it waits for, unless that is the refusal
+-- for want of room.
+abbrev pub plain_step : Shape → State → Event → Option Done
+plain_step v s (Submit session c words) =
+    Some (submitted_by v s (record { session = session; ticket = s.next; command = c; words = words }) (refusal_of v.device (is_over (status_in s)) (length s.queue) s.next c words))
+plain_step v s (Answer bytes) = unheard_by s (bytes_eq bytes (129 ∷ 8 ∷ [])) (status_in s)
+plain_step v s Lost = Some (lost_by s (status_in s))
+plain_step v s Retry = Some (retried_by s (status_in s))
+
+-- whether a step with this note takes no memory: it refuses, is not expected, or stalls
+abbrev pub is_free_note : Note → Bool
+is_free_note (Accepted t) = false
+is_free_note (Refused e) = true
+is_free_note Taken = false
+is_free_note Stalled = true
+is_free_note (FailedNow e) = false
+is_free_note Resent = false
+is_free_note Unexpected = true

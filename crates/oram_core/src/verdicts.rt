@@ -1,0 +1,106 @@
+//! What an answer to the outstanding message is.
+ghost use Rattle.std.specs.Prelude.{◌≡◌, ◌≢◌, ◌↔◌, ◌%◌, ℕ, false, List, [], ◌∷◌};
+ghost use Rattle.oram_run.specs.Answers.{outcome_of, pair_in};
+ghost use Rattle.oram_run.specs.Messages.{asked};
+ghost use Rattle.oram_run.specs.Moves.{Fits};
+ghost use Rattle.oram_run.specs.Progress.Status.{Waiting};
+ghost use Rattle.oram_run.specs.State.{World, status_in};
+ghost use Rattle.oram_core.specs.Core.{CoreValue, shape_of};
+ghost use Rattle.oram_core.specs.Verdicts.{Means, Fitting, refusal_in};
+
+use crate::machine::Core;
+use crate::messages::leaf_named;
+use oram_bucket::Sealer;
+use oram_hash::{HashFault, PathView};
+use oram_run::Reason;
+/// What an answer to the outstanding message is.
+pub(crate) enum Verdict<'a> {
+    /// The records that were last stored on the path that was asked for.
+    Path(PathView<'a>),
+    /// The path was stored.
+    Stored,
+    /// The host has no room; the message counts as lost.
+    NoRoom,
+    /// No good answer, and why.
+    Bad(Reason),
+}
+
+/// The code from 1 to 8 by which a host refuses, if it does.
+fn refusal_in(bytes: &[u8]) -> Option<u8>
+    ensures { result ≡ refusal_in bytes.now }
+{
+    if bytes.len() != 2 {
+        return None;
+    }
+    if bytes[0] != 0x81 {
+        return None;
+    }
+    if bytes[1] == 0 {
+        return None;
+    }
+    if bytes[1] > 8 {
+        return None;
+    }
+    Some(bytes[1])
+}
+
+impl<S: Sealer> Core<S> {
+    /// What an answer to the outstanding message is.
+    pub(crate) fn verdict<'a>(&self, bytes: &'a [u8]) -> Verdict<'a>
+        requires { status_in self.now.state ≡ Waiting }
+        ensures means { (w : World) → Fits (shape_of S.overhead S.sealing S.opening self.now) self.now.state w → pair_in (shape_of S.overhead S.sealing S.opening self.now) w.records (asked self.now.state.last) bytes.now ≡ false
+            → Means (shape_of S.overhead S.sealing S.opening self.now) self.now.state w bytes.now result }
+        ensures fitting { Fitting (shape_of S.overhead S.sealing S.opening self.now) self.now.state result }
+        ensures no_room { (result ≡ Verdict.NoRoom) ↔ (bytes.now ≡ 129 ∷ 8 ∷ []) }
+    {
+        if let Some(code) = refusal_in(bytes) {
+            return match code {
+                8 => Verdict::NoRoom,
+                code => Verdict::Bad(Reason::HostRefused(code)),
+            };
+        }
+        if bytes.is_empty() {
+            return Verdict::Bad(Reason::Malformed);
+        }
+        if bytes[0] != 0x80 {
+            return Verdict::Bad(Reason::Malformed);
+        }
+        self.payload_verdict(&bytes[1..])
+    }
+
+    /// What byte 80 and these bytes after it are.
+    fn payload_verdict<'a>(&self, records: &'a [u8]) -> Verdict<'a>
+        requires { status_in self.now.state ≡ Waiting }
+        ensures means { (w : World) → Fits (shape_of S.overhead S.sealing S.opening self.now) self.now.state w → pair_in (shape_of S.overhead S.sealing S.opening self.now) w.records (asked self.now.state.last) (128 ∷ records.now) ≡ false
+            → Means (shape_of S.overhead S.sealing S.opening self.now) self.now.state w (128 ∷ records.now) result }
+        ensures fitting { Fitting (shape_of S.overhead S.sealing S.opening self.now) self.now.state result }
+        ensures room { result ≢ Verdict.NoRoom }
+    {
+        if self.stage % 2 == 0 {
+            return self.path_verdict(records);
+        }
+        if records.is_empty() {
+            return Verdict::Stored;
+        }
+        Verdict::Bad(Reason::Malformed)
+    }
+
+    /// What the records are that answer a fetch.
+    fn path_verdict<'a>(&self, records: &'a [u8]) -> Verdict<'a>
+        requires waiting { status_in self.now.state ≡ Waiting }
+        requires stage { self.now.state.stage % 2 ≡ 0 }
+        ensures means { (w : World) → Fits (shape_of S.overhead S.sealing S.opening self.now) self.now.state w → pair_in (shape_of S.overhead S.sealing S.opening self.now) w.records (asked self.now.state.last) (128 ∷ records.now) ≡ false
+            → Means (shape_of S.overhead S.sealing S.opening self.now) self.now.state w (128 ∷ records.now) result }
+        ensures fitting { Fitting (shape_of S.overhead S.sealing S.opening self.now) self.now.state result }
+        ensures room { result ≢ Verdict.NoRoom }
+    {
+        let tree = self.tree_at_work();
+        let leaf = leaf_named(self.last.as_slice());
+        let overhead = self.sealer.overhead();
+        match self.trees[usize::from(tree)].check(&self.device, leaf, overhead, records) {
+            Ok(path) => Verdict::Path(path),
+            Err(HashFault::Length) => Verdict::Bad(Reason::Malformed),
+            Err(HashFault::Tampered(level)) => Verdict::Bad(Reason::Tampered(tree, level)),
+        }
+    }
+}

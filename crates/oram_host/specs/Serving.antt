@@ -1,0 +1,24 @@
+-- What a bucket host does with whatever it is sent.
+use Rattle.std.specs.Prelude.{◌≡◌, ℕ, ◌==◌, false, if◌then◌else◌, List, Option, Some, None}
+use Rattle.oram_wire.specs.HostMessages.{request_body}
+use Rattle.oram_wire.specs.HostReading.{HasNumbers, IsMisfit, names_request}
+use Rattle.oram_wire.specs.declared.host_messages.HostAnswer.{HostAnswer}
+use Rattle.oram_wire.specs.declared.host_messages.HostAnswer.TheVariants.{Done, Payload, Refused}
+use Rattle.oram_wire.specs.declared.host_messages.HostRequest.{HostRequest}
+use Rattle.oram_wire.specs.declared.sinks.SinkFault.{SinkFault}
+use Rattle.oram_wire.specs.declared.sinks.SinkFault.TheVariants as fault
+use Rattle.oram_host.specs.Answers.{Answers}
+use Rattle.oram_host.specs.Host.{Host}
+
+-- The host is sent a body, answers it so, and is this afterwards: a request's body as requests are answered, and any other is
+-- refused and changes nothing.
+pub record Serves (host : Host) (body : List ℕ) (answer : HostAnswer) (after : Host) : Type 0 where
+  pub request : (message : HostRequest) → HasNumbers message → body ≡ request_body message → Answers host message answer after
+  pub op : names_request body ≡ false → (answer ≡ Refused 7) × (after ≡ host)
+  pub misfit : IsMisfit body → (answer ≡ Refused 4) × (after ≡ host)
+
+-- what an answer is to whoever formats the host
+abbrev pub fault_by : HostAnswer → Option SinkFault
+fault_by Done = None
+fault_by (Payload bytes) = Some fault.Refused
+fault_by (Refused code) = if code == 8 then Some fault.OutOfMemory else Some fault.Refused

@@ -1,0 +1,41 @@
+-- A device just formatted.
+use Rattle.std.proofs.Common.{◌≡◌, ◌<◌, ◌*◌, [], None, refl, sym, ap, subst, arith}
+use Rattle.oram_geometry.specs.declared.Sizes.{Sizes}
+use Rattle.oram_geometry.specs.Sizes.{IsDevice, trees_of}
+use Rattle.oram_host.specs.Host.{Host}
+use Rattle.oram_tree.specs.declared.faults.FormatFault.{FormatFault}
+use Rattle.oram_tree.specs.declared.faults.FormatFault.TheVariants as formatting
+use Rattle.oram_run.specs.Formatting.{IsFormatBegun}
+use Rattle.oram_tree.specs.Format.{IsBrokenOff, PutsAll}
+use Rattle.oram_run.specs.Progress.{Setting}
+use Rattle.oram_run.specs.State.{State}
+use Rattle.oram_run.proofs.Bounds.{some_trees}
+use Rattle.oram_core.specs.Formatting as core
+use Rattle.oramsim.specs.Hosting.{Refusing, Takes}
+use Rattle.oramsim.specs.Script.{IsNew, Running, plain_shape}
+use Rattle.oramsim.specs.Standing.{IsFaithful, IsWhole, Stands}
+use Rattle.oramsim.specs.declared.machine.Machine.{Machine}
+use Rattle.oramsim.proofs.HostedFormat.{broken_off_for_room, formatted_served}
+
+some_stages : (d : Sizes) → 0 < 2 * trees_of d
+some_stages d = let some : 0 < trees_of d = some_trees d in omega (arith, some)
+
+pub new_whole : (d : Sizes) (s : State) (from to : Host) → core.IsNew (plain_shape d) Takes from s to → IsWhole d s None
+new_whole d s from to k = rw k.state (record { waits = refl; latest = tt; rests = λ none empty. refl; stage = λ none. some_stages d })
+
+pub new_run : (d : Sizes) (m : Machine) (from : Host) → IsDevice d → m.core.device ≡ d → from ≡ [] → core.IsNew (plain_shape d) Takes from m.core.state m.server → m.outstanding ≡ None → m.snapshot ≡ None
+    → (r : Running) × IsNew d r × Stands r m × IsFaithful r
+new_run d m from is device empty k out copy =
+    let v : Setting = record { shape = plain_shape d; format = k.format } in
+    let r : Running = record { setting = v; turns = []; message = None; host = m.server; copy = None } in
+    let puts = subst (λ (h : Host). PutsAll Takes h k.format m.server) empty k.puts in (
+      r,
+      record { shape = refl; trees = k.trees; formatted = k.formatted; taken = puts; turns = refl; message = refl; copy = refl },
+      record { ranges = rw device is; shape = ap plain_shape (sym device); leads = (k.trees, k.formatted, sym k.state); message = out; host = refl; copy = copy },
+      record { apart = tt; calm = tt; served = formatted_served v k.trees m.server is (omega arith) k.formatted puts },
+    )
+
+-- a formatting of a host that keeps nothing is broken off for want of memory alone
+pub room_alone : (d : Sizes) (from to : Host) (fault : FormatFault) → IsDevice d → from ≡ [] → IsBrokenOff Takes Refusing (IsFormatBegun (plain_shape d)) from fault to → fault ≡ formatting.OutOfMemory
+room_alone d from to fault is empty broken =
+    broken_off_for_room (plain_shape d) fault to is (omega arith) (subst (λ (h : Host). IsBrokenOff Takes Refusing (IsFormatBegun (plain_shape d)) h fault to) empty broken)

@@ -1,0 +1,13 @@
+use Rattle.oramsim.proofs.Answering.{answer_lost, heard_stands, IsHeard}
+use Rattle.oramsim.proofs.Turning.{on_ok}
+use Rattle.oramsim.proofs.machine.Machine.lose_answer.Goals as goal
+
+pub returns-clause-whole : goal.returns-clause-whole
+returns-clause-whole g c = c.tell.ensures.whole
+
+pub returns-clause-ok : goal.returns-clause-ok
+returns-clause-ok g c = λ r f.
+    let m = c.args.self.now in
+    let n = c.answer_of_host.new.self in
+    let h : IsHeard m n c.in_ok-_unheard._unheard = record { replies = c.in_ok-_unheard.ensures.bytes; core = c.answer_of_host.ensures.core; outstanding = c.answer_of_host.ensures.outstanding; snapshot = c.answer_of_host.ensures.snapshot } in
+    on_ok _ _ c.tell.result (λ q. answer_lost r m n c.tell.new.self c.in_ok-_unheard._unheard _ _ c.requires f h q) (c.tell.ensures.ok _ (heard_stands r m n c.in_ok-_unheard._unheard f h))
