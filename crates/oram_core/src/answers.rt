@@ -180,8 +180,10 @@ impl<S: Sealer> Core<S> {
         ensures kept { IsSameDevice self.old self.new }
         ensures moves { let v = shape_of S.overhead S.sealing S.opening self.old in let s = self.old.state in
             (w : World) → Fits v s w → pair_in v w.records (asked s.last) bytes.now ≡ false
-            → IfOk result (λ r. MovesTo v s w (on_answer v s w Waiting (outcome_of v w.records (asked s.last) bytes.now)) (shown r) self.new.state) }
-        ensures heard { bytes.now ≢ 129 ∷ 8 ∷ [] → IfOk result (λ r. Heard (shape_of S.overhead S.sealing S.opening self.old) self.old.state (done r self.new.state)) }
+            → IfOk result (λ r. let outcome = outcome_of v w.records (asked s.last) bytes.now in
+            MovesTo v s w (on_answer v s w Waiting outcome) (shown r) self.new.state) }
+        ensures heard { let v = shape_of S.overhead S.sealing S.opening self.old in
+            bytes.now ≢ 129 ∷ 8 ∷ [] → IfOk result (λ r. Heard v self.old.state (done r self.new.state)) }
         ensures no_room { bytes.now ≡ 129 ∷ 8 ∷ [] → IfOk result (λ r. done r self.new.state ≡ stalled_by self.old.state) }
         ensures free { bytes.now ≡ 129 ∷ 8 ∷ [] → IsOk result }
         ensures err { OnErr result (self.new ≡ self.old) }
@@ -238,7 +240,8 @@ impl<S: Sealer> Core<S> {
     fn store(&mut self, alloc: Global, path: &PathView<'_>) -> Result<Reaction, AllocError>
         requires waiting { status_in self.old.state ≡ Waiting }
         requires stage { self.old.state.stage % 2 ≡ 0 }
-        requires path { path.now ≡ path_of self.old.device (stage_tree self.old.device self.old.state.stage) (asked self.old.state.last).leaf (shape_of S.overhead S.sealing S.opening self.old).overhead path.now.bytes }
+        requires path { let v = shape_of S.overhead S.sealing S.opening self.old in let s = self.old.state in
+            path.now ≡ path_of v.device (stage_tree v.device s.stage) (asked s.last).leaf v.overhead path.now.bytes }
         ensures kept { IsSameDevice self.old self.new }
         ensures moves { let v = shape_of S.overhead S.sealing S.opening self.old in let s = self.old.state in
             (w : World) → Fits v s w → IsPathOf (w.records (stage_tree v.device s.stage)) path.now
@@ -350,7 +353,8 @@ impl<S: Sealer> Core<S> {
         requires stage { self.old.state.stage % 2 ≡ 0 }
         requires tree { errand.tree ≡ stage_tree self.old.device self.old.state.stage }
         requires whole { length before.items ≡ self.old.device.block_bytes }
-        requires sending { (records : List ℕ) × (sending.kept ≡ store_body errand.tree (asked self.old.state.last).leaf records) × (sending.sends.items ≡ sending.kept ∷ []) }
+        requires sending { (records : List ℕ) × (sending.kept ≡ store_body errand.tree (asked self.old.state.last).leaf records)
+            × (sending.sends.items ≡ sending.kept ∷ []) }
         requires oldest { (x : Submission) (rest : List Submission) → self.old.state.queue ≡ x ∷ rest
             → (errand.block ≡ block_of self.old.device errand.tree x) × (errand.new_leaf ≡ new_leaf self.old.device errand.tree x)
             × (named ≡ next_named self.old.device errand.tree x before.items) }
@@ -392,7 +396,9 @@ impl<S: Sealer> Core<S> {
         requires waiting { status_in self.old.state ≡ Waiting }
         requires stage { self.old.state.stage % 2 ≡ 1 }
         ensures kept { IsSameDevice self.old self.new }
-        ensures moves { (w : World) → Fits (shape_of S.overhead S.sealing S.opening self.old) self.old.state w → IfOk result (λ r. MovesTo (shape_of S.overhead S.sealing S.opening self.old) self.old.state w (on_answer (shape_of S.overhead S.sealing S.opening self.old) self.old.state w Waiting Good) (shown r) self.new.state) }
+        ensures moves { let v = shape_of S.overhead S.sealing S.opening self.old in let s = self.old.state in
+            (w : World) → Fits v s w
+            → IfOk result (λ r. MovesTo v s w (on_answer v s w Waiting Good) (shown r) self.new.state) }
         ensures heard { IfOk result (λ r. Heard (shape_of S.overhead S.sealing S.opening self.old) self.old.state (done r self.new.state)) }
         ensures err { OnErr result (self.new ≡ self.old) }
     {
@@ -462,7 +468,9 @@ impl<S: Sealer> Core<S> {
     ) -> Result<Reaction, AllocError>
         requires waiting { status_in self.old.state ≡ Waiting }
         requires last { self.old.state.stage + 1 ≡ 2 * trees_of self.old.device }
-        requires next { (x y : Submission) (rest : List Submission) → self.old.state.queue ≡ x ∷ y ∷ rest → sending.kept ≡ first_message (shape_of S.overhead S.sealing S.opening self.old) self.old.state y }
+        requires next { let v = shape_of S.overhead S.sealing S.opening self.old in
+            (x y : Submission) (rest : List Submission) → self.old.state.queue ≡ x ∷ y ∷ rest
+            → sending.kept ≡ first_message v self.old.state y }
         requires sends { sending.sends.items ≡ sending.kept ∷ [] }
         requires more { 1 < length self.old.state.queue }
         ensures kept { IsSameDevice self.old self.new }

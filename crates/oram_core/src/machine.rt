@@ -60,12 +60,36 @@ impl<S: Sealer> Model for Core<S> {
     ghost view = { λ c. record {
       device = c.device;
       sealer = c.sealer;
-      state = record { table = c.table.items; trees = c.trees.items; next = c.next; nonce = c.nonce; queue = c.queue.items; stage = c.stage; named = c.named; before = c.before; last = c.last; lost = c.lost; failure = c.failure };
+      state = record {
+        table = c.table.items;
+        trees = c.trees.items;
+        next = c.next;
+        nonce = c.nonce;
+        queue = c.queue.items;
+        stage = c.stage;
+        named = c.named;
+        before = c.before;
+        last = c.last;
+        lost = c.lost;
+        failure = c.failure;
+      };
     } };
 
     ghost invariant = { λ c. IsSound
         (record { device = c.device; overhead = S.overhead c.sealer; sealing = S.sealing c.sealer; opening = S.opening c.sealer })
-        (record { table = c.table.items; trees = c.trees.items; next = c.next; nonce = c.nonce; queue = c.queue.items; stage = c.stage; named = c.named; before = c.before; last = c.last; lost = c.lost; failure = c.failure }) };
+        (record {
+          table = c.table.items;
+          trees = c.trees.items;
+          next = c.next;
+          nonce = c.nonce;
+          queue = c.queue.items;
+          stage = c.stage;
+          named = c.named;
+          before = c.before;
+          last = c.last;
+          lost = c.lost;
+          failure = c.failure;
+        }) };
 }
 
 impl<S: Sealer> Core<S> {
@@ -129,8 +153,10 @@ impl<S: Sealer> Core<S> {
     /// Makes one step. Without memory the core stays as it was, and the step may be made again.
     pub fn step(&mut self, alloc: Global, event: &Event) -> Result<Reaction, AllocError>
         ensures kept { IsSameDevice self.old self.new }
-        ensures promise { IfOk result (λ r. Steps (shape_of S.overhead S.sealing S.opening self.old) self.old.state event.now (shown r) self.new.state) }
-        ensures free { (d : Done) → plain_step (shape_of S.overhead S.sealing S.opening self.old) self.old.state event.now ≡ Some d → is_free_note d.note ≡ true → IsOk result }
+        ensures promise { let v = shape_of S.overhead S.sealing S.opening self.old in
+            IfOk result (λ r. Steps v self.old.state event.now (shown r) self.new.state) }
+        ensures free { let v = shape_of S.overhead S.sealing S.opening self.old in
+            (d : Done) → plain_step v self.old.state event.now ≡ Some d → is_free_note d.note ≡ true → IsOk result }
         ensures err { OnErr result (self.new ≡ self.old) }
     {
         match event {
@@ -153,7 +179,8 @@ impl<S: Sealer> Core<S> {
 
     /// The first refusal that applies.
     fn refusal(&self, command: &Command, words: &Words) -> Option<Refusal>
-        ensures { result ≡ refusal_of self.now.device (is_over (status_in self.now.state)) (length self.now.state.queue) self.now.state.next command.now words.now }
+        ensures { let s = self.now.state in
+            result ≡ refusal_of self.now.device (is_over (status_in s)) (length s.queue) s.next command.now words.now }
     {
         if self.failure.is_some() {
             return Some(Refusal::Failed);
@@ -186,9 +213,12 @@ impl<S: Sealer> Core<S> {
         command: &Command,
         words: &Words,
     ) -> Result<Reaction, AllocError>
-        requires { refusal_of self.old.device (is_over (status_in self.old.state)) (length self.old.state.queue) self.old.state.next command.now words.now ≡ None }
+        requires { let s = self.old.state in
+            refusal_of self.old.device (is_over (status_in s)) (length s.queue) s.next command.now words.now ≡ None }
         ensures kept { IsSameDevice self.old self.new }
-        ensures ok { IfOk result (λ r. done r self.new.state ≡ accepted_by (shape_of S.overhead S.sealing S.opening self.old) self.old.state (record { session = session; ticket = self.old.state.next; command = command.now; words = words.now })) }
+        ensures ok { let v = shape_of S.overhead S.sealing S.opening self.old in let s = self.old.state in
+            IfOk result (λ r. done r self.new.state
+            ≡ accepted_by v s (record { session = session; ticket = s.next; command = command.now; words = words.now })) }
         ensures err { OnErr result (self.new ≡ self.old) }
     {
         let submission = Submission {
@@ -212,7 +242,12 @@ impl<S: Sealer> Core<S> {
         requires lifetime { self.old.state.next < self.old.device.lifetime }
         ensures kept { IsSameDevice self.old self.new }
         ensures ok { let s = self.old.state in let m = first_message (shape_of S.overhead S.sealing S.opening self.old) s submission in
-            IfOk result (λ r. done r self.new.state ≡ record { note = note.Accepted s.next; replies = []; sends = m ∷ []; state = record s { next = s.next + 1; queue = s.queue ++ submission ∷ []; last = m } }) }
+            IfOk result (λ r. done r self.new.state ≡ record {
+              note = note.Accepted s.next;
+              replies = [];
+              sends = m ∷ [];
+              state = record s { next = s.next + 1; queue = s.queue ++ submission ∷ []; last = m };
+            }) }
         ensures err { OnErr result (self.new ≡ self.old) }
     {
         let ticket = self.next;
@@ -235,7 +270,12 @@ impl<S: Sealer> Core<S> {
         requires lifetime { self.old.state.next < self.old.device.lifetime }
         ensures kept { IsSameDevice self.old self.new }
         ensures ok { let s = self.old.state in
-            IfOk result (λ r. done r self.new.state ≡ record { note = note.Accepted s.next; replies = []; sends = []; state = record s { next = s.next + 1; queue = s.queue ++ submission ∷ [] } }) }
+            IfOk result (λ r. done r self.new.state ≡ record {
+              note = note.Accepted s.next;
+              replies = [];
+              sends = [];
+              state = record s { next = s.next + 1; queue = s.queue ++ submission ∷ [] };
+            }) }
         ensures err { OnErr result (self.new ≡ self.old) }
     {
         let ticket = self.next;
@@ -271,8 +311,10 @@ impl<S: Sealer> Core<S> {
         submission: &Submission,
     ) -> Result<Sending, AllocError>
         requires { IsAllowed self.now.device submission.now }
-        ensures kept { IfOk result (λ s. s.kept ≡ first_message (shape_of S.overhead S.sealing S.opening self.now) self.now.state submission.now) }
-        ensures sends { IfOk result (λ s. s.sends.items ≡ first_message (shape_of S.overhead S.sealing S.opening self.now) self.now.state submission.now ∷ []) }
+        ensures kept { let v = shape_of S.overhead S.sealing S.opening self.now in
+            IfOk result (λ s. s.kept ≡ first_message v self.now.state submission.now) }
+        ensures sends { let v = shape_of S.overhead S.sealing S.opening self.now in
+            IfOk result (λ s. s.sends.items ≡ first_message v self.now.state submission.now ∷ []) }
     {
         let tree = self.device.trees() - 1;
         let block = self.device.address_in(tree, submission.command.address());

@@ -48,8 +48,8 @@ impl<S: Sealer> Core<S> {
     /// What an answer to the outstanding message is.
     pub(crate) fn verdict<'a>(&self, bytes: &'a [u8]) -> Verdict<'a>
         requires { status_in self.now.state ≡ Waiting }
-        ensures means { (w : World) → Fits (shape_of S.overhead S.sealing S.opening self.now) self.now.state w → pair_in (shape_of S.overhead S.sealing S.opening self.now) w.records (asked self.now.state.last) bytes.now ≡ false
-            → Means (shape_of S.overhead S.sealing S.opening self.now) self.now.state w bytes.now result }
+        ensures means { let v = shape_of S.overhead S.sealing S.opening self.now in let s = self.now.state in
+            (w : World) → Fits v s w → pair_in v w.records (asked s.last) bytes.now ≡ false → Means v s w bytes.now result }
         ensures fitting { Fitting (shape_of S.overhead S.sealing S.opening self.now) self.now.state result }
         ensures no_room { (result ≡ Verdict.NoRoom) ↔ (bytes.now ≡ 129 ∷ 8 ∷ []) }
     {
@@ -71,8 +71,8 @@ impl<S: Sealer> Core<S> {
     /// What byte 80 and these bytes after it are.
     fn payload_verdict<'a>(&self, records: &'a [u8]) -> Verdict<'a>
         requires { status_in self.now.state ≡ Waiting }
-        ensures means { (w : World) → Fits (shape_of S.overhead S.sealing S.opening self.now) self.now.state w → pair_in (shape_of S.overhead S.sealing S.opening self.now) w.records (asked self.now.state.last) (128 ∷ records.now) ≡ false
-            → Means (shape_of S.overhead S.sealing S.opening self.now) self.now.state w (128 ∷ records.now) result }
+        ensures means { let v = shape_of S.overhead S.sealing S.opening self.now in let s = self.now.state in
+            (w : World) → Fits v s w → pair_in v w.records (asked s.last) (128 ∷ records.now) ≡ false → Means v s w (128 ∷ records.now) result }
         ensures fitting { Fitting (shape_of S.overhead S.sealing S.opening self.now) self.now.state result }
         ensures room { result ≢ Verdict.NoRoom }
     {
@@ -89,8 +89,8 @@ impl<S: Sealer> Core<S> {
     fn path_verdict<'a>(&self, records: &'a [u8]) -> Verdict<'a>
         requires waiting { status_in self.now.state ≡ Waiting }
         requires stage { self.now.state.stage % 2 ≡ 0 }
-        ensures means { (w : World) → Fits (shape_of S.overhead S.sealing S.opening self.now) self.now.state w → pair_in (shape_of S.overhead S.sealing S.opening self.now) w.records (asked self.now.state.last) (128 ∷ records.now) ≡ false
-            → Means (shape_of S.overhead S.sealing S.opening self.now) self.now.state w (128 ∷ records.now) result }
+        ensures means { let v = shape_of S.overhead S.sealing S.opening self.now in let s = self.now.state in
+            (w : World) → Fits v s w → pair_in v w.records (asked s.last) (128 ∷ records.now) ≡ false → Means v s w (128 ∷ records.now) result }
         ensures fitting { Fitting (shape_of S.overhead S.sealing S.opening self.now) self.now.state result }
         ensures room { result ≢ Verdict.NoRoom }
     {
