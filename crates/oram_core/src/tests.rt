@@ -458,6 +458,11 @@ fn a_step_without_memory_changes_nothing(rt: HostRuntime) -> Result<(), Fail> {
             Err(_) => core.step(alloc, &event)?,
         };
         if let Some(message) = reaction.sends.pop() {
+            // A STORE has six bytes and the four records of the path, of 160 bytes each.
+            if let [2, place @ .., _] = message.as_slice() {
+                assert_eq!(&rt; message.len(), 646);
+                assert!(&rt; place.starts_with(&[0, 0, 0, 0, 6]));
+            }
             let answered = match shelf.answer(alloc, message.as_slice()) {
                 Ok(answered) => answered,
                 Err(_) => shelf.answer(alloc, message.as_slice())?,
