@@ -56,6 +56,14 @@ impl Bytes {
         items
     }
 
+    /// Overwrites the bytes by as many others, in place.
+    pub fn copy_from_slice(&mut self, bytes: &[u8])
+        requires { length bytes.now ≡ length self.old }
+        ensures { self.new ≡ bytes.now }
+    {
+        self.items.as_mut_slice().copy_from_slice(bytes);
+    }
+
     pub fn as_slice(&self) -> &[u8]
         ensures { result.now ≡ self.now }
     {

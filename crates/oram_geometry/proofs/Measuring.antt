@@ -157,13 +157,3 @@ pub first_level : (n l : ℕ) → l ≤ 24 → n ≤ 2 ^ l → ((m : ℕ) → m 
 first_level n l few enough before =
     let here : nat_le n (2 ^ l) ≡ true = grind (arith, nat_tests) in
     sym (level_for-is n l (record { begins = omega arith; passes = here; least = λ m above passes. least_by (λ k. nat_le n (2 ^ k)) l m passes (before m) }) few)
-
--- one more level has too few nodes
-pub level_short : (n l : ℕ) → n ≤ 2 ^ 24 → l ≤ 24 → 2 ^ l < n → (l < 24) × (nat_le n (2 ^ l) ≡ false)
-level_short n l few low short = (
-  elim (cases_lt l 24) [
-    | inl below ↦ below
-    | inr above ↦ absurd (let last : l ≡ 24 = omega arith in let same : 2 ^ l ≡ 2 ^ 24 = ap (λ k. 2 ^ k) last in omega arith)
-  ],
-  grind (arith, nat_tests),
-)

@@ -30,9 +30,6 @@ pub number_and_rest : (xs : List ℕ) (n : ℕ) → 4 ≤ length xs → IsBytes 
 number_and_rest xs n long fits is =
     ap (λ (m : ℕ). to_be_bytes w32 m ++ drop 4 xs) is ∙ ap (λ (front : List ℕ). front ++ drop 4 xs) (be_bytes-big_number xs long fits) ∙ take-append-drop 4 xs
 
-big_number-four : (a b c d : ℕ) (xs : List ℕ) → big_number 4 (a ∷ b ∷ c ∷ d ∷ []) ≡ big_number 4 (a ∷ b ∷ c ∷ d ∷ xs)
-big_number-four a b c d xs = refl
-
 -- a byte, a number, and the rest
 pub place_and_rest : (xs : List ℕ) (n : ℕ) → 5 ≤ length xs → IsBytes xs → n ≡ big_number 4 (slice_range xs 1 5) → xs ≡ (get_or xs 0 0 ∷ []) ++ to_be_bytes w32 n ++ slice_range xs 5 (length xs)
 place_and_rest [] n long fits is = absurd (omega arith)

@@ -147,22 +147,6 @@ goes_on stream piece bodies more old new whole p q =
       leaves = q.leaves;
     }
 
-more_broken : (rest piece held : List ℕ) (broken : Bool) → broken ≡ true → IsLeft rest (record { held = held; broken = broken }) → IsLeft (rest ++ piece) (record { held = held; broken = broken })
-more_broken rest piece held true e h =
-    let count : 4 ≤ length (rest ++ piece) = omega (arith, h.0.0, length-append rest piece) in
-    let number = big_from-append 4 rest piece h.0.0 in
-    ((count, omega (arith, h.0.1, number)), h.1)
-more_broken rest piece held false e h = absurd cc
-
--- a broken stream stays broken, and has no more frames
-pub stays_broken : (stream piece : List ℕ) (bodies : List (List ℕ)) (old : Feeding) → old.broken ≡ true → AreFrames stream bodies old → AreFrames (stream ++ piece) (bodies ++ []) old
-stays_broken stream piece bodies old broken p = record {
-  rest = p.rest ++ piece;
-  whole = ap (λ (xs : List ℕ). xs ++ piece) p.whole ∙ append_assoc (flat_map frame bodies) p.rest piece ∙ ap (λ (bs : List (List ℕ)). flat_map frame bs ++ (p.rest ++ piece)) (sym (append-nil bodies));
-  each = All-append IsBody bodies [] p.each (All-nil IsBody);
-  leaves = more_broken p.rest piece old.held old.broken broken p.leaves;
-}
-
 -- nothing of a broken stream is held
 pub leaves_nothing : (rest held : List ℕ) (broken : Bool) → broken ≡ true → MatchBool broken (IsBroken rest) (IsUnfinished rest) → held ≡ [] → IsLeft rest (record { held = held; broken = broken })
 leaves_nothing rest held true e h nothing = (h, nothing)

@@ -26,9 +26,8 @@ pub struct Fed {
 
 /// Takes a stream of frames in whatever pieces it comes.
 ///
-/// It holds at most one unfinished frame, with room for the whole of it once its length is known,
-/// so a byte is
-/// copied once to be held and once into its body.
+/// It holds at most one unfinished frame, with room for the whole of it once its length is known, so a byte is copied
+/// once to be held and once into its body.
 #[derive(Debug, Drop)]
 pub struct Frames {
     held: Vec<u8>,

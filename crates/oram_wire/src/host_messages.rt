@@ -1,8 +1,8 @@
 //! The messages that go to the bucket host, and its answers.
 
-ghost use Rattle.std.specs.Prelude.{◌≡◌, ◌≢◌, ◌↔◌, ◌⊎◌, ◌<◌, ◌^◌, ◌∷◌, [], ◌++◌, true, false, length, IfOk, IfErr, IsErrOf, IsOkAnd, MatchResult};
+ghost use Rattle.std.specs.Prelude.{◌≡◌, ◌≢◌, ◌↔◌, ◌⊎◌, ◌<◌, ◌^◌, ◌∷◌, [], ◌++◌, true, false, ℕ, List, length, IfOk, IfErr, IsErrOf, IsOkAnd, MatchResult};
 ghost use Rattle.std.specs.Int.{w32, to_be_bytes};
-ghost use Rattle.oram_wire.specs.HostMessages.{request_body, answer_body, shape_body};
+ghost use Rattle.oram_wire.specs.HostMessages.{request_body, answer_body, fetch_body, store_body, shape_body};
 ghost use Rattle.oram_wire.specs.HostReading.{request_of, names_request, names_answer, IsMisfit, IsOverlong, HasNoCode, HasNumbers, IsAnswer};
 
 use crate::faults::WireFault;
@@ -18,9 +18,11 @@ const PUT: u8 = 3;
 
 const SHAPE: u8 = 4;
 
-const GOOD: u8 = 0x80;
+/// The first byte of an answer to a request that was carried out.
+pub const GOOD: u8 = 0x80;
 
-const REFUSED: u8 = 0x81;
+/// The first byte of a refusal.
+pub const REFUSED: u8 = 0x81;
 
 /// A message to the bucket host. Records are those of the path from the root to a leaf, root first.
 #[derive(Debug, Drop, PartialEq, Eq)]
@@ -89,7 +91,33 @@ pub enum HostAnswer {
     Refused(u8),
 }
 
-/// A first byte, a tree and a number, and then bytes.
+/// Bytes of a FETCH, and bytes of a STORE before its records.
+pub const HEADER_LEN: usize = 6;
+
+/// A first byte, a tree and a number.
+fn header(op: u8, tree: u8, number: u32) -> [u8; HEADER_LEN]
+    ensures { result ≡ (op ∷ tree ∷ []) ++ to_be_bytes w32 number }
+{
+    let mut header = [op, tree, 0, 0, 0, 0];
+    BigEndian::write_u32(&mut header[2..], number);
+    header
+}
+
+/// The body of a FETCH.
+pub fn fetch_header(tree: u8, leaf: u32) -> [u8; HEADER_LEN]
+    ensures { result ≡ fetch_body tree leaf }
+{
+    header(FETCH, tree, leaf)
+}
+
+/// The body of a STORE up to its records.
+pub fn store_header(tree: u8, leaf: u32) -> [u8; HEADER_LEN]
+    ensures { (records : List ℕ) → result ++ records ≡ store_body tree leaf records }
+{
+    header(STORE, tree, leaf)
+}
+
+/// A header, and then bytes.
 fn message(
     alloc: Global,
     op: u8,
@@ -99,10 +127,8 @@ fn message(
 ) -> Result<Vec<u8>, AllocError>
     ensures { IfOk result (λ v. v.items ≡ (op ∷ tree ∷ []) ++ to_be_bytes w32 number ++ bytes.now) }
 {
-    let mut head = [op, tree, 0, 0, 0, 0];
-    BigEndian::write_u32(&mut head[2..], number);
-    let mut body = Vec::with_capacity(alloc, head.len() + bytes.len())?;
-    body.extend_from_slice(&head)?;
+    let mut body = Vec::with_capacity(alloc, HEADER_LEN + bytes.len())?;
+    body.extend_from_slice(&header(op, tree, number))?;
     body.extend_from_slice(bytes)?;
     Ok(body)
 }
@@ -253,8 +279,7 @@ impl<'a> HostView<'a> {
 }
 
 impl HostAnswer {
-    /// The body of the answer. A payload of no bytes would be read as `Done`, and another code not
-    /// at all.
+    /// The body of the answer. A payload of no bytes would be read as `Done`, and another code not at all.
     pub fn encode(&self, alloc: Global) -> Result<Vec<u8>, AllocError>
         requires { IsAnswer self.now }
         ensures { IfOk result (λ v. v.items ≡ answer_body self.now) }

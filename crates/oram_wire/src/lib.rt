@@ -1,8 +1,7 @@
 //! What goes over the wire between the store and its bucket host: message bodies and their frames.
 //!
-//! A body is a request to the host or its answer. A frame is a body behind its length in four
-//! bytes. `Frames`
-//! takes a stream of frames in whatever pieces it comes.
+//! A body is a request to the host or its answer. A frame is a body behind its length in four bytes. `Frames` takes a
+//! stream of frames in whatever pieces it comes.
 #![tactic(auto)]
 
 mod faults;
@@ -12,7 +11,9 @@ mod sinks;
 
 pub use faults::WireFault;
 pub use framing::{Fed, Frames};
-pub use host_messages::{HostAnswer, HostRequest, HostView};
+pub use host_messages::{
+    GOOD, HEADER_LEN, HostAnswer, HostRequest, HostView, REFUSED, fetch_header, store_header,
+};
 pub use sinks::{ListSink, Sink, SinkFault};
 
 /// The longest body of a frame, in bytes.
