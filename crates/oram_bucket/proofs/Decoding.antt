@@ -24,20 +24,6 @@ pub record IsAt (d : Sizes) (i : ℕ) (bytes : List ℕ) (k : ℕ) (rest : List 
   pub read : IsReadTo d i bytes k before cells
   pub holds : held cells
 
-pub at_start : (d : Sizes) (i : ℕ) (bytes rest : List ℕ) (size : ℕ) (held : List Cell → Type 0) → rest ≡ bytes → size ≡ slot_len d → held [] → IsAt d i bytes 0 rest size None held
-at_start d i bytes rest size held whole size_is holds =
-    let nothing : 0 * slot_len d ≡ 0 = omega arith in
-    record {
-      within = omega arith;
-      rest_is = whole ∙ ap (λ (n : ℕ). drop n bytes) (sym nothing);
-      size_is = size_is;
-      clean = λ j h. absurd (omega arith);
-      before_is = refl;
-      cells = [];
-      read = read_none d i bytes;
-      holds = holds;
-    }
-
 -- the code's number of leaves
 leaves_are : (d : Sizes) (i depth : ℕ) → depth ≡ depth_of d i → depth ≤ 24 → (1 * 2 ^ depth) % 2 ^ 32 ≡ 2 ^ depth_of d i
 leaves_are d i depth is shallow = one_shl depth 32 (omega arith) ∙ ap (λ (n : ℕ). 2 ^ n) is

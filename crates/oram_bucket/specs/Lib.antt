@@ -8,3 +8,4 @@ pub mod Fault
 pub mod Keystream
 pub mod ChaChaLaws
 pub mod Reading
+pub mod Opening

@@ -1,5 +1,5 @@
 //! A sealer by the stream cipher ChaCha20.
-ghost use Rattle.std.specs.Prelude.{◌≡◌, ◌+◌, ◌++◌, OnOk, bit_xor};
+ghost use Rattle.std.specs.Prelude.{◌≡◌, ◌+◌, ◌<◌, ◌++◌, OnOk, OnErr, length, vec_len, vec_capacity, bit_xor};
 ghost use Rattle.std.specs.Simd.Lanes.{zip2};
 ghost use Rattle.rand_chacha.specs.ChaCha.{key_of};
 ghost use Rattle.oram_bucket.specs.Keystream.{xored_from, chacha_sealing, chacha_opening};
@@ -51,11 +51,23 @@ impl Sealer for ChaChaSeal {
 
     fn seal(&self, alloc: Global, nonce: u64, plain: &[u8]) -> Result<Vec<u8>, AllocError> {
         let mut sealed = Vec::with_capacity(alloc, NONCE_LEN + plain.len())?;
+        self.seal_to(alloc, nonce, plain, &mut sealed)?;
+        Ok(sealed)
+    }
+
+    // Once there is room for all of it, nothing that follows is refused.
+    fn seal_to(
+        &self,
+        _alloc: Global,
+        nonce: u64,
+        plain: &[u8],
+        out: &mut Vec<u8>,
+    ) -> Result<(), AllocError> {
+        out.reserve(NONCE_LEN + plain.len())?;
         let mut head = [0u8; NONCE_LEN];
         BigEndian::write_u64(&mut head, nonce);
-        sealed.extend_from_slice(&head)?;
-        append_xored(&mut sealed, self.key, nonce, plain)?;
-        Ok(sealed)
+        out.extend_from_slice(&head)?;
+        append_xored(out, self.key, nonce, plain)
     }
 
     fn open(&self, alloc: Global, sealed: &[u8]) -> Result<Vec<u8>, OpenFault> {
@@ -82,7 +94,8 @@ fn append_xored(
     nonce: u64,
     bytes: &[u8],
 ) -> Result<(), AllocError>
-    ensures { OnOk result (out.new.items ≡ out.old.items ++ xored_from key nonce 0 bytes.now) }
+    ensures ok { OnOk result (out.new.items ≡ out.old.items ++ xored_from key nonce 0 bytes.now) }
+    ensures full { OnErr result (vec_capacity out.old < vec_len out.old + length bytes.now) }
 {
     let mut generator = ChaCha20Rng::from_seed(key);
     generator.set_stream(nonce);
@@ -105,7 +118,8 @@ fn xored_lanes(block: [u8; BLOCK_LEN], stream: [u8; BLOCK_LEN]) -> [u8; BLOCK_LE
 
 /// Puts what fills no block at the end of `out`, byte by byte.
 fn append_rest(out: &mut Vec<u8>, rest: &[u8], stream: &[u8]) -> Result<(), AllocError>
-    ensures { OnOk result (out.new.items ≡ out.old.items ++ zip2 bit_xor rest.now stream.now) }
+    ensures ok { OnOk result (out.new.items ≡ out.old.items ++ zip2 bit_xor rest.now stream.now) }
+    ensures full { OnErr result (vec_capacity out.old < vec_len out.old + length rest.now) }
 {
     for (byte, key) in rest.iter().zip(stream) {
         out.push(*byte ^ *key)?;

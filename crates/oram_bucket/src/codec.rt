@@ -3,7 +3,7 @@
 //! A bucket has as many slots as the device says. A slot has the block's address and one more, its leaf (both in
 //! four bytes, big-endian) and its data; a slot without a block, a dummy, is all zeros. The blocks stand first,
 //! by rising address.
-ghost use Rattle.std.specs.Prelude.{◌≡◌, ◌≢◌, ◌+◌, ◌^◌, ◌<◌, ◌≤◌, ◌++◌, ◌∷◌, [], length, List, IfOk, IfErr, OnOk, IsOkAnd, MatchResult, MatchOption, IsOkUnless, Ok, ◌==◌};
+ghost use Rattle.std.specs.Prelude.{◌≡◌, ◌≢◌, ◌+◌, ◌^◌, ◌<◌, ◌≤◌, ◌++◌, ◌∷◌, [], length, map, List, IfOk, IfErr, OnOk, IsOkAnd, MatchResult, MatchOption, IsOkUnless, Ok, ◌==◌};
 ghost use Rattle.std.specs.List.{list_all};
 ghost use Rattle.oram_geometry.specs.Sizes.{trees_of, bucket_len};
 ghost use Rattle.oram_bucket.specs.Bytes.{IsBytes};
@@ -86,6 +86,29 @@ pub fn encode_bucket(
     }
     bucket.resize(len, 0)?;
     Ok(bucket)
+}
+
+/// Replaces bytes by those of a bucket with these blocks.
+pub(crate) fn write_bucket(
+    device: &Device,
+    tree: u8,
+    blocks: &[&Block],
+    bucket: &mut Vec<u8>,
+) -> Result<(), AllocError>
+    requires tree { tree < trees_of device.now }
+    requires bucket { IsBucketOf device.now tree (map (λ b. b.now) blocks.now) }
+    ensures spelled { OnOk result
+        (bucket.new.items ≡ spelling device.now (map (λ b. b.now) blocks.now)) }
+    ensures len { OnOk result (length bucket.new.items ≡ bucket_len device.now) }
+    ensures bytes { OnOk result (IsBytes bucket.new.items) }
+{
+    prove!(tree < device.trees());
+    bucket.clear();
+    for block in blocks {
+        append_slot(bucket, block)?;
+    }
+    bucket.resize(device.slots() * (HEAD_LEN + device.block_bytes()), 0)?;
+    Ok(())
 }
 
 /// Puts the slot of a block at the end.

@@ -25,5 +25,5 @@ mod sealing;
 pub use block::Block;
 pub use chacha::ChaChaSeal;
 pub use codec::{BucketFault, decode_bucket, encode_bucket};
-pub use sealed::{open_bucket, seal_bucket};
+pub use sealed::{open_bucket, seal_bucket, seal_bucket_to};
 pub use sealing::{OpenFault, PlainSeal, Sealer};

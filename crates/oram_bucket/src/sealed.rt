@@ -1,12 +1,13 @@
 //! A bucket as the host keeps it: encoded, and then sealed.
-ghost use Rattle.std.specs.Prelude.{◌≡◌, ◌+◌, ◌<◌, length, List, Some, Err, IfOk, MatchResult};
+ghost use Rattle.std.specs.Prelude.{◌≡◌, ◌+◌, ◌<◌, ◌++◌, length, map, vec_len, List, Some, Err, IfOk, OnOk, OnErr, MatchResult};
 ghost use Rattle.oram_geometry.specs.Sizes.{trees_of, bucket_len};
 ghost use Rattle.oram_bucket.specs.Cell.{Cell};
 ghost use Rattle.oram_bucket.specs.Bucket.{IsBucketOf, spelling};
 ghost use Rattle.oram_bucket.specs.Reading.{Reads};
+ghost use Rattle.oram_bucket.specs.Opening.{IsOpened};
 
 use crate::block::Block;
-use crate::codec::{BucketFault, decode_bucket, encode_bucket};
+use crate::codec::{BucketFault, decode_bucket, encode_bucket, write_bucket};
 use crate::sealing::{OpenFault, Sealer};
 use oram_geometry::Device;
 use std::alloc::{AllocError, Global};
@@ -35,6 +36,34 @@ pub fn seal_bucket<S: Sealer>(
     sealer.seal(alloc, nonce, &plain)
 }
 
+/// Puts the sealed bytes of a bucket with these blocks at the end of a vector.
+///
+/// The bucket's own bytes are written to `plain`, whatever stood there, so that many buckets share one vector.
+pub fn seal_bucket_to<S: Sealer>(
+    alloc: Global,
+    sealer: &S,
+    device: &Device,
+    tree: u8,
+    nonce: u64,
+    blocks: &[&Block],
+    plain: &mut Vec<u8>,
+    out: &mut Vec<u8>,
+) -> Result<(), AllocError>
+    requires tree { tree < trees_of device.now }
+    requires bucket { IsBucketOf device.now tree (map (λ b. b.now) blocks.now) }
+    ensures sealed { OnOk result (out.new.items ≡ out.old.items
+        ++ S.sealing sealer.now nonce (spelling device.now (map (λ b. b.now) blocks.now))) }
+    ensures len { OnOk result
+        (vec_len out.new ≡ vec_len out.old + (S.overhead sealer.now + bucket_len device.now)) }
+    ensures opens { OnOk result (let cells = map (λ b. b.now) blocks.now in
+        Reads (S.opening sealer.now) device.now tree
+        (S.sealing sealer.now nonce (spelling device.now cells)) cells) }
+    ensures err { OnErr result (out.new.items ≡ out.old.items) }
+{
+    write_bucket(device, tree, blocks, plain)?;
+    sealer.seal_to(alloc, nonce, plain, out)
+}
+
 /// The blocks of a sealed bucket.
 ///
 /// The bytes are `Broken` also where they open to bytes that are no bucket of the tree.
@@ -51,6 +80,7 @@ pub fn open_bucket<S: Sealer>(
     ensures only { (cells : List Cell) →
         Reads (S.opening sealer.now) device.now tree sealed.now cells →
         MatchResult result (λ v. v.items ≡ cells) (λ f. f ≡ OpenFault.OutOfMemory) }
+    ensures opened { IsOpened device.now tree (S.opening sealer.now sealed.now) result }
 {
     let plain = sealer.open(alloc, sealed)?;
     let blocks = decode_bucket(alloc, device, tree, &plain)?;

@@ -1,5 +1,5 @@
 //! What hides a bucket from the host.
-ghost use Rattle.std.specs.Prelude.{◌≡◌, ◌↔◌, ℕ, ◌≤◌, ◌<◌, ◌+◌, ◌^◌, List, Option, Some, None, length, IfOk, refl};
+ghost use Rattle.std.specs.Prelude.{◌≡◌, ◌↔◌, ℕ, ◌≤◌, ◌<◌, ◌+◌, ◌^◌, ◌++◌, List, Option, Some, None, length, IfOk, OnOk, OnErr, refl};
 ghost use Rattle.std.proofs.Common.{arith};
 ghost use Rattle.oram_bucket.specs.Bytes.{IsBytes};
 
@@ -44,6 +44,22 @@ pub trait Sealer: Drop {
     fn seal(&self, alloc: Global, nonce: u64, plain: &[u8]) -> Result<Vec<u8>, AllocError>
         ensures { IfOk result (λ v. v.items ≡ sealing self.now nonce plain.now) };
 
+    /// Puts the sealing of plain bytes at the end of a vector. Without memory the vector is as it was.
+    fn seal_to(
+        &self,
+        alloc: Global,
+        nonce: u64,
+        plain: &[u8],
+        out: &mut Vec<u8>,
+    ) -> Result<(), AllocError>
+        ensures ok { OnOk result
+            (out.new.items ≡ out.old.items ++ sealing self.now nonce plain.now) }
+        ensures err { OnErr result (out.new.items ≡ out.old.items) }
+    {
+        let sealed = self.seal(alloc, nonce, plain)?;
+        out.extend_from_slice(&sealed)
+    }
+
     /// Opens sealed bytes, under any nonce.
     fn open(&self, alloc: Global, sealed: &[u8]) -> Result<Vec<u8>, OpenFault>
         ensures ok { IfOk result (λ v. opening self.now sealed.now ≡ Some v.items) }
@@ -75,6 +91,16 @@ impl Sealer for PlainSeal {
 
     fn seal(&self, alloc: Global, _nonce: u64, plain: &[u8]) -> Result<Vec<u8>, AllocError> {
         plain.to_vec(alloc)
+    }
+
+    fn seal_to(
+        &self,
+        _alloc: Global,
+        _nonce: u64,
+        plain: &[u8],
+        out: &mut Vec<u8>,
+    ) -> Result<(), AllocError> {
+        out.extend_from_slice(plain)
     }
 
     fn open(&self, alloc: Global, sealed: &[u8]) -> Result<Vec<u8>, OpenFault> {

@@ -1,9 +1,9 @@
-use Rattle.std.specs.Prelude.{◌≡◌, ℕ, zero, suc, ◌+◌, ◌*◌, ◌<◌, ◌≤◌, List, ◌++◌, length, take, drop, if◌then◌else◌}
+use Rattle.std.specs.Prelude.{◌≡◌, ℕ, zero, suc, ◌+◌, ◌*◌, ◌<◌, ◌≤◌, List, ◌++◌, ◌==◌, length, take, drop, if◌then◌else◌}
 use Rattle.oram_geometry.specs.declared.Sizes.{Sizes}
 use Rattle.oram_geometry.specs.Sizes.{depth_of, record_len_of}
 use Rattle.oram_geometry.specs.Path.{node_on}
 use Rattle.sha2.specs.Sha256.{sha256}
-use Rattle.oram_hash.specs.Record.{left_digest, right_digest, is_left_child}
+use Rattle.oram_hash.specs.Record.{no_digest, left_digest, right_digest, is_left_child}
 
 -- the bytes that are handed in as the records of a path, root first
 pub record Path : Type 0 where
@@ -63,3 +63,8 @@ record_over p level sealed below =
     if is_left_child (node_at p (level + 1))
     then sealed ++ below ++ right_digest (record_at p level)
     else sealed ++ left_digest (record_at p level) ++ below
+
+-- the digests that end the path's record at a level, and zeros in place of both at the leaf's
+unfoldable pub digests_at : Path → ℕ → List ℕ
+digests_at p level =
+    if level == p.depth then no_digest ++ no_digest else left_digest (record_at p level) ++ right_digest (record_at p level)

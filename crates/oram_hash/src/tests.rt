@@ -1,10 +1,20 @@
-ghost use Rattle.std.specs.Prelude.{◌≡◌, All, IfOk, vec_len};
+ghost use Rattle.std.specs.Prelude.{◌≡◌, All, IfOk, length, vec_len};
 
 use crate::{HashFault, NO_DIGEST, check_path, node_digest, rebuild};
 use oram_geometry::Device;
 use std::alloc::{AllocError, Global};
 use std::process::Abort;
 use std::test::Fail;
+
+// Calls once more where one allocation was refused, so that the tests hold whichever it is.
+macro_rules! retried {
+    ($call:expr) => {
+        match $call {
+            Ok(value) => value,
+            Err(_) => $call?,
+        }
+    };
+}
 
 const RECORD_LEN: usize = 160;
 
@@ -32,14 +42,21 @@ fn path(alloc: Global) -> Result<(Vec<u8>, [u8; 32]), AllocError> {
     Ok((bytes, root))
 }
 
-/// Sealed parts of one length.
-fn parts(alloc: Global, count: usize, len: usize) -> Result<Vec<Vec<u8>>, AllocError>
-    ensures count { IfOk result (λ v. vec_len v ≡ count) }
-    ensures lengths { IfOk result (λ v. All (λ part. vec_len part ≡ len) v.items) }
+/// A sealed part of 96 bytes, one byte again and again.
+fn part(alloc: Global, fill: u8) -> Result<Vec<u8>, AllocError>
+    ensures { IfOk result (λ v. vec_len v ≡ 96) }
+{
+    vec![in alloc; fill; 96]
+}
+
+/// Sealed parts of 96 bytes, each of which is one byte again and again.
+fn parts(alloc: Global, fills: &[u8]) -> Result<Vec<Vec<u8>>, AllocError>
+    ensures count { IfOk result (λ v. vec_len v ≡ length fills.now) }
+    ensures lengths { IfOk result (λ v. All (λ part. vec_len part ≡ 96) v.items) }
 {
     let mut parts = Vec::new(alloc);
-    for _ in 0..count {
-        parts.push(vec![in alloc; 7u8; len]?)?;
+    for k in 0..fills.len() {
+        parts.push(part(alloc, fills[k])?)?;
     }
     Ok(parts)
 }
@@ -70,7 +87,7 @@ fn flip(bytes: &mut [u8], k: usize) {
 fn a_flipped_bit_is_found_at_its_level(rt: HostRuntime) -> Result<(), Fail> {
     let device = Device::new(8, 16, 4, 8, 100).expect(&rt, "a device");
     assert_eq!(rt; (device.trees(), device.depth(0)), (1, 3));
-    let (mut bytes, root) = path(rt.alloc())?;
+    let (mut bytes, root) = retried!(path(rt.alloc()));
     assert_eq!(rt; bytes.len(), 640);
     assert_eq!(rt; fault(&device, &root, &bytes), None);
     for k in 0..bytes.len() {
@@ -83,7 +100,7 @@ fn a_flipped_bit_is_found_at_its_level(rt: HostRuntime) -> Result<(), Fail> {
         );
         flip(&mut bytes, k);
     }
-    bytes.push(0)?;
+    retried!(bytes.push(0));
     assert_eq!(rt; fault(&device, &root, &bytes), Some(HashFault::Length));
     bytes.truncate(639);
     assert_eq!(rt; fault(&device, &root, &bytes), Some(HashFault::Length));
@@ -110,9 +127,12 @@ fn rebuilt(rt: &impl Abort, alloc: Global) -> Result<(), AllocError> {
         ([9; 32].as_slice(), NO_DIGEST.as_slice())
     );
     assert_eq!(rt; view.right(2), [9; 32].as_slice());
-    let sealed = parts(alloc, 4, 96)?;
-    assert_eq!(rt; sealed.len(), usize::from(view.depth) + 1);
-    assert_eq!(rt; view.record_len, RECORD_LEN);
+    assert_eq!(rt; (view.depth, view.record_len), (3, RECORD_LEN));
+    let same = parts(alloc, &[0, 1, 2, 3])?;
+    let (records, same_root) = rebuild(alloc, &view, &same)?;
+    assert_eq!(rt; records.as_slice(), bytes.as_slice());
+    assert_eq!(rt; same_root, root);
+    let sealed = parts(alloc, &[7; 4])?;
     let (records, new_root) = rebuild(alloc, &view, &sealed)?;
     assert_eq!(rt; fault(&device, &new_root, &records), None);
     assert_eq!(rt;
@@ -126,7 +146,7 @@ fn rebuilt(rt: &impl Abort, alloc: Global) -> Result<(), AllocError> {
 fn a_tree_of_one_record(rt: HostRuntime) -> Result<(), Fail> {
     let device = Device::new(1, 16, 4, 1, 10).expect(&rt, "a device");
     assert_eq!(rt; (device.trees(), device.depth(0)), (1, 0));
-    let bytes = record(rt.alloc(), 5, &NO_DIGEST, &NO_DIGEST)?;
+    let bytes = retried!(record(rt.alloc(), 5, &NO_DIGEST, &NO_DIGEST));
     let root = node_digest(&bytes);
     assert!(rt; check_path(&device, 0, 0, 0, &root, &bytes).is_ok());
     let other = check_path(&device, 0, 0, 0, &NO_DIGEST, &bytes).err();

@@ -1,7 +1,7 @@
 //! A path as it lies in the host's answer, and its check.
 ghost use Rattle.std.specs.Prelude.{MatchResult, IsOk, ◌≡◌, ◌^◌, ◌<◌, ◌≤◌, ◌+◌, ◌-◌, ◌*◌, ◌↔◌, ◌⊎◌, ℕ, List, length, IsTrue, IfOk};
 ghost use Rattle.oram_geometry.specs.Sizes.{trees_of, depth_of, record_len_of};
-ghost use Rattle.oram_hash.specs.Path.{path_of, IsAccepted, IsTamperedAt, Path, HasLength, IsGenuine, digest_for, expected, node_at, record_at};
+ghost use Rattle.oram_hash.specs.Path.{path_of, IsAccepted, IsTamperedAt, Path, HasLength, IsGenuine, digest_for, expected, node_at, record_at, digests_at};
 ghost use Rattle.oram_hash.specs.Record.{is_left_child, left_digest, right_digest, sealed_part};
 ghost use Rattle.oram_hash.specs.Verdict.{IsFaultOf};
 ghost use Rattle.oram_hash.specs.Tree.{Collides, IsFirstOther, IsPathOf, IsStored};
@@ -69,6 +69,18 @@ impl<'a> PathView<'a> {
     {
         let record = self.record(level);
         &record[record.len() - DIGEST_LEN..]
+    }
+
+    /// Both digests that end the record at a level, and at the leaf's what stands in place of them.
+    pub(crate) fn digests(&self, level: u8) -> &'a [u8]
+        requires { level ≤ self.now.depth }
+        ensures { result.now ≡ digests_at self.now level }
+    {
+        if level == self.depth {
+            return &[0; DIGESTS_LEN];
+        }
+        let record = self.record(level);
+        &record[record.len() - DIGESTS_LEN..]
     }
 
     /// Whether the path goes from the node at a level to its left child.

@@ -16,14 +16,16 @@ loop-block-preserved c =
       so_far = ap (λ (r : List ℕ). r ++ xored_from c.args.key c.args.nonce (64 * (i + 1)) (drop (64 * (i + 1)) bytes)) grown ∙ more;
       at_block = next.next;
       long = next.long;
+      grown = omega (arith, c.in_ok-extend_from_slice.ensures.len, c.loop-block.invariant.grown, ap length c.xored_lanes.ensures, next.long);
+      room = omega (arith, c.in_ok-extend_from_slice.ensures.capacity, c.loop-block.invariant.room);
     }
 
-pub returns : goal.returns
-returns c =
+pub returns-clause-ok : goal.returns-clause-ok
+returns-clause-ok c =
     let i = c.loop-block.block-index in
     let n : i ≡ length c.args.bytes.now / 64 = omega (arith, c.as_chunks.ensures.front_len) in
     let next = next_block c.args.key c.args.nonce i _ c.fill_bytes-2.new.dst _ _ (omega arith) c.loop-block.invariant.long c.loop-block.invariant.at_block c.fill_bytes-2.ensures in
     let same : length c.args.bytes.now / 64 * 64 ≡ 64 * i = omega arith in
     let rest = c.as_chunks.ensures.back ∙ ap (λ (m : ℕ). drop m c.args.bytes.now) same in
     let whole = ap (λ (r : List ℕ). c.loop-block.out.items ++ xored_from c.args.key c.args.nonce (64 * i) r) rest ∙ c.loop-block.invariant.so_far in
-    on_ok_weaker c.append_rest.result (λ e. e ∙ rest_more c.args.key c.args.nonce i c.loop-block.out.items _ c.as_chunks.result.1.now c.fill_bytes-2.new.dst _ (omega (arith, c.as_chunks.ensures.back_len)) whole next) c.append_rest.ensures
+    on_ok_weaker c.append_rest.result (λ e. e ∙ rest_more c.args.key c.args.nonce i c.loop-block.out.items _ c.as_chunks.result.1.now c.fill_bytes-2.new.dst _ (omega (arith, c.as_chunks.ensures.back_len)) whole next) c.append_rest.ensures.ok

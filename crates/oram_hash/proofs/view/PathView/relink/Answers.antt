@@ -1,43 +1,64 @@
-use Rattle.std.proofs.Common.{◌≡◌, ◌-◌, ◌+◌, ◌*◌, ◌<◌, ℕ, List, [], ◌++◌, map, length, length-take-le, length-drop, drop, slice_index_or, ap, sym, ◌∙◌, arith, Vec, Global}
-use Rattle.std.proofs.lemmas.List.{get_or-map}
-use Rattle.oram_hash.specs.Record.{no_digest}
-use Rattle.oram_hash.specs.Path.{Path, record_over}
-use Rattle.oram_hash.proofs.Rebuilds.{place_within, written_leaf, written_more}
+use Rattle.std.proofs.Common.{◌≡◌, ◌≤◌, ◌<◌, ◌-◌, ◌+◌, ◌*◌, ◌^◌, ◌∙◌, ap, sym, subst, arith, ℕ, List, length, refl, drop, length-take-le, length-drop}
+use Rattle.std.proofs.lemmas.List.{take_rest}
+use Rattle.sha2.specs.Sha256.{sha256}
+use Rattle.oram_hash.specs.Path.{Path, HasLength, with_bytes}
+use Rattle.oram_hash.specs.Rebuild.{IsJoined, IsRebuilt}
+use Rattle.oram_hash.proofs.Joins.{HasDigests, length-digests_at, joined_whole}
+use Rattle.oram_hash.proofs.Paths.{record_at-slice}
+use Rattle.oram_hash.proofs.Rebuilds.{place_within, length-record_at, rebuilt_stands}
+use Rattle.oram_hash.proofs.Linking.{IsLinkedFrom, linked_leaf, linked_more, linked_whole}
 use Rattle.oram_hash.proofs.view.PathView.relink.Goals as goal
 
--- the items of the part at a level
-part_at : (parts : List (Vec ℕ Global)) (level : ℕ) (part : Vec ℕ Global) → part ≡ slice_index_or parts level part → level < length parts
-    → slice_index_or (map (λ (x : Vec ℕ Global). x.items) parts) level [] ≡ part.items
-part_at parts level part is h = get_or-map (λ (x : Vec ℕ Global). x.items) parts level part [] h ∙ ap (λ (x : Vec ℕ Global). x.items) (sym is)
-
-pub loop-level-init : goal.loop-level-init
-loop-level-init c =
+pub slice_bounds-node_digest-count : goal.slice_bounds-node_digest-count
+slice_bounds-node_digest-count c =
+    let whole : HasLength c.args.self.now = let P : Path → Type 0 = HasLength in subst P c.self.view_is c.self.invariant.4 in
     let depth : c.self.inside.depth ≡ c.args.self.now.depth = ap (λ (p : Path). p.depth) c.self.view_is in
     let width : c.self.inside.record_len ≡ c.args.self.now.record_len = ap (λ (p : Path). p.record_len) c.self.view_is in
+    let room : 64 ≤ c.args.self.now.record_len = omega (arith, c.self.invariant.2) in
+    let records = joined_whole c.args.self.now c.requires.0 c.args.records.now (length-digests_at c.args.self.now whole room) c.requires.1 in
     let start : c.self.inside.depth * c.self.inside.record_len ≡ c.args.self.now.depth * c.args.self.now.record_len = cc in
-    let rest : length c.args.bytes.now - c.self.inside.depth * c.self.inside.record_len ≡ c.args.self.now.record_len = omega arith in
-    let len : length c.write_record-digest.new.place ≡ c.args.self.now.record_len = omega (arith, c.write_record-digest.auto.place) in
-    let part = part_at c.args.sealed.now c.self.inside.depth c.index-sealed-leaf_level.result c.index-sealed-leaf_level.is (omega arith) in
-    written_leaf c.args.self.now (map (λ (x : Vec ℕ Global). x.items) c.args.sealed.now) c.args.bytes.now c.write_record-digest.new.place c.write_record-digest.result c.self.inside.depth
-    (c.self.inside.depth * c.self.inside.record_len) (length c.args.bytes.now - c.self.inside.depth * c.self.inside.record_len)
-    depth c.requires.room len (ap (λ (n : ℕ). c.self.inside.depth * n) width) rest
-    (c.write_record-digest.ensures.written ∙ ap (λ (s : List ℕ). s ++ no_digest ++ no_digest) (c.deref.ensures.value ∙ sym part))
-    c.write_record-digest.ensures.digest
+    omega (arith, place_within c.args.self.now.depth c.args.self.now.depth c.args.self.now.record_len (omega arith))
+
+pub slice_bounds-node_digest-start : goal.slice_bounds-node_digest-start
+slice_bounds-node_digest-start c = slice_bounds-node_digest-count c
+
+pub loop-level-init : goal.loop-level-init
+loop-level-init c = λ parts joined.
+    let whole : HasLength c.args.self.now = let P : Path → Type 0 = HasLength in subst P c.self.view_is c.self.invariant.4 in
+    let depth : c.self.inside.depth ≡ c.args.self.now.depth = ap (λ (p : Path). p.depth) c.self.view_is in
+    let width : c.self.inside.record_len ≡ c.args.self.now.record_len = ap (λ (p : Path). p.record_len) c.self.view_is in
+    let room : 64 ≤ c.args.self.now.record_len = omega (arith, c.self.invariant.2) in
+    let start : c.self.inside.depth * c.self.inside.record_len ≡ c.args.self.now.depth * c.args.self.now.record_len = cc in
+    linked_leaf c.args.self.now parts c.args.records.now c.node_digest-digest.result c.self.inside.depth (c.self.inside.depth * c.self.inside.record_len) depth
+    (length-digests_at c.args.self.now whole room) joined start
+    (c.node_digest-digest.ensures ∙ ap sha256 (take_rest c.args.records.now (c.self.inside.depth * c.self.inside.record_len)))
 
 pub loop-level-preserved : goal.loop-level-preserved
-loop-level-preserved c =
-    let level = c.loop-level.level - 1 in
+loop-level-preserved c = λ parts joined.
+    let whole : HasLength c.args.self.now = let P : Path → Type 0 = HasLength in subst P c.self.view_is c.self.invariant.4 in
     let width : c.self.inside.record_len ≡ c.args.self.now.record_len = ap (λ (p : Path). p.record_len) c.self.view_is in
-    let span : (c.loop-level.level - 1) * c.self.inside.record_len + c.self.inside.record_len - (c.loop-level.level - 1) * c.self.inside.record_len ≡ c.args.self.now.record_len = omega arith in
-    let len : length c.write_over-digest.new.place ≡ c.args.self.now.record_len =
-    let whole : length c.loop-level.bytes ≡ (c.args.self.now.depth + 1) * c.args.self.now.record_len = c.loop-level.invariant.1.whole in
-    let within = place_within (c.loop-level.level - 1) c.args.self.now.depth c.args.self.now.record_len (omega arith) in
+    let room : 64 ≤ c.args.self.now.record_len = omega (arith, c.self.invariant.2) in
+    let level = c.loop-level.level - 1 in
+    let linked = c.loop-level.invariant parts joined in
     let start : (c.loop-level.level - 1) * c.self.inside.record_len ≡ (c.loop-level.level - 1) * c.args.self.now.record_len = ap (λ (n : ℕ). (c.loop-level.level - 1) * n) width in
-    c.write_over-digest.auto.place ∙ length-take-le _ (drop ((c.loop-level.level - 1) * c.self.inside.record_len) c.loop-level.bytes)
-    (omega (arith, length-drop ((c.loop-level.level - 1) * c.self.inside.record_len) c.loop-level.bytes)) ∙ span in
-    let part = part_at c.args.sealed.now (c.loop-level.level - 1) c.index-sealed-level.result c.index-sealed-level.is (omega arith) in
-    written_more c.args.self.now (map (λ (x : Vec ℕ Global). x.items) c.args.sealed.now) c.loop-level.bytes c.write_over-digest.new.place c.loop-level.digest c.write_over-digest.result c.loop-level.level (c.loop-level.level - 1)
+    let span : (c.loop-level.level - 1) * c.self.inside.record_len + c.self.inside.record_len - (c.loop-level.level - 1) * c.self.inside.record_len ≡ c.args.self.now.record_len = omega arith in
+    let here = record_at-slice (with_bytes c.args.self.now c.loop-level.records) (c.loop-level.level - 1) ((c.loop-level.level - 1) * c.self.inside.record_len) c.self.inside.record_len start width in
+    let len : length c.link-digest.new.bytes ≡ c.args.self.now.record_len =
+    c.link-digest.auto.bytes ∙ ap length here ∙ length-record_at (with_bytes c.args.self.now c.loop-level.records) (c.loop-level.level - 1) linked.built.whole (omega (arith, linked.within)) in
+    linked_more c.args.self.now parts c.loop-level.records _ c.link-digest.new.bytes c.loop-level.digest c.link-digest.result c.loop-level.level (c.loop-level.level - 1)
     ((c.loop-level.level - 1) * c.self.inside.record_len) ((c.loop-level.level - 1) * c.self.inside.record_len + c.self.inside.record_len - (c.loop-level.level - 1) * c.self.inside.record_len)
-    (omega arith) c.loop-level.invariant len (ap (λ (n : ℕ). (c.loop-level.level - 1) * n) width) span
-    (c.write_over-digest.ensures.written ∙ ap (λ (s : List ℕ). record_over c.args.self.now (c.loop-level.level - 1) s c.loop-level.digest) (c.deref-in-loop-level.ensures.value ∙ sym part))
-    c.write_over-digest.ensures.digest
+    (omega arith) linked len start span here c.link-digest.ensures.linked c.link-digest.ensures.digest
+
+pub returns-clause-rebuilt : goal.returns-clause-rebuilt
+returns-clause-rebuilt c = λ parts joined.
+    let whole : HasLength c.args.self.now = let P : Path → Type 0 = HasLength in subst P c.self.view_is c.self.invariant.4 in
+    let width : c.self.inside.record_len ≡ c.args.self.now.record_len = ap (λ (p : Path). p.record_len) c.self.view_is in
+    let room : 64 ≤ c.args.self.now.record_len = omega (arith, c.self.invariant.2) in
+    let end : c.loop-level.level ≡ 0 = omega arith in
+    let P : ℕ → Type 0 = IsLinkedFrom c.args.self.now parts c.loop-level.records c.loop-level.digest in
+    linked_whole c.args.self.now parts c.loop-level.records c.loop-level.digest whole room (subst P end (c.loop-level.invariant parts joined))
+
+pub returns-clause-stands : goal.returns-clause-stands
+returns-clause-stands c =
+    let fits : c.args.self.now.leaf < 2 ^ c.args.self.now.depth = let P : Path → Type 0 = λ p. p.leaf < 2 ^ p.depth in subst P c.self.view_is c.self.invariant.0 in
+    rebuilt_stands c.args.self.now c.requires.0 c.loop-level.records c.loop-level.digest fits (returns-clause-rebuilt c c.requires.0 c.requires.1)
