@@ -56,7 +56,7 @@ pub length-flipped : (bytes : List ℕ) (offset : ℕ) → length (flipped bytes
 length-flipped bytes offset = simp length-set
 
 -- a record of the map was written
-tree_written : (tree : Tree) (new : BTreeMap ℕ (List ℕ)) (node : ℕ) (bytes : List ℕ) → IsTree tree → WritesThrough nat_cmp (nat_cmp node) tree.records bytes new → length bytes ≡ tree.record_len
+pub tree_written : (tree : Tree) (new : BTreeMap ℕ (List ℕ)) (node : ℕ) (bytes : List ℕ) → IsTree tree → WritesThrough nat_cmp (nat_cmp node) tree.records bytes new → length bytes ≡ tree.record_len
     → IsTree (record { depth = tree.depth; record_len = tree.record_len; records = new })
 tree_written tree new node bytes h written whole =
     let N : List ℕ → Type 0 = λ ks. AreNodes tree.depth ks in

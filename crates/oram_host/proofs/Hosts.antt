@@ -1,5 +1,5 @@
 -- A host after one of its trees has changed.
-use Rattle.std.proofs.Common.{◌≡◌, ◌≢◌, ℕ, ◌+◌, ◌-◌, ◌<◌, ◌^◌, filter, Bool, true, false, cond, IsSome, List, [], ◌∷◌, map, All, Option, Some, None, Result, Ok, Err, MatchResult, OnErr, refl, ap, subst, ◌∙◌, sym}
+use Rattle.std.proofs.Common.{◌≡◌, ◌≢◌, ℕ, ◌+◌, ◌-◌, ◌<◌, ◌^◌, filter, Bool, true, false, cond, IsSome, List, [], ◌∷◌, length, map, All, Option, Some, None, Result, Ok, Err, MatchResult, OnErr, refl, ap, subst, ◌∙◌, sym}
 use Rattle.std.specs.Prelude.{MatchOption}
 use Rattle.std.specs.Option.{option_map}
 use Rattle.std.specs.BTreeMap.{BTreeMap, IsOrdered, Updates, WritesThrough, get, insert_entry, is_at}
@@ -14,7 +14,7 @@ use Rattle.oram_host.specs.declared.refusals.HostRefusal.TheVariants.{NoShape}
 use Rattle.oram_host.specs.declared.trees.Tree.{Tree}
 use Rattle.oram_host.specs.Answers.{IsFetched, IsPut, IsShaped, IsStored, Keeps}
 use Rattle.oram_host.specs.Host.{Host, IsShape, Kept, tree_at}
-use Rattle.oram_host.specs.Path.{IsPath, PutsRecord, StoresPath}
+use Rattle.oram_host.specs.Path.{IsBehind, IsPath, PutsRecord, StoresPath}
 use Rattle.oram_host.specs.Refusals.{Refuses, RefusesFetch, RefusesPut, RefusesStore}
 use Rattle.oram_host.specs.Trees.{AreNodes, AreTrees, IsRecord, IsTree, host_of, is_there, kept_by}
 use Rattle.oram_host.proofs.Records.{not_at}
@@ -37,11 +37,11 @@ with_shape : (kept : Option Kept) (k : Kept) (A : Type 0) (P : Kept → Type 0) 
 with_shape None k A P e p = absurd cc
 with_shape (Some x) k A P e p = let same : k ≡ x = cc in subst P same p
 
-pub fetched : (host : Host) (tree leaf : ℕ) (kept : Kept) (r : Result (List ℕ) HostRefusal) → tree_at host tree ≡ Some kept
-    → MatchResult r (λ bytes. (leaf < 2 ^ kept.depth) × IsPath kept leaf bytes) (λ why. RefusesFetch kept leaf why)
-    → MatchResult r (IsFetched host tree leaf) (Refuses host (request.Fetch tree leaf))
-fetched host tree leaf kept (Ok bytes) shaped h = record { kept = kept; shaped = shaped; leaf_in = h.0; path = h.1 }
-fetched host tree leaf kept (Err why) shaped h = with_shape (tree_at host tree) kept (why ≡ NoShape) (λ k. RefusesFetch k leaf why) shaped h
+pub fetched : {T : Type 0} (items : T → List ℕ) (front : List ℕ) (host : Host) (tree leaf : ℕ) (kept : Kept) (r : Result T HostRefusal) → tree_at host tree ≡ Some kept
+    → MatchResult r (λ v. (leaf < 2 ^ kept.depth) × IsBehind front (λ bytes. IsPath kept leaf bytes × (0 < length bytes)) (items v)) (λ why. RefusesFetch kept leaf why)
+    → MatchResult r (λ v. IsBehind front (λ bytes. IsFetched host tree leaf bytes × (0 < length bytes)) (items v)) (Refuses host (request.Fetch tree leaf))
+fetched items front host tree leaf kept (Ok v) shaped h = (h.1.0, h.1.1, (record { kept = kept; shaped = shaped; leaf_in = h.0; path = h.1.2.0 }, h.1.2.1))
+fetched items front host tree leaf kept (Err why) shaped h = with_shape (tree_at host tree) kept (why ≡ NoShape) (λ k. RefusesFetch k leaf why) shaped h
 
 -- what is kept after a tree has changed, in place
 pub keeps_written : (old new : BTreeMap ℕ Tree) (before after : Host) (n : ℕ) (tree : Tree) → host_of old ≡ before → host_of new ≡ after → IsSome (get nat_cmp old n) → WritesThrough nat_cmp (nat_cmp n) old tree new → Keeps before n (kept_by tree) after

@@ -1,12 +1,15 @@
 pub mod Nodes
+pub mod Overwritten
 pub mod Paths
 pub mod Records
 pub mod Hosts
 pub mod ImageTexts
 pub mod Rows
+pub mod Swapped
 pub mod Rising
 pub mod Readings
 pub mod ReadImages
 pub mod LoadedHosts
 pub mod Flipped
 pub mod ExactImages
+pub mod Transfers

@@ -1,5 +1,5 @@
 -- The records of a path, one after the other.
-use Rattle.std.proofs.Common.{◌≡◌, ◌≢◌, ℕ, ◌<◌, ◌≤◌, ◌+◌, ◌-◌, ◌*◌, ◌^◌, List, [], ◌∷◌, ◌++◌, length, take, drop, slice_get, get_or, All, Some, refl, ap, ◌∙◌, sym, arith, inl, inr}
+use Rattle.std.proofs.Common.{◌≡◌, ◌≢◌, ℕ, ◌<◌, ◌≤◌, ◌+◌, ◌-◌, ◌*◌, ◌^◌, List, [], ◌∷◌, ◌++◌, length, take, drop, slice_get, get_or, All, Some, refl, ap, ◌∙◌, sym, arith, append_assoc, length-append, inl, inr}
 use Rattle.std.specs.BTreeMap.{BTreeMap, IsOrdered, Updates, get, is_at}
 use Rattle.std.specs.Map.{lookup}
 use Rattle.std.specs.Ordering.{nat_cmp}
@@ -14,7 +14,7 @@ use Rattle.oram_host.specs.declared.trees.Tree.{Tree}
 use Rattle.oram_host.proofs.Nodes.{node_on-injective}
 use Rattle.oram_host.proofs.Records.{not_at, record_kept, record_there}
 
-step_is : (n len : ℕ) → (n + 1) * len ≡ n * len + len
+pub step_is : (n len : ℕ) → (n + 1) * len ≡ n * len + len
 step_is n len = add-mul n 1 len ∙ (let e : n * len + 1 * len ≡ n * len + len = omega arith in e)
 
 length-record_at : (len : ℕ) (bytes : List ℕ) (level levels : ℕ) → length bytes ≡ levels * len → level < levels → length (record_at len bytes level) ≡ len
@@ -47,6 +47,16 @@ path_more kept depth leaf len level bytes record_bytes whole long found each k h
 
 pub length_more : (len level : ℕ) (bytes record_bytes : List ℕ) → length bytes ≡ level * len → length record_bytes ≡ len → length bytes + length record_bytes ≡ (level + 1) * len
 length_more len level bytes record_bytes whole long = omega (arith, step_is level len)
+
+-- bytes that go on stand behind the same ones
+pub more_behind : (front bytes more new : List ℕ) → bytes ≡ front ++ drop (length front) bytes → new ≡ bytes ++ more
+    → (drop (length front) new ≡ drop (length front) bytes ++ more) × (new ≡ front ++ drop (length front) new)
+more_behind front bytes more new behind grown =
+    let long : length front ≤ length bytes = omega (arith, ap length behind, length-append front (drop (length front) bytes)) in
+    let rest : drop (length front) new ≡ drop (length front) bytes ++ more = ap (drop (length front)) grown ∙ drop-append-le (length front) bytes more long in (
+      rest,
+      grown ∙ ap (λ (xs : List ℕ). xs ++ more) behind ∙ append_assoc front (drop (length front) bytes) more ∙ ap (λ (xs : List ℕ). front ++ xs) (sym rest),
+    )
 
 -- what is left of the copies, and the one that was taken off the end
 pub popped : (all copies rest : List (List ℕ)) (copy : List ℕ) → copies ≡ take (length copies) all → copies ≡ rest ++ copy ∷ []

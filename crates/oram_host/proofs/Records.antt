@@ -88,12 +88,6 @@ whole-insert record_len node bytes old new entries fits h =
     let P : List (ℕ × List ℕ) → Type 0 = λ es. All (IsRecord record_len) (values_of es) in
     subst P (sym entries) (All-values-insert_entry nat_cmp node bytes (IsRecord record_len) old.entries h fits)
 
-pub whole-same : (record_len : ℕ) (old new : BTreeMap ℕ (List ℕ)) → new.entries ≡ old.entries → All (IsRecord record_len) (values old) → All (IsRecord record_len) (values new)
-whole-same record_len old new entries h = let P : List (ℕ × List ℕ) → Type 0 = λ es. All (IsRecord record_len) (values_of es) in subst P (sym entries) h
-
-pub nodes-same : (depth : ℕ) (old new : BTreeMap ℕ (List ℕ)) → new.entries ≡ old.entries → AreNodes depth (keys old) → AreNodes depth (keys new)
-nodes-same depth old new entries h = let P : List (ℕ × List ℕ) → Type 0 = λ es. AreNodes depth (keys_of es) in subst P (sym entries) h
-
 pub not_empty_from : (bytes : List ℕ) (b : Bool) → ((b ≡ true) ↔ (bytes ≡ [])) → b ≡ false → 0 < length bytes
 not_empty_from [] b iff e = let t : true ≡ false = sym (iff.1 refl) ∙ e in absurd cc
 not_empty_from (x ∷ bytes) b iff e = omega arith

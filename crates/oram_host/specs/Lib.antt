@@ -6,6 +6,8 @@ pub mod Refusals
 pub mod Answers
 pub mod Serving
 pub mod Flips
+pub mod Swaps
+pub mod Transfers
 pub mod Trees
 pub use Rattle.oram_wire.specs.HostMessages
 pub use Rattle.oram_wire.specs.HostReading

@@ -9,6 +9,9 @@ use Rattle.oram_wire.specs.declared.sinks.SinkFault.{SinkFault}
 use Rattle.oram_wire.specs.declared.sinks.SinkFault.TheVariants as fault
 use Rattle.oram_host.specs.Answers.{Answers}
 use Rattle.oram_host.specs.Host.{Host}
+use Rattle.oram_host.specs.Path.{IsBehind}
+use Rattle.oram_host.specs.declared.serving.Served.{Served}
+use Rattle.oram_host.specs.declared.serving.Served.TheVariants as served
 
 -- The host is sent a body, answers it so, and is this afterwards: a request's body as requests are answered, and any other is
 -- refused and changes nothing.
@@ -22,3 +25,8 @@ abbrev pub fault_by : HostAnswer → Option SinkFault
 fault_by Done = None
 fault_by (Payload bytes) = Some fault.Refused
 fault_by (Refused code) = if code == 8 then Some fault.OutOfMemory else Some fault.Refused
+
+-- what came of a request stands for an answer that is so: its records are behind these bytes
+abbrev pub StandsFor : List ℕ → Served → (HostAnswer → Type 0) → Type 0
+StandsFor front (served.Records bytes) P = IsBehind front (λ records. P (Payload records)) bytes.items
+StandsFor front served.Done P = P Done

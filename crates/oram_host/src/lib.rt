@@ -8,6 +8,7 @@ mod images;
 mod refusals;
 mod serving;
 mod sinks;
+mod swaps;
 mod trees;
 
 pub use images::{ImageFault, images_are_exact};

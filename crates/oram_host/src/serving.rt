@@ -1,21 +1,26 @@
 //! The server of a bucket host, in memory.
 
-ghost use Rattle.std.specs.Prelude.{◌≡◌, ◌<◌, ◌↔◌, [], length, true, false, IfErr, IfOk, IsTrue, OnOk, None, Some, MatchBool, MatchResult};
+ghost use Rattle.std.specs.Prelude.{◌≡◌, ◌<◌, ◌≤◌, ◌^◌, ◌⊎◌, ◌↔◌, [], length, true, false, IfErr, IfOk, IsTrue, OnErr, OnOk, None, Some, MatchBool, MatchOption, MatchResult};
 ghost use Rattle.std.specs.Io.KnownBytes.{Appends, Consumes, IsAtEnd};
 ghost use Rattle.oram_host.specs.Image.{image};
 ghost use Rattle.oram_host.specs.ImageReading.{IsFirstFault, fault_number, host_in};
 ghost use Rattle.oram_host.specs.Host.{Host, IsHost};
 ghost use Rattle.oram_host.specs.Flips.{IsByteless, IsFlipped};
 ghost use Rattle.oram_host.specs.Answers.{Answers, IsFetched, IsPut, IsShaped, IsStored};
-ghost use Rattle.oram_host.specs.Refusals.{Refuses};
-ghost use Rattle.oram_wire.specs.HostMessages.{request_body};
+ghost use Rattle.oram_host.specs.Path.{IsBehind};
+ghost use Rattle.oram_host.specs.Refusals.{Refuses, code_of};
+ghost use Rattle.oram_host.specs.Serving.{Serves, StandsFor};
+ghost use Rattle.oram_host.specs.Swaps.{IsSwapped, LacksPair};
+ghost use Rattle.oram_host.specs.Transfers.{Begins, TakesFrom};
+ghost use Rattle.oram_wire.specs.HostMessages.{answer_body, request_body};
 ghost use Rattle.oram_wire.specs.HostReading.{HasNumbers, IsAnswer, IsMisfit, names_request, request_of};
 
 use crate::images::{ImageFault, load_trees, save_trees};
 use crate::refusals::HostRefusal;
+use crate::swaps::swap_records;
 use crate::trees::{Tree, copied_trees, is_shape};
 use oram_bytes::Bytes;
-use oram_wire::{HostAnswer, HostRequest, HostView, WireFault};
+use oram_wire::{GOOD, HostAnswer, HostRequest, HostView, REFUSED, WireFault};
 use std::alloc::{AllocError, Global};
 use std::collections::BTreeMap;
 use std::io::{Read, Write};
@@ -28,6 +33,13 @@ pub struct Server {
     trees: BTreeMap<u8, Tree>,
 }
 
+/// What came of a request that was carried out.
+enum Served {
+    /// The records that it asks for, behind other bytes.
+    Records(Vec<u8>),
+    Done,
+}
+
 impl Model for Server {
     ghost use Rattle.oram_host.specs.Host.{Host};
 
@@ -38,6 +50,15 @@ impl Model for Server {
     ghost view = { λ s. host_of s.trees };
 
     ghost invariant = { λ s. AreTrees s.trees };
+}
+
+/// The tree and the node of these numbers, where there can be such.
+fn place(tree: u64, node: u64) -> Option<(u8, u32)>
+    ensures { MatchOption result ((256 ≤ tree) ⊎ (2 ^ 32 ≤ node)) (λ p. (p.0 ≡ tree) × (p.1 ≡ node)) }
+{
+    let tree = u8::try_from(tree).ok()?;
+    let node = u32::try_from(node).ok()?;
+    Some((tree, node))
 }
 
 impl Server {
@@ -53,15 +74,17 @@ impl Server {
         }
     }
 
-    fn fetch(&self, tree: u8, leaf: u32) -> Result<Bytes, HostRefusal>
-        ensures fetched { MatchResult result (IsFetched self.now tree leaf) (Refuses self.now
-            (HostRequest.Fetch tree leaf)) }
-        ensures some { IfOk result (λ bytes. 0 < length bytes) }
+    /// The records of a path, behind other bytes.
+    fn fetch(&self, tree: u8, leaf: u32, front: &[u8]) -> Result<Vec<u8>, HostRefusal>
+        requires { length front.now ≤ 1 }
+        ensures { MatchResult result
+            (λ v. IsBehind front.now (λ bytes. IsFetched self.now tree leaf bytes × (0 < length bytes)) v.items)
+            (Refuses self.now (HostRequest.Fetch tree leaf)) }
     {
         let Some(kept) = self.trees.get(&tree) else {
             return Err(HostRefusal::NoShape);
         };
-        kept.fetch(self.alloc, leaf)
+        kept.fetch(self.alloc, leaf, front)
     }
 
     fn store(&mut self, tree: u8, leaf: u32, records: &[u8]) -> Result<(), HostRefusal>
@@ -108,17 +131,17 @@ impl Server {
         Ok(())
     }
 
-    /// Carries out a request.
-    fn serve(&mut self, request: HostView<'_>) -> Result<HostAnswer, HostRefusal>
-        ensures answers { MatchResult result (λ answer. Answers self.old
-            (request_of request.entry) answer self.new)
+    /// Carries out a request, and puts records that it asks for behind other bytes.
+    fn serve(&mut self, request: HostView<'_>, front: &[u8]) -> Result<Served, HostRefusal>
+        requires { length front.now ≤ 1 }
+        ensures { MatchResult result (λ served. StandsFor front.now served (λ answer.
+            Answers self.old (request_of request.entry) answer self.new × IsAnswer answer))
             (λ why. Refuses self.old (request_of request.entry) why × (self.new ≡ self.old)) }
-        ensures spelled { IfOk result IsAnswer }
     {
         match request {
             HostView::Fetch { tree, leaf } => {
-                let records = self.fetch(tree, leaf)?;
-                Ok(HostAnswer::Payload(records))
+                let records = self.fetch(tree, leaf, front)?;
+                Ok(Served::Records(records))
             }
             HostView::Store {
                 tree,
@@ -126,11 +149,11 @@ impl Server {
                 records,
             } => {
                 self.store(tree, leaf, records)?;
-                Ok(HostAnswer::Done)
+                Ok(Served::Done)
             }
             HostView::Put { tree, node, bytes } => {
                 self.put(tree, node, bytes)?;
-                Ok(HostAnswer::Done)
+                Ok(Served::Done)
             }
             HostView::Shape {
                 tree,
@@ -138,8 +161,23 @@ impl Server {
                 record_len,
             } => {
                 self.shape(tree, depth, record_len)?;
-                Ok(HostAnswer::Done)
+                Ok(Served::Done)
             }
+        }
+    }
+
+    /// Carries out the request that a body is, and puts records that it asks for behind other bytes.
+    fn serve_body(&mut self, body: &[u8], front: &[u8]) -> Result<Served, HostRefusal>
+        requires { length front.now ≤ 1 }
+        ensures { MatchResult result (λ served. StandsFor front.now served (λ answer.
+            Serves self.old body.now answer self.new × IsAnswer answer))
+            (λ why. Serves self.old body.now (HostAnswer.Refused (code_of why)) self.new
+            × (self.new ≡ self.old)) }
+    {
+        match HostView::read(body) {
+            Ok(request) => self.serve(request, front),
+            Err(WireFault::Op) => Err(HostRefusal::BadOp),
+            Err(_) => Err(HostRefusal::BadLength),
         }
     }
 
@@ -157,14 +195,33 @@ impl Server {
         // The answer has a body.
         ensures spelled { IsAnswer result }
     {
-        let served = match HostView::read(body) {
-            Ok(request) => self.serve(request),
-            Err(WireFault::Op) => Err(HostRefusal::BadOp),
-            Err(_) => Err(HostRefusal::BadLength),
-        };
-        match served {
-            Ok(answer) => answer,
+        match self.serve_body(body, &[]) {
+            Ok(Served::Records(records)) => HostAnswer::Payload(Bytes::from_vec(records)),
+            Ok(Served::Done) => HostAnswer::Done,
             Err(why) => HostAnswer::Refused(why.code()),
+        }
+    }
+
+    /// The bytes of the answer to the body of a request, which `handle` would answer alike. Records stand in one vector
+    /// with the byte before them, so they are copied once.
+    ///
+    /// Room for an answer without records is taken first: where there is none, nothing is served.
+    pub fn answer(&mut self, alloc: Global, body: &[u8]) -> Result<Vec<u8>, AllocError>
+        ensures ok { IfOk result (λ v. (answer : HostAnswer) × Serves self.old body.now answer self.new
+            × IsAnswer answer × (v.items ≡ answer_body answer)) }
+        ensures err { OnErr result (self.new ≡ self.old) }
+    {
+        let mut short = Vec::with_capacity(alloc, 2)?;
+        match self.serve_body(body, &[GOOD]) {
+            Ok(Served::Records(answer)) => Ok(answer),
+            Ok(Served::Done) => {
+                short.extend_from_slice(&[GOOD])?;
+                Ok(short)
+            }
+            Err(why) => {
+                short.extend_from_slice(&[REFUSED, why.code()])?;
+                Ok(short)
+            }
         }
     }
 
@@ -195,6 +252,22 @@ impl Server {
         kept.flip(alloc, node, offset)
     }
 
+    /// Exchanges two stored records, and tells whether both are there and have one length. It takes no memory.
+    pub fn swap(&mut self, tree_a: u64, node_a: u64, tree_b: u64, node_b: u64) -> bool
+        ensures swapped { MatchBool result (IsSwapped self.old tree_a node_a tree_b node_b self.new)
+            (LacksPair self.old tree_a node_a tree_b node_b × (self.new ≡ self.old)) }
+        ensures same { tree_a ≡ tree_b → node_a ≡ node_b → self.new ≡ self.old }
+    {
+        let alloc = self.alloc;
+        let Some(a) = place(tree_a, node_a) else {
+            return false;
+        };
+        let Some(b) = place(tree_b, node_b) else {
+            return false;
+        };
+        swap_records(alloc, &mut self.trees, a.0, a.1, b.0, b.1)
+    }
+
     /// Reads an image, which is all that the reader holds: the server is the one that was saved. The
     /// image is read from front to back, and of several faults the first is answered.
     pub fn load_image<R: Read>(alloc: Global, reader: &mut R) -> Result<Server, ImageFault>
@@ -202,6 +275,7 @@ impl Server {
             (image server)) }
         ensures end { OnOk result (IsAtEnd (R.remaining reader.new)) }
         ensures host { IfOk result (λ server. IsHost server) }
+        ensures consumed { TakesFrom (R.remaining reader.old) (R.remaining reader.new) }
 
         // The image of a host is read as that host, unless the reader failed or memory was refused.
         ensures saved { (host : Host) → IsHost host → R.remaining reader.old ≡ Some (image host)
@@ -212,10 +286,12 @@ impl Server {
         Ok(Server { alloc, trees })
     }
 
-    /// Writes the image of what is kept. It takes no memory.
+    /// Writes the image of what is kept. It takes no memory. An interrupted write is made again, and a
+    /// writer that takes no byte has failed.
     pub fn save_image<W: Write>(&self, writer: &mut W) -> Result<(), ImageFault>
         ensures ok { OnOk result (Appends (W.contents writer.old) (W.contents writer.new)
             (image self.now)) }
+        ensures begun { Begins (W.contents writer.old) (W.contents writer.new) (image self.now) }
         ensures host { IsHost self.now }
         ensures fault { IfErr result (λ f. f ≡ ImageFault.Io) }
     {

@@ -2,10 +2,10 @@
 
 ghost use Rattle.std.specs.Prelude.{◌≡◌, ◌≢◌, ◌↔◌, ℕ, ◌+◌, ◌-◌, ◌*◌, ◌^◌, ◌<◌, ◌≤◌, List, [], length, slice_get, count_by, All, IsTrue, IsSome, IfSome, Some, None, IfOk, OnOk, OnErr, MatchBool, MatchResult, MatchOption, false};
 ghost use Rattle.std.specs.Ordering.{nat_cmp};
-ghost use Rattle.std.specs.BTreeMap.{IsOrdered, get, keys, values};
+ghost use Rattle.std.specs.BTreeMap.{IsOrdered, Updates, get, keys, values};
 ghost use Rattle.oram_host.specs.Flips.{FlipsByte, HasByte, LacksByte, flipped};
 ghost use Rattle.oram_host.specs.Host.{IsShape, record_of};
-ghost use Rattle.oram_host.specs.Path.{IsPath, PutsRecord, StoresPath, node_on, record_at};
+ghost use Rattle.oram_host.specs.Path.{IsBehind, IsPath, PutsRecord, StoresPath, node_on, record_at};
 ghost use Rattle.oram_host.specs.Refusals.{RefusesFetch, RefusesPut, RefusesStore};
 ghost use Rattle.oram_host.specs.Trees.{AreNodes, AreTrees, IsRecord, IsTree, host_of, is_there, kept_by, records_in};
 
@@ -14,7 +14,7 @@ use oram_bytes::Bytes;
 use oram_wire::LONGEST_BODY;
 use std::alloc::{AllocError, Global};
 use std::collections::BTreeMap;
-use std::mem::replace;
+use std::mem::{replace, swap};
 
 /// A tree that has a shape.
 #[derive(Debug, Drop)]
@@ -206,7 +206,7 @@ fn flip_byte(alloc: Global, bytes: &mut Bytes, offset: usize)
 
 impl Tree {
     /// The record that a node was given.
-    fn record(&self, node: u32) -> Option<&Bytes>
+    pub(crate) fn record(&self, node: u32) -> Option<&Bytes>
         requires { IsTree self.now }
         ensures there { MatchOption result (record_of (kept_by self.now) node ≡ None)
             (λ bytes. record_of (kept_by self.now) node ≡ Some bytes.now) }
@@ -251,15 +251,18 @@ impl Tree {
         false
     }
 
-    /// The records of a path, each of which is there, root first.
-    fn path(&self, alloc: Global, leaf: u32) -> Result<Vec<u8>, AllocError>
+    /// The records of a path, each of which is there, root first, behind other bytes.
+    fn path(&self, alloc: Global, leaf: u32, front: &[u8]) -> Result<Vec<u8>, AllocError>
         requires tree { IsTree self.now }
         requires leaf { leaf < 2 ^ self.now.depth }
         requires has { (level : ℕ) → level ≤ self.now.depth
             → IsSome (record_of (kept_by self.now) (node_on self.now.depth leaf level)) }
-        ensures { IfOk result (λ v. IsPath (kept_by self.now) leaf v.items) }
+        requires short { length front.now ≤ 1 }
+        ensures { IfOk result (λ v. IsBehind front.now
+            (λ bytes. IsPath (kept_by self.now) leaf bytes × (0 < length bytes)) v.items) }
     {
-        let mut bytes = Vec::with_capacity(alloc, self.path_len())?;
+        let mut bytes = Vec::with_capacity(alloc, front.len() + self.path_len())?;
+        bytes.extend_from_slice(front)?;
         for level in 0..self.depth + 1 {
             let Some(record) = self.record(node_at(self.depth, leaf, level)) else {
                 unreachable!();
@@ -269,13 +272,19 @@ impl Tree {
         Ok(bytes)
     }
 
-    /// The records of the path of a leaf, root first.
-    pub(crate) fn fetch(&self, alloc: Global, leaf: u32) -> Result<Bytes, HostRefusal>
-        requires { IsTree self.now }
-        ensures fetched { MatchResult result (λ bytes. (leaf < 2 ^ self.now.depth)
-            × IsPath (kept_by self.now) leaf bytes) (λ why. RefusesFetch
-            (kept_by self.now) leaf why) }
-        ensures some { IfOk result (λ bytes. 0 < length bytes) }
+    /// The records of the path of a leaf, root first, behind other bytes.
+    pub(crate) fn fetch(
+        &self,
+        alloc: Global,
+        leaf: u32,
+        front: &[u8],
+    ) -> Result<Vec<u8>, HostRefusal>
+        requires tree { IsTree self.now }
+        requires short { length front.now ≤ 1 }
+        ensures { MatchResult result (λ v. (leaf < 2 ^ self.now.depth)
+            × IsBehind front.now
+            (λ bytes. IsPath (kept_by self.now) leaf bytes × (0 < length bytes)) v.items)
+            (λ why. RefusesFetch (kept_by self.now) leaf why) }
     {
         if leaf >= 1 << self.depth {
             return Err(HostRefusal::BadLeaf);
@@ -283,10 +292,43 @@ impl Tree {
         if self.lacks(leaf) {
             return Err(HostRefusal::Missing);
         }
-        Ok(Bytes::from_vec(self.path(alloc, leaf)?))
+        let records = self.path(alloc, leaf, front)?;
+        Ok(records)
     }
 
-    /// Replaces the records of the path of a leaf.
+    /// Overwrites a record in place. It takes no memory.
+    fn overwrite(&mut self, node: u32, bytes: &[u8])
+        requires tree { IsTree self.old }
+        requires there { IsSome (record_of (kept_by self.old) node) }
+        requires whole { length bytes.now ≡ self.old.record_len }
+        ensures tree { IsTree self.new }
+        ensures put { PutsRecord (kept_by self.old) node bytes.now (kept_by self.new) }
+    {
+        match self.records.get_mut(&node) {
+            Some(record) => record.copy_from_slice(bytes),
+            None => unreachable!(),
+        }
+    }
+
+    /// Overwrites the records of a path, each of which is there. It takes no memory.
+    fn overwrite_path(&mut self, leaf: u32, records: &[u8])
+        requires tree { IsTree self.old }
+        requires leaf { leaf < 2 ^ self.old.depth }
+        requires has { (level : ℕ) → level ≤ self.old.depth
+            → IsSome (record_of (kept_by self.old) (node_on self.old.depth leaf level)) }
+        requires whole { length records.now ≡ (self.old.depth + 1) * self.old.record_len }
+        ensures tree { IsTree self.new }
+        ensures stored { StoresPath (kept_by self.old) leaf records.now (kept_by self.new) }
+    {
+        let record_len = self.record_len as usize;
+        for level in 0..self.depth + 1 {
+            let start = level as usize * record_len;
+            let node = node_at(self.depth, leaf, level);
+            self.overwrite(node, &records[start..start + record_len]);
+        }
+    }
+
+    /// Replaces the records of the path of a leaf, in place where each of them is there.
     pub(crate) fn store(
         &mut self,
         alloc: Global,
@@ -305,13 +347,17 @@ impl Tree {
         if records.len() != self.path_len() {
             return Err(HostRefusal::BadLength);
         }
+        if !self.lacks(leaf) {
+            self.overwrite_path(leaf, records);
+            return Ok(());
+        }
         let copies = copied_records(alloc, self.depth + 1, self.record_len as usize, records)?;
         make_room(alloc, &mut self.records, self.depth, leaf)?;
         replace_records(&mut self.records, self.depth, leaf, copies);
         Ok(())
     }
 
-    /// Replaces the record of a node.
+    /// Replaces the record of a node, in place where there is one.
     pub(crate) fn put(&mut self, alloc: Global, node: u32, bytes: &[u8]) -> Result<(), HostRefusal>
         requires { IsTree self.old }
         ensures tree { IsTree self.new }
@@ -325,8 +371,29 @@ impl Tree {
         if bytes.len() != self.record_len as usize {
             return Err(HostRefusal::BadLength);
         }
+        if self.record(node).is_some() {
+            self.overwrite(node, bytes);
+            return Ok(());
+        }
         self.records.insert(node, Bytes::copy(alloc, bytes)?)?;
         Ok(())
+    }
+
+    /// Exchanges what lies at a node for other bytes. It takes no memory.
+    pub(crate) fn exchange(&mut self, node: u32, bytes: &mut Bytes)
+        requires tree { IsTree self.old }
+        requires there { IsSome (get nat_cmp self.old.records node) }
+        requires fits { IsRecord self.old.record_len bytes.old }
+        ensures tree { IsTree self.new }
+        ensures taken { get nat_cmp self.old.records node ≡ Some bytes.new }
+        ensures given { Updates nat_cmp self.old.records self.new.records node (Some bytes.old) }
+        ensures depth { self.new.depth ≡ self.old.depth }
+        ensures record_len { self.new.record_len ≡ self.old.record_len }
+    {
+        match self.records.get_mut(&node) {
+            Some(record) => swap(record, bytes),
+            None => unreachable!(),
+        }
     }
 
     fn copy(&self, alloc: Global) -> Result<Tree, AllocError>

@@ -4,6 +4,7 @@ ghost use Rattle.std.specs.Prelude.{◌≡◌, ◌<◌, ◌≤◌, ◌∷◌, []
 ghost use Rattle.std.specs.Int.{w32, to_be_bytes};
 ghost use Rattle.std.specs.Io.KnownBytes.{Consumes, IsAtEnd};
 ghost use Rattle.oram_host.specs.ImageReading.{IsFirstFault, after_end, after_letters, after_version, next_byte, next_bytes, next_number};
+ghost use Rattle.oram_host.specs.Transfers.{TakesFrom};
 
 use super::{ImageFault, MAGIC, VERSION};
 use byteorder::{BigEndian, ByteOrder};
@@ -15,6 +16,7 @@ fn fill<R: Read>(reader: &mut R, buf: &mut [u8]) -> Result<usize, ImageFault>
     ensures ok { IfOk result (λ n. Consumes (R.remaining reader.old) (R.remaining reader.new)
         (take n buf.new)) }
     ensures end { IfOk result (λ n. n < length buf.new → IsAtEnd (R.remaining reader.new)) }
+    ensures consumed { TakesFrom (R.remaining reader.old) (R.remaining reader.new) }
     ensures fault { IfErr result (λ why. why ≡ ImageFault.Io) }
 {
     let mut filled = 0;
@@ -38,6 +40,7 @@ fn fill<R: Read>(reader: &mut R, buf: &mut [u8]) -> Result<usize, ImageFault>
 /// Fills the buffer.
 pub(super) fn read_bytes<R: Read>(reader: &mut R, buf: &mut [u8]) -> Result<(), ImageFault>
     ensures ok { OnOk result (Consumes (R.remaining reader.old) (R.remaining reader.new) buf.new) }
+    ensures consumed { TakesFrom (R.remaining reader.old) (R.remaining reader.new) }
     ensures fault { IfErr result (λ why.
         IsFirstFault (next_bytes (length buf.new)) why (R.remaining reader.old)) }
 {
@@ -50,6 +53,7 @@ pub(super) fn read_bytes<R: Read>(reader: &mut R, buf: &mut [u8]) -> Result<(), 
 pub(super) fn read_byte<R: Read>(reader: &mut R) -> Result<u8, ImageFault>
     ensures ok { IfOk result (λ b. Consumes (R.remaining reader.old) (R.remaining reader.new)
         (b ∷ [])) }
+    ensures consumed { TakesFrom (R.remaining reader.old) (R.remaining reader.new) }
     ensures fault { IfErr result (λ why. IsFirstFault next_byte why (R.remaining reader.old)) }
 {
     let mut buf = [0; 1];
@@ -68,6 +72,7 @@ fn number_of(bytes: &[u8]) -> u32
 pub(super) fn read_number<R: Read>(reader: &mut R) -> Result<u32, ImageFault>
     ensures ok { IfOk result (λ n. Consumes (R.remaining reader.old) (R.remaining reader.new)
         (to_be_bytes w32 n)) }
+    ensures consumed { TakesFrom (R.remaining reader.old) (R.remaining reader.new) }
     ensures fault { IfErr result (λ why. IsFirstFault next_number why (R.remaining reader.old)) }
 {
     let mut buf = [0; 4];
@@ -79,6 +84,7 @@ pub(super) fn read_number<R: Read>(reader: &mut R) -> Result<u32, ImageFault>
 pub(super) fn read_letters<R: Read>(reader: &mut R) -> Result<(), ImageFault>
     ensures ok { OnOk result (Consumes (R.remaining reader.old) (R.remaining reader.new)
         (codes "ORAMHOST")) }
+    ensures consumed { TakesFrom (R.remaining reader.old) (R.remaining reader.new) }
     ensures fault { IfErr result (λ why. IsFirstFault after_letters why (R.remaining reader.old)) }
 {
     let mut buf = [0; 8];
@@ -92,6 +98,7 @@ pub(super) fn read_letters<R: Read>(reader: &mut R) -> Result<(), ImageFault>
 pub(super) fn read_version<R: Read>(reader: &mut R) -> Result<(), ImageFault>
     ensures ok { OnOk result (Consumes (R.remaining reader.old) (R.remaining reader.new)
         (to_be_bytes w32 1)) }
+    ensures consumed { TakesFrom (R.remaining reader.old) (R.remaining reader.new) }
     ensures fault { IfErr result (λ why. IsFirstFault after_version why (R.remaining reader.old)) }
 {
     if read_number(reader)? != VERSION {
@@ -104,6 +111,7 @@ pub(super) fn read_version<R: Read>(reader: &mut R) -> Result<(), ImageFault>
 pub(super) fn read_end<R: Read>(reader: &mut R) -> Result<(), ImageFault>
     ensures ok { OnOk result (Consumes (R.remaining reader.old) (R.remaining reader.new) []) }
     ensures end { OnOk result (IsAtEnd (R.remaining reader.new)) }
+    ensures consumed { TakesFrom (R.remaining reader.old) (R.remaining reader.new) }
     ensures fault { IfErr result (λ why. IsFirstFault after_end why (R.remaining reader.old)) }
 {
     if fill(reader, &mut [0; 1])? > 0 {

@@ -8,6 +8,7 @@ ghost use Rattle.std.specs.Io.KnownBytes.{Consumes, IsAtEnd};
 ghost use Rattle.oram_host.specs.Image.{entries_text, image, kept_text, record_text, tree_text};
 ghost use Rattle.oram_host.specs.ImageReading.{IsFirstFault, host_in, next_entries, next_kept, next_record, next_tree};
 ghost use Rattle.oram_host.specs.Host.{IsRecordOf};
+ghost use Rattle.oram_host.specs.Transfers.{TakesFrom};
 ghost use Rattle.oram_host.specs.Trees.{AreTrees, IsTree, host_of, kept_by};
 
 use super::ImageFault;
@@ -33,6 +34,7 @@ fn load_record<R: Read>(
         (record_text e)) }
     ensures rises { IfOk result (λ e. least ≤ e.0) }
     ensures record { IfOk result (λ e. IsRecordOf nodes record_len e) }
+    ensures consumed { TakesFrom (R.remaining reader.old) (R.remaining reader.new) }
     ensures fault { IfErr result (λ why.
         IsFirstFault (next_record nodes record_len least) why (R.remaining reader.old)) }
 {
@@ -56,6 +58,7 @@ fn load_records<R: Read>(
         (entries_text record_text m.entries)) }
     ensures ordered { IfOk result (λ m. IsOrdered nat_cmp m) }
     ensures each { IfOk result (λ m. AllByRecursion (IsRecordOf nodes record_len) m.entries) }
+    ensures consumed { TakesFrom (R.remaining reader.old) (R.remaining reader.new) }
     ensures fault { IfErr result (λ why. IsFirstFault
         (next_entries nodes (next_record nodes record_len)) why (R.remaining reader.old)) }
 {
@@ -78,6 +81,7 @@ fn load_kept<R: Read>(alloc: Global, reader: &mut R) -> Result<Tree, ImageFault>
     ensures ok { IfOk result (λ tree. Consumes (R.remaining reader.old) (R.remaining reader.new)
         (kept_text (kept_by tree))) }
     ensures tree { IfOk result (λ tree. IsTree tree) }
+    ensures consumed { TakesFrom (R.remaining reader.old) (R.remaining reader.new) }
     ensures fault { IfErr result (λ why. IsFirstFault next_kept why (R.remaining reader.old)) }
 {
     let depth = read_byte(reader)?;
@@ -99,6 +103,7 @@ fn load_tree<R: Read>(alloc: Global, reader: &mut R, least: u16) -> Result<(u8, 
         (tree_text (e.0, kept_by e.1))) }
     ensures rises { IfOk result (λ e. least ≤ e.0) }
     ensures tree { IfOk result (λ e. IsTree e.1) }
+    ensures consumed { TakesFrom (R.remaining reader.old) (R.remaining reader.new) }
     ensures fault { IfErr result (λ why.
         IsFirstFault (next_tree least) why (R.remaining reader.old)) }
 {
@@ -115,6 +120,7 @@ fn load_each_tree<R: Read>(alloc: Global, reader: &mut R) -> Result<BTreeMap<u8,
     ensures ok { IfOk result (λ m. Consumes (R.remaining reader.old) (R.remaining reader.new)
         (entries_text tree_text (host_of m))) }
     ensures trees { IfOk result (λ m. AreTrees m) }
+    ensures consumed { TakesFrom (R.remaining reader.old) (R.remaining reader.new) }
     ensures fault { IfErr result (λ why. IsFirstFault (next_entries 256 next_tree) why
         (R.remaining reader.old)) }
 {
@@ -141,6 +147,7 @@ pub(crate) fn load_trees<R: Read>(
         (image (host_of m))) }
     ensures end { OnOk result (IsAtEnd (R.remaining reader.new)) }
     ensures trees { IfOk result (λ m. AreTrees m) }
+    ensures consumed { TakesFrom (R.remaining reader.old) (R.remaining reader.new) }
     ensures fault { IfErr result (λ why. IsFirstFault host_in why (R.remaining reader.old)) }
 {
     read_letters(reader)?;

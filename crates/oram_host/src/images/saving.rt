@@ -4,6 +4,7 @@ ghost use Rattle.std.specs.Prelude.{◌≡◌, ◌++◌, length, IfErr, OnOk};
 ghost use Rattle.std.specs.List.{flat_map};
 ghost use Rattle.std.specs.Io.KnownBytes.{Appends};
 ghost use Rattle.oram_host.specs.Image.{image, record_text, tree_text};
+ghost use Rattle.oram_host.specs.Transfers.{Begins};
 ghost use Rattle.oram_host.specs.Trees.{AreTrees, IsTree, host_of, kept_by, records_in};
 
 use super::{ImageFault, MAGIC, VERSION};
@@ -11,21 +12,37 @@ use crate::trees::Tree;
 use byteorder::{BigEndian, ByteOrder};
 use oram_bytes::Bytes;
 use std::collections::BTreeMap;
-use std::io::Write;
+use std::io::{ErrorKind, Write};
 
+/// Writes all of the bytes, or a beginning of them.
 fn write<W: Write>(writer: &mut W, bytes: &[u8]) -> Result<(), ImageFault>
     ensures ok { OnOk result (Appends (W.contents writer.old) (W.contents writer.new) bytes.now) }
+    ensures begun { Begins (W.contents writer.old) (W.contents writer.new) bytes.now }
     ensures fault { IfErr result (λ f. f ≡ ImageFault.Io) }
 {
-    match writer.write_all(bytes) {
-        Ok(()) => Ok(()),
-        Err(_) => Err(ImageFault::Io),
+    let mut written = 0;
+    for _ in 0..u64::MAX {
+        if written >= bytes.len() {
+            return Ok(());
+        }
+        match writer.write(&bytes[written..]) {
+            Ok(0) => return Err(ImageFault::Io),
+            Ok(count) => written += count,
+            Err(error) => {
+                if error.kind() != ErrorKind::Interrupted {
+                    return Err(ImageFault::Io);
+                }
+            }
+        }
     }
+    Err(ImageFault::Io)
 }
 
 fn save_record<W: Write>(writer: &mut W, node: u32, bytes: &[u8]) -> Result<(), ImageFault>
     ensures ok { OnOk result (Appends (W.contents writer.old) (W.contents writer.new) (record_text
         (node, bytes.now))) }
+    ensures begun { Begins (W.contents writer.old) (W.contents writer.new) (record_text
+        (node, bytes.now)) }
     ensures fault { IfErr result (λ f. f ≡ ImageFault.Io) }
 {
     let mut head = [0; 4];
@@ -37,6 +54,8 @@ fn save_record<W: Write>(writer: &mut W, node: u32, bytes: &[u8]) -> Result<(), 
 fn save_records<W: Write>(writer: &mut W, records: &BTreeMap<u32, Bytes>) -> Result<(), ImageFault>
     ensures ok { OnOk result (Appends (W.contents writer.old) (W.contents writer.new)
         (flat_map record_text (records_in records.now))) }
+    ensures begun { Begins (W.contents writer.old) (W.contents writer.new)
+        (flat_map record_text (records_in records.now)) }
     ensures fault { IfErr result (λ f. f ≡ ImageFault.Io) }
 {
     for (node, bytes) in records.iter() {
@@ -51,6 +70,8 @@ fn save_tree<W: Write>(writer: &mut W, number: u8, tree: &Tree) -> Result<(), Im
     requires { IsTree tree.now }
     ensures ok { OnOk result (Appends (W.contents writer.old) (W.contents writer.new) (tree_text
         (number, kept_by tree.now))) }
+    ensures begun { Begins (W.contents writer.old) (W.contents writer.new) (tree_text
+        (number, kept_by tree.now)) }
     ensures fault { IfErr result (λ f. f ≡ ImageFault.Io) }
 {
     let mut head = [number, tree.depth, 0, 0, 0, 0, 0, 0, 0, 0];
@@ -68,6 +89,8 @@ pub(crate) fn save_trees<W: Write>(
     requires { AreTrees trees.now }
     ensures ok { OnOk result (Appends (W.contents writer.old) (W.contents writer.new) (image
         (host_of trees.now))) }
+    ensures begun { Begins (W.contents writer.old) (W.contents writer.new) (image
+        (host_of trees.now)) }
     ensures fault { IfErr result (λ f. f ≡ ImageFault.Io) }
 {
     let mut head = [0; 8];

@@ -6,19 +6,29 @@ use std::io;
 use std::io::{Read, Write};
 use std::process::Abort;
 
-/// A disk that takes at most three bytes a call, and fails once it holds `room` bytes.
+/// A disk that takes at most three bytes a call, with an interrupt before each. Once it holds `room`
+/// bytes it fails, or takes none.
 #[derive(Drop)]
 struct Disk {
     bytes: [u8; 64],
     len: usize,
     room: usize,
+    interrupted: bool,
+    fails: bool,
 }
 
 impl Write for Disk {
     fn write(&mut self, buf: &[u8]) -> io::Result<usize> {
+        self.interrupted = !self.interrupted;
+        if self.interrupted {
+            return Err(io::Error::from(io::ErrorKind::Interrupted));
+        }
         let room = self.room.min(64);
         if self.len >= room {
-            return Err(io::Error::from(io::ErrorKind::BrokenPipe));
+            if self.fails {
+                return Err(io::Error::from(io::ErrorKind::BrokenPipe));
+            }
+            return Ok(0);
         }
         let most = buf.len().min(3).min(room - self.len);
         self.bytes[self.len..self.len + most].copy_from_slice(&buf[..most]);
@@ -36,6 +46,8 @@ fn disk_with(room: usize) -> Disk {
         bytes: [0; 64],
         len: 0,
         room,
+        interrupted: false,
+        fails: true,
     }
 }
 
@@ -108,10 +120,12 @@ fn saves(rt: HostRuntime) {
         &[2, 0, 0, 0, 0, 1, 0x11, 0x12, 0x13, 0x14],
     );
     for room in 0..38usize {
-        assert_eq!(rt;
-            server.save_image(&mut disk_with(room)),
-            Err(ImageFault::Io)
-        );
+        for fails in [false, true] {
+            let mut cut = disk_with(room);
+            cut.fails = fails;
+            assert_eq!(rt; server.save_image(&mut cut), Err(ImageFault::Io));
+            assert_eq!(rt; &cut.bytes[..room], &IMAGE[..room]);
+        }
     }
     let mut whole = disk_with(38);
     assert_eq!(rt; server.save_image(&mut whole), Ok(()));

@@ -99,3 +99,74 @@ fn copy_and_flip(rt: HostRuntime) -> Result<(), Fail> {
     fetches(&rt, &mut copy, &[1, 3, 0, 0, 0, 1], &store[6..]);
     Ok(())
 }
+
+/// Two trees whose records have two bytes, and one whose records have three; each record tells its place.
+fn three_trees(rt: &impl Abort, server: &mut Server) {
+    for (tree, len) in [(1, 2), (2, 2), (3, 3)] {
+        assert!(rt; answered(server, &[4, tree, 1, 0, 0, 0, len]) == HostAnswer::Done);
+    }
+    for (tree, node) in [(1, 0), (1, 1), (2, 0), (2, 2)] {
+        assert!(rt; answered(server, &[3, tree, 0, 0, 0, node, tree, node]) == HostAnswer::Done);
+    }
+    assert!(rt; answered(server, &[3, 3, 0, 0, 0, 0, 3, 0, 0]) == HostAnswer::Done);
+}
+
+#[test]
+fn swapped_records(rt: HostRuntime) {
+    let mut server = Server::new(rt.alloc());
+    three_trees(&rt, &mut server);
+    // Two records of one tree, and two of two trees.
+    assert!(rt; server.swap(1, 0, 1, 1));
+    fetches(&rt, &mut server, &[1, 1, 0, 0, 0, 0], &[1, 1, 1, 0]);
+    assert!(rt; server.swap(1, 0, 2, 2));
+    fetches(&rt, &mut server, &[1, 1, 0, 0, 0, 0], &[2, 2, 1, 0]);
+    fetches(&rt, &mut server, &[1, 2, 0, 0, 0, 1], &[2, 0, 1, 1]);
+    // A record and itself; two lengths, a node without a record on either side, and no such node or tree.
+    assert!(rt; server.swap(2, 2, 2, 2));
+    for (tree, node) in [
+        (3, 0),
+        (1, 2),
+        (2, 1),
+        (0, 0),
+        (1, 7),
+        (1, 1 << 32),
+        (257, 0),
+    ] {
+        assert!(rt; !server.swap(1, 0, tree, node), "{tree} {node}");
+        assert!(rt; !server.swap(tree, node, 1, 0), "{tree} {node}");
+        assert!(rt; !server.swap(1, 2, 1, 2));
+    }
+    fetches(&rt, &mut server, &[1, 1, 0, 0, 0, 0], &[2, 2, 1, 0]);
+    fetches(&rt, &mut server, &[1, 2, 0, 0, 0, 1], &[2, 0, 1, 1]);
+}
+
+/// The bytes of an answer. Where memory is refused nothing is changed, and the next call goes on.
+fn answer(rt: &impl Abort, alloc: Global, server: &mut Server, body: &[u8]) -> Vec<u8> {
+    match server.answer(alloc, body) {
+        Ok(answer) if answer.as_slice() != [0x81, 8].as_slice() => answer,
+        _ => server
+            .answer(alloc, body)
+            .expect(rt, "memory is refused once"),
+    }
+}
+
+#[test]
+fn bytes_of_answers(rt: HostRuntime) {
+    let mut server = Server::new(rt.alloc());
+    for (body, bytes) in [
+        ([].as_slice(), [0x81, 7].as_slice()),
+        (&[1, 0, 0, 0, 0, 0], &[0x81, 1]),
+        (&[4, 0, 1, 0, 0, 0, 2], &[0x80]),
+        (&[4, 0, 1, 0, 0, 0, 2], &[0x81, 5]),
+        (&[1, 0, 0, 0, 0, 1], &[0x81, 6]),
+        (&[2, 0, 0, 0, 0, 1, 17, 18, 19], &[0x81, 4]),
+        (&[2, 0, 0, 0, 0, 1, 17, 18, 19, 20], &[0x80]),
+        (&[1, 0, 0, 0, 0, 1], &[0x80, 17, 18, 19, 20]),
+        (&[2, 0, 0, 0, 0, 1, 27, 28, 29, 30], &[0x80]),
+        (&[3, 0, 0, 0, 0, 0, 37, 38], &[0x80]),
+        (&[1, 0, 0, 0, 0, 1], &[0x80, 37, 38, 29, 30]),
+    ] {
+        let answered = answer(&rt, rt.alloc(), &mut server, body);
+        assert_eq!(rt; answered.as_slice(), bytes, "{body:?}");
+    }
+}

@@ -15,6 +15,7 @@ use Rattle.oram_host.proofs.LoadedHosts.{flat_map-push, host_grown, is_host}
 use Rattle.oram_host.proofs.Readings.{entries_fail, entries_first, fails_after, fails_first, fails_here, too_many}
 use Rattle.oram_host.proofs.ReadImages.{tree_again}
 use Rattle.oram_host.proofs.Rising.{least_after, least_after-push}
+use Rattle.oram_host.proofs.Transfers.{taken_twice}
 use Rattle.oram_host.proofs.images.loading.load_each_tree.Goals as goal
 
 pub returns-in_err-count-clause-fault : goal.returns-in_err-count-clause-fault
@@ -64,3 +65,12 @@ loop-preserved g c =
       next = ap (λ (n : ℕ). n + 1) c.from-least.ensures ∙ sym (ap (least_after 0) longer ∙ least_after-push host 0 number (kept_by tree));
       trees = trees_added c.loop.trees new number tree inv.trees c.in_ok-insert.ensures.entries c.insert.ensures.ordered c.in_ok-number.ensures.tree (search rules);
     }
+
+pub returns-in_err-number-clause-consumed : goal.returns-in_err-number-clause-consumed
+returns-in_err-number-clause-consumed g c = taken_twice _ _ _ (_, c.loop.invariant.taken) c.load_tree.ensures.consumed
+
+pub returns-in_err-insert-clause-consumed : goal.returns-in_err-insert-clause-consumed
+returns-in_err-insert-clause-consumed g c = taken_twice _ _ _ (_, c.loop.invariant.taken) c.load_tree.ensures.consumed
+
+pub returns-clause-consumed : goal.returns-clause-consumed
+returns-clause-consumed g c = (_, c.loop.invariant.taken)

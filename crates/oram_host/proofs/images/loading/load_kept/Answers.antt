@@ -11,6 +11,7 @@ use Rattle.oram_host.specs.ImageReading.{IsFirstFault, next_byte, next_entries, 
 use Rattle.oram_host.proofs.LoadedHosts.{all_there, are_nodes, are_whole}
 use Rattle.oram_host.proofs.Readings.{fails_after, fails_first, fails_here}
 use Rattle.oram_host.proofs.ReadImages.{kept_first, kept_length, kept_misshaped, kept_records}
+use Rattle.oram_host.proofs.Transfers.{taken_twice}
 use Rattle.oram_host.proofs.images.loading.load_kept.Goals as goal
 
 pub returns-in_err-depth-clause-fault : goal.returns-in_err-depth-clause-fault
@@ -66,3 +67,15 @@ returns-clause-tree g c =
     let nodes = 2 ^ (depth + 1) - 1 in
     let each = subst (λ (n : ℕ). AllByRecursion (IsRecordOf n record_len) es) c.node_count.ensures c.in_ok-records.ensures.each in
     record { shape = search rules; ordered = c.in_ok-records.ensures.ordered; nodes = are_nodes depth record_len es each; whole = are_whole nodes record_len es each }
+
+pub returns-in_err-record_len-clause-consumed : goal.returns-in_err-record_len-clause-consumed
+returns-in_err-record_len-clause-consumed g c = taken_twice _ _ _ c.read_byte.ensures.consumed c.read_number.ensures.consumed
+
+pub returns-then-not-is_shape-clause-consumed : goal.returns-then-not-is_shape-clause-consumed
+returns-then-not-is_shape-clause-consumed g c = taken_twice _ _ _ c.read_byte.ensures.consumed c.read_number.ensures.consumed
+
+pub returns-in_err-records-clause-consumed : goal.returns-in_err-records-clause-consumed
+returns-in_err-records-clause-consumed g c = taken_twice _ _ _ (taken_twice _ _ _ c.read_byte.ensures.consumed c.read_number.ensures.consumed) c.load_records.ensures.consumed
+
+pub returns-clause-consumed : goal.returns-clause-consumed
+returns-clause-consumed g c = taken_twice _ _ _ (taken_twice _ _ _ c.read_byte.ensures.consumed c.read_number.ensures.consumed) c.load_records.ensures.consumed

@@ -5,6 +5,7 @@ use Rattle.oram_host.specs.declared.images.ImageFault.TheVariants.{Content}
 use Rattle.oram_host.specs.ImageReading.{next_bytes, next_number, next_record}
 use Rattle.oram_host.proofs.Readings.{fails_after, fails_first, fails_here}
 use Rattle.oram_host.proofs.ReadImages.{other_node, record_bytes, record_first}
+use Rattle.oram_host.proofs.Transfers.{taken_twice}
 use Rattle.oram_host.proofs.images.loading.load_record.Goals as goal
 
 pub returns-in_err-node-clause-fault : goal.returns-in_err-node-clause-fault
@@ -31,3 +32,9 @@ returns-in_err-read_bytes-clause-fault g c =
     let long : length c.read_bytes.new.buf ≡ a.record_len = search rules in
     rw (p.1, p.2) (fails_after why _ _ (to_be_bytes w32 node) (next_bytes a.record_len) (next_record a.nodes a.record_len a.least) c.in_ok-node.ensures.ok
     (λ rest e. record_bytes a.nodes a.record_len a.least node rest why fits c.if-node-least.false c.if-node-nodes.false e) (rw long at c.in_err-read_bytes.ensures.fault))
+
+pub returns-in_err-read_bytes-clause-consumed : goal.returns-in_err-read_bytes-clause-consumed
+returns-in_err-read_bytes-clause-consumed g c = taken_twice _ _ _ c.read_number.ensures.consumed c.read_bytes.ensures.consumed
+
+pub returns-clause-consumed : goal.returns-clause-consumed
+returns-clause-consumed g c = taken_twice _ _ _ c.read_number.ensures.consumed c.read_bytes.ensures.consumed

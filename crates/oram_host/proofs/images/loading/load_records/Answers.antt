@@ -12,6 +12,7 @@ use Rattle.oram_host.proofs.LoadedHosts.{all_push, flat_map-push, grown}
 use Rattle.oram_host.proofs.Readings.{entries_fail, entries_first, fails_after, fails_first, fails_here, too_many}
 use Rattle.oram_host.proofs.ReadImages.{record_again}
 use Rattle.oram_host.proofs.Rising.{RisesFrom-push, least_after, least_after-push}
+use Rattle.oram_host.proofs.Transfers.{taken_twice}
 use Rattle.oram_host.proofs.images.loading.load_records.Goals as goal
 
 pub returns-in_err-count-clause-fault : goal.returns-in_err-count-clause-fault
@@ -68,3 +69,12 @@ loop-preserved g c =
       each = subst All (sym longer) (all_push (IsRecordOf c.args.nodes c.args.record_len) es (node, bytes) inv.each c.in_ok-node.ensures.record);
       ordered = c.insert.ensures.ordered;
     }
+
+pub returns-in_err-node-clause-consumed : goal.returns-in_err-node-clause-consumed
+returns-in_err-node-clause-consumed g c = taken_twice _ _ _ (_, c.loop.invariant.taken) c.load_record.ensures.consumed
+
+pub returns-in_err-insert-clause-consumed : goal.returns-in_err-insert-clause-consumed
+returns-in_err-insert-clause-consumed g c = taken_twice _ _ _ (_, c.loop.invariant.taken) c.load_record.ensures.consumed
+
+pub returns-clause-consumed : goal.returns-clause-consumed
+returns-clause-consumed g c = (_, c.loop.invariant.taken)

@@ -4,6 +4,7 @@ use Rattle.oram_host.specs.declared.images.ImageFault.TheVariants.{Content}
 use Rattle.oram_host.specs.ImageReading.{next_byte, next_kept, next_tree}
 use Rattle.oram_host.proofs.Readings.{fails_after, fails_first, fails_here}
 use Rattle.oram_host.proofs.ReadImages.{other_tree, tree_first, tree_kept}
+use Rattle.oram_host.proofs.Transfers.{taken_twice}
 use Rattle.oram_host.proofs.images.loading.load_tree.Goals as goal
 
 pub returns-in_err-number-clause-fault : goal.returns-in_err-number-clause-fault
@@ -26,3 +27,9 @@ returns-in_err-tree-clause-fault g c =
     let number : ℕ = c.in_ok-number.number in
     let rises : c.args.least ≤ number = search rules in
     rw (p.1, p.2) (fails_after why _ _ (number ∷ []) next_kept (next_tree c.args.least) c.in_ok-number.ensures.ok (λ rest e. tree_kept c.args.least number rest why rises e) c.in_err-tree.ensures.fault)
+
+pub returns-in_err-tree-clause-consumed : goal.returns-in_err-tree-clause-consumed
+returns-in_err-tree-clause-consumed g c = taken_twice _ _ _ c.read_byte.ensures.consumed c.load_kept.ensures.consumed
+
+pub returns-clause-consumed : goal.returns-clause-consumed
+returns-clause-consumed g c = taken_twice _ _ _ c.read_byte.ensures.consumed c.load_kept.ensures.consumed

@@ -9,6 +9,7 @@ use Rattle.oram_host.specs.Trees.{host_of}
 use Rattle.oram_host.proofs.LoadedHosts.{is_host}
 use Rattle.oram_host.proofs.Readings.{fails_after, fails_first}
 use Rattle.oram_host.proofs.ReadImages.{host_first, host_longer, host_trees, host_version}
+use Rattle.oram_host.proofs.Transfers.{taken_twice}
 use Rattle.oram_host.proofs.images.loading.load_trees.Goals as goal
 
 pub returns-in_err-read_letters-clause-fault : goal.returns-in_err-read_letters-clause-fault
@@ -38,3 +39,15 @@ returns-in_err-read_end-clause-fault g c =
     let head = Consumes-trans _ _ _ (codes "ORAMHOST") (to_be_bytes w32 1) c.in_ok-read_letters.ensures.ok c.in_ok-read_version.ensures.ok in
     rw (p.1, p.2) (fails_after why _ _ (image host) after_end host_in (Consumes-trans _ _ _ _ _ head c.in_ok-trees.ensures.ok)
     (λ rest e. host_longer host rest why (is_host c.in_ok-trees.trees c.in_ok-trees.ensures.trees) e) c.in_err-read_end.ensures.fault)
+
+pub returns-in_err-read_version-clause-consumed : goal.returns-in_err-read_version-clause-consumed
+returns-in_err-read_version-clause-consumed g c = taken_twice _ _ _ c.read_letters.ensures.consumed c.read_version.ensures.consumed
+
+pub returns-in_err-trees-clause-consumed : goal.returns-in_err-trees-clause-consumed
+returns-in_err-trees-clause-consumed g c = taken_twice _ _ _ (taken_twice _ _ _ c.read_letters.ensures.consumed c.read_version.ensures.consumed) c.load_each_tree.ensures.consumed
+
+pub returns-in_err-read_end-clause-consumed : goal.returns-in_err-read_end-clause-consumed
+returns-in_err-read_end-clause-consumed g c = taken_twice _ _ _ (taken_twice _ _ _ (taken_twice _ _ _ c.read_letters.ensures.consumed c.read_version.ensures.consumed) c.load_each_tree.ensures.consumed) c.read_end.ensures.consumed
+
+pub returns-clause-consumed : goal.returns-clause-consumed
+returns-clause-consumed g c = taken_twice _ _ _ (taken_twice _ _ _ (taken_twice _ _ _ c.read_letters.ensures.consumed c.read_version.ensures.consumed) c.load_each_tree.ensures.consumed) c.read_end.ensures.consumed
