@@ -1,10 +1,10 @@
 -- A plan that is carried out is the outcome of an eviction.
-use Rattle.std.proofs.Common.{◌≡◌, ℕ, ◌+◌, ◌<◌, ◌≤◌, true, List, ◌++◌, length, get_or, None, Some, Option, true, refl, ap, subst, ◌∙◌, inl, inr, arith}
+use Rattle.std.proofs.Common.{◌≡◌, ℕ, ◌+◌, ◌<◌, ◌≤◌, true, List, ◌++◌, length, map, get_or, None, Some, Option, true, refl, ap, subst, ◌∙◌, inl, inr, arith}
 use mathlib.Core.Bool.{false≢true}
 use Rattle.std.specs.Option.{IfSome}
 use Rattle.std.specs.List.{All, Contains, count_by}
 use Rattle.std.specs.List.Sorted.{IsPermutation}
-use Rattle.std.proofs.lemmas.List.{get_or_default}
+use Rattle.std.proofs.lemmas.List.{get_or_default, get_or-map, length-map}
 use Rattle.oram_bucket.specs.declared.block.Block.{Block}
 use Rattle.oram_geometry.specs.Path.{MeetsAt}
 use Rattle.oram_bucket.specs.Cell.{IsRising}
@@ -13,11 +13,15 @@ use Rattle.oram_stash.specs.Eviction.{listed, all_listed, IsNearer, IsEviction}
 use Rattle.oram_stash.proofs.Filling.{level_is}
 use Rattle.oram_stash.proofs.Picking.{length-picked, All-picked, AllPairs-picked, StandsAt-picked}
 
+-- the blocks' own leaves
+abbrev pub leaves_of : List Block → List ℕ
+leaves_of blocks = map (λ b. b.leaf) blocks
+
 none_from_stays : (q : Option ℕ) → stays q ≡ true → q ≡ None
 none_from_stays None is = refl
 none_from_stays (Some k) is = absurd (false≢true is)
 
-module _ (deep slots x : ℕ) (blocks : List Block) (levels : List (Option ℕ)) (lists : List (List Block)) (rest : List Block) (rising : IsRising blocks) (plan : IsPlan (Reaches deep x blocks) (length blocks) deep slots 0 levels) (to_list : (l : ℕ) → listed lists l ≡ picked (is_level l) levels blocks) (to_rest : rest ≡ picked stays levels blocks) where
+module _ (deep slots x : ℕ) (blocks : List Block) (levels : List (Option ℕ)) (lists : List (List Block)) (rest : List Block) (rising : IsRising blocks) (plan : IsPlan (Reaches deep x (leaves_of blocks)) (length blocks) deep slots 0 levels) (to_list : (l : ℕ) → listed lists l ≡ picked (is_level l) levels blocks) (to_rest : rest ≡ picked stays levels blocks) where
   -- where a listed block stands, and where one of the rest
   listed_at : (l : ℕ) (b : Block) → Contains (listed lists l) b → (j : ℕ) × (j < length blocks) × (get_or blocks j b ≡ b) × (level_at levels j ≡ Some l)
   listed_at l b inside =
@@ -34,8 +38,8 @@ module _ (deep slots x : ℕ) (blocks : List Block) (levels : List (Option ℕ))
   above_at l b (inl inside) = let at = left_at b inside in (at.0, at.1, at.2, rw at.3 tt)
   above_at l b (inr nearer) = let at = listed_at nearer.0 b nearer.2 in (at.0, at.1, at.2, rw at.3 nearer.1)
 
-  reaches_at : (l j : ℕ) (b : Block) → j < length blocks → get_or blocks j b ≡ b → MeetsAt deep x b.leaf l → Reaches deep x blocks j l
-  reaches_at l j b lt is meets d = rw (get_or_default blocks j d b lt, is) meets
+  reaches_at : (l j : ℕ) (b : Block) → j < length blocks → get_or blocks j b ≡ b → MeetsAt deep x b.leaf l → Reaches deep x (leaves_of blocks) j l
+  reaches_at l j b lt is meets d = rw (get_or-map (λ (c : Block). c.leaf) blocks j b d lt, is) meets
 
   length_listed : (l : ℕ) → length (listed lists l) ≡ count_by (is_level l) levels
   length_listed l = rw (to_list l) (length-picked (is_level l) levels blocks plan.same_length)
@@ -44,7 +48,7 @@ module _ (deep slots x : ℕ) (blocks : List Block) (levels : List (Option ℕ))
   outcome long together = record {
     placement = record {
       levels = long;
-      on_path = λ l b inside. let at = listed_at l b inside in subst (λ (c : Block). MeetsAt deep x c.leaf l) at.2 (plan.on_path at.0 l at.3 b);
+      on_path = λ l b inside. let at = listed_at l b inside in subst (λ (c : Block). MeetsAt deep x c.leaf l) at.2 (rw (get_or-map (λ (c : Block). c.leaf) blocks at.0 b 0 at.1) at (plan.on_path at.0 l at.3 0));
       within = λ l. rw (length_listed l) (plan.within l);
       each_once = together;
     };
@@ -69,10 +73,11 @@ in_lists_from_plan levels deep n in_tree long k d lt = rw (get_or_default levels
     go (Some l) bound = let h = bound l refl in omega arith
 
 -- the same of blocks and levels that are read in several places
-pub carried_out : (deep slots x : ℕ) (blocks seen moved : List Block) (levels read : List (Option ℕ)) (lists : List (List Block)) (rest : List Block) → seen ≡ blocks → moved ≡ blocks → read ≡ levels → IsRising blocks → IsPlan (Reaches deep x seen) (length seen) deep slots 0 levels → ((l : ℕ) → listed lists l ≡ picked (is_level l) read moved) → rest ≡ picked stays read moved → length lists ≡ deep + 1 → IsPermutation moved (all_listed lists ++ rest) → IsEviction deep slots x blocks lists rest
+pub carried_out : (deep slots x : ℕ) (blocks : List Block) (seen : List ℕ) (moved : List Block) (levels read : List (Option ℕ)) (lists : List (List Block)) (rest : List Block) → seen ≡ leaves_of blocks → moved ≡ blocks → read ≡ levels → IsRising blocks → IsPlan (Reaches deep x seen) (length seen) deep slots 0 levels → ((l : ℕ) → listed lists l ≡ picked (is_level l) read moved) → rest ≡ picked stays read moved → length lists ≡ deep + 1 → IsPermutation moved (all_listed lists ++ rest) → IsEviction deep slots x blocks lists rest
 carried_out deep slots x blocks seen moved levels read lists rest same_seen same_moved same_read rising plan to_list to_rest long together =
-    let P : List Block → Type 0 = λ l. IsPlan (Reaches deep x l) (length l) deep slots 0 levels in
-    outcome deep slots x blocks levels lists rest rising (subst P same_seen plan)
+    let P : List ℕ → Type 0 = λ l. IsPlan (Reaches deep x l) (length l) deep slots 0 levels in
+    let Q : ℕ → Type 0 = λ n. IsPlan (Reaches deep x (leaves_of blocks)) n deep slots 0 levels in
+    outcome deep slots x blocks levels lists rest rising (let long : length (leaves_of blocks) ≡ length blocks = simp length-map in subst Q long (subst P same_seen plan))
     (λ l. to_list l ∙ ap (λ q. picked (is_level l) q moved) same_read ∙ ap (picked (is_level l) levels) same_moved)
     (to_rest ∙ ap (λ q. picked stays q moved) same_read ∙ ap (picked stays levels) same_moved)
     long (rw same_moved at together)

@@ -8,9 +8,7 @@ use Rattle.std.proofs.lemmas.List.Sums.{sum_by-cons}
 use Rattle.std.proofs.lemmas.List.Elements.{All-nil, All-cons, All-contains}
 use Rattle.std.proofs.lemmas.List.Kept.{AllPairs-cons}
 use Rattle.std.proofs.lemmas.List.Sorted.{IsPermutation-sym, IsPermutation-trans, IsPermutation-cons, IsPermutation-middle, IsPermutation-append_left, IsPermutation-append_right, IsPermutation-to_front}
-use Rattle.oram_bucket.specs.declared.block.Block.{Block}
-use Rattle.oram_stash.specs.Plan.{level_at, is_level, stays, picked}
-use Rattle.oram_stash.specs.Eviction.{listed, all_listed}
+use Rattle.oram_stash.specs.Plan.{level_at, list_at, joined, is_level, stays, picked}
 
 -- one more element, at the end
 cond_append : {X : Type 0} (b : Bool) (x : X) (xs ys : List X) → cond b (x ∷ (xs ++ ys)) (xs ++ ys) ≡ cond b (x ∷ xs) xs ++ ys
@@ -66,32 +64,32 @@ pub StandsAt-picked : {X : Type 0} (p : Option ℕ → Bool) (qs : List (Option 
 StandsAt-picked p qs xs x inside = All-contains (StandsAt p qs xs) (picked p qs xs) x (All-picked (StandsAt p qs xs) p qs xs (λ j d lt passes. (j, lt, get_or_default xs j _ d lt, passes))) inside
 
 -- a block added to a list is beside the blocks of all lists
-pub all_listed-set : (lists : List (List Block)) (l : ℕ) (x : Block) → l < length lists → IsPermutation (x ∷ all_listed lists) (all_listed (set lists l (listed lists l ++ x ∷ [])))
-all_listed-set [] l x lt = absurd (omega arith)
-all_listed-set (ys ∷ lists) zero x lt = rw (append_assoc ys (x ∷ []) (all_listed lists)) (IsPermutation-sym _ _ (IsPermutation-middle ys x (all_listed lists)))
-all_listed-set (ys ∷ lists) (suc l) x lt =
-    IsPermutation-trans _ _ _ (IsPermutation-sym _ _ (IsPermutation-middle ys x (all_listed lists))) (IsPermutation-append_right ys _ _ (all_listed-set lists l x (omega arith)))
+pub joined-set : {X : Type 0} (lists : List (List X)) (l : ℕ) (x : X) → l < length lists → IsPermutation (x ∷ joined lists) (joined (set lists l (list_at lists l ++ x ∷ [])))
+joined-set [] l x lt = absurd (omega arith)
+joined-set (ys ∷ lists) zero x lt = rw (append_assoc ys (x ∷ []) (joined lists)) (IsPermutation-sym _ _ (IsPermutation-middle ys x (joined lists)))
+joined-set (ys ∷ lists) (suc l) x lt =
+    IsPermutation-trans _ _ _ (IsPermutation-sym _ _ (IsPermutation-middle ys x (joined lists))) (IsPermutation-append_right ys _ _ (joined-set lists l x (omega arith)))
 
 -- the lists after it
-pub listed-set : (lists : List (List Block)) (l k : ℕ) (x : Block) → l < length lists → listed (set lists l (listed lists l ++ x ∷ [])) k ≡ listed lists k ++ cond (eqb l k) (x ∷ []) []
-listed-set lists l k x lt = elim (cases_eq k l) [
+pub list_at-set : {X : Type 0} (lists : List (List X)) (l k : ℕ) (x : X) → l < length lists → list_at (set lists l (list_at lists l ++ x ∷ [])) k ≡ list_at lists k ++ cond (eqb l k) (x ∷ []) []
+list_at-set lists l k x lt = elim (cases_eq k l) [
   | inl same ↦ rw (same, eq-eqb l l refl) (get_or-set_same lists l _ [] lt)
   | inr ne ↦ rw (ne_eqb l k (λ e. ne (sym e)), append-nil) (get_or-set_other lists l k _ [] ne)
 ]
 
 -- the first k blocks have gone to the lists of their levels, or to the rest
-pub record Moved (levels : List (Option ℕ)) (blocks : List Block) (k : ℕ) (lists : List (List Block)) (rest : List Block) : Type 0 where
-  pub to_list : (l : ℕ) → listed lists l ≡ picked (is_level l) (take k levels) (take k blocks)
+pub record Moved {X : Type 0} (levels : List (Option ℕ)) (blocks : List X) (k : ℕ) (lists : List (List X)) (rest : List X) : Type 0 where
+  pub to_list : (l : ℕ) → list_at lists l ≡ picked (is_level l) (take k levels) (take k blocks)
   pub to_rest : rest ≡ picked stays (take k levels) (take k blocks)
-  pub each_once : IsPermutation (take k blocks) (all_listed lists ++ rest)
+  pub each_once : IsPermutation (take k blocks) (joined lists ++ rest)
 
-module _ (levels : List (Option ℕ)) (blocks : List Block) (k : ℕ) (lists : List (List Block)) (rest : List Block) (moved : Moved levels blocks k lists rest) (x : Block) (in_blocks : k < length blocks) (in_levels : k < length levels) (read : x ≡ get_or blocks k x) where
+module _ {X : Type 0} (levels : List (Option ℕ)) (blocks : List X) (k : ℕ) (lists : List (List X)) (rest : List X) (moved : Moved levels blocks k lists rest) (x : X) (in_blocks : k < length blocks) (in_levels : k < length levels) (read : x ≡ get_or blocks k x) where
   -- the next block goes to the list of its level
-  pub Moved-listed : (l : ℕ) → level_at levels k ≡ Some l → l < length lists → Moved levels blocks (k + 1) (set lists l (listed lists l ++ x ∷ [])) rest
+  pub Moved-listed : (l : ℕ) → level_at levels k ≡ Some l → l < length lists → Moved levels blocks (k + 1) (set lists l (list_at lists l ++ x ∷ [])) rest
   Moved-listed l is lt = record {
-    to_list = λ m. listed-set lists l m x lt ∙ rw (picked_more (is_level m) levels blocks k x in_levels in_blocks, is, ← read, ← moved.to_list m) refl;
+    to_list = λ m. list_at-set lists l m x lt ∙ rw (picked_more (is_level m) levels blocks k x in_levels in_blocks, is, ← read, ← moved.to_list m) refl;
     to_rest = rw (picked_more stays levels blocks k x in_levels in_blocks, is, append-nil, ← moved.to_rest) refl;
-    each_once = rw (take_more blocks k x in_blocks, ← read) (IsPermutation-trans _ _ _ (IsPermutation-to_front (take k blocks) x) (IsPermutation-trans _ _ _ (IsPermutation-cons x _ _ moved.each_once) (IsPermutation-append_left rest _ _ (all_listed-set lists l x lt))));
+    each_once = rw (take_more blocks k x in_blocks, ← read) (IsPermutation-trans _ _ _ (IsPermutation-to_front (take k blocks) x) (IsPermutation-trans _ _ _ (IsPermutation-cons x _ _ moved.each_once) (IsPermutation-append_left rest _ _ (joined-set lists l x lt))));
   }
 
   -- the next block stays

@@ -87,18 +87,21 @@ eqb_flip a b = elim (cases_eq a b) [
 abbrev pub AreApart : List Block → Type 0
 AreApart = AllPairs (λ b c. b.address ≢ c.address)
 
--- so after a permutation of a rising list
-pub AreApart-permuted : (xs ys : List Block) → IsRising xs → IsPermutation xs ys → AreApart ys
-AreApart-permuted xs ys rising moved i j d lt within same =
+-- nor after a permutation
+pub AreApart-moved : (xs ys : List Block) → AreApart xs → IsPermutation xs ys → AreApart ys
+AreApart-moved xs ys apart moved i j d lt within same =
     let address : Block → ℕ = λ (b : Block). b.address in
     let distinct = IsDistinct-from_apart eqb (map address xs) (λ i j n lt within.
     let long : j < length xs = rw length-map at within in
-    let rise = rising i j d lt long in
-    ne_eqb _ _ (rw (get_or-map address xs i d n (omega arith), get_or-map address xs j d n long) (λ e. omega arith))) in
+    ne_eqb _ _ (rw (get_or-map address xs i d n (omega arith), get_or-map address xs j d n long) (apart i j d lt long))) in
     let distinct_after = IsDistinct-IsPermutation eqb (λ a b. eqb_flip a b) (map address xs) (map address ys) (IsPermutation-map address xs ys moved) distinct in
     let differ = apart_from_distinct eqb (map address ys) i j 0 distinct_after lt (rw length-map within) in
     let equal = eq-eqb _ _ (get_or-map address ys i d 0 (omega arith) ∙ same ∙ sym (get_or-map address ys j d 0 within)) in
     false≢true (sym differ ∙ equal)
+
+-- so after a permutation of a rising list
+pub AreApart-permuted : (xs ys : List Block) → IsRising xs → IsPermutation xs ys → AreApart ys
+AreApart-permuted xs ys rising moved = AreApart-moved xs ys (λ i j d lt within same. let r = rising i j d lt within in omega arith) moved
 
 -- blocks of two parts
 pub apart_parts : (xs ys : List Block) (b c : Block) → AreApart (xs ++ ys) → Contains xs b → Contains ys c → b.address ≢ c.address

@@ -15,7 +15,7 @@ use Rattle.oram_stash.proofs.Tight.{Contains-all_listed}
 use Rattle.oram_stash.proofs.Rising.{length-le, same_rising, AreApart, AreApart-permuted, AreApart-left, apart_parts, apart_lists, Contains-cases, Contains-first, Contains-later}
 
 -- blocks of a rising list with one address are one
-same_block : (xs : List Block) → IsRising xs → (b c : Block) → Contains xs b → Contains xs c → b.address ≡ c.address → b ≡ c
+pub same_block : (xs : List Block) → IsRising xs → (b c : Block) → Contains xs b → Contains xs c → b.address ≡ c.address → b ≡ c
 same_block xs rising b c (i, lt, is) (j, within, there) same = elim (cases_lt i j) as (λ _. b ≡ c) [
   | inl less ↦ absurd (let r = rising i j b less within in let e = ap (λ (d : Block). d.address) is in let f = ap (λ (d : Block). d.address) (get_or_default xs j b c within ∙ there) in omega arith)
   | inr more ↦ elim (cases_lt j i) as (λ _. b ≡ c) [

@@ -1,12 +1,19 @@
 -- Which block goes to the list of which level, by the blocks' places in the stash.
 use Rattle.std.specs.Prelude.{◌≡◌, ℕ, ◌<◌, ◌≤◌, Bool, true, false, cond, List, [], ◌∷◌, length, Option, Some, None, slice_index_or, slice_set, Contains, ◌↔◌, count_by, ◌==◌}
-use Rattle.std.specs.List.{HoldsAt}
-use Rattle.oram_bucket.specs.declared.block.Block.{Block}
+use Rattle.std.specs.List.{HoldsAt, flat_map}
 use Rattle.oram_geometry.specs.Path.{MeetsAt}
 
 -- the level of the block at place j, if it has one
 abbrev pub level_at : List (Option ℕ) → ℕ → Option ℕ
 level_at levels j = slice_index_or levels j None
+
+-- of lists by level, that of a level
+abbrev pub list_at : {X : Type 0} → List (List X) → ℕ → List X
+list_at lists level = slice_index_or lists level []
+
+-- what all of them have, from the root down
+abbrev pub joined : {X : Type 0} → List (List X) → List X
+joined lists = flat_map (λ list. list) lists
 
 -- whether it is this level
 abbrev pub is_level : ℕ → Option ℕ → Bool
@@ -18,9 +25,9 @@ abbrev pub IsAbove : Option ℕ → ℕ → Type 0
 IsAbove None l = Unit {0}
 IsAbove (Some k) l = k < l
 
--- the path of the block at place j meets that of leaf x at level l
-abbrev pub Reaches : ℕ → ℕ → List Block → ℕ → ℕ → Type 0
-Reaches deep x blocks j l = HoldsAt (λ b. MeetsAt deep x b.leaf l) blocks j
+-- the path of the leaf at place j meets that of leaf x at level l
+abbrev pub Reaches : ℕ → ℕ → List ℕ → ℕ → ℕ → Type 0
+Reaches deep x leaves j l = HoldsAt (λ own. MeetsAt deep x own l) leaves j
 
 -- of n blocks, of which R says what levels they reach, the levels from a first one on have got theirs
 pub record IsPlan (R : ℕ → ℕ → Type 0) (n deep slots from : ℕ) (levels : List (Option ℕ)) : Type 0 where
@@ -59,7 +66,7 @@ abbrev pub given : ℕ → List ℕ → List (Option ℕ) → List (Option ℕ)
 given l [] levels = levels
 given l (j ∷ js) levels = given l js (slice_set levels j (Some l))
 
--- l is the greatest level at which the path of the block at place j meets that of leaf x
-pub record IsShared (deep x : ℕ) (blocks : List Block) (j l : ℕ) : Type 0 where
+-- l is the greatest level at which the path of the leaf at place j meets that of leaf x
+pub record IsShared (deep x : ℕ) (leaves : List ℕ) (j l : ℕ) : Type 0 where
   pub in_tree : l ≤ deep
-  pub reaches : (k : ℕ) → k ≤ deep → (Reaches deep x blocks j k) ↔ (k ≤ l)
+  pub reaches : (k : ℕ) → k ≤ deep → (Reaches deep x leaves j k) ↔ (k ≤ l)

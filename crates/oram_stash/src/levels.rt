@@ -12,23 +12,23 @@ use oram_geometry::Device;
 use std::alloc::{AllocError, Global};
 use std::collections::BTreeSet;
 
-/// The level of each block; none where it stays.
+/// The level of each block, by the blocks' own leaves; none where it stays.
 pub fn chosen_levels(
     alloc: Global,
     device: &Device,
     tree: u8,
     leaf: u32,
-    blocks: &[Block],
+    leaves: &[u32],
 ) -> Result<Vec<Option<u8>>, AllocError>
     requires tree { tree < trees_of device.now }
     requires leaf_in { leaf < 2 ^ depth_of device.now tree }
-    requires leaves_in { All (λ b. b.leaf < 2 ^ depth_of device.now tree) blocks.now }
-    ensures { IfOk result (λ levels. let deep = depth_of device.now tree in IsPlan (Reaches deep leaf blocks.now) (length blocks.now) deep device.now.slots 0 levels.items) }
+    requires leaves_in { All (λ own. own < 2 ^ depth_of device.now tree) leaves.now }
+    ensures { IfOk result (λ levels. let deep = depth_of device.now tree in IsPlan (Reaches deep leaf leaves.now) (length leaves.now) deep device.now.slots 0 levels.items) }
 {
-    let shared = shared_levels(alloc, device, tree, leaf, blocks)?;
+    let shared = shared_levels(alloc, device, tree, leaf, leaves)?;
     let depth = device.depth(tree);
     let groups = grouped(alloc, &shared, usize::from(depth) + 1)?;
-    let mut levels = vec![in alloc; None; blocks.len()]?;
+    let mut levels = vec![in alloc; None; leaves.len()]?;
     let mut waiting = BTreeSet::new(alloc);
     for level in (0..=depth).rev() {
         admit(&groups[usize::from(level)], &mut waiting)?;
@@ -37,23 +37,23 @@ pub fn chosen_levels(
     Ok(levels)
 }
 
-/// The level down to which the path of each block is that of the leaf.
+/// The level down to which the path of each of the leaves is that of the leaf.
 fn shared_levels(
     alloc: Global,
     device: &Device,
     tree: u8,
     leaf: u32,
-    blocks: &[Block],
+    leaves: &[u32],
 ) -> Result<Vec<u8>, AllocError>
     requires tree { tree < trees_of device.now }
     requires leaf_in { leaf < 2 ^ depth_of device.now tree }
-    requires leaves_in { All (λ b. b.leaf < 2 ^ depth_of device.now tree) blocks.now }
-    ensures count { IfOk result (λ shared. vec_len shared ≡ length blocks.now) }
-    ensures each { IfOk result (λ shared. (j : ℕ) → j < length blocks.now → IsShared (depth_of device.now tree) leaf blocks.now j (slice_index shared.items j)) }
+    requires leaves_in { All (λ own. own < 2 ^ depth_of device.now tree) leaves.now }
+    ensures count { IfOk result (λ shared. vec_len shared ≡ length leaves.now) }
+    ensures each { IfOk result (λ shared. (j : ℕ) → j < length leaves.now → IsShared (depth_of device.now tree) leaf leaves.now j (slice_index shared.items j)) }
 {
-    let mut shared = Vec::with_capacity(alloc, blocks.len())?;
-    for block in blocks {
-        shared.push(device.shared_level(tree, leaf, block.leaf))?;
+    let mut shared = Vec::with_capacity(alloc, leaves.len())?;
+    for own in leaves {
+        shared.push(device.shared_level(tree, leaf, *own))?;
     }
     Ok(shared)
 }

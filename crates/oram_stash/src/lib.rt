@@ -5,16 +5,19 @@
 //! which, the least addresses go first, so that an eviction has just one outcome.
 #![tactic(auto)]
 
-ghost use Rattle.std.specs.Prelude.{◌≡◌, ◌≢◌, ℕ, ◌+◌, ◌<◌, ◌≤◌, ◌^◌, ◌↔◌, ◌==◌, List, [], ◌∷◌, ◌++◌, length, map, All, Contains, IsSome, IsNone, IfOk, IfErr, OnOk, OnErr, IfSome, IfNone, MatchOption, IsPermutation, if◌then◌else◌, Some};
+ghost use Rattle.std.specs.Prelude.{◌≡◌, ◌≢◌, ℕ, ◌+◌, ◌<◌, ◌≤◌, ◌^◌, ◌↔◌, ◌⊎◌, ◌==◌, List, [], ◌∷◌, ◌++◌, length, map, All, Contains, IsSome, IsNone, IfOk, IfErr, OnOk, OnErr, IfSome, IfNone, MatchOption, IsPermutation, AllPairs, filter, not, is_some, option_copied, vec_capacity, if◌then◌else◌, Some, IsTrue};
+ghost use Rattle.std.specs.List.{list_any};
 ghost use Rattle.oram_geometry.specs.Sizes.{trees_of, depth_of};
-ghost use Rattle.oram_bucket.specs.Cell.{IsRising};
+ghost use Rattle.oram_bucket.specs.Cell.{Cell, IsRising};
 ghost use Rattle.oram_stash.specs.Blocks.{block_at, IsAt, IsGapFor};
 ghost use Rattle.oram_stash.specs.Faults.{block_of};
 ghost use Rattle.oram_stash.specs.Eviction.{IsEviction, IsGreedy, LeavesFewest, IsTight, OneOutcome, all_listed};
 
+mod lending;
 mod levels;
 mod lists;
 
+pub use lending::{Placement, place};
 use levels::{chosen_levels, deepest_shared};
 use lists::{empty_lists, move_out};
 use oram_bucket::Block;
@@ -59,6 +62,18 @@ impl Stash {
         }
     }
 
+    /// A stash of these blocks, if they stand by rising address. It takes no memory.
+    pub fn from_blocks(blocks: Vec<Block>) -> Option<Stash>
+        ensures rising { IsSome result ↔ IsRising blocks.items }
+        ensures same { IfSome result (λ stash. stash ≡ blocks.items) }
+    {
+        if is_rising(&blocks) {
+            Some(Stash { blocks })
+        } else {
+            None
+        }
+    }
+
     /// How many blocks there are.
     pub fn len(&self) -> usize
         ensures { result ≡ length self.now }
@@ -75,7 +90,8 @@ impl Stash {
 
     /// Copies of the blocks, by rising address.
     pub fn list(&self, alloc: Global) -> Result<Vec<Block>, AllocError>
-        ensures { IfOk result (λ list. list.items ≡ self.now) }
+        ensures same { IfOk result (λ list. list.items ≡ self.now) }
+        ensures rising { IsRising self.now }
     {
         let mut list = Vec::with_capacity(alloc, self.blocks.len())?;
         for block in &self.blocks {
@@ -116,7 +132,9 @@ impl Stash {
     /// Takes the block of an address out, if it is there.
     pub fn take(&mut self, address: u32) -> Option<Block>
         ensures rising { IsRising self.new }
+        ensures was_rising { IsRising self.old }
         ensures value { result ≡ block_at self.old address }
+        ensures len { length self.new ≤ length self.old }
         ensures some { IfSome result (λ block. IsPermutation self.old (block ∷ self.new)) }
         ensures none { IfNone result (self.new ≡ self.old) }
     {
@@ -124,6 +142,71 @@ impl Stash {
             Ok(at) => Some(self.blocks.remove(at)),
             Err(_) => None,
         }
+    }
+
+    /// The block of an address, if it is there.
+    pub fn get(&self, address: u32) -> Option<&Block>
+        ensures { option_copied result ≡ block_at self.now address }
+    {
+        match self.search(address) {
+            Ok(at) => Some(&self.blocks[at]),
+            Err(_) => None,
+        }
+    }
+
+    /// Whether there is a block of an address.
+    pub fn contains(&self, address: u32) -> bool
+        ensures { result ≡ is_some (block_at self.now address) }
+    {
+        match self.search(address) {
+            Ok(_) => true,
+            Err(_) => false,
+        }
+    }
+
+    /// Lends what waits for an eviction, by rising address: the blocks of the stash, but for the one of an address, and
+    /// those of another stash.
+    pub fn waiting<'a>(
+        &'a self,
+        alloc: Global,
+        other: &'a Stash,
+        address: u32,
+    ) -> Result<Vec<&'a Block>, AllocError>
+        requires apart { (c d : Cell) → Contains self.now c → Contains other.now d → c.address ≡ d.address → c.address ≡ address }
+        ensures rising { IfOk result (λ blocks. IsRising (map (λ b. b.now) blocks.items)) }
+        ensures waits { IfOk result (λ blocks. (c : Cell) → Contains (map (λ b. b.now) blocks.items) c
+            ↔ ((Contains self.now c × (c.address ≢ address)) ⊎ Contains other.now c)) }
+    {
+        let mut blocks = self.lend(alloc, other, address)?;
+        blocks.sort_unstable_by_key(|block| block.address);
+        Ok(blocks)
+    }
+
+    /// A vector with room for the blocks of both.
+    pub fn room_with(&self, alloc: Global, other: &Stash) -> Result<Vec<Block>, AllocError>
+        ensures empty { IfOk result (λ room. room.items ≡ []) }
+        ensures room { IfOk result (λ room. length self.now + length other.now ≤ vec_capacity room) }
+    {
+        Vec::with_capacity(alloc, self.blocks.len() + other.blocks.len())
+    }
+
+    /// Takes the blocks of another stash over, and keeps of all those whose addresses stay. It takes no memory: they move
+    /// to a vector that has room for all.
+    pub fn settle(&mut self, other: Stash, stays: &[u32], room: Vec<Block>)
+        requires apart { (c d : Cell) → Contains self.old c → Contains other d → c.address ≢ d.address }
+        requires stays { AllPairs (λ a b. a < b) stays.now }
+        requires empty { room.items ≡ [] }
+        requires room { length self.old + length other ≤ vec_capacity room }
+        ensures rising { IsRising self.new }
+        ensures kept { (c : Cell) → Contains self.new c
+            ↔ ((Contains self.old c ⊎ Contains other c) × Contains stays.now c.address) }
+    {
+        let Stash { blocks: mut others } = other;
+        let mut own = mem::replace(&mut self.blocks, room);
+        self.blocks.append(&mut own).unwrap();
+        self.blocks.append(&mut others).unwrap();
+        self.blocks.retain(|block| is_among(stays, block.address));
+        self.blocks.sort_unstable_by_key(|block| block.address);
     }
 
     /// Moves blocks to the path of a leaf: at each level from the deepest up, of the blocks whose own path meets that
@@ -143,7 +226,8 @@ impl Stash {
         ensures fewest { OnOk result (LeavesFewest (depth_of device.now tree) device.now.slots leaf self.old self.new) }
         ensures err { OnErr result (self.new ≡ self.old) }
     {
-        let levels = chosen_levels(alloc, device, tree, leaf, &self.blocks)?;
+        let leaves = self.leaves(alloc)?;
+        let levels = chosen_levels(alloc, device, tree, leaf, &leaves)?;
         let mut lists = empty_lists(alloc, usize::from(device.depth(tree)) + 1, device.slots())?;
         let mut rest = Vec::with_capacity(alloc, self.blocks.len())?;
         let blocks = mem::replace(&mut self.blocks, Vec::new(alloc));
@@ -181,6 +265,29 @@ impl Stash {
         Some(tight)
     }
 
+    // The blocks, but for the one of an address, and then those of another stash.
+    fn lend<'a>(
+        &'a self,
+        alloc: Global,
+        other: &'a Stash,
+        address: u32,
+    ) -> Result<Vec<&'a Block>, AllocError>
+        ensures lent { IfOk result (λ blocks. map (λ b. b.now) blocks.items
+            ≡ filter (λ b. not (b.address == address)) self.now ++ other.now) }
+        ensures rising { IsRising self.now }
+        ensures other_rising { IsRising other.now }
+    {
+        let own = self.blocks.iter().filter(|block| block.address != address);
+        own.chain(other.blocks.iter()).collect(alloc)
+    }
+
+    // The blocks' own leaves.
+    fn leaves(&self, alloc: Global) -> Result<Vec<u32>, AllocError>
+        ensures { IfOk result (λ leaves. leaves.items ≡ map (λ b. b.leaf) self.now) }
+    {
+        self.blocks.iter().map(|block| block.leaf).collect(alloc)
+    }
+
     // Where the address is, or where it would go.
     fn search(&self, address: u32) -> Result<usize, usize>
         ensures found { IfOk result (IsAt self.now address) }
@@ -190,6 +297,21 @@ impl Stash {
         self.blocks
             .binary_search_by_key(&address, |block| block.address)
     }
+}
+
+/// Whether blocks stand by rising address.
+fn is_rising(blocks: &[Block]) -> bool
+    ensures { IsTrue result ↔ IsRising blocks.now }
+{
+    blocks.is_sorted_by(|before, block| before.address < block.address)
+}
+
+/// Whether an address is among some that rise.
+fn is_among(addresses: &[u32], address: u32) -> bool
+    requires { AllPairs (λ a b. a < b) addresses.now }
+    ensures { result ≡ list_any (λ a. a == address) addresses.now }
+{
+    addresses.binary_search(&address).is_ok()
 }
 
 /// An eviction has just one outcome.

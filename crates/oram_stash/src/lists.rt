@@ -1,13 +1,15 @@
 //! Blocks moved to the lists of their levels.
 ghost use Rattle.std.specs.Prelude.{◌≡◌, ℕ, ◌+◌, ◌<◌, ◌≤◌, [], ◌++◌, length, map, All, IfOk, IfSome, count_by, vec_capacity, vec_len, slice_index_or, IsPermutation};
-ghost use Rattle.oram_stash.specs.Plan.{is_level, stays, picked};
-ghost use Rattle.oram_stash.specs.Eviction.{listed, all_listed};
+ghost use Rattle.oram_stash.specs.Plan.{list_at, joined, is_level, stays, picked};
 
-use oram_bucket::Block;
 use std::alloc::{AllocError, Global};
 
 /// Empty lists, each with room for so many blocks.
-pub fn empty_lists(alloc: Global, count: usize, room: usize) -> Result<Vec<Vec<Block>>, AllocError>
+pub fn empty_lists<B: Drop>(
+    alloc: Global,
+    count: usize,
+    room: usize,
+) -> Result<Vec<Vec<B>>, AllocError>
     ensures count { IfOk result (λ lists. vec_len lists ≡ count) }
     ensures empty { IfOk result (λ lists. All (λ list. list.items ≡ []) lists.items) }
     ensures room { IfOk result (λ lists. All (λ list. room ≤ vec_capacity list) lists.items) }
@@ -19,12 +21,12 @@ pub fn empty_lists(alloc: Global, count: usize, room: usize) -> Result<Vec<Vec<B
     Ok(lists)
 }
 
-/// Moves each block to the list of its level, or to the rest. It takes no memory, since there is room.
-pub fn move_out(
-    blocks: Vec<Block>,
+/// Moves each block, or what lends it, to the list of its level, or to the rest. It takes no memory, since there is room.
+pub fn move_out<B: Drop>(
+    blocks: Vec<B>,
     levels: &[Option<u8>],
-    lists: &mut [Vec<Block>],
-    rest: &mut Vec<Block>,
+    lists: &mut [Vec<B>],
+    rest: &mut Vec<B>,
 )
     requires same_length { length levels.now ≡ vec_len blocks }
     requires in_lists { All (λ level. IfSome level (λ l. l < length lists.old)) levels.now }
@@ -33,9 +35,9 @@ pub fn move_out(
     requires room { (l : ℕ) → All (λ list. count_by (is_level l) levels.now ≤ vec_capacity list) lists.old }
     requires rest_room { vec_len blocks ≤ vec_capacity rest.old }
 
-    ensures to_list { (l : ℕ) → listed (map (λ list. list.items) lists.new) l ≡ picked (is_level l) levels.now blocks.items }
+    ensures to_list { (l : ℕ) → list_at (map (λ list. list.items) lists.new) l ≡ picked (is_level l) levels.now blocks.items }
     ensures to_rest { rest.new.items ≡ picked stays levels.now blocks.items }
-    ensures each_once { IsPermutation blocks.items (all_listed (map (λ list. list.items) lists.new) ++ rest.new.items) }
+    ensures each_once { IsPermutation blocks.items (joined (map (λ list. list.items) lists.new) ++ rest.new.items) }
 {
     for (block, level) in blocks.into_iter().zip(levels) {
         match level {

@@ -1,4 +1,4 @@
-use crate::{Stash, StashFault};
+use crate::{Placement, Stash, StashFault, place};
 use oram_bucket::Block;
 use oram_geometry::Device;
 use std::alloc::{AllocError, Global};
@@ -99,12 +99,8 @@ fn deepest_levels_are_filled_first(rt: HostRuntime) -> Result<(), Fail> {
     Ok(())
 }
 
-#[test]
-fn a_map_by_address(rt: HostRuntime) -> Result<(), Fail> {
-    let alloc = rt.alloc();
-    let Some(mut stash) = stash_of(alloc, &[(4, 1), (2, 7)]) else {
-        return Ok(());
-    };
+fn by_address(rt: &impl Abort, alloc: Global) -> Result<(), AllocError> {
+    let mut stash = stash_of(alloc, &[(4, 1), (2, 7)]).ok_or(AllocError)?;
     assert_eq!(rt; (stash.len(), stash.is_empty()), (2, false));
     let again = Block {
         address: 2,
@@ -117,13 +113,124 @@ fn a_map_by_address(rt: HostRuntime) -> Result<(), Fail> {
         Some(StashFault::OutOfMemory(_)) | None => None,
     };
     assert_eq!(rt; duplicate, Some((2, 3)));
-    let Ok(copy) = stash.copy(alloc) else {
-        return Ok(());
-    };
+    assert_eq!(rt; stash.get(4).map(|block| block.leaf), Some(1));
+    assert!(rt; stash.get(3).is_none());
+    assert_eq!(rt; (stash.contains(2), stash.contains(3)), (true, false));
+    let copy = stash.copy(alloc)?;
     let taken = stash.take(2).map(|block| (block.address, block.leaf));
     assert_eq!(rt; taken, Some((2, 7)));
     assert!(rt; stash.take(2).is_none());
     assert_eq!(rt; (stash.len(), copy.len()), (1, 2));
+    Ok(())
+}
+
+#[test]
+fn a_map_by_address(rt: HostRuntime) -> Result<(), Fail> {
+    if by_address(&rt, rt.alloc()).is_err() {
+        by_address(&rt, rt.alloc())?;
+    }
+    Ok(())
+}
+
+/// Makes a stash of blocks without data, by address and leaf: what it has at each address below 10, or none where it isn't
+/// made.
+fn made_of(alloc: Global, places: &[(u32, u32)]) -> Result<Option<Vec<(u32, u32)>>, AllocError> {
+    let mut blocks = Vec::new(alloc);
+    for &(address, leaf) in places {
+        blocks.push(Block {
+            address,
+            leaf,
+            content: Vec::new(alloc),
+        })?;
+    }
+    let Some(stash) = Stash::from_blocks(blocks) else {
+        return Ok(None);
+    };
+    let mut found = Vec::new(alloc);
+    for address in 0..10 {
+        if let Some(block) = stash.get(address) {
+            found.push((address, block.leaf))?;
+        }
+    }
+    Ok(Some(found))
+}
+
+fn made_of_rising(rt: &impl Abort, alloc: Global) -> Result<(), AllocError> {
+    for places in [
+        [].as_slice(),
+        &[(3, 1)],
+        &[(0, 7), (1, 7)],
+        &[(2, 7), (4, 1), (5, 0), (9, 7)],
+    ] {
+        let found = made_of(alloc, places)?;
+        assert!(rt; found.is_some_and(|found| found.as_slice() == places));
+    }
+    for places in [
+        [(1, 7), (0, 7)].as_slice(),
+        &[(1, 0), (1, 0)],
+        &[(2, 7), (4, 1), (9, 7), (5, 0)],
+        &[(2, 7), (4, 1), (4, 2), (9, 7)],
+        &[(2, 7), (1, 1), (4, 2), (9, 7)],
+    ] {
+        assert!(rt; made_of(alloc, places)?.is_none());
+    }
+    Ok(())
+}
+
+#[test]
+fn made_of_rising_blocks(rt: HostRuntime) -> Result<(), Fail> {
+    if made_of_rising(&rt, rt.alloc()).is_err() {
+        made_of_rising(&rt, rt.alloc())?;
+    }
+    Ok(())
+}
+
+/// The addresses of a stash's blocks.
+fn addresses(alloc: Global, stash: &Stash) -> Result<Vec<u32>, AllocError> {
+    let blocks = stash.list(alloc)?;
+    blocks.iter().map(|block| block.address).collect(alloc)
+}
+
+/// Checks where an eviction to leaf 6 puts the blocks that are not at address 5.
+fn placed(
+    rt: &impl Abort,
+    alloc: Global,
+    device: &Device,
+    stash: &Stash,
+    expected: &str,
+) -> Result<(), AllocError> {
+    let other = Stash::new(alloc);
+    let waiting = stash.waiting(alloc, &other, 5)?;
+    assert!(rt; device.trees() == 1);
+    let leaves = 1 << device.depth(0);
+    assert!(rt; 6 < leaves && waiting.iter().all(|block| block.leaf < leaves));
+    let Placement { lists, rest } = place(alloc, device, 0, 6, waiting)?;
+    let mut levels: Vec<Vec<u32>> = Vec::new(alloc);
+    for list in &lists {
+        levels.push(list.iter().map(|block| block.address).collect(alloc)?)?;
+    }
+    let shown = format!(in alloc; "{levels:?} {}", rest.len())?;
+    assert_eq!(rt; shown.as_str(), expected);
+    Ok(())
+}
+
+fn lent_and_settled(rt: &impl Abort, alloc: Global) -> Result<(), AllocError> {
+    let device = Device::new(8, 16, 1, 8, 100).expect(rt, "a device");
+    let mut stash = stash_of(alloc, &[(0, 6), (2, 6), (5, 1)]).ok_or(AllocError)?;
+    placed(rt, alloc, &device, &stash, "[[], [], [2], [0]] 0")?;
+    let other = Stash::new(alloc);
+    let room = stash.room_with(alloc, &other)?;
+    stash.settle(other, &[2], room);
+    let left = addresses(alloc, &stash)?;
+    assert_eq!(rt; left.as_slice(), [2].as_slice());
+    Ok(())
+}
+
+#[test]
+fn lends_places_and_settles(rt: HostRuntime) -> Result<(), Fail> {
+    if lent_and_settled(&rt, rt.alloc()).is_err() {
+        lent_and_settled(&rt, rt.alloc())?;
+    }
     Ok(())
 }
 

@@ -1,10 +1,10 @@
 -- The steps of an access, put together.
-use Rattle.std.proofs.Common.{◌≡◌, ◌≢◌, ◌↔◌, ℕ, ◌+◌, ◌*◌, ◌^◌, ◌<◌, ◌≤◌, take, drop, Bool, true, false, List, [], ◌∷◌, ◌++◌, map, Vec, Global, length, get_or, Option, is_some, All, Contains, inl, inr, refl, sym, ap, subst, ◌∙◌, arith}
-use Rattle.std.proofs.lemmas.Bool.{cases_eq}
-use Rattle.std.proofs.lemmas.List.{length-replicate, length-append, length-take, length-drop, length-map, map-append, get_or_push, get_or_append_left, get_or-map}
-use Rattle.std.proofs.lemmas.List.Elements.{All-contains, Contains-get_or}
+use Rattle.std.proofs.Common.{◌≡◌, ◌≢◌, ◌↔◌, ℕ, ◌+◌, ◌*◌, ◌^◌, ◌<◌, ◌≤◌, take, drop, Bool, true, false, List, ◌∷◌, ◌++◌, length, get_or, Option, Some, None, is_some, All, Contains, inl, inr, refl, sym, ap, subst, ◌∙◌, arith}
+use Rattle.std.proofs.lemmas.List.{length-replicate, length-append, length-take, length-drop, append_cancel_left}
+use Rattle.std.proofs.lemmas.List.Elements.{Contains-get_or}
 use Rattle.std.proofs.lemmas.List.Sorted.{All-permutation, Contains-permutation, IsPermutation-sym}
 use Rattle.std.specs.List.Sorted.{IsPermutation}
+use Rattle.std.specs.Option.{option_map_or}
 use Rattle.std.specs.Int.{w32, to_be_bytes}
 use Rattle.oram_geometry.specs.declared.Sizes.{Sizes}
 use Rattle.oram_geometry.specs.Sizes.{IsDevice, blocks_in, depth_of, record_len_of}
@@ -27,17 +27,10 @@ use Rattle.oram_tree.specs.declared.faults.TreeFault.TheVariants.{Unreadable, Ou
 use Rattle.oram_tree.specs.Content.{Map, HasContent}
 use Rattle.oram_tree.specs.State.{State, IsStoredWith}
 use Rattle.oram_tree.specs.Edits.{edited_content, edited_block, with_entry, IsEditOf, HasRoomFor}
-use Rattle.oram_tree.specs.Access.{IsAtOrAbsent, IsNear, IsReadable, IsLookup, IsWaiting, IsRewritten, IsUpdate, part_at}
+use Rattle.oram_tree.specs.Access.{IsAtOrAbsent, IsNear, IsReadable, IsLookup, IsWaiting, content_in, IsRewritten, IsUpdate, part_at}
 use Rattle.oram_tree.proofs.Content.{reads_uniquely, Before, IsBefore, After, is_readable, told_by, access_content}
 use Rattle.oram_tree.proofs.Evicted.{evicted}
 use Rattle.oram_tree.proofs.Gathered.{found_at}
-
--- what vectors hold
-abbrev pub items_of : Vec ℕ Global → List ℕ
-items_of part = part.items
-
-abbrev pub blocks_of : Vec Cell Global → List Cell
-blocks_of list = list.items
 
 -- a changed block goes in beside the others
 pub waits_from : (old after new : List Cell) (b c : Cell) → b ≡ c → IsPermutation (b ∷ after) new → ((d : Cell) → Contains after d ↔ (Contains old d × (d.address ≢ c.address))) → IsWaiting (Contains old) c new
@@ -55,19 +48,6 @@ waits_from old after new b c same moved others d = (
 -- once an address is taken it is not found
 pub not_twice : (old after : List Cell) (address : ℕ) → ((d : Cell) → Contains after d ↔ (Contains old d × (d.address ≢ address))) → (let o = block_at after address in is_some o ≡ true) → ⊥
 not_twice old after address others found = let d = found_at after address found in ((others d.0).0 d.1).1 d.2
-
--- what holds of the gathered blocks holds of the near ones
-pub waiting_near : (near : Cell → Type 0) (gathered waiting : List Cell) (c : Cell) → ((d : Cell) → Contains gathered d ↔ near d) → IsWaiting (Contains gathered) c waiting → IsWaiting near c waiting
-waiting_near near gathered waiting c same waits d = (
-  λ inside. elim ((waits d).0 inside) [
-    | inl is ↦ inl is
-    | inr (there, other) ↦ inr ((same d).0 there, other)
-  ],
-  λ from. (waits d).1 (elim from [
-    | inl is ↦ inl is
-    | inr (there, other) ↦ inr ((same d).1 there, other)
-  ]),
-)
 
 pub lookup_near : (near : Cell → Type 0) (gathered : List Cell) (len address : ℕ) (found : Bool) (before : List ℕ) → ((d : Cell) → Contains gathered d ↔ near d) → IsLookup (Contains gathered) len address found before → IsLookup near len address found before
 lookup_near near gathered len address found before same looked = record {
@@ -126,26 +106,6 @@ list_is_bucket s i depth leaf waiting lists rest e blocks l = record {
 
 pub rest_blocks : (s : Sizes) (i depth leaf : ℕ) (waiting : List Cell) (lists : List (List Cell)) (rest : List Cell) → IsEviction depth s.slots leaf waiting lists rest → All (IsBlockOf s i) waiting → All (IsBlockOf s i) rest
 rest_blocks s i depth leaf waiting lists rest e blocks = All-of_rest (IsBlockOf s i) lists rest (All-permutation (IsBlockOf s i) waiting (all_listed lists ++ rest) e.placement.each_once blocks)
-
--- what holds of each part at its level, once one more is there
-pub parts_more : (P : ℕ → List ℕ → Type 0) (old new : List (Vec ℕ Global)) (part : Vec ℕ Global) (n : ℕ) → new ≡ old ++ part ∷ [] → length old ≡ n
-    → ((k : ℕ) → k < n → P k (part_at (map items_of old) k)) → P n part.items → (k : ℕ) → k < n + 1 → P k (part_at (map items_of new) k)
-parts_more P old new part n is long before here k lt =
-    let whole : map items_of new ≡ map items_of old ++ part.items ∷ [] = ap (map items_of) is ∙ map-append items_of old (part ∷ []) in
-    let kept : length (map items_of old) ≡ length old = simp length-map in
-    let mapped : length (map items_of old) ≡ n = kept ∙ long in
-    elim (cases_eq k n) [
-      | inl last ↦
-          let read : part_at (map items_of new) k ≡ part.items = ap (λ (xs : List (List ℕ)). part_at xs k) whole ∙ get_or_push (map items_of old) part.items [] k (mapped ∙ sym last) in
-          subst (P k) (sym read) (let Q : ℕ → Type 0 = λ j. P j part.items in subst Q (sym last) here)
-      | inr other ↦
-          let read : part_at (map items_of new) k ≡ part_at (map items_of old) k = ap (λ (xs : List (List ℕ)). part_at xs k) whole ∙ get_or_append_left (map items_of old) (part.items ∷ []) [] k (omega (arith, mapped)) in
-          subst (P k) (sym read) (before k (omega arith))
-    ]
-
--- the list at a level, as it is read
-pub list_at : (lists : List (Vec Cell Global)) (level : ℕ) (list : Vec Cell Global) → level < length lists → list ≡ get_or lists level list → listed (map blocks_of lists) level ≡ list.items
-list_at lists level list lt is = get_or-map blocks_of lists level list [] lt ∙ ap blocks_of (sym is)
 
 -- the lists, sealed and written to the path
 pub rewritten : (opening : List ℕ → Option (List ℕ)) (sealing : ℕ → List ℕ → List ℕ) (s : Sizes) (i nonce depth leaf : ℕ) (p q : Path) (stash waiting : List Cell) (c : Cell) (lists : List (List Cell)) (rest : List Cell) (parts : List (List ℕ))
@@ -232,13 +192,17 @@ pub only_memory : (f : TreeFault) → (let u : TreeFault = Unreadable in f ≡ u
 only_memory Unreadable other = absurd (other refl)
 only_memory OutOfMemory other = refl
 
--- so all that waits is of the tree
-pub waiting_of_tree : (s : Sizes) (i : ℕ) (gathered waiting : List Cell) (address leaf : ℕ) (e : Edit) (found : Bool) (before : List ℕ) → address < blocks_in s i → leaf < 2 ^ depth_of s i → IsEditOf s i e → All (IsBlockOf s i) gathered
-    → IsLookup (Contains gathered) s.block_bytes address found before → IsWaiting (Contains gathered) (edited_block address leaf e before) waiting → All (IsBlockOf s i) waiting
-waiting_of_tree s i gathered waiting address leaf e found before address_in leaf_in fits all looked waits =
-    let blocks = λ (d : Cell) (there : Contains gathered d). All-contains (IsBlockOf s i) gathered d all there in
-    waiting_blocks (Contains gathered) s i _ waiting (changed_block (Contains gathered) s i address leaf e found before address_in leaf_in fits looked blocks) blocks waits
-
 -- a fact on a tree's number and stash, at equal ones
 pub moved : (Q : ℕ → List Cell → Type 0) (n m : ℕ) (xs ys : List Cell) → n ≡ m → xs ≡ ys → Q n xs → Q m ys
 moved Q n m xs ys number stash fact = subst (Q m) stash (let P : ℕ → Type 0 = λ k. Q k xs in subst P number fact)
+
+-- what a vector gained is one list
+pub gained_is : (old new records gained : List ℕ) → new ≡ old ++ records → new ≡ old ++ gained → records ≡ gained
+gained_is old new records gained here there = append_cancel_left old records gained (sym here ∙ there)
+
+-- the data of a block that the stash has, and other data where it has none
+pub content_of_own : (stash : List Cell) (address : ℕ) (other : List ℕ) (b : Cell) → block_at stash address ≡ Some b → content_in stash address other ≡ b.content
+content_of_own stash address other b is = ap (λ o. option_map_or (λ (c : Cell). c.content) o other) is
+
+pub content_of_other : (stash : List Cell) (address : ℕ) (other : List ℕ) → block_at stash address ≡ None → content_in stash address other ≡ other
+content_of_other stash address other is = ap (λ o. option_map_or (λ (c : Cell). c.content) o other) is

@@ -5,3 +5,4 @@ pub mod Edits
 pub mod Access
 pub mod Format
 pub mod Subtree
+pub mod Parts

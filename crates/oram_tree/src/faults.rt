@@ -67,3 +67,21 @@ impl From<OpenFault> for TreeFault {
         }
     }
 }
+
+/// Why parts make no tree.
+#[derive(Clone, Copy, Debug, PartialEq, Eq)]
+pub enum PartsFault {
+    /// They aren't parts of that tree of the device.
+    Content,
+    OutOfMemory,
+}
+
+impl From<AllocError> for PartsFault {
+    ghost use Rattle.oram_tree.specs.declared.faults.PartsFault.TheVariants.{OutOfMemory};
+
+    ghost from_gives = { λ _ f. f ≡ OutOfMemory };
+
+    fn from(_: AllocError) -> Self {
+        PartsFault::OutOfMemory
+    }
+}

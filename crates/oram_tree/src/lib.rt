@@ -5,7 +5,7 @@
 //! who knows which leaf a block has, is the layer above.
 #![tactic(auto)]
 
-ghost use Rattle.std.specs.Prelude.{◌≡◌, ◌≢◌, ◌⊎◌, ◌↔◌, ◌+◌, ◌^◌, ◌<◌, ◌≤◌, ℕ, List, [], Err, IsOk, IfOk, OnOk, OnErr, IfErr, MatchResult, All, length};
+ghost use Rattle.std.specs.Prelude.{◌≡◌, ◌≢◌, ◌⊎◌, ◌↔◌, ◌+◌, ◌^◌, ◌<◌, ◌≤◌, ℕ, List, [], ◌++◌, Err, IsOk, IfOk, OnOk, OnErr, IfErr, MatchResult, All, length};
 ghost use Rattle.oram_geometry.specs.Sizes.{trees_of, blocks_in, depth_of};
 ghost use Rattle.oram_hash.specs.Path.{path_of, with_bytes, HasLength, IsAccepted, IsTamperedAt};
 ghost use Rattle.oram_hash.specs.Tree.{Collides, IsPathOf, IsStored};
@@ -22,18 +22,20 @@ mod edits;
 mod faults;
 mod formatting;
 mod gathering;
+mod parts;
 mod rewriting;
 
 pub use edits::Edit;
-pub use faults::{FormatFault, TreeFault};
+pub use faults::{FormatFault, PartsFault, TreeFault};
 use formatting::format_tree;
 use oram_bucket::Sealer;
 use oram_geometry::Device;
 use oram_hash::{DIGEST_LEN, HashFault, PathView, check_path};
 use oram_stash::Stash;
 use oram_wire::{Sink, SinkFault};
-pub use rewriting::Access;
-use rewriting::{Rewritten, rewrite};
+pub use parts::{TreeParts, parts_make_their_tree};
+use rewriting::rewrite;
+pub use rewriting::{Access, Lookup};
 use std::alloc::Global;
 use std::marker::Model;
 
@@ -185,28 +187,106 @@ impl Tree {
             a.found a.before.items self.new)
             (λ f. f ≡ TreeFault.OutOfMemory) }
     {
-        prove!(self.number < device.trees());
-        let stash = self.stash.copy(alloc)?;
-        let Rewritten {
-            stash,
-            root,
-            access,
-        } = rewrite(
+        let mut records = Vec::new(alloc);
+        let Lookup { before, found } = self.access_to(
             alloc,
             device,
-            self.number,
             sealer,
             path,
-            stash,
             address,
             old_leaf,
             new_leaf,
             nonce,
             edit,
+            &mut records,
         )?;
-        self.stash = stash;
+        Ok(Access {
+            before,
+            found,
+            records,
+        })
+    }
+
+    /// As `access`, but the records that are to be stored are put at the end of a vector, behind what it has.
+    pub fn access_to<S: Sealer>(
+        &mut self,
+        alloc: Global,
+        device: &Device,
+        sealer: &S,
+        path: &PathView<'_>,
+        address: u32,
+        old_leaf: u32,
+        new_leaf: u32,
+        nonce: u64,
+        edit: Edit<'_>,
+        out: &mut Vec<u8>,
+    ) -> Result<Lookup, TreeFault>
+        requires number { self.old.number < trees_of device.now }
+        requires path { path.now ≡ path_of device.now self.old.number old_leaf
+            (S.overhead sealer.now) path.now.bytes }
+        requires address { address < blocks_in device.now self.old.number }
+        requires old_leaf { old_leaf < 2 ^ depth_of device.now self.old.number }
+        requires new_leaf { new_leaf < 2 ^ depth_of device.now self.old.number }
+        requires nonces { nonce + depth_of device.now self.old.number < 2 ^ 64 }
+        requires edit { IsEditOf device.now self.old.number edit }
+        requires blocks { All (IsBlockOf device.now self.old.number) self.old.stash }
+
+        ensures err { OnErr result (self.new ≡ self.old) }
+        ensures out_err { OnErr result (out.new.items ≡ out.old.items) }
+        ensures number { self.new.number ≡ self.old.number }
+        ensures blocks { All (IsBlockOf device.now self.old.number) self.new.stash }
+
+        // A readable path is read unless memory runs out, and no other is.
+        ensures unreadable { let reads = Reads (S.opening sealer.now) device.now self.old.number in
+            result ≡ Err TreeFault.Unreadable → ¬ IsReadable reads path.now self.old.stash }
+        ensures readable { let reads = Reads (S.opening sealer.now) device.now self.old.number in
+            OnOk result (IsReadable reads path.now self.old.stash) }
+
+        ensures lookup { let reads = Reads (S.opening sealer.now) device.now self.old.number in
+            IfOk result (λ a. IsLookup (IsNear reads path.now self.old.stash)
+            device.now.block_bytes address a.found a.before.items) }
+        ensures data_len { IfOk result (λ a. length a.before.items ≡ device.now.block_bytes) }
+
+        // The records that the vector gained: the buckets and the stash are the outcome of an eviction, sealed under
+        // rising nonces.
+        ensures appends { OnOk result ((gained : List ℕ) × (out.new.items ≡ out.old.items ++ gained)) }
+        ensures whole { OnOk result ((gained : List ℕ) → out.new.items ≡ out.old.items ++ gained
+            → HasLength (with_bytes path.now gained)) }
+        ensures written { let reads = Reads (S.opening sealer.now) device.now self.old.number in
+            IfOk result (λ a. (gained : List ℕ) → out.new.items ≡ out.old.items ++ gained
+            → IsRewritten reads (S.sealing sealer.now) device.now nonce
+            path.now self.old.stash (with_bytes path.now gained)
+            (edited_block address new_leaf edit.entry a.before.items) self.new.stash) }
+
+        // Over each stored tree that has the path, and the map that it and the stash hold.
+        ensures updates { let opens = S.opening sealer.now in let overhead = S.overhead sealer.now in
+            (records : ℕ → List ℕ) (content : Map)
+            → IsStoredWith opens overhead device.now self.old records content
+            → IsPathOf records path.now → IsAtOrAbsent content address old_leaf
+            → MatchResult result (λ a. (gained : List ℕ) → out.new.items ≡ out.old.items ++ gained
+            → IsUpdate opens overhead device.now
+            path.now (with_bytes path.now gained) records content
+            (edited_block address new_leaf edit.entry a.before.items)
+            a.found a.before.items self.new)
+            (λ f. f ≡ TreeFault.OutOfMemory) }
+    {
+        prove!(self.number < device.trees());
+        let (lookup, root) = rewrite(
+            alloc,
+            device,
+            self.number,
+            sealer,
+            path,
+            &mut self.stash,
+            address,
+            old_leaf,
+            new_leaf,
+            nonce,
+            edit,
+            out,
+        )?;
         self.root = root;
-        Ok(access)
+        Ok(lookup)
     }
 }
 

@@ -1,23 +1,33 @@
 //! One access, as it makes the records that take a path's place.
-ghost use Rattle.std.specs.Prelude.{◌≡◌, ◌≢◌, ◌↔◌, ◌+◌, ◌^◌, ◌<◌, ◌≤◌, ℕ, Err, IfOk, IfErr, OnOk, All, Contains, length, vec_len, map, replicate};
+ghost use Rattle.std.specs.Prelude.{◌≡◌, ◌≢◌, ◌⊎◌, ◌↔◌, ◌+◌, ◌^◌, ◌<◌, ◌≤◌, ◌||◌, ◌++◌, ℕ, List, [], Err, IfOk, IfErr, OnOk, OnErr, All, AllPairs, Contains, is_some, length, vec_capacity, map, replicate};
 ghost use Rattle.oram_geometry.specs.Sizes.{trees_of, blocks_in, depth_of, record_len_of};
 ghost use Rattle.oram_hash.specs.Path.{path_of, with_bytes, HasLength};
 ghost use Rattle.oram_hash.specs.Rebuild.{StandsRebuilt};
 ghost use Rattle.oram_bucket.specs.Cell.{Cell, IsRising};
-ghost use Rattle.oram_bucket.specs.Bucket.{IsBlockOf, IsBucketOf, spelling};
+ghost use Rattle.oram_bucket.specs.Bucket.{IsBlockOf, IsBucketOf};
 ghost use Rattle.oram_bucket.specs.Reading.{Reads};
-ghost use Rattle.oram_stash.specs.Eviction.{listed};
+ghost use Rattle.oram_stash.specs.Blocks.{block_at};
+ghost use Rattle.oram_stash.specs.Eviction.{IsEviction};
 ghost use Rattle.oram_tree.specs.Edits.{edited_block, IsEditOf, HasRoomFor};
-ghost use Rattle.oram_tree.specs.Access.{IsNear, IsReadable, IsLookup, IsWaiting, IsRewritten, part_at};
+ghost use Rattle.oram_tree.specs.Access.{content_in, IsNear, IsInBucket, IsReadable, IsLookup, IsWaiting, IsSealedTo, IsAppended, IsPrepared, IsRewritten};
 
 use crate::edits::{Edit, apply};
 use crate::faults::TreeFault;
 use crate::gathering::gather;
-use oram_bucket::{Block, Sealer, seal_bucket};
+use oram_bucket::{Block, Sealer, seal_bucket_to};
 use oram_geometry::Device;
-use oram_hash::{PathView, rebuild};
-use oram_stash::{Stash, StashFault};
+use oram_hash::{DIGEST_LEN, PathView};
+use oram_stash::{Placement, Stash, StashFault, place};
 use std::alloc::{AllocError, Global};
+
+/// What an access finds.
+#[derive(Debug, Drop)]
+pub struct Lookup {
+    /// The block's data before the edit, zeros where it was absent.
+    pub before: Vec<u8>,
+    /// Whether it was there.
+    pub found: bool,
+}
 
 /// What an access gives.
 #[derive(Debug, Drop)]
@@ -30,12 +40,18 @@ pub struct Access {
     pub records: Vec<u8>,
 }
 
-/// What an access makes, before the tree takes it over.
+/// What an access does to the tree, once nothing can be refused any more.
 #[derive(Drop)]
-pub(crate) struct Rewritten {
-    pub stash: Stash,
-    pub root: [u8; 32],
-    pub access: Access,
+pub(crate) struct Prepared {
+    /// The path's blocks and the accessed one, at its new leaf.
+    pub near: Stash,
+    /// The addresses of the blocks that stay in the stash.
+    pub stays: Vec<u32>,
+    /// Room for the new stash.
+    pub room: Vec<Block>,
+    pub root: [u8; DIGEST_LEN],
+    /// The accessed block as the path has it. What the tree's own stash has of it stays there until the end.
+    pub on_path: Lookup,
 }
 
 fn zeros(alloc: Global, len: usize) -> Result<Vec<u8>, AllocError>
@@ -67,85 +83,162 @@ fn take_content(
     }
 }
 
-/// Edits a block among those of a stash, or makes it there: gives its data before, zeros where it was absent, and whether
-/// it was there.
+/// Edits a block, or makes it, beside the stash that has it: gives its data before as the path has it, zeros where it is
+/// absent, and whether it is there.
 fn change(
     alloc: Global,
     device: &Device,
-    stash: &mut Stash,
+    stash: &Stash,
+    near: &mut Stash,
     address: u32,
     leaf: u32,
     edit: Edit<'_>,
 ) -> Result<(Vec<u8>, bool), TreeFault>
     requires edit { HasRoomFor device.now.block_bytes edit }
-    requires rising { IsRising stash.old }
-    requires whole { All (λ block. length block.content ≡ device.now.block_bytes) stash.old }
-    ensures rising { OnOk result (IsRising stash.new) }
+    requires rising { IsRising near.old }
+    requires whole { All (λ block. length block.content ≡ device.now.block_bytes) (stash.now ++ near.old) }
+    ensures rising { OnOk result (IsRising near.new) }
     ensures lookup { IfOk result (λ r.
-        IsLookup (Contains stash.old) device.now.block_bytes address r.1 r.0.items) }
-    ensures waits { IfOk result (λ r.
-        IsWaiting (Contains stash.old) (edited_block address leaf edit.entry r.0.items) stash.new) }
+        IsLookup (Contains near.old) device.now.block_bytes address r.1 r.0.items) }
+    ensures waits { IfOk result (λ r. IsWaiting (Contains near.old)
+        (edited_block address leaf edit.entry (content_in stash.now address r.0.items)) near.new) }
     ensures memory { IfErr result (λ f. f ≡ TreeFault.OutOfMemory) }
 {
-    let (before, found) = take_content(alloc, device, stash, address)?;
-    let content = apply(alloc, edit, &before)?;
+    let (before, found) = take_content(alloc, device, near, address)?;
+    let content = match stash.get(address) {
+        Some(block) => apply(alloc, edit, &block.content)?,
+        None => apply(alloc, edit, &before)?,
+    };
     let block = Block {
         address,
         leaf,
         content,
     };
-    match stash.absorb(block) {
+    match near.absorb(block) {
         Ok(()) => Ok((before, found)),
         Err(StashFault::Duplicate(_)) => unreachable!(),
         Err(StashFault::OutOfMemory(_)) => Err(TreeFault::OutOfMemory),
     }
 }
 
-/// The buckets of a path's levels, sealed under rising nonces.
-fn seal_all<S: Sealer>(
-    alloc: Global,
-    device: &Device,
-    tree: u8,
-    sealer: &S,
-    nonce: u64,
-    lists: &[Vec<Block>],
-) -> Result<Vec<Vec<u8>>, AllocError>
-    requires tree { tree < trees_of device.now }
-    requires buckets { All (λ list. IsBucketOf device.now tree list.items) lists.now }
-    requires nonces { nonce + length lists.now ≤ 2 ^ 64 }
-    ensures count { IfOk result (λ v. vec_len v ≡ length lists.now) }
-    ensures sealed { IfOk result (λ v. (level : ℕ) → level < length lists.now →
-        let cells = listed (map (λ list. list.items) lists.now) level in
-        part_at (map (λ part. part.items) v.items) level
-        ≡ S.sealing sealer.now (nonce + level) (spelling device.now cells)) }
-    ensures opens { IfOk result (λ v. (level : ℕ) → level < length lists.now →
-        let cells = listed (map (λ list. list.items) lists.now) level in
-        Reads (S.opening sealer.now) device.now tree (part_at (map (λ part. part.items) v.items) level) cells) }
-    ensures lengths { let len = record_len_of device.now (S.overhead sealer.now) in
-        IfOk result (λ v. All (λ part. vec_len part + 64 ≡ len) v.items) }
-{
-    let mut sealed = Vec::with_capacity(alloc, lists.len())?;
-    for (level, list) in lists.iter().enumerate() {
-        let nonce = nonce + level as u64;
-        sealed.push(seal_bucket(alloc, sealer, device, tree, nonce, list)?)?;
-    }
-    Ok(sealed)
-}
-
-/// Makes an access with a copy of the tree's stash.
-pub(crate) fn rewrite<S: Sealer>(
+/// Puts the records of a path's levels at the end of a vector, not linked yet, with the lists as their buckets, sealed
+/// under rising nonces.
+fn seal_path<S: Sealer>(
     alloc: Global,
     device: &Device,
     tree: u8,
     sealer: &S,
     path: &PathView<'_>,
-    mut stash: Stash,
+    nonce: u64,
+    lists: &[Vec<&Block>],
+    out: &mut Vec<u8>,
+) -> Result<(), AllocError>
+    requires tree { tree < trees_of device.now }
+    requires depth { path.now.depth ≡ depth_of device.now tree }
+    requires levels { length lists.now ≡ path.now.depth + 1 }
+    requires len { path.now.record_len ≡ record_len_of device.now (S.overhead sealer.now) }
+    requires buckets { All (λ list. IsBucketOf device.now tree (map (λ b. b.now) list.items)) lists.now }
+    requires nonces { nonce + length lists.now ≤ 2 ^ 64 }
+    ensures keeps { (gained : List ℕ) × (out.new.items ≡ out.old.items ++ gained) }
+    ensures sealed { OnOk result (IsSealedTo (Reads (S.opening sealer.now) device.now tree) (S.sealing sealer.now)
+        device.now nonce path.now (map (λ list. map (λ b. b.now) list.items) lists.now) (length lists.now)
+        out.old.items out.new.items) }
+{
+    prove!(tree < device.trees());
+    let mut plain = Vec::new(alloc);
+    for level in 0..device.depth(tree) + 1 {
+        let list = &lists[usize::from(level)];
+        let nonce = nonce + u64::from(level);
+        seal_bucket_to(alloc, sealer, device, tree, nonce, list, &mut plain, out)?;
+        path.append_digests(level, out)?;
+    }
+    Ok(())
+}
+
+/// Puts the new records of a path at the end of a vector, and gives the new root digest.
+fn append_path<S: Sealer>(
+    alloc: Global,
+    device: &Device,
+    tree: u8,
+    sealer: &S,
+    path: &PathView<'_>,
+    nonce: u64,
+    lists: &[Vec<&Block>],
+    out: &mut Vec<u8>,
+) -> Result<[u8; DIGEST_LEN], AllocError>
+    requires tree { tree < trees_of device.now }
+    requires depth { path.now.depth ≡ depth_of device.now tree }
+    requires levels { length lists.now ≡ path.now.depth + 1 }
+    requires len { path.now.record_len ≡ record_len_of device.now (S.overhead sealer.now) }
+    requires buckets { All (λ list. IsBucketOf device.now tree (map (λ b. b.now) list.items)) lists.now }
+    requires nonces { nonce + length lists.now ≤ 2 ^ 64 }
+    ensures err { OnErr result (out.new.items ≡ out.old.items) }
+    ensures appended { IfOk result (IsAppended (Reads (S.opening sealer.now) device.now tree) (S.sealing sealer.now)
+        device.now nonce path.now (map (λ list. map (λ b. b.now) list.items) lists.now) out.old.items out.new.items) }
+{
+    let start = out.len();
+    match seal_path(alloc, device, tree, sealer, path, nonce, lists, out) {
+        Ok(()) => Ok(path.relink(&mut out[start..])),
+        Err(refused) => {
+            out.truncate(start);
+            Err(refused)
+        }
+    }
+}
+
+fn addresses_of(alloc: Global, blocks: &[&Block]) -> Result<Vec<u32>, AllocError>
+    ensures { IfOk result (λ v. v.items ≡ map (λ b. b.now.address) blocks.now) }
+{
+    blocks.iter().map(|block| block.address).collect(alloc)
+}
+
+/// Writes the path's new records, with the blocks that wait evicted to it: gives the addresses of those that stay in the
+/// stash, and the new root digest.
+fn evict_to<S: Sealer>(
+    alloc: Global,
+    device: &Device,
+    tree: u8,
+    sealer: &S,
+    path: &PathView<'_>,
+    leaf: u32,
+    nonce: u64,
+    waiting: Vec<&Block>,
+    out: &mut Vec<u8>,
+) -> Result<(Vec<u32>, [u8; DIGEST_LEN]), AllocError>
+    requires tree { tree < trees_of device.now }
+    requires path { path.now ≡ path_of device.now tree leaf (S.overhead sealer.now) path.now.bytes }
+    requires leaf { leaf < 2 ^ depth_of device.now tree }
+    requires nonces { nonce + depth_of device.now tree < 2 ^ 64 }
+    requires rising { IsRising (map (λ b. b.now) waiting.items) }
+    requires blocks { All (IsBlockOf device.now tree) (map (λ b. b.now) waiting.items) }
+    ensures err { OnErr result (out.new.items ≡ out.old.items) }
+    ensures evicted { IfOk result (λ r. (lists : List (List Cell)) × (rest : List Cell)
+        × IsEviction path.now.depth device.now.slots path.now.leaf (map (λ b. b.now) waiting.entry.items) lists rest
+        × (r.0.items ≡ map (λ b. b.address) rest)
+        × IsAppended (Reads (S.opening sealer.now) device.now tree) (S.sealing sealer.now)
+        device.now nonce path.now lists out.old.items out.new.items r.1) }
+{
+    let Placement { lists, rest } = place(alloc, device, tree, leaf, waiting)?;
+    let stays = addresses_of(alloc, &rest)?;
+    let root = append_path(alloc, device, tree, sealer, path, nonce, &lists, out)?;
+    Ok((stays, root))
+}
+
+/// Makes all of an access that can be refused: the tree stays as it is.
+fn prepare<S: Sealer>(
+    alloc: Global,
+    device: &Device,
+    tree: u8,
+    sealer: &S,
+    path: &PathView<'_>,
+    stash: &Stash,
     address: u32,
     old_leaf: u32,
     new_leaf: u32,
     nonce: u64,
     edit: Edit<'_>,
-) -> Result<Rewritten, TreeFault>
+    out: &mut Vec<u8>,
+) -> Result<Prepared, TreeFault>
     requires tree { tree < trees_of device.now }
     requires path { path.now ≡ path_of device.now tree old_leaf
         (S.overhead sealer.now) path.now.bytes }
@@ -154,39 +247,136 @@ pub(crate) fn rewrite<S: Sealer>(
     requires new_leaf { new_leaf < 2 ^ depth_of device.now tree }
     requires nonces { nonce + depth_of device.now tree < 2 ^ 64 }
     requires edit { IsEditOf device.now tree edit }
-    requires blocks { All (IsBlockOf device.now tree) stash }
-    requires rising { IsRising stash }
+    requires blocks { All (IsBlockOf device.now tree) stash.now }
 
+    ensures err { OnErr result (out.new.items ≡ out.old.items) }
     ensures unreadable { let reads = Reads (S.opening sealer.now) device.now tree in
-        result ≡ Err TreeFault.Unreadable → ¬ IsReadable reads path.now stash }
+        result ≡ Err TreeFault.Unreadable → ¬ IsReadable reads path.now stash.now }
     ensures readable { let reads = Reads (S.opening sealer.now) device.now tree in
-        OnOk result (IsReadable reads path.now stash) }
+        OnOk result (IsReadable reads path.now stash.now) }
 
     ensures lookup { let reads = Reads (S.opening sealer.now) device.now tree in
-        IfOk result (λ r. IsLookup (IsNear reads path.now stash)
-        device.now.block_bytes address r.access.found r.access.before.items) }
-    ensures data_len { IfOk result (λ r. length r.access.before.items ≡ device.now.block_bytes) }
-    ensures whole { IfOk result (λ r. HasLength (with_bytes path.now r.access.records.items)) }
-    ensures written { let reads = Reads (S.opening sealer.now) device.now tree in
-        IfOk result (λ r. IsRewritten reads (S.sealing sealer.now) device.now nonce
-        path.now stash (with_bytes path.now r.access.records.items)
-        (edited_block address new_leaf edit.entry r.access.before.items) r.stash) }
-    ensures stands { IfOk result (λ r. StandsRebuilt path.now r.access.records.items r.root) }
-    ensures blocks { IfOk result (λ r. All (IsBlockOf device.now tree) r.stash) }
+        IfOk result (λ r. IsLookup (IsInBucket reads path.now)
+        device.now.block_bytes address r.on_path.found r.on_path.before.items) }
+    ensures prepared { let reads = Reads (S.opening sealer.now) device.now tree in
+        IfOk result (λ r. IsPrepared reads (S.sealing sealer.now) device.now nonce path.now stash.now
+        (edited_block address new_leaf edit.entry (content_in stash.now address r.on_path.before.items))
+        r.near r.stays.items out.old.items out.new.items r.root) }
+    ensures blocks { IfOk result (λ r. All (IsBlockOf device.now tree) r.near) }
+    ensures apart { IfOk result (λ r. (c d : Cell) → Contains stash.now c → Contains r.near d
+        → c.address ≡ d.address → c.address ≡ address) }
+    ensures empty { IfOk result (λ r. r.room.items ≡ []) }
+    ensures room { IfOk result (λ r. length stash.now + length r.near ≤ vec_capacity r.room) }
 {
-    gather(alloc, device, tree, sealer, path, &mut stash)?;
-    let (before, found) = change(alloc, device, &mut stash, address, new_leaf, edit)?;
-    let lists = stash.evict(alloc, device, tree, old_leaf)?;
-    let sealed = seal_all(alloc, device, tree, sealer, nonce, &lists)?;
-    let (records, root) = rebuild(alloc, path, &sealed)?;
-    let access = Access {
-        before,
-        found,
-        records,
-    };
-    Ok(Rewritten {
-        stash,
+    let mut near = gather(alloc, device, tree, sealer, path, stash)?;
+    let (before, found) = change(alloc, device, stash, &mut near, address, new_leaf, edit)?;
+    let room = stash.room_with(alloc, &near)?;
+    let waiting = stash.waiting(alloc, &near, address)?;
+    let (stays, root) = evict_to(
+        alloc, device, tree, sealer, path, old_leaf, nonce, waiting, out,
+    )?;
+    let on_path = Lookup { before, found };
+    Ok(Prepared {
+        near,
+        stays,
+        room,
         root,
-        access,
+        on_path,
     })
+}
+
+/// Takes the accessed block out of the stash, if it is there: gives its data before, which is moved.
+fn take_before(stash: &mut Stash, address: u32, on_path: Lookup) -> Lookup
+    ensures others { (c : Cell) → Contains stash.new c ↔ (Contains stash.old c × (c.address ≢ address)) }
+    ensures len { length stash.new ≤ length stash.old }
+    ensures before { result.before.items ≡ content_in stash.old address on_path.before.items }
+    ensures found { result.found ≡ (is_some (block_at stash.old address) || on_path.found) }
+{
+    match stash.take(address) {
+        Some(block) => {
+            let Block { content, .. } = block;
+            Lookup {
+                before: content,
+                found: true,
+            }
+        }
+        None => on_path,
+    }
+}
+
+/// Takes a prepared access over, without memory: gives what it found.
+fn commit(stash: &mut Stash, address: u32, prepared: Prepared) -> Lookup
+    requires apart { (c d : Cell) → Contains stash.old c → Contains prepared.near d
+        → c.address ≡ d.address → c.address ≡ address }
+    requires stays { AllPairs (λ a b. a < b) prepared.stays.items }
+    requires empty { prepared.room.items ≡ [] }
+    requires room { length stash.old + length prepared.near ≤ vec_capacity prepared.room }
+    ensures rising { IsRising stash.new }
+    ensures kept { (c : Cell) → Contains stash.new c
+        ↔ (((Contains stash.old c × (c.address ≢ address)) ⊎ Contains prepared.near c) × Contains prepared.stays.items c.address) }
+    ensures before { result.before.items ≡ content_in stash.old address prepared.on_path.before.items }
+    ensures found { result.found ≡ (is_some (block_at stash.old address) || prepared.on_path.found) }
+{
+    let Prepared {
+        near,
+        stays,
+        room,
+        on_path,
+        ..
+    } = prepared;
+    let lookup = take_before(stash, address, on_path);
+    stash.settle(near, &stays, room);
+    lookup
+}
+
+/// Makes an access with a tree's stash: gives what it found, and the new root digest.
+pub(crate) fn rewrite<S: Sealer>(
+    alloc: Global,
+    device: &Device,
+    tree: u8,
+    sealer: &S,
+    path: &PathView<'_>,
+    stash: &mut Stash,
+    address: u32,
+    old_leaf: u32,
+    new_leaf: u32,
+    nonce: u64,
+    edit: Edit<'_>,
+    out: &mut Vec<u8>,
+) -> Result<(Lookup, [u8; DIGEST_LEN]), TreeFault>
+    requires tree { tree < trees_of device.now }
+    requires path { path.now ≡ path_of device.now tree old_leaf
+        (S.overhead sealer.now) path.now.bytes }
+    requires address { address < blocks_in device.now tree }
+    requires old_leaf { old_leaf < 2 ^ depth_of device.now tree }
+    requires new_leaf { new_leaf < 2 ^ depth_of device.now tree }
+    requires nonces { nonce + depth_of device.now tree < 2 ^ 64 }
+    requires edit { IsEditOf device.now tree edit }
+    requires blocks { All (IsBlockOf device.now tree) stash.old }
+
+    ensures err { OnErr result (stash.new ≡ stash.old) }
+    ensures out_err { OnErr result (out.new.items ≡ out.old.items) }
+    ensures unreadable { let reads = Reads (S.opening sealer.now) device.now tree in
+        result ≡ Err TreeFault.Unreadable → ¬ IsReadable reads path.now stash.old }
+    ensures readable { let reads = Reads (S.opening sealer.now) device.now tree in
+        OnOk result (IsReadable reads path.now stash.old) }
+
+    ensures lookup { let reads = Reads (S.opening sealer.now) device.now tree in
+        IfOk result (λ r. IsLookup (IsNear reads path.now stash.old)
+        device.now.block_bytes address r.0.found r.0.before.items) }
+    ensures data_len { IfOk result (λ r. length r.0.before.items ≡ device.now.block_bytes) }
+    ensures written { let reads = Reads (S.opening sealer.now) device.now tree in
+        IfOk result (λ r. (records : List ℕ) × (out.new.items ≡ out.old.items ++ records)
+        × HasLength (with_bytes path.now records) × IsRewritten reads (S.sealing sealer.now) device.now nonce
+        path.now stash.old (with_bytes path.now records)
+        (edited_block address new_leaf edit.entry r.0.before.items) stash.new
+        × StandsRebuilt path.now records r.1) }
+    ensures blocks { All (IsBlockOf device.now tree) stash.new }
+{
+    let prepared = prepare(
+        alloc, device, tree, sealer, path, stash, address, old_leaf, new_leaf, nonce, edit, out,
+    )?;
+    let root = prepared.root;
+    let lookup = commit(stash, address, prepared);
+    Ok((lookup, root))
 }

@@ -1,8 +1,9 @@
 ghost use Rattle.std.specs.Prelude.{◌≡◌, ◌<◌, ◌^◌, [], All, IfOk};
 ghost use Rattle.oram_geometry.specs.Sizes.{depth_of};
 ghost use Rattle.oram_bucket.specs.Bucket.{IsBlockOf};
+ghost use Rattle.oram_tree.specs.Edits.{IsEditOf};
 
-use crate::{Edit, Tree, TreeFault};
+use crate::{Edit, Lookup, Tree, TreeFault};
 use oram_bucket::{ChaChaSeal, PlainSeal, Sealer};
 use oram_geometry::Device;
 use oram_wire::ListSink;
@@ -274,6 +275,82 @@ fn as_a_plain_map_under_chacha(rt: HostRuntime) -> Result<(), Fail> {
     let sealer = ChaChaSeal { key: [9; 32] };
     if accesses(&rt, rt.alloc(), 2, &sealer, 100).is_err() {
         accesses(&rt, rt.alloc(), 2, &sealer, 100)?;
+    }
+    Ok(())
+}
+
+/// A call of `access_to` as the tests make it: what it found, or none where memory was refused. The tree and the vector
+/// are as before then.
+fn stored<S: Sealer>(
+    rt: &impl Abort,
+    alloc: Global,
+    device: &Device,
+    sealer: &S,
+    tree: &mut Tree,
+    bytes: &[u8],
+    leaf: u32,
+    edit: Edit<'_>,
+    out: &mut Vec<u8>,
+) -> Option<Lookup>
+    requires number { tree.old.number ≡ 0 }
+    requires blocks { All (IsBlockOf device.now 0) tree.old.stash }
+    requires edit { IsEditOf device.now 0 edit }
+    ensures number { tree.new.number ≡ 0 }
+    ensures blocks { All (IsBlockOf device.now 0) tree.new.stash }
+{
+    prove!(device.trees() > 0);
+    let leaves = 1u32 << device.depth(0);
+    assert!(rt; leaf < leaves && device.blocks_in(0) > 5);
+    let path = tree
+        .check(device, leaf, sealer.overhead(), bytes)
+        .expect(rt, "an honest path");
+    let (root, stash_len, out_len) = (*tree.root(), tree.stash_len(), out.len());
+    match tree.access_to(alloc, device, sealer, &path, 5, leaf, leaf, 40, edit, out) {
+        Ok(lookup) => Some(lookup),
+        Err(fault) => {
+            assert!(rt; fault == TreeFault::OutOfMemory && *tree.root() == root);
+            assert_eq!(rt; (tree.stash_len(), out.len()), (stash_len, out_len));
+            None
+        }
+    }
+}
+
+fn behind_what_stands(rt: &impl Abort, alloc: Global) -> Result<(), AllocError> {
+    let device = Device::new(8, 16, 4, 8, 100).expect(rt, "a device");
+    let (mut tree, sink) = formatted(alloc, &device, &PlainSeal)?;
+    let records = records_put(alloc, sink.bodies())?;
+    let record_len = device.record_len(0);
+    let content = [7; BLOCK_BYTES];
+    prove!(device.trees() > 0 && device.depth(0) <= 24);
+    assert!(rt; device.depth(0) == 3 && device.block_bytes() == BLOCK_BYTES);
+    let bytes = fetched(alloc, &device, &records, 6)?;
+    let mut out = [1, 2, 3].to_vec(alloc)?;
+    let edit = Edit::Replace(&content);
+    let lookup = match stored(
+        rt, alloc, &device, &PlainSeal, &mut tree, &bytes, 6, edit, &mut out,
+    ) {
+        Some(lookup) => lookup,
+        None => {
+            stored(
+                rt, alloc, &device, &PlainSeal, &mut tree, &bytes, 6, edit, &mut out,
+            )
+            .ok_or(AllocError)?
+        }
+    };
+    assert!(rt; !lookup.found && lookup.before.iter().all(|byte| *byte == 0));
+    assert_eq!(rt; out.len(), 3 + 4 * record_len);
+    assert!(rt; out.starts_with(&[1, 2, 3]));
+    // The block lies in the first slot of the leaf's bucket: its address and one more, its leaf, and its data.
+    let leaf_record = out.get(3 + 3 * record_len..).unwrap_or_default();
+    assert!(rt; leaf_record.starts_with(&[0, 0, 0, 6, 0, 0, 0, 6, 7, 7, 7, 7]));
+    assert_eq!(rt; tree.stash_len(), 0);
+    Ok(())
+}
+
+#[test]
+fn records_go_behind_what_stands(rt: HostRuntime) -> Result<(), Fail> {
+    if behind_what_stands(&rt, rt.alloc()).is_err() {
+        behind_what_stands(&rt, rt.alloc())?;
     }
     Ok(())
 }

@@ -1,6 +1,6 @@
-use Rattle.std.proofs.Common.{◌≡◌, ◌+◌, ◌<◌, ◌≤◌, ◌^◌, length, map, Vec, Global, vec_capacity, count_by, ap, ◌∙◌, subst, arith, rules}
+use Rattle.std.proofs.Common.{◌≡◌, ◌+◌, ◌<◌, ◌≤◌, ◌^◌, ℕ, All, length, map, sym, Vec, Global, vec_capacity, count_by, ap, ◌∙◌, subst, arith, rules}
 use Rattle.std.proofs.lemmas.List.{with_items_is, length-map}
-use Rattle.std.proofs.lemmas.List.Elements.{All-weaker}
+use Rattle.std.proofs.lemmas.List.Elements.{All-weaker, All-map}
 use Rattle.std.proofs.lemmas.List.Sorted.{All-permutation}
 use Rattle.oram_geometry.specs.Sizes.{depth_of as depth}
 use Rattle.oram_bucket.specs.declared.block.Block.{Block}
@@ -9,6 +9,11 @@ use Rattle.oram_stash.specs.Plan.{is_level}
 use Rattle.oram_stash.proofs.Outcome.{carried_out, in_lists_from_plan}
 use Rattle.oram_stash.proofs.Fewest.{fewest}
 use Rattle.oram_stash.proofs.Stash.evict.Goals as goal
+
+pub chosen_levels-requires-clause-leaves_in : goal.chosen_levels-requires-clause-leaves_in
+chosen_levels-requires-clause-leaves_in c =
+    let P : ℕ → Type 0 = λ own. own < 2 ^ depth c.args.device.now c.args.tree in
+    subst (All P) (sym (c.deref.ensures.value ∙ c.in_ok-leaves.ensures)) (All-map P (λ (b : Block). b.leaf) c.args.self.now c.requires.leaves_in)
 
 pub move_out-requires-clause-in_lists : goal.move_out-requires-clause-in_lists
 move_out-requires-clause-in_lists c =
@@ -32,7 +37,7 @@ returns-clause-ok c =
     let same : length c.move_out.new.lists ≡ c.in_ok-lists.lists.len = search rules in
     let long : length (map (λ (list : Vec Block Global). list.items) c.move_out.new.lists) ≡ depth c.args.device.now c.args.tree + 1 = rw length-map (omega (arith, count.count, c.from.ensures)) in
     rw (with_items_is c.in_ok-lists.lists c.move_out.new.lists same)
-    (carried_out _ _ _ c.args.self.now _ _ _ _ _ _ (c.deref.ensures.value ∙ c.self.view_is) (ap (λ (v : Vec Block Global). v.items) c.replace-blocks.ensures.value ∙ c.self.view_is) c.deref-2.ensures.value (subst IsRising c.self.view_is c.self.invariant) plan c.move_out.ensures.to_list c.move_out.ensures.to_rest long c.move_out.ensures.each_once)
+    (carried_out _ _ _ c.args.self.now _ _ _ _ _ _ (c.deref.ensures.value ∙ c.in_ok-leaves.ensures) (ap (λ (v : Vec Block Global). v.items) c.replace-blocks.ensures.value ∙ c.self.view_is) c.deref-2.ensures.value (subst IsRising c.self.view_is c.self.invariant) plan c.move_out.ensures.to_list c.move_out.ensures.to_rest long c.move_out.ensures.each_once)
 
 pub invariant_of-self : goal.invariant_of-self
 invariant_of-self c = let e = returns-clause-ok c in e.rising

@@ -3,8 +3,8 @@ use Rattle.oram_geometry.specs.Sizes.{depth_of as depth}
 use Rattle.oram_stash.specs.Plan.{IsShared}
 use Rattle.oram_stash.proofs.levels.shared_levels.Given as goal
 
-abbrev pub invariant-loop-block : goal.invariant-loop-block
-invariant-loop-block l = record {
-  count : vec_len l.shared ≡ l.block-index;
-  each : (j : ℕ) → j < l.block-index → IsShared (depth l.device l.tree) l.leaf l.blocks j (get_or l.shared.items j 0);
+abbrev pub invariant-loop-own : goal.invariant-loop-own
+invariant-loop-own l = record {
+  count : vec_len l.shared ≡ l.own-index;
+  each : (j : ℕ) → j < l.own-index → IsShared (depth l.device l.tree) l.leaf l.leaves j (get_or l.shared.items j 0);
 }

@@ -1,16 +1,15 @@
-use Rattle.std.proofs.Common.{◌<◌, ◌≤◌, [], ◌∷◌, ◌++◌, length, vec_capacity, vec_len, count_by, Some, None, Vec, Global, subst, refl, sym, ap, ◌∙◌, arith, rules}
+use Rattle.std.proofs.Common.{◌<◌, ◌≤◌, [], ◌∷◌, ◌++◌, length, vec_capacity, vec_len, count_by, Some, None, subst, refl, sym, ap, ◌∙◌, arith, rules}
 use Rattle.std.proofs.lemmas.Iterator.{YieldsList-from_zip, YieldsList-from_slice}
 use Rattle.std.proofs.lemmas.Iterator.Adapters.{YieldsList-from_vec}
 use Rattle.std.proofs.lemmas.Iterator.Consumers.{YieldsList-turn}
 use Rattle.std.proofs.lemmas.List.{length_push}
 use Rattle.std.proofs.lemmas.List.Elements.{All-set}
-use Rattle.oram_bucket.specs.declared.block.Block.{Block}
 use Rattle.oram_stash.specs.Plan.{is_level}
 use Rattle.oram_stash.proofs.Moving.{Moved-none, zip_read, room_in_list, room_in_rest, Moved-pushed, Moved-kept}
 use Rattle.oram_stash.proofs.lists.move_out.Goals as goal
 
 pub loop-block-init : goal.loop-block-init
-loop-block-init c = record {
+loop-block-init g c = record {
   can_next = search rules;
   is_finite = search rules;
   moved = Moved-none _ _ _ _ c.requires.empty c.requires.rest_empty;
@@ -19,7 +18,7 @@ loop-block-init c = record {
 }
 
 pub unwrap-requires : goal.unwrap-requires
-unwrap-requires c =
+unwrap-requires g c =
     let began = c.into_iter-block-iterator.ensures.into_iter_gives in
     let in_vec = YieldsList-from_vec {s = c.into_iter-block-iterator.result.a} c.args.blocks.items (ap (λ s. s.a.rest.items) began ∙ ap (λ s. s.rest.items) c.zip-block-items.ensures.first ∙ c.into_iter.ensures.rest) (ap (λ s. s.a.rest.len) began ∙ ap (λ s. s.rest.len) c.zip-block-items.ensures.first ∙ c.into_iter.ensures.len ∙ c.args.blocks.ok.0) in
     let in_slice = YieldsList-from_slice {s = c.into_iter-block-iterator.result.b} c.args.levels.now (ap (λ s. s.b.rest.now) began ∙ c.zip-block-items.ensures.second.0) in
@@ -31,11 +30,11 @@ unwrap-requires c =
     let lt : c.from.result < length c.loop-block.lists = omega (arith, level_in, c.loop-block.auto.lists) in
     let list = c.index-lists-from.result in
     let at = c.index-lists-from.is in
-    let room = subst (λ (w : Vec Block Global). count_by (is_level c.from.result) c.args.levels.now ≤ vec_capacity w) (sym at) (c.loop-block.invariant.room c.from.result c.from.result list lt) in
-    c.push.ensures.succeeds (subst (λ (w : Vec Block Global). vec_len w < vec_capacity w) at (room_in_list _ _ _ _ _ c.loop-block.invariant.moved _ _ read c.from.result list is lt at room))
+    let room = subst (λ w. count_by (is_level c.from.result) c.args.levels.now ≤ vec_capacity w) (sym at) (c.loop-block.invariant.room c.from.result c.from.result list lt) in
+    c.push.ensures.succeeds (subst (λ w. vec_len w < vec_capacity w) at (room_in_list _ _ _ _ _ c.loop-block.invariant.moved _ _ read c.from.result list is lt at room))
 
 pub loop-block-preserved-in-Some-level : goal.loop-block-preserved-in-Some-level
-loop-block-preserved-in-Some-level c =
+loop-block-preserved-in-Some-level g c =
     let began = c.into_iter-block-iterator.ensures.into_iter_gives in
     let in_vec = YieldsList-from_vec {s = c.into_iter-block-iterator.result.a} c.args.blocks.items (ap (λ s. s.a.rest.items) began ∙ ap (λ s. s.rest.items) c.zip-block-items.ensures.first ∙ c.into_iter.ensures.rest) (ap (λ s. s.a.rest.len) began ∙ ap (λ s. s.rest.len) c.zip-block-items.ensures.first ∙ c.into_iter.ensures.len ∙ c.args.blocks.ok.0) in
     let in_slice = YieldsList-from_slice {s = c.into_iter-block-iterator.result.b} c.args.levels.now (ap (λ s. s.b.rest.now) began ∙ c.zip-block-items.ensures.second.0) in
@@ -51,13 +50,13 @@ loop-block-preserved-in-Some-level c =
     record {
       can_next = search rules;
       is_finite = search rules;
-      moved = rw (length_push c.loop-block.yielded (c.in-Some.block, c.in-Some.level)) (Moved-pushed _ _ _ _ _ c.loop-block.invariant.moved _ _ read c.from.result list c.push.new.self is lt at (rw b at a ∙ ap (λ (w : Vec Block Global). w.items ++ c.in-Some.block ∷ []) (sym at)));
-      room = λ m. All-set (λ (w : Vec Block Global). count_by (is_level m) c.args.levels.now ≤ vec_capacity w) c.loop-block.lists c.from.result c.push.new.self (let r = c.loop-block.invariant.room m c.from.result list lt in let g = c.push.ensures.capacity in omega (arith, r, g)) (c.loop-block.invariant.room m);
+      moved = rw (length_push c.loop-block.yielded (c.in-Some.block, c.in-Some.level)) (Moved-pushed _ _ _ _ _ c.loop-block.invariant.moved _ _ read c.from.result list c.push.new.self is lt at (rw b at a ∙ ap (λ w. w.items ++ c.in-Some.block ∷ []) (sym at)));
+      room = λ m. All-set (λ w. count_by (is_level m) c.args.levels.now ≤ vec_capacity w) c.loop-block.lists c.from.result c.push.new.self (let r = c.loop-block.invariant.room m c.from.result list lt in let g = c.push.ensures.capacity in omega (arith, r, g)) (c.loop-block.invariant.room m);
       rest_room = c.loop-block.invariant.rest_room;
     }
 
 pub unwrap-requires-in-None-level : goal.unwrap-requires-in-None-level
-unwrap-requires-in-None-level c =
+unwrap-requires-in-None-level g c =
     let began = c.into_iter-block-iterator.ensures.into_iter_gives in
     let in_vec = YieldsList-from_vec {s = c.into_iter-block-iterator.result.a} c.args.blocks.items (ap (λ s. s.a.rest.items) began ∙ ap (λ s. s.rest.items) c.zip-block-items.ensures.first ∙ c.into_iter.ensures.rest) (ap (λ s. s.a.rest.len) began ∙ ap (λ s. s.rest.len) c.zip-block-items.ensures.first ∙ c.into_iter.ensures.len ∙ c.args.blocks.ok.0) in
     let in_slice = YieldsList-from_slice {s = c.into_iter-block-iterator.result.b} c.args.levels.now (ap (λ s. s.b.rest.now) began ∙ c.zip-block-items.ensures.second.0) in
@@ -67,7 +66,7 @@ unwrap-requires-in-None-level c =
     c.push-in-None-level.ensures.succeeds (room_in_rest _ _ _ _ _ c.loop-block.invariant.moved _ _ read c.loop-block.rest refl (omega (arith, c.loop-block.invariant.rest_room, c.args.blocks.ok.0)))
 
 pub loop-block-preserved : goal.loop-block-preserved
-loop-block-preserved c =
+loop-block-preserved g c =
     let began = c.into_iter-block-iterator.ensures.into_iter_gives in
     let in_vec = YieldsList-from_vec {s = c.into_iter-block-iterator.result.a} c.args.blocks.items (ap (λ s. s.a.rest.items) began ∙ ap (λ s. s.rest.items) c.zip-block-items.ensures.first ∙ c.into_iter.ensures.rest) (ap (λ s. s.a.rest.len) began ∙ ap (λ s. s.rest.len) c.zip-block-items.ensures.first ∙ c.into_iter.ensures.len ∙ c.args.blocks.ok.0) in
     let in_slice = YieldsList-from_slice {s = c.into_iter-block-iterator.result.b} c.args.levels.now (ap (λ s. s.b.rest.now) began ∙ c.zip-block-items.ensures.second.0) in

@@ -1,9 +1,21 @@
-use Rattle.std.proofs.Common.{◌≡◌, ◌≤◌, ℕ, List, sym, subst, arith}
+use Rattle.std.proofs.Common.{◌≡◌, ◌++◌, ◌+◌, ◌≤◌, ℕ, List, Err, refl, sym, ap, subst, ◌∙◌, arith}
 use Rattle.std.proofs.lemmas.Result.{err_from_is_err_and}
+use Rattle.oram_bucket.specs.Cell.{Cell, IsRising}
 use Rattle.oram_bucket.specs.Reading.{Reads}
 use Rattle.oram_tree.proofs.Content.{reads_uniquely}
-use Rattle.oram_tree.proofs.Gathered.{levels_more, levels_whole, readable_more, readable_whole, not_readable, not_once, unread, gathered_blocks}
+use Rattle.oram_tree.proofs.Gathered.{HasFetched, IsReadableTo, one_fault, levels_over, fetched_more, fetched_whole, fetched_blocks, readable_none, readable_more, readable_whole, not_readable, not_once, unread}
 use Rattle.oram_tree.proofs.gathering.gather.Goals as goal
+
+pub loop-level-init : goal.loop-level-init
+loop-level-init g c =
+    let reads = Reads (g.S.Sealer.opening c.args.sealer.now) c.args.device.now c.args.tree in
+    let R : List Cell → Type 0 = IsRising in
+    let F : List Cell → Type 0 = HasFetched reads c.args.path.now 0 in
+    record {
+      rising = subst R (sym c.new-near.ensures) (λ i j d lt within. absurd (omega arith));
+      readable = readable_none reads c.args.path.now c.args.stash.now;
+      near = subst F (sym c.new-near.ensures) (λ d. (λ none. absurd (let h = none.1 in omega arith), λ (k, kh, there). absurd (omega arith)));
+    }
 
 pub returns-in_err-blocks-clause-unreadable : goal.returns-in_err-blocks-clause-unreadable
 returns-in_err-blocks-clause-unreadable g c e readable =
@@ -18,10 +30,11 @@ pub returns-in_err-absorb_all-clause-unreadable : goal.returns-in_err-absorb_all
 returns-in_err-absorb_all-clause-unreadable g c e readable =
     let reads = Reads (g.S.Sealer.opening c.args.sealer.now) c.args.device.now c.args.tree in
     let p = err_from_is_err_and c.from_residual-in_err-absorb_all.result c.from_residual-in_err-absorb_all.ensures.1 in
-    let two = c.absorb_all.ensures.twice (cc (p.1, p.2)) in
+    let two = c.absorb_all.ensures.twice (c.in_err-absorb_all.was ∙ ap Err (sym p.2 ∙ one_fault c.from_residual-in_err-absorb_all.result _ _ p.1 e)) in
     let within : c.loop-level.level ≤ c.args.path.now.depth = omega (arith, c.loop-level-test.true, c.depth-level-end.ensures.count, c.requires.depth) in
     let P : List ℕ → Type 0 = λ s. reads s c.in_ok-blocks.blocks.items in
-    not_once reads c.args.path.now c.args.stash.now c.loop-level.stash c.in_ok-blocks.blocks.items c.loop-level.level two.0 two.1 within c.loop-level.invariant.near
+    not_once reads c.args.path.now c.args.stash.now (c.args.stash.now ++ c.loop-level.near) c.in_ok-blocks.blocks.items c.loop-level.level two.0 two.1 within
+    (levels_over reads c.args.path.now c.args.stash.now c.loop-level.near c.loop-level.level c.loop-level.invariant.near)
     (subst P c.sealed.ensures.exact c.in_ok-blocks.ensures.ok) two.2 two.3 two.4 readable
 
 pub loop-level-preserved : goal.loop-level-preserved
@@ -29,33 +42,27 @@ loop-level-preserved g c =
     let reads = Reads (g.S.Sealer.opening c.args.sealer.now) c.args.device.now c.args.tree in
     let P : List ℕ → Type 0 = λ s. reads s c.in_ok-blocks.blocks.items in
     let unique_here = reads_uniquely (g.S.Sealer.opening c.args.sealer.now) c.args.device.now c.args.tree c.trees.ensures.ranges in
+    let read = subst P c.sealed.ensures.exact c.in_ok-blocks.ensures.ok in
     record {
       rising = c.absorb_all.ensures.rising;
-      readable = readable_more reads c.args.path.now c.args.stash.now c.loop-level.stash c.in_ok-blocks.blocks.items c.loop-level.level unique_here c.loop-level.invariant.readable c.loop-level.invariant.near (subst P c.sealed.ensures.exact c.in_ok-blocks.ensures.ok) c.in_ok-absorb_all.ensures.apart;
-      near = levels_more reads c.args.path.now c.args.stash.now c.loop-level.stash c.absorb_all.new.stash c.in_ok-blocks.blocks.items c.loop-level.level
-          unique_here c.loop-level.invariant.near (subst P c.sealed.ensures.exact c.in_ok-blocks.ensures.ok) c.in_ok-absorb_all.ensures.all;
+      readable = readable_more reads c.args.path.now c.args.stash.now (c.args.stash.now ++ c.loop-level.near) c.in_ok-blocks.blocks.items c.loop-level.level unique_here c.loop-level.invariant.readable
+          (levels_over reads c.args.path.now c.args.stash.now c.loop-level.near c.loop-level.level c.loop-level.invariant.near) read c.in_ok-absorb_all.ensures.apart;
+      near = fetched_more reads c.args.path.now c.loop-level.near c.absorb_all.new.near c.in_ok-blocks.blocks.items c.loop-level.level unique_here c.loop-level.invariant.near read c.in_ok-absorb_all.ensures.all;
     }
 
-pub returns-in_ok-absorb_all-clause-near : goal.returns-in_ok-absorb_all-clause-near
-returns-in_ok-absorb_all-clause-near g c =
+pub returns-clause-near : goal.returns-clause-near
+returns-clause-near g c =
     let reads = Reads (g.S.Sealer.opening c.args.sealer.now) c.args.device.now c.args.tree in
-    let P : List ℕ → Type 0 = λ s. reads s c.in_ok-blocks.blocks.items in
-    let unique_here = reads_uniquely (g.S.Sealer.opening c.args.sealer.now) c.args.device.now c.args.tree c.trees.ensures.ranges in
-    let last : c.loop-level.level ≡ c.args.path.now.depth = omega (arith, c.loop-level-test.true, c.depth-level-end.ensures.count, c.requires.depth) in
-    levels_whole reads c.args.path.now c.args.stash.now c.absorb_all.new.stash c.loop-level.level last
-    (levels_more reads c.args.path.now c.args.stash.now c.loop-level.stash c.absorb_all.new.stash c.in_ok-blocks.blocks.items c.loop-level.level
-    unique_here c.loop-level.invariant.near (subst P c.sealed.ensures.exact c.in_ok-blocks.ensures.ok) c.in_ok-absorb_all.ensures.all)
+    let F : ℕ → Type 0 = λ n. HasFetched reads c.args.path.now n c.loop-level.near in
+    let last : c.loop-level.level ≡ c.args.path.now.depth + 1 = omega (arith, c.loop-level-test.false, c.depth-level-end.ensures.count, c.requires.depth) in
+    fetched_whole reads c.args.path.now c.loop-level.near c.args.path.now.depth refl (subst F last c.loop-level.invariant.near)
 
-pub returns-in_ok-absorb_all-clause-readable : goal.returns-in_ok-absorb_all-clause-readable
-returns-in_ok-absorb_all-clause-readable g c =
+pub returns-clause-blocks : goal.returns-clause-blocks
+returns-clause-blocks g c = fetched_blocks (g.S.Sealer.opening c.args.sealer.now) c.args.device.now c.args.tree c.args.path.now c.loop-level.near (returns-clause-near g c)
+
+pub returns-clause-readable : goal.returns-clause-readable
+returns-clause-readable g c =
     let reads = Reads (g.S.Sealer.opening c.args.sealer.now) c.args.device.now c.args.tree in
-    let P : List ℕ → Type 0 = λ s. reads s c.in_ok-blocks.blocks.items in
-    let unique_here = reads_uniquely (g.S.Sealer.opening c.args.sealer.now) c.args.device.now c.args.tree c.trees.ensures.ranges in
-    let last : c.loop-level.level ≡ c.args.path.now.depth = omega (arith, c.loop-level-test.true, c.depth-level-end.ensures.count, c.requires.depth) in
-    readable_whole reads c.args.path.now c.args.stash.now c.loop-level.level last
-    (readable_more reads c.args.path.now c.args.stash.now c.loop-level.stash c.in_ok-blocks.blocks.items c.loop-level.level unique_here c.loop-level.invariant.readable c.loop-level.invariant.near
-    (subst P c.sealed.ensures.exact c.in_ok-blocks.ensures.ok) c.in_ok-absorb_all.ensures.apart)
-
-pub returns-in_ok-absorb_all-clause-blocks : goal.returns-in_ok-absorb_all-clause-blocks
-returns-in_ok-absorb_all-clause-blocks g c =
-    gathered_blocks (g.S.Sealer.opening c.args.sealer.now) c.args.device.now c.args.tree c.args.path.now c.args.stash.now c.absorb_all.new.stash c.requires.blocks (returns-in_ok-absorb_all-clause-near g c)
+    let R : ℕ → Type 0 = IsReadableTo reads c.args.path.now c.args.stash.now in
+    let last : c.loop-level.level ≡ c.args.path.now.depth + 1 = omega (arith, c.loop-level-test.false, c.depth-level-end.ensures.count, c.requires.depth) in
+    readable_whole reads c.args.path.now c.args.stash.now c.args.path.now.depth refl (subst R last c.loop-level.invariant.readable)
