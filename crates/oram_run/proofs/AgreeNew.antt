@@ -1,5 +1,5 @@
 -- Cores whose trees agree: one just formatted, and one at rest whose table and map blocks name what the trees hold.
-use Rattle.std.proofs.Common.{◌≡◌, ℕ, suc, ◌+◌, ◌-◌, ◌*◌, ◌/◌, ◌%◌, ◌^◌, ◌<◌, ◌≤◌, Bool, if◌then◌else◌, List, [], ◌∷◌, length, replicate, slice_index, slice_index_or, take, IsSome, Option, Some, None, refl, ap, sym, ◌∙◌, subst, arith, inl, inr}
+use Rattle.std.proofs.Common.{◌≡◌, ℕ, suc, ◌+◌, ◌-◌, ◌*◌, ◌/◌, ◌%◌, ◌^◌, ◌<◌, ◌≤◌, Bool, if◌then◌else◌, List, [], ◌∷◌, length, replicate, slice_index, take, IsSome, Option, Some, None, refl, ap, sym, ◌∙◌, subst, arith, inl, inr}
 use Rattle.std.specs.List.{All}
 use Rattle.std.specs.Int.{w32, from_be_bytes}
 use Rattle.std.proofs.lemmas.List.{get_or-replicate, length-replicate, drop-replicate}
@@ -16,7 +16,7 @@ use Rattle.oram_run.specs.Shape.{Shape}
 use Rattle.oram_run.specs.Progress.{Setting}
 use Rattle.oram_run.specs.Content.{content_of}
 use Rattle.oram_run.specs.Trees.{Stands}
-use Rattle.oram_run.specs.State.{State, World, Holds, no_tree, name_of}
+use Rattle.oram_run.specs.State.{State, name_of}
 use Rattle.oram_run.specs.Blocks.{found_in, entry_in}
 use Rattle.oram_run.specs.Law.{new_state, world_of}
 use Rattle.oram_run.specs.Agree.{named_for, IsNext, Agrees, IsOrderly}
@@ -24,7 +24,6 @@ use Rattle.oram_run.specs.declared.events.Submission.{Submission}
 use Rattle.oram_run.proofs.Bounds.{IsFit}
 use Rattle.oram_run.proofs.Others.{all_none}
 use Rattle.oram_run.proofs.Formatting.{empty_content}
-use Rattle.oram_run.proofs.AgreeKept.{at_rest}
 
 -- a block of a tree is one of the tree's blocks
 pub record IsEntryOf (d : Sizes) (i : ℕ) (e : Held) : Type 0 where
@@ -62,30 +61,9 @@ found_by : (d : Sizes) (i : ℕ) (o : Option Held) → ((e : Held) → o ≡ Som
 found_by d i None h = record { sized = length-replicate d.block_bytes 0; leaves = omega arith }
 found_by d i (Some e) h = let is = h e refl in record { sized = is.whole; leaves = omega (arith, is.leaf_in) }
 
-some_is : (o : Option Held) (e : Held) → o ≡ Some e → IsSome o
-some_is (Some e) other is = refl
-some_is None e is = absurd (let both : None ≡ Some e = is in cc)
-
-pub found_stands : (v : Shape) (i : ℕ) (tree : Tree) (records : ℕ → List ℕ) (content : Map) (a : ℕ)
-    → Stands v i tree records content → All (IsBlockOf v.device i) tree.stash → IsFound v.device i (content a)
-found_stands v i tree records content a stands stash =
-    found_by v.device i (content a) (λ e is. held_fits v i tree records content a e stands stash (some_is (content a) e is) is)
-
 no_next : (v : Shape) (s : State) (queue : List Submission) (i b : ℕ) → s.stage ≡ 0 → ¬ IsNext v s queue i b
 no_next v s [] i b z = λ n. n
 no_next v s (x ∷ rest) i b z = λ n. absurd (let more : 0 < s.stage = n.0.0 in omega arith)
-
--- A core at rest whose trees stand: they agree where its table and their map blocks name what they hold.
-pub agrees_at_rest : (v : Shape) (s : State) (w : World) → s.stage ≡ 0 → Holds v s w
-    → ((i : ℕ) → i < trees_of v.device → All (IsBlockOf v.device i) (slice_index_or s.trees i no_tree).stash)
-    → ((i b : ℕ) → i < trees_of v.device → b < blocks_in v.device i → named_for v s w i b ≡ name_of (w.content i b))
-    → Agrees v s w
-agrees_at_rest v s w z holds stashes named = record {
-  sized = λ i b below. (found_stands v i (slice_index_or s.trees i no_tree) (w.records i) (w.content i) b (holds i below) (stashes i below)).sized;
-  leaves = λ i b below. (found_stands v i (slice_index_or s.trees i no_tree) (w.records i) (w.content i) b (holds i below) (stashes i below)).leaves;
-  others = λ i b below inside apart. named i b below inside;
-  between = at_rest v s w s.queue z;
-}
 
 -- zeros name nothing
 zeros_name : (n j : ℕ) → 4 * j + 4 ≤ n → entry_in (replicate n 0) j ≡ 0

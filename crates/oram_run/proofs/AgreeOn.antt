@@ -1,6 +1,6 @@
 -- Trees that agree do so after an access.
 use Rattle.std.proofs.Common.{◌≡◌, ◌≢◌, ℕ, zero, suc, ◌+◌, ◌-◌, ◌*◌, ◌/◌, ◌%◌, ◌^◌, ◌<◌, ◌≤◌, ◌==◌, Bool, true, false, if◌then◌else◌, List, ◌∷◌, length, slice_index, slice_set, Some, refl, ap, sym, ◌∙◌, subst, arith, inl, inr}
-use Rattle.std.proofs.lemmas.List.{get_or-set_same, get_or-set_other}
+use Rattle.std.proofs.lemmas.List.{get_or-set_same, get_or-set_other, length-replicate}
 use Rattle.std.proofs.lemmas.Nat.{mod_below, div-add-mod'}
 use Rattle.std.proofs.lemmas.Bool.Decides.{nat_tests, eqb_tells}
 use Rattle.oram_geometry.specs.declared.Sizes.{Sizes}
@@ -10,11 +10,11 @@ use Rattle.oram_run.specs.Shape.{Shape}
 use Rattle.oram_run.specs.Content.{block_of, new_leaf}
 use Rattle.oram_run.specs.State.{State, World, name_of}
 use Rattle.oram_tree.specs.Edits.{with_entry}
-use Rattle.oram_run.specs.Blocks.{found_in, entry_in, block_after, next_named, written_over, put_in}
+use Rattle.oram_run.specs.Blocks.{found_in, entry_in, block_after, next_named, left_by, put_in}
 use Rattle.oram_run.specs.Run.{has_bad_length}
 use Rattle.oram_run.specs.Agree.{named_for, next_tree, IsAmid, IsBetween, AtBetween, IsNext, Agrees}
 use Rattle.oram_run.specs.declared.events.Command.{Command}
-use Rattle.oram_run.specs.declared.events.Command.TheVariants.{Read, Write}
+use Rattle.oram_run.specs.declared.events.Command.TheVariants.{Read, Write, Discard}
 use Rattle.oram_run.specs.declared.events.Submission.{Submission}
 use Rattle.oram_run.proofs.Bounds.{HasEntries}
 use Rattle.oram_run.proofs.Maps.{block_after-suc, above, leaf_small}
@@ -37,15 +37,16 @@ pub record Accessed (v : Shape) (s t : State) (w w' : World) (x : Submission) (r
   pub content' : (k b : ℕ)
       → w'.content k b ≡ put_in w.content i a (record { leaf = new_leaf v.device i x; content = block_after v.device i x bytes }) k b
 
-written_length : (d : Sizes) (c : Command) (bytes : List ℕ) → length bytes ≡ d.block_bytes → has_bad_length d c ≡ false
-    → length (written_over c bytes) ≡ d.block_bytes
-written_length d (Read b) bytes size ok = size
-written_length d (Write b new) bytes size ok = grind (arith, nat_tests, ok)
+length-left_by : (d : Sizes) (c : Command) (bytes : List ℕ) → length bytes ≡ d.block_bytes → has_bad_length d c ≡ false
+    → length (left_by d c bytes) ≡ d.block_bytes
+length-left_by d (Read b) bytes size ok = size
+length-left_by d (Write b new) bytes size ok = grind (arith, nat_tests, ok)
+length-left_by d (Discard b) bytes size ok = length-replicate d.block_bytes 0
 
 length-block_after : (d : Sizes) (i : ℕ) (x : Submission) (bytes : List ℕ) → HasEntries d → length bytes ≡ d.block_bytes
     → has_bad_length d x.command ≡ false → length (block_after d i x bytes) ≡ d.block_bytes
 unfolding block_after
-length-block_after d zero x bytes h size ok = written_length d x.command bytes size ok
+length-block_after d zero x bytes h size ok = length-left_by d x.command bytes size ok
 length-block_after d (suc i) x bytes h size ok =
     let j : block_of d i x % fanout d < fanout d = mod_below (block_of d i x) (fanout d) h.some in
     length-edit bytes (block_of d i x % fanout d) (new_leaf d i x + 1) (omega (arith, h.whole)) ∙ size

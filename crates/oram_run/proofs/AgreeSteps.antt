@@ -14,15 +14,16 @@ use Rattle.oram_run.specs.Content.{block_of, new_leaf, stage_tree}
 use Rattle.oram_run.specs.Progress.{Status}
 use Rattle.oram_run.specs.Progress.Status.{Idle, Waiting, Stalling, Over}
 use Rattle.oram_run.specs.Run.{Shown, refusal_of, is_over}
-use Rattle.oram_run.specs.State.{State, World, Holds, status_in, name_of}
+use Rattle.oram_run.specs.State.{State, World, AllStand, status_in, name_of}
 use Rattle.oram_run.specs.Blocks.{found_in}
 use Rattle.oram_run.specs.Moves.{Moved, MovesTo, Moves, Fits, IsReady, stays, stalls, resends, accepts, stores, fetches, finishes, goes_on, on_submission, on_answer, on_loss, on_retry, world_after, moved}
-use Rattle.oram_run.specs.Agree.{named_for, next_tree, IsBetween, AtBetween, IsNext, Agrees, IsTaken, IsOrderly}
+use Rattle.oram_run.specs.Agree.{named_for, next_tree, IsBetween, AtBetween, IsNext, Agrees, IsAllowed, IsOrderly}
 use Rattle.oram_run.specs.declared.events.Event.{Event}
-use Rattle.oram_run.specs.declared.events.Event.TheVariants.{Submit, Answer, Lost, Retry}
+use Rattle.oram_run.specs.declared.events.Event.TheVariants.{Submit, Answer, Lost, Reopen, Retry}
 use Rattle.oram_run.specs.declared.events.Refusal.{Refusal}
 use Rattle.oram_run.specs.declared.events.Note.TheVariants.{Refused, Unexpected}
 use Rattle.oram_run.specs.declared.events.Submission.{Submission}
+use Rattle.oram_geometry.proofs.Measuring.{blocks_in-zero}
 use Rattle.oram_run.proofs.Bounds.{IsFit, address_small}
 use Rattle.oram_run.proofs.Agreeing.{agreeing_ready}
 use Rattle.oram_run.proofs.AgreeOn.{agrees_on}
@@ -30,9 +31,10 @@ use Rattle.oram_run.proofs.AgreeKept.{agrees_kept, agrees_finished, agrees_fetch
 use Rattle.oram_run.proofs.Submitted.{passed}
 
 -- its blocks are the trees'
-inside : (v : Shape) (x : Submission) → IsFit v.device → IsTaken v.device x → (k : ℕ)
+inside : (v : Shape) (x : Submission) → IsFit v.device → IsAllowed v.device x → (k : ℕ)
     → block_of v.device k x < blocks_in v.device k
-inside v x fit ok k = address_small v.device k (address_of x.command) fit.words.some ok.address
+inside v x fit ok k =
+    address_small v.device k (address_of x.command) fit.words.some (subst (λ n. address_of x.command < n) (blocks_in-zero v.device) ok.address)
 
 -- what an event leaves
 pub record IsLeft (v : Shape) (t : State) (w : World) : Type 0 where
@@ -69,7 +71,7 @@ left_same : (v : Shape) (s t : State) (w w' : World) → t.table ≡ s.table →
 left_same v s t w w' table queue stage named content o a = record {
   orderly = record {
     sized = ap (λ (xs : List ℕ). length xs) table ∙ o.sized;
-    queue = subst (All (IsTaken v.device)) (sym queue) o.queue;
+    queue = subst (All (IsAllowed v.device)) (sym queue) o.queue;
     stage = subst (λ (r : ℕ). r < 2 * trees_of v.device) (sym stage) o.stage;
     rests = λ none. stage ∙ o.rests (sym (ap (λ (q : List Submission). length q) queue) ∙ none);
   };
@@ -91,12 +93,12 @@ between_push v t w [] x rests at = λ amid. absurd (let more : 0 < t.stage = ami
 between_push v t w (y ∷ rest) x rests at = at
 
 left_pushed : (v : Shape) (s t : State) (w w' : World) (x : Submission) → t.table ≡ s.table → t.queue ≡ s.queue ++ x ∷ []
-    → t.stage ≡ s.stage → t.named ≡ s.named → ((i c : ℕ) → w'.content i c ≡ w.content i c) → IsTaken v.device x
+    → t.stage ≡ s.stage → t.named ≡ s.named → ((i c : ℕ) → w'.content i c ≡ w.content i c) → IsAllowed v.device x
     → IsOrderly v s → Agrees v s w → IsLeft v t w'
 left_pushed v s t w w' x table queue stage named content ok o a = record {
   orderly = record {
     sized = ap (λ (xs : List ℕ). length xs) table ∙ o.sized;
-    queue = subst (All (IsTaken v.device)) (sym queue) (All-push (IsTaken v.device) s.queue x o.queue ok);
+    queue = subst (All (IsAllowed v.device)) (sym queue) (All-push (IsAllowed v.device) s.queue x o.queue ok);
     stage = subst (λ (r : ℕ). r < 2 * trees_of v.device) (sym stage) o.stage;
     rests = λ none. absurd (let some : length t.queue ≡ length s.queue + 1 = ap (λ (q : List Submission). length q) queue ∙ length-append s.queue (x ∷ []) ∙ omega arith in omega arith);
   };
@@ -114,7 +116,7 @@ left_stored v s t w x rest y fit qu even o a mv =
     let d = v.device in
     let i : ℕ = stage_tree d s.stage in
     let few : s.stage < 2 * trees_of d = o.stage in
-    let ok : IsTaken d x = All-head (IsTaken d) x rest (subst (All (IsTaken d)) qu o.queue) in
+    let ok : IsAllowed d x = All-head (IsAllowed d) x rest (subst (All (IsAllowed d)) qu o.queue) in
     let queue : t.queue ≡ x ∷ rest = ap (λ (u : State). u.queue) mv.state ∙ qu in
     let stage : t.stage ≡ s.stage + 1 = ap (λ (u : State). u.stage) mv.state in
     let table : t.table ≡ (if s.stage == 0 then slice_set s.table (block_of d i x) (new_leaf d i x + 1) else s.table) =
@@ -124,7 +126,7 @@ left_stored v s t w x rest y fit qu even o a mv =
       orderly = record {
         sized = ap (λ (xs : List ℕ). length xs) table ∙ length_table s.table s.stage (block_of d i x) (new_leaf d i x + 1)
             ∙ o.sized;
-        queue = subst (All (IsTaken d)) (sym (ap (λ (u : State). u.queue) mv.state)) o.queue;
+        queue = subst (All (IsAllowed d)) (sym (ap (λ (u : State). u.queue) mv.state)) o.queue;
         stage = omega arith;
         rests = λ none. absurd (omega arith);
       };
@@ -159,7 +161,7 @@ left_fetched v s t w x rest y qu odd more o a mv =
     record {
       orderly = record {
         sized = ap (λ (xs : List ℕ). length xs) table ∙ o.sized;
-        queue = subst (All (IsTaken v.device)) (sym (ap (λ (u : State). u.queue) mv.state)) o.queue;
+        queue = subst (All (IsAllowed v.device)) (sym (ap (λ (u : State). u.queue) mv.state)) o.queue;
         stage = omega arith;
         rests = λ none. absurd (omega arith);
       };
@@ -176,7 +178,7 @@ left_finished v s t w x rest y fit qu last o a mv =
     record {
       orderly = record {
         sized = ap (λ (xs : List ℕ). length xs) table ∙ o.sized;
-        queue = subst (All (IsTaken v.device)) (sym (ap (λ (u : State). u.queue) mv.state)) (All-tail (IsTaken v.device) x rest (subst (All (IsTaken v.device)) qu o.queue));
+        queue = subst (All (IsAllowed v.device)) (sym (ap (λ (u : State). u.queue) mv.state)) (All-tail (IsAllowed v.device) x rest (subst (All (IsAllowed v.device)) qu o.queue));
         stage = omega arith;
         rests = λ none. stage;
       };
@@ -222,7 +224,7 @@ left_submitted v s t w y x (Some e) fit r o a = left_quiet v s t w y (stays s w 
 left_submitted v s t w y x None fit r o a = λ mv healthy.
     let ok = passed v.device (is_over (status_in s)) (length s.queue) s.next x.command x.words r in
     left_pushed v s t w (world_after v w (accepts v s w x) y.sends) x (ap (λ (u : State). u.table) mv.state) (ap (λ (u : State). u.queue) mv.state) (ap (λ (u : State). u.stage) mv.state) (ap (λ (u : State). u.named) mv.state) (λ i c. refl)
-    (record { address = ok.1; data_length = ok.2; words = ok.3 }) o a
+    (record { address = subst (λ n. address_of x.command < n) (sym (blocks_in-zero v.device)) ok.1; data_length = ok.2; words = ok.3 }) o a
 
 left_answered : (v : Shape) (s t : State) (w : World) (y : Shown) (now : Status) (o : Outcome) → IsFit v.device
     → IsOrderly v s → Agrees v s w → After v s t w y (on_answer v s w now o)
@@ -256,14 +258,15 @@ agrees_moved v s t w (Submit session c words) y fit o a =
 agrees_moved v s t w (Answer bytes) y fit o a =
     left_answered v s t w y (status_in s) (outcome_of v w.records (asked s.last) bytes) fit o a
 agrees_moved v s t w Lost y fit o a = left_lost v s t w y (status_in s) o a
+agrees_moved v s t w Reopen y fit o a = left_lost v s t w y (status_in s) o a
 agrees_moved v s t w Retry y fit o a = left_retried v s t w y (status_in s) o a
 
 ready_by : (v : Shape) (s : State) (w : World) (queue : List Submission) → s.queue ≡ queue → IsFit v.device → IsOrderly v s
     → Agrees v s w → IsReady v s w queue
 ready_by v s w [] qu fit o a = tt
 ready_by v s w (x ∷ rest) qu fit o a = λ even.
-    agreeing_ready v s w x rest qu even o.stage fit.some (inside v x fit (All-head (IsTaken v.device) x rest (subst (All (IsTaken v.device)) qu o.queue))) a
+    agreeing_ready v s w x rest qu even o.stage fit.some (inside v x fit (All-head (IsAllowed v.device) x rest (subst (All (IsAllowed v.device)) qu o.queue))) a
 
 -- A core whose trees stand and agree can go on.
-pub agreeing_fits : (v : Shape) (s : State) (w : World) → IsFit v.device → IsOrderly v s → Agrees v s w → Holds v s w → Fits v s w
+pub agreeing_fits : (v : Shape) (s : State) (w : World) → IsFit v.device → IsOrderly v s → Agrees v s w → AllStand v s w → Fits v s w
 agreeing_fits v s w fit o a holds = λ healthy. (holds, ready_by v s w s.queue refl fit o a)

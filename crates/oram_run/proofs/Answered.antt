@@ -19,7 +19,7 @@ use Rattle.oram_run.specs.Blocks.{body_from}
 use Rattle.oram_run.specs.Moves.{Moved, is_new, records_next, MovesTo, stores, fetches, finishes, Sends, latest, first_fetch, buckets_in}
 use Rattle.oram_run.specs.Moves.Ask.{For}
 use Rattle.oram_run.specs.declared.events.Command.{Command}
-use Rattle.oram_run.specs.declared.events.Command.TheVariants.{Read, Write}
+use Rattle.oram_run.specs.declared.events.Command.TheVariants.{Read, Write, Discard}
 use Rattle.oram_run.specs.declared.events.Event.{Event}
 use Rattle.oram_run.specs.declared.events.Event.TheVariants.{Answer}
 use Rattle.oram_run.specs.declared.events.Note.TheVariants.{Taken}
@@ -29,7 +29,7 @@ use Rattle.oram_run.specs.declared.events.Submission.{Submission}
 use Rattle.oram_run.proofs.Entries.{HasWords, turn}
 use Rattle.oram_run.specs.Law.{world_of}
 use Rattle.oram_run.proofs.Bounds.{IsFit}
-use Rattle.oram_run.proofs.Follows.{IsAllowed, TicketsFrom, applied, applied_yes, entry_for, Working, Live, content_is}
+use Rattle.oram_run.proofs.Follows.{FitsTable, TicketsFrom, applied, applied_yes, entry_for, Working, Live, content_is}
 use Rattle.oram_run.proofs.Counts.{sent_cons, records_more, accepted_len, rest_is, none_between, one_between, none_asked, one_asked, answered_is, sent_is, asked_is, no_store, store_entry_is}
 use Rattle.oram_run.proofs.Stores.{content_stored, leaf_fits, live_stored, stored_state, store_entry}
 use Rattle.oram_run.proofs.Fetches.{live_fetched, live_finished, fetched_state, finished_state, applied_fetched, applied_finished, fetch_entry}
@@ -75,7 +75,7 @@ middle_keep v past s t u old rest x y bytes m e fit l qu few taken none ask mv i
     let note : x.note ≡ Taken = mv.note ∙ taken in
     let a : accepted (step ∷ past) ≡ accepted past = not_accepted past step (ap is_accepted note) in
     let g' : (progress v (step ∷ past)).good ≡ g + 1 = ap (λ (q : Progress). q.good) p in
-    let ok : IsAllowed d y = All-head (IsAllowed d) y rest (subst (All (IsAllowed d)) qu l.allowed) in
+    let ok : FitsTable d y = All-head (FitsTable d) y rest (subst (All (FitsTable d)) qu l.allowed) in
     let split : accepted past ≡ reverse old ++ y ∷ rest = l.split ∙ ap (λ xs. reverse old ++ xs) qu in
     let len : length (accepted past) ≡ length old + (length rest + 1) = accepted_len past old (y ∷ rest) split ∙ omega arith in
     let before : answered_tickets v past ≡ length old = answered_is v past (length old) s.stage l.good (omega arith) in
@@ -182,13 +182,14 @@ body_is : (d : Sizes) (old : List Submission) (bytes : List ℕ) (c : Command) �
     → body_from bytes c ≡ body_for d old c
 body_is d old bytes (Read a) e = ap Data e
 body_is d old bytes (Write a new) e = refl
+body_is d old bytes (Discard a) e = refl
 
 -- the next command's fetch, if there is a next
 next_due : (v : Setting) (past : List Step) (step : Step) (old rest : List Submission) (s : State) (y : Submission) (g : ℕ)
     (last : List ℕ) → IsFit v.shape.device → g ≡ length old * (2 * trees_of v.shape.device) + s.stage
     → s.stage + 1 ≡ 2 * trees_of v.shape.device → (progress v past).good ≡ g → (progress v (step ∷ past)).good ≡ g + 1
     → accepted (step ∷ past) ≡ accepted past → accepted past ≡ reverse old ++ y ∷ rest
-    → HasWords (2 * trees_of v.shape.device) (y ∷ old) → All (IsAllowed v.shape.device) rest
+    → HasWords (2 * trees_of v.shape.device) (y ∷ old) → All (FitsTable v.shape.device) rest
     → ((a : ℕ) → a < blocks_in v.shape.device (trees_of v.shape.device - 1) → slice_index s.table a ≡ named_in v.shape.device (trees_of v.shape.device - 1) (y ∷ old) a)
     → Sends v.shape last (first_fetch v.shape.device s.table rest) step.sends
     → AskFor v (step ∷ past) (from_to (entries_sent v past) (entries_sent v (step ∷ past))) step.sends
@@ -200,7 +201,7 @@ next_due v past step old [] s y g last fit good whole before after a split words
     ∙ sym (sent_is v past g (length old + (0 + 1)) (g + 1) before len (sent_before (trees_of v.shape.device) (length old) 0 s.stage g few good))) sends
 next_due v past step old (z ∷ rest) s y g last fit good whole before after a split words all table sends =
     let d = v.shape.device in
-    let ok : IsAllowed d z = All-head (IsAllowed d) z rest all in
+    let ok : FitsTable d z = All-head (FitsTable d) z rest all in
     let few : s.stage < 2 * trees_of d = omega arith in
     let some : 0 < trees_of d = fit.some in
     let len : length (accepted past) ≡ length old + (length rest + 1 + 1) =
@@ -277,7 +278,7 @@ finishes_keep v past s t old rest x y bytes fit l healthy qu w calm whole mv is 
     answered_is v (step ∷ past) (length old + 1) 0 (g' ∙ ap (λ k. k + 1) l.good ∙ omega arith) (omega arith) in
     let one_more : answered_tickets v (step ∷ past) ≡ answered_tickets v past + 1 = omega arith in
     let ticket : y.ticket ≡ length old = (subst (TicketsFrom (length old)) qu l.tickets).0 in
-    let all : All (IsAllowed d) (y ∷ rest) = subst (All (IsAllowed d)) qu l.allowed in
+    let all : All (FitsTable d) (y ∷ rest) = subst (All (FitsTable d)) qu l.allowed in
     let due : (i : ℕ) → 2 * (trees_of d - 1 - i) < s.stage = λ i. omega arith in
     let table : (b : ℕ) → b < blocks_in d (trees_of d - 1) → slice_index s.table b ≡ named_in d (trees_of d - 1) (y ∷ old) b = λ b below. l.table b below
     ∙ ap (λ q. named_in d (trees_of d - 1) (applied d old q s.stage (trees_of d - 1)) b) qu
@@ -290,7 +291,7 @@ finishes_keep v past s t old rest x y bytes fit l healthy qu w calm whole mv is 
             ∙ ap (λ b. (record { session = y.session; ticket = y.ticket; body = b }) ∷ []) (body_is d old s.before y.command (w.before whole))
             ∙ ap (λ (r : Reply). r ∷ []) (sym (reply_is d past old rest y split ticket))
             ∙ sym (replies_calm v past step x.note (reply_of d (accepted past) y ∷ []) (ap fails_now mv.note) (one_between (reply_of d (accepted past)) (accepted past) rest y (answered_tickets v past) (answered_tickets v (step ∷ past)) one_more (rest_is past old (y ∷ rest) (answered_tickets v past) before split)));
-        sends = sends_right v past step x.note false (ap is_resent mv.note) (next_due v past step old rest s y g s.last fit l.good whole refl g' a split ((All-head (IsAllowed d) y rest all).words, l.words) (All-tail (IsAllowed d) y rest all) table mv.sends);
+        sends = sends_right v past step x.note false (ap is_resent mv.note) (next_due v past step old rest s y g s.last fit l.good whole refl g' a split ((All-head (FitsTable d) y rest all).words, l.words) (All-tail (FitsTable d) y rest all) table mv.sends);
         placed = λ _. placed_first v (step ∷ past) (answered_tickets v past) s.last x.sends s.table rest mv.sends;
       };
       follows = follows_on v past (Answer bytes) x (y ∷ old) t u m fit is_u healthy live

@@ -19,7 +19,7 @@ use Rattle.oram_run.specs.declared.events.Submission.{Submission}
 use Rattle.oram_run.proofs.Entries.{turn}
 use Rattle.oram_run.specs.Law.{world_of}
 use Rattle.oram_run.proofs.Bounds.{IsFit}
-use Rattle.oram_run.proofs.Follows.{IsAllowed, TicketsFrom, applied, applied_none, applied_yes, applied_same, entry_for, Working, AtWork, Live}
+use Rattle.oram_run.proofs.Follows.{FitsTable, TicketsFrom, applied, applied_none, applied_yes, applied_same, entry_for, Working, AtWork, Live}
 use Rattle.oram_run.proofs.Counts.{asked_is, sent_cons}
 use Rattle.oram_run.proofs.Stores.{leaf_fits}
 
@@ -93,7 +93,7 @@ applied_finished d old rest x r i last = applied_none d (x ∷ old) rest i ∙ s
 
 -- a command begins
 begins : (v : Setting) (past : List Step) (old : List Submission) (y : Submission) (t : State) (step : Step) (m : List ℕ)
-    → IsFit v.shape.device → t.stage ≡ 0 → IsAllowed v.shape.device y → sent (step ∷ past) ≡ m ∷ sent past → t.last ≡ m
+    → IsFit v.shape.device → t.stage ≡ 0 → FitsTable v.shape.device y → sent (step ∷ past) ≡ m ∷ sent past → t.last ≡ m
     → slice_index t.table (block_of v.shape.device (trees_of v.shape.device - 1) y) ≡ named_in v.shape.device (trees_of v.shape.device - 1) old (block_of v.shape.device (trees_of v.shape.device - 1) y)
     → IsMessage v.shape (fetch_at v.shape.device 0 (slice_index t.table (block_of v.shape.device (trees_of v.shape.device - 1) y)) y) m
     → Working v (step ∷ past) old t y
@@ -119,12 +119,12 @@ finished_state v past s x rest ts n m =
 
 pub begins_next : (v : Setting) (past : List Step) (old rest : List Submission) (t : State) (step : Step)
     → IsFit v.shape.device → t.stage ≡ 0 → t.lost ≡ false → (was : List ℕ) → t.last ≡ latest step.sends was
-    → All (IsAllowed v.shape.device) rest
+    → All (FitsTable v.shape.device) rest
     → ((a : ℕ) → a < blocks_in v.shape.device (trees_of v.shape.device - 1) → slice_index t.table a ≡ named_in v.shape.device (trees_of v.shape.device - 1) old a)
     → Sends v.shape was (first_fetch v.shape.device t.table rest) step.sends → AtWork v (step ∷ past) old t rest
 begins_next v past old [] t step fit z calm was last_is all table sends = record { stage = z; calm = calm }
 begins_next v past old (y ∷ rest) t step fit z calm was last_is all table sends =
-    let ok : IsAllowed v.shape.device y = All-head (IsAllowed v.shape.device) y rest all in
+    let ok : FitsTable v.shape.device y = All-head (FitsTable v.shape.device) y rest all in
     begins v past old y t step sends.0 fit z ok (sent_cons step past ∙ ap (λ ms. ms ++ sent past) sends.1) (last_is ∙ ap (λ ms. latest ms was) sends.1) (table (block_of v.shape.device (trees_of v.shape.device - 1) y) ok.block) sends.2
 
 pub live_finished : (v : Setting) (past : List Step) (old rest : List Submission) (s : State) (x : Submission) (step : Step)
@@ -137,8 +137,8 @@ pub live_finished : (v : Setting) (past : List Step) (old rest : List Submission
 live_finished v past old rest s x step ts n fit l qu w last calm p a sends nonce_is =
     let d = v.shape.device in
     let t : State = finished_state v past s x rest ts n (latest step.sends s.last) in
-    let all : All (IsAllowed d) (x ∷ rest) = subst (All (IsAllowed d)) qu l.allowed in
-    let ok : IsAllowed d x = All-head (IsAllowed d) x rest all in
+    let all : All (FitsTable d) (x ∷ rest) = subst (All (FitsTable d)) qu l.allowed in
+    let ok : FitsTable d x = All-head (FitsTable d) x rest all in
     let long : length s.queue ≡ length rest + 1 = ap length qu ∙ omega arith in
     let size : length (x ∷ old) ≡ length old + 1 = omega arith in
     let due : 2 * (trees_of d - 1 - (trees_of d - 1)) < s.stage = let some : 0 < trees_of d = fit.some in omega arith in
@@ -153,11 +153,11 @@ live_finished v past old rest s x step ts n fit l qu w last calm p a sends nonce
           ∙ ap (λ (k : ℕ). k * (2 * trees_of d) + 0) (sym size);
       split = a ∙ l.split ∙ ap (λ xs. reverse old ++ xs) qu ∙ sym (turn x old rest);
       words = (ok.words, l.words);
-      allowed = All-tail (IsAllowed d) x rest all;
+      allowed = All-tail (FitsTable d) x rest all;
       tickets = subst (λ k. TicketsFrom k rest) (sym size) (subst (TicketsFrom (length old)) qu l.tickets).1;
       next = l.next ∙ omega arith;
       nonce = nonce_is ∙ ap (nonce_at v) (sym (ap (λ (q : Progress). q.good) p));
       sized = l.sized;
       table = λ b below. table b below ∙ ap (λ xs. named_in d (trees_of d - 1) xs b) (sym (applied_none d (x ∷ old) rest (trees_of d - 1)));
-      work = begins_next v past (x ∷ old) rest t step fit refl calm s.last refl (All-tail (IsAllowed d) x rest all) table sends;
+      work = begins_next v past (x ∷ old) rest t step fit refl calm s.last refl (All-tail (FitsTable d) x rest all) table sends;
     }

@@ -12,7 +12,7 @@ use Rattle.oram_run.specs.Events.{address_of, array_at}
 use Rattle.oram_run.specs.Messages.{asked}
 use Rattle.oram_run.specs.Progress.{Setting, Step, accepted, progress, sent}
 use Rattle.oram_run.specs.Content.{block_of, named_in, content_after, content_of, accesses}
-use Rattle.oram_run.specs.State.{State, Holds}
+use Rattle.oram_run.specs.State.{State, AllStand}
 use Rattle.oram_run.specs.Moves.{leaf_for}
 use Rattle.oram_run.proofs.Nonces.{nonce_at}
 use Rattle.oram_run.specs.Law.{world_of}
@@ -21,8 +21,8 @@ use Rattle.oram_run.specs.declared.events.Submission.{Submission}
 use Rattle.oram_run.proofs.Entries.{HasWords, turn}
 use Rattle.oram_run.proofs.Bounds.{IsFit}
 
--- what the device allows of a submission
-pub record IsAllowed (d : Sizes) (s : Submission) : Type 0 where
+-- its block of the last tree is one of the table's, and there are two words for each tree
+pub record FitsTable (d : Sizes) (s : Submission) : Type 0 where
   pub block : block_of d (trees_of d - 1) s < blocks_in d (trees_of d - 1)
   pub words : length s.words ≡ 2 * trees_of d
 
@@ -65,7 +65,7 @@ pub record Live (v : Setting) (past : List Step) (old : List Submission) (s : St
   pub good : (progress v past).good ≡ length old * (2 * trees_of v.shape.device) + s.stage
   pub split : accepted past ≡ reverse old ++ s.queue
   pub words : HasWords (2 * trees_of v.shape.device) old
-  pub allowed : All (IsAllowed v.shape.device) s.queue
+  pub allowed : All (FitsTable v.shape.device) s.queue
   pub tickets : TicketsFrom (length old) s.queue
   pub next : s.next ≡ length old + length s.queue
   pub nonce : s.nonce ≡ nonce_at v (progress v past).good
@@ -82,7 +82,7 @@ pub record Ended (v : Setting) (past : List Step) (s : State) (e : Reason) : Typ
 
 abbrev pub FollowsAt : Setting → List Step → List Submission → State → Option Reason → Type 0
 FollowsAt v past old s (Some e) = Ended v past s e
-FollowsAt v past old s None = Live v past old s × Holds v.shape s (world_of v past)
+FollowsAt v past old s None = Live v past old s × AllStand v.shape s (world_of v past)
 
 -- the core has seen this past
 pub record Follows (v : Setting) (past : List Step) (s : State) : Type 0 where

@@ -17,14 +17,14 @@ use Rattle.oram_hash.specs.Record.{HoldsDigests, no_digest, sealed_part}
 use Rattle.oram_hash.specs.Tree.{IsStored}
 use Rattle.oram_bucket.specs.Cell.{Cell}
 use Rattle.oram_bucket.specs.Reading.{Reads}
-use Rattle.oram_tree.specs.Content.{Map, HasContent, Holds as HoldsBlock, no_blocks, node_count}
+use Rattle.oram_tree.specs.Content.{Map, HasContent, Holds, no_blocks, node_count}
 use Rattle.oram_tree.specs.State.{State as Tree, IsStoredWith}
 use Rattle.oram_run.specs.Shape.{Shape}
 use Rattle.oram_run.specs.Messages.{last_stored, written}
 use Rattle.oram_run.specs.Progress.{Setting, accepted, progress, sent, records_of}
 use Rattle.oram_run.specs.Content.{accesses, content_after, content_of}
 use Rattle.oram_run.specs.Trees.{Stands}
-use Rattle.oram_run.specs.State.{Holds, no_tree}
+use Rattle.oram_run.specs.State.{AllStand, no_tree}
 use Rattle.oram_run.specs.Formatting.{IsTreeMade, AreTreesMade, IsFormatted}
 use Rattle.oram_run.specs.Law.{new_state, world_of}
 use Rattle.oram_run.proofs.Bounds.{depth_small}
@@ -48,9 +48,9 @@ module _ (depth size : ℕ) (root : List ℕ) (records others : ℕ → List ℕ
     leaves = λ n low below. subst (λ (r : List ℕ). HoldsDigests r no_digest no_digest) (same n below) (s.leaves n low below);
   }
 
-  back : (reads : List ℕ → List Cell → Type 0) (n : ℕ) (c : Cell) → n < node_count depth → HoldsBlock reads (others n) c
-      → HoldsBlock reads (records n) c
-  back reads n c below h = subst (λ (r : List ℕ). HoldsBlock reads r c) (sym (same n below)) h
+  back : (reads : List ℕ → List Cell → Type 0) (n : ℕ) (c : Cell) → n < node_count depth → Holds reads (others n) c
+      → Holds reads (records n) c
+  back reads n c below h = subst (λ (r : List ℕ). Holds reads r c) (sym (same n below)) h
 
   content_over : (reads : List ℕ → List Cell → Type 0) (stash : List Cell) (content : Map)
       → HasContent reads depth records stash content → HasContent reads depth others stash content
@@ -64,7 +64,7 @@ module _ (depth size : ℕ) (root : List ℕ) (records others : ℕ → List ℕ
     from_stash = h.from_stash;
     held = λ a some. elim (h.held a some) [
       | inl stashed ↦ inl stashed
-      | inr there ↦ inr (there.0, there.1, there.2, there.3, subst (λ (r : List ℕ). HoldsBlock reads r there.0) (same there.1 there.3) there.4)
+      | inr there ↦ inr (there.0, there.1, there.2, there.3, subst (λ (r : List ℕ). Holds reads r there.0) (same there.1 there.3) there.4)
     ];
   }
 
@@ -141,7 +141,7 @@ empty_content v i =
     fun_ext (λ a. ap (λ xs. content_after v.shape.device i (reverse xs) a) (take-nil (accesses v.shape.device (progress v []).good i)))
 
 -- A device just formatted: each tree stands over what was last stored.
-pub formatted_holds : (v : Setting) (trees : List Tree) → IsFormatted v trees → Holds v.shape (new_state v trees) (world_of v [])
+pub formatted_holds : (v : Setting) (trees : List Tree) → IsFormatted v trees → AllStand v.shape (new_state v trees) (world_of v [])
 unfolding sent
 formatted_holds v trees made i below =
     let tree : Tree = slice_index_or trees i no_tree in

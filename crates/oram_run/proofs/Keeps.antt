@@ -18,12 +18,12 @@ use Rattle.oram_run.specs.Content.{block_of, named_in, data_in, content_after, c
 use Rattle.oram_run.specs.Nonces.{store_nonce}
 use Rattle.oram_run.specs.Trees.{Stands, IsPlaced}
 use Rattle.oram_run.specs.Run.{is_waiting, note_of, is_accepted, fails_now, is_resent, replies_at, SendsRight, answered_tickets, entries_sent, PlacedBy, Shown, step_of, IsRight, shows_pair}
-use Rattle.oram_run.specs.State.{State, World, Holds, no_tree, status_by, name_of}
+use Rattle.oram_run.specs.State.{State, World, AllStand, no_tree, status_by, name_of}
 use Rattle.oram_run.specs.Blocks.{found_in, next_named}
 use Rattle.oram_run.specs.Moves.{Moved, MovesTo, stays, resends, fails, latest, world_after, records_after, PlacedIn, IsReady, IsReadyFor, Fits, shows_in}
 use Rattle.oram_run.specs.Moves.Ask.{Nothing}
 use Rattle.oram_run.specs.declared.events.Event.{Event}
-use Rattle.oram_run.specs.declared.events.Event.TheVariants.{Submit, Answer, Lost, Retry}
+use Rattle.oram_run.specs.declared.events.Event.TheVariants.{Submit, Answer, Lost, Reopen, Retry}
 use Rattle.oram_run.specs.declared.events.Reason.{Reason}
 use Rattle.oram_run.specs.declared.events.Note.{Note}
 use Rattle.oram_run.specs.declared.events.Note.TheVariants.{FailedNow, Resent}
@@ -33,7 +33,7 @@ use Rattle.oram_run.proofs.Entries.{HasWords, entry_is}
 use Rattle.oram_run.proofs.Maps.{name_is, named_range}
 use Rattle.oram_run.specs.Law.{world_of}
 use Rattle.oram_run.proofs.Bounds.{IsFit}
-use Rattle.oram_run.proofs.Follows.{IsAllowed, applied, applied_none, entry_for, Working, AtWork, Live, FollowsAt, Follows, content_is}
+use Rattle.oram_run.proofs.Follows.{FitsTable, applied, applied_none, entry_for, Working, AtWork, Live, FollowsAt, Follows, content_is}
 use Rattle.oram_run.proofs.Counts.{accepted_cons, sent_cons, records_more, again_same, accepted_len, rest_is, status_is, status_ends, none_between, none_asked, answered_is}
 use Rattle.oram_run.proofs.Stores.{content_before, bytes_are, named_next}
 use Rattle.oram_run.proofs.Others.{all_none, all_one, live_kept}
@@ -50,8 +50,8 @@ ContentIs v old t m =
 -- the trees stand in the world of the longer past
 holds_on : (v : Setting) (past : List Step) (event : Event) (x : Shown) (old : List Submission) (t : State) (m : Moved)
     → IsFit v.shape.device → Live v (step_of event x ∷ past) old t → ContentIs v old t m → RecordsAre v past event x m
-    → Holds v.shape t (world_after v.shape (world_of v past) m x.sends)
-    → Holds v.shape t (world_of v (step_of event x ∷ past))
+    → AllStand v.shape t (world_after v.shape (world_of v past) m x.sends)
+    → AllStand v.shape t (world_of v (step_of event x ∷ past))
 holds_on v past event x old t m fit l same rec h i below =
     let now : List Step = step_of event x ∷ past in
     subst (λ (r : ℕ → ℕ → List ℕ). Stands v.shape i (slice_index_or t.trees i no_tree) (r i) (content_of v now i)) (sym rec)
@@ -65,7 +65,7 @@ content_along v old t u m e same i below =
 pub follows_on : (v : Setting) (past : List Step) (event : Event) (x : Shown) (old : List Submission) (t u : State)
     (m : Moved) → IsFit v.shape.device → t ≡ u → u.failure ≡ None → Live v (step_of event x ∷ past) old u
     → ContentIs v old u m → RecordsAre v past event x m
-    → (t.failure ≡ None → Holds v.shape t (world_after v.shape (world_of v past) m x.sends))
+    → (t.failure ≡ None → AllStand v.shape t (world_after v.shape (world_of v past) m x.sends))
     → Follows v (step_of event x ∷ past) t
 follows_on v past event x old t u m fit e alive l same rec h =
     let healthy : t.failure ≡ None = ap (λ (s : State). s.failure) e ∙ alive in
@@ -110,7 +110,7 @@ pub asked_now : (v : Setting) (past : List Step) (old rest : List Submission) (s
     → asked s.last ≡ entry_at v past (progress v past).good
 asked_now v past old rest s x l qu w =
     let d = v.shape.device in
-    let ok : IsAllowed d x = All-head (IsAllowed d) x rest (subst (All (IsAllowed d)) qu l.allowed) in
+    let ok : FitsTable d x = All-head (FitsTable d) x rest (subst (All (FitsTable d)) qu l.allowed) in
     w.asks
     ∙ sym (entry_split v past old rest x s.stage (progress v past).good l.good (l.split ∙ ap (λ xs. reverse old ++ xs) qu) l.words ok.words w.stage)
 
@@ -122,7 +122,7 @@ named_at_stage : (v : Setting) (past : List Step) (old rest : List Submission) (
 named_at_stage v past old rest s x zero e fit l qu w even =
     let d = v.shape.device in
     let top : stage_tree d 0 ≡ trees_of d - 1 = omega arith in
-    let ok : IsAllowed d x = All-head (IsAllowed d) x rest (subst (All (IsAllowed d)) qu l.allowed) in
+    let ok : FitsTable d x = All-head (FitsTable d) x rest (subst (All (FitsTable d)) qu l.allowed) in
     let a : ℕ = block_of d (trees_of d - 1) x in
     ap (λ (i : ℕ). named_in d i old (block_of d i x)) top
     ∙ sym (l.table a ok.block ∙ ap (λ (r : ℕ). named_in d (trees_of d - 1) (applied d old s.queue r (trees_of d - 1)) a) e ∙ ap (λ xs. named_in d (trees_of d - 1) xs a) (applied_none d old s.queue (trees_of d - 1)))
@@ -183,6 +183,7 @@ pub pair_same : (v : Setting) (past : List Step) (s : State) (old : List Submiss
     → shows_in v.shape s (world_of v past) event ≡ shows_pair v past event
 pair_same v past s old (Submit session c words) failure h fit f = refl
 pair_same v past s old Lost failure h fit f = refl
+pair_same v past s old Reopen failure h fit f = refl
 pair_same v past s old Retry failure h fit f = refl
 pair_same v past s old (Answer bytes) (Some e) h fit f =
     ap (λ (o : Option Reason). is_waiting (status_by o s.queue s.lost) && pair_in v.shape (records_of v past) (asked s.last) bytes) h
@@ -243,7 +244,7 @@ right_quiet v past event x n note replies sends quiet_note calm new is g =
     }
 
 pub quiet_keep : (v : Setting) (past : List Step) (s t : State) (old : List Submission) (event : Event) (x : Shown)
-    (n : Note) (b : Bool) → IsFit v.shape.device → Live v past old s → s.failure ≡ None → Holds v.shape s (world_of v past)
+    (n : Note) (b : Bool) → IsFit v.shape.device → Live v past old s → s.failure ≡ None → AllStand v.shape s (world_of v past)
     → MovesTo v.shape s (world_of v past) (quiet s (world_of v past) n b) x t → is_accepted n ≡ false → fails_now n ≡ false
     → is_resent n ≡ false → n ≡ note_of v past event
     → progress v (step_of event x ∷ past) ≡ record { good = (progress v past).good; lost = b; failure = None }

@@ -23,7 +23,6 @@ pub mod Outcomes
 pub mod Placing
 pub mod PostOrder
 pub mod Formatting
-pub mod Moving
 pub mod Beginnings
 pub mod Told
 pub mod NoncesApart
@@ -31,3 +30,7 @@ pub mod AgreeKept
 pub mod AgreeSteps
 pub mod AgreeNew
 pub mod Serving
+pub mod FirstEntries
+pub mod Alike
+pub mod Rising
+pub mod TwoWorlds

@@ -10,13 +10,13 @@ use Rattle.oram_geometry.specs.declared.Sizes.{Sizes}
 use Rattle.oram_geometry.specs.Sizes.{fanout, leaf_of, depth_of}
 use Rattle.oram_geometry.proofs.Measuring.{address_in-next, address_in-zero}
 use Rattle.oram_run.proofs.Bounds.{HasEntries, depth_small}
-use Rattle.oram_run.specs.Events.{address_of, array_at, bytes_written, bytes_of, writes_to}
+use Rattle.oram_run.specs.Events.{address_of, array_at, bytes_left, bytes_of, changes}
 use Rattle.oram_run.specs.Content.{block_of, new_leaf, newest_in, named_in, data_in, content_after}
 use Rattle.oram_run.specs.State.{name_of}
 use Rattle.oram_tree.specs.Edits.{with_entry}
-use Rattle.oram_run.specs.Blocks.{found_in, entry_in, block_after, next_named, written_over}
+use Rattle.oram_run.specs.Blocks.{found_in, entry_in, block_after, next_named, left_by}
 use Rattle.oram_run.specs.declared.events.Command.{Command}
-use Rattle.oram_run.specs.declared.events.Command.TheVariants.{Read, Write}
+use Rattle.oram_run.specs.declared.events.Command.TheVariants.{Read, Write, Discard}
 use Rattle.oram_run.specs.declared.events.Submission.{Submission}
 use Rattle.oram_run.proofs.Fours.{flat_map_same, four_at, four_set, zeros_are}
 
@@ -89,15 +89,16 @@ four_zeros = refl
 pub four_long : (n : ℕ) → length (to_be_bytes w32 n) ≡ 4
 four_long n = refl
 
-not_written : (c : Command) (a : ℕ) → address_of c ≢ a → writes_to a c ≡ false
-not_written (Read b) a ne = refl
-not_written (Write b bytes) a ne = grind (arith, nat_tests)
+unchanged : (c : Command) (a : ℕ) → address_of c ≢ a → changes a c ≡ false
+unchanged (Read b) a ne = refl
+unchanged (Write b bytes) a ne = grind (arith, nat_tests)
+unchanged (Discard b) a ne = grind (arith, nat_tests)
 
-array_there : (d : Sizes) (y : Submission) (old : List Submission) (a : ℕ) → writes_to a y.command ≡ false
+array_there : (d : Sizes) (y : Submission) (old : List Submission) (a : ℕ) → changes a y.command ≡ false
     → array_at d (y ∷ old) a ≡ array_at d old a
-array_there d y old a e = ap (λ t. bytes_written d.block_bytes (cond t (Some y) (find (λ s. writes_to a s.command) old))) e
+array_there d y old a e = ap (λ t. bytes_left d.block_bytes (cond t (Some y) (find (λ s. changes a s.command) old))) e
 
--- nobody writes to a block that no submission lies in
+-- nothing changes a block that no submission lies in
 array_none : (d : Sizes) (old : List Submission) (a : ℕ) → newest_in d 0 old a ≡ None
     → array_at d old a ≡ replicate d.block_bytes 0
 array_none d [] a e = refl
@@ -106,7 +107,7 @@ array_none d (y ∷ old) a e =
       | inl t ↦ absurd (let found : Some y ≡ None = sym (ap (λ c. cond c (Some y) (newest_in d 0 old a)) (t.0)) ∙ e in cc)
       | inr f ↦
           let rest : newest_in d 0 old a ≡ None = sym (ap (λ c. cond c (Some y) (newest_in d 0 old a)) (f.0)) ∙ e in
-          array_there d y old a (not_written y.command a (λ same. f.1 (own_block d y ∙ same))) ∙ array_none d old a rest
+          array_there d y old a (unchanged y.command a (λ same. f.1 (own_block d y ∙ same))) ∙ array_none d old a rest
     ]
 
 zero_case : (d : Sizes) (old : List Submission) (a : ℕ) → newest_in d 0 old a ≡ None
@@ -144,19 +145,27 @@ next_is d i old x h =
     ∙ from_be_bytes-to_be_bytes_4 (named_in d i old (s + j)) (named_small d i old (s + j))
     ∙ ap (named_in d i old) (under d i x h)
 
-written_here : (d : Sizes) (old : List Submission) (x : Submission) (c : Command) → block_of d 0 x ≡ address_of x.command
-    → x.command ≡ c → written_over c (array_at d old (block_of d 0 x)) ≡ array_at d (x ∷ old) (block_of d 0 x)
-written_here d old x (Read b) own e = sym (array_there d x old (block_of d 0 x) (ap (writes_to (block_of d 0 x)) e))
-written_here d old x (Write b bytes) own e =
+changed_here : (d : Sizes) (old : List Submission) (x : Submission) (c : Command) → x.command ≡ c
+    → changes (block_of d 0 x) c ≡ true → bytes_of d.block_bytes c ≡ array_at d (x ∷ old) (block_of d 0 x)
+changed_here d old x c e here =
+    let same : changes (block_of d 0 x) x.command ≡ true = ap (changes (block_of d 0 x)) e ∙ here in
+    sym (ap (λ t. bytes_left d.block_bytes (cond t (Some x) (find (λ s. changes (block_of d 0 x) s.command) old))) same ∙ ap (bytes_of d.block_bytes) e)
+
+left_here : (d : Sizes) (old : List Submission) (x : Submission) (c : Command) → block_of d 0 x ≡ address_of x.command
+    → x.command ≡ c → left_by d c (array_at d old (block_of d 0 x)) ≡ array_at d (x ∷ old) (block_of d 0 x)
+left_here d old x (Read b) own e = sym (array_there d x old (block_of d 0 x) (ap (changes (block_of d 0 x)) e))
+left_here d old x (Write b bytes) own e =
     let here : block_of d 0 x ≡ b = own ∙ ap address_of e in
-    let same : writes_to (block_of d 0 x) x.command ≡ true = ap (writes_to (block_of d 0 x)) e ∙ grind (arith, nat_tests) in
-    sym (ap (λ t. bytes_written d.block_bytes (cond t (Some x) (find (λ s. writes_to (block_of d 0 x) s.command) old))) same ∙ ap (bytes_of d.block_bytes) e)
+    changed_here d old x (Write b bytes) e (grind (arith, nat_tests))
+left_here d old x (Discard b) own e =
+    let here : block_of d 0 x ≡ b = own ∙ ap address_of e in
+    changed_here d old x (Discard b) e (grind (arith, nat_tests))
 
 -- the accessed block
 data_here : (d : Sizes) (i : ℕ) (old : List Submission) (x : Submission) → HasEntries d
     → block_after d i x (data_in d i old (block_of d i x)) ≡ data_in d i (x ∷ old) (block_of d i x)
 unfolding block_after data_in with_entry
-data_here d zero old x h = written_here d old x x.command (own_block d x) refl
+data_here d zero old x h = left_here d old x x.command (own_block d x) refl
 data_here d (suc i) old x h =
     let j : ℕ = block_of d i x % fanout d in
     let s : ℕ = block_of d (suc i) x * fanout d in
@@ -169,7 +178,7 @@ data_here d (suc i) old x h =
 data_there : (d : Sizes) (i : ℕ) (old : List Submission) (x : Submission) (a : ℕ) → HasEntries d → a ≢ block_of d i x
     → data_in d i old a ≡ data_in d i (x ∷ old) a
 unfolding data_in
-data_there d zero old x a h ne = sym (array_there d x old a (not_written x.command a (λ e. ne (sym (own_block d x ∙ e)))))
+data_there d zero old x a h ne = sym (array_there d x old a (unchanged x.command a (λ e. ne (sym (own_block d x ∙ e)))))
 data_there d (suc i) old x a h ne =
     flat_map_same (λ b. to_be_bytes w32 (named_in d i old b)) (λ b. to_be_bytes w32 (named_in d i (x ∷ old) b)) (a * fanout d) (fanout d)
     (λ b low high.
@@ -220,7 +229,7 @@ data_zero d old x = ap (array_at d old) (own_block d x)
 
 -- what the access to tree 0 leaves of its block, and that to a map tree
 
-pub block_after-zero : (d : Sizes) (x : Submission) (bytes : List ℕ) → block_after d 0 x bytes ≡ written_over x.command bytes
+pub block_after-zero : (d : Sizes) (x : Submission) (bytes : List ℕ) → block_after d 0 x bytes ≡ left_by d x.command bytes
 unfolding block_after
 block_after-zero d x bytes = refl
 
@@ -228,12 +237,3 @@ pub block_after-suc : (d : Sizes) (i : ℕ) (x : Submission) (bytes : List ℕ)
     → block_after d (suc i) x bytes ≡ with_entry bytes (block_of d i x % fanout d) (new_leaf d i x + 1)
 unfolding block_after
 block_after-suc d i x bytes = refl
-
-pub next_named-zero : (d : Sizes) (x : Submission) (bytes : List ℕ) → next_named d 0 x bytes ≡ 0
-unfolding next_named
-next_named-zero d x bytes = refl
-
-pub next_named-suc : (d : Sizes) (i : ℕ) (x : Submission) (bytes : List ℕ)
-    → next_named d (suc i) x bytes ≡ entry_in bytes (block_of d i x % fanout d)
-unfolding next_named
-next_named-suc d i x bytes = refl

@@ -13,7 +13,7 @@ use Rattle.oram_run.specs.Moves.{accepts, latest, first_fetch, if_idle, Sends}
 use Rattle.oram_run.specs.declared.events.Submission.{Submission}
 use Rattle.oram_run.specs.Law.{world_of}
 use Rattle.oram_run.proofs.Bounds.{IsFit}
-use Rattle.oram_run.proofs.Follows.{IsAllowed, TicketsFrom, applied, applied_none, AtWork, Live}
+use Rattle.oram_run.proofs.Follows.{FitsTable, TicketsFrom, applied, applied_none, AtWork, Live}
 use Rattle.oram_run.proofs.Counts.{sent_cons}
 use Rattle.oram_run.proofs.Fetches.{begins_next}
 
@@ -75,7 +75,7 @@ abbrev pub accepted_state : Setting → List Step → State → Submission → L
 accepted_state v past s x ts n m = record (accepts v.shape s (world_of v past) x).state { trees = ts; nonce = n; last = m }
 
 AtWork_push : (v : Setting) (past : List Step) (old queue : List Submission) (s : State) (x : Submission) (step : Step)
-    (ts : List Tree) (n : ℕ) → IsFit v.shape.device → Live v past old s → IsAllowed v.shape.device x → s.queue ≡ queue
+    (ts : List Tree) (n : ℕ) → IsFit v.shape.device → Live v past old s → FitsTable v.shape.device x → s.queue ≡ queue
     → Sends v.shape s.last (if_idle queue (first_fetch v.shape.device s.table (x ∷ []))) step.sends
     → AtWork v past old s queue
     → AtWork v (step ∷ past) old (accepted_state v past s x ts n (latest step.sends s.last)) (queue ++ x ∷ [])
@@ -83,7 +83,7 @@ AtWork_push v past old [] s x step ts n fit l ok qu sends w =
     let d = v.shape.device in
     let t : State = accepted_state v past s x ts n (latest step.sends s.last) in
     let z : s.stage ≡ 0 = w.stage in
-    begins_next v past old (x ∷ []) t step fit z w.calm s.last refl (all_one (IsAllowed d) x ok)
+    begins_next v past old (x ∷ []) t step fit z w.calm s.last refl (all_one (FitsTable d) x ok)
     (λ a below. l.table a below ∙ ap (λ (k : ℕ). named_in d (trees_of d - 1) (applied d old s.queue k (trees_of d - 1)) a) z ∙ ap (λ xs. named_in d (trees_of d - 1) xs a) (applied_none d old s.queue (trees_of d - 1))) sends
 AtWork_push v past old (y ∷ rest) s x step ts n fit l ok qu sends w =
     let none : step.sends ≡ [] = sends in
@@ -91,7 +91,7 @@ AtWork_push v past old (y ∷ rest) s x step ts n fit l ok qu sends w =
     (record { stage = w.stage; asks = w.asks; older = w.older; latest = sent_cons step past ∙ ap (λ ms. ms ++ sent past) none ∙ w.latest; named = w.named; before = w.before })
 
 pub live_accepted : (v : Setting) (past : List Step) (old : List Submission) (s : State) (x : Submission) (step : Step)
-    (ts : List Tree) (n : ℕ) → IsFit v.shape.device → Live v past old s → IsAllowed v.shape.device x → x.ticket ≡ s.next
+    (ts : List Tree) (n : ℕ) → IsFit v.shape.device → Live v past old s → FitsTable v.shape.device x → x.ticket ≡ s.next
     → progress v (step ∷ past) ≡ progress v past → accepted (step ∷ past) ≡ accepted past ++ x ∷ [] → n ≡ s.nonce
     → Sends v.shape s.last (if_idle s.queue (first_fetch v.shape.device s.table (x ∷ []))) step.sends
     → Live v (step ∷ past) old (accepted_state v past s x ts n (latest step.sends s.last))
@@ -103,7 +103,7 @@ live_accepted v past old s x step ts n fit l ok ticket p a nonce_is sends =
       good = ap (λ (q : Progress). q.good) p ∙ l.good;
       split = a ∙ ap (λ xs. xs ++ x ∷ []) l.split ∙ append_assoc (reverse old) s.queue (x ∷ []);
       words = l.words;
-      allowed = All-push (IsAllowed d) s.queue x l.allowed ok;
+      allowed = All-push (FitsTable d) s.queue x l.allowed ok;
       tickets = tickets_push (length old) s.queue x l.tickets (ticket ∙ l.next);
       next = ap (λ k. k + 1) l.next ∙ omega (arith, length-append s.queue (x ∷ []));
       nonce = nonce_is ∙ l.nonce ∙ ap (nonce_at v) (sym (ap (λ (q : Progress). q.good) p));

@@ -17,7 +17,7 @@ use Rattle.oram_tree.specs.State.{State as Tree, IsStoredWith}
 use Rattle.oram_tree.specs.Access.{IsRewritten, IsAtOrAbsent}
 use Rattle.oram_run.specs.Shape.{Shape}
 use Rattle.oram_run.specs.Trees.{Stands, IsPlaced, part_on}
-use Rattle.oram_run.specs.State.{State, World, Holds, no_tree, name_of}
+use Rattle.oram_run.specs.State.{State, World, AllStand, no_tree, name_of}
 use Rattle.oram_run.specs.Blocks.{put_in}
 use Rattle.oram_run.specs.Moves.{leaf_for, records_after}
 use Rattle.oram_run.specs.declared.events.Submission.{Submission}
@@ -78,9 +78,9 @@ module _ (v : Shape) (records : ℕ → ℕ → List ℕ) (i leaf nonce : ℕ) (
 
 -- each tree stands after the STORE of one of them
 pub holds_stored : (v : Shape) (s t : State) (w : World) (i leaf : ℕ) (bytes : List ℕ) (a : ℕ) (h : Held) (tree : Tree)
-    → Holds v s w → t.trees ≡ slice_set s.trees i tree → i < length s.trees
+    → AllStand v s w → t.trees ≡ slice_set s.trees i tree → i < length s.trees
     → Stands v i tree (records_after v w.records (store_body i leaf bytes ∷ []) i) (put (w.content i) a h)
-    → Holds v t (record { records = records_after v w.records (store_body i leaf bytes ∷ []); content = put_in w.content i a h })
+    → AllStand v t (record { records = records_after v w.records (store_body i leaf bytes ∷ []); content = put_in w.content i a h })
 holds_stored v s t w i leaf bytes a h tree holds trees inside here k below = elim (eqb_tells k i) [
   | inl same ↦
       let one : (i == i) ≡ true = grind (arith, nat_tests) in

@@ -1,23 +1,32 @@
 -- Worked runs, computed.
-use Rattle.std.proofs.Common.{◌≡◌, ℕ, List, [], ◌∷◌, ◌++◌, map, replicate, true, false, refl, Some, None}
+use Rattle.std.proofs.Common.{◌≡◌, ℕ, zero, suc, ◌<◌, List, [], ◌∷◌, ◌++◌, map, replicate, slice_index, true, false, refl, Some, None, arith}
 use Rattle.oram_geometry.specs.declared.Sizes.{Sizes}
 use Rattle.oram_geometry.specs.Path.{node_on}
 use Rattle.oram_geometry.specs.Sizes.{trees_of, level_for, blocks_in, record_len_of}
 use Rattle.oram_geometry.specs.Least.{least_from}
 use Rattle.oram_trace.specs.Tape.{greatest_below}
-use Rattle.oram_wire.specs.HostMessages.{put_body, store_body}
+use Rattle.oram_trace.specs.Rearranging.{nth_place, places_of, shown_places, rest_places, arranged_places, ShowsAlike}
+use Rattle.oram_trace.proofs.Rearranged.{IsRearrangement-from, ShowsAlike-from}
+use Rattle.oram_wire.specs.HostMessages.{fetch_body, put_body, store_body}
 use Rattle.oram_hash.specs.Path.{record_at}
 use Rattle.oram_run.specs.Shape.{Shape}
 use Rattle.oram_run.specs.Messages.{last_stored, written, level_on}
-use Rattle.oram_run.specs.Answers.{path_in, outcome_of, good_answer, first_other}
+use Rattle.std.specs.Str.{bytes_eq}
+use Rattle.sha2.specs.Sha256.{sha256}
+use Rattle.oram_run.specs.Answers.{path_in, outcome_of, good_answer, first_other, pair_in}
 use Rattle.oram_run.specs.Answers.Outcome.{Good, NoRoom, Fails}
 use Rattle.oram_run.specs.Progress.{Setting, Step, accepted, progress, status_from, sent}
 use Rattle.oram_run.specs.Content.{content_after, data_in, named_in, accesses}
 use Rattle.oram_run.specs.Nonces.{formatted, formatted_below, buckets_below, store_nonce}
-use Rattle.oram_run.specs.Run.{note_of}
-use Rattle.oram_run.specs.declared.events.Command.TheVariants.{Read}
+use Rattle.oram_run.specs.Events.{reply_of}
+use Rattle.oram_run.specs.Run.{note_of, refusal_of, entries_sent, from_to, replies_at, Shown}
+use Rattle.oram_run.specs.TwoWorlds.{LookAlike, past_of, AreTwoWorlds}
+use Rattle.oram_run.specs.declared.events.Command.{Command}
+use Rattle.oram_run.specs.declared.events.Command.TheVariants.{Read, Write, Discard}
+use Rattle.oram_run.specs.declared.events.Refusal.TheVariants as refusal
+use Rattle.oram_run.specs.declared.events.ReplyBody.TheVariants.{Data, Done, Failed}
 use Rattle.oram_run.specs.declared.events.Event.{Event}
-use Rattle.oram_run.specs.declared.events.Event.TheVariants.{Submit, Answer, Lost, Retry}
+use Rattle.oram_run.specs.declared.events.Event.TheVariants.{Submit, Answer, Lost, Reopen, Retry}
 use Rattle.oram_run.specs.declared.events.Note.TheVariants.{Accepted, Taken, Stalled, Resent, FailedNow, Unexpected}
 use Rattle.oram_run.specs.declared.events.Reason.TheVariants.{Malformed, Tampered, HostRefused}
 use Rattle.oram_run.specs.declared.events.Submission.{Submission}
@@ -116,10 +125,113 @@ unfolding progress accepted status_from trees_of blocks_in least_from level_for 
 counted = refl
 
 -- the notes of events, each after its past
-notes : note_of setting [] submitted ∷ note_of setting [] good ∷ note_of setting begun Lost ∷ note_of setting begun Retry
-    ∷ note_of setting (happened Lost ∷ begun) good ∷ note_of setting (happened Lost ∷ begun) Lost ∷ note_of setting (happened Lost ∷ begun) Retry
+notes : note_of setting [] submitted ∷ note_of setting [] good ∷ note_of setting begun Lost ∷ note_of setting begun Reopen ∷ note_of setting begun Retry
+    ∷ note_of setting (happened Lost ∷ begun) good ∷ note_of setting (happened Lost ∷ begun) Lost ∷ note_of setting (happened Lost ∷ begun) Reopen ∷ note_of setting (happened Reopen ∷ begun) Retry
     ∷ note_of setting begun good ∷ note_of setting begun (Answer (129 ∷ 8 ∷ [])) ∷ note_of setting begun (Answer (129 ∷ 4 ∷ []))
     ∷ note_of setting (happened (Answer []) ∷ begun) Retry ∷ []
-    ≡ Accepted 0 ∷ Unexpected ∷ Stalled ∷ Unexpected ∷ Unexpected ∷ Unexpected ∷ Resent ∷ Taken ∷ Stalled ∷ FailedNow (HostRefused 4) ∷ Unexpected ∷ []
+    ≡ Accepted 0 ∷ Unexpected ∷ Stalled ∷ Stalled ∷ Unexpected ∷ Unexpected ∷ Unexpected ∷ Unexpected ∷ Resent ∷ Taken ∷ Stalled ∷ FailedNow (HostRefused 4) ∷ Unexpected ∷ []
 unfolding progress accepted status_from trees_of blocks_in least_from level_for greatest_below outcome_of good_answer path_in last_stored sent node_on first_other record_len_of record_at
 notes = refl
+
+-- the plain array: each command knows those before it
+
+abbrev asks : ℕ → Command → Submission
+asks ticket command = record { session = 2; ticket = ticket; command = command; words = [] }
+
+abbrev commands : List Submission
+commands =
+    asks 0 (Read 5) ∷ asks 1 (Write 5 (replicate 16 7)) ∷ asks 2 (Read 5) ∷ asks 3 (Read 6) ∷ asks 4 (Write 5 (replicate 16 9)) ∷ asks 5 (Read 5)
+    ∷ asks 6 (Discard 5) ∷ asks 7 (Read 5) ∷ asks 8 (Write 5 (replicate 16 3)) ∷ asks 9 (Discard 6) ∷ asks 10 (Read 5) ∷ []
+
+bodies : map (λ s. (reply_of recursive commands s).body) commands
+    ≡ Data (replicate 16 0) ∷ Done ∷ Data (replicate 16 7) ∷ Data (replicate 16 0) ∷ Done ∷ Data (replicate 16 9)
+    ∷ Done ∷ Data (replicate 16 0) ∷ Done ∷ Done ∷ Data (replicate 16 3) ∷ []
+bodies = refl
+
+-- each refusal, where all that come after it apply too
+refusals : refusal_of recursive true 64 100 (Read 64) [] ∷ refusal_of recursive false 64 100 (Discard 64) [] ∷ refusal_of recursive false 64 100 (Write 63 (7 ∷ [])) []
+    ∷ refusal_of recursive false 64 100 (Discard 63) [] ∷ refusal_of recursive false 64 100 (Read 63) first.words ∷ refusal_of recursive false 63 100 (Read 63) first.words
+    ∷ refusal_of recursive false 63 99 (Read 63) first.words ∷ []
+    ≡ Some refusal.Failed ∷ Some refusal.BadAddress ∷ Some refusal.BadLength ∷ Some refusal.BadWords ∷ Some refusal.Busy ∷ Some refusal.Exhausted ∷ None ∷ []
+unfolding trees_of blocks_in least_from
+refusals = refl
+
+-- eight blocks in one tree, under a host that keeps nothing: byte 80 alone is a good answer to a fetch too
+
+abbrev plain : Setting
+plain = record { shape = record small { device = record { blocks = 8; block_bytes = 16; slots = 4; top = 8; lifetime = 100 } }; format = [] }
+
+abbrev read_of : ℕ → Step
+read_of address = record { event = Submit 1 (Read address) (6 ∷ 3 ∷ []); accepts = true; sends = [] }
+
+abbrev both : List Step
+both = read_of 2 ∷ read_of 5 ∷ []
+
+-- the entries that are due: the first fetch, nothing for a command that waits, then one for each good answer until all are sent
+due : from_to (entries_sent plain []) (entries_sent plain (read_of 5 ∷ [])) ∷ from_to (entries_sent plain (read_of 5 ∷ [])) (entries_sent plain both)
+    ∷ from_to (entries_sent plain both) (entries_sent plain (happened good ∷ both)) ∷ from_to (entries_sent plain (happened good ∷ both)) (entries_sent plain (happened good ∷ happened good ∷ both))
+    ∷ from_to (entries_sent plain (happened good ∷ read_of 5 ∷ [])) (entries_sent plain (happened good ∷ happened good ∷ read_of 5 ∷ [])) ∷ []
+    ≡ (0 ∷ []) ∷ [] ∷ (1 ∷ []) ∷ (2 ∷ []) ∷ [] ∷ []
+unfolding progress accepted status_from trees_of blocks_in least_from level_for greatest_below outcome_of good_answer path_in last_stored sent node_on
+due = refl
+
+-- a reply at the good answer to a command's last store, none before; at a failure all that wait are answered so
+replies : replies_at plain both (happened good) Taken ∷ replies_at plain (happened good ∷ both) (happened good) Taken ∷ replies_at plain both (happened (Answer [])) (FailedNow Malformed) ∷ []
+    ≡ [] ∷ ((record { session = 1; ticket = 0; body = Data (replicate 16 0) }) ∷ [])
+    ∷ ((record { session = 1; ticket = 0; body = Failed }) ∷ (record { session = 1; ticket = 1; body = Failed }) ∷ []) ∷ []
+unfolding progress accepted status_from trees_of blocks_in least_from level_for greatest_below outcome_of good_answer path_in last_stored sent node_on first_other record_len_of record_at
+replies = refl
+
+-- the pair that an answer may show is its first record that isn't the one last stored, and that one
+pair : pair_in small (last_stored small messages) (record { fetch = true; tree = 0; leaf = 1 }) (128 ∷ filled 7 ++ filled 9)
+    ≡ bytes_eq (sha256 (filled 9)) (sha256 (filled 8))
+unfolding trees_of blocks_in least_from level_for last_stored written level_on node_on record_at record_len_of path_in first_other pair_in
+pair = refl
+
+-- the FETCH of a path, and its STORE with these records and with others
+look_alike : LookAlike (fetch_body 0 1 ∷ store_body 0 1 (filled 7 ++ filled 8) ∷ []) (fetch_body 0 1 ∷ store_body 0 1 (filled 9 ++ filled 3) ∷ [])
+look_alike = (record { length_is = refl; header = refl }, (record { length_is = refl; header = refl }, tt))
+
+-- two worlds of one tree: one reads block 5 twice, the other block 5 and then block 2, with the words of the middle two places swapped
+
+abbrev reading : ℕ → List ℕ → Event
+reading address words = Submit 1 (Read address) words
+
+abbrev taken : ℕ → List (List ℕ) → Shown
+taken ticket sends = record { note = Accepted ticket; replies = []; sends = sends }
+
+abbrev reactions : List Shown
+reactions = taken 0 (fetch_body 0 6 ∷ []) ∷ taken 1 [] ∷ []
+
+after_both : past_of [] (reading 5 (6 ∷ 7 ∷ []) ∷ reading 2 (3 ∷ 1 ∷ []) ∷ good ∷ []) reactions
+    ≡ (record { event = reading 2 (3 ∷ 1 ∷ []); accepts = true; sends = [] })
+    ∷ (record { event = reading 5 (6 ∷ 7 ∷ []); accepts = true; sends = fetch_body 0 6 ∷ [] }) ∷ []
+after_both = refl
+
+abbrev swapped : List ℕ
+swapped = 0 ∷ 2 ∷ 1 ∷ 3 ∷ []
+
+in_tree : (i : ℕ) → i < 1
+    → map (slice_index swapped) (arranged_places plain.shape.device (5 ∷ 2 ∷ []) i) ≡ arranged_places plain.shape.device (5 ∷ 5 ∷ []) i
+unfolding trees_of least_from blocks_in greatest_below nth_place places_of shown_places rest_places arranged_places
+in_tree zero below = refl
+in_tree (suc i) below = absurd (omega arith)
+
+shows_alike : ShowsAlike plain.shape.device (5 ∷ 5 ∷ []) (5 ∷ 2 ∷ []) swapped
+unfolding trees_of least_from blocks_in
+shows_alike =
+    ShowsAlike-from plain.shape.device (5 ∷ 5 ∷ []) (5 ∷ 2 ∷ []) swapped refl
+    (IsRearrangement-from plain.shape.device (5 ∷ 5 ∷ []) (5 ∷ 2 ∷ []) swapped refl refl in_tree) (omega arith)
+
+two_worlds : AreTwoWorlds plain plain (reading 5 (6 ∷ 3 ∷ []) ∷ reading 5 (7 ∷ 1 ∷ []) ∷ []) (reading 5 (6 ∷ 7 ∷ []) ∷ reading 2 (3 ∷ 1 ∷ []) ∷ [])
+    reactions reactions (5 ∷ 5 ∷ []) (5 ∷ 2 ∷ []) (6 ∷ 3 ∷ 7 ∷ 1 ∷ []) swapped
+unfolding trees_of least_from blocks_in accepted
+two_worlds = record {
+  device = refl;
+  overhead = refl;
+  notes = refl;
+  words = refl;
+  alike = shows_alike;
+  first = record { addresses_are = refl; tape_is = refl };
+  second = record { addresses_are = refl; tape_is = refl };
+}

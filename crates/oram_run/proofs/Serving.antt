@@ -1,32 +1,35 @@
 -- A core without a past answers as a plain array begun with what tree 0 holds.
-use Rattle.std.proofs.Common.{◌≡◌, ◌≢◌, ℕ, zero, suc, ◌+◌, ◌*◌, ◌%◌, ◌<◌, ◌==◌, Bool, false, if◌then◌else◌, List, [], ◌∷◌, ◌++◌, length, Option, Some, None, refl, ap, sym, ◌∙◌, subst, arith, inl, inr}
+use Rattle.std.proofs.Common.{◌≡◌, ◌≢◌, ℕ, zero, suc, ◌+◌, ◌*◌, ◌%◌, ◌<◌, ◌==◌, Bool, false, if◌then◌else◌, List, [], ◌∷◌, ◌++◌, length, replicate, Option, Some, None, refl, ap, sym, ◌∙◌, subst, arith, inl, inr}
 use Rattle.std.proofs.lemmas.Bool.Decides.{nat_tests, eqb_tells}
+use Rattle.oram_geometry.specs.declared.Sizes.{Sizes}
 use Rattle.oram_geometry.specs.Sizes.{trees_of}
-use Rattle.oram_tree.specs.Content.{Entry as Held, put}
+use Rattle.oram_tree.specs.Content.{Map, Entry as Held, put}
 use Rattle.oram_run.specs.Shape.{Shape}
 use Rattle.oram_run.specs.Messages.{asked}
 use Rattle.oram_run.specs.Answers.{Outcome, outcome_of}
 use Rattle.oram_run.specs.Answers.Outcome.{Good, NoRoom, Fails}
 use Rattle.oram_run.specs.Events.{address_of}
 use Rattle.oram_run.specs.Content.{block_of, new_leaf, stage_tree}
-use Rattle.oram_run.specs.Blocks.{found_in, block_after, body_from, kept_of, put_in, written_over}
-use Rattle.oram_run.specs.Progress.{Status}
+use Rattle.oram_run.specs.Blocks.{found_in, block_after, body_from, kept_of, put_in, left_by}
+use Rattle.oram_run.specs.Progress.{Setting, Status}
 use Rattle.oram_run.specs.Progress.Status.{Idle, Waiting, Stalling, Over}
 use Rattle.oram_run.specs.Run.{Shown, refusal_of, is_over}
 use Rattle.oram_run.specs.State.{State, World, status_in}
 use Rattle.oram_run.specs.Moves.{Moved, MovesTo, Moves, moved, stays, stalls, resends, accepts, stores, fetches, finishes, goes_on, on_submission, on_answer, on_loss, on_retry, world_after}
 use Rattle.oram_run.specs.Agree.{IsOrderly}
-use Rattle.oram_run.specs.Serving.{array_in, array_after, ServesAmid, ServesBy, Serves, HasServed}
+use Rattle.oram_run.specs.Serving.{array_in, array_after, ServesAmid, ServesBy, ServesArray, HasServed}
 use Rattle.oram_run.specs.declared.events.Command.{Command}
-use Rattle.oram_run.specs.declared.events.Command.TheVariants.{Read, Write}
+use Rattle.oram_run.specs.declared.events.Command.TheVariants.{Read, Write, Discard}
 use Rattle.oram_run.specs.declared.events.Event.{Event}
-use Rattle.oram_run.specs.declared.events.Event.TheVariants.{Submit, Answer, Lost, Retry}
+use Rattle.oram_run.specs.declared.events.Event.TheVariants.{Submit, Answer, Lost, Reopen, Retry}
 use Rattle.oram_run.specs.declared.events.Note.TheVariants.{Refused, Unexpected}
 use Rattle.oram_run.specs.declared.events.Refusal.{Refusal}
 use Rattle.oram_run.specs.declared.events.Submission.{Submission}
-use Rattle.oram_run.specs.Law.{CoresServe}
+use Rattle.oram_run.specs.Law.{CoresServe, NewCoresServe, world_of}
 use Rattle.oram_run.proofs.Bounds.{IsFit, fit_device}
+use Rattle.oram_run.proofs.AgreeNew.{agrees_new, orderly_new}
 use Rattle.oram_run.proofs.AgreeSteps.{agrees_moved, agreeing_fits}
+use Rattle.oram_run.proofs.Formatting.{empty_content, formatted_holds}
 use Rattle.oram_run.proofs.Maps.{own_block, block_after-zero}
 
 -- stage, what was found and content stay
@@ -67,7 +70,7 @@ After v s t w array y m = MovesTo v s w m y t → t.failure ≡ None → HasServ
 
 serves_quiet : (v : Shape) (s t : State) (w : World) (array : ℕ → List ℕ) (y : Shown) (m : Moved) → m.replies ≡ []
     → m.state.queue ≡ s.queue → m.state.stage ≡ s.stage → m.state.before ≡ s.before
-    → ((a : ℕ) → m.content 0 a ≡ w.content 0 a) → Serves v s w array → After v s t w array y m
+    → ((a : ℕ) → m.content 0 a ≡ w.content 0 a) → ServesArray v s w array → After v s t w array y m
 serves_quiet v s t w array y m none queue stage before content h mv healthy = inl (
   mv.replies ∙ none,
   subst (ServesBy v t (world_after v w m y.sends) array) (sym (ap (λ (u : State). u.queue) mv.state ∙ queue))
@@ -75,7 +78,7 @@ serves_quiet v s t w array y m none queue stage before content h mv healthy = in
 )
 
 serves_submitted : (v : Shape) (s t : State) (w : World) (array : ℕ → List ℕ) (y : Shown) (x : Submission)
-    (o : Option Refusal) → IsFit v.device → IsOrderly v s → Serves v s w array
+    (o : Option Refusal) → IsFit v.device → IsOrderly v s → ServesArray v s w array
     → After v s t w array y (on_submission v s w x o)
 serves_submitted v s t w array y x (Some e) fit o h =
     serves_quiet v s t w array y (stays s w (Refused e)) refl refl refl refl (λ a. refl) h
@@ -89,15 +92,16 @@ serves_submitted v s t w array y x None fit o h = λ mv healthy.
     )
 
 -- the array after a command, as the access leaves it
-array_put : (c : Command) (array : ℕ → List ℕ) (a b : ℕ) (bytes : List ℕ) → a ≡ address_of c → bytes ≡ array a
-    → (if b == a then written_over c bytes else array b) ≡ array_after c array b
-array_put (Read e) array a b bytes at found = elim (eqb_tells b a) [
+array_put : (d : Sizes) (c : Command) (array : ℕ → List ℕ) (a b : ℕ) (bytes : List ℕ) → a ≡ address_of c → bytes ≡ array a
+    → (if b == a then left_by d c bytes else array b) ≡ array_after d c array b
+array_put d (Read e) array a b bytes at found = elim (eqb_tells b a) [
   | inl same ↦ ap (λ (t : Bool). if t then bytes else array b) same.0 ∙ found ∙ ap array (sym same.1)
   | inr other ↦ ap (λ (t : Bool). if t then bytes else array b) other.0
 ]
-array_put (Write e new) array a b bytes at found = ap (λ k. if b == k then new else array b) at
+array_put d (Write e new) array a b bytes at found = ap (λ k. if b == k then new else array b) at
+array_put d (Discard e) array a b bytes at found = ap (λ k. if b == k then replicate d.block_bytes 0 else array b) at
 
-module _ (v : Shape) (s t : State) (w : World) (array : ℕ → List ℕ) (x : Submission) (rest : List Submission) (y : Shown) (qu : s.queue ≡ x ∷ rest) (even : s.stage % 2 ≡ 0) (few : s.stage < 2 * trees_of v.device) (h : Serves v s w array) (mv : MovesTo v s w (stores v s w x) y t) where
+module _ (v : Shape) (s t : State) (w : World) (array : ℕ → List ℕ) (x : Submission) (rest : List Submission) (y : Shown) (qu : s.queue ≡ x ∷ rest) (even : s.stage % 2 ≡ 0) (few : s.stage < 2 * trees_of v.device) (h : ServesArray v s w array) (mv : MovesTo v s w (stores v s w x) y t) where
   amid : ServesAmid v s w array x
   amid = subst (ServesBy v s w array) qu h
 
@@ -122,7 +126,7 @@ module _ (v : Shape) (s t : State) (w : World) (array : ℕ → List ℕ) (x : S
       ap (λ (q : Bool). if q then put (w.content 0) (block_of v.device i x) e b else w.content 0 b) other
 
   held_own : (i b : ℕ) → i ≡ 0
-      → found_in v.device (put_in w.content i (block_of v.device i x) (record { leaf = new_leaf v.device i x; content = block_after v.device i x (found_in v.device (w.content i (block_of v.device i x))) }) 0 b) ≡ array_after x.command array b
+      → found_in v.device (put_in w.content i (block_of v.device i x) (record { leaf = new_leaf v.device i x; content = block_after v.device i x (found_in v.device (w.content i (block_of v.device i x))) }) 0 b) ≡ array_after v.device x.command array b
   held_own zero b e =
       let a : ℕ = block_of v.device 0 x in
       let bytes : List ℕ = found_in v.device (w.content 0 a) in
@@ -130,13 +134,13 @@ module _ (v : Shape) (s t : State) (w : World) (array : ℕ → List ℕ) (x : S
         | inl same ↦
             ap (λ (q : Bool). found_in v.device (if q then Some (record { leaf = new_leaf v.device 0 x; content = block_after v.device 0 x bytes }) else w.content 0 b)) same.0
             ∙ block_after-zero v.device x bytes
-            ∙ sym (ap (λ (q : Bool). if q then written_over x.command bytes else array b) same.0)
-            ∙ array_put x.command array a b bytes (own_block v.device x) (holds_before a)
+            ∙ sym (ap (λ (q : Bool). if q then left_by v.device x.command bytes else array b) same.0)
+            ∙ array_put v.device x.command array a b bytes (own_block v.device x) (holds_before a)
         | inr other ↦
             ap (λ (q : Bool). found_in v.device (if q then Some (record { leaf = new_leaf v.device 0 x; content = block_after v.device 0 x bytes }) else w.content 0 b)) other.0
             ∙ holds_before b
-            ∙ sym (ap (λ (q : Bool). if q then written_over x.command bytes else array b) other.0)
-            ∙ array_put x.command array a b bytes (own_block v.device x) (holds_before a)
+            ∙ sym (ap (λ (q : Bool). if q then left_by v.device x.command bytes else array b) other.0)
+            ∙ array_put v.device x.command array a b bytes (own_block v.device x) (holds_before a)
       ]
   held_own (suc i) b e = absurd (omega arith)
 
@@ -153,7 +157,7 @@ module _ (v : Shape) (s t : State) (w : World) (array : ℕ → List ℕ) (x : S
       )
 
 serves_good : (v : Shape) (s t : State) (w : World) (array : ℕ → List ℕ) (y : Shown) (queue : List Submission)
-    → IsFit v.device → s.queue ≡ queue → IsOrderly v s → Serves v s w array → After v s t w array y (goes_on v s w queue)
+    → IsFit v.device → s.queue ≡ queue → IsOrderly v s → ServesArray v s w array → After v s t w array y (goes_on v s w queue)
 serves_good v s t w array y [] fit qu o h = serves_quiet v s t w array y (stays s w Unexpected) refl refl refl refl (λ a. refl) h
 serves_good v s t w array y (x ∷ rest) fit qu o h =
     let P : Moved → Type 0 = λ m. After v s t w array y m in
@@ -171,8 +175,8 @@ serves_good v s t w array y (x ∷ rest) fit qu o h =
               qu,
               mv.replies
                   ∙ ap (λ bytes. (record { session = x.session; ticket = x.ticket; body = body_from bytes x.command }) ∷ []) (amid.found last.1),
-              subst (ServesBy v t (world_after v w (finishes v s w x rest) y.sends) (array_after x.command array)) (sym (ap (λ (u : State). u.queue) mv.state))
-                  (begins_serving v t (world_after v w (finishes v s w x rest) y.sends) (array_after x.command array) rest (ap (λ (u : State). u.stage) mv.state) fit.some (amid.after last.1)),
+              subst (ServesBy v t (world_after v w (finishes v s w x rest) y.sends) (array_after v.device x.command array)) (sym (ap (λ (u : State). u.queue) mv.state))
+                  (begins_serving v t (world_after v w (finishes v s w x rest) y.sends) (array_after v.device x.command array) rest (ap (λ (u : State). u.stage) mv.state) fit.some (amid.after last.1)),
             ))
             | inr more ↦ subst (λ (b : Bool). P (if b then finishes v s w x rest else fetches v s w x)) (sym more.0) (λ mv healthy.
                 let ne : s.stage + 1 ≢ 2 * trees_of v.device = more.1 in
@@ -191,7 +195,7 @@ serves_good v s t w array y (x ∷ rest) fit qu o h =
     go
 
 serves_answered : (v : Shape) (s t : State) (w : World) (array : ℕ → List ℕ) (y : Shown) (now : Status) (o : Outcome)
-    → IsFit v.device → IsOrderly v s → Serves v s w array → After v s t w array y (on_answer v s w now o)
+    → IsFit v.device → IsOrderly v s → ServesArray v s w array → After v s t w array y (on_answer v s w now o)
 serves_answered v s t w array y Waiting Good fit o h = serves_good v s t w array y s.queue fit refl o h
 serves_answered v s t w array y Waiting NoRoom fit o h =
     serves_quiet v s t w array y (stalls s w) refl refl refl refl (λ a. refl) h
@@ -203,14 +207,14 @@ serves_answered v s t w array y Stalling outcome fit o h =
 serves_answered v s t w array y Over outcome fit o h =
     serves_quiet v s t w array y (stays s w Unexpected) refl refl refl refl (λ a. refl) h
 
-serves_lost : (v : Shape) (s t : State) (w : World) (array : ℕ → List ℕ) (y : Shown) (now : Status) → Serves v s w array
+serves_lost : (v : Shape) (s t : State) (w : World) (array : ℕ → List ℕ) (y : Shown) (now : Status) → ServesArray v s w array
     → After v s t w array y (on_loss s w now)
 serves_lost v s t w array y Waiting h = serves_quiet v s t w array y (stalls s w) refl refl refl refl (λ a. refl) h
 serves_lost v s t w array y Idle h = serves_quiet v s t w array y (stays s w Unexpected) refl refl refl refl (λ a. refl) h
 serves_lost v s t w array y Stalling h = serves_quiet v s t w array y (stays s w Unexpected) refl refl refl refl (λ a. refl) h
 serves_lost v s t w array y Over h = serves_quiet v s t w array y (stays s w Unexpected) refl refl refl refl (λ a. refl) h
 
-serves_retried : (v : Shape) (s t : State) (w : World) (array : ℕ → List ℕ) (y : Shown) (now : Status) → Serves v s w array
+serves_retried : (v : Shape) (s t : State) (w : World) (array : ℕ → List ℕ) (y : Shown) (now : Status) → ServesArray v s w array
     → After v s t w array y (on_retry s w now)
 serves_retried v s t w array y Stalling h = serves_quiet v s t w array y (resends s w) refl refl refl refl (λ a. refl) h
 serves_retried v s t w array y Idle h = serves_quiet v s t w array y (stays s w Unexpected) refl refl refl refl (λ a. refl) h
@@ -219,18 +223,15 @@ serves_retried v s t w array y Over h = serves_quiet v s t w array y (stays s w 
 
 -- Each event that doesn't fail the device brings no reply, or the array's to the oldest command.
 pub serves_moved : (v : Shape) (s t : State) (w : World) (array : ℕ → List ℕ) (event : Event) (y : Shown) → IsFit v.device
-    → IsOrderly v s → Serves v s w array → Moves v s w event y t → t.failure ≡ None
+    → IsOrderly v s → ServesArray v s w array → Moves v s w event y t → t.failure ≡ None
     → HasServed v s t (world_after v w (moved v s w event) y.sends) array y.replies
 serves_moved v s t w array (Submit session c words) y fit o h =
     serves_submitted v s t w array y (record { session = session; ticket = s.next; command = c; words = words }) (refusal_of v.device (is_over (status_in s)) (length s.queue) s.next c words) fit o h
 serves_moved v s t w array (Answer bytes) y fit o h =
     serves_answered v s t w array y (status_in s) (outcome_of v w.records (asked s.last) bytes) fit o h
 serves_moved v s t w array Lost y fit o h = serves_lost v s t w array y (status_in s) h
+serves_moved v s t w array Reopen y fit o h = serves_lost v s t w array y (status_in s) h
 serves_moved v s t w array Retry y fit o h = serves_retried v s t w array y (status_in s) h
-
--- A core at rest serves what its tree 0 holds.
-pub serves_at_rest : (v : Shape) (s : State) (w : World) → s.queue ≡ [] → Serves v s w (array_in v w)
-serves_at_rest v s w none = subst (ServesBy v s w (array_in v w)) (sym none) (λ a. refl)
 
 pub cores_serve : CoresServe
 cores_serve v s t w array event x device o holds agrees serves apart steps healthy =
@@ -238,3 +239,16 @@ cores_serve v s t w array event x device o holds agrees serves apart steps healt
     let mv : Moves v s w event x t = steps w (agreeing_fits v s w fit o agrees holds) apart in
     let left = agrees_moved v s t w event x fit o agrees mv healthy in
     record { orderly = left.orderly; holds = mv.holds healthy; agrees = left.agrees; served = serves_moved v s t w array event x fit o serves mv healthy }
+
+empty_array : (v : Setting) (a : ℕ) → array_in v.shape (world_of v []) a ≡ replicate v.shape.device.block_bytes 0
+empty_array v a = ap (λ (m : Map). found_in v.shape.device (m a)) (empty_content v 0)
+
+pub new_cores_serve : NewCoresServe
+new_cores_serve v trees device made =
+    let fit : IsFit v.shape.device = fit_device v.shape.device device in
+    record {
+      orderly = orderly_new v trees fit;
+      holds = formatted_holds v trees made;
+      agrees = agrees_new v trees fit;
+      serves = λ a. empty_array v a;
+    }

@@ -6,14 +6,14 @@ use Rattle.oram_trace.specs.declared.asked.Entry.{Entry}
 use Rattle.oram_run.specs.Messages.{asked}
 use Rattle.oram_run.specs.Answers.{Outcome, outcome_of}
 use Rattle.oram_run.specs.Answers.Outcome.{Good, NoRoom, Fails}
-use Rattle.oram_run.specs.Progress.{Setting, Step, Status, accepted, records_of, progress, status, meaning_at}
+use Rattle.oram_run.specs.Progress.{Setting, Step, Status, accepted, records_of, progress, status, meaning_at, after_loss}
 use Rattle.oram_run.specs.Progress.Status.{Waiting}
-use Rattle.oram_run.specs.Run.{refusal_of, submit_note, is_over, note_of, answered_tickets, Shown, step_of}
-use Rattle.oram_run.specs.State.{State, Holds, status_by}
+use Rattle.oram_run.specs.Run.{refusal_of, submit_note, loss_note, is_over, note_of, answered_tickets, Shown, step_of}
+use Rattle.oram_run.specs.State.{State, AllStand, status_by}
 use Rattle.oram_run.specs.Moves.{MovesTo, Moves, stores, fetches, finishes, goes_on, on_answer, on_loss, on_retry, on_submission}
 use Rattle.oram_run.specs.declared.events.Command.{Command}
 use Rattle.oram_run.specs.declared.events.Event.{Event}
-use Rattle.oram_run.specs.declared.events.Event.TheVariants.{Submit, Answer, Lost, Retry}
+use Rattle.oram_run.specs.declared.events.Event.TheVariants.{Submit, Answer, Lost, Reopen, Retry}
 use Rattle.oram_run.specs.declared.events.Reason.{Reason}
 use Rattle.oram_run.specs.declared.events.Refusal.{Refusal}
 use Rattle.oram_run.specs.declared.events.Note.TheVariants.{Refused, Taken, Stalled, Unexpected}
@@ -60,7 +60,7 @@ good_keep v past s t old rest x y bytes fit l healthy qu w calm mv is p =
     ]
 
 outcome_keep : (v : Setting) (past : List Step) (s t : State) (old rest : List Submission) (x : Shown) (y : Submission)
-    (bytes : List ℕ) (o : Outcome) → IsFit v.shape.device → Live v past old s → Holds v.shape s (world_of v past)
+    (bytes : List ℕ) (o : Outcome) → IsFit v.shape.device → Live v past old s → AllStand v.shape s (world_of v past)
     → s.failure ≡ None → s.queue ≡ y ∷ rest → Working v past old s y → s.lost ≡ false → status v past ≡ Waiting
     → meaning_at v past (progress v past).good bytes ≡ o
     → MovesTo v.shape s (world_of v past) (on_answer v.shape s (world_of v past) Waiting o) x t
@@ -88,19 +88,21 @@ answer_keep v past s t old x bytes None (y ∷ rest) false h qu lo fit f st mv =
     let w : Working v past old s y = subst (AtWork v past old s) qu f.0.work in
     outcome_keep v past s t old rest x y bytes (outcome_of v.shape (records_of v past) (asked s.last) bytes) fit f.0 f.1 h qu w lo st (ap (λ (e : Entry). outcome_of v.shape (records_of v past) e bytes) (sym (asked_now v past old rest s y f.0 qu w))) mv
 
-loss_keep : (v : Setting) (past : List Step) (s t : State) (old : List Submission) (x : Shown) (failure : Option Reason)
-    (queue : List Submission) (lost : Bool) → s.failure ≡ failure → s.queue ≡ queue → s.lost ≡ lost → IsFit v.shape.device
+-- by an event that means a loss
+loss_keep : (v : Setting) (past : List Step) (s t : State) (old : List Submission) (event : Event) (x : Shown) (failure : Option Reason)
+    (queue : List Submission) (lost : Bool) → note_of v past event ≡ loss_note (status v past)
+    → progress v (step_of event x ∷ past) ≡ after_loss (progress v past) (status v past) → s.failure ≡ failure → s.queue ≡ queue → s.lost ≡ lost → IsFit v.shape.device
     → FollowsAt v past old s failure → status v past ≡ status_by failure queue lost
     → MovesTo v.shape s (world_of v past) (on_loss s (world_of v past) (status_by failure queue lost)) x t
-    → Kept v past Lost x t
-loss_keep v past s t old x (Some e) queue lost h qu lo fit f st mv =
-    stays_keep v past s t old Lost x Unexpected (Some e) h fit f mv refl refl refl (rw st refl) (progress_cons v (step_of Lost x) past ∙ rw st refl)
-loss_keep v past s t old x None [] lost h qu lo fit f st mv =
-    stays_keep v past s t old Lost x Unexpected None h fit f mv refl refl refl (rw st refl) (progress_cons v (step_of Lost x) past ∙ rw st refl)
-loss_keep v past s t old x None (y ∷ rest) true h qu lo fit f st mv =
-    stays_keep v past s t old Lost x Unexpected None h fit f mv refl refl refl (rw st refl) (progress_cons v (step_of Lost x) past ∙ rw st refl)
-loss_keep v past s t old x None (y ∷ rest) false h qu lo fit f st mv =
-    quiet_keep v past s t old Lost x Stalled true fit f.0 h f.1 mv refl refl refl (rw st refl) (progress_cons v (step_of Lost x) past ∙ rw st refl) (λ e. absurd (let long : length s.queue ≡ length rest + 1 = ap length qu ∙ omega arith in omega arith))
+    → Kept v past event x t
+loss_keep v past s t old event x (Some e) queue lost noted gone h qu lo fit f st mv =
+    stays_keep v past s t old event x Unexpected (Some e) h fit f mv refl refl refl (rw st refl ∙ sym noted) (gone ∙ rw st refl)
+loss_keep v past s t old event x None [] lost noted gone h qu lo fit f st mv =
+    stays_keep v past s t old event x Unexpected None h fit f mv refl refl refl (rw st refl ∙ sym noted) (gone ∙ rw st refl)
+loss_keep v past s t old event x None (y ∷ rest) true noted gone h qu lo fit f st mv =
+    stays_keep v past s t old event x Unexpected None h fit f mv refl refl refl (rw st refl ∙ sym noted) (gone ∙ rw st refl)
+loss_keep v past s t old event x None (y ∷ rest) false noted gone h qu lo fit f st mv =
+    quiet_keep v past s t old event x Stalled true fit f.0 h f.1 mv refl refl refl (rw st refl ∙ sym noted) (gone ∙ rw st refl) (λ e. absurd (let long : length s.queue ≡ length rest + 1 = ap length qu ∙ omega arith in omega arith))
 
 retry_keep : (v : Setting) (past : List Step) (s t : State) (old : List Submission) (x : Shown) (failure : Option Reason)
     (queue : List Submission) (lost : Bool) → s.failure ≡ failure → s.queue ≡ queue → s.lost ≡ lost → IsFit v.shape.device
@@ -156,7 +158,9 @@ keeps_at v past s t old (Submit session c words) x fit f mv =
 keeps_at v past s t old (Answer bytes) x fit f mv =
     answer_keep v past s t old x bytes s.failure s.queue s.lost refl refl refl fit f (status_past v past s old s.failure refl fit f) mv
 keeps_at v past s t old Lost x fit f mv =
-    loss_keep v past s t old x s.failure s.queue s.lost refl refl refl fit f (status_past v past s old s.failure refl fit f) mv
+    loss_keep v past s t old Lost x s.failure s.queue s.lost refl (progress_cons v (step_of Lost x) past) refl refl refl fit f (status_past v past s old s.failure refl fit f) mv
+keeps_at v past s t old Reopen x fit f mv =
+    loss_keep v past s t old Reopen x s.failure s.queue s.lost refl (progress_cons v (step_of Reopen x) past) refl refl refl fit f (status_past v past s old s.failure refl fit f) mv
 keeps_at v past s t old Retry x fit f mv =
     retry_keep v past s t old x s.failure s.queue s.lost refl refl refl fit f (status_past v past s old s.failure refl fit f) mv
 

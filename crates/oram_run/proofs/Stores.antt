@@ -24,7 +24,7 @@ use Rattle.oram_run.proofs.Bounds.{HasEntries}
 use Rattle.oram_run.proofs.Maps.{data_zero, content_more, found_is, next_is, named_here, named_there, named_range, leaf_small}
 use Rattle.oram_run.specs.Law.{world_of}
 use Rattle.oram_run.proofs.Bounds.{IsFit}
-use Rattle.oram_run.proofs.Follows.{IsAllowed, applied, applied_none, applied_yes, applied_no, applied_same, entry_for, Working, AtWork, Live, content_is}
+use Rattle.oram_run.proofs.Follows.{FitsTable, applied, applied_none, applied_yes, applied_no, applied_same, entry_for, Working, AtWork, Live, content_is}
 use Rattle.oram_run.proofs.Counts.{asked_is}
 
 -- arithmetic of stages
@@ -127,7 +127,7 @@ kept_last d old x (suc i) bytes e b = absurd (omega arith)
 
 -- the table after the access
 table_stored : (v : Setting) (past : List Step) (old rest : List Submission) (s : State) (x : Submission) (stage : ℕ)
-    → s.stage ≡ stage → IsFit v.shape.device → Live v past old s → s.queue ≡ x ∷ rest → IsAllowed v.shape.device x → (a : ℕ)
+    → s.stage ≡ stage → IsFit v.shape.device → Live v past old s → s.queue ≡ x ∷ rest → FitsTable v.shape.device x → (a : ℕ)
     → a < blocks_in v.shape.device (trees_of v.shape.device - 1)
     → slice_index (if stage == 0 then slice_set s.table (block_of v.shape.device (stage_tree v.shape.device stage) x) (new_leaf v.shape.device (stage_tree v.shape.device stage) x + 1) else s.table) a
     ≡ named_in v.shape.device (trees_of v.shape.device - 1) (applied v.shape.device old (x ∷ rest) (stage + 1) (trees_of v.shape.device - 1)) a
@@ -180,7 +180,7 @@ live_stored v past old rest s x step ts n m fit l qu w even calm p a sent_is is 
     let found : found_in d (content_of v past i (block_of d i x)) ≡ data_in d i old (block_of d i x) =
     bytes_are v past old rest s x fit l qu w.stage even in
     let few : s.stage < 2 * trees_of d = w.stage in
-    let ok : IsAllowed d x = All-head (IsAllowed d) x rest (subst (All (IsAllowed d)) qu l.allowed) in
+    let ok : FitsTable d x = All-head (FitsTable d) x rest (subst (All (FitsTable d)) qu l.allowed) in
     let leaf : (asked s.last).leaf ≡ (entry_for d old x s.stage).leaf = ap (λ (e : Entry). e.leaf) w.asks in
     let small : (asked s.last).leaf < 2 ^ 32 = subst (λ (k : ℕ). k < 2 ^ 32) (sym leaf) (leaf_fits d old x s.stage) in
     let t : State = stored_state v past s x ts n m in

@@ -21,7 +21,7 @@ use Rattle.oram_run.specs.declared.events.Note.TheVariants.{Accepted}
 use Rattle.oram_run.specs.declared.events.Submission.{Submission}
 use Rattle.oram_run.specs.Law.{world_of}
 use Rattle.oram_run.proofs.Bounds.{IsFit, address_small}
-use Rattle.oram_run.proofs.Follows.{IsAllowed, applied, applied_none, AtWork, Live, content_is}
+use Rattle.oram_run.proofs.Follows.{FitsTable, applied, applied_none, AtWork, Live, content_is}
 use Rattle.oram_run.proofs.Counts.{progress_cons, accepted_cons, accepted_len, none_between, none_asked, sent_is}
 use Rattle.oram_run.proofs.Fetches.{fetch_entry}
 use Rattle.oram_run.proofs.Others.{live_accepted, accepted_state, applied_push, idle_stage}
@@ -46,7 +46,7 @@ passed d f w n c words e =
 
 -- an idle core sends the first fetch
 first_due : (v : Setting) (past : List Step) (old queue : List Submission) (s : State) (y : Submission) (step : Step)
-    → IsFit v.shape.device → Live v past old s → s.queue ≡ queue → AtWork v past old s queue → IsAllowed v.shape.device y
+    → IsFit v.shape.device → Live v past old s → s.queue ≡ queue → AtWork v past old s queue → FitsTable v.shape.device y
     → progress v (step ∷ past) ≡ progress v past → accepted (step ∷ past) ≡ accepted past ++ y ∷ []
     → Sends v.shape s.last (if_idle queue (first_fetch v.shape.device s.table (y ∷ []))) step.sends
     → AskFor v (step ∷ past) (from_to (entries_sent v past) (entries_sent v (step ∷ past))) step.sends
@@ -113,7 +113,7 @@ accepts_keep v past s t old x session c words fit l healthy near two mv is =
     let count : s.next ≡ length (accepted past) = l.next ∙ sym (accepted_len past old s.queue l.split) in
     let a : accepted (step ∷ past) ≡ accepted past ++ y ∷ [] = accepted_cons step past ∙ ap (λ (b : Bool). if b then accepted past ++ submission_of (length (accepted past)) event else accepted past) (ap is_accepted mv.note)
     ∙ ap (λ (k : ℕ). accepted past ++ (record { session = session; ticket = k; command = c; words = words }) ∷ []) (sym count) in
-    let ok : IsAllowed d y =
+    let ok : FitsTable d y =
     record { block = address_small d (trees_of d - 1) (address_of c) fit.words.some near; words = two } in
     let nonce : n ≡ s.nonce = omega arith in
     let live : Live v (step ∷ past) old u = live_accepted v past old s y step t.trees n fit l ok refl p a nonce mv.sends in

@@ -48,15 +48,15 @@ pub record Agrees (v : Shape) (s : State) (w : World) : Type 0 where
       → named_for v s w i b ≡ name_of (w.content i b)
   pub between : AtBetween v s w s.queue
 
--- a submission that the device takes
-pub record IsTaken (d : Sizes) (x : Submission) : Type 0 where
-  pub address : address_of x.command < d.blocks
+-- what the device allows of an accepted command
+pub record IsAllowed (d : Sizes) (x : Submission) : Type 0 where
+  pub address : address_of x.command < blocks_in d 0
   pub data_length : has_bad_length d x.command ≡ false
   pub words : length x.words ≡ 2 * trees_of d
 
 -- a core's table, queue and stage are ones of the device
 pub record IsOrderly (v : Shape) (s : State) : Type 0 where
   pub sized : length s.table ≡ blocks_in v.device (trees_of v.device - 1)
-  pub queue : All (IsTaken v.device) s.queue
+  pub queue : All (IsAllowed v.device) s.queue
   pub stage : s.stage < 2 * trees_of v.device
   pub rests : length s.queue ≡ 0 → s.stage ≡ 0

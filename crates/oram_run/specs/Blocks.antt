@@ -1,5 +1,5 @@
 -- What an access finds in a block and leaves there.
-use Rattle.std.specs.Prelude.{ℕ, zero, suc, ◌+◌, ◌*◌, ◌%◌, ◌==◌, if◌then◌else◌, List, [], slice_range, Option}
+use Rattle.std.specs.Prelude.{ℕ, zero, suc, ◌+◌, ◌*◌, ◌%◌, ◌==◌, if◌then◌else◌, List, [], replicate, slice_range, Option}
 use Rattle.std.specs.Int.{w32, from_be_bytes}
 use Rattle.oram_geometry.specs.declared.Sizes.{Sizes}
 use Rattle.oram_geometry.specs.Sizes.{fanout}
@@ -8,7 +8,7 @@ use Rattle.oram_tree.specs.Access.{content_or_zeros}
 use Rattle.oram_tree.specs.Edits.{with_entry}
 use Rattle.oram_run.specs.Content.{block_of, new_leaf}
 use Rattle.oram_run.specs.declared.events.Command.{Command}
-use Rattle.oram_run.specs.declared.events.Command.TheVariants.{Read, Write}
+use Rattle.oram_run.specs.declared.events.Command.TheVariants.{Read, Write, Discard}
 use Rattle.oram_run.specs.declared.events.ReplyBody.{ReplyBody}
 use Rattle.oram_run.specs.declared.events.ReplyBody.TheVariants.{Data, Done}
 use Rattle.oram_run.specs.declared.events.Submission.{Submission}
@@ -22,13 +22,14 @@ unfoldable pub entry_in : List ℕ → ℕ → ℕ
 entry_in bytes j = from_be_bytes w32 (slice_range bytes (4 * j) (4 * j + 4))
 
 -- what a command leaves of a block's data
-abbrev pub written_over : Command → List ℕ → List ℕ
-written_over (Read a) bytes = bytes
-written_over (Write a new) bytes = new
+abbrev pub left_by : Sizes → Command → List ℕ → List ℕ
+left_by d (Read a) bytes = bytes
+left_by d (Write a new) bytes = new
+left_by d (Discard a) bytes = replicate d.block_bytes 0
 
 -- The block of tree i after the access: in tree 0 what the command leaves, else with the next tree's block named by its new leaf.
 unfoldable pub block_after : Sizes → ℕ → Submission → List ℕ → List ℕ
-block_after d zero x bytes = written_over x.command bytes
+block_after d zero x bytes = left_by d x.command bytes
 block_after d (suc i) x bytes = with_entry bytes (block_of d i x % fanout d) (new_leaf d i x + 1)
 
 -- what the block named for the next tree's
@@ -49,3 +50,4 @@ put_in content i a h k b = if k == i then put (content k) a h b else content k b
 abbrev pub body_from : List ℕ → Command → ReplyBody
 body_from bytes (Read a) = Data bytes
 body_from bytes (Write a new) = Done
+body_from bytes (Discard a) = Done

@@ -3,7 +3,7 @@ use Rattle.std.specs.Prelude.{ℕ, ◌==◌, Bool, false, List, replicate, take,
 use Rattle.std.specs.List.{flat_map}
 use Rattle.oram_geometry.specs.declared.Sizes.{Sizes}
 use Rattle.oram_run.specs.declared.events.Command.{Command}
-use Rattle.oram_run.specs.declared.events.Command.TheVariants.{Read, Write}
+use Rattle.oram_run.specs.declared.events.Command.TheVariants.{Read, Write, Discard}
 use Rattle.oram_run.specs.declared.events.ReplyBody.{ReplyBody}
 use Rattle.oram_run.specs.declared.events.ReplyBody.TheVariants.{Data, Done, Failed}
 use Rattle.oram_run.specs.declared.events.Refusal.{Refusal}
@@ -15,6 +15,7 @@ use Rattle.oram_run.specs.declared.events.Submission.{Submission}
 abbrev pub address_of : Command → ℕ
 address_of (Read a) = a
 address_of (Write a bytes) = a
+address_of (Discard a) = a
 
 abbrev pub refusal_number : Refusal → ℕ
 refusal_number BadAddress = 1
@@ -31,27 +32,32 @@ addresses subs = map (λ s. address_of s.command) subs
 abbrev pub tape : List Submission → List ℕ
 tape subs = flat_map (λ s. s.words) subs
 
-abbrev pub writes_to : ℕ → Command → Bool
-writes_to a (Read b) = false
-writes_to a (Write b bytes) = a == b
+-- whether a command writes or discards the block of this address
+abbrev pub changes : ℕ → Command → Bool
+changes a (Read b) = false
+changes a (Write b bytes) = a == b
+changes a (Discard b) = a == b
 
--- the bytes that a command writes
+-- the bytes that a write leaves; any other command, zeros
 abbrev pub bytes_of : ℕ → Command → List ℕ
 bytes_of size (Read b) = replicate size 0
 bytes_of size (Write b bytes) = bytes
+bytes_of size (Discard b) = replicate size 0
 
-abbrev pub bytes_written : ℕ → Option Submission → List ℕ
-bytes_written size None = replicate size 0
-bytes_written size (Some s) = bytes_of size s.command
+abbrev pub bytes_left : ℕ → Option Submission → List ℕ
+bytes_left size None = replicate size 0
+bytes_left size (Some s) = bytes_of size s.command
 
--- what a plain array holds at an address after these submissions, the newest first: the bytes of the newest that writes there, or zeros
+-- what a plain array holds at an address after these submissions, the newest first: the bytes of the newest that writes or discards
+-- there, zeros if it discards or there is none
 abbrev pub array_at : Sizes → List Submission → ℕ → List ℕ
-array_at d newest_first a = bytes_written d.block_bytes (find (λ s. writes_to a s.command) newest_first)
+array_at d newest_first a = bytes_left d.block_bytes (find (λ s. changes a s.command) newest_first)
 
 -- the answer of a plain array after these submissions, the newest first
 abbrev pub body_for : Sizes → List Submission → Command → ReplyBody
 body_for d newest_first (Read a) = Data (array_at d newest_first a)
 body_for d newest_first (Write a bytes) = Done
+body_for d newest_first (Discard a) = Done
 
 -- the plain array's reply to one of the submissions: it knows those before
 abbrev pub reply_of : Sizes → List Submission → Submission → Reply

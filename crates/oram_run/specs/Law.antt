@@ -1,28 +1,28 @@
 -- From one step to a whole run.
-use Rattle.std.specs.Prelude.{◌≡◌, ℕ, ◌-◌, false, List, [], ◌∷◌, None, replicate}
+use Rattle.std.specs.Prelude.{◌≡◌, ℕ, ◌-◌, false, List, [], ◌∷◌, None, length, replicate}
 use Rattle.oram_geometry.specs.Sizes.{IsDevice, trees_of, blocks_in}
 use Rattle.oram_run.specs.Shape.{Shape}
-use Rattle.oram_run.specs.Progress.{Setting, Step, records_of}
+use Rattle.oram_run.specs.Progress.{Setting, Step, accepted, progress, records_of, status}
 use Rattle.oram_run.specs.Content.{content_of}
 use Rattle.oram_tree.specs.State.{State as Tree}
 use Rattle.oram_run.specs.Nonces.{formatted}
-use Rattle.oram_run.specs.Run.{Shown, AllRight}
-use Rattle.oram_run.specs.State.{State, World, Holds}
+use Rattle.oram_run.specs.Run.{Shown, AllRight, shows_pair, step_of, without_reply}
+use Rattle.oram_run.specs.State.{State, World, AllStand, status_in}
 use Rattle.oram_run.specs.Formatting.{IsFormatted}
 use Rattle.oram_run.specs.Moves.{Moves, Fits, shows_in, moved, world_after}
 use Rattle.oram_run.specs.Agree.{Agrees, IsOrderly}
-use Rattle.oram_run.specs.Serving.{Serves, HasServed}
+use Rattle.oram_run.specs.Serving.{ServesArray, HasServed}
 use Rattle.oram_run.specs.declared.events.Event.{Event}
 
 -- The contract of one step: in each world that the core can go on in, and in which no two records of one digest stand in the answer, it shows and becomes what the local rule allows.
-abbrev pub Steps : Shape → State → Event → Shown → State → Type 0
-Steps v s event x t = (w : World) → Fits v s w → shows_in v s w event ≡ false → Moves v s w event x t
+abbrev pub StepsByRule : Shape → State → Event → Shown → State → Type 0
+StepsByRule v s event x t = (w : World) → Fits v s w → shows_in v s w event ≡ false → Moves v s w event x t
 
 -- steps one after another; there may be fewer than events
 abbrev pub StepsAlong : Shape → State → List Event → List Shown → Type 0
 StepsAlong v s events [] = Unit {0}
 StepsAlong v s [] (x ∷ xs) = ⊥
-StepsAlong v s (event ∷ events) (x ∷ xs) = (t : State) × Steps v s event x t × StepsAlong v t events xs
+StepsAlong v s (event ∷ events) (x ∷ xs) = (t : State) × StepsByRule v s event x t × StepsAlong v t events xs
 
 -- the world of the past: what was last stored, and what the accepted submissions have left
 abbrev pub world_of : Setting → List Step → World
@@ -38,16 +38,50 @@ StepsAreRight =
     (v : Setting) (trees : List Tree) (events : List Event) (xs : List Shown) → IsDevice v.shape.device → IsFormatted v trees
     → StepsAlong v.shape (new_state v trees) events xs → AllRight v [] events xs
 
+-- steps from one state to another, which make a past, the newest first; no two records of one digest stood in an answer
+abbrev pub StepsTo : Setting → List Step → State → List Event → List Shown → List Step → State → Type 0
+StepsTo v past s [] [] now t = (now ≡ past) × (t ≡ s)
+StepsTo v past s (event ∷ events) (x ∷ xs) now t =
+    (u : State) × StepsByRule v.shape s event x u × (shows_pair v past event ≡ false) × StepsTo v (step_of event x ∷ past) u events xs now t
+StepsTo v past s [] (x ∷ xs) now t = ⊥
+StepsTo v past s (event ∷ events) [] now t = ⊥
+
+-- What a core tells is what its past says: how many commands were accepted, how many of them have no reply, its status and why it
+-- failed.
+pub record TellsOf (v : Setting) (past : List Step) (s : State) : Type 0 where
+  pub next : s.next ≡ length (accepted past)
+  pub waiting : length s.queue ≡ without_reply v past
+  pub status : status_in s ≡ status v past
+  pub failure : s.failure ≡ (progress v past).failure
+
+-- After any list of events a core that was just formatted tells of its past.
+abbrev pub CoresTell : Type 0
+CoresTell =
+    (v : Setting) (trees : List Tree) (events : List Event) (xs : List Shown) (past : List Step) (s : State) → IsDevice v.shape.device
+    → IsFormatted v trees → StepsTo v [] (new_state v trees) events xs past s → TellsOf v past s
+
 -- A core whose past isn't known, after an event that didn't fail it: its trees stand in the world that the event leaves and agree
 -- there, and it has served the array.
 pub record HasGoneOn (v : Shape) (s t : State) (w : World) (array : ℕ → List ℕ) (x : Shown) : Type 0 where
   pub orderly : IsOrderly v t
-  pub holds : Holds v t w
+  pub holds : AllStand v t w
   pub agrees : Agrees v t w
   pub served : HasServed v s t w array x.replies
+
+-- A core whose trees stand in a world and agree there serves an array.
+pub record IsServing (v : Shape) (s : State) (w : World) (array : ℕ → List ℕ) : Type 0 where
+  pub orderly : IsOrderly v s
+  pub holds : AllStand v s w
+  pub agrees : Agrees v s w
+  pub serves : ServesArray v s w array
+
+-- A core that was just formatted serves an array of zeros.
+abbrev pub NewCoresServe : Type 0
+NewCoresServe = (v : Setting) (trees : List Tree) → IsDevice v.shape.device → IsFormatted v trees
+    → IsServing v.shape (new_state v trees) (world_of v []) (λ a. replicate v.shape.device.block_bytes 0)
 
 -- Whatever a core whose trees stand and agree does by the local rule, it goes on so and answers as the array.
 abbrev pub CoresServe : Type 0
 CoresServe = (v : Shape) (s t : State) (w : World) (array : ℕ → List ℕ) (event : Event) (x : Shown) → IsDevice v.device
-    → IsOrderly v s → Holds v s w → Agrees v s w → Serves v s w array → shows_in v s w event ≡ false
-    → Steps v s event x t → t.failure ≡ None → HasGoneOn v s t (world_after v w (moved v s w event) x.sends) array x
+    → IsOrderly v s → AllStand v s w → Agrees v s w → ServesArray v s w array → shows_in v s w event ≡ false
+    → StepsByRule v s event x t → t.failure ≡ None → HasGoneOn v s t (world_after v w (moved v s w event) x.sends) array x

@@ -14,3 +14,4 @@ pub mod Moves
 pub mod Agree
 pub mod Serving
 pub mod Law
+pub mod TwoWorlds

@@ -16,10 +16,10 @@ use Rattle.oram_run.specs.Blocks.{found_in, block_after, next_named, kept_of, pu
 use Rattle.oram_run.specs.Progress.{Status}
 use Rattle.oram_run.specs.Progress.Status.{Idle, Waiting, Stalling, Over}
 use Rattle.oram_run.specs.Run.{Shown, refusal_of, is_over, is_waiting}
-use Rattle.oram_run.specs.State.{State, World, Holds, status_in, named_now, name_of}
+use Rattle.oram_run.specs.State.{State, World, AllStand, status_in, named_now, name_of}
 use Rattle.oram_run.specs.Trees.{IsPlaced}
 use Rattle.oram_run.specs.declared.events.Event.{Event}
-use Rattle.oram_run.specs.declared.events.Event.TheVariants.{Submit, Answer, Lost, Retry}
+use Rattle.oram_run.specs.declared.events.Event.TheVariants.{Submit, Answer, Lost, Reopen, Retry}
 use Rattle.oram_run.specs.declared.events.Reason.{Reason}
 use Rattle.oram_run.specs.declared.events.Refusal.{Refusal}
 use Rattle.oram_run.specs.declared.events.Note.{Note}
@@ -164,6 +164,7 @@ moved v s w (Submit session c words) =
     (refusal_of v.device (is_over (status_in s)) (length s.queue) s.next c words)
 moved v s w (Answer bytes) = on_answer v s w (status_in s) (outcome_of v w.records (asked s.last) bytes)
 moved v s w Lost = on_loss s w (status_in s)
+moved v s w Reopen = on_loss s w (status_in s)
 moved v s w Retry = on_retry s w (status_in s)
 
 -- the messages are what is to be sent
@@ -214,7 +215,7 @@ pub record MovesTo (v : Shape) (s : State) (w : World) (m : Moved) (x : Shown) (
   pub replies : x.replies ≡ m.replies
   pub sends : Sends v s.last m.ask x.sends
   pub state : t ≡ record m.state { trees = t.trees; nonce = s.nonce + buckets_in v.device m.ask; last = latest x.sends s.last }
-  pub holds : t.failure ≡ None → Holds v t (world_after v w m x.sends)
+  pub holds : t.failure ≡ None → AllStand v t (world_after v w m x.sends)
   pub placed : is_new m.ask ≡ true → All (PlacedIn v s.nonce (world_after v w m x.sends)) x.sends
 
 -- In a world, at an event, the core may show this and go on to t.
@@ -238,11 +239,12 @@ IsReady v s w (x ∷ rest) = s.stage % 2 ≡ 0 → IsReadyFor v s w x
 
 -- the world is one that the core can go on in: one that has failed asks nothing of it
 abbrev pub Fits : Shape → State → World → Type 0
-Fits v s w = s.failure ≡ None → Holds v s w × IsReady v s w s.queue
+Fits v s w = s.failure ≡ None → AllStand v s w × IsReady v s w s.queue
 
 -- whether two records of one digest stand in an answer
 abbrev pub shows_in : Shape → State → World → Event → Bool
 shows_in v s w (Answer bytes) = is_waiting (status_in s) && pair_in v w.records (asked s.last) bytes
 shows_in v s w (Submit session c words) = false
 shows_in v s w Lost = false
+shows_in v s w Reopen = false
 shows_in v s w Retry = false

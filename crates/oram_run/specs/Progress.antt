@@ -9,7 +9,7 @@ use Rattle.oram_run.specs.Messages.{last_stored}
 use Rattle.oram_run.specs.Answers.{Outcome, outcome_of}
 use Rattle.oram_run.specs.Answers.Outcome.{Good, NoRoom, Fails}
 use Rattle.oram_run.specs.declared.events.Event.{Event}
-use Rattle.oram_run.specs.declared.events.Event.TheVariants.{Submit, Answer, Lost, Retry}
+use Rattle.oram_run.specs.declared.events.Event.TheVariants.{Submit, Answer, Lost, Reopen, Retry}
 use Rattle.oram_run.specs.declared.events.Reason.{Reason}
 use Rattle.oram_run.specs.declared.events.Submission.{Submission}
 
@@ -29,6 +29,7 @@ abbrev pub submission_of : ℕ → Event → List Submission
 submission_of ticket (Submit s c w) = record { session = s; ticket = ticket; command = c; words = w } ∷ []
 submission_of ticket (Answer b) = []
 submission_of ticket Lost = []
+submission_of ticket Reopen = []
 submission_of ticket Retry = []
 
 -- A past has its newest step first. The accepted submissions, the oldest first, their tickets counted from 0:
@@ -93,6 +94,7 @@ abbrev pub advanced : Progress → Status → (List ℕ → Outcome) → Event �
 advanced p now meaning (Submit s c w) = p
 advanced p now meaning (Answer bytes) = answered p now (meaning bytes)
 advanced p now meaning Lost = after_loss p now
+advanced p now meaning Reopen = after_loss p now
 advanced p now meaning Retry = after_retry p now
 
 -- what an answer to entry m means

@@ -13,9 +13,10 @@ use Rattle.oram_run.specs.Content.{content_of}
 use Rattle.oram_run.specs.Nonces.{store_nonce}
 use Rattle.oram_run.specs.Trees.{IsPlaced}
 use Rattle.oram_run.specs.declared.events.Command.{Command}
-use Rattle.oram_run.specs.declared.events.Command.TheVariants.{Read, Write}
+use Rattle.oram_run.specs.declared.events.Command.TheVariants.{Read, Write, Discard}
 use Rattle.oram_run.specs.declared.events.Event.{Event}
-use Rattle.oram_run.specs.declared.events.Event.TheVariants.{Submit, Answer, Lost, Retry}
+use Rattle.oram_run.specs.declared.events.Event.TheVariants.{Submit, Answer, Lost, Reopen, Retry}
+use Rattle.oram_run.specs.declared.events.Reason.{Reason}
 use Rattle.oram_run.specs.declared.events.Refusal.{Refusal}
 use Rattle.oram_run.specs.declared.events.Refusal.TheVariants as refusal
 use Rattle.oram_run.specs.declared.events.Note.{Note}
@@ -26,6 +27,7 @@ use Rattle.oram_run.specs.declared.events.Reaction.{Reaction}
 abbrev pub has_bad_length : Sizes → Command → Bool
 has_bad_length d (Read a) = false
 has_bad_length d (Write a bytes) = not (length bytes == d.block_bytes)
+has_bad_length d (Discard a) = false
 
 -- the first refusal that applies to a submission, where so many were accepted and so many of these wait for a reply
 abbrev pub refusal_of : Sizes → Bool → ℕ → ℕ → Command → List ℕ → Option Refusal
@@ -78,6 +80,14 @@ is_waiting Over = false
 abbrev pub answered_tickets : Setting → List Step → ℕ
 answered_tickets v past = (progress v past).good / (2 * trees_of v.shape.device)
 
+abbrev pub waiting_by : Option Reason → ℕ → ℕ
+waiting_by None n = n
+waiting_by (Some e) n = 0
+
+-- how many accepted commands have no reply: at a failure each has one
+abbrev pub without_reply : Setting → List Step → ℕ
+without_reply v past = waiting_by (progress v past).failure (length (accepted past) - answered_tickets v past)
+
 -- the note of an event
 abbrev pub note_of : Setting → List Step → Event → Note
 note_of v past (Submit s c w) =
@@ -85,6 +95,7 @@ note_of v past (Submit s c w) =
     submit_note n (refusal_of v.shape.device (is_over (status v past)) (n - answered_tickets v past) n c w)
 note_of v past (Answer bytes) = answer_note (status v past) (meaning_at v past (progress v past).good bytes)
 note_of v past Lost = loss_note (status v past)
+note_of v past Reopen = loss_note (status v past)
 note_of v past Retry = retry_note (status v past)
 
 abbrev pub is_accepted : Note → Bool
@@ -171,6 +182,7 @@ shows_pair v past (Answer bytes) =
     is_waiting (status v past) && pair_in v.shape (records_of v past) (entry_at v past (progress v past).good) bytes
 shows_pair v past (Submit s c w) = false
 shows_pair v past Lost = false
+shows_pair v past Reopen = false
 shows_pair v past Retry = false
 
 -- Each reaction is right, up to, and without, the event at which the first shown pair stands. Reactions may be fewer than events.

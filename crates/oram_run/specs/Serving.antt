@@ -1,12 +1,13 @@
 -- What a core answers whose past isn't known: a plain array begun with what tree 0 holds.
-use Rattle.std.specs.Prelude.{◌≡◌, ℕ, ◌<◌, ◌+◌, ◌*◌, ◌==◌, ◌⊎◌, if◌then◌else◌, List, [], ◌∷◌}
+use Rattle.std.specs.Prelude.{◌≡◌, ℕ, ◌<◌, ◌+◌, ◌*◌, ◌==◌, ◌⊎◌, if◌then◌else◌, List, [], ◌∷◌, replicate}
+use Rattle.oram_geometry.specs.declared.Sizes.{Sizes}
 use Rattle.oram_geometry.specs.Sizes.{trees_of}
 use Rattle.oram_run.specs.Shape.{Shape}
 use Rattle.oram_run.specs.Events.{address_of}
 use Rattle.oram_run.specs.Blocks.{found_in, body_from}
 use Rattle.oram_run.specs.State.{State, World}
 use Rattle.oram_run.specs.declared.events.Command.{Command}
-use Rattle.oram_run.specs.declared.events.Command.TheVariants.{Read, Write}
+use Rattle.oram_run.specs.declared.events.Command.TheVariants.{Read, Write, Discard}
 use Rattle.oram_run.specs.declared.events.Reply.{Reply}
 use Rattle.oram_run.specs.declared.events.Submission.{Submission}
 
@@ -15,9 +16,10 @@ abbrev pub array_in : Shape → World → ℕ → List ℕ
 array_in v w a = found_in v.device (w.content 0 a)
 
 -- an array after a command
-abbrev pub array_after : Command → (ℕ → List ℕ) → ℕ → List ℕ
-array_after (Read a) array b = array b
-array_after (Write a bytes) array b = if b == a then bytes else array b
+abbrev pub array_after : Sizes → Command → (ℕ → List ℕ) → ℕ → List ℕ
+array_after d (Read a) array b = array b
+array_after d (Write a bytes) array b = if b == a then bytes else array b
+array_after d (Discard a) array b = if b == a then replicate d.block_bytes 0 else array b
 
 -- the array's reply to a command
 abbrev pub reply_by : (ℕ → List ℕ) → Submission → Reply
@@ -28,17 +30,17 @@ reply_by array x = record { session = x.session; ticket = x.ticket; body = body_
 pub record ServesAmid (v : Shape) (s : State) (w : World) (array : ℕ → List ℕ) (x : Submission) : Type 0 where
   pub before : s.stage + 1 < 2 * trees_of v.device → (a : ℕ) → array_in v w a ≡ array a
   pub found : s.stage + 1 ≡ 2 * trees_of v.device → s.before ≡ array (address_of x.command)
-  pub after : s.stage + 1 ≡ 2 * trees_of v.device → (a : ℕ) → array_in v w a ≡ array_after x.command array a
+  pub after : s.stage + 1 ≡ 2 * trees_of v.device → (a : ℕ) → array_in v w a ≡ array_after v.device x.command array a
 
 abbrev pub ServesBy : Shape → State → World → (ℕ → List ℕ) → List Submission → Type 0
 ServesBy v s w array [] = (a : ℕ) → array_in v w a ≡ array a
 ServesBy v s w array (x ∷ rest) = ServesAmid v s w array x
 
-abbrev pub Serves : Shape → State → World → (ℕ → List ℕ) → Type 0
-Serves v s w array = ServesBy v s w array s.queue
+abbrev pub ServesArray : Shape → State → World → (ℕ → List ℕ) → Type 0
+ServesArray v s w array = ServesBy v s w array s.queue
 
 -- an event without a reply, or with the array's to the oldest command
 abbrev pub HasServed : Shape → State → State → World → (ℕ → List ℕ) → List Reply → Type 0
 HasServed v s t w array replies =
-    ((replies ≡ []) × Serves v t w array)
-    ⊎ ((x : Submission) × (rest : List Submission) × (s.queue ≡ x ∷ rest) × (replies ≡ reply_by array x ∷ []) × Serves v t w (array_after x.command array))
+    ((replies ≡ []) × ServesArray v t w array)
+    ⊎ ((x : Submission) × (rest : List Submission) × (s.queue ≡ x ∷ rest) × (replies ≡ reply_by array x ∷ []) × ServesArray v t w (array_after v.device x.command array))

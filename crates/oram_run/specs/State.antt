@@ -34,8 +34,8 @@ abbrev pub no_tree : Tree
 no_tree = record { number = 0; root = []; stash = [] }
 
 -- each tree of the core stands in the world
-abbrev pub Holds : Shape → State → World → Type 0
-Holds v s w = (i : ℕ) → i < trees_of v.device → Stands v i (slice_index_or s.trees i no_tree) (w.records i) (w.content i)
+abbrev pub AllStand : Shape → State → World → Type 0
+AllStand v s w = (i : ℕ) → i < trees_of v.device → Stands v i (slice_index_or s.trees i no_tree) (w.records i) (w.content i)
 
 abbrev pub status_by : Option Reason → List Submission → Bool → Status
 status_by (Some e) queue lost = Over

@@ -12,6 +12,8 @@ pub enum Command {
     Read(u32),
     /// To replace its data, which is as long as a block.
     Write(u32, Bytes),
+    /// To make its data zeros. The host sees of it what it sees of a read.
+    Discard(u32),
 }
 
 impl Command {
@@ -20,7 +22,8 @@ impl Command {
         ensures { result ≡ address_of self.now }
     {
         match self {
-            Command::Read(address) | Command::Write(address, _) => *address,
+            Command::Read(address) | Command::Write(address, _) | Command::Discard(address) =>
+                *address,
         }
     }
 
@@ -34,6 +37,7 @@ impl Command {
                 *address,
                 Bytes::copy(alloc, bytes.as_slice())?,
             )),
+            Command::Discard(address) => Ok(Command::Discard(*address)),
         }
     }
 }
@@ -52,6 +56,8 @@ pub enum Event {
     Answer(Bytes),
     /// The message that waits for an answer counts as lost.
     Lost,
+    /// The core was read back from where it was kept: the message that waited for an answer counts as lost.
+    Reopen,
     /// A lost message is to be sent again.
     Retry,
 }
@@ -123,9 +129,9 @@ pub enum Note {
 pub enum ReplyBody {
     /// The data of the block that was read.
     Data(Bytes),
-    /// The block was written.
+    /// The block was written, or discarded.
     Done,
-    /// The device failed first; whether the block was written isn't known.
+    /// The device failed first; whether the block was changed isn't known.
     Failed,
 }
 

@@ -12,7 +12,10 @@ mod events;
 mod law;
 
 pub use events::{Command, Event, Note, Reaction, Reason, Refusal, Reply, ReplyBody, Submission};
-pub use law::{cores_serve, nonces_are_apart, steps_are_right};
+pub use law::{
+    cores_serve, cores_tell, new_cores_serve, nonces_are_apart, steps_are_right,
+    two_worlds_look_alike,
+};
 
 #[cfg(test)]
 mod tests;

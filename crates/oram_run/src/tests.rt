@@ -22,6 +22,10 @@ fn copies(rt: &impl Abort, alloc: Global) -> Result<(), AllocError> {
     let read = Command::Read(7).copy(alloc)?;
     assert_eq!(rt; read.address(), 7);
     assert_ne!(rt; read, write);
+    let discard = Command::Discard(7).copy(alloc)?;
+    assert_eq!(rt; discard, Command::Discard(7));
+    assert_eq!(rt; discard.address(), 7);
+    assert_ne!(rt; discard, read);
     let words = Words::copy(alloc, &[6, 3])?;
     let submit = Event::Submit {
         session: 1,
