@@ -1,10 +1,11 @@
 //! How long an access takes through the core and the server, beside two hashings of the same bytes.
 //!
-//! Run it with the word `run`: two devices, one of a single tree of large blocks and one of three trees of small ones, and
-//! 2,000 accesses each.
+//! Run it with the word `run`: a single tree of large blocks, plain and sealed, two trees of as many blocks as a disk of 256 MiB
+//! has, and three trees of small blocks, and 2,000 accesses each. It also tells what formatting a record took, beside one
+//! hashing of it.
 #![tactic(auto)]
 
-use oram_bucket::PlainSeal;
+use oram_bucket::{ChaChaSeal, PlainSeal, Sealer};
 use oram_bytes::{Bytes, Words};
 use oram_core::{Command, Core, Event};
 use oram_geometry::Device;
@@ -30,6 +31,9 @@ struct Times {
     host: Duration,
     hashing: Duration,
 }
+
+/// Hashings of one record, to time one.
+const HASHINGS: u32 = 1_000;
 
 /// A read or a write of some block, with words of its own.
 fn some_access(
@@ -66,9 +70,9 @@ fn hash_twice(records: &[u8], record_len: usize) -> u8 {
 }
 
 /// Makes a step. The message that it sends, if any, is handed back.
-fn step(
+fn step<S: Sealer>(
     rt: &(impl Alloc<A = Global> + std::rt::Clock),
-    core: &mut Core<PlainSeal>,
+    core: &mut Core<S>,
     event: &Event,
     times: &mut Times,
 ) -> io::Result<Option<Bytes>> {
@@ -87,7 +91,7 @@ fn serve(
     times: &mut Times,
 ) -> io::Result<Event> {
     let start = Instant::now(rt)?;
-    let answer = server.handle(message).encode(rt.alloc())?;
+    let answer = server.answer(rt.alloc(), message)?;
     times.host = times.host.saturating_add(start.elapsed(rt)?);
     if message.first() == Some(&FETCH) {
         let records = answer.get(1..).unwrap_or_default();
@@ -99,9 +103,9 @@ fn serve(
 }
 
 /// Submits a command, and lets the server answer until nothing is outstanding.
-fn access(
+fn access<S: Sealer>(
     rt: &(impl Alloc<A = Global> + std::rt::Clock),
-    core: &mut Core<PlainSeal>,
+    core: &mut Core<S>,
     server: &mut Server,
     command: &Event,
     record_len: usize,
@@ -118,13 +122,40 @@ fn access(
     Ok(())
 }
 
-/// Makes the accesses to a device just formatted, and prints what they took.
-fn measure(rt: &HostRuntime, name: &str, device: Device) -> io::Result<()> {
-    let record_len = device.record_len(0);
+/// How many records a device has in all its trees.
+fn records_of(device: &Device) -> u64 {
+    let mut records: u64 = 0;
+    for tree in 0..device.trees() {
+        records = records.saturating_add((2u64 << device.depth(tree)) - 1);
+    }
+    records
+}
+
+/// How long one hashing of a record of this length takes.
+fn time_of_hashing(rt: &HostRuntime, record_len: usize) -> io::Result<Duration> {
+    let record = vec![in rt.alloc(); 7u8; record_len]?;
+    let start = Instant::now(rt)?;
+    let _ = (0..HASHINGS).fold(0, |mixed, _| mixed ^ node_digest(&record)[0]);
+    Ok(start.elapsed(rt)? / HASHINGS)
+}
+
+/// Formats a device, makes accesses to it, and prints what they took.
+fn measure<S: Sealer>(rt: &HostRuntime, name: &str, device: Device, sealer: S) -> io::Result<()> {
+    let record_len = device.record_len(sealer.overhead());
+    let records = records_of(&device);
+    let hashing = time_of_hashing(rt, record_len)?;
     let mut server = Server::new(rt.alloc());
-    let Ok(mut core) = Core::format(rt.alloc(), device, PlainSeal, &mut server) else {
+    let start = Instant::now(rt)?;
+    let Ok(mut core) = Core::format(rt.alloc(), device, sealer, &mut server) else {
         return Err(AllocError.into());
     };
+    let formatting = start.elapsed(rt)?;
+    println!(rt; "{name}")?;
+    println!(rt;
+        "  formatting a record: {} ns, one hashing of it: {} ns",
+        formatting.as_nanos() / u128::from(records.max(1)),
+        hashing.as_nanos()
+    )?;
     let mut times = Times {
         core: Duration::ZERO,
         host: Duration::ZERO,
@@ -135,7 +166,7 @@ fn measure(rt: &HostRuntime, name: &str, device: Device) -> io::Result<()> {
         let command = some_access(rt.alloc(), core.device(), &mut random)?;
         access(rt, &mut core, &mut server, &command, record_len, &mut times)?;
     }
-    report(rt, name, &core, &times)
+    report(rt, &core, &times)
 }
 
 /// A part of a whole, in hundredths.
@@ -144,11 +175,10 @@ fn hundredths(part: Duration, whole: Duration) -> u128 {
 }
 
 /// Prints what the accesses took, on average, and how many blocks lie in no bucket at the end.
-fn report(rt: &HostRuntime, name: &str, core: &Core<PlainSeal>, times: &Times) -> io::Result<()> {
+fn report<S: Sealer>(rt: &HostRuntime, core: &Core<S>, times: &Times) -> io::Result<()> {
     let micros = |time: Duration| time.as_micros() / u128::from(ACCESSES);
     let whole = times.core.saturating_add(times.host);
     let ratio = hundredths(times.core, times.hashing);
-    println!(rt; "{name}")?;
     println!(rt;
         "  an access: {} us, of which the server {} %",
         micros(whole),
@@ -178,11 +208,28 @@ fn main(rt: HostRuntime) -> io::Result<()> {
     if wanted.is_none_or(|word| word.as_str() != "run") {
         return println!(rt; "bench_core run");
     }
+    let sealer = ChaChaSeal { key: [7; 32] };
     if let Ok(device) = Device::new(4_096, 4_096, 4, 4_096, 1 << 40) {
-        measure(&rt, "one tree of depth 12, blocks of 4,096 bytes", device)?;
+        measure(
+            &rt,
+            "one tree of depth 12, blocks of 4,096 bytes",
+            device,
+            PlainSeal,
+        )?;
+    }
+    if let Ok(device) = Device::new(4_096, 4_096, 4, 4_096, 1 << 40) {
+        measure(&rt, "the same, sealed by ChaCha20", device, sealer)?;
+    }
+    if let Ok(device) = Device::new(65_536, 4_096, 4, 1_024, 1 << 40) {
+        measure(
+            &rt,
+            "two trees, 65,536 blocks of 4,096 bytes, sealed by ChaCha20",
+            device,
+            sealer,
+        )?;
     }
     if let Ok(device) = Device::new(64, 16, 4, 4, 1 << 40) {
-        measure(&rt, "three trees, blocks of 16 bytes", device)?;
+        measure(&rt, "three trees, blocks of 16 bytes", device, PlainSeal)?;
     }
     Ok(())
 }

@@ -16,7 +16,7 @@ use Rattle.oram_run.specs.Moves.{Moved, MovesTo, Fits, IsReady, IsReadyFor, goes
 use Rattle.oram_run.specs.Progress.Status.{Waiting}
 use Rattle.oram_run.specs.Run.{shown}
 use Rattle.oram_run.specs.Shape.{Shape, record_len}
-use Rattle.oram_run.specs.State.{State, World, Holds, named_now, no_tree}
+use Rattle.oram_run.specs.State.{State, World, AllStand, named_now, no_tree}
 use Rattle.oram_run.specs.Trees.{Stands}
 use Rattle.oram_run.specs.declared.events.Reaction.{Reaction}
 use Rattle.oram_run.specs.declared.events.Reason.{Reason}
@@ -25,7 +25,7 @@ use Rattle.oram_run.proofs.Placing.{at_leaf}
 use Rattle.oram_core.specs.Core.{IsSound, IsAtWork, AtWork}
 use Rattle.oram_core.specs.Doing.{Done, done, failed_by, stored_by, is_misled}
 use Rattle.oram_core.proofs.Quiet.{Meets}
-use Rattle.oram_core.proofs.Storing.{IsAccess, not_misled, stores_met}
+use Rattle.oram_core.proofs.Rewriting.{IsAccess, not_misled, stores_met}
 use Rattle.oram_core.proofs.Sound.{tree_within}
 use Rattle.oram_core.proofs.Meeting.{Waits}
 use Rattle.oram_core.proofs.Hearing.{IsTreeAt}
@@ -40,7 +40,7 @@ pub ready_tree : (v : Shape) (s : State) (w : World) (t : Tree) (o : Waits s) �
 ready_tree v s w t o h even fits at =
     let i : ℕ = stage_tree v.device s.stage in
     let x : Submission = o.oldest in
-    let holds : Holds v s w = (fits o.healthy).0 in
+    let holds : AllStand v s w = (fits o.healthy).0 in
     let all : IsReady v s w (o.oldest ∷ o.rest) = subst (IsReady v s w) o.queue (fits o.healthy).1 in
     let ready : IsReadyFor v s w x = all even in
     let work : IsAtWork v s x = subst (AtWork v s) o.queue h.work in

@@ -35,8 +35,8 @@ fetch_heard v s r t h now more does =
     if_ok _ _ r (λ y e. subst (Heard v s) (sym e) (inr (inl (record { note = refl; replies = refl; sends = refl; queue = refl; waits = now; next = refl; stage = refl; within = more })))) (does o.oldest o.rest o.queue)
 
 -- the device fails, whatever the trees are by then
-pub failed_heard : (v : Shape) (s t : State) (e : Reason) → t.queue ≡ s.queue → Heard v s (failed_by t e)
-failed_heard v s t e same = inl (record { reason = e; note = refl; replies = ap (map failed_reply) same; sends = refl; queue = refl; failure = refl })
+pub failed_heard : (v : Shape) (s t : State) (e : Reason) → t.queue ≡ s.queue → t.next ≡ s.next → t.nonce ≡ s.nonce → Heard v s (failed_by t e)
+failed_heard v s t e same next nonce = inl (record { reason = e; note = refl; replies = ap (map failed_reply) same; sends = refl; queue = refl; failure = refl; next = next; nonce = nonce })
 
 -- the path of an access goes back
 pub stored_heard : (v : Shape) (s : State) (trees : List Tree) (x : Submission) (before records : List ℕ) → status_in s ≡ Waiting → s.stage % 2 ≡ 0 → s.stage < 2 * trees_of v.device → Heard v s (stored_by v (record s { trees = trees }) x before records)
@@ -48,6 +48,6 @@ pub taken_heard : (v : Shape) (s : State) (trees : List Tree) (x : Submission) (
 taken_heard v s trees x found before records e now even within =
     let t : State = record s { trees = trees } in
     elim (is_misled v t x found before) as (λ b. Heard v s (if b then failed_by t e else stored_by v t x before records)) [
-      | true ↦ failed_heard v s t e refl
+      | true ↦ failed_heard v s t e refl refl refl
       | false ↦ stored_heard v s trees x before records now even within
     ]

@@ -1,5 +1,5 @@
 -- What the code makes of an answer is what the answer means.
-use Rattle.std.proofs.Common.{◌≡◌, ◌≢◌, ◌⊎◌, ◌↔◌, ℕ, ◌+◌, ◌*◌, ◌%◌, ◌^◌, ◌<◌, ◌≤◌, ◌==◌, ◌&&◌, Bool, true, false, if◌then◌else◌, List, [], ◌∷◌, length, drop, slice_index, slice_index_or, nat_le, nat_lt, not, Some, None, Result, Ok, Err, MatchResult, refl, ap, sym, ◌∙◌, subst, arith, inl, inr}
+use Rattle.std.proofs.Common.{◌≡◌, ◌≢◌, ◌⊎◌, ◌↔◌, ℕ, ◌+◌, ◌*◌, ◌%◌, ◌^◌, ◌<◌, ◌≤◌, ◌==◌, ◌&&◌, Bool, true, false, if◌then◌else◌, List, [], ◌∷◌, length, drop, slice_index, slice_index_or, nat_le, nat_lt, not, Some, None, Result, Ok, Err, IsOk, MatchResult, refl, ap, sym, ◌∙◌, subst, arith, inl, inr}
 use Rattle.std.specs.List.{All}
 use Rattle.std.proofs.lemmas.List.{get_or_read}
 use Rattle.std.proofs.lemmas.Bool.{cases_eq}
@@ -10,7 +10,7 @@ use Rattle.oram_bucket.specs.Bucket.{IsBlockOf}
 use Rattle.oram_trace.specs.declared.asked.Entry.{Entry}
 use Rattle.oram_hash.specs.declared.HashFault.{HashFault}
 use Rattle.oram_hash.specs.declared.HashFault.TheVariants as fault
-use Rattle.oram_hash.specs.Path.{Path, path_of, HasLength}
+use Rattle.oram_hash.specs.Path.{Path, path_of, HasLength, IsAccepted, IsTamperedAt}
 use Rattle.oram_hash.specs.Tree.{IsStored, IsPathOf, Collides}
 use Rattle.oram_hash.specs.Verdict.{IsFaultOf}
 use Rattle.oram_tree.specs.State.{State as Tree}
@@ -26,7 +26,7 @@ use Rattle.oram_run.specs.Trees.{Stands}
 use Rattle.oram_run.proofs.Judged.{pair_is}
 use Rattle.oram_run.specs.declared.events.Reason.TheVariants.{Malformed}
 use Rattle.oram_run.proofs.Outcomes.{fetched_is, stored_is, malformed_store, malformed_is}
-use Rattle.oram_core.specs.Core.{IsSound, IsAtWork, AtWork, IsKept}
+use Rattle.oram_core.specs.Core.{IsSound, IsAtWork, AtWork, IsTreeKept}
 use Rattle.oram_core.specs.Verdicts.{Means, refusal_in}
 use Rattle.oram_core.specs.declared.verdicts.Verdict.{Verdict}
 use Rattle.oram_core.proofs.Meeting.{waits, holds_of}
@@ -43,7 +43,9 @@ path_told v records e bytes fetch whole apart (inr pair) =
 
 -- what is known of the check of an answer to the outstanding fetch
 pub record IsChecked {A : Type 0} (v : Shape) (i leaf : ℕ) (root bytes : List ℕ) (r : Result A HashFault) : Type 0 where
+  pub accepted : IsOk r ↔ IsAccepted (path_of v.device i leaf v.overhead bytes) root
   pub short : (r ≡ Err fault.Length) ↔ (¬ HasLength (path_of v.device i leaf v.overhead bytes))
+  pub tampered : (level : ℕ) → (r ≡ Err (fault.Tampered level)) ↔ IsTamperedAt (path_of v.device i leaf v.overhead bytes) root level
   pub judged : (records : ℕ → List ℕ) → IsStored (depth_of v.device i) (record_len v) root records →
       MatchResult r (λ _. IsPathOf records (path_of v.device i leaf v.overhead bytes)) (IsFaultOf records (path_of v.device i leaf v.overhead bytes)) ⊎ Collides records (path_of v.device i leaf v.overhead bytes)
 
@@ -77,13 +79,17 @@ path_means v s w t bytes r h now even fits apart is checked =
 
 -- the check's own words
 pub checked_as : {A : Type 0} (v : Shape) (i leaf number l overhead : ℕ) (device : Sizes) (root bytes : List ℕ) (r : Result A HashFault) → device ≡ v.device → number ≡ i → l ≡ leaf → overhead ≡ v.overhead →
+    (let p = path_of device number l overhead bytes in IsOk r ↔ IsAccepted p root) →
     (let p = path_of device number l overhead bytes in (r ≡ Err fault.Length) ↔ (¬ HasLength p)) →
+    (let p = path_of device number l overhead bytes in (level : ℕ) → (r ≡ Err (fault.Tampered level)) ↔ IsTamperedAt p root level) →
     (let p = path_of device number l overhead bytes in
     (records : ℕ → List ℕ) → IsStored p.depth p.record_len root records → MatchResult r (λ _. IsPathOf records p) (IsFaultOf records p) ⊎ Collides records p) →
     IsChecked v i leaf root bytes r
-checked_as v i leaf number l overhead device root bytes r d n e o short judged =
+checked_as v i leaf number l overhead device root bytes r d n e o accepted short tampered judged =
     let same : path_of device number l overhead bytes ≡ path_of v.device i leaf v.overhead bytes = cc in
     record {
+      accepted = subst (λ (p : Path). IsOk r ↔ IsAccepted p root) same accepted;
+      tampered = subst (λ (p : Path). (level : ℕ) → (r ≡ Err (fault.Tampered level)) ↔ IsTamperedAt p root level) same tampered;
       short = subst (λ (p : Path). (r ≡ Err fault.Length) ↔ (¬ HasLength p)) same short;
       judged = subst (λ (p : Path). (records : ℕ → List ℕ) → IsStored p.depth p.record_len root records → MatchResult r (λ _. IsPathOf records p) (IsFaultOf records p) ⊎ Collides records p) same judged;
     }
@@ -126,12 +132,8 @@ tree_at v s t i tree h from of read =
     let within : n < trees_of v.device = tree_within v s h in
     let inside : n < length s.trees = let count : length s.trees ≡ trees_of v.device = h.count in omega arith in
     let is : t ≡ slice_index_or s.trees n no_tree = get_or_read s.trees n t inside (subst (λ (k : ℕ). t ≡ slice_index_or s.trees k t) same read) no_tree in
-    let kept : IsKept v.device n t = subst (IsKept v.device n) (sym is) (h.kept n within) in
+    let kept : IsTreeKept v.device n t = subst (IsTreeKept v.device n) (sym is) (h.kept n within) in
     record { is = is; number = kept.number; blocks = kept.blocks }
-
--- the same path by its own bytes
-pub by_own_bytes : (d : Sizes) (i leaf overhead : ℕ) (bytes : List ℕ) (p : Path) → p ≡ path_of d i leaf overhead bytes → p ≡ path_of d i leaf overhead p.bytes
-by_own_bytes d i leaf overhead bytes p e = e ∙ ap (λ b. path_of d i leaf overhead b) (sym (ap (λ (q : Path). q.bytes) e))
 
 -- a refusal, by its code
 pub record IsRefused (bytes : List ℕ) (code : ℕ) : Type 0 where

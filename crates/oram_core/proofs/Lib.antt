@@ -1,9 +1,10 @@
 pub mod Quiet
-pub mod Storing
+pub mod Rewriting
 pub mod Sound
 pub mod Small
 pub mod Meeting
 pub mod Hearing
+pub mod Judged
 pub mod Accessing
 pub mod Closing
 pub mod Heard

@@ -25,7 +25,8 @@ use Rattle.oram_run.proofs.Beginnings.{begun_between, begun_within}
 use Rattle.oram_run.proofs.Bounds.{some_trees}
 use Rattle.oram_run.proofs.NoncesApart.{formatted_small}
 use Rattle.oram_run.proofs.Formatting.{no_trees_made, one_more_made}
-use Rattle.oram_core.specs.Core.{IsAllowed, IsKept, AtWork, IsSound}
+use Rattle.oram_run.specs.Agree.{IsAllowed}
+use Rattle.oram_core.specs.Core.{IsTreeKept, AtWork, IsSound}
 use Rattle.oram_core.specs.Formatting.{IsMade, AreMade}
 
 pub below_none : (d : Sizes) → formatted_below d 0 ≡ 0
@@ -55,7 +56,7 @@ new_sound v putting from to trees s device small a table_is trees_is next_is non
     let few : trees_of d ≤ 13 = trees_of-few d device in
     let tree = λ (ts : List Tree) (i : ℕ). slice_index_or ts i no_tree in
     let Named = λ (xs : List ℕ). All (λ e. e ≤ 2 ^ depth_of d (trees_of d - 1)) xs in
-    let Kept = λ (ts : List Tree). (i : ℕ) → i < trees_of d → IsKept d i (tree ts i) in
+    let Kept = λ (ts : List Tree). (i : ℕ) → i < trees_of d → IsTreeKept d i (tree ts i) in
     let Blocks = λ (i : ℕ) (cells : List Cell). All (IsBlockOf d i) cells in
     let Allowed = λ (xs : List Submission). All (IsAllowed d) xs in
     let Work = λ (xs : List Submission). AtWork v s xs in

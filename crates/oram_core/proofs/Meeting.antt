@@ -1,5 +1,5 @@
 -- What the code of a step does meets the local rule.
-use Rattle.std.proofs.Common.{◌≡◌, ◌≢◌, ◌&&◌, ℕ, ◌+◌, ◌*◌, ◌%◌, ◌<◌, ◌==◌, Bool, true, false, if◌then◌else◌, List, [], ◌∷◌, length, Option, Some, None, unwrap_or, Result, Ok, Err, IfOk, refl, ap, sym, ◌∙◌, subst, arith}
+use Rattle.std.proofs.Common.{◌≡◌, ◌≢◌, ◌⊎◌, inl, inr, ◌&&◌, ℕ, ◌+◌, ◌*◌, ◌%◌, ◌<◌, ◌==◌, Bool, true, false, if◌then◌else◌, List, [], ◌∷◌, length, Option, Some, None, unwrap_or, Result, Ok, Err, IfOk, refl, ap, sym, ◌∙◌, subst, arith}
 use Rattle.std.specs.Str.{bytes_eq}
 use Rattle.std.proofs.lemmas.Slice.Eq.{bytes_eq-Decides}
 use Rattle.std.proofs.lemmas.Bool.Decides.{nat_tests}
@@ -12,10 +12,10 @@ use Rattle.oram_run.specs.Progress.{Status}
 use Rattle.oram_run.specs.Progress.Status.{Idle, Waiting, Stalling, Over}
 use Rattle.oram_run.specs.Run.{shown, refusal_of, is_over, is_waiting}
 use Rattle.oram_run.specs.Shape.{Shape}
-use Rattle.oram_run.specs.State.{State, World, Holds, status_by, status_in}
+use Rattle.oram_run.specs.State.{State, World, AllStand, status_by, status_in}
 use Rattle.oram_run.specs.declared.events.Command.{Command}
 use Rattle.oram_run.specs.declared.events.Event.{Event}
-use Rattle.oram_run.specs.declared.events.Event.TheVariants.{Submit, Answer, Lost, Retry}
+use Rattle.oram_run.specs.declared.events.Event.TheVariants.{Submit, Answer, Lost, Reopen, Retry}
 use Rattle.oram_run.specs.declared.events.Note.{Note}
 use Rattle.oram_run.specs.declared.events.Note.TheVariants.{Unexpected, Refused}
 use Rattle.oram_run.specs.declared.events.Reaction.{Reaction}
@@ -23,6 +23,7 @@ use Rattle.oram_run.specs.declared.events.Reason.{Reason}
 use Rattle.oram_run.specs.declared.events.Refusal.{Refusal}
 use Rattle.oram_run.specs.declared.events.Submission.{Submission}
 use Rattle.oram_core.specs.Doing.{is_stalled, is_free_note, Done, done, noted, plain_step, submitted_by, lost_by, retried_by, unheard_by, accepted_by, finished_by, fetched_by, failed_by, stalled_by, resent_by}
+use Rattle.oram_core.specs.Judging.{IsVerdict}
 use Rattle.oram_core.specs.Steps.{Steps, Heard}
 use Rattle.oram_core.proofs.Quiet.{Meets, stays_met, accepts_met, stalls_met, resends_met, fails_met, finishes_met, fetches_met}
 
@@ -43,7 +44,7 @@ waits_by s None (x ∷ rest) false f q l now = record { oldest = x; rest = rest;
 pub waits : (s : State) → status_in s ≡ Waiting → Waits s
 waits s now = waits_by s s.failure s.queue s.lost refl refl refl now
 
-pub holds_of : (v : Shape) (s : State) (w : World) → Fits v s w → s.failure ≡ None → Holds v s w
+pub holds_of : (v : Shape) (s : State) (w : World) → Fits v s w → s.failure ≡ None → AllStand v s w
 holds_of v s w fits healthy = (fits healthy).0
 
 -- what is claimed of an Ok follows from what is known of it
@@ -81,6 +82,7 @@ plain_steps : (v : Shape) (s : State) (event : Event) (d : Done) (y : Reaction) 
 plain_steps v s event d y t is met unheard e = record {
   plain = λ d' h. e ∙ ap (λ o. unwrap_or o d) (sym is ∙ h);
   heard = λ bytes answer now other. absurd (unheard bytes answer now);
+  verdict = λ bytes answer now other. absurd (unheard bytes answer now);
   moves = λ w fits apart. subst (λ (k : Done). Meets v s w (moved v s w event) k) (sym e) (met w fits);
 }
 
@@ -105,11 +107,29 @@ refuse_steps v s session c words e y t refused h =
     plain_steps v s (Submit session c words) (noted s (Refused e)) y t (ap (λ o. Some (submitted_by v s x o)) refused)
     (λ w fits. subst (λ o. Meets v s w (on_submission v s w x o) (noted s (Refused e))) (sym refused) (stays_met v s w (Refused e) (holds_of v s w fits))) (submit_unheard s session c words) h
 
+-- an event that means a loss
+pub record MeansLoss (v : Shape) (s : State) (event : Event) : Type 0 where
+  pub plain : plain_step v s event ≡ Some (lost_by s (status_in s))
+  pub rule : (w : World) → moved v s w event ≡ on_loss s w (status_in s)
+  pub mute : (bytes : List ℕ) → event ≡ Answer bytes → ⊥
+
+lost_means : (v : Shape) (s : State) → MeansLoss v s Lost
+lost_means v s = record { plain = refl; rule = λ w. refl; mute = λ bytes answer. absurd (let no_way : Lost ≡ Answer bytes = answer in cc) }
+
+reopened_means : (v : Shape) (s : State) → MeansLoss v s Reopen
+reopened_means v s = record { plain = refl; rule = λ w. refl; mute = λ bytes answer. absurd (let no_way : Reopen ≡ Answer bytes = answer in cc) }
+
+pub means_loss : (v : Shape) (s : State) (event : Event) → (event ≡ Lost) ⊎ (event ≡ Reopen) → MeansLoss v s event
+means_loss v s event is = elim is [
+  | inl e ↦ subst (MeansLoss v s) (sym e) (lost_means v s)
+  | inr e ↦ subst (MeansLoss v s) (sym e) (reopened_means v s)
+]
+
 -- the outstanding message is lost
-pub stall_steps : (v : Shape) (s : State) (y : Reaction) (t : State) → status_in s ≡ Waiting → done y t ≡ stalled_by s → Steps v s Lost (shown y) t
-stall_steps v s y t now h =
-    plain_steps v s Lost (stalled_by s) y t (ap (λ n. Some (lost_by s n)) now)
-    (λ w fits. subst (λ n. Meets v s w (on_loss s w n) (stalled_by s)) (sym now) (stalls_met v s w (holds_of v s w fits))) (λ bytes answer waiting. absurd (let no_way : Lost ≡ Answer bytes = answer in cc)) h
+pub stall_steps : (v : Shape) (s : State) (event : Event) (y : Reaction) (t : State) → MeansLoss v s event → status_in s ≡ Waiting → done y t ≡ stalled_by s → Steps v s event (shown y) t
+stall_steps v s event y t means now h =
+    plain_steps v s event (stalled_by s) y t (means.plain ∙ ap (λ n. Some (lost_by s n)) now)
+    (λ w fits. subst (λ (m : Moved). Meets v s w m (stalled_by s)) (sym (means.rule w ∙ ap (on_loss s w) now)) (stalls_met v s w (holds_of v s w fits))) (λ bytes answer waiting. means.mute bytes answer) h
 
 -- it is sent again
 pub resend_steps : {E : Type 0} (v : Shape) (s : State) (r : Result Reaction E) (t : State) → status_in s ≡ Stalling → IfOk r (λ y. done y t ≡ resent_by s) → IfOk r (λ y. Steps v s Retry (shown y) t)
@@ -161,8 +181,9 @@ ignored v s event y t is rule unheard h =
     (λ w fits. subst (λ (m : Moved). Meets v s w m (noted s Unexpected)) (sym (rule w)) (stays_met v s w Unexpected (holds_of v s w fits))) unheard h
 
 -- a loss that nobody waits for
-pub loss_ignored : (v : Shape) (s : State) (y : Reaction) (t : State) → is_waiting (status_in s) ≡ false → done y t ≡ noted s Unexpected → Steps v s Lost (shown y) t
-loss_ignored v s y t other h = ignored v s Lost y t (ap (λ d. Some d) (loss_by s (status_in s) other)) (λ w. loss_rule s w (status_in s) other) (λ bytes answer waiting. absurd (let no_way : Lost ≡ Answer bytes = answer in cc)) h
+pub loss_ignored : (v : Shape) (s : State) (event : Event) (y : Reaction) (t : State) → MeansLoss v s event → is_waiting (status_in s) ≡ false → done y t ≡ noted s Unexpected → Steps v s event (shown y) t
+loss_ignored v s event y t means other h =
+    ignored v s event y t (means.plain ∙ ap (λ d. Some d) (loss_by s (status_in s) other)) (λ w. means.rule w ∙ loss_rule s w (status_in s) other) (λ bytes answer waiting. means.mute bytes answer) h
 
 -- a retry without a loss
 pub retry_ignored : (v : Shape) (s : State) (y : Reaction) (t : State) → is_stalled (status_in s) ≡ false → done y t ≡ noted s Unexpected → Steps v s Retry (shown y) t
@@ -185,12 +206,13 @@ plain_answer v s bytes y t d now room h =
 -- an answer that is waited for
 pub hear_steps : {E : Type 0} (v : Shape) (s : State) (bytes : List ℕ) (r : Result Reaction E) (t : State) → status_in s ≡ Waiting →
     ((w : World) → Fits v s w → pair_in v w.records (asked s.last) bytes ≡ false → IfOk r (λ y. MovesTo v s w (on_answer v s w Waiting (outcome_of v w.records (asked s.last) bytes)) (shown y) t)) →
-    (bytes ≢ 129 ∷ 8 ∷ [] → IfOk r (λ y. Heard v s (done y t))) → (bytes ≡ 129 ∷ 8 ∷ [] → IfOk r (λ y. done y t ≡ stalled_by s)) →
+    (bytes ≢ 129 ∷ 8 ∷ [] → IfOk r (λ y. Heard v s (done y t))) → (bytes ≢ 129 ∷ 8 ∷ [] → IfOk r (λ y. IsVerdict v s bytes y.note)) → (bytes ≡ 129 ∷ 8 ∷ [] → IfOk r (λ y. done y t ≡ stalled_by s)) →
     IfOk r (λ y. Steps v s (Answer bytes) (shown y) t)
-hear_steps v s bytes (Err e) t now moves heard room = tt
-hear_steps v s bytes (Ok y) t now moves heard room = record {
+hear_steps v s bytes (Err e) t now moves heard verdict room = tt
+hear_steps v s bytes (Ok y) t now moves heard verdict room = record {
   plain = λ d h. plain_answer v s bytes y t d now room h;
   heard = λ given answer waiting other. heard (λ is. other (let same : bytes ≡ given = cc in sym same ∙ is));
+  verdict = λ given answer waiting other. let same : bytes ≡ given = cc in subst (λ (b : List ℕ). IsVerdict v s b y.note) same (verdict (λ is. other (sym same ∙ is)));
   moves = λ w fits apart. subst (λ n. MovesTo v s w (on_answer v s w n (outcome_of v w.records (asked s.last) bytes)) (shown y) t) (sym now)
       (moves w fits (sym (ap (λ n. is_waiting n && pair_in v w.records (asked s.last) bytes) now) ∙ apart));
 }
@@ -199,14 +221,6 @@ hear_steps v s bytes (Ok y) t now moves heard room = record {
 pub moves_by : {E : Type 0} (v : Shape) (s : State) (w : World) (bytes : List ℕ) (o : Outcome) (r : Result Reaction E) (t : State) → outcome_of v w.records (asked s.last) bytes ≡ o →
     IfOk r (λ y. MovesTo v s w (on_answer v s w Waiting o) (shown y) t) → IfOk r (λ y. MovesTo v s w (on_answer v s w Waiting (outcome_of v w.records (asked s.last) bytes)) (shown y) t)
 moves_by v s w bytes o r t means h = subst (λ (p : Outcome). IfOk r (λ y. MovesTo v s w (on_answer v s w Waiting p) (shown y) t)) (sym means) h
-
--- a host without room
-pub stall_moves : (v : Shape) (s : State) (w : World) (y : Reaction) (t : State) → status_in s ≡ Waiting → Fits v s w → done y t ≡ stalled_by s → MovesTo v s w (on_answer v s w Waiting NoRoom) (shown y) t
-stall_moves v s w y t now fits e = subst (λ (d : Done). Meets v s w (on_answer v s w Waiting NoRoom) d) (sym e) (stalls_met v s w (holds_of v s w fits))
-
--- an answer that fails the device
-pub fail_moves : (v : Shape) (s : State) (w : World) (reason : Reason) (y : Reaction) (t : State) → done y t ≡ failed_by s reason → MovesTo v s w (on_answer v s w Waiting (Fails reason)) (shown y) t
-fail_moves v s w reason y t e = subst (λ (d : Done). Meets v s w (on_answer v s w Waiting (Fails reason)) d) (sym e) (fails_met v s w reason)
 
 -- a reaction of a note alone
 pub only_noted : (s : State) (y : Reaction) (n : Note) → y.note ≡ n → y.replies.items ≡ [] → y.sends.items ≡ [] → done y s ≡ noted s n

@@ -9,7 +9,7 @@ use Rattle.oram_run.specs.Messages.{IsMessage, written}
 use Rattle.oram_run.specs.Moves.{Moved, MovesTo, Ask, PlacedIn, stays, accepts, fetches, finishes, stalls, resends, fails, if_idle, first_fetch, fetch_at, records_after, world_after, latest}
 use Rattle.oram_run.specs.Run.{Shown}
 use Rattle.oram_run.specs.Shape.{Shape}
-use Rattle.oram_run.specs.State.{State, World, Holds}
+use Rattle.oram_run.specs.State.{State, World, AllStand}
 use Rattle.oram_run.specs.Content.{block_of}
 use Rattle.oram_run.specs.declared.events.Note.{Note}
 use Rattle.oram_run.specs.declared.events.Note.TheVariants.{Accepted}
@@ -39,14 +39,14 @@ is_fetch : (v : Shape) (e : Entry) → e.fetch ≡ true → IsMessage v e (fetch
 is_fetch v e f = record { records = []; body = rw f refl; length_is = rw f refl }
 
 -- the trees of a core are those of another, in the same world
-holds_same : (v : Shape) (s t : State) (w : World) (e : Entry) → t.trees ≡ s.trees → Holds v s w → Holds v t (record { records = records_after v w.records (fetch_of e ∷ []); content = w.content })
-holds_same v s t w e same h = subst (λ (r : ℕ → ℕ → List ℕ). Holds v t (record { records = r; content = w.content })) (sym (fetch_leaves v w.records e.tree e.leaf)) (λ i below. rw same (h i below))
+holds_same : (v : Shape) (s t : State) (w : World) (e : Entry) → t.trees ≡ s.trees → AllStand v s w → AllStand v t (record { records = records_after v w.records (fetch_of e ∷ []); content = w.content })
+holds_same v s t w e same h = subst (λ (r : ℕ → ℕ → List ℕ). AllStand v t (record { records = r; content = w.content })) (sym (fetch_leaves v w.records e.tree e.leaf)) (λ i below. rw same (h i below))
 
 same_nonce : (s : State) → s.nonce ≡ s.nonce + 0
 same_nonce s = omega arith
 
 -- nothing happens
-pub stays_met : (v : Shape) (s : State) (w : World) (note : Note) → (s.failure ≡ None → Holds v s w) → Meets v s w (stays s w note) (noted s note)
+pub stays_met : (v : Shape) (s : State) (w : World) (note : Note) → (s.failure ≡ None → AllStand v s w) → Meets v s w (stays s w note) (noted s note)
 stays_met v s w note h = record {
   note = refl;
   replies = refl;
@@ -57,7 +57,7 @@ stays_met v s w note h = record {
 }
 
 -- the outstanding message counts as lost
-pub stalls_met : (v : Shape) (s : State) (w : World) → (s.failure ≡ None → Holds v s w) → Meets v s w (stalls s w) (stalled_by s)
+pub stalls_met : (v : Shape) (s : State) (w : World) → (s.failure ≡ None → AllStand v s w) → Meets v s w (stalls s w) (stalled_by s)
 stalls_met v s w h = record {
   note = refl;
   replies = refl;
@@ -68,7 +68,7 @@ stalls_met v s w h = record {
 }
 
 -- it is sent again
-pub resends_met : (v : Shape) (s : State) (w : World) → (s.failure ≡ None → Holds v s w) → Meets v s w (resends s w) (resent_by s)
+pub resends_met : (v : Shape) (s : State) (w : World) → (s.failure ≡ None → AllStand v s w) → Meets v s w (resends s w) (resent_by s)
 resends_met v s w h = record {
   note = refl;
   replies = refl;
@@ -94,7 +94,7 @@ fetch_placed : (v : Shape) (nonce : ℕ) (w : World) (e : Entry) → All (Placed
 fetch_placed v nonce w e = all_one (PlacedIn v nonce w) (fetch_of e) (λ store. absurd (let no_way : false ≡ true = store in cc))
 
 -- the next tree's path is fetched
-pub fetches_met : (v : Shape) (s : State) (w : World) (x : Submission) → (s.failure ≡ None → Holds v s w) → Meets v s w (fetches v s w x) (fetched_by v s x)
+pub fetches_met : (v : Shape) (s : State) (w : World) (x : Submission) → (s.failure ≡ None → AllStand v s w) → Meets v s w (fetches v s w x) (fetched_by v s x)
 fetches_met v s w x h =
     let e : Entry = fetch_at v.device (s.stage + 1) s.named x in
     record {
@@ -107,7 +107,7 @@ fetches_met v s w x h =
     }
 
 -- a command joins the queue
-accepts_into : (v : Shape) (s : State) (w : World) (x : Submission) (queue : List Submission) → (s.failure ≡ None → Holds v s w) →
+accepts_into : (v : Shape) (s : State) (w : World) (x : Submission) (queue : List Submission) → (s.failure ≡ None → AllStand v s w) →
     (let ask : Ask = if_idle queue (first_fetch v.device s.table (x ∷ [])) in
     let sends : List (List ℕ) = sent_if_idle queue (first_message v s x) in
     let t : State = record s { next = s.next + 1; queue = s.queue ++ x ∷ [] } in
@@ -131,11 +131,11 @@ accepts_into v s w x (y ∷ rest) h = record {
   placed = λ new. all_none _;
 }
 
-pub accepts_met : (v : Shape) (s : State) (w : World) (x : Submission) → (s.failure ≡ None → Holds v s w) → Meets v s w (accepts v s w x) (accepted_by v s x)
+pub accepts_met : (v : Shape) (s : State) (w : World) (x : Submission) → (s.failure ≡ None → AllStand v s w) → Meets v s w (accepts v s w x) (accepted_by v s x)
 accepts_met v s w x h = accepts_into v s w x s.queue h
 
 -- the oldest command has its reply, and the next one begins
-pub finishes_met : (v : Shape) (s : State) (w : World) (x : Submission) (rest : List Submission) → (s.failure ≡ None → Holds v s w) → Meets v s w (finishes v s w x rest) (finished_by v s x rest)
+pub finishes_met : (v : Shape) (s : State) (w : World) (x : Submission) (rest : List Submission) → (s.failure ≡ None → AllStand v s w) → Meets v s w (finishes v s w x rest) (finished_by v s x rest)
 finishes_met v s w x [] h = record {
   note = refl;
   replies = refl;

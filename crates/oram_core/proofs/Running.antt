@@ -1,5 +1,5 @@
 -- From steps to a whole run.
-use Rattle.std.proofs.Common.{◌≡◌, ℕ, ◌+◌, ◌<◌, List, [], ◌∷◌, ◌++◌, true, length, get_or, drop, map, Option, inl, inr, ap, sym, ◌∙◌, subst, append_assoc}
+use Rattle.std.proofs.Common.{◌≡◌, ℕ, ◌+◌, ◌<◌, List, [], ◌∷◌, ◌++◌, Bool, true, false, Result, Ok, Err, is_err, OnOk, OnErr, length, get_or, drop, map, Option, inl, inr, ap, sym, ◌∙◌, subst, append_assoc}
 use Rattle.std.specs.Global.{Vec}
 use Rattle.std.proofs.lemmas.List.{append-nil, map_push, drop_more}
 use Rattle.oram_geometry.specs.declared.Sizes.{Sizes}
@@ -10,7 +10,7 @@ use Rattle.oram_tree.specs.Format.{PutsAll, IsBrokenOff}
 use Rattle.oram_tree.specs.State.{State as Tree}
 use Rattle.oram_tree.specs.declared.faults.FormatFault.{FormatFault}
 use Rattle.oram_run.specs.Formatting.{IsFormatted, IsFormatBegun}
-use Rattle.oram_run.specs.Law.{Steps, StepsAlong, new_state}
+use Rattle.oram_run.specs.Law.{StepsByRule, StepsAlong, new_state}
 use Rattle.oram_run.specs.Progress.{Setting}
 use Rattle.oram_run.specs.Run.{Shown, shown, AllRight}
 use Rattle.oram_run.specs.Shape.{Shape}
@@ -20,7 +20,7 @@ use Rattle.oram_run.specs.declared.events.Reaction.{Reaction}
 use Rattle.oram_run.proofs.Going.{steps_are_right}
 use Rattle.oram_core.specs.Core.{CoreValue, IsSameDevice, shape_of, shape_with}
 use Rattle.oram_core.specs.Formatting.{IsNew}
-use Rattle.oram_core.specs.Runs.{IsCutShort, IsWhole}
+use Rattle.oram_core.specs.Runs.{IsCutShort, MakeAllTrees}
 use Rattle.oram_core.specs.declared.outcome.Run.{Run}
 
 -- The steps so far lead to a state, and whatever steps follow make one list with them.
@@ -30,7 +30,7 @@ pub record Along (v : Shape) (s : State) (events rest : List Event) (xs : List S
 pub along_none : (v : Shape) (s : State) (events : List Event) (rs : List Reaction) → rs ≡ [] → Along v s events events (map shown rs) s
 along_none v s events rs none = subst (λ (xs : List Reaction). Along v s events events (map shown xs) s) (sym none) (record { whole = λ ys h. h })
 
-pub along_next : (v : Shape) (s : State) (events : List Event) (i : ℕ) (event : Event) (rs more : List Reaction) (r : Reaction) (t u : State) → i < length events → event ≡ get_or events i event → more ≡ rs ++ r ∷ [] → Steps v t event (shown r) u
+pub along_next : (v : Shape) (s : State) (events : List Event) (i : ℕ) (event : Event) (rs more : List Reaction) (r : Reaction) (t u : State) → i < length events → event ≡ get_or events i event → more ≡ rs ++ r ∷ [] → StepsByRule v t event (shown r) u
     → Along v s events (drop i events) (map shown rs) t → Along v s events (drop (i + 1) events) (map shown more) u
 along_next v s events i event rs more r t u below is pushed step a =
     let here : drop i events ≡ event ∷ drop (i + 1) events = drop_more events i event below ∙ ap (λ y. y ∷ drop (i + 1) events) (sym is) in
@@ -89,7 +89,7 @@ right_along v u s from to format events xs fresh is shape new along =
     let steps : StepsAlong v s events xs = subst (λ (y : Shape). StepsAlong y s events xs) shape along in
     subst R (sym is) (steps_are_right setting w.0 events xs n.ranges w.1.0 (subst (λ (t : State). StepsAlong v t events xs) w.1.1 steps))
 
-pub whole_along : (v : Shape) (s : State) (from to : List (List ℕ)) (bodies : List (Vec ℕ)) → from ≡ [] → bodies_in bodies ≡ to → IsNew v keeps from s to → IsWhole v bodies
+pub whole_along : (v : Shape) (s : State) (from to : List (List ℕ)) (bodies : List (Vec ℕ)) → from ≡ [] → bodies_in bodies ≡ to → IsNew v keeps from s to → MakeAllTrees v bodies
 whole_along v s from to bodies fresh is new =
     let n : IsNew v keeps [] s to = subst (λ (f : List (List ℕ)). IsNew v keeps f s to) fresh new in
     let w = kept_whole v s to n in
@@ -100,3 +100,13 @@ pub cut_short : (v : Shape) (fault : FormatFault) (from to : List (List ℕ)) (r
 cut_short v fault from to r fresh is none told b =
     let B = λ (f : List (List ℕ)). IsBrokenOff keeps keeps_none (IsFormatBegun v) f fault to in
     record { begun = subst (IsFormatBegun v) (sym is) (kept_begun v fault to (subst B fresh b)); nothing = none; told = told }
+
+-- whether memory was refused at a step tells how many reactions there are
+
+pub all_carried : {T E : Type 0} (r : Result T E) (b : Bool) (m n : ℕ) → b ≡ is_err r → OnOk r (m ≡ n) → b ≡ false → m ≡ n
+all_carried (Ok x) b m n is h told = h
+all_carried (Err e) b m n is h told = absurd (let both : true ≡ false = sym is ∙ told in cc)
+
+pub fewer_carried : {T E : Type 0} (r : Result T E) (b : Bool) (m n : ℕ) → b ≡ is_err r → OnErr r (m < n) → b ≡ true → m < n
+fewer_carried (Ok x) b m n is h told = absurd (let both : false ≡ true = sym is ∙ told in cc)
+fewer_carried (Err e) b m n is h told = h

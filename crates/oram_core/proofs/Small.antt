@@ -1,5 +1,5 @@
 -- Small facts of a step.
-use Rattle.std.proofs.Common.{◌≡◌, Bool, true, false, not, nat_le, if◌then◌else◌, Some, None, length, ◌==◌, ℕ, zero, suc, ◌+◌, ◌-◌, ◌*◌, ◌%◌, ◌^◌, ◌<◌, List, slice_range, refl, ap, sym, ◌∙◌, arith}
+use Rattle.std.proofs.Common.{◌≡◌, Bool, true, false, not, nat_le, if◌then◌else◌, Some, None, length, ◌==◌, ℕ, zero, suc, ◌+◌, ◌-◌, ◌*◌, ◌%◌, ◌^◌, ◌<◌, List, replicate, slice_range, refl, ap, sym, ◌∙◌, arith}
 use Rattle.std.proofs.lemmas.Bool.Decides.{nat_tests}
 use Rattle.std.specs.Int.{w32, from_be_bytes}
 use Rattle.oram_geometry.specs.declared.Sizes.{Sizes}
@@ -7,18 +7,18 @@ use Rattle.std.proofs.Math.Pow.{pow_mono}
 use Rattle.oram_geometry.specs.Sizes.{fanout, blocks_in, trees_of, depth_of}
 use Rattle.oram_tree.specs.Edits.{with_entry}
 use Rattle.oram_run.specs.Content.{block_of, new_leaf}
-use Rattle.oram_run.specs.Blocks.{entry_in, next_named, block_after, written_over}
+use Rattle.oram_run.specs.Blocks.{entry_in, next_named, block_after, left_by}
 use Rattle.oram_run.specs.Events.{address_of}
 use Rattle.oram_run.specs.Messages.{asked, message_place}
 use Rattle.oram_run.specs.Run.{refusal_of, has_bad_length}
 use Rattle.oram_run.proofs.Bounds.{depth_small}
 use Rattle.oram_run.proofs.Maps.{block_after-zero, block_after-suc}
 use Rattle.oram_run.specs.declared.events.Command.{Command}
-use Rattle.oram_run.specs.declared.events.Command.TheVariants.{Read, Write}
+use Rattle.oram_run.specs.declared.events.Command.TheVariants.{Read, Write, Discard}
 use Rattle.oram_run.specs.declared.events.Refusal.TheVariants as refusal
 use Rattle.oram_run.specs.declared.events.Submission.{Submission}
 use Rattle.oram_geometry.proofs.Measuring.{blocks_in-zero}
-use Rattle.oram_core.specs.Core.{IsAllowed}
+use Rattle.oram_run.specs.Agree.{IsAllowed}
 
 -- tree 0 names nothing
 pub named_none : (d : Sizes) (i : ℕ) (x : Submission) (bytes : List ℕ) → i ≡ 0 → 0 ≡ next_named d i x bytes
@@ -66,17 +66,22 @@ fine d false waiting taken c words free =
     )
 
 pub fine_allowed : (d : Sizes) (waiting taken session ticket : ℕ) (c : Command) (words : List ℕ) → IsFine d waiting taken c words → IsAllowed d (record { session = session; ticket = ticket; command = c; words = words })
-fine_allowed d waiting taken session ticket c words f = record { address = f.address; words = f.words_count; bytes = f.bytes }
+fine_allowed d waiting taken session ticket c words f = record { address = f.address; words = f.words_count; data_length = f.bytes }
 
 -- a read leaves its block,
 pub block_read : (d : Sizes) (i : ℕ) (x : Submission) (a : ℕ) (bytes : List ℕ) → i ≡ 0 → x.command ≡ Read a → bytes ≡ block_after d i x bytes
-block_read d zero x a bytes none is = sym (block_after-zero d x bytes ∙ ap (λ c. written_over c bytes) is)
+block_read d zero x a bytes none is = sym (block_after-zero d x bytes ∙ ap (λ c. left_by d c bytes) is)
 block_read d (suc i) x a bytes none is = absurd (omega arith)
 
 -- a write replaces it,
 pub block_written : (d : Sizes) (i : ℕ) (x : Submission) (a : ℕ) (new bytes : List ℕ) → i ≡ 0 → x.command ≡ Write a new → new ≡ block_after d i x bytes
-block_written d zero x a new bytes none is = sym (block_after-zero d x bytes ∙ ap (λ c. written_over c bytes) is)
+block_written d zero x a new bytes none is = sym (block_after-zero d x bytes ∙ ap (λ c. left_by d c bytes) is)
 block_written d (suc i) x a new bytes none is = absurd (omega arith)
+
+-- a discard makes it zeros,
+pub block_discarded : (d : Sizes) (i : ℕ) (x : Submission) (a : ℕ) (bytes : List ℕ) → i ≡ 0 → x.command ≡ Discard a → replicate d.block_bytes 0 ≡ block_after d i x bytes
+block_discarded d zero x a bytes none is = sym (block_after-zero d x bytes ∙ ap (λ c. left_by d c bytes) is)
+block_discarded d (suc i) x a bytes none is = absurd (omega arith)
 
 -- and in a map an entry changes
 pub block_mapped : (d : Sizes) (i : ℕ) (x : Submission) (bytes : List ℕ) (j leaf : ℕ) → 0 < i → j ≡ block_of d (i - 1) x % fanout d → leaf ≡ new_leaf d (i - 1) x → with_entry bytes j (leaf + 1) ≡ block_after d i x bytes

@@ -24,7 +24,8 @@ use Rattle.oram_run.specs.State.{State, named_now, no_tree, status_by, status_in
 use Rattle.oram_run.specs.declared.events.Reason.{Reason}
 use Rattle.oram_run.specs.declared.events.Submission.{Submission}
 use Rattle.oram_run.proofs.Bounds.{some_trees, depth_small}
-use Rattle.oram_core.specs.Core.{IsAllowed, IsKept, IsAtWork, IsResting, AtWork, IsSound}
+use Rattle.oram_run.specs.Agree.{IsAllowed}
+use Rattle.oram_core.specs.Core.{IsTreeKept, IsAtWork, IsResting, AtWork, IsSound}
 use Rattle.oram_core.specs.Doing.{fetch_of, first_message, first_messages}
 
 -- the leaf that a command fetches is one of the tree
@@ -52,46 +53,6 @@ pub fetch_asked : (v : Shape) (stage named : ℕ) (x : Submission) → named ≤
 fetch_asked v stage named x fits =
     let i : ℕ = stage_tree v.device stage in
     asked_fetch i (leaf_for v.device i named x) (small_leaf v.device i _ (leaf_for-range v.device i named x fits))
-
-work_lost : (v : Shape) (s : State) (b : Bool) (queue : List Submission) → (length queue ≡ 0 → b ≡ false) → AtWork v s queue → AtWork v (record s { lost = b }) queue
-work_lost v s b [] calm w = λ alive. record { stage = (w alive).stage; named = (w alive).named; lost = calm refl }
-work_lost v s b (x ∷ rest) calm w = record { header = w.header; leaf = w.leaf; fetch = w.fetch; store = w.store; named = w.named; before = w.before }
-
--- the outstanding message counts as lost, or no longer
-pub sound_lost : (v : Shape) (s : State) (b : Bool) → (length s.queue ≡ 0 → b ≡ false) → IsSound v s → IsSound v (record s { lost = b })
-sound_lost v s b calm h = record {
-  ranges = h.ranges;
-  overhead = h.overhead;
-  table = h.table;
-  names = h.names;
-  count = h.count;
-  kept = h.kept;
-  next = h.next;
-  queue = h.queue;
-  most = h.most;
-  begun = h.begun;
-  stage = h.stage;
-  work = work_lost v s b s.queue calm h.work;
-  nonce = h.nonce;
-}
-
--- the device has failed
-pub sound_failed : (v : Shape) (s : State) (e : Reason) → IsSound v s → IsSound v (record s { queue = []; failure = Some e })
-sound_failed v s e h = record {
-  ranges = h.ranges;
-  overhead = h.overhead;
-  table = h.table;
-  names = h.names;
-  count = h.count;
-  kept = h.kept;
-  next = h.next;
-  queue = λ k y q. absurd (omega arith);
-  most = omega arith;
-  begun = omega arith;
-  stage = h.stage;
-  work = λ alive. absurd (let no_way : Some e ≡ None = alive in cc);
-  nonce = let n = h.nonce in let b = h.begun in omega arith;
-}
 
 -- an entry of the table, 0 past its end
 entry_small : (xs : List ℕ) (n k : ℕ) → All (λ e. e ≤ n) xs → slice_index xs k ≤ n
@@ -252,7 +213,7 @@ work_accessed v s trees [] w = λ alive. record { stage = (w alive).stage; named
 work_accessed v s trees (x ∷ rest) w = record { header = w.header; leaf = w.leaf; fetch = w.fetch; store = w.store; named = w.named; before = w.before }
 
 -- one tree has an access
-pub sound_accessed : (v : Shape) (s : State) (i : ℕ) (tree : Tree) → IsSound v s → i < trees_of v.device → IsKept v.device i tree → IsSound v (record s { trees = slice_set s.trees i tree })
+pub sound_accessed : (v : Shape) (s : State) (i : ℕ) (tree : Tree) → IsSound v s → i < trees_of v.device → IsTreeKept v.device i tree → IsSound v (record s { trees = slice_set s.trees i tree })
 sound_accessed v s i tree h inside is =
     let within : i < length s.trees = omega (arith, h.count) in
     record {
@@ -262,8 +223,8 @@ sound_accessed v s i tree h inside is =
       names = h.names;
       count = length-set s.trees i tree ∙ h.count;
       kept = λ k below. elim (cases_eq k i) [
-        | inl same ↦ rw same (subst (IsKept v.device i) (sym (get_or-set_same s.trees i tree no_tree within)) is)
-        | inr other ↦ subst (IsKept v.device k) (sym (get_or-set_other s.trees i k tree no_tree other)) (h.kept k below)
+        | inl same ↦ rw same (subst (IsTreeKept v.device i) (sym (get_or-set_same s.trees i tree no_tree within)) is)
+        | inr other ↦ subst (IsTreeKept v.device k) (sym (get_or-set_other s.trees i k tree no_tree other)) (h.kept k below)
       ];
       next = h.next;
       queue = h.queue;
@@ -395,10 +356,6 @@ oldest_by v s None (x ∷ rest) false f q l now w = record { oldest = x; rest = 
 
 pub has_oldest : (v : Shape) (s : State) → IsSound v s → status_in s ≡ Waiting → HasOldest v s
 has_oldest v s h now = oldest_by v s s.failure s.queue s.lost refl refl refl now h.work
-
--- the device allows what the oldest command asks
-pub oldest_allowed : (v : Shape) (s : State) (h : IsSound v s) (o : HasOldest v s) → IsAllowed v.device o.oldest
-oldest_allowed v s h o = All-head (IsAllowed v.device) o.oldest o.rest (subst (All (IsAllowed v.device)) o.queue h.queue)
 
 -- the nonces of a command's stores fit
 pub nonce_small : (v : Shape) (s : State) → IsSound v s → s.nonce + depth_of v.device (stage_tree v.device s.stage) < 2 ^ 64

@@ -5,8 +5,7 @@ use Rattle.oram_geometry.specs.declared.Sizes.{Sizes}
 use Rattle.oram_geometry.specs.Sizes.{IsDevice, trees_of, depth_of, blocks_in}
 use Rattle.oram_bucket.specs.Bucket.{IsBlockOf}
 use Rattle.oram_tree.specs.State.{State as Tree}
-use Rattle.oram_run.specs.Events.{address_of}
-use Rattle.oram_run.specs.Run.{has_bad_length}
+use Rattle.oram_run.specs.Agree.{IsAllowed}
 use Rattle.oram_run.specs.Shape.{Shape}
 use Rattle.oram_run.specs.Content.{stage_tree}
 use Rattle.oram_run.specs.Messages.{asked}
@@ -32,14 +31,8 @@ shape_of overhead sealing opening c = shape_with overhead sealing opening c.devi
 abbrev pub IsSameDevice : {S : Type 0} → CoreValue S → CoreValue S → Type 0
 IsSameDevice c d = (d.device ≡ c.device) × (d.sealer ≡ c.sealer)
 
--- what the device allows of an accepted command
-pub record IsAllowed (d : Sizes) (x : Submission) : Type 0 where
-  pub address : address_of x.command < blocks_in d 0
-  pub words : length x.words ≡ 2 * trees_of d
-  pub bytes : has_bad_length d x.command ≡ false
-
 -- tree i as the core keeps it
-pub record IsKept (d : Sizes) (i : ℕ) (t : Tree) : Type 0 where
+pub record IsTreeKept (d : Sizes) (i : ℕ) (t : Tree) : Type 0 where
   pub number : t.number ≡ i
   pub blocks : All (IsBlockOf d i) t.stash
 
@@ -76,7 +69,7 @@ pub record IsSound (v : Shape) (s : State) : Type 0 where
   pub table : length s.table ≡ blocks_in v.device (trees_of v.device - 1)
   pub names : All (λ e. e ≤ 2 ^ depth_of v.device (trees_of v.device - 1)) s.table
   pub count : length s.trees ≡ trees_of v.device
-  pub kept : (i : ℕ) → i < trees_of v.device → IsKept v.device i (slice_index_or s.trees i no_tree)
+  pub kept : (i : ℕ) → i < trees_of v.device → IsTreeKept v.device i (slice_index_or s.trees i no_tree)
   pub next : s.next ≤ v.device.lifetime
   pub queue : All (IsAllowed v.device) s.queue
   pub most : length s.queue ≤ 64

@@ -15,7 +15,7 @@ use Rattle.oram_run.specs.Progress.Status.{Idle, Waiting, Stalling, Over}
 use Rattle.oram_run.specs.Run.{refusal_of, is_over}
 use Rattle.oram_run.specs.State.{State, named_now, status_in}
 use Rattle.oram_run.specs.declared.events.Event.{Event}
-use Rattle.oram_run.specs.declared.events.Event.TheVariants.{Submit, Answer, Lost, Retry}
+use Rattle.oram_run.specs.declared.events.Event.TheVariants.{Submit, Answer, Lost, Reopen, Retry}
 use Rattle.oram_run.specs.declared.events.Note.{Note}
 use Rattle.oram_run.specs.declared.events.Note.TheVariants.{Accepted, Refused, Taken, Stalled, FailedNow, Resent, Unexpected}
 use Rattle.oram_run.specs.declared.events.Reason.{Reason}
@@ -156,6 +156,7 @@ plain_step v s (Submit session c words) =
     Some (submitted_by v s (record { session = session; ticket = s.next; command = c; words = words }) (refusal_of v.device (is_over (status_in s)) (length s.queue) s.next c words))
 plain_step v s (Answer bytes) = unheard_by s (bytes_eq bytes (129 ∷ 8 ∷ [])) (status_in s)
 plain_step v s Lost = Some (lost_by s (status_in s))
+plain_step v s Reopen = Some (lost_by s (status_in s))
 plain_step v s Retry = Some (retried_by s (status_in s))
 
 -- whether a step with this note takes no memory: it refuses, is not expected, or stalls

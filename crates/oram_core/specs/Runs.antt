@@ -1,11 +1,12 @@
 -- What a whole run gives.
-use Rattle.std.specs.Prelude.{◌≡◌, ℕ, true, List, []}
+use Rattle.std.specs.Prelude.{◌≡◌, ℕ, ◌<◌, true, false, List, [], length}
 use Rattle.std.specs.Global.{Vec}
 use Rattle.oram_wire.specs.ListOfBodies.{bodies_in}
 use Rattle.oram_tree.specs.State.{State as Tree}
 use Rattle.oram_run.specs.Formatting.{IsFormatted, IsFormatBegun}
 use Rattle.oram_run.specs.Progress.{Setting}
 use Rattle.oram_run.specs.Shape.{Shape}
+use Rattle.oram_run.specs.declared.events.Event.{Event}
 use Rattle.oram_core.specs.declared.outcome.Run.{Run}
 
 -- the setting of a run that was formatted so
@@ -13,8 +14,14 @@ abbrev pub setting_by : Shape → List (Vec ℕ) → Setting
 setting_by v bodies = record { shape = v; format = bodies_in bodies }
 
 -- the messages make all trees of the device
-abbrev pub IsWhole : Shape → List (Vec ℕ) → Type 0
-IsWhole v bodies = (trees : List Tree) × IsFormatted (setting_by v bodies) trees
+abbrev pub MakeAllTrees : Shape → List (Vec ℕ) → Type 0
+MakeAllTrees v bodies = (trees : List Tree) × IsFormatted (setting_by v bodies) trees
+
+-- All trees were made. Each event has its reaction, and where memory was refused the last of them have none.
+pub record IsCarriedOut (v : Shape) (events : List Event) (r : Run) : Type 0 where
+  pub whole : MakeAllTrees v r.format.items
+  pub all : r.out_of_memory ≡ false → length r.reactions.items ≡ length events
+  pub fewer : r.out_of_memory ≡ true → length r.reactions.items < length events
 
 -- memory was refused at the formatting, and no step was made
 pub record IsCutShort (v : Shape) (r : Run) : Type 0 where

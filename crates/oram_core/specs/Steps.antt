@@ -13,6 +13,7 @@ use Rattle.oram_run.specs.declared.events.Note.TheVariants.{Taken, FailedNow}
 use Rattle.oram_run.specs.declared.events.Reason.{Reason}
 use Rattle.oram_run.specs.declared.events.Submission.{Submission}
 use Rattle.oram_core.specs.Doing.{Done, plain_step, finished_by}
+use Rattle.oram_core.specs.Judging.{IsVerdict}
 
 abbrev pub did : Shown → State → Done
 did x t = record { note = x.note; replies = x.replies; sends = x.sends; state = t }
@@ -25,6 +26,8 @@ pub record Fails (s : State) (d : Done) : Type 0 where
   pub sends : d.sends ≡ []
   pub queue : d.state.queue ≡ []
   pub failure : d.state.failure ≡ Some reason
+  pub next : d.state.next ≡ s.next
+  pub nonce : d.state.nonce ≡ s.nonce
 
 -- the oldest command's next message goes out
 pub record GoesOn (v : Shape) (s : State) (d : Done) : Type 0 where
@@ -55,5 +58,7 @@ pub record Steps (v : Shape) (s : State) (event : Event) (x : Shown) (t : State)
   pub plain : (d : Done) → plain_step v s event ≡ Some d → did x t ≡ d
   -- any other answer that is waited for, from whatever host,
   pub heard : (bytes : List ℕ) → event ≡ Answer bytes → status_in s ≡ Waiting → bytes ≢ 129 ∷ 8 ∷ [] → Heard v s (did x t)
+  -- told as what it is by the core's own digests, stashes and map,
+  pub verdict : (bytes : List ℕ) → event ≡ Answer bytes → status_in s ≡ Waiting → bytes ≢ 129 ∷ 8 ∷ [] → IsVerdict v s bytes x.note
   -- and in each world that it can go on in, in which no two records of one digest stand in the answer, it does what the local rule allows
   pub moves : (w : World) → Fits v s w → shows_in v s w event ≡ false → Moves v s w event x t

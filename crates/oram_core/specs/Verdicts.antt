@@ -1,6 +1,6 @@
 -- What a verdict says of an answer.
-use Rattle.std.specs.Prelude.{◌≡◌, ℕ, ◌%◌, ◌==◌, not, if◌then◌else◌, List, length, slice_index, Option, Some, None, nat_lt}
-use Rattle.oram_hash.specs.Path.{path_of}
+use Rattle.std.specs.Prelude.{◌≡◌, ℕ, ◌%◌, ◌==◌, not, if◌then◌else◌, List, [], ◌∷◌, length, slice_index, Option, Some, None, nat_lt}
+use Rattle.oram_hash.specs.Path.{IsAccepted}
 use Rattle.oram_hash.specs.Tree.{IsPathOf}
 use Rattle.oram_run.specs.Answers.{outcome_of}
 use Rattle.oram_run.specs.Answers.Outcome.{Good, NoRoom, Fails}
@@ -8,6 +8,7 @@ use Rattle.oram_run.specs.Content.{stage_tree}
 use Rattle.oram_run.specs.Messages.{asked}
 use Rattle.oram_run.specs.Shape.{Shape}
 use Rattle.oram_run.specs.State.{State, World}
+use Rattle.oram_core.specs.Judging.{path_now, tree_now, IsReasonFor}
 use Rattle.oram_core.specs.declared.verdicts.Verdict.{Verdict}
 use Rattle.oram_core.specs.declared.verdicts.Verdict.TheVariants as verdict
 
@@ -18,12 +19,12 @@ Means v s w bytes verdict.Stored = outcome_of v w.records (asked s.last) bytes �
 Means v s w bytes verdict.NoRoom = outcome_of v w.records (asked s.last) bytes ≡ NoRoom
 Means v s w bytes (verdict.Bad e) = outcome_of v w.records (asked s.last) bytes ≡ Fails e
 
--- in any
-abbrev pub Fitting : Shape → State → Verdict → Type 0
-Fitting v s (verdict.Path p) = (s.stage % 2 ≡ 0) × (p ≡ path_of v.device (stage_tree v.device s.stage) (asked s.last).leaf v.overhead p.bytes)
-Fitting v s verdict.Stored = s.stage % 2 ≡ 1
-Fitting v s verdict.NoRoom = Unit {0}
-Fitting v s (verdict.Bad e) = Unit {0}
+-- by the core's own digests
+abbrev pub Tells : Shape → State → List ℕ → Verdict → Type 0
+Tells v s bytes (verdict.Path p) = (s.stage % 2 ≡ 0) × (bytes ≡ 128 ∷ p.bytes) × (p ≡ path_now v s p.bytes) × IsAccepted p (tree_now v s).root
+Tells v s bytes verdict.Stored = (s.stage % 2 ≡ 1) × (bytes ≡ 128 ∷ [])
+Tells v s bytes verdict.NoRoom = bytes ≡ 129 ∷ 8 ∷ []
+Tells v s bytes (verdict.Bad e) = IsReasonFor v s bytes e
 
 -- byte 81 and a code from 1 to 8
 abbrev pub refusal_in : List ℕ → Option ℕ

@@ -6,10 +6,13 @@
 #![tactic(auto)]
 
 mod answers;
+mod errands;
+mod finishing;
 mod formatting;
 mod machine;
 mod messages;
 mod outcome;
+mod storing;
 mod verdicts;
 mod whole;
 

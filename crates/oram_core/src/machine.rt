@@ -7,7 +7,8 @@ ghost use Rattle.oram_run.specs.Progress.Status.{Waiting};
 ghost use Rattle.oram_run.specs.declared.events.Note.TheVariants as note;
 ghost use Rattle.oram_run.specs.State.{World, no_tree, status_in};
 ghost use Rattle.oram_run.specs.Moves.{Fits, Moves, shows_in, fetch_at, leaf_for};
-ghost use Rattle.oram_core.specs.Core.{CoreValue, IsAllowed, IsSound, IsSameDevice, shape_of};
+ghost use Rattle.oram_run.specs.Agree.{IsAllowed};
+ghost use Rattle.oram_core.specs.Core.{CoreValue, IsSound, IsSameDevice, shape_of};
 ghost use Rattle.oram_core.specs.Steps.{Steps};
 ghost use Rattle.oram_core.specs.Doing.{is_idle, is_stalled, Done, plain_step, is_free_note, done, accepted_by, stalled_by, resent_by, noted, first_message};
 
@@ -169,9 +170,9 @@ impl<S: Sealer> Core<S> {
                 None => self.accept(alloc, *session, command, words),
             },
             Event::Answer(bytes) if self.is_waiting() => self.hear(alloc, bytes.as_slice()),
-            Event::Lost if self.is_waiting() => Ok(self.stall(alloc)),
+            Event::Lost | Event::Reopen if self.is_waiting() => Ok(self.stall(alloc)),
             Event::Retry if self.is_stalled() => self.resend(alloc),
-            Event::Answer(_) | Event::Lost | Event::Retry => {
+            Event::Answer(_) | Event::Lost | Event::Reopen | Event::Retry => {
                 Ok(Reaction::only(alloc, Note::Unexpected))
             }
         }

@@ -1,6 +1,5 @@
 //! The bodies of the messages that a core sends.
-ghost use Rattle.std.specs.Prelude.{◌≡◌, ◌≤◌, ◌<◌, ◌+◌, ◌^◌, [], ◌∷◌, ◌++◌, length, map, vec_len, vec_capacity, IfOk};
-ghost use Rattle.std.specs.Int.{w32, to_be_bytes};
+ghost use Rattle.std.specs.Prelude.{◌≡◌, ℕ, List, ◌≤◌, ◌<◌, ◌+◌, ◌^◌, [], ◌∷◌, ◌++◌, length, map, vec_len, vec_capacity, IfOk};
 ghost use Rattle.oram_wire.specs.HostMessages.{fetch_body, store_body};
 ghost use Rattle.oram_run.specs.Events.{failed_reply};
 ghost use Rattle.oram_run.specs.Messages.{message_place};
@@ -9,24 +8,9 @@ ghost use Rattle.oram_core.specs.Rooms.{IsRoom};
 use byteorder::{BigEndian, ByteOrder};
 use oram_bytes::Bytes;
 use oram_run::{Reply, ReplyBody, Submission};
+use oram_wire::{HEADER_LEN, fetch_header, store_header};
 use std::alloc::{AllocError, Global};
 use std::collections::VecDeque;
-
-/// Bytes before the records of a message.
-pub const HEADER_LEN: usize = 6;
-
-const FETCH: u8 = 1;
-
-const STORE: u8 = 2;
-
-/// The first bytes of a message: what it is, the tree and the leaf.
-fn header(op: u8, tree: u8, leaf: u32) -> [u8; HEADER_LEN]
-    ensures { result ≡ (op ∷ tree ∷ []) ++ to_be_bytes w32 leaf }
-{
-    let mut header = [op, tree, 0, 0, 0, 0];
-    BigEndian::write_u32(&mut header[2..], leaf);
-    header
-}
 
 /// The leaf that a message names.
 pub fn leaf_named(message: &[u8]) -> u32
@@ -49,7 +33,7 @@ impl Sending {
         ensures kept { IfOk result (λ s. s.kept ≡ fetch_body tree leaf) }
         ensures sends { IfOk result (λ s. s.sends.items ≡ fetch_body tree leaf ∷ []) }
     {
-        let header = header(FETCH, tree, leaf);
+        let header = fetch_header(tree, leaf);
         let kept = Bytes::copy(alloc, &header)?;
         let mut sends = Vec::with_capacity(alloc, 1)?;
         sends.push(Bytes::copy(alloc, &header)?)?;
@@ -57,69 +41,75 @@ impl Sending {
     }
 }
 
-/// Room for the STORE of a path, taken before anything changes, so that nothing is refused afterwards.
-#[derive(Drop)]
-pub struct Room {
-    kept: Vec<u8>,
-    sent: Vec<u8>,
-    sends: Vec<Bytes>,
-}
-
 /// The beginning of a STORE, with room for its records.
-fn store_header(
+pub fn begun_store(
     alloc: Global,
     tree: u8,
     leaf: u32,
     records_len: usize,
 ) -> Result<Vec<u8>, AllocError>
     requires { records_len + 6 < 2 ^ 32 }
-    ensures items { IfOk result (λ v. v.items ≡ (2 ∷ tree ∷ []) ++ to_be_bytes w32 leaf) }
+    ensures items { IfOk result (λ v. (records : List ℕ) → v.items ++ records ≡ store_body tree leaf records) }
     ensures len { IfOk result (λ v. vec_len v ≡ 6) }
     ensures room { IfOk result (λ v. records_len + 6 ≤ vec_capacity v) }
 {
     let mut bytes = Vec::with_capacity(alloc, HEADER_LEN + records_len)?;
-    bytes.extend_from_slice(&header(STORE, tree, leaf))?;
+    bytes.extend_from_slice(&store_header(tree, leaf))?;
     Ok(bytes)
 }
 
+/// Room for what a step shows, taken before anything changes, so that nothing is refused afterwards.
+#[derive(Drop)]
+pub struct Room {
+    sent: Vec<u8>,
+    sends: Vec<Bytes>,
+    failed: Vec<Reply>,
+}
+
 impl Room {
-    /// Room for the STORE of a path whose records have this length.
-    pub fn for_store(
-        alloc: Global,
-        tree: u8,
-        leaf: u32,
-        records_len: usize,
-    ) -> Result<Room, AllocError>
-        requires { records_len + 6 < 2 ^ 32 }
-        ensures { IfOk result (λ r. IsRoom tree leaf records_len r) }
+    /// Room for a message of this length, or for the replies of a failure to so many commands.
+    pub fn new(alloc: Global, message_len: usize, waiting: usize) -> Result<Room, AllocError>
+        ensures { IfOk result (IsRoom message_len waiting) }
     {
-        let kept = store_header(alloc, tree, leaf, records_len)?;
-        let sent = store_header(alloc, tree, leaf, records_len)?;
+        let sent = Vec::with_capacity(alloc, message_len)?;
         let sends = Vec::with_capacity(alloc, 1)?;
-        Ok(Room { kept, sent, sends })
+        let failed = Vec::with_capacity(alloc, waiting)?;
+        Ok(Room {
+            sent,
+            sends,
+            failed,
+        })
     }
 
-    /// The STORE with these records.
-    pub fn fill(self, tree: u8, leaf: u32, records: &[u8]) -> Sending
-        requires { IsRoom tree leaf (length records.now) self }
-        ensures kept { result.kept ≡ store_body tree leaf records.now }
-        ensures sends { result.sends.items ≡ store_body tree leaf records.now ∷ [] }
+    /// The message, as it is kept and as it is sent.
+    pub fn send(self, message: Vec<u8>) -> Sending
+        requires { (waiting : ℕ) × IsRoom (length message.items) waiting self }
+        ensures kept { result.kept ≡ message.items }
+        ensures sends { result.sends.items ≡ message.items ∷ [] }
     {
         let Room {
-            mut kept,
             mut sent,
             mut sends,
+            ..
         } = self;
-        if kept.extend_from_slice(records).is_err() || sent.extend_from_slice(records).is_err() {
+        if sent.extend_from_slice(&message).is_err() {
             unreachable!()
         }
         if sends.push(Bytes::from_vec(sent)).is_err() {
             unreachable!()
         }
         Sending {
-            kept: Bytes::from_vec(kept),
+            kept: Bytes::from_vec(message),
             sends,
         }
+    }
+
+    /// Says of each command without a reply that it failed.
+    pub fn fail(self, queue: &VecDeque<Submission>) -> Vec<Reply>
+        requires { (len : ℕ) × IsRoom len (length queue.now.items) self }
+        ensures { result.items ≡ map failed_reply queue.now.items }
+    {
+        fill_failed(self.failed, queue)
     }
 }
 
@@ -127,12 +117,26 @@ impl Room {
 pub fn failed_replies(alloc: Global, queue: &VecDeque<Submission>) -> Result<Vec<Reply>, AllocError>
     ensures { IfOk result (λ v. v.items ≡ map failed_reply queue.now.items) }
 {
-    queue
-        .iter()
-        .map(|submission| Reply {
+    Ok(fill_failed(Vec::with_capacity(alloc, queue.len())?, queue))
+}
+
+/// Puts a reply for each command into a vector that has room for them.
+fn fill_failed(mut replies: Vec<Reply>, queue: &VecDeque<Submission>) -> Vec<Reply>
+    requires empty { replies.items ≡ [] }
+    requires none { vec_len replies ≡ 0 }
+    requires room { length queue.now.items ≤ vec_capacity replies }
+    ensures { result.items ≡ map failed_reply queue.now.items }
+{
+    for at in 0..queue.len() {
+        let submission = &queue[at];
+        let failed = Reply {
             session: submission.session,
             ticket: submission.ticket,
             body: ReplyBody::Failed,
-        })
-        .collect(alloc)
+        };
+        if replies.push(failed).is_err() {
+            unreachable!()
+        }
+    }
+    replies
 }

@@ -1,116 +1,18 @@
 //! Worked runs over a plain host.
+mod hostile;
+mod play;
+mod shelf;
+mod worlds;
+
+use self::shelf::{Shelf, empty_shelf};
 use crate::{Command, Core, Event, Note, Reaction, Reason, Refusal, ReplyBody, run};
 use oram_bucket::{ChaChaSeal, PlainSeal, Sealer};
 use oram_bytes::{Bytes, Words};
 use oram_geometry::Device;
-use oram_wire::{HostView, ListSink};
+use oram_wire::ListSink;
 use std::alloc::{AllocError, Global};
 use std::process::Abort;
 use std::test::Fail;
-
-/// A record at a host.
-#[derive(Drop)]
-struct Place {
-    tree: u8,
-    node: u64,
-    bytes: Vec<u8>,
-}
-
-/// What a host keeps.
-#[derive(Drop)]
-struct Shelf {
-    depths: Vec<u8>,
-    record_len: usize,
-    places: Vec<Place>,
-}
-
-impl Shelf {
-    /// The nodes of a path, from the leaf up.
-    fn path(&self, alloc: Global, tree: u8, leaf: u32) -> Result<Vec<u64>, AllocError> {
-        let depth = self.depths.get(usize::from(tree)).map_or(0, |depth| *depth);
-        let leaves = 1u64 << depth.min(24);
-        let mut node = (leaves - 1) + u64::from(leaf);
-        let mut nodes = Vec::new(alloc);
-        for _ in 0..=depth {
-            nodes.push(node)?;
-            node = node.saturating_sub(1) / 2;
-        }
-        Ok(nodes)
-    }
-
-    fn place(&mut self, tree: u8, node: u64, bytes: Vec<u8>) -> Result<(), AllocError> {
-        let found = self
-            .places
-            .iter_mut()
-            .find(|place| place.tree == tree && place.node == node);
-        match found {
-            Some(place) => place.bytes = bytes,
-            None => self.places.push(Place { tree, node, bytes })?,
-        }
-        Ok(())
-    }
-
-    /// The records of a path behind byte 80, root first.
-    fn fetch(&self, alloc: Global, tree: u8, leaf: u32) -> Result<Vec<u8>, AllocError> {
-        let mut answer = vec![in alloc; 0x80]?;
-        for node in self.path(alloc, tree, leaf)?.iter().rev() {
-            let found = self
-                .places
-                .iter()
-                .find(|place| place.tree == tree && place.node == *node);
-            if let Some(place) = found {
-                answer.extend_from_slice(&place.bytes)?;
-            }
-        }
-        Ok(answer)
-    }
-
-    fn store(
-        &mut self,
-        alloc: Global,
-        tree: u8,
-        leaf: u32,
-        records: &[u8],
-    ) -> Result<(), AllocError> {
-        let nodes = self.path(alloc, tree, leaf)?;
-        let records = records.chunks(self.record_len.max(1));
-        for (node, record) in nodes.iter().rev().zip(records) {
-            self.place(tree, *node, record.to_vec(alloc)?)?;
-        }
-        Ok(())
-    }
-
-    /// What the host answers to a message.
-    fn answer(&mut self, alloc: Global, body: &[u8]) -> Result<Vec<u8>, AllocError> {
-        match HostView::read(body) {
-            Ok(HostView::Fetch { tree, leaf }) => return self.fetch(alloc, tree, leaf),
-            Ok(
-                HostView::Store {
-                    tree,
-                    leaf,
-                    records,
-                },
-            ) => self.store(alloc, tree, leaf, records)?,
-            Ok(HostView::Put { tree, node, bytes }) => {
-                self.place(tree, u64::from(node), bytes.to_vec(alloc)?)?;
-            }
-            _ => {}
-        }
-        Ok(vec![in alloc; 0x80]?)
-    }
-}
-
-fn empty_shelf(alloc: Global, device: &Device, record_len: usize) -> Result<Shelf, AllocError> {
-    let mut depths = Vec::new(alloc);
-    for tree in 0..device.trees() {
-        depths.push(device.depth(tree))?;
-    }
-    Ok(Shelf {
-        depths,
-        record_len,
-        places: Vec::new(alloc),
-    })
-}
 
 /// A device just formatted, with its host.
 fn formatted<S: Sealer>(
@@ -437,6 +339,33 @@ fn run_to_a_failure(rt: &impl Abort, alloc: Global) -> Result<(), AllocError> {
     Ok(())
 }
 
+/// What a core tells of itself: its next ticket, how many commands wait, whether it is idle, and why it failed.
+fn told(core: &Core<PlainSeal>) -> (u64, usize, bool, Option<Reason>) {
+    (
+        core.next_ticket(),
+        core.waiting(),
+        core.is_idle(),
+        core.failure(),
+    )
+}
+
+/// Makes a step. Where memory was refused the core is as it was, and the step is made again.
+fn stepped(
+    rt: &impl Abort,
+    alloc: Global,
+    core: &mut Core<PlainSeal>,
+    event: &Event,
+) -> Result<Reaction, AllocError> {
+    let before = told(core);
+    match core.step(alloc, event) {
+        Ok(reaction) => Ok(reaction),
+        Err(_) => {
+            assert_eq!(rt; told(core), before);
+            core.step(alloc, event)
+        }
+    }
+}
+
 #[test]
 fn a_step_without_memory_changes_nothing(rt: HostRuntime) -> Result<(), Fail> {
     let alloc = rt.alloc();
@@ -452,11 +381,11 @@ fn a_step_without_memory_changes_nothing(rt: HostRuntime) -> Result<(), Fail> {
         Ok(event) => event,
         Err(_) => read(alloc, 1, 5, &[6, 3])?,
     };
-    for _ in 0..3 {
-        let mut reaction = match core.step(alloc, &event) {
-            Ok(reaction) => reaction,
-            Err(_) => core.step(alloc, &event)?,
-        };
+    let notes = [Note::Accepted(0), Note::Taken, Note::Taken];
+    for (note, waiting) in notes.iter().zip([1, 1, 0]) {
+        let mut reaction = stepped(&rt, alloc, &mut core, &event)?;
+        assert_eq!(&rt; reaction.note, *note);
+        assert_eq!(&rt; told(&core), (1, waiting, waiting == 0, None));
         if let Some(message) = reaction.sends.pop() {
             // A STORE has six bytes and the four records of the path, of 160 bytes each.
             if let [2, place @ .., _] = message.as_slice() {
@@ -469,11 +398,13 @@ fn a_step_without_memory_changes_nothing(rt: HostRuntime) -> Result<(), Fail> {
             };
             event = Event::Answer(Bytes::from_vec(answered));
         }
-        assert!(&rt; !matches!(reaction.note, Note::FailedNow(_)));
+        if waiting == 0 {
+            let reply = reaction.replies.pop().expect(&rt, "a reply");
+            let ReplyBody::Data(data) = &reply.body else {
+                panic!(&rt; "a read is answered with data");
+            };
+            assert_eq!(&rt; data.as_slice(), [0; 16].as_slice());
+        }
     }
-    assert_eq!(&rt;
-        (core.next_ticket(), core.waiting(), core.is_idle()),
-        (1, 0, true)
-    );
     Ok(())
 }

@@ -6,7 +6,7 @@ ghost use Rattle.oram_run.specs.Moves.{Fits};
 ghost use Rattle.oram_run.specs.Progress.Status.{Waiting};
 ghost use Rattle.oram_run.specs.State.{World, status_in};
 ghost use Rattle.oram_core.specs.Core.{CoreValue, shape_of};
-ghost use Rattle.oram_core.specs.Verdicts.{Means, Fitting, refusal_in};
+ghost use Rattle.oram_core.specs.Verdicts.{Means, Tells, refusal_in};
 
 use crate::machine::Core;
 use crate::messages::leaf_named;
@@ -50,7 +50,7 @@ impl<S: Sealer> Core<S> {
         requires { status_in self.now.state ≡ Waiting }
         ensures means { let v = shape_of S.overhead S.sealing S.opening self.now in let s = self.now.state in
             (w : World) → Fits v s w → pair_in v w.records (asked s.last) bytes.now ≡ false → Means v s w bytes.now result }
-        ensures fitting { Fitting (shape_of S.overhead S.sealing S.opening self.now) self.now.state result }
+        ensures tells { Tells (shape_of S.overhead S.sealing S.opening self.now) self.now.state bytes.now result }
         ensures no_room { (result ≡ Verdict.NoRoom) ↔ (bytes.now ≡ 129 ∷ 8 ∷ []) }
     {
         if let Some(code) = refusal_in(bytes) {
@@ -73,7 +73,7 @@ impl<S: Sealer> Core<S> {
         requires { status_in self.now.state ≡ Waiting }
         ensures means { let v = shape_of S.overhead S.sealing S.opening self.now in let s = self.now.state in
             (w : World) → Fits v s w → pair_in v w.records (asked s.last) (128 ∷ records.now) ≡ false → Means v s w (128 ∷ records.now) result }
-        ensures fitting { Fitting (shape_of S.overhead S.sealing S.opening self.now) self.now.state result }
+        ensures tells { Tells (shape_of S.overhead S.sealing S.opening self.now) self.now.state (128 ∷ records.now) result }
         ensures room { result ≢ Verdict.NoRoom }
     {
         if self.stage % 2 == 0 {
@@ -91,7 +91,7 @@ impl<S: Sealer> Core<S> {
         requires stage { self.now.state.stage % 2 ≡ 0 }
         ensures means { let v = shape_of S.overhead S.sealing S.opening self.now in let s = self.now.state in
             (w : World) → Fits v s w → pair_in v w.records (asked s.last) (128 ∷ records.now) ≡ false → Means v s w (128 ∷ records.now) result }
-        ensures fitting { Fitting (shape_of S.overhead S.sealing S.opening self.now) self.now.state result }
+        ensures tells { Tells (shape_of S.overhead S.sealing S.opening self.now) self.now.state (128 ∷ records.now) result }
         ensures room { result ≢ Verdict.NoRoom }
     {
         let tree = self.tree_at_work();

@@ -1,11 +1,11 @@
 //! A whole run.
-ghost use Rattle.std.specs.Prelude.{◌≡◌, ◌⊎◌, ℕ, false, List, [], length, map, OnOk};
+ghost use Rattle.std.specs.Prelude.{◌≡◌, ◌⊎◌, ℕ, false, List, [], ◌<◌, length, map, OnOk, OnErr};
 ghost use Rattle.oram_trace.specs.Tape.{ArePlacesApart};
 ghost use Rattle.oram_run.specs.Law.{StepsAlong};
 ghost use Rattle.oram_run.specs.Nonces.{AreNoncesApart};
 ghost use Rattle.oram_run.specs.Run.{AllRight, shown};
 ghost use Rattle.oram_core.specs.Core.{CoreValue, shape_of, shape_with};
-ghost use Rattle.oram_core.specs.Runs.{setting_by, IsCutShort, IsWhole};
+ghost use Rattle.oram_core.specs.Runs.{setting_by, IsCarriedOut, IsCutShort};
 
 use crate::machine::Core;
 use crate::outcome::Run;
@@ -27,7 +27,7 @@ pub fn run<S: Sealer>(alloc: Global, device: Device, sealer: S, events: &[Event]
     ensures nonces { AreNoncesApart device }
     ensures complete { result.out_of_memory ≡ false → length result.reactions.items ≡ length events.now }
     ensures formatted { let v = shape_with S.overhead S.sealing S.opening device sealer in
-        IsCutShort v result ⊎ IsWhole v result.format.items }
+        IsCutShort v result ⊎ IsCarriedOut v events.now result }
 {
     let mut sink = ListSink::new(alloc);
     let mut reactions = Vec::new(alloc);
@@ -57,6 +57,7 @@ fn step_all<S: Sealer>(
     ensures along { let v = shape_of S.overhead S.sealing S.opening core.old in
         StepsAlong v core.old.state events.now (map shown reactions.new.items) }
     ensures complete { OnOk result (length reactions.new.items ≡ length events.now) }
+    ensures fewer { OnErr result (length reactions.new.items < length events.now) }
 {
     for event in events {
         let reaction = core.step(alloc, event)?;

@@ -4,7 +4,7 @@ use Rattle.oram_run.proofs.NoncesApart.{nonces_apart}
 use Rattle.oram_run.specs.Run.{shown}
 use Rattle.oram_wire.specs.ListOfBodies.{bodies_in}
 use Rattle.oram_core.specs.Core.{shape_of, shape_with}
-use Rattle.oram_core.proofs.Running.{cut_short, right_along, whole_along, new_shape}
+use Rattle.oram_core.proofs.Running.{cut_short, right_along, whole_along, new_shape, all_carried, fewer_carried}
 use Rattle.oram_core.proofs.whole.run.Goals as goal
 
 pub returns-in_default-clause-places : goal.returns-in_default-clause-places
@@ -34,4 +34,8 @@ returns-clause-nonces g c = nonces_apart c.args.device
 pub returns-clause-formatted : goal.returns-clause-formatted
 returns-clause-formatted g c =
     let v = shape_with g.S.Sealer.overhead g.S.Sealer.sealing g.S.Sealer.opening c.args.device c.args.sealer in
-    inr (whole_along v c.in-Ok.core.state c.new-sink.result c.format.new.sink c.into_bodies-2.result.items c.new-sink.ensures c.into_bodies-2.ensures c.in-Ok.ensures.made)
+    inr (record {
+      whole = whole_along v c.in-Ok.core.state c.new-sink.result c.format.new.sink c.into_bodies-2.result.items c.new-sink.ensures c.into_bodies-2.ensures c.in-Ok.ensures.made;
+      all = all_carried c.step_all-stepped.result c.is_err.result _ _ c.is_err.ensures.value c.step_all-stepped.ensures.complete;
+      fewer = fewer_carried c.step_all-stepped.result c.is_err.result _ _ c.is_err.ensures.value c.step_all-stepped.ensures.fewer;
+    })

@@ -1,5 +1,5 @@
 use Rattle.std.proofs.Common.{length, map, List, refl, sym, ap, ◌∙◌, subst, arith, length-append}
-use Rattle.oram_run.specs.Law.{Steps, StepsAlong}
+use Rattle.oram_run.specs.Law.{StepsByRule, StepsAlong}
 use Rattle.oram_run.specs.Run.{shown}
 use Rattle.oram_run.specs.Shape.{Shape}
 use Rattle.oram_run.specs.declared.events.Reaction.{Reaction}
@@ -28,7 +28,7 @@ loop-event-preserved g c =
     let v = shape_of g.S.Sealer.overhead g.S.Sealer.sealing g.S.Sealer.opening c.args.core.now in
     let was = c.loop-event.invariant.device in
     let now = c.in_ok-reaction.ensures.kept in
-    let S = λ (u : Shape). Steps u c.loop-event.core.state c.event-item.result (shown c.in_ok-reaction.reaction) c.step.new.self.state in
+    let S = λ (u : Shape). StepsByRule u c.loop-event.core.state c.event-item.result (shown c.in_ok-reaction.reaction) c.step.new.self.state in
     record {
       device = (now.0 ∙ was.0, now.1 ∙ was.1);
       along = along_next v c.args.core.now.state c.args.events.now c.loop-event.event-index c.event-item.result c.loop-event.reactions.items c.push.new.self.items c.in_ok-reaction.reaction c.loop-event.core.state c.step.new.self.state

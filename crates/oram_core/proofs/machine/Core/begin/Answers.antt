@@ -1,5 +1,6 @@
 use Rattle.std.proofs.Common.{◌≡◌, ◌<◌, length, None, sym, subst}
-use Rattle.oram_core.specs.Core.{CoreValue, IsAllowed, shape_of}
+use Rattle.oram_run.specs.Agree.{IsAllowed}
+use Rattle.oram_core.specs.Core.{CoreValue, shape_of}
 use Rattle.oram_core.specs.Doing.{first_message}
 use Rattle.oram_core.proofs.Sound.{begun_as}
 use Rattle.oram_core.proofs.machine.Core.begin.Goals as goal

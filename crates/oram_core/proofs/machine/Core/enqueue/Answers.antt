@@ -1,5 +1,6 @@
 use Rattle.std.proofs.Common.{◌<◌, length, sym, subst}
-use Rattle.oram_core.specs.Core.{CoreValue, IsAllowed}
+use Rattle.oram_run.specs.Agree.{IsAllowed}
+use Rattle.oram_core.specs.Core.{CoreValue}
 use Rattle.oram_core.proofs.Sound.{sound_pushed}
 use Rattle.oram_core.proofs.machine.Core.enqueue.Goals as goal
 

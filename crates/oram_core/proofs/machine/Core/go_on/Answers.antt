@@ -1,8 +1,9 @@
 use Rattle.std.proofs.Common.{◌≡◌, ◌≢◌, ◌+◌, ◌*◌, ◌<◌, ap, sym, ◌∙◌, subst, arith}
 use Rattle.oram_geometry.specs.Sizes.{trees_of}
 use Rattle.oram_core.specs.Core.{CoreValue, IsSound, shape_of}
-use Rattle.oram_core.proofs.Meeting.{finish_moves, fetch_moves}
-use Rattle.oram_core.proofs.Heard.{finish_heard, fetch_heard}
+use Rattle.oram_core.specs.Doing.{Done}
+use Rattle.oram_core.proofs.Meeting.{Waits, waits, finish_moves, fetch_moves}
+use Rattle.oram_core.proofs.Heard.{if_ok, finish_heard, fetch_heard}
 use Rattle.oram_core.proofs.machine.Core.go_on.Goals as goal
 
 pub returns-then-from-clause-moves : goal.returns-then-from-clause-moves
@@ -37,3 +38,15 @@ returns-else-from-clause-heard g c =
     let differs : now.state.stage + 1 ≢ 2 * trees_of now.device = λ end. c.if-from.false (ap (λ k. k + 1) c.from.ensures ∙ subst (λ (u : CoreValue g.row.S.Denot). u.state.stage + 1 ≡ 2 * trees_of u.device) (sym c.self.view_is) end ∙ ap (λ k. 2 * k) (sym (c.from-2.ensures ∙ c.trees.ensures.count))) in
     let more : now.state.stage + 1 < 2 * trees_of now.device = omega (arith, sound.stage, differs) in
     fetch_heard v now.state c.fetch_next.result c.fetch_next.new.self.state sound c.requires.waiting more c.fetch_next.ensures.ok
+
+pub returns-then-from-clause-taken : goal.returns-then-from-clause-taken
+returns-then-from-clause-taken g c =
+    let now = c.args.self.now in
+    let o : Waits now.state = waits now.state c.requires.waiting in
+    if_ok _ _ c.finish.result (λ y e. ap (λ (d : Done). d.note) e) (c.finish.ensures.ok o.oldest o.rest o.queue)
+
+pub returns-else-from-clause-taken : goal.returns-else-from-clause-taken
+returns-else-from-clause-taken g c =
+    let now = c.args.self.now in
+    let o : Waits now.state = waits now.state c.requires.waiting in
+    if_ok _ _ c.fetch_next.result (λ y e. ap (λ (d : Done). d.note) e) (c.fetch_next.ensures.ok o.oldest o.rest o.queue)

@@ -5,7 +5,7 @@ use Rattle.oram_run.specs.declared.events.Note.TheVariants as note
 use Rattle.oram_core.specs.Core.{shape_of}
 use Rattle.oram_core.specs.Doing.{done, noted, plain_step}
 use Rattle.oram_core.specs.Steps.{Steps}
-use Rattle.oram_core.proofs.Meeting.{accept_steps, refuse_steps, hear_steps, stall_steps, resend_steps, answer_ignored, loss_ignored, retry_ignored, only_noted, waiting_by, stalling_by, accept_bound, resend_bound, plain_refusal}
+use Rattle.oram_core.proofs.Meeting.{accept_steps, refuse_steps, hear_steps, means_loss, stall_steps, resend_steps, answer_ignored, loss_ignored, retry_ignored, only_noted, waiting_by, stalling_by, accept_bound, resend_bound, plain_refusal}
 use Rattle.oram_core.proofs.machine.Core.step.Goals.{in-Answer+else-is_waiting, in-Lost+else-is_waiting-2, in-Retry+else-is_stalled}
 use Rattle.oram_core.proofs.machine.Core.step.Goals as goal
 
@@ -46,7 +46,7 @@ returns-in-Answer-clause-promise g c =
     let v = shape_of g.S.Sealer.overhead g.S.Sealer.sealing g.S.Sealer.opening now in
     subst (λ (e : Event). IfOk c.hear.result (λ r. Steps v now.state e (shown r) c.hear.new.self.state)) (sym c.in-Answer.is)
     (hear_steps v now.state c.in-Answer.bytes c.hear.result c.hear.new.self.state (waiting_by _ (sym c.is_waiting.ensures ∙ c.if-is_waiting.true))
-    (rw (sym c.as_slice.ensures) c.hear.ensures.moves) (rw (sym c.as_slice.ensures) c.hear.ensures.heard) (rw (sym c.as_slice.ensures) c.hear.ensures.no_room))
+    (rw (sym c.as_slice.ensures) c.hear.ensures.moves) (rw (sym c.as_slice.ensures) c.hear.ensures.heard) (rw (sym c.as_slice.ensures) c.hear.ensures.verdict) (rw (sym c.as_slice.ensures) c.hear.ensures.no_room))
 
 pub returns-in-Answer-clause-free : goal.returns-in-Answer-clause-free
 returns-in-Answer-clause-free g c = λ d is free.
@@ -59,8 +59,7 @@ pub returns-in-Lost-clause-promise : goal.returns-in-Lost-clause-promise
 returns-in-Lost-clause-promise g c =
     let now = c.args.self.now in
     let v = shape_of g.S.Sealer.overhead g.S.Sealer.sealing g.S.Sealer.opening now in
-    subst (λ (e : Event). Steps v now.state e (shown c.stall.result) c.stall.new.self.state) (sym c.in-Lost.is)
-    (stall_steps v now.state c.stall.result c.stall.new.self.state (waiting_by _ (sym c.if-is_waiting-2.ensures)) c.stall.ensures.ok)
+    stall_steps v now.state c.args.event.now c.stall.result c.stall.new.self.state (means_loss v now.state c.args.event.now c.in-Lost.is) (waiting_by _ (sym c.if-is_waiting-2.ensures)) c.stall.ensures.ok
 
 pub returns-in-Retry-clause-promise : goal.returns-in-Retry-clause-promise
 returns-in-Retry-clause-promise g c =
@@ -83,6 +82,6 @@ returns-in-Answer-2-clause-promise g c =
     let does : done only.result now.state ≡ noted now.state note.Unexpected = only_noted now.state only.result note.Unexpected only.ensures.note only.ensures.replies only.ensures.sends in
     elim c.in-Answer-2-1.branch [
       | in-Answer+else-is_waiting w ↦ subst (λ (e : Event). Steps v now.state e (shown only.result) now.state) (sym w.in-Answer.is) (answer_ignored v now.state w.in-Answer.bytes only.result now.state (sym w.is_waiting.ensures ∙ w.if-is_waiting.false) does)
-      | in-Lost+else-is_waiting-2 w ↦ subst (λ (e : Event). Steps v now.state e (shown only.result) now.state) (sym w.in-Lost.is) (loss_ignored v now.state only.result now.state (sym w.if-is_waiting-2.ensures) does)
+      | in-Lost+else-is_waiting-2 w ↦ loss_ignored v now.state c.args.event.now only.result now.state (means_loss v now.state c.args.event.now w.in-Lost.is) (sym w.if-is_waiting-2.ensures) does
       | in-Retry+else-is_stalled w ↦ subst (λ (e : Event). Steps v now.state e (shown only.result) now.state) (sym w.in-Retry.is) (retry_ignored v now.state only.result now.state (sym w.is_stalled.ensures ∙ w.if-is_stalled.false) does)
     ]

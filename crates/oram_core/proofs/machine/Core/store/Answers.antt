@@ -1,16 +1,17 @@
-use Rattle.std.proofs.Common.{◌≡◌, if◌then◌else◌, ℕ, slice_set, ◌+◌, ◌*◌, ◌^◌, ◌<◌, length, ap, MatchResult, Err, ◌∷◌, List, slice_index_or, refl, sym, ◌∙◌, subst}
+use Rattle.std.proofs.Common.{◌≡◌, ◌++◌, append_assoc, if◌then◌else◌, ℕ, slice_set, ◌+◌, ◌*◌, ◌^◌, ◌<◌, length, ap, MatchResult, OnOk, Err, ◌∷◌, List, slice_index_or, refl, sym, ◌∙◌, subst}
 use Rattle.std.specs.List.{All}
 use Rattle.oram_geometry.specs.Sizes.{depth_of, trees_of}
 use Rattle.oram_bucket.specs.Bucket.{IsBlockOf}
 use Rattle.oram_run.specs.Content.{block_of, new_leaf}
 use Rattle.oram_run.specs.declared.events.Submission.{Submission}
-use Rattle.oram_core.specs.Core.{CoreValue, IsSound, IsKept, shape_of}
+use Rattle.oram_core.specs.Core.{CoreValue, IsSound, IsTreeKept, shape_of}
 use Rattle.oram_core.proofs.Sound.{nonce_small, sound_accessed}
 use Rattle.oram_run.specs.Content.{stage_tree}
 use Rattle.oram_run.specs.declared.events.Reason.TheVariants as reason
 use Rattle.oram_core.specs.Doing.{done, failed_by, stored_by, is_misled}
 use Rattle.oram_core.specs.Steps.{Heard}
 use Rattle.oram_core.proofs.Heard.{taken_heard, failed_heard}
+use Rattle.oram_core.proofs.Judged.{access_used, unreadable_used, readable_now, readable_told, looked_now}
 use Rattle.oram_core.proofs.Meeting.{Waits, waits}
 use Rattle.oram_core.proofs.Hearing.{IsTreeAt, tree_at}
 use Rattle.oram_core.proofs.Accessing.{access_moves, ready_tree}
@@ -20,16 +21,17 @@ use Rattle.oram_bucket.specs.Reading.{Reads}
 use Rattle.oram_hash.specs.Tree.{IsPathOf}
 use Rattle.oram_tree.specs.Content.{Map}
 use Rattle.oram_tree.specs.State.{IsStoredWith}
-use Rattle.oram_tree.specs.Access.{IsAtOrAbsent, IsRewritten, IsUpdate}
+use Rattle.oram_tree.specs.Access.{IsAtOrAbsent, IsLookup, IsNear, IsReadable, IsRewritten, IsUpdate}
 use Rattle.oram_tree.specs.Edits.{edited_block, edited_content}
 use Rattle.oram_tree.specs.declared.faults.TreeFault.TheVariants as fault
 use Rattle.oram_run.specs.Blocks.{block_after}
+use Rattle.oram_wire.specs.HostMessages.{store_body}
 use Rattle.oram_run.specs.Messages.{asked}
 use Rattle.oram_run.specs.Shape.{record_len}
 use Rattle.oram_core.proofs.machine.Core.store.Goals as goal
 
-pub access-accessed-requires-clause-old_leaf : goal.access-accessed-requires-clause-old_leaf
-access-accessed-requires-clause-old_leaf g c =
+pub access_to-looked-requires-clause-old_leaf : goal.access_to-looked-requires-clause-old_leaf
+access_to-looked-requires-clause-old_leaf g c =
     let now = c.args.self.now in
     let v = shape_of g.S.Sealer.overhead g.S.Sealer.sealing g.S.Sealer.opening now in
     let sound : IsSound v now.state = subst (λ (u : CoreValue g.row.S.Denot). IsSound (shape_of g.S.Sealer.overhead g.S.Sealer.sealing g.S.Sealer.opening u) u.state) c.self.view_is c.self.invariant in
@@ -37,8 +39,8 @@ access-accessed-requires-clause-old_leaf g c =
     let number : c.index_mut.result.now.number ≡ c.errand-errand.result.tree = t.number ∙ sym c.errand-errand.ensures.tree in
     subst (λ (u : CoreValue g.row.S.Denot). c.errand-errand.result.leaf < 2 ^ depth_of u.device c.index_mut.result.now.number) (sym c.self.view_is) (rw number c.errand-errand.ensures.ranges.2)
 
-pub access-accessed-requires-clause-new_leaf : goal.access-accessed-requires-clause-new_leaf
-access-accessed-requires-clause-new_leaf g c =
+pub access_to-looked-requires-clause-new_leaf : goal.access_to-looked-requires-clause-new_leaf
+access_to-looked-requires-clause-new_leaf g c =
     let now = c.args.self.now in
     let v = shape_of g.S.Sealer.overhead g.S.Sealer.sealing g.S.Sealer.opening now in
     let sound : IsSound v now.state = subst (λ (u : CoreValue g.row.S.Denot). IsSound (shape_of g.S.Sealer.overhead g.S.Sealer.sealing g.S.Sealer.opening u) u.state) c.self.view_is c.self.invariant in
@@ -46,8 +48,8 @@ access-accessed-requires-clause-new_leaf g c =
     let number : c.index_mut.result.now.number ≡ c.errand-errand.result.tree = t.number ∙ sym c.errand-errand.ensures.tree in
     subst (λ (u : CoreValue g.row.S.Denot). c.errand-errand.result.new_leaf < 2 ^ depth_of u.device c.index_mut.result.now.number) (sym c.self.view_is) (rw number c.errand-errand.ensures.ranges.3)
 
-pub access-accessed-requires-clause-nonces : goal.access-accessed-requires-clause-nonces
-access-accessed-requires-clause-nonces g c =
+pub access_to-looked-requires-clause-nonces : goal.access_to-looked-requires-clause-nonces
+access_to-looked-requires-clause-nonces g c =
     let now = c.args.self.now in
     let v = shape_of g.S.Sealer.overhead g.S.Sealer.sealing g.S.Sealer.opening now in
     let sound : IsSound v now.state = subst (λ (u : CoreValue g.row.S.Denot). IsSound (shape_of g.S.Sealer.overhead g.S.Sealer.sealing g.S.Sealer.opening u) u.state) c.self.view_is c.self.invariant in
@@ -55,8 +57,8 @@ access-accessed-requires-clause-nonces g c =
     let number : c.index_mut.result.now.number ≡ c.errand-errand.result.tree = t.number ∙ sym c.errand-errand.ensures.tree in
     subst (λ (u : CoreValue g.row.S.Denot). u.state.nonce + depth_of u.device c.index_mut.result.now.number < 2 ^ 64) (sym c.self.view_is) (rw t.number (nonce_small v now.state sound))
 
-pub access-accessed-requires-clause-edit : goal.access-accessed-requires-clause-edit
-access-accessed-requires-clause-edit g c =
+pub access_to-looked-requires-clause-edit : goal.access_to-looked-requires-clause-edit
+access_to-looked-requires-clause-edit g c =
     let now = c.args.self.now in
     let v = shape_of g.S.Sealer.overhead g.S.Sealer.sealing g.S.Sealer.opening now in
     let sound : IsSound v now.state = subst (λ (u : CoreValue g.row.S.Denot). IsSound (shape_of g.S.Sealer.overhead g.S.Sealer.sealing g.S.Sealer.opening u) u.state) c.self.view_is c.self.invariant in
@@ -64,8 +66,8 @@ access-accessed-requires-clause-edit g c =
     let number : c.index_mut.result.now.number ≡ c.errand-errand.result.tree = t.number ∙ sym c.errand-errand.ensures.tree in
     rw number c.edit_for.ensures.edit
 
-pub access-accessed-requires-clause-blocks : goal.access-accessed-requires-clause-blocks
-access-accessed-requires-clause-blocks g c =
+pub access_to-looked-requires-clause-blocks : goal.access_to-looked-requires-clause-blocks
+access_to-looked-requires-clause-blocks g c =
     let now = c.args.self.now in
     let v = shape_of g.S.Sealer.overhead g.S.Sealer.sealing g.S.Sealer.opening now in
     let sound : IsSound v now.state = subst (λ (u : CoreValue g.row.S.Denot). IsSound (shape_of g.S.Sealer.overhead g.S.Sealer.sealing g.S.Sealer.opening u) u.state) c.self.view_is c.self.invariant in
@@ -84,10 +86,10 @@ invariant_of-self g c =
     let sound : IsSound v now.state = subst (λ (u : CoreValue g.row.S.Denot). IsSound (shape_of g.S.Sealer.overhead g.S.Sealer.sealing g.S.Sealer.opening u) u.state) c.self.view_is c.self.invariant in
     let t : IsTreeAt v now.state c.index_mut.result.now = tree_at v now.state c.index_mut.result.now c.from.result c.errand-errand.result.tree sound c.from.ensures c.errand-errand.ensures.tree (subst (λ (u : CoreValue g.row.S.Denot). c.index_mut.result.now ≡ slice_index_or u.state.trees c.from.result c.index_mut.result.now) c.self.view_is c.index_mut.ensures.value) in
     let number : c.index_mut.result.now.number ≡ c.errand-errand.result.tree = t.number ∙ sym c.errand-errand.ensures.tree in
-    let new = c.access-accessed.new.self in
+    let new = c.access_to-looked.new.self in
     let at : c.index_mut.result.now.number ≡ c.from.result = number ∙ sym c.from.ensures in
-    let blocks : All (IsBlockOf now.device c.from.result) new.stash = subst (λ (k : ℕ). All (IsBlockOf now.device k) new.stash) at (subst (λ (u : CoreValue g.row.S.Denot). All (IsBlockOf u.device c.index_mut.result.now.number) new.stash) c.self.view_is c.access-accessed.ensures.blocks) in
-    let kept : IsKept now.device c.from.result new = record { number = c.access-accessed.ensures.number ∙ at; blocks = blocks } in
+    let blocks : All (IsBlockOf now.device c.from.result) new.stash = subst (λ (k : ℕ). All (IsBlockOf now.device k) new.stash) at (subst (λ (u : CoreValue g.row.S.Denot). All (IsBlockOf u.device c.index_mut.result.now.number) new.stash) c.self.view_is c.access_to-looked.ensures.blocks) in
+    let kept : IsTreeKept now.device c.from.result new = record { number = c.access_to-looked.ensures.number ∙ at; blocks = blocks } in
     let within : c.from.result < trees_of now.device = rw c.from.ensures c.errand-errand.ensures.ranges.0 in
     subst (λ (u : CoreValue g.row.S.Denot). IsSound (shape_of g.S.Sealer.overhead g.S.Sealer.sealing g.S.Sealer.opening u) (record u.state { trees = slice_set u.state.trees c.from.result new })) (sym c.self.view_is)
     (sound_accessed v now.state c.from.result new sound within kept)
@@ -99,10 +101,10 @@ invariant_of-self-in-Unreadable g c =
     let sound : IsSound v now.state = subst (λ (u : CoreValue g.row.S.Denot). IsSound (shape_of g.S.Sealer.overhead g.S.Sealer.sealing g.S.Sealer.opening u) u.state) c.self.view_is c.self.invariant in
     let t : IsTreeAt v now.state c.index_mut.result.now = tree_at v now.state c.index_mut.result.now c.from.result c.errand-errand.result.tree sound c.from.ensures c.errand-errand.ensures.tree (subst (λ (u : CoreValue g.row.S.Denot). c.index_mut.result.now ≡ slice_index_or u.state.trees c.from.result c.index_mut.result.now) c.self.view_is c.index_mut.ensures.value) in
     let number : c.index_mut.result.now.number ≡ c.errand-errand.result.tree = t.number ∙ sym c.errand-errand.ensures.tree in
-    let new = c.access-accessed.new.self in
+    let new = c.access_to-looked.new.self in
     let at : c.index_mut.result.now.number ≡ c.from.result = number ∙ sym c.from.ensures in
-    let blocks : All (IsBlockOf now.device c.from.result) new.stash = subst (λ (k : ℕ). All (IsBlockOf now.device k) new.stash) at (subst (λ (u : CoreValue g.row.S.Denot). All (IsBlockOf u.device c.index_mut.result.now.number) new.stash) c.self.view_is c.access-accessed.ensures.blocks) in
-    let kept : IsKept now.device c.from.result new = record { number = c.access-accessed.ensures.number ∙ at; blocks = blocks } in
+    let blocks : All (IsBlockOf now.device c.from.result) new.stash = subst (λ (k : ℕ). All (IsBlockOf now.device k) new.stash) at (subst (λ (u : CoreValue g.row.S.Denot). All (IsBlockOf u.device c.index_mut.result.now.number) new.stash) c.self.view_is c.access_to-looked.ensures.blocks) in
+    let kept : IsTreeKept now.device c.from.result new = record { number = c.access_to-looked.ensures.number ∙ at; blocks = blocks } in
     let within : c.from.result < trees_of now.device = rw c.from.ensures c.errand-errand.ensures.ranges.0 in
     subst (λ (u : CoreValue g.row.S.Denot). IsSound (shape_of g.S.Sealer.overhead g.S.Sealer.sealing g.S.Sealer.opening u) (record u.state { trees = slice_set u.state.trees c.from.result new })) (sym c.self.view_is)
     (sound_accessed v now.state c.from.result new sound within kept)
@@ -116,18 +118,22 @@ returns-in-Ok-clause-moves g c = λ w fits on_path.
     let t : IsTreeAt v now.state told = tree_at v now.state told c.from.result c.errand-errand.result.tree sound c.from.ensures c.errand-errand.ensures.tree (subst (λ (u : CoreValue g.row.S.Denot). told ≡ slice_index_or u.state.trees c.from.result told) c.self.view_is c.index_mut.ensures.value) in
     let o : Waits now.state = waits now.state c.requires.waiting in
     let i = stage_tree now.device now.state.stage in
-    let new = c.access-accessed.new.self in
-    let before = c.in-Ok.access.before.items in
-    let records = c.in-Ok.access.records.items in
-    let found = c.in-Ok.access.found in
+    let new = c.access_to-looked.new.self in
+    let before = c.in-Ok.lookup.before.items in
+    let records = c.in-Ok.ensures.appends.0 in
+    let message = c.access_to-looked.new.out.items in
+    let header = c.in_ok-message.message.items in
+    let gained : message ≡ header ++ records = c.in-Ok.ensures.appends.1 in
+    let body : message ≡ store_body c.errand-errand.result.tree c.errand-errand.result.leaf records = gained ∙ c.in_ok-message.ensures.items records in
+    let found = c.in-Ok.lookup.found in
     let path = c.args.path.now in
     let why = reason.Tampered i 0 in
-    let does = subst (λ (u : CoreValue g.row.S.Denot). (x : Submission) (rest : List Submission) → u.state.queue ≡ x ∷ rest → done c.take_over.result c.take_over.new.self.state ≡ (let s' = record u.state { trees = slice_set u.state.trees c.from.result new } in if is_misled (shape_of g.S.Sealer.overhead g.S.Sealer.sealing g.S.Sealer.opening u) s' x found before then failed_by s' (reason.Tampered (stage_tree u.device u.state.stage) 0) else stored_by (shape_of g.S.Sealer.overhead g.S.Sealer.sealing g.S.Sealer.opening u) s' x before records)) c.self.view_is c.take_over.ensures.ok in
-    let does_at = subst (λ (k : ℕ). done c.take_over.result c.take_over.new.self.state ≡ (let s' = record now.state { trees = slice_set now.state.trees k new } in if is_misled v s' o.oldest found before then failed_by s' why else stored_by v s' o.oldest before records)) (c.from.ensures ∙ c.errand-errand.ensures.tree) (does o.oldest o.rest o.queue) in
+    let does = subst (λ (u : CoreValue g.row.S.Denot). (x : Submission) (rest : List Submission) (records : List ℕ) → u.state.queue ≡ x ∷ rest → message ≡ store_body c.errand-errand.result.tree c.errand-errand.result.leaf records → done c.take_over.result c.take_over.new.self.state ≡ (let s' = record u.state { trees = slice_set u.state.trees c.from.result new } in if is_misled (shape_of g.S.Sealer.overhead g.S.Sealer.sealing g.S.Sealer.opening u) s' x found before then failed_by s' (reason.Tampered (stage_tree u.device u.state.stage) 0) else stored_by (shape_of g.S.Sealer.overhead g.S.Sealer.sealing g.S.Sealer.opening u) s' x before records)) c.self.view_is c.take_over.ensures.ok in
+    let does_at = subst (λ (k : ℕ). done c.take_over.result c.take_over.new.self.state ≡ (let s' = record now.state { trees = slice_set now.state.trees k new } in if is_misled v s' o.oldest found before then failed_by s' why else stored_by v s' o.oldest before records)) (c.from.ensures ∙ c.errand-errand.ensures.tree) (does o.oldest o.rest records o.queue body) in
     let block : Cell = edited_block c.errand-errand.result.block c.errand-errand.result.new_leaf c.edit_for.result before in
     let written : IsRewritten (Reads v.opening now.device told.number) v.sealing now.device now.state.nonce path told.stash (with_bytes path records) block new.stash =
-    subst (λ (u : CoreValue g.row.S.Denot). IsRewritten (Reads (g.S.Sealer.opening u.sealer) u.device told.number) (g.S.Sealer.sealing u.sealer) u.device u.state.nonce path told.stash (with_bytes path records) block new.stash) c.self.view_is c.in-Ok.ensures.written in
-    let long : length records ≡ (depth_of now.device i + 1) * record_len v = c.in-Ok.ensures.whole ∙ ap (λ (p : Path). (p.depth + 1) * p.record_len) c.requires.path in
+    subst (λ (u : CoreValue g.row.S.Denot). IsRewritten (Reads (g.S.Sealer.opening u.sealer) u.device told.number) (g.S.Sealer.sealing u.sealer) u.device u.state.nonce path told.stash (with_bytes path records) block new.stash) c.self.view_is (c.in-Ok.ensures.written records gained) in
+    let long : length records ≡ (depth_of now.device i + 1) * record_len v = c.in-Ok.ensures.whole records gained ∙ ap (λ (p : Path). (p.depth + 1) * p.record_len) c.requires.path in
     let x = o.oldest in
     let tree = c.errand-errand.ensures.tree in
     let ob = c.errand-errand.ensures.oldest o.oldest o.rest o.queue in
@@ -147,13 +153,13 @@ returns-in-Ok-clause-moves g c = λ w fits on_path.
     subst (λ (k : ℕ). IsAtOrAbsent (w.content i) c.errand-errand.result.block k) (sym c.errand-errand.ensures.leaf)
     (subst (λ (k : ℕ). IsAtOrAbsent (w.content i) k (asked now.state.last).leaf) (sym at_block) ready.at_leaf) in
     let updates = subst (λ (u : CoreValue g.row.S.Denot). (rs : ℕ → List ℕ) (held : Map) → IsStoredWith (g.S.Sealer.opening u.sealer) (g.S.Sealer.overhead u.sealer) u.device told rs held → IsPathOf rs path → IsAtOrAbsent held c.errand-errand.result.block c.errand-errand.result.leaf
-    → MatchResult c.access-accessed.result (λ a. IsUpdate (g.S.Sealer.opening u.sealer) (g.S.Sealer.overhead u.sealer) u.device path (with_bytes path a.records.items) rs held (edited_block c.errand-errand.result.block c.errand-errand.result.new_leaf c.edit_for.result a.before.items) a.found a.before.items new) (λ f. f ≡ fault.OutOfMemory)) c.self.view_is c.access-accessed.ensures.updates in
-    let told_so = subst (λ r. MatchResult r (λ a. IsUpdate v.opening v.overhead now.device path (with_bytes path a.records.items) (w.records i) (w.content i) (edited_block c.errand-errand.result.block c.errand-errand.result.new_leaf c.edit_for.result a.before.items) a.found a.before.items new) (λ f. f ≡ fault.OutOfMemory)) c.in-Ok.is (updates (w.records i) (w.content i) ready.stored on_path absent) in
+    → MatchResult c.access_to-looked.result (λ a. (gained : List ℕ) → message ≡ header ++ gained → IsUpdate (g.S.Sealer.opening u.sealer) (g.S.Sealer.overhead u.sealer) u.device path (with_bytes path gained) rs held (edited_block c.errand-errand.result.block c.errand-errand.result.new_leaf c.edit_for.result a.before.items) a.found a.before.items new) (λ f. f ≡ fault.OutOfMemory)) c.self.view_is c.access_to-looked.ensures.updates in
+    let told_so = subst (λ r. MatchResult r (λ a. (gained : List ℕ) → message ≡ header ++ gained → IsUpdate v.opening v.overhead now.device path (with_bytes path gained) (w.records i) (w.content i) (edited_block c.errand-errand.result.block c.errand-errand.result.new_leaf c.edit_for.result a.before.items) a.found a.before.items new) (λ f. f ≡ fault.OutOfMemory)) c.in-Ok.is (updates (w.records i) (w.content i) ready.stored on_path absent) in
     let update : IsUpdate v.opening v.overhead now.device path (with_bytes path records) (w.records i) (w.content i) cell found before new =
-    subst (λ (d : Cell). IsUpdate v.opening v.overhead now.device path (with_bytes path records) (w.records i) (w.content i) d found before new) same told_so in
+    subst (λ (d : Cell). IsUpdate v.opening v.overhead now.device path (with_bytes path records) (w.records i) (w.content i) d found before new) same (told_so records gained) in
     let made : IsRewritten (Reads v.opening now.device told.number) v.sealing now.device now.state.nonce path told.stash (with_bytes path records) cell new.stash =
     subst (λ (d : Cell). IsRewritten (Reads v.opening now.device told.number) v.sealing now.device now.state.nonce path told.stash (with_bytes path records) d new.stash) same written in
-    access_moves v now.state w told new path found before records why c.take_over.result c.take_over.new.self.state o sound c.requires.stage fits t c.requires.path long c.access-accessed.ensures.number update made does_at
+    access_moves v now.state w told new path found before records why c.take_over.result c.take_over.new.self.state o sound c.requires.stage fits t c.requires.path long c.access_to-looked.ensures.number update made does_at
 
 pub returns-in-Unreadable-clause-moves : goal.returns-in-Unreadable-clause-moves
 returns-in-Unreadable-clause-moves g c = λ w fits on_path.
@@ -164,7 +170,9 @@ returns-in-Unreadable-clause-moves g c = λ w fits on_path.
     let t : IsTreeAt v now.state told = tree_at v now.state told c.from.result c.errand-errand.result.tree sound c.from.ensures c.errand-errand.ensures.tree (subst (λ (u : CoreValue g.row.S.Denot). told ≡ slice_index_or u.state.trees c.from.result told) c.self.view_is c.index_mut.ensures.value) in
     let o : Waits now.state = waits now.state c.requires.waiting in
     let i = stage_tree now.device now.state.stage in
-    let new = c.access-accessed.new.self in
+    let new = c.access_to-looked.new.self in
+    let message = c.access_to-looked.new.out.items in
+    let header = c.in_ok-message.message.items in
     let path = c.args.path.now in
     let x = o.oldest in
     let tree = c.errand-errand.ensures.tree in
@@ -175,8 +183,8 @@ returns-in-Unreadable-clause-moves g c = λ w fits on_path.
     subst (λ (k : ℕ). IsAtOrAbsent (w.content i) c.errand-errand.result.block k) (sym c.errand-errand.ensures.leaf)
     (subst (λ (k : ℕ). IsAtOrAbsent (w.content i) k (asked now.state.last).leaf) (sym at_block) ready.at_leaf) in
     let updates = subst (λ (u : CoreValue g.row.S.Denot). (rs : ℕ → List ℕ) (held : Map) → IsStoredWith (g.S.Sealer.opening u.sealer) (g.S.Sealer.overhead u.sealer) u.device told rs held → IsPathOf rs path → IsAtOrAbsent held c.errand-errand.result.block c.errand-errand.result.leaf
-    → MatchResult c.access-accessed.result (λ a. IsUpdate (g.S.Sealer.opening u.sealer) (g.S.Sealer.overhead u.sealer) u.device path (with_bytes path a.records.items) rs held (edited_block c.errand-errand.result.block c.errand-errand.result.new_leaf c.edit_for.result a.before.items) a.found a.before.items new) (λ f. f ≡ fault.OutOfMemory)) c.self.view_is c.access-accessed.ensures.updates in
-    let told_so = subst (λ r. MatchResult r (λ a. IsUpdate v.opening v.overhead now.device path (with_bytes path a.records.items) (w.records i) (w.content i) (edited_block c.errand-errand.result.block c.errand-errand.result.new_leaf c.edit_for.result a.before.items) a.found a.before.items new) (λ f. f ≡ fault.OutOfMemory)) (c.in-Err.is ∙ ap Err c.in-Unreadable.is) (updates (w.records i) (w.content i) ready.stored on_path absent) in
+    → MatchResult c.access_to-looked.result (λ a. (gained : List ℕ) → message ≡ header ++ gained → IsUpdate (g.S.Sealer.opening u.sealer) (g.S.Sealer.overhead u.sealer) u.device path (with_bytes path gained) rs held (edited_block c.errand-errand.result.block c.errand-errand.result.new_leaf c.edit_for.result a.before.items) a.found a.before.items new) (λ f. f ≡ fault.OutOfMemory)) c.self.view_is c.access_to-looked.ensures.updates in
+    let told_so = subst (λ r. MatchResult r (λ a. (gained : List ℕ) → message ≡ header ++ gained → IsUpdate v.opening v.overhead now.device path (with_bytes path gained) (w.records i) (w.content i) (edited_block c.errand-errand.result.block c.errand-errand.result.new_leaf c.edit_for.result a.before.items) a.found a.before.items new) (λ f. f ≡ fault.OutOfMemory)) (c.in-Err.is ∙ ap Err c.in-Unreadable.is) (updates (w.records i) (w.content i) ready.stored on_path absent) in
     absurd (let no_way : fault.Unreadable ≡ fault.OutOfMemory = told_so in cc)
 
 pub returns-in-Ok-clause-heard : goal.returns-in-Ok-clause-heard
@@ -185,18 +193,62 @@ returns-in-Ok-clause-heard g c =
     let v = shape_of g.S.Sealer.overhead g.S.Sealer.sealing g.S.Sealer.opening now in
     let sound : IsSound v now.state = subst (λ (u : CoreValue g.row.S.Denot). IsSound (shape_of g.S.Sealer.overhead g.S.Sealer.sealing g.S.Sealer.opening u) u.state) c.self.view_is c.self.invariant in
     let o : Waits now.state = waits now.state c.requires.waiting in
-    let new = c.access-accessed.new.self in
-    let before = c.in-Ok.access.before.items in
-    let records = c.in-Ok.access.records.items in
-    let does = subst (λ (u : CoreValue g.row.S.Denot). (x : Submission) (rest : List Submission) → u.state.queue ≡ x ∷ rest → done c.take_over.result c.take_over.new.self.state ≡ (let t = record u.state { trees = slice_set u.state.trees c.from.result new } in if is_misled (shape_of g.S.Sealer.overhead g.S.Sealer.sealing g.S.Sealer.opening u) t x c.in-Ok.access.found before then failed_by t (reason.Tampered (stage_tree u.device u.state.stage) 0) else stored_by (shape_of g.S.Sealer.overhead g.S.Sealer.sealing g.S.Sealer.opening u) t x before records)) c.self.view_is c.take_over.ensures.ok in
-    subst (Heard v now.state) (sym (does o.oldest o.rest o.queue))
-    (taken_heard v now.state (slice_set now.state.trees c.from.result new) o.oldest c.in-Ok.access.found before records (reason.Tampered (stage_tree now.device now.state.stage) 0) c.requires.waiting c.requires.stage sound.stage)
+    let new = c.access_to-looked.new.self in
+    let before = c.in-Ok.lookup.before.items in
+    let records = c.in-Ok.ensures.appends.0 in
+    let message = c.access_to-looked.new.out.items in
+    let body : message ≡ store_body c.errand-errand.result.tree c.errand-errand.result.leaf records = c.in-Ok.ensures.appends.1 ∙ c.in_ok-message.ensures.items records in
+    let does = subst (λ (u : CoreValue g.row.S.Denot). (x : Submission) (rest : List Submission) (records : List ℕ) → u.state.queue ≡ x ∷ rest → message ≡ store_body c.errand-errand.result.tree c.errand-errand.result.leaf records → done c.take_over.result c.take_over.new.self.state ≡ (let t = record u.state { trees = slice_set u.state.trees c.from.result new } in if is_misled (shape_of g.S.Sealer.overhead g.S.Sealer.sealing g.S.Sealer.opening u) t x c.in-Ok.lookup.found before then failed_by t (reason.Tampered (stage_tree u.device u.state.stage) 0) else stored_by (shape_of g.S.Sealer.overhead g.S.Sealer.sealing g.S.Sealer.opening u) t x before records)) c.self.view_is c.take_over.ensures.ok in
+    subst (Heard v now.state) (sym (does o.oldest o.rest records o.queue body))
+    (taken_heard v now.state (slice_set now.state.trees c.from.result new) o.oldest c.in-Ok.lookup.found before records (reason.Tampered (stage_tree now.device now.state.stage) 0) c.requires.waiting c.requires.stage sound.stage)
 
 pub returns-in-Unreadable-clause-heard : goal.returns-in-Unreadable-clause-heard
 returns-in-Unreadable-clause-heard g c =
     let now = c.args.self.now in
     let v = shape_of g.S.Sealer.overhead g.S.Sealer.sealing g.S.Sealer.opening now in
-    let new = c.access-accessed.new.self in
+    let new = c.access_to-looked.new.self in
     let e = reason.Tampered c.errand-errand.result.tree 0 in
     let does = subst (λ (u : CoreValue g.row.S.Denot). done c.fail.result c.fail.new.self.state ≡ failed_by (record u.state { trees = slice_set u.state.trees c.from.result new }) e) c.self.view_is c.fail.ensures.ok in
-    subst (Heard v now.state) (sym does) (failed_heard v now.state (record now.state { trees = slice_set now.state.trees c.from.result new }) e refl)
+    subst (Heard v now.state) (sym does) (failed_heard v now.state (record now.state { trees = slice_set now.state.trees c.from.result new }) e refl refl refl)
+
+pub returns-in-Ok-clause-uses : goal.returns-in-Ok-clause-uses
+returns-in-Ok-clause-uses g c =
+    let now = c.args.self.now in
+    let v = shape_of g.S.Sealer.overhead g.S.Sealer.sealing g.S.Sealer.opening now in
+    let sound : IsSound v now.state = subst (λ (u : CoreValue g.row.S.Denot). IsSound (shape_of g.S.Sealer.overhead g.S.Sealer.sealing g.S.Sealer.opening u) u.state) c.self.view_is c.self.invariant in
+    let told = c.index_mut.result.now in
+    let t : IsTreeAt v now.state told = tree_at v now.state told c.from.result c.errand-errand.result.tree sound c.from.ensures c.errand-errand.ensures.tree (subst (λ (u : CoreValue g.row.S.Denot). told ≡ slice_index_or u.state.trees c.from.result told) c.self.view_is c.index_mut.ensures.value) in
+    let o : Waits now.state = waits now.state c.requires.waiting in
+    let i = stage_tree now.device now.state.stage in
+    let new = c.access_to-looked.new.self in
+    let before = c.in-Ok.lookup.before.items in
+    let found = c.in-Ok.lookup.found in
+    let records = c.in-Ok.ensures.appends.0 in
+    let message = c.access_to-looked.new.out.items in
+    let body : message ≡ store_body c.errand-errand.result.tree c.errand-errand.result.leaf records = c.in-Ok.ensures.appends.1 ∙ c.in_ok-message.ensures.items records in
+    let path = c.args.path.now in
+    let readable = subst (λ (u : CoreValue g.row.S.Denot). OnOk c.access_to-looked.result (IsReadable (Reads (g.S.Sealer.opening u.sealer) u.device told.number) path told.stash)) c.self.view_is c.access_to-looked.ensures.readable in
+    let read : IsReadable (Reads v.opening now.device told.number) path told.stash = subst (λ r. OnOk r (IsReadable (Reads v.opening now.device told.number) path told.stash)) c.in-Ok.is readable in
+    let looked = subst (λ (u : CoreValue g.row.S.Denot). IsLookup (IsNear (Reads (g.S.Sealer.opening u.sealer) u.device told.number) path told.stash) u.device.block_bytes c.errand-errand.result.block found before) c.self.view_is c.in-Ok.ensures.lookup in
+    let ob = c.errand-errand.ensures.oldest o.oldest o.rest o.queue in
+    let at_block : c.errand-errand.result.block ≡ block_of now.device i o.oldest = ob.0 ∙ ap (λ (k : ℕ). block_of now.device k o.oldest) c.errand-errand.ensures.tree in
+    let does = subst (λ (u : CoreValue g.row.S.Denot). (x : Submission) (rest : List Submission) (records : List ℕ) → u.state.queue ≡ x ∷ rest → message ≡ store_body c.errand-errand.result.tree c.errand-errand.result.leaf records → done c.take_over.result c.take_over.new.self.state ≡ (let t = record u.state { trees = slice_set u.state.trees c.from.result new } in if is_misled (shape_of g.S.Sealer.overhead g.S.Sealer.sealing g.S.Sealer.opening u) t x found before then failed_by t (reason.Tampered (stage_tree u.device u.state.stage) 0) else stored_by (shape_of g.S.Sealer.overhead g.S.Sealer.sealing g.S.Sealer.opening u) t x before records)) c.self.view_is c.take_over.ensures.ok in
+    access_used v now.state (slice_set now.state.trees c.from.result new) o.oldest o.rest path found before records c.take_over.result c.take_over.new.self.state o.queue
+    (readable_now v now.state told path t read)
+    (looked_now v now.state told path c.errand-errand.result.block o.oldest found before t at_block looked)
+    (does o.oldest o.rest records o.queue body)
+
+pub returns-in-Unreadable-clause-uses : goal.returns-in-Unreadable-clause-uses
+returns-in-Unreadable-clause-uses g c =
+    let now = c.args.self.now in
+    let v = shape_of g.S.Sealer.overhead g.S.Sealer.sealing g.S.Sealer.opening now in
+    let sound : IsSound v now.state = subst (λ (u : CoreValue g.row.S.Denot). IsSound (shape_of g.S.Sealer.overhead g.S.Sealer.sealing g.S.Sealer.opening u) u.state) c.self.view_is c.self.invariant in
+    let told = c.index_mut.result.now in
+    let t : IsTreeAt v now.state told = tree_at v now.state told c.from.result c.errand-errand.result.tree sound c.from.ensures c.errand-errand.ensures.tree (subst (λ (u : CoreValue g.row.S.Denot). told ≡ slice_index_or u.state.trees c.from.result told) c.self.view_is c.index_mut.ensures.value) in
+    let new = c.access_to-looked.new.self in
+    let path = c.args.path.now in
+    let e = reason.Tampered c.errand-errand.result.tree 0 in
+    let unreadable = subst (λ (u : CoreValue g.row.S.Denot). c.access_to-looked.result ≡ Err fault.Unreadable → ¬ IsReadable (Reads (g.S.Sealer.opening u.sealer) u.device told.number) path told.stash) c.self.view_is c.access_to-looked.ensures.unreadable in
+    let does = subst (λ (u : CoreValue g.row.S.Denot). done c.fail.result c.fail.new.self.state ≡ failed_by (record u.state { trees = slice_set u.state.trees c.from.result new }) e) c.self.view_is c.fail.ensures.ok in
+    unreadable_used v now.state (record now.state { trees = slice_set now.state.trees c.from.result new }) c.fail.new.self.state c.errand-errand.result.tree path c.fail.result c.errand-errand.ensures.tree
+    (λ h. unreadable (c.in-Err.is ∙ ap Err c.in-Unreadable.is) (readable_told v now.state told path t h)) does

@@ -3,6 +3,7 @@ use Rattle.std.proofs.lemmas.Grind.{common_steps}
 use Rattle.oram_run.proofs.Outcomes.{no_room_is, refused_is}
 use Rattle.oram_core.specs.Core.{shape_of}
 use Rattle.oram_core.proofs.Hearing.{IsRefused, refused_so, not_refused, other_means, empty_means, payload_means}
+use Rattle.oram_core.proofs.Judged.{refused_tells, other_tells, empty_tells, payload_tells}
 use Rattle.oram_core.proofs.machine.Core.verdict.Goals as goal
 
 pub returns-in-8-clause-means : goal.returns-in-8-clause-means
@@ -50,3 +51,26 @@ returns-clause-no_room g c = (
   λ same. absurd (c.payload_verdict.ensures.room same),
   λ is. absurd (let first : slice_index c.args.bytes.now 0 ≡ 129 = ap (λ xs. slice_index xs 0) is in omega arith),
 )
+
+pub returns-in-8-clause-tells : goal.returns-in-8-clause-tells
+returns-in-8-clause-tells g c =
+    let r : IsRefused c.args.bytes.now c.in-Some.code = refused_so c.args.bytes.now c.in-Some.code (sym c.refusal_in.ensures ∙ c.in-Some.is) in
+    r.is ∙ ap (λ k. 129 ∷ k ∷ []) c.in-8.is
+
+pub returns-in_default-code-clause-tells : goal.returns-in_default-code-clause-tells
+returns-in_default-code-clause-tells g c =
+    refused_tells (shape_of g.S.Sealer.overhead g.S.Sealer.sealing g.S.Sealer.opening c.args.self.now) c.args.self.now.state c.args.bytes.now c.in-Some.code (sym c.refusal_in.ensures ∙ c.in-Some.is) (λ is. omega arith)
+
+pub returns-then-is_empty-clause-tells : goal.returns-then-is_empty-clause-tells
+returns-then-is_empty-clause-tells g c =
+    let empty : length c.args.bytes.now ≡ 0 = first_of (search rules, grind (arith, common_steps)) in
+    empty_tells (shape_of g.S.Sealer.overhead g.S.Sealer.sealing g.S.Sealer.opening c.args.self.now) c.args.self.now.state c.args.bytes.now (sym c.refusal_in.ensures ∙ c.in_default.is) empty
+
+pub returns-then-bytes-clause-tells : goal.returns-then-bytes-clause-tells
+returns-then-bytes-clause-tells g c =
+    let first : slice_index c.args.bytes.now 0 ≢ 128 = λ same. omega arith in
+    other_tells (shape_of g.S.Sealer.overhead g.S.Sealer.sealing g.S.Sealer.opening c.args.self.now) c.args.self.now.state c.args.bytes.now (sym c.refusal_in.ensures ∙ c.in_default.is) first
+
+pub returns-clause-tells : goal.returns-clause-tells
+returns-clause-tells g c =
+    payload_tells (shape_of g.S.Sealer.overhead g.S.Sealer.sealing g.S.Sealer.opening c.args.self.now) c.args.self.now.state c.args.bytes.now _ c.payload_verdict.result c.payload_verdict.ensures.tells (first_of (search rules, grind (arith, common_steps))) c.if-bytes.false

@@ -17,7 +17,7 @@ use Rattle.oram_run.specs.Messages.{asked}
 use Rattle.oram_run.specs.Moves.{PlacedIn, IsReadyFor, stores, records_after}
 use Rattle.oram_run.specs.Blocks.{found_in, block_after, next_named, put_in}
 use Rattle.oram_run.specs.Shape.{Shape, record_len}
-use Rattle.oram_run.specs.State.{State, World, Holds, named_now, no_tree}
+use Rattle.oram_run.specs.State.{State, World, AllStand, named_now, no_tree}
 use Rattle.oram_run.specs.Trees.{Stands, IsPlaced}
 use Rattle.oram_run.specs.declared.events.Submission.{Submission}
 use Rattle.oram_run.proofs.Others.{all_one}
@@ -61,7 +61,7 @@ not_misled v s w x path tree found before records ready a =
     rw (there, both_ways (named_now v s x == 0)) none
 
 -- The access is taken over by the rule, where it found what the tree's content has.
-taken_over : (v : Shape) (s : State) (w : World) (x : Submission) (path : Path) (tree : Tree) (found : Bool) (records : List ℕ) → IsSound v s → IsAtWork v s x → Holds v s w →
+taken_over : (v : Shape) (s : State) (w : World) (x : Submission) (path : Path) (tree : Tree) (found : Bool) (records : List ℕ) → IsSound v s → IsAtWork v s x → AllStand v s w →
     IsAccess v s w x path tree found (found_in v.device (w.content (stage_tree v.device s.stage) (block_of v.device (stage_tree v.device s.stage) x))) records →
     Meets v s w (stores v s w x) (stored_by v (record s { trees = slice_set s.trees (stage_tree v.device s.stage) tree }) x (found_in v.device (w.content (stage_tree v.device s.stage) (block_of v.device (stage_tree v.device s.stage) x))) records)
 taken_over v s w x path tree found records sound work holds a =
@@ -96,7 +96,7 @@ taken_over v s w x path tree found records sound work holds a =
           subst (λ (e : Entry). IsPlaced v e.tree e.leaf s.nonce (after.records e.tree) (after.content e.tree)) (sym (asked_store i leaf records small)) placed_here);
     }
 
-pub stores_met : (v : Shape) (s : State) (w : World) (x : Submission) (path : Path) (tree : Tree) (found : Bool) (before records : List ℕ) → IsSound v s → IsAtWork v s x → Holds v s w →
+pub stores_met : (v : Shape) (s : State) (w : World) (x : Submission) (path : Path) (tree : Tree) (found : Bool) (before records : List ℕ) → IsSound v s → IsAtWork v s x → AllStand v s w →
     IsAccess v s w x path tree found before records →
     Meets v s w (stores v s w x) (stored_by v (record s { trees = slice_set s.trees (stage_tree v.device s.stage) tree }) x before records)
 stores_met v s w x path tree found before records sound work holds a =

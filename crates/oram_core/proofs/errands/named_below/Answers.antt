@@ -1,6 +1,6 @@
 use Rattle.std.proofs.Common.{arith}
 use Rattle.oram_core.proofs.Small.{named_none, named_some}
-use Rattle.oram_core.proofs.answers.named_below.Goals as goal
+use Rattle.oram_core.proofs.errands.named_below.Goals as goal
 
 pub returns-in-0 : goal.returns-in-0
 returns-in-0 c = named_none _ _ _ _ c.in-0.is

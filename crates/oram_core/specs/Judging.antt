@@ -1,0 +1,105 @@
+-- What an answer is to a core that waits for it: judged by the root digests, the stashes and the map that the core itself has.
+use Rattle.std.specs.Prelude.{◌≡◌, ℕ, ◌+◌, ◌*◌, ◌%◌, ◌≤◌, ◌⊎◌, ◌==◌, ◌&&◌, Bool, true, false, if◌then◌else◌, List, [], ◌∷◌, length, slice_index_or}
+use Rattle.oram_geometry.specs.Sizes.{depth_of}
+use Rattle.oram_bucket.specs.Cell.{Cell}
+use Rattle.oram_bucket.specs.Reading.{Reads}
+use Rattle.oram_hash.specs.Path.{Path, path_of, IsAccepted, IsTamperedAt}
+use Rattle.oram_tree.specs.Access.{IsLookup, IsNear, IsReadable}
+use Rattle.oram_tree.specs.State.{State as Tree}
+use Rattle.oram_run.specs.Answers.{is_refusal}
+use Rattle.oram_run.specs.Content.{block_of, stage_tree}
+use Rattle.oram_run.specs.Messages.{asked}
+use Rattle.oram_run.specs.Shape.{Shape, record_len}
+use Rattle.oram_run.specs.State.{State, no_tree}
+use Rattle.oram_run.specs.declared.events.Note.{Note}
+use Rattle.oram_run.specs.declared.events.Note.TheVariants.{Accepted, Refused, Taken, Stalled, FailedNow, Resent, Unexpected}
+use Rattle.oram_run.specs.declared.events.Reason.{Reason}
+use Rattle.oram_run.specs.declared.events.Reason.TheVariants.{Malformed, Tampered, HostRefused}
+use Rattle.oram_run.specs.declared.events.Submission.{Submission}
+use Rattle.oram_core.specs.Doing.{is_misled}
+
+-- the tree whose path is outstanding, as the core has it
+abbrev pub tree_now : Shape → State → Tree
+tree_now v s = slice_index_or s.trees (stage_tree v.device s.stage) no_tree
+
+-- bytes as the path that is outstanding
+abbrev pub path_now : Shape → State → List ℕ → Path
+path_now v s records = path_of v.device (stage_tree v.device s.stage) (asked s.last).leaf v.overhead records
+
+-- which blocks a sealed bucket of that tree reads as
+abbrev pub reads_now : Shape → State → List ℕ → List Cell → Type 0
+reads_now v s = Reads v.opening v.device (stage_tree v.device s.stage)
+
+-- bytes behind the first one of an answer that has the right length: a path's to a fetch, none to a store
+abbrev pub answer_len : Shape → State → ℕ
+answer_len v s = if s.stage % 2 == 0 then (depth_of v.device (stage_tree v.device s.stage) + 1) * record_len v else 0
+
+-- byte 80, and the right length
+abbrev pub is_formed : Shape → State → List ℕ → Bool
+is_formed v s [] = false
+is_formed v s (first ∷ rest) = (first == 128) && (length rest == answer_len v s)
+
+abbrev pub IsReadableNow : Shape → State → Path → Type 0
+IsReadableNow v s p = IsReadable (reads_now v s) p (tree_now v s).stash
+
+-- The path is readable, and the oldest command's block is looked for on it and in the stash. The map leads astray where it names
+-- a block that isn't found, and where what the block names for the next tree is no leaf there.
+pub record Leads (v : Shape) (s : State) (p : Path) (astray : Bool) : Type 0 where
+  pub readable : IsReadableNow v s p
+  pub oldest : Submission
+  pub rest : List Submission
+  pub queue : s.queue ≡ oldest ∷ rest
+  pub found : Bool
+  pub before : List ℕ
+  pub lookup : IsLookup (IsNear (reads_now v s) p (tree_now v s).stash) v.device.block_bytes (block_of v.device (stage_tree v.device s.stage) oldest) found before
+  pub led : is_misled v s oldest found before ≡ astray
+
+-- a path that passes the check, and is of no use
+abbrev pub IsUseless : Shape → State → Path → Type 0
+IsUseless v s p = (¬ IsReadableNow v s p) ⊎ Leads v s p true
+
+-- what the use of such a path is told as
+abbrev pub IsUseOf : Shape → State → Path → Note → Type 0
+IsUseOf v s p (FailedNow e) = (e ≡ Tampered (stage_tree v.device s.stage) 0) × IsUseless v s p
+IsUseOf v s p Taken = Leads v s p false
+IsUseOf v s p (Accepted t) = ⊥
+IsUseOf v s p (Refused e) = ⊥
+IsUseOf v s p Stalled = ⊥
+IsUseOf v s p Resent = ⊥
+IsUseOf v s p Unexpected = ⊥
+
+-- a path of the right length, spoilt at a level: the first record that hasn't its expected digest, or, told as level 0, all of it
+pub record IsSpoilt (v : Shape) (s : State) (bytes : List ℕ) (level : ℕ) : Type 0 where
+  pub fetched : s.stage % 2 ≡ 0
+  pub records : List ℕ
+  pub answer : bytes ≡ 128 ∷ records
+  pub spoilt : IsTamperedAt (path_now v s records) (tree_now v s).root level
+      ⊎ ((level ≡ 0) × IsAccepted (path_now v s records) (tree_now v s).root × IsUseless v s (path_now v s records))
+
+-- why the answer fails the device
+abbrev pub IsReasonFor : Shape → State → List ℕ → Reason → Type 0
+IsReasonFor v s bytes (HostRefused code) = (bytes ≡ 129 ∷ code ∷ []) × (1 ≤ code) × (code ≤ 7)
+IsReasonFor v s bytes Malformed = (is_refusal bytes ≡ false) × (is_formed v s bytes ≡ false)
+IsReasonFor v s bytes (Tampered i level) = (i ≡ stage_tree v.device s.stage) × IsSpoilt v s bytes level
+
+-- the answer is a path that passes the check and is of use
+pub record IsUseful (v : Shape) (s : State) (bytes : List ℕ) : Type 0 where
+  pub records : List ℕ
+  pub answer : bytes ≡ 128 ∷ records
+  pub accepted : IsAccepted (path_now v s records) (tree_now v s).root
+  pub leads : Leads v s (path_now v s records) false
+
+-- the answer is a good one, as far as the core can tell
+pub record IsGood (v : Shape) (s : State) (bytes : List ℕ) : Type 0 where
+  pub fetched : s.stage % 2 ≡ 0 → IsUseful v s bytes
+  pub stored : s.stage % 2 ≡ 1 → bytes ≡ 128 ∷ []
+
+-- what an answer that is waited for, other than for want of room, is told as
+abbrev pub IsVerdict : Shape → State → List ℕ → Note → Type 0
+IsVerdict v s bytes (FailedNow e) = IsReasonFor v s bytes e
+IsVerdict v s bytes Taken = IsGood v s bytes
+IsVerdict v s bytes (Accepted t) = ⊥
+IsVerdict v s bytes (Refused e) = ⊥
+IsVerdict v s bytes Stalled = ⊥
+IsVerdict v s bytes Resent = ⊥
+IsVerdict v s bytes Unexpected = ⊥

@@ -1,0 +1,185 @@
+//! A path that was sent is stored: the next one is fetched, or the oldest command has its reply.
+ghost use Rattle.std.specs.Prelude.{◌≡◌, ◌+◌, ◌-◌, ◌*◌, ◌%◌, ◌<◌, List, [], ◌∷◌, length, map, IfOk, OnOk, OnErr, None, drop, ◌==◌};
+ghost use Rattle.oram_geometry.specs.Sizes.{trees_of};
+ghost use Rattle.oram_run.specs.Answers.Outcome.{Good};
+ghost use Rattle.oram_run.specs.declared.events.Note.TheVariants as note;
+ghost use Rattle.oram_run.specs.Moves.{Fits, MovesTo, on_answer, fetch_at};
+ghost use Rattle.oram_run.specs.Blocks.{body_from};
+ghost use Rattle.oram_run.specs.Progress.Status.{Waiting};
+ghost use Rattle.oram_run.specs.Run.{shown};
+ghost use Rattle.oram_run.specs.State.{World, status_in};
+ghost use Rattle.oram_run.specs.declared.events.Submission.{Submission};
+ghost use Rattle.oram_core.specs.Core.{IsSameDevice, shape_of};
+ghost use Rattle.oram_core.specs.Steps.{Heard};
+ghost use Rattle.oram_core.specs.Doing.{done, fetched_by, finished_by, first_message, fetch_of};
+
+use crate::machine::Core;
+use crate::messages::Sending;
+use oram_bucket::Sealer;
+use oram_bytes::Bytes;
+use oram_run::{Command, Note, Reaction, Reply, ReplyBody, Submission};
+use std::alloc::{AllocError, Global};
+use std::collections::VecDeque;
+use std::mem;
+
+/// The reply to a command whose block was this before.
+fn reply_to(submission: &Submission, before: Bytes) -> Reply
+    ensures { result ≡ record { session = submission.now.session; ticket = submission.now.ticket; body = body_from before submission.now.command } }
+{
+    let body = match submission.command {
+        Command::Read(_) => ReplyBody::Data(before),
+        Command::Write(..) | Command::Discard(_) => ReplyBody::Done,
+    };
+    Reply {
+        session: submission.session,
+        ticket: submission.ticket,
+        body,
+    }
+}
+
+/// The reply to the oldest command, which leaves the queue.
+fn replied(
+    alloc: Global,
+    queue: &mut VecDeque<Submission>,
+    before: &mut Bytes,
+) -> Result<Vec<Reply>, AllocError>
+    requires { 0 < length queue.old.items }
+    ensures ok { OnOk result (before.new ≡ []) }
+    ensures queue { OnOk result (queue.new.items ≡ drop 1 queue.old.items) }
+    ensures replies { (x : Submission) (rest : List Submission) → queue.old.items ≡ x ∷ rest → IfOk result (λ v.
+        v.items ≡ (record { session = x.session; ticket = x.ticket; body = body_from before.old x.command }) ∷ []) }
+    ensures err { OnErr result ((queue.new.items ≡ queue.old.items) × (before.new ≡ before.old)) }
+{
+    let mut replies = Vec::with_capacity(alloc, 1)?;
+    let data = mem::replace(before, Bytes::from_vec(Vec::new(alloc)));
+    match queue.pop_front() {
+        Some(oldest) => {
+            if replies.push(reply_to(&oldest, data)).is_err() {
+                unreachable!()
+            }
+            Ok(replies)
+        }
+        None => unreachable!(),
+    }
+}
+
+impl<S: Sealer> Core<S> {
+    /// The path that was sent is stored.
+    pub(crate) fn go_on(&mut self, alloc: Global) -> Result<Reaction, AllocError>
+        requires waiting { status_in self.old.state ≡ Waiting }
+        requires stage { self.old.state.stage % 2 ≡ 1 }
+        ensures kept { IsSameDevice self.old self.new }
+        ensures moves { let v = shape_of S.overhead S.sealing S.opening self.old in let s = self.old.state in
+            (w : World) → Fits v s w
+            → IfOk result (λ r. MovesTo v s w (on_answer v s w Waiting Good) (shown r) self.new.state) }
+        ensures heard { IfOk result (λ r. Heard (shape_of S.overhead S.sealing S.opening self.old) self.old.state (done r self.new.state)) }
+        ensures taken { IfOk result (λ r. r.note ≡ note.Taken) }
+        ensures err { OnErr result (self.new ≡ self.old) }
+    {
+        if usize::from(self.stage) + 1 == 2 * usize::from(self.device.trees()) {
+            self.finish(alloc)
+        } else {
+            self.fetch_next(alloc)
+        }
+    }
+
+    /// The fetch of the next tree's path, which the map named.
+    fn next_fetch(&self, alloc: Global) -> Result<Sending, AllocError>
+        requires waiting { status_in self.now.state ≡ Waiting }
+        requires stage { self.now.state.stage % 2 ≡ 1 }
+        requires more { self.now.state.stage + 1 < 2 * trees_of self.now.device }
+        ensures kept { (x : Submission) (rest : List Submission) → self.now.state.queue ≡ x ∷ rest
+            → IfOk result (λ s. s.kept ≡ fetch_of (fetch_at self.now.device (self.now.state.stage + 1) self.now.state.named x)) }
+        ensures sends { IfOk result (λ s. s.sends.items ≡ s.kept ∷ []) }
+    {
+        let tree = self.device.trees() - 1 - (self.stage + 1) / 2;
+        let leaf = self.leaf_for(tree, self.named, self.oldest());
+        Sending::fetch(alloc, tree, leaf)
+    }
+
+    /// The path of the next tree is fetched, to the block's leaf that the map named.
+    fn fetch_next(&mut self, alloc: Global) -> Result<Reaction, AllocError>
+        requires waiting { status_in self.old.state ≡ Waiting }
+        requires stage { self.old.state.stage % 2 ≡ 1 }
+        requires more { self.old.state.stage + 1 < 2 * trees_of self.old.device }
+        ensures kept { IsSameDevice self.old self.new }
+        ensures ok { (x : Submission) (rest : List Submission) → self.old.state.queue ≡ x ∷ rest
+            → IfOk result (λ r. done r self.new.state ≡ fetched_by (shape_of S.overhead S.sealing S.opening self.old) self.old.state x) }
+        ensures err { OnErr result (self.new ≡ self.old) }
+    {
+        let Sending { kept, sends } = self.next_fetch(alloc)?;
+        self.stage += 1;
+        self.last = kept;
+        Ok(Reaction {
+            note: Note::Taken,
+            replies: Vec::new(alloc),
+            sends,
+        })
+    }
+
+    /// The last path of the oldest command is stored: its reply goes out, and the next command begins.
+    fn finish(&mut self, alloc: Global) -> Result<Reaction, AllocError>
+        requires waiting { status_in self.old.state ≡ Waiting }
+        requires last { self.old.state.stage + 1 ≡ 2 * trees_of self.old.device }
+        ensures kept { IsSameDevice self.old self.new }
+        ensures ok { (x : Submission) (rest : List Submission) → self.old.state.queue ≡ x ∷ rest
+            → IfOk result (λ r. done r self.new.state ≡ finished_by (shape_of S.overhead S.sealing S.opening self.old) self.old.state x rest) }
+        ensures err { OnErr result (self.new ≡ self.old) }
+    {
+        match self.queue.get(1) {
+            Some(next) => {
+                let sending = self.first_fetch(alloc, next)?;
+                self.finish_before_next(alloc, sending)
+            }
+            None => self.finish_last(alloc),
+        }
+    }
+
+    fn finish_before_next(
+        &mut self,
+        alloc: Global,
+        sending: Sending,
+    ) -> Result<Reaction, AllocError>
+        requires waiting { status_in self.old.state ≡ Waiting }
+        requires last { self.old.state.stage + 1 ≡ 2 * trees_of self.old.device }
+        requires next { let v = shape_of S.overhead S.sealing S.opening self.old in
+            (x y : Submission) (rest : List Submission) → self.old.state.queue ≡ x ∷ y ∷ rest
+            → sending.kept ≡ first_message v self.old.state y }
+        requires sends { sending.sends.items ≡ sending.kept ∷ [] }
+        requires more { 1 < length self.old.state.queue }
+        ensures kept { IsSameDevice self.old self.new }
+        ensures ok { (x : Submission) (rest : List Submission) → self.old.state.queue ≡ x ∷ rest
+            → IfOk result (λ r. done r self.new.state ≡ finished_by (shape_of S.overhead S.sealing S.opening self.old) self.old.state x rest) }
+        ensures err { OnErr result (self.new ≡ self.old) }
+    {
+        let replies = replied(alloc, &mut self.queue, &mut self.before)?;
+        let Sending { kept, sends } = sending;
+        self.stage = 0;
+        self.named = 0;
+        self.last = kept;
+        Ok(Reaction {
+            note: Note::Taken,
+            replies,
+            sends,
+        })
+    }
+
+    fn finish_last(&mut self, alloc: Global) -> Result<Reaction, AllocError>
+        requires waiting { status_in self.old.state ≡ Waiting }
+        requires last { self.old.state.stage + 1 ≡ 2 * trees_of self.old.device }
+        requires alone { length self.old.state.queue ≡ 1 }
+        ensures kept { IsSameDevice self.old self.new }
+        ensures ok { (x : Submission) (rest : List Submission) → self.old.state.queue ≡ x ∷ rest
+            → IfOk result (λ r. done r self.new.state ≡ finished_by (shape_of S.overhead S.sealing S.opening self.old) self.old.state x rest) }
+        ensures err { OnErr result (self.new ≡ self.old) }
+    {
+        let replies = replied(alloc, &mut self.queue, &mut self.before)?;
+        self.stage = 0;
+        self.named = 0;
+        Ok(Reaction {
+            note: Note::Taken,
+            replies,
+            sends: Vec::new(alloc),
+        })
+    }
+}
