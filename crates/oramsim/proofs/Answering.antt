@@ -6,23 +6,23 @@ use Rattle.oram_run.specs.Run.{Shown}
 use Rattle.oram_run.specs.State.{status_in}
 use Rattle.oram_run.specs.declared.events.Event.TheVariants.{Answer, Lost}
 use Rattle.oramsim.specs.Hosting.{IsHonest}
-use Rattle.oramsim.specs.Script.{IsAnswered, Obeys, Replies, Running, after_turn, with_host}
-use Rattle.oramsim.specs.Standing.{GoesOn, IsFaithful, IsWholeMachine, Stands, StaysFaithful, answers_left}
+use Rattle.oramsim.specs.Script.{IsAnswered, Obeys, HostAnswers, Running, after_turn, with_host}
+use Rattle.oramsim.specs.Standing.{RunsOn, IsFaithful, IsWholeMachine, IsAtRun, StaysFaithful, answers_left}
 use Rattle.oramsim.specs.declared.line.Line.TheVariants.{Late}
 use Rattle.oramsim.specs.declared.machine.Machine.{Machine}
 use Rattle.oramsim.proofs.Faithful.{late_honest, reply_honest}
 
 -- the host has had the outstanding message, and the rest of the machine is as it was
 pub record IsHeard (m n : Machine) (bytes : List ℕ) : Type 0 where
-  pub replies : Replies m.server m.outstanding bytes n.server
+  pub replies : HostAnswers m.server m.outstanding bytes n.server
   pub core : n.core ≡ m.core
   pub outstanding : n.outstanding ≡ m.outstanding
   pub snapshot : n.snapshot ≡ m.snapshot
 
-replies_as : (r : Running) (m n : Machine) (bytes : List ℕ) → Stands r m → IsHeard m n bytes → Replies r.host r.message bytes n.server
-replies_as r m n bytes f h = subst (λ (k : Host). Replies k r.message bytes n.server) f.host (subst (λ (o : Option (List ℕ)). Replies m.server o bytes n.server) f.message h.replies)
+pub replies_as : (r : Running) (m n : Machine) (bytes : List ℕ) → IsAtRun r m → IsHeard m n bytes → HostAnswers r.host r.message bytes n.server
+replies_as r m n bytes f h = subst (λ (k : Host). HostAnswers k r.message bytes n.server) f.host (subst (λ (o : Option (List ℕ)). HostAnswers m.server o bytes n.server) f.message h.replies)
 
-pub heard_stands : (r : Running) (m n : Machine) (bytes : List ℕ) → Stands r m → IsHeard m n bytes → Stands (with_host r n.server) n
+pub heard_stands : (r : Running) (m n : Machine) (bytes : List ℕ) → IsAtRun r m → IsHeard m n bytes → IsAtRun (with_host r n.server) n
 heard_stands r m n bytes f h = record {
   ranges = rw h.core f.ranges;
   shape = rw h.core f.shape;
@@ -32,21 +32,21 @@ heard_stands r m n bytes f h = record {
   copy = h.snapshot ∙ f.copy;
 }
 
-honest_at : (r : Running) (m n : Machine) (bytes : List ℕ) → IsWholeMachine m → Stands r m → IsHeard m n bytes → IsHonest (status_in n.core.state) n.core.state.last (Answer bytes) r.host n.server
-honest_at r m n bytes w f h = rw h.core (reply_honest m.core.state m.outstanding bytes r.host n.server w.waits w.latest (subst (λ (k : Host). Replies k m.outstanding bytes n.server) f.host h.replies))
+honest_at : (r : Running) (m n : Machine) (bytes : List ℕ) → IsWholeMachine m → IsAtRun r m → IsHeard m n bytes → IsHonest (status_in n.core.state) n.core.state.last (Answer bytes) r.host n.server
+honest_at r m n bytes w f h = rw h.core (reply_honest m.core.state m.outstanding bytes r.host n.server w.waits w.latest (subst (λ (k : Host). HostAnswers k m.outstanding bytes n.server) f.host h.replies))
 
-late_at : (r : Running) (m n : Machine) (bytes : List ℕ) → IsWholeMachine m → Stands r m → IsHeard m n bytes → IsHonest (status_in n.core.state) n.core.state.last Lost r.host n.server
-late_at r m n bytes w f h = rw h.core (late_honest m.core.state m.outstanding bytes r.host n.server w.waits w.latest (subst (λ (k : Host). Replies k m.outstanding bytes n.server) f.host h.replies))
+late_at : (r : Running) (m n : Machine) (bytes : List ℕ) → IsWholeMachine m → IsAtRun r m → IsHeard m n bytes → IsHonest (status_in n.core.state) n.core.state.last Lost r.host n.server
+late_at r m n bytes w f h = rw h.core (late_honest m.core.state m.outstanding bytes r.host n.server w.waits w.latest (subst (λ (k : Host). HostAnswers k m.outstanding bytes n.server) f.host h.replies))
 
-pub answered : (r : Running) (m n k : Machine) (bytes : List ℕ) (old new : Option (List ℕ)) → IsWholeMachine m → Stands r m → IsHeard m n bytes
-    → (x : Shown) × GoesOn (with_host r n.server) (after_turn (with_host r n.server) (Answer bytes) x) k old new × StaysFaithful (with_host r n.server) n.core.state (Answer bytes) x
-    → (x : Shown) × (later : Running) × IsAnswered r x later × GoesOn r later k old new × (IsFaithful r → IsFaithful later)
+pub answered : (r : Running) (m n k : Machine) (bytes : List ℕ) (old new : Option (List ℕ)) → IsWholeMachine m → IsAtRun r m → IsHeard m n bytes
+    → (x : Shown) × RunsOn (with_host r n.server) (after_turn (with_host r n.server) (Answer bytes) x) k old new × StaysFaithful (with_host r n.server) n.core.state (Answer bytes) x
+    → (x : Shown) × (later : Running) × IsAnswered r x later × RunsOn r later k old new × (IsFaithful r → IsFaithful later)
 answered r m n k bytes old new w f h q =
     (q.0, after_turn (with_host r n.server) (Answer bytes) q.0, (bytes, n.server, replies_as r m n bytes f h, refl), q.1, λ faithful. q.2 r.host (honest_at r m n bytes w f h) faithful)
 
-pub answer_lost : (r : Running) (m n k : Machine) (bytes : List ℕ) (old new : Option (List ℕ)) → IsWholeMachine m → Stands r m → IsHeard m n bytes
-    → (x : Shown) × GoesOn (with_host r n.server) (after_turn (with_host r n.server) Lost x) k old new × StaysFaithful (with_host r n.server) n.core.state Lost x
-    → (later : Running) × Obeys r Late later × GoesOn r later k old new × (IsFaithful r → IsFaithful later)
+pub answer_lost : (r : Running) (m n k : Machine) (bytes : List ℕ) (old new : Option (List ℕ)) → IsWholeMachine m → IsAtRun r m → IsHeard m n bytes
+    → (x : Shown) × RunsOn (with_host r n.server) (after_turn (with_host r n.server) Lost x) k old new × StaysFaithful (with_host r n.server) n.core.state Lost x
+    → (later : Running) × Obeys r Late later × RunsOn r later k old new × (IsFaithful r → IsFaithful later)
 answer_lost r m n k bytes old new w f h q =
     (after_turn (with_host r n.server) Lost q.0, (bytes, n.server, replies_as r m n bytes f h, (q.0, refl)), q.1, λ faithful. q.2 r.host (late_at r m n bytes w f h) faithful)
 

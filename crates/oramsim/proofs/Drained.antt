@@ -5,7 +5,7 @@ use Rattle.std.specs.List.{FoldsTo}
 use Rattle.std.proofs.lemmas.Fn.{FoldsTo-push}
 use Rattle.oram_run.specs.Run.{Shown}
 use Rattle.oramsim.specs.Script.{IsAnswered, IsDrained, Running}
-use Rattle.oramsim.specs.Standing.{GoesOn, IsFaithful}
+use Rattle.oramsim.specs.Standing.{RunsOn, IsFaithful}
 use Rattle.oramsim.specs.declared.machine.Machine.{Machine}
 use Rattle.oramsim.proofs.Turning.{tells_more}
 
@@ -13,13 +13,13 @@ pub none_left : (o : Option (List ℕ)) → is_some o ≡ false → o ≡ None
 none_left None e = refl
 none_left (Some m) e = cc
 
-some_there : (o p : Option (List ℕ)) → is_some o ≡ true → o ≡ p → p ≢ None
+pub some_there : (o p : Option (List ℕ)) → is_some o ≡ true → o ≡ p → p ≢ None
 some_there None p e same = cc
 some_there (Some m) p e same = λ none. let both : Some m ≡ None = same ∙ none in cc
 
-pub drained_more : (r mid later : Running) (m n : Machine) (old between new : Option (List ℕ)) (xs : List Shown) (x : Shown) → FoldsTo IsDrained r xs mid → GoesOn r mid m old between
-    → is_some m.outstanding ≡ true → IsAnswered mid x later → GoesOn mid later n between new → (IsFaithful r → IsFaithful later)
-    → (xs' : List Shown) × (last : Running) × FoldsTo IsDrained r xs' last × GoesOn r last n old new × (IsFaithful r → IsFaithful last)
+pub drained_more : (r mid later : Running) (m n : Machine) (old between new : Option (List ℕ)) (xs : List Shown) (x : Shown) → FoldsTo IsDrained r xs mid → RunsOn r mid m old between
+    → is_some m.outstanding ≡ true → IsAnswered mid x later → RunsOn mid later n between new → (IsFaithful r → IsFaithful later)
+    → (xs' : List Shown) × (last : Running) × FoldsTo IsDrained r xs' last × RunsOn r last n old new × (IsFaithful r → IsFaithful last)
 drained_more r mid later m n old between new xs x folds gone some answered next faithful = (
   xs ++ x ∷ [],
   later,

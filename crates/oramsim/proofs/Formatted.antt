@@ -12,8 +12,8 @@ use Rattle.oram_run.specs.State.{State}
 use Rattle.oram_run.proofs.Bounds.{some_trees}
 use Rattle.oram_core.specs.Formatting as core
 use Rattle.oramsim.specs.Hosting.{Refusing, Takes}
-use Rattle.oramsim.specs.Script.{IsNew, Running, plain_shape}
-use Rattle.oramsim.specs.Standing.{IsFaithful, IsWhole, Stands}
+use Rattle.oramsim.specs.Script.{IsNewRun, Running, plain_shape}
+use Rattle.oramsim.specs.Standing.{IsFaithful, IsWhole, IsAtRun}
 use Rattle.oramsim.specs.declared.machine.Machine.{Machine}
 use Rattle.oramsim.proofs.HostedFormat.{broken_off_for_room, formatted_served}
 
@@ -24,7 +24,7 @@ pub new_whole : (d : Sizes) (s : State) (from to : Host) → core.IsNew (plain_s
 new_whole d s from to k = rw k.state (record { waits = refl; latest = tt; rests = λ none empty. refl; stage = λ none. some_stages d })
 
 pub new_run : (d : Sizes) (m : Machine) (from : Host) → IsDevice d → m.core.device ≡ d → from ≡ [] → core.IsNew (plain_shape d) Takes from m.core.state m.server → m.outstanding ≡ None → m.snapshot ≡ None
-    → (r : Running) × IsNew d r × Stands r m × IsFaithful r
+    → (r : Running) × IsNewRun d r × IsAtRun r m × IsFaithful r
 new_run d m from is device empty k out copy =
     let v : Setting = record { shape = plain_shape d; format = k.format } in
     let r : Running = record { setting = v; turns = []; message = None; host = m.server; copy = None } in

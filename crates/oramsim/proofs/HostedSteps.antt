@@ -17,9 +17,9 @@ use Rattle.oram_run.specs.Events.{addresses, tape}
 use Rattle.oram_run.specs.Run.{Shown, IsRight, SendsRight, step_of, note_of, answer_note, loss_note, retry_note, submit_note, refusal_of, is_over, answered_tickets, is_resent, is_waiting, fails_now, shows_pair, entries_sent}
 use Rattle.oram_run.specs.State.{State}
 use Rattle.oram_run.specs.Moves.{records_after}
-use Rattle.oram_run.specs.Law.{Steps}
+use Rattle.oram_run.specs.Law.{StepsByRule}
 use Rattle.oram_run.specs.declared.events.Event.{Event}
-use Rattle.oram_run.specs.declared.events.Event.TheVariants.{Submit, Answer, Lost, Retry}
+use Rattle.oram_run.specs.declared.events.Event.TheVariants.{Submit, Answer, Lost, Reopen, Retry}
 use Rattle.oram_run.specs.declared.events.Note.TheVariants.{Taken, Stalled, Resent, Unexpected}
 use Rattle.oram_run.specs.declared.events.Command.{Command}
 use Rattle.oram_run.specs.declared.events.Refusal.{Refusal}
@@ -30,7 +30,7 @@ use Rattle.oram_run.proofs.Keeps.{Kept, records_quiet}
 use Rattle.oram_run.proofs.Going.{one_step}
 use Rattle.oram_run.proofs.Told.{status_told}
 use Rattle.oram_run.specs.State.{status_in}
-use Rattle.oramsim.specs.Hosting.{KeepsAll, IsServed, IsHonest}
+use Rattle.oramsim.specs.Hosting.{KeepsAll, IsServed, HeardOrNot, IsHonestWaiting, IsHonest}
 use Rattle.oramsim.proofs.Hosted.{full_outcome, full_apart}
 use Rattle.oramsim.proofs.HostedPast.{entry_fits, good_few, outstanding, waits_missing, first_of, again, Met, met_now, handed_served, onward, progress_next, IsBare, entries_same, entries_more, quiet_sends, next_sends}
 
@@ -266,15 +266,29 @@ answer_meets v past s bytes host after Waiting fit f h is honest =
 
 -- a loss
 
-loss_meets : (v : Setting) (past : List Step) (s : State) (host after : Host) (st : Status) → IsFit v.shape.device
-    → Follows v past s → IsServed v past host → status v past ≡ st → IsHonest st s.last Lost host after
-    → Meets v past Lost after
-loss_meets v past s host after st fit f h is honest = record {
-  apart = refl;
-  calm = ap fails_now (ap loss_note is) ∙ calm st;
-  next = quiet_next v past Lost after (λ t. refl) (ap is_resent (ap loss_note is) ∙ new st)
-      (ap (λ (q : Status). (after_loss (progress v past) q).good) is ∙ good st)
-      (ap (λ (q : Status). (after_loss (progress v past) q).failure) is ∙ alive st) (served st is honest);
+-- an event that means a loss
+record MeansLoss (v : Setting) (past : List Step) (event : Event) : Type 0 where
+  apart : shows_pair v past event ≡ false
+  bare : IsBare event
+  noted : note_of v past event ≡ loss_note (status v past)
+  gone : progress_next v past event ≡ after_loss (progress v past) (status v past)
+  heard_or_not : (last : List ℕ) (host after : Host) → IsHonestWaiting last event host after → HeardOrNot last host after
+
+lost_means : (v : Setting) (past : List Step) → MeansLoss v past Lost
+lost_means v past = record { apart = refl; bare = λ t. refl; noted = refl; gone = refl; heard_or_not = λ last host after h. h }
+
+reopened_means : (v : Setting) (past : List Step) → MeansLoss v past Reopen
+reopened_means v past = record { apart = refl; bare = λ t. refl; noted = refl; gone = refl; heard_or_not = λ last host after h. h }
+
+loss_meets : (v : Setting) (past : List Step) (s : State) (event : Event) (host after : Host) (st : Status) → IsFit v.shape.device
+    → MeansLoss v past event → Follows v past s → IsServed v past host → status v past ≡ st → IsHonest st s.last event host after
+    → Meets v past event after
+loss_meets v past s event host after st fit means f h is honest = record {
+  apart = means.apart;
+  calm = ap fails_now (means.noted ∙ ap loss_note is) ∙ calm st;
+  next = quiet_next v past event after means.bare (ap is_resent (means.noted ∙ ap loss_note is) ∙ new st)
+      (ap (λ (p : Progress). p.good) means.gone ∙ ap (λ (q : Status). (after_loss (progress v past) q).good) is ∙ good st)
+      (ap (λ (p : Progress). p.failure) means.gone ∙ ap (λ (q : Status). (after_loss (progress v past) q).failure) is ∙ alive st) (served st is honest);
 }
   where
     calm : (q : Status) → fails_now (loss_note q) ≡ false
@@ -301,13 +315,16 @@ loss_meets v past s host after st fit f h is honest = record {
     alive Stalling = h.alive
     alive Over = h.alive
 
-    served : (q : Status) → status v past ≡ q → IsHonest q s.last Lost host after → IsServed v past after
+    served_either : status v past ≡ Waiting → HeardOrNot s.last host after → IsServed v past after
+    served_either e (inl same) = subst (IsServed v past) (sym same) h
+    served_either e (inr late) =
+        handed_served v past host after late.0 h (met_now v past s.last host after late.0 (outstanding v past s fit h.alive f e) h late.1)
+
+    served : (q : Status) → status v past ≡ q → IsHonest q s.last event host after → IsServed v past after
     served Idle e same = subst (IsServed v past) (sym same) h
     served Stalling e same = subst (IsServed v past) (sym same) h
     served Over e same = subst (IsServed v past) (sym same) h
-    served Waiting e (inl same) = subst (IsServed v past) (sym same) h
-    served Waiting e (inr late) =
-        handed_served v past host after late.0 h (met_now v past s.last host after late.0 (outstanding v past s fit h.alive f e) h late.1)
+    served Waiting e heard = served_either e (means.heard_or_not s.last host after heard)
 
 -- a retry
 
@@ -353,7 +370,8 @@ meets v past s (Submit session c w) host after fit f h honest =
       next = submit_next v past session c w after (subst (IsServed v past) (sym same) h) (good_few v past s h.alive f);
     }
 meets v past s (Answer bytes) host after fit f h honest = answer_meets v past s bytes host after (status v past) fit f h refl honest
-meets v past s Lost host after fit f h honest = loss_meets v past s host after (status v past) fit f h refl honest
+meets v past s Lost host after fit f h honest = loss_meets v past s Lost host after (status v past) fit (lost_means v past) f h refl honest
+meets v past s Reopen host after fit f h honest = loss_meets v past s Reopen host after (status v past) fit (reopened_means v past) f h refl honest
 meets v past s Retry host after fit f h honest = retry_meets v past s.last host after (status v past) h refl honest
 
 -- One step of a core that follows the past, over an honest host: it is right, shows no pair, fails nothing, and the host serves the
@@ -365,7 +383,7 @@ pub record IsStepServed (v : Setting) (past : List Step) (event : Event) (x : Sh
   pub served : IsServed v (step_of event x ∷ past) after
 
 pub step_served : (v : Setting) (past : List Step) (s t : State) (event : Event) (x : Shown) (host after : Host)
-    → IsFit v.shape.device → Follows v past s → Steps v.shape s event x t → IsServed v past host
+    → IsFit v.shape.device → Follows v past s → StepsByRule v.shape s event x t → IsServed v past host
     → IsHonest (status_in s) s.last event host after → IsStepServed v past event x t after
 step_served v past s t event x host after fit f step h honest =
     let told : IsHonest (status v past) s.last event host after =

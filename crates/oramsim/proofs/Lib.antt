@@ -1,7 +1,7 @@
+pub mod FirstField
 pub mod Numbers
-pub mod Hex
 pub mod Writes
-pub mod Lines
+pub mod FirstLine
 pub mod Whole
 pub mod Turning
 pub mod Hosted
@@ -17,4 +17,6 @@ pub mod Formatted
 pub mod Started
 pub mod Clean
 pub mod Passing
+pub mod GivenUp
+pub mod Cut
 mod Rows

@@ -1,7 +1,6 @@
 -- Numbers as text.
-use Rattle.std.proofs.Math.ListN.{get_or-map, length-map}
-use Rattle.std.specs.Prelude.{◌==◌, ◌&&◌, not, nat_lt}
-use Rattle.std.proofs.Common.{◌+◌, suc, map, drop, get_or, drop-cons, add-one, append_assoc, ◌++◌, [], ◌∷◌, subst, ◌≡◌, ℕ, ◌^◌, ◌<◌, Bool, true, false, List, length, Option, Some, None, Result, Ok, Err, refl, sym, ap, ◌∙◌, arith, rules}
+use Rattle.std.specs.Prelude.{◌&&◌}
+use Rattle.std.proofs.Common.{◌++◌, subst, ◌≡◌, ℕ, ◌^◌, ◌<◌, Bool, true, false, List, length, Option, Some, None, Result, Ok, Err, refl, sym, ap, ◌∙◌, arith, rules}
 use Rattle.std.specs.Char.{is_ascii_digit}
 use Rattle.std.specs.List.{list_all}
 use Rattle.std.specs.Result.{result_ok, MatchResult, OkIff}
@@ -11,7 +10,7 @@ use Rattle.std.specs.Str.Parse.{digits_value, ParsesUnsigned}
 use Rattle.std.proofs.lemmas.Str.Parse.{IsNumeralModel, numerals_by_value, parse_digits}
 use Rattle.std.proofs.lemmas.Str.{IsUtf8-from_ascii}
 use Rattle.std.proofs.lemmas.Fmt.{IsAscii-from_digits}
-use Rattle.oramsim.specs.Reading.{has_leading_zero, is_numeral, number_below, numbers_below, ◌>>=◌}
+use Rattle.oramsim.specs.Reading.{is_numeral, number_below}
 
 pub own : IsNumeralModel (λ ds. list_all is_ascii_digit ds ≡ true) (digits_value 10)
 own = numerals_by_value (λ ds. list_all is_ascii_digit ds ≡ true) (search rules)
@@ -26,13 +25,6 @@ digits_of_numeral bs h = (both_true _ _ h).1
 
 pub digits_some : (bs : List ℕ) → is_numeral bs ≡ true → 0 < length bs
 digits_some bs h = ltb-true 0 (length bs) (both_true _ _ (both_true _ _ h).0).0
-
--- a numeral by the tests for the empty field and for a leading zero
-pub numeral_is : (bs : List ℕ) → (length bs == 0) ≡ false → has_leading_zero bs ≡ false → list_all is_ascii_digit bs ≡ is_numeral bs
-numeral_is [] e z = cc
-numeral_is (b ∷ bs) e z = glued (nat_lt 0 (length (b ∷ bs))) (has_leading_zero (b ∷ bs)) (list_all is_ascii_digit (b ∷ bs)) (lt-ltb 0 (length (b ∷ bs)) (omega arith)) z where
-  glued : (p q r : Bool) → p ≡ true → q ≡ false → r ≡ (p && not q && r)
-  glued p q r a b = rw (a, b) refl
 
 pub number_below_fits : (limit : ℕ) (bs : List ℕ) → is_numeral bs ≡ true → digits_value 10 bs < limit → number_below limit bs ≡ Some (digits_value 10 bs)
 unfolding number_below
@@ -63,20 +55,3 @@ some_gives (Err e) P Q x m h = cc
 abbrev pub with_front : List ℕ → Option (List ℕ) → Option (List ℕ)
 with_front front None = None
 with_front front (Some rest) = Some (front ++ rest)
-
-pub numbers_none : (limit : ℕ) (front : List ℕ) (fields : List (List ℕ)) (x : List ℕ) (ys : List (List ℕ)) → fields ≡ x ∷ ys → number_below limit x ≡ None → with_front front (numbers_below limit fields) ≡ None
-unfolding numbers_below
-numbers_none limit front fields x ys e h = rw (e, h) refl
-
-pub numbers_more : (limit : ℕ) (front : List ℕ) (fields : List (List ℕ)) (x : List ℕ) (ys : List (List ℕ)) (n : ℕ) → fields ≡ x ∷ ys → number_below limit x ≡ Some n
-    → with_front (front ++ n ∷ []) (numbers_below limit ys) ≡ with_front front (numbers_below limit fields)
-unfolding numbers_below
-numbers_more limit front fields x ys n e h = rw (e, h) (joined front n (numbers_below limit ys)) where
-  joined : (front : List ℕ) (n : ℕ) (o : Option (List ℕ)) → with_front (front ++ n ∷ []) o ≡ with_front front (o >>= λ numbers. Some (n ∷ numbers))
-  joined front n None = refl
-  joined front n (Some numbers) = ap Some (append_assoc front (n ∷ []) numbers)
-
--- the fields from place i on
-pub field_at : {A : Type 0} (now : A → List ℕ) (fields : List A) (i : ℕ) (d : A) → i < length fields → drop i (map now fields) ≡ now (get_or fields i d) ∷ drop (i + 1) (map now fields)
-field_at now fields i d lt =
-    drop-cons (map now fields) i (now d) (omega (arith, length-map fields now)) ∙ (ap (λ x. x ∷ drop (suc i) (map now fields)) (get_or-map now fields i d) ∙ ap (λ j. now (get_or fields i d) ∷ drop j (map now fields)) (sym (add-one i)))

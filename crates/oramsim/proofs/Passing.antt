@@ -10,37 +10,37 @@ use Rattle.std.proofs.lemmas.Bool.{eqb-true}
 use Rattle.oram_geometry.specs.declared.Sizes.{Sizes}
 use Rattle.oram_geometry.specs.declared.ShapeFault.{ShapeFault}
 use Rattle.oram_geometry.specs.Sizes.{device_of, trees_of}
-use Rattle.oramsim.proofs.Lines.{lines_first}
+use Rattle.oramsim.proofs.FirstLine.{lines_first}
 use Rattle.oramsim.proofs.Obeyed.{Obeyed}
 use Rattle.oramsim.proofs.Faithful.{run_right}
 use Rattle.oramsim.proofs.Clean.{Clean, clean_append, clean_nil, clean_text, error_clean, ready_clean, shape_clean, turns_clean}
 use Rattle.oramsim.specs.Printing.{error_text, ready_text, shape_text}
 use Rattle.oramsim.specs.Reading.{lines_of, line_of}
-use Rattle.oramsim.specs.Script.{HasNoFailure, HasRun, IsBad, IsDone, IsHarmless, IsHarmlessScript, IsPassed, IsRefused, IsScriptText, IsUnfit, Point, Running, Stage, Starts, is_device, stage_text, start, text_at}
-use Rattle.oramsim.specs.Standing.{GoesOnAt, IsFaithfulAt, Stands, StandsAt, Tells}
+use Rattle.oramsim.specs.Script.{HasNoFailure, HasRun, IsBad, IsDone, IsHarmless, IsHarmlessScript, IsPassed, IsRefusedLine, IsScriptText, IsUnfit, Point, Running, Stage, Starts, stage_text, start, text_at}
+use Rattle.oramsim.specs.Standing.{RunsOnAt, IsFaithfulAt, IsAtRun, StandsAt, Prints}
 use Rattle.oramsim.specs.declared.line.Line.{Line}
-use Rattle.oramsim.specs.declared.line.Line.TheVariants.{Device, Told, Answer, Drain, Late, Tamper, Snapshot, Restore}
+use Rattle.oramsim.specs.declared.line.Line.TheVariants.{Device, Told, Answer, Drain, Late, Tamper, Swap, Snapshot, Restore}
 use Rattle.oramsim.specs.declared.machine.Machine.{Machine}
 use Rattle.oramsim.specs.declared.script.Ending.TheVariants.{End, BadLine}
 use Rattle.oramsim.specs.declared.script.SimFault.{SimFault}
 
 -- a line was passed, and the run goes on
 abbrev pub Passed : Point → List ℕ → Option Machine → Option (List ℕ) → Option (List ℕ) → Type 0
-Passed p bytes m old new = (q : Point) × IsPassed p bytes q × GoesOnAt p q m old new × (IsHarmless (line_of bytes) → IsFaithfulAt p.stage → IsFaithfulAt q.stage)
+Passed p bytes m old new = (q : Point) × IsPassed p bytes q × RunsOnAt p q m old new × (IsHarmless (line_of bytes) → IsFaithfulAt p.stage → IsFaithfulAt q.stage)
 
-passes_line : (p q : Point) (bytes : List ℕ) (line : Line) → (length bytes == 0) ≡ false → line_of bytes ≡ Some line → IsDone p p.stage line q → IsPassed p bytes q
+pub passes_line : (p q : Point) (bytes : List ℕ) (line : Line) → (length bytes == 0) ≡ false → line_of bytes ≡ Some line → IsDone p p.stage line q → IsPassed p bytes q
 passes_line p q [] line n e d = cc
 passes_line p q (b ∷ bytes) line n e d = (line, e, d)
 
-bad_line : (stage : Stage) (bytes : List ℕ) (o : Option Line) → (length bytes == 0) ≡ false → line_of bytes ≡ o → IsRefused stage o → IsBad stage bytes
+bad_line : (stage : Stage) (bytes : List ℕ) (o : Option Line) → (length bytes == 0) ≡ false → line_of bytes ≡ o → IsRefusedLine stage o → IsBad stage bytes
 bad_line stage [] o n e d = cc
-bad_line stage (b ∷ bytes) o n e d = subst (IsRefused stage) (sym e) d
+bad_line stage (b ∷ bytes) o n e d = subst (IsRefusedLine stage) (sym e) d
 
 passes_empty : (p : Point) (bytes : List ℕ) → (length bytes == 0) ≡ true → IsPassed p bytes p
 passes_empty p [] e = refl
 passes_empty p (b ∷ bytes) e = absurd (omega (arith, eqb-true (length (b ∷ bytes)) 0 e))
 
-no_text : (p : Point) (old : Option (List ℕ)) → Tells (text_at p) (text_at p) old old
+no_text : (p : Point) (old : Option (List ℕ)) → Prints (text_at p) (text_at p) old old
 no_text p old = ([], sym (append-nil (text_at p)), Appends-nil old)
 
 pub empty_passed : (p : Point) (m : Option Machine) (bytes : List ℕ) (old : Option (List ℕ)) → (length bytes == 0) ≡ true → StandsAt p.stage m → Passed p bytes m old old
@@ -48,7 +48,7 @@ empty_passed p m bytes old e f = (p, passes_empty p bytes e, (f, no_text p old),
 
 -- a device obeyed a line
 passed_at : (stage : Stage) (head : List ℕ) (m n : Machine) (bytes : List ℕ) (line : Line) (result : Result Bool SimFault) (old new : Option (List ℕ)) →
-    ((r : Running) → Stands r m → result ≡ Ok true → Obeyed r line n old new)
+    ((r : Running) → IsAtRun r m → result ≡ Ok true → Obeyed r line n old new)
     → (length bytes == 0) ≡ false → line_of bytes ≡ Some line → StandsAt stage (Some m) → result ≡ Ok true
     → Passed (record { stage = stage; head = head }) bytes (Some n) old new
 passed_at None head m n bytes line result old new ok some e f done = absurd f
@@ -59,31 +59,25 @@ passed_at (Some r) head m n bytes line result old new ok some e f done =
     (q, passes_line p q bytes line some e (o.0, o.1, refl), (o.2.0, (o.2.1.0, ap (λ l. head ++ l) o.2.1.1 ∙ sym (append_assoc head _ o.2.1.0), o.2.1.2)), λ harmless h. o.3 (subst IsHarmless e harmless) h)
 
 pub passed_some : (p : Point) (m n : Machine) (bytes : List ℕ) (line : Line) (result : Result Bool SimFault) (old new : Option (List ℕ)) →
-    ((r : Running) → Stands r m → result ≡ Ok true → Obeyed r line n old new)
+    ((r : Running) → IsAtRun r m → result ≡ Ok true → Obeyed r line n old new)
     → (length bytes == 0) ≡ false → line_of bytes ≡ Some line → StandsAt p.stage (Some m) → result ≡ Ok true → Passed p bytes (Some n) old new
 passed_some p m n bytes line result old new ok some e f done = passed_at p.stage p.head m n bytes line result old new ok some e f done
 
 refused_at : (stage : Stage) (m : Machine) (bytes : List ℕ) (line : Line) (result : Result Bool SimFault) (old new : Option (List ℕ)) →
-    ((r : Running) → Stands r m → result ≡ Ok false → IsUnfit r line × (new ≡ old))
+    ((r : Running) → IsAtRun r m → result ≡ Ok false → IsUnfit r line × (new ≡ old))
     → (length bytes == 0) ≡ false → line_of bytes ≡ Some line → StandsAt stage (Some m) → result ≡ Ok false → IsBad stage bytes × (new ≡ old)
 refused_at None m bytes line result old new bad some e f done = absurd f
 refused_at (Some r) m bytes line result old new bad some e f done = let q = bad r f done in (bad_line (Some r) bytes (Some line) some e q.0, q.1)
 
 pub refused_some : (p : Point) (m : Machine) (bytes : List ℕ) (line : Line) (result : Result Bool SimFault) (old new : Option (List ℕ)) →
-    ((r : Running) → Stands r m → result ≡ Ok false → IsUnfit r line × (new ≡ old))
+    ((r : Running) → IsAtRun r m → result ≡ Ok false → IsUnfit r line × (new ≡ old))
     → (length bytes == 0) ≡ false → line_of bytes ≡ Some line → StandsAt p.stage (Some m) → result ≡ Ok false → IsBad p.stage bytes × (new ≡ old)
 refused_some p m bytes line result old new bad some e f done = refused_at p.stage m bytes line result old new bad some e f done
-
--- bytes that are no line of a script
-pub refused_none : (p : Point) (bytes : List ℕ) → (length bytes == 0) ≡ false → line_of bytes ≡ None → IsBad p.stage bytes
-refused_none p bytes some e = bad_line p.stage bytes None some e (unreadable p.stage) where
-  unreadable : (stage : Stage) → IsRefused stage None
-  unreadable stage = tt
 
 -- a device where there was none
 started_at : (stage : Stage) (head : List ℕ) (m : Option Machine) (bytes : List ℕ) (blocks block_bytes slots top lifetime : ℕ) (made : Result Sizes ShapeFault) (old new : Option (List ℕ)) →
     made ≡ device_of (record { blocks = blocks; block_bytes = block_bytes; slots = slots; top = top; lifetime = lifetime })
-    → ((h : List ℕ) → (q : Point) × Starts h made q × GoesOnAt (record { stage = None; head = h }) q m old new × IsFaithfulAt q.stage)
+    → ((h : List ℕ) → (q : Point) × Starts h made q × RunsOnAt (record { stage = None; head = h }) q m old new × IsFaithfulAt q.stage)
     → (length bytes == 0) ≡ false → line_of bytes ≡ Some (Device blocks block_bytes slots top lifetime) → StandsAt stage None
     → Passed (record { stage = stage; head = head }) bytes m old new
 started_at (Some r) head m bytes blocks block_bytes slots top lifetime made old new is began some e f = absurd f
@@ -94,17 +88,9 @@ started_at None head m bytes blocks block_bytes slots top lifetime made old new 
 
 pub started : (p : Point) (m : Option Machine) (bytes : List ℕ) (blocks block_bytes slots top lifetime : ℕ) (made : Result Sizes ShapeFault) (old new : Option (List ℕ)) →
     made ≡ device_of (record { blocks = blocks; block_bytes = block_bytes; slots = slots; top = top; lifetime = lifetime })
-    → ((h : List ℕ) → (q : Point) × Starts h made q × GoesOnAt (record { stage = None; head = h }) q m old new × IsFaithfulAt q.stage)
+    → ((h : List ℕ) → (q : Point) × Starts h made q × RunsOnAt (record { stage = None; head = h }) q m old new × IsFaithfulAt q.stage)
     → (length bytes == 0) ≡ false → line_of bytes ≡ Some (Device blocks block_bytes slots top lifetime) → StandsAt p.stage None → Passed p bytes m old new
 started p m bytes blocks block_bytes slots top lifetime made old new is began some e f = started_at p.stage p.head m bytes blocks block_bytes slots top lifetime made old new is began some e f
-
--- a line that wants a device, where there is none
-early_at : (stage : Stage) (bytes : List ℕ) (line : Line) → (length bytes == 0) ≡ false → line_of bytes ≡ Some line → is_device line ≡ false → StandsAt stage None → IsBad stage bytes
-early_at None bytes line some e d f = bad_line None bytes (Some line) some e d
-early_at (Some r) bytes line some e d f = absurd f
-
-pub refused_early : (p : Point) (bytes : List ℕ) (line : Line) → (length bytes == 0) ≡ false → line_of bytes ≡ Some line → is_device line ≡ false → StandsAt p.stage None → IsBad p.stage bytes
-refused_early p bytes line some e d f = early_at p.stage bytes line some e d f
 
 head_made : (head : List ℕ) (made : Result Sizes ShapeFault) (q : Point) → Starts head made q → Clean head → Clean q.head
 head_made head (Ok d) q k clean = subst (λ (u : Point). Clean u.head) (sym k.2) (clean_append head (ready_text (trees_of d)) clean (ready_clean (trees_of d)))
@@ -118,6 +104,7 @@ head_done None p q Answer k clean = absurd k
 head_done None p q Drain k clean = absurd k
 head_done None p q Late k clean = absurd k
 head_done None p q (Tamper tree node offset) k clean = absurd k
+head_done None p q (Swap tree_a node_a tree_b node_b) k clean = absurd k
 head_done None p q Snapshot k clean = absurd k
 head_done None p q Restore k clean = absurd k
 
@@ -136,7 +123,7 @@ all_split : {A : Type 0} (P : A → Type 0) (xs ys : List A) → AllByRecursion 
 all_split P [] ys h = (tt, h)
 all_split P (x ∷ xs) ys h = let q = all_split P xs ys h.1 in ((h.0, q.0), q.1)
 
-run_done : (stage : Stage) (m : Option Machine) → StandsAt stage m → HasRun stage
+pub run_done : (stage : Stage) (m : Option Machine) → StandsAt stage m → HasRun stage
 run_done None m f = tt
 run_done (Some r) None f = absurd f
 run_done (Some r) (Some m) f = run_right r m f
@@ -160,7 +147,7 @@ came_none None text = tt
 came_none (Some input) text = record { lines = []; rest = input; point = start; known = refl; split = refl; count = refl; passed = refl; stands = tt; wrote = Appends-nil text; neat = clean_nil; faithful = λ harmless. tt }
 
 -- what a line that was read is to the rest that it was read from
-read_rest : (left later : Option (List ℕ)) (line rest : List ℕ) → IfSome left (λ xs. line ≡ take_through 10 xs) → DropsThrough left later 10 → left ≡ Some rest → (line ≡ take_through 10 rest) × (later ≡ Some (drop_through 10 rest))
+pub read_rest : (left later : Option (List ℕ)) (line rest : List ℕ) → IfSome left (λ xs. line ≡ take_through 10 xs) → DropsThrough left later 10 → left ≡ Some rest → (line ≡ take_through 10 rest) × (later ≡ Some (drop_through 10 rest))
 read_rest left later line rest e drops known = (subst (λ o. IfSome o (λ xs. line ≡ take_through 10 xs)) known e, subst (λ o. DropsThrough o later 10) known drops)
 
 pub came_more : (all left later old mid new : Option (List ℕ)) (number : ℕ) (m n : Option Machine) (line bytes : List ℕ) →
@@ -197,14 +184,6 @@ came_end (Some input) left old new number m came end =
       (λ harmless. clean_text (text_at came.point) (point_clean came.point came.neat (came.faithful (subst (AllByRecursion (λ b. IsHarmless (line_of b))) all harmless)))),
       came.wrote,
     )
-
-pub came_over : (all left later old new : Option (List ℕ)) (number : ℕ) (m : Option Machine) → IfSome all (λ input. Came input left old new number m) → IsAtEnd left → DropsThrough left later 10
-    → IfSome all (λ input. IsAtEnd later)
-came_over None left later old new number m came end drops = tt
-came_over (Some input) left later old new number m came end drops =
-    let over : came.rest ≡ [] = subst IsAtEnd came.known end in
-    let now : later ≡ Some (drop_through 10 came.rest) = subst (λ o. DropsThrough o later 10) came.known drops in
-    subst IsAtEnd (sym (now ∙ ap (λ l. Some (drop_through 10 l)) over)) refl
 
 -- a line that can't be, and its number is told
 pub came_bad : (all left later old mid next new : Option (List ℕ)) (number : ℕ) (m : Option Machine) (line bytes : List ℕ) →

@@ -4,15 +4,15 @@ use Rattle.std.specs.Prelude.{codes}
 use Rattle.std.specs.Fmt.{digits}
 use Rattle.hex.proofs.OnLiterals.{hex_on_literals}
 use Rattle.hex.specs.Hex.{encode_with}
-use Rattle.oram_run.specs.declared.events.Command.TheVariants.{Read, Write}
+use Rattle.oram_run.specs.declared.events.Command.TheVariants.{Read, Write, Discard}
 use Rattle.oram_run.specs.declared.events.Event.TheVariants as event
 use Rattle.oram_run.specs.declared.events.Note.TheVariants.{Accepted, Refused, FailedNow, Resent}
 use Rattle.oram_run.specs.declared.events.Reason.TheVariants.{Malformed, Tampered}
 use Rattle.oram_run.specs.declared.events.Refusal.TheVariants.{Exhausted}
 use Rattle.oram_run.specs.declared.events.ReplyBody.TheVariants.{Data}
 use Rattle.oramsim.specs.Printing.{note_text, reply_text, send_text, error_text}
-use Rattle.oramsim.specs.Reading.{lines_of, line_of, line_from, device_from, read_from, write_from, raw_from, tamper_from, named_line, number_below, numbers_below, hex_bytes}
-use Rattle.oramsim.specs.declared.line.Line.TheVariants.{Device, Told, Drain, Tamper, Restore}
+use Rattle.oramsim.specs.Reading.{lines_of, line_of, line_from, device_from, addressed, read_from, discard_from, write_from, raw_from, tamper_from, swap_from, named_line, number_below, numbers_below, hex_bytes}
+use Rattle.oramsim.specs.declared.line.Line.TheVariants.{Device, Told, Drain, Tamper, Swap, Restore}
 
 lines_ended : lines_of (97 ∷ 10 ∷ 10 ∷ 98 ∷ 10 ∷ []) ≡ (97 ∷ []) ∷ [] ∷ (98 ∷ []) ∷ []
 lines_ended = refl
@@ -25,31 +25,31 @@ unfolding line_from device_from number_below
 device_line = refl
 
 read_line : line_of (codes "read 1 0 18446744073709551615 0") ≡ Some (Told (event.Submit 1 (Read 0) (18446744073709551615 ∷ 0 ∷ [])))
-unfolding line_from read_from number_below numbers_below
+unfolding line_from read_from addressed number_below numbers_below
 read_line = refl
 
 word_too_large : line_of (codes "read 1 0 18446744073709551616") ≡ None
-unfolding line_from read_from number_below numbers_below
+unfolding line_from read_from addressed number_below numbers_below
 word_too_large = refl
 
 address_too_large : line_of (codes "read 1 4294967296") ≡ None
-unfolding line_from read_from number_below numbers_below
+unfolding line_from read_from addressed number_below numbers_below
 address_too_large = refl
 
 no_words : line_of (codes "read 1 5") ≡ Some (Told (event.Submit 1 (Read 5) []))
-unfolding line_from read_from number_below numbers_below
+unfolding line_from read_from addressed number_below numbers_below
 no_words = refl
 
 leading_zero : line_of (codes "read 01 5") ≡ None
-unfolding line_from read_from number_below numbers_below
+unfolding line_from read_from addressed number_below numbers_below
 leading_zero = refl
 
 plus_sign : line_of (codes "read +1 5") ≡ None
-unfolding line_from read_from number_below numbers_below
+unfolding line_from read_from addressed number_below numbers_below
 plus_sign = refl
 
 double_space : line_of (codes "read 1  5") ≡ None
-unfolding line_from read_from number_below numbers_below
+unfolding line_from read_from addressed number_below numbers_below
 double_space = refl
 
 space_at_the_end : line_of (codes "drain ") ≡ None
@@ -59,6 +59,14 @@ space_at_the_end = refl
 drain_line : line_of (codes "drain") ≡ Some Drain
 unfolding line_from named_line
 drain_line = refl
+
+discard_line : line_of (codes "discard 3 5 2 4") ≡ Some (Told (event.Submit 3 (Discard 5) (2 ∷ 4 ∷ [])))
+unfolding line_from discard_from addressed number_below numbers_below
+discard_line = refl
+
+discard_of_nothing : line_of (codes "discard 3") ≡ None
+unfolding line_from discard_from addressed
+discard_of_nothing = refl
 
 write_line : line_of (codes "write 2 3 0aFf 7") ≡ Some (Told (event.Submit 2 (Write 3 (10 ∷ 255 ∷ [])) (7 ∷ [])))
 unfolding line_from write_from number_below numbers_below hex_bytes hex_on_literals
@@ -79,6 +87,18 @@ raw_of_nothing = refl
 tamper_line : line_of (codes "tamper 0 13 18446744073709551615") ≡ Some (Tamper 0 13 18446744073709551615)
 unfolding line_from tamper_from number_below
 tamper_line = refl
+
+swap_line : line_of (codes "swap 2 0 1 18446744073709551615") ≡ Some (Swap 2 0 1 18446744073709551615)
+unfolding line_from swap_from number_below
+swap_line = refl
+
+swap_of_one : line_of (codes "swap 2 0 1") ≡ None
+unfolding line_from swap_from
+swap_of_one = refl
+
+swap_of_more : line_of (codes "swap 2 0 1 0 0") ≡ None
+unfolding line_from swap_from
+swap_of_more = refl
 
 lost_line : line_of (codes "lost") ≡ Some (Told event.Lost)
 unfolding line_from named_line

@@ -5,16 +5,16 @@ use Rattle.oram_geometry.specs.declared.Sizes.{Sizes}
 use Rattle.oram_geometry.specs.declared.ShapeFault.{ShapeFault}
 use Rattle.oram_geometry.specs.Sizes.{trees_of}
 use Rattle.oramsim.specs.Printing.{ready_text, shape_text}
-use Rattle.oramsim.specs.Script.{IsNew, Point, Running, Starts, stage_text}
-use Rattle.oramsim.specs.Standing.{GoesOnAt, IsFaithful, IsFaithfulAt, Stands}
+use Rattle.oramsim.specs.Script.{IsNewRun, Point, Running, Starts, stage_text}
+use Rattle.oramsim.specs.Standing.{RunsOnAt, IsFaithful, IsFaithfulAt, IsAtRun}
 use Rattle.oramsim.specs.declared.machine.Machine.{Machine}
 
-nothing_shown : (r : Running) → r.turns ≡ [] → stage_text (Some r) ≡ []
+pub nothing_shown : (r : Running) → r.turns ≡ [] → stage_text (Some r) ≡ []
 nothing_shown r none = rw none refl
 
 pub begun : (head : List ℕ) (made : Result Sizes ShapeFault) (d : Sizes) (trees : ℕ) (m : Machine) (old new : Option (List ℕ)) → made ≡ Ok d → trees ≡ trees_of d
-    → (r : Running) × IsNew d r × Stands r m × IsFaithful r → Appends old new (ready_text trees)
-    → (q : Point) × Starts head made q × GoesOnAt (record { stage = None; head = head }) q (Some m) old new × IsFaithfulAt q.stage
+    → (r : Running) × IsNewRun d r × IsAtRun r m × IsFaithful r → Appends old new (ready_text trees)
+    → (q : Point) × Starts head made q × RunsOnAt (record { stage = None; head = head }) q (Some m) old new × IsFaithfulAt q.stage
 begun head made d trees m old new is count p wrote =
     let text = ready_text (trees_of d) in
     let q : Point = record { stage = Some p.0; head = head ++ text } in (
@@ -25,7 +25,7 @@ begun head made d trees m old new is count p wrote =
     )
 
 pub faulted : (head : List ℕ) (made : Result Sizes ShapeFault) (fault : ShapeFault) (old new : Option (List ℕ)) → made ≡ Err fault → Appends old new (shape_text fault)
-    → (q : Point) × Starts head made q × GoesOnAt (record { stage = None; head = head }) q None old new × IsFaithfulAt q.stage
+    → (q : Point) × Starts head made q × RunsOnAt (record { stage = None; head = head }) q None old new × IsFaithfulAt q.stage
 faulted head made fault old new is wrote =
     let text = shape_text fault in
     let q : Point = record { stage = None; head = head ++ text } in (

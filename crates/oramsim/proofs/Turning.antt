@@ -7,7 +7,7 @@ use Rattle.std.proofs.KnownBytes.{Appends-trans, Appends-nil}
 use Rattle.std.proofs.lemmas.Fn.{FoldsTo-push}
 use Rattle.std.proofs.lemmas.Grind.{flat_map-append}
 use Rattle.std.proofs.lemmas.List.{map-append}
-use Rattle.oram_run.specs.Law.{Steps as Moving, new_state}
+use Rattle.oram_run.specs.Law.{StepsByRule, new_state}
 use Rattle.oram_run.specs.Run.{Shown}
 use Rattle.oram_run.specs.Shape.{Shape}
 use Rattle.oram_run.specs.State.{State}
@@ -15,7 +15,7 @@ use Rattle.oram_run.specs.declared.events.Event.{Event}
 use Rattle.oram_core.specs.Steps.{Steps}
 use Rattle.oramsim.specs.Printing.{reaction_text}
 use Rattle.oramsim.specs.Script.{Running, Turn, after_turn, all_shown, left_at, newest_of, plain_shape, stage_text}
-use Rattle.oramsim.specs.Standing.{GoesOn, IsPlayed, Stands, Tells}
+use Rattle.oramsim.specs.Standing.{RunsOn, IsPlayed, IsAtRun, Prints}
 use Rattle.oramsim.specs.declared.machine.Machine.{Machine}
 use Rattle.oramsim.proofs.Whole.{newest_or}
 
@@ -23,17 +23,17 @@ use Rattle.oramsim.proofs.Whole.{newest_or}
 pub outstanding_is : (xs : List (List ℕ)) (sent left out : Option (List ℕ)) → out ≡ option_or sent left → sent ≡ newest_of xs None → out ≡ newest_of xs left
 outstanding_is xs sent left out e s = e ∙ (ap (λ o. option_or o left) s ∙ newest_or xs left)
 
-turn_text : (r : Running) (e : Event) (x : Shown) → stage_text (Some (after_turn r e x)) ≡ stage_text (Some r) ++ reaction_text x
+pub turn_text : (r : Running) (e : Event) (x : Shown) → stage_text (Some (after_turn r e x)) ≡ stage_text (Some r) ++ reaction_text x
 turn_text r e x =
     let turn : Turn = record { event = e; shown = x } in
     ap (flat_map reaction_text) (map-append (λ (t : Turn). t.shown) r.turns (turn ∷ [])) ∙ (flat_map-append reaction_text (all_shown r) (x ∷ []) ∙ ap (λ l. stage_text (Some r) ++ l) (append-nil (reaction_text x)))
 
-pub moving : (v w : Shape) (s t : State) (e : Event) (x : Shown) → w ≡ v → Steps v s e x t → Moving w s e x t
-moving v w s t e x same step = subst (λ (u : Shape). Moving u s e x t) (sym same) step.moves
+pub moving : (v w : Shape) (s t : State) (e : Event) (x : Shown) → w ≡ v → Steps v s e x t → StepsByRule w s e x t
+moving v w s t e x same step = subst (λ (u : Shape). StepsByRule u s e x t) (sym same) step.moves
 
-pub goes_on : (r : Running) (m n : Machine) (e : Event) (x : Shown) (sent old new : Option (List ℕ)) → Stands r m → IsPlayed m.core.device m.core.state e x sent n.core.state
+pub goes_on : (r : Running) (m n : Machine) (e : Event) (x : Shown) (sent old new : Option (List ℕ)) → IsAtRun r m → IsPlayed m.core.device m.core.state e x sent n.core.state
     → n.core.device ≡ m.core.device → n.outstanding ≡ newest_of x.sends (left_at e m.outstanding) → n.server ≡ m.server → n.snapshot ≡ m.snapshot
-    → Appends old new (reaction_text x) → GoesOn r (after_turn r e x) n old new
+    → Appends old new (reaction_text x) → RunsOn r (after_turn r e x) n old new
 goes_on r m n e x sent old new f played device out server snapshot wrote = (
   record {
     ranges = rw device f.ranges;
@@ -41,7 +41,7 @@ goes_on r m n e x sent old new f played device out server snapshot wrote = (
     leads = (
       f.leads.0,
       f.leads.1,
-      FoldsTo-push (λ a (t : Turn) b. Moving r.setting.shape a t.event t.shown b) (new_state r.setting f.leads.0) r.turns m.core.state (record { event = e; shown = x }) n.core.state f.leads.2
+      FoldsTo-push (λ a (t : Turn) b. StepsByRule r.setting.shape a t.event t.shown b) (new_state r.setting f.leads.0) r.turns m.core.state (record { event = e; shown = x }) n.core.state f.leads.2
           (moving (plain_shape m.core.device) r.setting.shape m.core.state n.core.state e x f.shape played.steps),
     );
     message = out ∙ ap (λ o. newest_of x.sends (left_at e o)) f.message;
@@ -52,10 +52,10 @@ goes_on r m n e x sent old new f played device out server snapshot wrote = (
 )
 
 -- nothing more is printed
-pub silent : (a b : List ℕ) (old : Option (List ℕ)) → b ≡ a → Tells a b old old
+pub silent : (a b : List ℕ) (old : Option (List ℕ)) → b ≡ a → Prints a b old old
 silent a b old e = ([], e ∙ sym (append-nil a), Appends-nil old)
 
-pub tells_more : (a b c : List ℕ) (old mid new : Option (List ℕ)) → Tells a b old mid → Tells b c mid new → Tells a c old new
+pub tells_more : (a b c : List ℕ) (old mid new : Option (List ℕ)) → Prints a b old mid → Prints b c mid new → Prints a c old new
 tells_more a b c old mid new p q = (p.0 ++ q.0, q.1 ∙ (ap (λ l. l ++ q.0) p.1 ∙ append_assoc a p.0 q.0), Appends-trans old mid new p.0 q.0 p.2 q.2)
 
 pub on_ok : {T E : Type 0} (P Q : Type 0) (r : Result T E) → (P → Q) → OnOk r P → OnOk r Q

@@ -11,7 +11,7 @@ use Rattle.oram_run.specs.Progress.Status.{Idle, Waiting, Stalling, Over}
 use Rattle.oram_run.specs.Run.{Shown, is_over, is_waiting, refusal_of}
 use Rattle.oram_run.specs.State.{State, status_by, status_in}
 use Rattle.oram_run.specs.declared.events.Event.{Event}
-use Rattle.oram_run.specs.declared.events.Event.TheVariants.{Submit, Answer, Lost, Retry}
+use Rattle.oram_run.specs.declared.events.Event.TheVariants.{Submit, Answer, Lost, Reopen, Retry}
 use Rattle.oram_run.specs.declared.events.Command.{Command}
 use Rattle.oram_run.specs.declared.events.Note.TheVariants.{Unexpected}
 use Rattle.oram_run.specs.declared.events.Reason.{Reason}
@@ -179,6 +179,7 @@ whole_after d s t (Submit session c words) x message w step =
     by_plain d message x t (submitted_by (plain_shape d) s sub o) (step.plain _ refl) (submitted d s sub o message (alive d (is_over (status_in s)) (length s.queue) s.next c words) w)
 whole_after d s t (Answer bytes) x message w step = answered d s t x bytes message (status_in s) (bytes_eq bytes (129 ∷ 8 ∷ [])) refl refl w step
 whole_after d s t Lost x message w step = by_plain d None x t (lost_by s (status_in s)) (step.plain _ refl) (lost d s message (status_in s) refl w)
+whole_after d s t Reopen x message w step = by_plain d None x t (lost_by s (status_in s)) (step.plain _ refl) (lost d s message (status_in s) refl w)
 whole_after d s t Retry x message w step = by_plain d message x t (retried_by s (status_in s)) (step.plain _ refl) (retried d s message (status_in s) refl w)
 
 -- fewer answers are wanted after each
@@ -232,4 +233,5 @@ fewer d s t (Answer bytes) x message w step heard_of some =
     subst (λ n. answers_left d t (newest_of x.sends None) < n) (sym (wanted_before d s message some))
     (answer_wanted d s t x bytes message (bytes_eq bytes (129 ∷ 8 ∷ [])) (is_waiting_at (status_in s) (sym w.waits ∙ some)) refl w step)
 fewer d s t Lost x message w step heard_of some = cc
+fewer d s t Reopen x message w step heard_of some = cc
 fewer d s t Retry x message w step heard_of some = cc

@@ -15,7 +15,7 @@ use Rattle.oram_run.specs.Progress.{Setting, Step, Status, sent, records_of, ent
 use Rattle.oram_run.specs.Progress.Status.{Idle, Waiting, Stalling, Over}
 use Rattle.oram_run.specs.Moves.{records_after}
 use Rattle.oram_run.specs.declared.events.Event.{Event}
-use Rattle.oram_run.specs.declared.events.Event.TheVariants.{Submit, Answer, Lost, Retry}
+use Rattle.oram_run.specs.declared.events.Event.TheVariants.{Submit, Answer, Lost, Reopen, Retry}
 
 -- a body that the host carries out
 abbrev pub Takes : Host → List ℕ → Host → Type 0
@@ -49,12 +49,17 @@ pub record IsServed (v : Setting) (past : List Step) (host : Host) : Type 0 wher
   pub whole : AllByRecursion (λ m. IsMessage v.shape (asked m) m) (sent past)
   pub keeps : KeepsAll v.shape (records_of v past) host ⊎ LacksLast v past host
 
+-- a message was lost, or the host's answer to it
+abbrev pub HeardOrNot : List ℕ → Host → Host → Type 0
+HeardOrNot message host after = (after ≡ host) ⊎ ((answer : HostAnswer) × Serves host message answer after)
+
 -- What an event has to do with the host while a message is outstanding: an answer is the host's to that message, and a loss is
 -- that of the message, or of its answer.
 abbrev pub IsHonestWaiting : List ℕ → Event → Host → Host → Type 0
 IsHonestWaiting message (Answer bytes) host after =
     (answer : HostAnswer) × (bytes ≡ answer_body answer) × Serves host message answer after
-IsHonestWaiting message Lost host after = (after ≡ host) ⊎ ((answer : HostAnswer) × Serves host message answer after)
+IsHonestWaiting message Lost host after = HeardOrNot message host after
+IsHonestWaiting message Reopen host after = HeardOrNot message host after
 IsHonestWaiting message Retry host after = after ≡ host
 IsHonestWaiting message (Submit s c w) host after = after ≡ host
 

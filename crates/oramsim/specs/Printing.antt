@@ -52,8 +52,11 @@ body_text (body.Data bytes) = codes "data " ++ encode_lower bytes
 body_text body.Done = codes "done"
 body_text body.Failed = codes "failed"
 
+abbrev pub reply_line : ℕ → ℕ → List ℕ → List ℕ
+reply_line session ticket says = codes "reply " ++ decimal session ++ space ++ decimal ticket ++ space ++ says ++ newline
+
 abbrev pub reply_text : Reply → List ℕ
-reply_text r = codes "reply " ++ decimal r.session ++ space ++ decimal r.ticket ++ space ++ body_text r.body ++ newline
+reply_text r = reply_line r.session r.ticket (body_text r.body)
 
 -- the line of a message: its first byte is 1 for a fetch and 2 for a store, then come the tree and four bytes of the leaf
 abbrev pub send_text : List ℕ → List ℕ

@@ -6,10 +6,10 @@ use Rattle.std.specs.Result.{result_ok}
 use Rattle.std.specs.Str.{bytes_eq}
 use Rattle.std.specs.Str.Parse.{digits_value}
 use Rattle.hex.specs.Hex.{decode_of}
-use Rattle.oram_run.specs.declared.events.Command.TheVariants.{Read, Write}
+use Rattle.oram_run.specs.declared.events.Command.TheVariants.{Read, Write, Discard}
 use Rattle.oram_run.specs.declared.events.Event.TheVariants as event
 use Rattle.oramsim.specs.declared.line.Line.{Line}
-use Rattle.oramsim.specs.declared.line.Line.TheVariants.{Device, Told, Answer, Drain, Late, Tamper, Snapshot, Restore}
+use Rattle.oramsim.specs.declared.line.Line.TheVariants.{Device, Told, Answer, Drain, Late, Tamper, Swap, Snapshot, Restore}
 
 infixl 10 ◌>>=◌
 abbrev pub ◌>>=◌ : {A B : Type 0} → Option A → (A → Option B) → Option B
@@ -27,6 +27,11 @@ lines_of (x ∷ xs) = if x == 10 then [] ∷ lines_of xs else onto_line x (lines
 -- the fields of a line, parted by one space
 abbrev pub fields_of : List ℕ → List (List ℕ)
 fields_of line = slice_split (λ b. b == 32) line
+
+-- the fields of what is left of a line, if anything is
+abbrev pub fields_left : Option (List ℕ) → List (List ℕ)
+fields_left None = []
+fields_left (Some rest) = fields_of rest
 
 abbrev pub has_leading_zero : List ℕ → Bool
 has_leading_zero bytes = nat_lt 1 (length bytes) && slice_index bytes 0 == 48
@@ -62,13 +67,24 @@ device_from (n ∷ b ∷ z ∷ t ∷ l ∷ []) = do
   Some (Device blocks block_bytes slots top lifetime)
 device_from _ = None
 
-unfoldable pub read_from : List (List ℕ) → Option Line
-read_from (s ∷ a ∷ w) = do
+-- a session, an address and words, as a command has them that brings no data
+unfoldable pub addressed : List (List ℕ) → Option (ℕ × ℕ × List ℕ)
+addressed (s ∷ a ∷ w) = do
   session ← number_below (2 ^ 32) s
   address ← number_below (2 ^ 32) a
   words ← numbers_below (2 ^ 64) w
-  Some (Told (event.Submit session (Read address) words))
-read_from _ = None
+  Some (session, address, words)
+addressed _ = None
+
+unfoldable pub read_from : List (List ℕ) → Option Line
+read_from fields = do
+  asked ← addressed fields
+  Some (Told (event.Submit asked.0 (Read asked.1) asked.2))
+
+unfoldable pub discard_from : List (List ℕ) → Option Line
+discard_from fields = do
+  asked ← addressed fields
+  Some (Told (event.Submit asked.0 (Discard asked.1) asked.2))
 
 unfoldable pub write_from : List (List ℕ) → Option Line
 write_from (s ∷ a ∷ h ∷ w) = do
@@ -93,6 +109,15 @@ tamper_from (t ∷ n ∷ o ∷ []) = do
   Some (Tamper tree node offset)
 tamper_from _ = None
 
+unfoldable pub swap_from : List (List ℕ) → Option Line
+swap_from (ta ∷ na ∷ tb ∷ nb ∷ []) = do
+  tree_a ← number_below (2 ^ 64) ta
+  node_a ← number_below (2 ^ 64) na
+  tree_b ← number_below (2 ^ 64) tb
+  node_b ← number_below (2 ^ 64) nb
+  Some (Swap tree_a node_a tree_b node_b)
+swap_from _ = None
+
 -- the line that a word alone makes
 unfoldable pub named_line : List ℕ → Option Line
 named_line word =
@@ -116,8 +141,10 @@ line_from word fields =
     if bytes_eq word (codes "device") then device_from fields
     else if bytes_eq word (codes "read") then read_from fields
     else if bytes_eq word (codes "write") then write_from fields
+    else if bytes_eq word (codes "discard") then discard_from fields
     else if bytes_eq word (codes "raw") then raw_from fields
     else if bytes_eq word (codes "tamper") then tamper_from fields
+    else if bytes_eq word (codes "swap") then swap_from fields
     else alone word fields
 
 abbrev pub line_of_fields : List (List ℕ) → Option Line

@@ -1,5 +1,5 @@
 -- The run of a script: what its lines make a device and its host do, and what is printed.
-use Rattle.std.specs.Prelude.{◌≡◌, ◌≢◌, ℕ, ◌+◌, Bool, true, false, List, [], ◌∷◌, ◌++◌, length, map, take, codes, Option, Some, None, Result, Ok, Err, ⊤}
+use Rattle.std.specs.Prelude.{◌≡◌, ◌≢◌, ◌⊎◌, ℕ, ◌+◌, Bool, true, false, List, [], ◌∷◌, ◌++◌, length, map, take, codes, Option, Some, None, Result, Ok, Err, ⊤}
 use Rattle.std.specs.List.{AllByRecursion, flat_map, FoldsTo}
 use Rattle.oram_geometry.specs.declared.Sizes.{Sizes}
 use Rattle.oram_geometry.specs.declared.ShapeFault.{ShapeFault}
@@ -8,6 +8,7 @@ use Rattle.oram_wire.specs.HostMessages.{answer_body}
 use Rattle.oram_wire.specs.declared.host_messages.HostAnswer.{HostAnswer}
 use Rattle.oram_host.specs.Host.{Host}
 use Rattle.oram_host.specs.Flips.{IsFlipped, IsByteless}
+use Rattle.oram_host.specs.Swaps.{IsSwapped, LacksPair}
 use Rattle.oram_host.specs.Serving.{Serves}
 use Rattle.oram_tree.specs.Format.{PutsAll}
 use Rattle.oram_tree.specs.State.{State as Tree}
@@ -18,12 +19,14 @@ use Rattle.oram_run.specs.Run.{Shown, AllRight}
 use Rattle.oram_run.specs.declared.events.Event.{Event}
 use Rattle.oram_run.specs.declared.events.Event.TheVariants as event
 use Rattle.oramsim.specs.Hosting.{Takes}
-use Rattle.oramsim.specs.Printing.{reaction_text, ready_text, shape_text, error_text}
+use Rattle.oramsim.specs.Printing.{reaction_text, ready_text, shape_text, error_text, memory_text}
 use Rattle.oramsim.specs.Reading.{lines_of, line_of}
 use Rattle.oramsim.specs.declared.line.Line.{Line}
-use Rattle.oramsim.specs.declared.line.Line.TheVariants.{Device, Told, Answer, Drain, Late, Tamper, Snapshot, Restore}
+use Rattle.oramsim.specs.declared.line.Line.TheVariants.{Device, Told, Answer, Drain, Late, Tamper, Swap, Snapshot, Restore}
 use Rattle.oramsim.specs.declared.script.Ending.{Ending}
 use Rattle.oramsim.specs.declared.script.Ending.TheVariants.{End, BadLine}
+use Rattle.oramsim.specs.declared.script.SimFault.{SimFault}
+use Rattle.oramsim.specs.declared.script.SimFault.TheVariants.{OutOfMemory, Read, Write}
 
 -- an event, and what the device showed at it
 pub record Turn : Type 0 where
@@ -49,6 +52,7 @@ abbrev pub left_at : Event → Option (List ℕ) → Option (List ℕ)
 left_at (event.Submit session c words) message = message
 left_at (event.Answer bytes) message = None
 left_at event.Lost message = None
+left_at event.Reopen message = None
 left_at event.Retry message = message
 
 -- the newest of the messages that were sent, else the one of before
@@ -64,13 +68,13 @@ abbrev pub with_host : Running → Host → Running
 with_host r host = record r { host = host }
 
 -- the host answers the outstanding message by these bytes; with none outstanding there are no bytes
-abbrev pub Replies : Host → Option (List ℕ) → List ℕ → Host → Type 0
-Replies host None bytes after = (bytes ≡ []) × (after ≡ host)
-Replies host (Some message) bytes after = (answer : HostAnswer) × Serves host message answer after × (bytes ≡ answer_body answer)
+abbrev pub HostAnswers : Host → Option (List ℕ) → List ℕ → Host → Type 0
+HostAnswers host None bytes after = (bytes ≡ []) × (after ≡ host)
+HostAnswers host (Some message) bytes after = (answer : HostAnswer) × Serves host message answer after × (bytes ≡ answer_body answer)
 
 -- the event is the host's answer
 abbrev pub IsAnswered : Running → Shown → Running → Type 0
-IsAnswered r x after = (bytes : List ℕ) × (host : Host) × Replies r.host r.message bytes host × (after ≡ after_turn (with_host r host) (event.Answer bytes) x)
+IsAnswered r x after = (bytes : List ℕ) × (host : Host) × HostAnswers r.host r.message bytes host × (after ≡ after_turn (with_host r host) (event.Answer bytes) x)
 
 abbrev pub IsDrained : Running → Shown → Running → Type 0
 IsDrained r x after = (r.message ≢ None) × IsAnswered r x after
@@ -84,8 +88,9 @@ Obeys r (Device blocks block_bytes slots top lifetime) after = ⊥
 Obeys r (Told e) after = AtEvent r e after
 Obeys r Answer after = (x : Shown) × IsAnswered r x after
 Obeys r Drain after = (xs : List Shown) × FoldsTo IsDrained r xs after × (after.message ≡ None)
-Obeys r Late after = (bytes : List ℕ) × (host : Host) × Replies r.host r.message bytes host × AtEvent (with_host r host) event.Lost after
+Obeys r Late after = (bytes : List ℕ) × (host : Host) × HostAnswers r.host r.message bytes host × AtEvent (with_host r host) event.Lost after
 Obeys r (Tamper tree node offset) after = (host : Host) × IsFlipped r.host tree node offset host × (after ≡ with_host r host)
+Obeys r (Swap tree_a node_a tree_b node_b) after = (host : Host) × IsSwapped r.host tree_a node_a tree_b node_b host × (after ≡ with_host r host)
 Obeys r Snapshot after = after ≡ record r { copy = Some r.host }
 Obeys r Restore after = (host : Host) × (r.copy ≡ Some host) × (after ≡ with_host r host)
 
@@ -94,7 +99,7 @@ abbrev pub plain_shape : Sizes → Shape
 plain_shape d = record { device = d; overhead = 0; sealing = λ nonce plain. plain; opening = λ bytes. Some bytes }
 
 -- a device that was just formatted, on a host that kept nothing before
-pub record IsNew (d : Sizes) (r : Running) : Type 0 where
+pub record IsNewRun (d : Sizes) (r : Running) : Type 0 where
   pub shape : r.setting.shape ≡ plain_shape d
   pub trees : List Tree
   pub formatted : IsFormatted r.setting trees
@@ -125,7 +130,7 @@ text_at p = p.head ++ stage_text p.stage
 
 -- five numbers make a device, or not
 abbrev pub Starts : List ℕ → Result Sizes ShapeFault → Point → Type 0
-Starts head (Ok d) q = (r : Running) × IsNew d r × (q ≡ record { stage = Some r; head = head ++ ready_text (trees_of d) })
+Starts head (Ok d) q = (r : Running) × IsNewRun d r × (q ≡ record { stage = Some r; head = head ++ ready_text (trees_of d) })
 Starts head (Err fault) q = q ≡ record { stage = None; head = head ++ shape_text fault }
 
 abbrev pub IsDone : Point → Stage → Line → Point → Type 0
@@ -137,6 +142,7 @@ IsDone p None Answer q = ⊥
 IsDone p None Drain q = ⊥
 IsDone p None Late q = ⊥
 IsDone p None (Tamper tree node offset) q = ⊥
+IsDone p None (Swap tree_a node_a tree_b node_b) q = ⊥
 IsDone p None Snapshot q = ⊥
 IsDone p None Restore q = ⊥
 
@@ -145,10 +151,11 @@ abbrev pub IsPassed : Point → List ℕ → Point → Type 0
 IsPassed p [] q = q ≡ p
 IsPassed p (b ∷ bytes) q = (line : Line) × (line_of (b ∷ bytes) ≡ Some line) × IsDone p p.stage line q
 
--- a line that a device at work doesn't take: another device, a byte that isn't there, or a snapshot that wasn't taken
+-- a line that a device at work doesn't take: another device, a byte or a pair of records that isn't there, or a snapshot that wasn't taken
 abbrev pub IsUnfit : Running → Line → Type 0
 IsUnfit r (Device blocks block_bytes slots top lifetime) = ⊤
 IsUnfit r (Tamper tree node offset) = IsByteless r.host tree node offset
+IsUnfit r (Swap tree_a node_a tree_b node_b) = LacksPair r.host tree_a node_a tree_b node_b
 IsUnfit r Restore = r.copy ≡ None
 IsUnfit r (Told e) = ⊥
 IsUnfit r Answer = ⊥
@@ -163,18 +170,19 @@ is_device Answer = false
 is_device Drain = false
 is_device Late = false
 is_device (Tamper tree node offset) = false
+is_device (Swap tree_a node_a tree_b node_b) = false
 is_device Snapshot = false
 is_device Restore = false
 
 -- a line that the script can't have where it stands: none of a script's, any but a device's where there is none, or one that the device doesn't take
-abbrev pub IsRefused : Stage → Option Line → Type 0
-IsRefused stage None = ⊤
-IsRefused None (Some line) = is_device line ≡ false
-IsRefused (Some r) (Some line) = IsUnfit r line
+abbrev pub IsRefusedLine : Stage → Option Line → Type 0
+IsRefusedLine stage None = ⊤
+IsRefusedLine None (Some line) = is_device line ≡ false
+IsRefusedLine (Some r) (Some line) = IsUnfit r line
 
 abbrev pub IsBad : Stage → List ℕ → Type 0
 IsBad stage [] = ⊥
-IsBad stage (b ∷ bytes) = IsRefused stage (line_of (b ∷ bytes))
+IsBad stage (b ∷ bytes) = IsRefusedLine stage (line_of (b ∷ bytes))
 
 -- what the device showed at its events is right, by all that a run of it is to do
 abbrev pub HasRun : Stage → Type 0
@@ -189,16 +197,49 @@ IsScriptText input text (BadLine n) =
     × (lines_of input ≡ lines ++ bad ∷ rest) × FoldsTo IsPassed start lines q × HasRun q.stage × IsBad q.stage bad × (n ≡ length lines + 1)
     × (text ≡ text_at q ++ error_text n)
 
+-- Where a run stands within the next line: at p still, or, where that is a drain, behind some of its answers.
+abbrev pub IsWithin : Point → List (List ℕ) → Point → Type 0
+IsWithin p [] q = q ≡ p
+IsWithin p (line ∷ rest) q = (q ≡ p) ⊎ ((r later : Running) × (xs : List Shown) × (line_of line ≡ Some Drain) × (p.stage ≡ Some r)
+    × FoldsTo IsDrained r xs later × (q ≡ record { stage = Some later; head = p.head }))
+
+-- The run of an input has passed its lines but for the rest.
+pub record HasPassed (input : List ℕ) (rest : List (List ℕ)) (q : Point) : Type 0 where
+  pub lines : List (List ℕ)
+  pub split : lines_of input ≡ lines ++ rest
+  pub passed : FoldsTo IsPassed start lines q
+  pub right : HasRun q.stage
+
+-- it has passed a beginning of them, and stands there or within the next
+abbrev pub GetsTo : List ℕ → Point → Type 0
+GetsTo input q = (p : Point) × (rest : List (List ℕ)) × HasPassed input rest p × IsWithin p rest q × HasRun q.stage
+
+-- what a run of the input has to write: all up to a point, and behind it perhaps that memory ran out, or that a line can't be
+abbrev pub IsDue : List ℕ → List ℕ → Type 0
+IsDue input text = ((q : Point) × GetsTo input q × ((text ≡ text_at q) ⊎ (text ≡ text_at q ++ memory_text))) ⊎ ((n : ℕ) × IsScriptText input text (BadLine n))
+
+abbrev pub IsBeginning : List ℕ → List ℕ → Type 0
+IsBeginning text whole = (count : ℕ) × (text ≡ take count whole)
+
+-- What is printed for an input whose run is given up. Nothing of an event or a line that memory runs out at is printed, but that it
+-- ran out; where the input can't be read, the lines before are passed; where writing fails, there is a beginning of what was due.
+abbrev pub IsCutText : List ℕ → List ℕ → SimFault → Type 0
+IsCutText input text OutOfMemory = (q : Point) × GetsTo input q × (text ≡ text_at q ++ memory_text)
+IsCutText input text Read = (rest : List (List ℕ)) × (q : Point) × HasPassed input rest q × (text ≡ text_at q)
+IsCutText input text Write = (whole : List ℕ) × IsDue input whole × IsBeginning text whole
+
 abbrev pub is_answer : Event → Bool
 is_answer (event.Submit session c words) = false
 is_answer (event.Answer bytes) = true
 is_answer event.Lost = false
+is_answer event.Reopen = false
 is_answer event.Retry = false
 
 -- a line that forges an answer, or changes what the host keeps
 abbrev pub is_meddling : Line → Bool
 is_meddling (Told e) = is_answer e
 is_meddling (Tamper tree node offset) = true
+is_meddling (Swap tree_a node_a tree_b node_b) = true
 is_meddling Restore = true
 is_meddling (Device blocks block_bytes slots top lifetime) = false
 is_meddling Answer = false
@@ -213,6 +254,14 @@ IsHarmless (Some line) = is_meddling line ≡ false
 -- no line of the script meddles
 abbrev pub IsHarmlessScript : List ℕ → Type 0
 IsHarmlessScript input = AllByRecursion (λ bytes. IsHarmless (line_of bytes)) (lines_of input)
+
+-- the status that the program ends with
+abbrev pub exit_status : Result Ending SimFault → ℕ
+exit_status (Ok End) = 0
+exit_status (Ok (BadLine n)) = 2
+exit_status (Err OutOfMemory) = 3
+exit_status (Err Read) = 4
+exit_status (Err Write) = 4
 
 -- no line of the text tells of a failure
 abbrev pub HasNoFailure : List ℕ → Type 0

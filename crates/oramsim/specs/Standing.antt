@@ -1,5 +1,5 @@
 -- How a machine stands to the run of a script.
-use Rattle.std.specs.Prelude.{◌≡◌, ℕ, ◌+◌, ◌-◌, ◌*◌, ◌<◌, false, if◌then◌else◌, List, [], ◌∷◌, length, ◌++◌, Option, Some, None, is_some, IfSome, ⊤}
+use Rattle.std.specs.Prelude.{◌≡◌, ◌⊎◌, ℕ, ◌+◌, ◌-◌, ◌*◌, ◌<◌, false, if◌then◌else◌, List, [], ◌∷◌, length, ◌++◌, Option, Some, None, is_some, IfSome, ⊤}
 use Rattle.std.specs.Io.KnownBytes.{Appends}
 use Rattle.std.specs.List.{AllByRecursion, FoldsTo}
 use Rattle.oram_geometry.specs.declared.Sizes.{Sizes}
@@ -7,14 +7,19 @@ use Rattle.oram_geometry.specs.Sizes.{IsDevice, trees_of}
 use Rattle.oram_host.specs.Host.{Host}
 use Rattle.oram_tree.specs.State.{State as Tree}
 use Rattle.oram_run.specs.Formatting.{IsFormatted}
-use Rattle.oram_run.specs.Law.{Steps as Moving, new_state}
+use Rattle.oram_run.specs.Law.{StepsByRule, new_state}
 use Rattle.oram_run.specs.Progress.{Setting, Step}
 use Rattle.oram_run.specs.Run.{Shown, fails_now, is_waiting, shows_pair, step_of}
 use Rattle.oram_run.specs.State.{State, status_in}
 use Rattle.oram_run.specs.declared.events.Event.{Event}
 use Rattle.oram_core.specs.Steps.{Steps}
 use Rattle.oramsim.specs.Hosting.{IsHonest, IsServed}
-use Rattle.oramsim.specs.Script.{Point, Running, Stage, Turn, after_turn, newest_of, plain_shape, stage_text, text_at, with_host}
+use Rattle.oramsim.specs.Printing.{reaction_text}
+use Rattle.oramsim.specs.Script.{HasPassed, HasRun, IsBeginning, IsDrained, IsDue, Obeys, Point, GetsTo, Running, Stage, Turn, after_turn, newest_of, plain_shape, stage_text, text_at, with_host}
+use Rattle.oramsim.specs.declared.line.Line.{Line}
+use Rattle.oramsim.specs.declared.line.Line.TheVariants.{Drain}
+use Rattle.oramsim.specs.declared.script.SimFault.{SimFault}
+use Rattle.oramsim.specs.declared.script.SimFault.TheVariants.{OutOfMemory, Read, Write}
 use Rattle.oramsim.specs.declared.machine.Machine.{Machine}
 
 -- A core and the message that is outstanding: it is the one that the core waits for the answer to.
@@ -41,10 +46,10 @@ pub record IsPlayed (d : Sizes) (s : State) (event : Event) (x : Shown) (sent : 
 
 -- steps lead from a core just formatted to this one
 abbrev pub LeadsTo : Setting → List Turn → State → Type 0
-LeadsTo v turns s = (trees : List Tree) × IsFormatted v trees × FoldsTo (λ a t b. Moving v.shape a t.event t.shown b) (new_state v trees) turns s
+LeadsTo v turns s = (trees : List Tree) × IsFormatted v trees × FoldsTo (λ a t b. StepsByRule v.shape a t.event t.shown b) (new_state v trees) turns s
 
 -- the machine is at work as the run says
-pub record Stands (r : Running) (m : Machine) : Type 0 where
+pub record IsAtRun (r : Running) (m : Machine) : Type 0 where
   pub ranges : IsDevice m.core.device
   pub shape : r.setting.shape ≡ plain_shape m.core.device
   pub leads : LeadsTo r.setting r.turns m.core.state
@@ -84,15 +89,55 @@ abbrev pub StandsAt : Stage → Option Machine → Type 0
 StandsAt None None = ⊤
 StandsAt None (Some m) = ⊥
 StandsAt (Some r) None = ⊥
-StandsAt (Some r) (Some m) = Stands r m
+StandsAt (Some r) (Some m) = IsAtRun r m
 
 -- what is printed between two points
-abbrev pub Tells : List ℕ → List ℕ → Option (List ℕ) → Option (List ℕ) → Type 0
-Tells before after old new = (out : List ℕ) × (after ≡ before ++ out) × Appends old new out
+abbrev pub Prints : List ℕ → List ℕ → Option (List ℕ) → Option (List ℕ) → Type 0
+Prints before after old new = (out : List ℕ) × (after ≡ before ++ out) × Appends old new out
 
 -- the machine goes on, and so does the run
-abbrev pub GoesOn : Running → Running → Machine → Option (List ℕ) → Option (List ℕ) → Type 0
-GoesOn r later m old new = Stands later m × Tells (stage_text (Some r)) (stage_text (Some later)) old new
+abbrev pub RunsOn : Running → Running → Machine → Option (List ℕ) → Option (List ℕ) → Type 0
+RunsOn r later m old new = IsAtRun later m × Prints (stage_text (Some r)) (stage_text (Some later)) old new
 
-abbrev pub GoesOnAt : Point → Point → Option Machine → Option (List ℕ) → Option (List ℕ) → Type 0
-GoesOnAt p q m old new = StandsAt q.stage m × Tells (text_at p) (text_at q) old new
+abbrev pub RunsOnAt : Point → Point → Option Machine → Option (List ℕ) → Option (List ℕ) → Type 0
+RunsOnAt p q m old new = StandsAt q.stage m × Prints (text_at p) (text_at q) old new
+
+-- What there is of a text at a fault: all of it where memory ran out behind it, a beginning where writing failed.
+abbrev pub IsCutAt : SimFault → List ℕ → List ℕ → Type 0
+IsCutAt OutOfMemory out part = part ≡ out
+IsCutAt Write out part = IsBeginning part out
+IsCutAt Read out part = ⊥
+
+-- what is written, at a fault, of the text between two points
+abbrev pub TellsPart : SimFault → List ℕ → List ℕ → Option (List ℕ) → Option (List ℕ) → Type 0
+TellsPart fault before after old new = (out part : List ℕ) × (after ≡ before ++ out) × IsCutAt fault out part × Appends old new part
+
+-- the run was given up on its way to some such point
+abbrev pub GivesUp : Running → (Running → Type 0) → SimFault → Option (List ℕ) → Option (List ℕ) → Type 0
+GivesUp r To fault old new = (later : Running) × To later × HasRun (Some later) × TellsPart fault (stage_text (Some r)) (stage_text (Some later)) old new
+
+abbrev pub GivesUpAt : Point → (Point → Type 0) → SimFault → Option (List ℕ) → Option (List ℕ) → Type 0
+GivesUpAt p To fault old new = (q : Point) × To q × HasRun q.stage × TellsPart fault (text_at p) (text_at q) old new
+
+-- where a device may stand within a line
+abbrev pub IsUnder : Running → Line → Running → Type 0
+IsUnder r line later = (later ≡ r) ⊎ (Obeys r line later ⊎ ((xs : List Shown) × (line ≡ Drain) × FoldsTo IsDrained r xs later))
+
+-- What is written of the input's text at a fault, but for the line that memory ran out.
+abbrev pub IsWrittenAt : List ℕ → List ℕ → SimFault → Type 0
+IsWrittenAt input text OutOfMemory = (q : Point) × GetsTo input q × (text ≡ text_at q)
+IsWrittenAt input text Read = (rest : List (List ℕ)) × (q : Point) × HasPassed input rest q × (text ≡ text_at q)
+IsWrittenAt input text Write = (whole : List ℕ) × IsDue input whole × IsBeginning text whole
+
+-- What a step that was given up has left: without memory nothing was written, and where writing failed the step was made.
+abbrev pub IsHalted : SimFault → Sizes → State → Event → State → Option (List ℕ) → Option (List ℕ) → Type 0
+IsHalted OutOfMemory d s event t old new = new ≡ old
+IsHalted Write d s event t old new =
+    (x : Shown) × (sent : Option (List ℕ)) × IsPlayed d s event x sent t × (part : List ℕ) × IsBeginning part (reaction_text x) × Appends old new part
+IsHalted Read d s event t old new = ⊥
+
+-- a text was given up: without memory nothing of it was written, and where writing failed a beginning
+abbrev pub IsUntold : SimFault → List ℕ → Option (List ℕ) → Option (List ℕ) → Type 0
+IsUntold OutOfMemory text old new = new ≡ old
+IsUntold Write text old new = (part : List ℕ) × IsBeginning part text × Appends old new part
+IsUntold Read text old new = ⊥

@@ -1,10 +1,11 @@
 //! The lines of a script.
-ghost use Rattle.std.specs.Prelude.{◌≡◌, ◌^◌, map, IfOk, Some};
+ghost use Rattle.std.specs.Prelude.{◌≡◌, ◌^◌, IfOk, Some};
 ghost use Rattle.std.specs.Char.{is_ascii_digit};
 ghost use Rattle.std.specs.List.{list_all};
-ghost use Rattle.oramsim.specs.Reading.{has_leading_zero, is_numeral, number_below, numbers_below, hex_bytes, device_from, read_from, write_from, raw_from, tamper_from, named_line, line_from, line_of, fields_of};
+ghost use Rattle.oramsim.specs.Reading.{has_leading_zero, is_numeral, number_below, numbers_below, hex_bytes, device_from, addressed, read_from, discard_from, write_from, raw_from, tamper_from, swap_from, named_line, line_from, line_of};
 ghost use Rattle.oramsim.specs.Reading as spec;
 
+use crate::fields::Fields;
 use hex::FromHexError;
 use oram_bytes::{Bytes, Words};
 use oram_run::{Command, Event};
@@ -35,6 +36,13 @@ pub enum Line {
         tree: u64,
         node: u64,
         offset: u64,
+    },
+    /// Two stored records change places.
+    Swap {
+        tree_a: u64,
+        node_a: u64,
+        tree_b: u64,
+        node_b: u64,
     },
     /// A copy of the server is kept, in place of an earlier one.
     Snapshot,
@@ -83,15 +91,17 @@ fn short_number(field: &[u8]) -> Option<u32>
 
 /// The words that fields spell, or none where one of them is no number.
 #[tactic(auto, unfolding(crate::specs::Reading::numbers_below))]
-fn words_in(alloc: Global, fields: &[&[u8]]) -> Result<Option<Words>, AllocError>
-    ensures { IfOk result (λ o. o ≡ numbers_below (2 ^ 64) (map (λ x. x.now) fields.now)) }
+fn words_in(alloc: Global, fields: Fields) -> Result<Option<Words>, AllocError>
+    ensures { IfOk result (λ o. o ≡ numbers_below (2 ^ 64) fields.entry) }
 {
     let mut words = Vec::new(alloc);
-    for field in fields {
+    let mut left = fields;
+    while let Some((field, behind)) = left.split_first() {
         let Some(word) = long_number(field) else {
             return Ok(None);
         };
         words.push(word)?;
+        left = behind;
     }
     Ok(Some(Words::from_vec(words)))
 }
@@ -112,12 +122,17 @@ fn bytes_in(alloc: Global, field: &[u8]) -> Result<Option<Bytes>, AllocError>
 }
 
 #[tactic(auto, unfolding(crate::specs::Reading::device_from))]
-fn device_in(fields: &[&[u8]]) -> Option<Line>
-    ensures { result ≡ device_from (map (λ x. x.now) fields.now) }
+fn device_in(fields: Fields) -> Option<Line>
+    ensures { result ≡ device_from fields.entry }
 {
-    let [blocks, block_bytes, slots, top, lifetime] = fields else {
+    let (blocks, fields) = fields.split_first()?;
+    let (block_bytes, fields) = fields.split_first()?;
+    let (slots, fields) = fields.split_first()?;
+    let (top, fields) = fields.split_first()?;
+    let (lifetime, fields) = fields.split_first()?;
+    if fields.split_first().is_some() {
         return None;
-    };
+    }
     Some(Line::Device {
         blocks: long_number(blocks)?,
         block_bytes: long_number(block_bytes)?,
@@ -127,17 +142,31 @@ fn device_in(fields: &[&[u8]]) -> Option<Line>
     })
 }
 
-#[tactic(auto, unfolding(crate::specs::Reading::read_from))]
-fn read_in(alloc: Global, fields: &[&[u8]]) -> Result<Option<Line>, AllocError>
-    ensures { IfOk result (λ o. o ≡ read_from (map (λ x. x.now) fields.now)) }
+/// A session, an address and words, as a command has them that brings no data.
+#[tactic(auto, unfolding(crate::specs::Reading::addressed))]
+fn addressed_in(alloc: Global, fields: Fields) -> Result<Option<(u32, u32, Words)>, AllocError>
+    ensures { IfOk result (λ o. o ≡ addressed fields.entry) }
 {
-    let [session, address, words @ ..] = fields else {
+    let Some((session, fields)) = fields.split_first() else {
+        return Ok(None);
+    };
+    let Some((address, words)) = fields.split_first() else {
         return Ok(None);
     };
     let (Some(session), Some(address)) = (short_number(session), short_number(address)) else {
         return Ok(None);
     };
     let Some(words) = words_in(alloc, words)? else {
+        return Ok(None);
+    };
+    Ok(Some((session, address, words)))
+}
+
+#[tactic(auto, unfolding(crate::specs::Reading::read_from))]
+fn read_in(alloc: Global, fields: Fields) -> Result<Option<Line>, AllocError>
+    ensures { IfOk result (λ o. o ≡ read_from fields.entry) }
+{
+    let Some((session, address, words)) = addressed_in(alloc, fields)? else {
         return Ok(None);
     };
     Ok(Some(Line::Told(Event::Submit {
@@ -147,11 +176,31 @@ fn read_in(alloc: Global, fields: &[&[u8]]) -> Result<Option<Line>, AllocError>
     })))
 }
 
-#[tactic(auto, unfolding(crate::specs::Reading::write_from))]
-fn write_in(alloc: Global, fields: &[&[u8]]) -> Result<Option<Line>, AllocError>
-    ensures { IfOk result (λ o. o ≡ write_from (map (λ x. x.now) fields.now)) }
+#[tactic(auto, unfolding(crate::specs::Reading::discard_from))]
+fn discard_in(alloc: Global, fields: Fields) -> Result<Option<Line>, AllocError>
+    ensures { IfOk result (λ o. o ≡ discard_from fields.entry) }
 {
-    let [session, address, bytes, words @ ..] = fields else {
+    let Some((session, address, words)) = addressed_in(alloc, fields)? else {
+        return Ok(None);
+    };
+    Ok(Some(Line::Told(Event::Submit {
+        session,
+        command: Command::Discard(address),
+        words,
+    })))
+}
+
+#[tactic(auto, unfolding(crate::specs::Reading::write_from))]
+fn write_in(alloc: Global, fields: Fields) -> Result<Option<Line>, AllocError>
+    ensures { IfOk result (λ o. o ≡ write_from fields.entry) }
+{
+    let Some((session, fields)) = fields.split_first() else {
+        return Ok(None);
+    };
+    let Some((address, fields)) = fields.split_first() else {
+        return Ok(None);
+    };
+    let Some((bytes, words)) = fields.split_first() else {
         return Ok(None);
     };
     let (Some(session), Some(address)) = (short_number(session), short_number(address)) else {
@@ -171,12 +220,15 @@ fn write_in(alloc: Global, fields: &[&[u8]]) -> Result<Option<Line>, AllocError>
 }
 
 #[tactic(auto, unfolding(crate::specs::Reading::raw_from))]
-fn raw_in(alloc: Global, fields: &[&[u8]]) -> Result<Option<Line>, AllocError>
-    ensures { IfOk result (λ o. o ≡ raw_from (map (λ x. x.now) fields.now)) }
+fn raw_in(alloc: Global, fields: Fields) -> Result<Option<Line>, AllocError>
+    ensures { IfOk result (λ o. o ≡ raw_from fields.entry) }
 {
-    let [bytes] = fields else {
+    let Some((bytes, fields)) = fields.split_first() else {
         return Ok(None);
     };
+    if fields.split_first().is_some() {
+        return Ok(None);
+    }
     let Some(bytes) = bytes_in(alloc, bytes)? else {
         return Ok(None);
     };
@@ -184,16 +236,38 @@ fn raw_in(alloc: Global, fields: &[&[u8]]) -> Result<Option<Line>, AllocError>
 }
 
 #[tactic(auto, unfolding(crate::specs::Reading::tamper_from))]
-fn tamper_in(fields: &[&[u8]]) -> Option<Line>
-    ensures { result ≡ tamper_from (map (λ x. x.now) fields.now) }
+fn tamper_in(fields: Fields) -> Option<Line>
+    ensures { result ≡ tamper_from fields.entry }
 {
-    let [tree, node, offset] = fields else {
+    let (tree, fields) = fields.split_first()?;
+    let (node, fields) = fields.split_first()?;
+    let (offset, fields) = fields.split_first()?;
+    if fields.split_first().is_some() {
         return None;
-    };
+    }
     Some(Line::Tamper {
         tree: long_number(tree)?,
         node: long_number(node)?,
         offset: long_number(offset)?,
+    })
+}
+
+#[tactic(auto, unfolding(crate::specs::Reading::swap_from))]
+fn swap_in(fields: Fields) -> Option<Line>
+    ensures { result ≡ swap_from fields.entry }
+{
+    let (tree_a, fields) = fields.split_first()?;
+    let (node_a, fields) = fields.split_first()?;
+    let (tree_b, fields) = fields.split_first()?;
+    let (node_b, fields) = fields.split_first()?;
+    if fields.split_first().is_some() {
+        return None;
+    }
+    Some(Line::Swap {
+        tree_a: long_number(tree_a)?,
+        node_a: long_number(node_a)?,
+        tree_b: long_number(tree_b)?,
+        node_b: long_number(node_b)?,
     })
 }
 
@@ -222,20 +296,19 @@ fn word_line(word: &[u8]) -> Option<Line>
 }
 
 /// A line of one word.
-fn alone(word: &[u8], fields: &[&[u8]]) -> Option<Line>
-    ensures { result ≡ spec.alone word.now (map (λ x. x.now) fields.now) }
+fn alone(word: &[u8], fields: Fields) -> Option<Line>
+    ensures { result ≡ spec.alone word.now fields.entry }
 {
-    if fields.is_empty() {
-        word_line(word)
-    } else {
-        None
+    match fields.split_first() {
+        None => word_line(word),
+        Some(_) => None,
     }
 }
 
 /// What a word and the fields after it say.
 #[tactic(auto, unfolding(crate::specs::Reading::line_from))]
-fn command_in(alloc: Global, word: &[u8], fields: &[&[u8]]) -> Result<Option<Line>, AllocError>
-    ensures { IfOk result (λ o. o ≡ line_from word.now (map (λ x. x.now) fields.now)) }
+fn command_in(alloc: Global, word: &[u8], fields: Fields) -> Result<Option<Line>, AllocError>
+    ensures { IfOk result (λ o. o ≡ line_from word.now fields.entry) }
 {
     if word == b"device".as_slice() {
         Ok(device_in(fields))
@@ -243,20 +316,17 @@ fn command_in(alloc: Global, word: &[u8], fields: &[&[u8]]) -> Result<Option<Lin
         read_in(alloc, fields)
     } else if word == b"write".as_slice() {
         write_in(alloc, fields)
+    } else if word == b"discard".as_slice() {
+        discard_in(alloc, fields)
     } else if word == b"raw".as_slice() {
         raw_in(alloc, fields)
     } else if word == b"tamper".as_slice() {
         Ok(tamper_in(fields))
+    } else if word == b"swap".as_slice() {
+        Ok(swap_in(fields))
     } else {
         Ok(alone(word, fields))
     }
-}
-
-/// The fields of a line, parted by one space.
-fn fields_in(alloc: Global, line: &[u8]) -> Result<Vec<&[u8]>, AllocError>
-    ensures { IfOk result (λ v. map (λ x. x.now) v.items ≡ fields_of line.now) }
-{
-    line.split(|byte| *byte == b' ').collect(alloc)
 }
 
 impl Line {
@@ -264,8 +334,7 @@ impl Line {
     pub fn read(alloc: Global, bytes: &[u8]) -> Result<Option<Line>, AllocError>
         ensures { IfOk result (λ o. o ≡ line_of bytes.now) }
     {
-        let parts = fields_in(alloc, bytes)?;
-        match parts.split_first() {
+        match Fields::of(bytes).split_first() {
             Some((word, fields)) => command_in(alloc, word, fields),
             None => Ok(None),
         }

@@ -1,17 +1,18 @@
 //! A device at work, with its host.
-ghost use Rattle.std.specs.Prelude.{◌≡◌, ◌++◌, ℕ, ◌<◌, true, false, List, take, is_some, IfOk, IfErr, OnOk, IsErrOf, MatchBool, Some, None};
+ghost use Rattle.std.specs.Prelude.{◌≡◌, ◌⊎◌, ◌++◌, ℕ, ◌<◌, true, false, List, take, is_some, IfOk, IfErr, OnOk, IsErrOf, MatchBool, Some, None};
 ghost use Rattle.std.specs.Io.KnownBytes.{Appends};
 ghost use Rattle.std.specs.List.{FoldsTo};
 ghost use Rattle.oram_geometry.specs.Sizes.{IsDevice};
 ghost use Rattle.oram_host.specs.Flips.{IsByteless};
+ghost use Rattle.oram_host.specs.Swaps.{LacksPair};
 ghost use Rattle.oram_run.specs.Run.{Shown};
-ghost use Rattle.oramsim.specs.Printing.{reaction_text};
-ghost use Rattle.oramsim.specs.Script.{Point, Running, IsAnswered, IsDrained, IsNew, IsUnfit, Obeys, Replies, Starts, after_turn};
+ghost use Rattle.oramsim.specs.Printing as printing;
+ghost use Rattle.oramsim.specs.Script.{Point, Running, IsAnswered, IsDrained, IsNewRun, IsUnfit, Obeys, HostAnswers, Starts, after_turn};
 ghost use Rattle.oramsim.specs.Script as spec;
-ghost use Rattle.oramsim.specs.Standing.{AreWhole, GoesOn, GoesOnAt, IsFaithful, IsFaithfulAt, IsPlayed, IsWholeMachine, Stands, StaysFaithful, still_wanted};
+ghost use Rattle.oramsim.specs.Standing.{AreWhole, GivesUp, GivesUpAt, RunsOn, RunsOnAt, IsFaithful, IsFaithfulAt, IsHalted, IsPlayed, IsUnder, IsWholeMachine, IsAtRun, StaysFaithful, still_wanted};
 
 use crate::line::Line;
-use crate::printing::{FaultText, ReactionText, ReadyText};
+use crate::printing::{FaultText, ReadyText, reaction_text};
 use crate::script::SimFault;
 use oram_bucket::PlainSeal;
 use oram_bytes::Bytes;
@@ -64,11 +65,12 @@ fn play<W: Write>(
     event: &Event,
 ) -> Result<Option<Bytes>, SimFault>
     ensures device { core.new.device ≡ core.old.device }
+    ensures err { IfErr result (λ e. IsHalted e core.old.device core.old.state event.now core.new.state (W.contents writer.old) (W.contents writer.new)) }
     ensures ok { IfOk result (λ sent. (x : Shown) × IsPlayed core.old.device core.old.state event.now x sent core.new.state
-        × Appends (W.contents writer.old) (W.contents writer.new) (reaction_text x)) }
+        × Appends (W.contents writer.old) (W.contents writer.new) (printing.reaction_text x)) }
 {
     let mut reaction = core.step(alloc, event)?;
-    let text = format!(in alloc; "{}", ReactionText(&reaction))?;
+    let text = reaction_text(alloc, &reaction)?;
     put(writer, text.as_bytes())?;
     Ok(reaction.sends.pop())
 }
@@ -79,7 +81,7 @@ fn left_at(event: &Event, outstanding: Option<Bytes>) -> Option<Bytes>
 {
     match event {
         Event::Submit { .. } | Event::Retry => outstanding,
-        Event::Answer(_) | Event::Lost => None,
+        Event::Answer(_) | Event::Lost | Event::Reopen => None,
     }
 }
 
@@ -94,8 +96,9 @@ impl Machine {
         requires { IsWholeMachine self.old }
         ensures whole { OnOk result (IsWholeMachine self.new) }
         ensures left { OnOk result (spec.is_answer event.now ≡ true → is_some self.old.outstanding ≡ true → still_wanted self.new < still_wanted self.old) }
-        ensures ok { (r : Running) → Stands r self.old → OnOk result ((x : Shown) × GoesOn r (after_turn r event.now x) self.new (W.contents writer.old) (W.contents writer.new)
+        ensures ok { (r : Running) → IsAtRun r self.old → OnOk result ((x : Shown) × RunsOn r (after_turn r event.now x) self.new (W.contents writer.old) (W.contents writer.new)
             × StaysFaithful r self.old.core.state event.now x) }
+        ensures err { (r : Running) → IsAtRun r self.old → IfErr result (λ e. GivesUp r (λ later. (later ≡ r) ⊎ spec.AtEvent r event.now later) e (W.contents writer.old) (W.contents writer.new)) }
     {
         let sent = play(alloc, writer, &mut self.core, event)?;
         let left = left_at(event, self.outstanding.take());
@@ -105,7 +108,7 @@ impl Machine {
 
     /// The bytes by which the host answers the outstanding message. With none outstanding there are none.
     fn answer_of_host(&mut self, alloc: Global) -> Result<Bytes, AllocError>
-        ensures bytes { IfOk result (λ bytes. Replies self.old.server self.old.outstanding bytes self.new.server) }
+        ensures bytes { IfOk result (λ bytes. HostAnswers self.old.server self.old.outstanding bytes self.new.server) }
         ensures core { self.new.core ≡ self.old.core }
         ensures outstanding { self.new.outstanding ≡ self.old.outstanding }
         ensures snapshot { self.new.snapshot ≡ self.old.snapshot }
@@ -113,7 +116,7 @@ impl Machine {
         let Some(message) = &self.outstanding else {
             return Ok(Bytes::from_vec(Vec::new(alloc)));
         };
-        let bytes = self.server.handle(message.as_slice()).encode(alloc)?;
+        let bytes = self.server.answer(alloc, message.as_slice())?;
         Ok(Bytes::from_vec(bytes))
     }
 
@@ -122,8 +125,10 @@ impl Machine {
         requires { IsWholeMachine self.old }
         ensures whole { OnOk result (IsWholeMachine self.new) }
         ensures left { OnOk result (is_some self.old.outstanding ≡ true → still_wanted self.new < still_wanted self.old) }
-        ensures ok { (r : Running) → Stands r self.old → OnOk result ((x : Shown) × (later : Running) × IsAnswered r x later
-            × GoesOn r later self.new (W.contents writer.old) (W.contents writer.new) × (IsFaithful r → IsFaithful later)) }
+        ensures ok { (r : Running) → IsAtRun r self.old → OnOk result ((x : Shown) × (later : Running) × IsAnswered r x later
+            × RunsOn r later self.new (W.contents writer.old) (W.contents writer.new) × (IsFaithful r → IsFaithful later)) }
+        ensures err { (r : Running) → IsAtRun r self.old → IfErr result (λ e. GivesUp r (λ later. (later ≡ r) ⊎ ((x : Shown) × IsAnswered r x later)) e
+            (W.contents writer.old) (W.contents writer.new)) }
     {
         let bytes = self.answer_of_host(alloc)?;
         self.tell(alloc, writer, &Event::Answer(bytes))
@@ -133,9 +138,11 @@ impl Machine {
     pub fn drain<W: Write>(&mut self, alloc: Global, writer: &mut W) -> Result<(), SimFault>
         requires { IsWholeMachine self.old }
         ensures whole { OnOk result (IsWholeMachine self.new) }
-        ensures ok { (r : Running) → Stands r self.old → OnOk result ((xs : List Shown) × (later : Running)
+        ensures ok { (r : Running) → IsAtRun r self.old → OnOk result ((xs : List Shown) × (later : Running)
             × FoldsTo IsDrained r xs later × (later.message ≡ None)
-            × GoesOn r later self.new (W.contents writer.old) (W.contents writer.new) × (IsFaithful r → IsFaithful later)) }
+            × RunsOn r later self.new (W.contents writer.old) (W.contents writer.new) × (IsFaithful r → IsFaithful later)) }
+        ensures err { (r : Running) → IsAtRun r self.old → IfErr result (λ e. GivesUp r (λ later. (xs : List Shown) × FoldsTo IsDrained r xs later) e
+            (W.contents writer.old) (W.contents writer.new)) }
     {
         while self.outstanding.is_some() {
             self.answer(alloc, writer)?;
@@ -147,8 +154,10 @@ impl Machine {
     pub fn lose_answer<W: Write>(&mut self, alloc: Global, writer: &mut W) -> Result<(), SimFault>
         requires { IsWholeMachine self.old }
         ensures whole { OnOk result (IsWholeMachine self.new) }
-        ensures ok { (r : Running) → Stands r self.old → OnOk result ((later : Running) × Obeys r Line.Late later
-            × GoesOn r later self.new (W.contents writer.old) (W.contents writer.new) × (IsFaithful r → IsFaithful later)) }
+        ensures ok { (r : Running) → IsAtRun r self.old → OnOk result ((later : Running) × Obeys r Line.Late later
+            × RunsOn r later self.new (W.contents writer.old) (W.contents writer.new) × (IsFaithful r → IsFaithful later)) }
+        ensures err { (r : Running) → IsAtRun r self.old → IfErr result (λ e. GivesUp r (λ later. (later ≡ r) ⊎ Obeys r Line.Late later) e
+            (W.contents writer.old) (W.contents writer.new)) }
     {
         let _unheard = self.answer_of_host(alloc)?;
         self.tell(alloc, writer, &Event::Lost)
@@ -158,7 +167,7 @@ impl Machine {
     pub fn keep(&mut self, alloc: Global) -> Result<(), AllocError>
         requires { IsWholeMachine self.old }
         ensures whole { OnOk result (IsWholeMachine self.new) }
-        ensures ok { (r : Running) → Stands r self.old → OnOk result ((later : Running) × Obeys r Line.Snapshot later × Stands later self.new
+        ensures ok { (r : Running) → IsAtRun r self.old → OnOk result ((later : Running) × Obeys r Line.Snapshot later × IsAtRun later self.new
             × (IsFaithful r → IsFaithful later)) }
     {
         self.snapshot = Some(self.server.copy(alloc)?);
@@ -169,7 +178,7 @@ impl Machine {
     pub fn restore(&mut self, alloc: Global) -> Result<bool, AllocError>
         requires { IsWholeMachine self.old }
         ensures whole { OnOk result (IsWholeMachine self.new) }
-        ensures ok { (r : Running) → Stands r self.old → IfOk result (λ done. MatchBool done ((later : Running) × Obeys r Line.Restore later × Stands later self.new)
+        ensures ok { (r : Running) → IsAtRun r self.old → IfOk result (λ done. MatchBool done ((later : Running) × Obeys r Line.Restore later × IsAtRun later self.new)
             (r.copy ≡ None)) }
     {
         let Some(kept) = &self.snapshot else {
@@ -183,14 +192,25 @@ impl Machine {
     pub fn tamper(&mut self, tree: u64, node: u64, offset: u64) -> bool
         requires { IsWholeMachine self.old }
         ensures whole { IsWholeMachine self.new }
-        ensures ok { (r : Running) → Stands r self.old → MatchBool result ((later : Running) × Obeys r (Line.Tamper tree node offset) later × Stands later self.new)
+        ensures ok { (r : Running) → IsAtRun r self.old → MatchBool result ((later : Running) × Obeys r (Line.Tamper tree node offset) later × IsAtRun later self.new)
             (IsByteless r.host tree node offset) }
     {
         self.server.flip(tree, node, offset)
     }
 
-    /// Does what a line says. False is a line that the device doesn't take: a second device, a byte that isn't there or a
-    /// host that wasn't kept.
+    /// Lets two records that the host keeps change places. False is that one isn't there, or that they have two lengths.
+    pub fn swap(&mut self, tree_a: u64, node_a: u64, tree_b: u64, node_b: u64) -> bool
+        requires { IsWholeMachine self.old }
+        ensures whole { IsWholeMachine self.new }
+        ensures ok { (r : Running) → IsAtRun r self.old → MatchBool result
+            ((later : Running) × Obeys r (Line.Swap tree_a node_a tree_b node_b) later × IsAtRun later self.new)
+            (LacksPair r.host tree_a node_a tree_b node_b) }
+    {
+        self.server.swap(tree_a, node_a, tree_b, node_b)
+    }
+
+    /// Does what a line says. False is a line that the device doesn't take: a second device, a byte or a pair of records
+    /// that isn't there, or a host that wasn't kept.
     pub fn obey<W: Write>(
         &mut self,
         alloc: Global,
@@ -199,9 +219,10 @@ impl Machine {
     ) -> Result<bool, SimFault>
         requires { IsWholeMachine self.old }
         ensures whole { OnOk result (IsWholeMachine self.new) }
-        ensures ok { (r : Running) → Stands r self.old → result ≡ Ok true → (later : Running) × Obeys r line later
-            × GoesOn r later self.new (W.contents writer.old) (W.contents writer.new) × (spec.is_meddling line ≡ false → IsFaithful r → IsFaithful later) }
-        ensures bad { (r : Running) → Stands r self.old → result ≡ Ok false → IsUnfit r line × (W.contents writer.new ≡ W.contents writer.old) }
+        ensures ok { (r : Running) → IsAtRun r self.old → result ≡ Ok true → (later : Running) × Obeys r line later
+            × RunsOn r later self.new (W.contents writer.old) (W.contents writer.new) × (spec.is_meddling line ≡ false → IsFaithful r → IsFaithful later) }
+        ensures bad { (r : Running) → IsAtRun r self.old → result ≡ Ok false → IsUnfit r line × (W.contents writer.new ≡ W.contents writer.old) }
+        ensures err { (r : Running) → IsAtRun r self.old → IfErr result (λ e. GivesUp r (IsUnder r line) e (W.contents writer.old) (W.contents writer.new)) }
     {
         match line {
             Line::Told(event) => {
@@ -225,6 +246,12 @@ impl Machine {
                 Ok(true)
             }
             Line::Tamper { tree, node, offset } => Ok(self.tamper(tree, node, offset)),
+            Line::Swap {
+                tree_a,
+                node_a,
+                tree_b,
+                node_b,
+            } => Ok(self.swap(tree_a, node_a, tree_b, node_b)),
             Line::Restore => Ok(self.restore(alloc)?),
             Line::Device { .. } => Ok(false),
         }
@@ -235,7 +262,7 @@ impl Machine {
 fn formatted(alloc: Global, device: Device) -> Result<Machine, FormatFault>
     requires { IsDevice device }
     ensures whole { IfOk result (λ machine. IsWholeMachine machine) }
-    ensures ok { IfOk result (λ machine. (r : Running) × IsNew device r × Stands r machine × IsFaithful r) }
+    ensures ok { IfOk result (λ machine. (r : Running) × IsNewRun device r × IsAtRun r machine × IsFaithful r) }
     ensures err { IfErr result (λ fault. fault ≡ FormatFault.OutOfMemory) }
 {
     let mut server = Server::new(alloc);
@@ -256,7 +283,9 @@ pub fn begin<W: Write>(
 ) -> Result<Option<Machine>, SimFault>
     ensures whole { IfOk result (λ machine. AreWhole machine) }
     ensures ok { (head : List ℕ) → IfOk result (λ machine. (q : Point) × Starts head device q
-        × GoesOnAt (record { stage = None; head = head }) q machine (W.contents writer.old) (W.contents writer.new) × IsFaithfulAt q.stage) }
+        × RunsOnAt (record { stage = None; head = head }) q machine (W.contents writer.old) (W.contents writer.new) × IsFaithfulAt q.stage) }
+    ensures err { (head : List ℕ) → IfErr result (λ e. GivesUpAt (record { stage = None; head = head }) (λ q. (q ≡ record { stage = None; head = head }) ⊎ Starts head device q) e
+        (W.contents writer.old) (W.contents writer.new)) }
 {
     match device {
         Ok(device) => {

@@ -4,18 +4,25 @@
 //! what becomes of the messages on their way. What the device replies and sends is printed, a line each.
 #![tactic(auto)]
 
+ghost use Rattle.std.specs.Prelude.{◌≡◌};
+ghost use Rattle.oramsim.specs.Script.{exit_status};
+
+mod fields;
 mod line;
+mod lines;
 mod machine;
 mod printing;
 mod script;
 
 pub use script::{Ending, SimFault, run_script};
 use std::io;
-use std::io::{BufReader, BufWriter, Write};
+use std::io::{BufReader, BufWriter};
 use std::process::ExitCode;
 
 /// The status that a run ends with.
-fn status(ended: Result<Ending, SimFault>) -> u8 {
+fn status(ended: Result<Ending, SimFault>) -> u8
+    ensures { result ≡ exit_status ended }
+{
     match ended {
         Ok(Ending::End) => 0,
         Ok(Ending::BadLine(_)) => 2,
@@ -32,13 +39,12 @@ fn run(rt: &(impl Input + Print + AllocGlobal)) -> Result<Ending, SimFault> {
         machine::put(&mut io::writer(rt), b"out of memory\n")?;
         return Err(SimFault::OutOfMemory);
     };
-    let ended = run_script(rt.alloc(), &mut reader, &mut writer);
-    match writer.flush() {
-        Ok(()) => ended,
-        Err(_) => Err(SimFault::Write),
-    }
+    run_script(rt.alloc(), &mut reader, &mut writer)
 }
 
 fn main(rt: HostRuntime) -> ExitCode {
     ExitCode::from(status(run(&rt)))
 }
+
+#[cfg(test)]
+mod tests;

@@ -1,12 +1,14 @@
 //! What the run of a script prints.
-ghost use Rattle.std.specs.Prelude.{◌≡◌, Some};
-ghost use Rattle.hex.specs.Hex.{encode_lower};
+ghost use Rattle.std.specs.Prelude.{◌≡◌, Some, IfOk};
+ghost use Rattle.std.specs.String.{string_bytes};
 ghost use Rattle.oram_run.specs.Run.{shown};
-ghost use Rattle.oramsim.specs.Printing.{refusal_text, reason_text, note_text, body_text, reply_text, send_text, reaction_text, ready_text, shape_text, error_text};
+ghost use Rattle.oramsim.specs.Printing.{refusal_text, reason_text, note_text, reply_line, send_text, ready_text, shape_text, error_text};
+ghost use Rattle.oramsim.specs.Printing as spec;
 
 use byteorder::{BigEndian, ByteOrder};
 use oram_geometry::ShapeFault;
 use oram_run::{Note, Reaction, Reason, Refusal, Reply, ReplyBody};
+use std::alloc::{AllocError, Global};
 use std::fmt;
 
 /// The bytes of a message that say what it asks for: its kind, its tree and its leaf.
@@ -73,53 +75,50 @@ impl fmt::Display for NoteText {
     }
 }
 
-/// Bytes as hex digits in lower case.
-#[derive(Drop)]
-struct Hex<'a>(&'a [u8]);
-
-impl fmt::Display for Hex<'_> {
-    ghost output = { λ x. Some (encode_lower x.0.now) };
-
-    fn fmt<W: fmt::Write>(&self, f: &mut fmt::Formatter<W>) -> fmt::Result {
-        for byte in self.0 {
-            let byte = *byte;
-            write!(f, "{byte:02x}")?;
+/// What a reply says.
+fn body_text(alloc: Global, body: &ReplyBody) -> Result<String, AllocError>
+    ensures { IfOk result (λ text. string_bytes text ≡ spec.body_text body.now) }
+{
+    match body {
+        ReplyBody::Data(bytes) => {
+            let digits = hex::encode(alloc, bytes.as_slice())?;
+            format!(in alloc; "data {}", digits.as_str())
         }
-        Ok(())
+        ReplyBody::Done => format!(in alloc; "done"),
+        ReplyBody::Failed => format!(in alloc; "failed"),
     }
 }
 
+/// The line of a reply that says this.
 #[derive(Drop)]
-struct BodyText<'a>(&'a ReplyBody);
+struct ReplyText<'a> {
+    session: u32,
+    ticket: u64,
+    says: &'a str,
+}
 
-impl fmt::Display for BodyText<'_> {
-    ghost output = { λ x. Some (body_text x.0.now) };
+impl fmt::Display for ReplyText<'_> {
+    ghost output = { λ x. Some (reply_line x.session x.ticket x.says.now) };
 
     fn fmt<W: fmt::Write>(&self, f: &mut fmt::Formatter<W>) -> fmt::Result {
-        match self.0 {
-            ReplyBody::Data(bytes) => {
-                let hex = Hex(bytes.as_slice());
-                write!(f, "data {hex}")
-            }
-            ReplyBody::Done => write!(f, "done"),
-            ReplyBody::Failed => write!(f, "failed"),
-        }
+        let session = self.session;
+        let ticket = self.ticket;
+        let says = self.says;
+        writeln!(f, "reply {session} {ticket} {says}")
     }
 }
 
 /// The line of a reply.
-#[derive(Drop)]
-struct ReplyText<'a>(&'a Reply);
-
-impl fmt::Display for ReplyText<'_> {
-    ghost output = { λ x. Some (reply_text x.0.now) };
-
-    fn fmt<W: fmt::Write>(&self, f: &mut fmt::Formatter<W>) -> fmt::Result {
-        let session = self.0.session;
-        let ticket = self.0.ticket;
-        let body = BodyText(&self.0.body);
-        writeln!(f, "reply {session} {ticket} {body}")
-    }
+fn reply_text(alloc: Global, reply: &Reply) -> Result<String, AllocError>
+    ensures { IfOk result (λ text. string_bytes text ≡ spec.reply_text reply.now) }
+{
+    let body = body_text(alloc, &reply.body)?;
+    let text = ReplyText {
+        session: reply.session,
+        ticket: reply.ticket,
+        says: body.as_str(),
+    };
+    format!(in alloc; "{text}")
 }
 
 /// The line of a message to the server, from its first six bytes.
@@ -144,25 +143,19 @@ impl fmt::Display for SendText<'_> {
 }
 
 /// What a reaction prints: a line for its note, for each reply and for its message.
-#[derive(Drop)]
-pub struct ReactionText<'a>(pub &'a Reaction);
-
-impl fmt::Display for ReactionText<'_> {
-    ghost output = { λ x. Some (reaction_text (shown x.0.now)) };
-
-    fn fmt<W: fmt::Write>(&self, f: &mut fmt::Formatter<W>) -> fmt::Result {
-        let note = NoteText(self.0.note);
-        write!(f, "{note}")?;
-        for reply in &self.0.replies {
-            let reply = ReplyText(reply);
-            write!(f, "{reply}")?;
-        }
-        for message in &self.0.sends {
-            let message = SendText(message.as_slice());
-            write!(f, "{message}")?;
-        }
-        Ok(())
+pub fn reaction_text(alloc: Global, reaction: &Reaction) -> Result<String, AllocError>
+    ensures { IfOk result (λ text. string_bytes text ≡ spec.reaction_text (shown reaction.now)) }
+{
+    let mut text = format!(in alloc; "{}", NoteText(reaction.note))?;
+    for reply in &reaction.replies {
+        let line = reply_text(alloc, reply)?;
+        text.push_str(line.as_str())?;
     }
+    for message in &reaction.sends {
+        let line = format!(in alloc; "{}", SendText(message.as_slice()))?;
+        text.push_str(line.as_str())?;
+    }
+    Ok(text)
 }
 
 /// What a shape fault prints.

@@ -1,20 +1,20 @@
 //! Scripts and their runs.
-ghost use Rattle.std.specs.Prelude.{◌≡◌, ◌≢◌, ◌++◌, ℕ, List, true, false, IfOk, IfErr, OnOk, IfSome, IsErrOf};
+ghost use Rattle.std.specs.Prelude.{◌≡◌, ◌≢◌, ◌⊎◌, ◌++◌, ℕ, List, [], ◌∷◌, true, false, IfOk, IfErr, OnOk, IfSome, IsErrOf};
 ghost use Rattle.std.specs.Io.BufRead.{strip_last};
 ghost use Rattle.std.specs.Io.KnownBytes.{Appends, IsAtEnd};
 ghost use Rattle.oramsim.specs.declared.script.SimFault.TheVariants.{OutOfMemory};
 ghost use Rattle.oramsim.specs.Printing.{error_text};
 ghost use Rattle.oramsim.specs.Reading.{line_of};
-ghost use Rattle.oramsim.specs.Script.{Point, HasNoFailure, IsBad, IsHarmless, IsHarmlessScript, IsPassed, IsScriptText};
-ghost use Rattle.oramsim.specs.Standing.{AreWhole, GoesOnAt, IsFaithfulAt, StandsAt};
+ghost use Rattle.oramsim.specs.Script.{Point, HasNoFailure, IsBad, IsCutText, IsHarmless, IsHarmlessScript, IsPassed, IsScriptText, IsWithin};
+ghost use Rattle.oramsim.specs.Standing.{AreWhole, GivesUpAt, RunsOnAt, IsFaithfulAt, IsWrittenAt, IsUntold, StandsAt};
 
 use crate::line::Line;
+use crate::lines::{flush, next_line};
 use crate::machine::{Machine, begin, put};
 use crate::printing::ErrorText;
 use oram_geometry::Device;
 use std::alloc::{AllocError, AllocFailed, Global};
-use std::io;
-use std::io::{BufRead, ErrorKind, Write};
+use std::io::{BufRead, Write};
 use thiserror::Error;
 
 /// How a script ended.
@@ -45,15 +45,6 @@ impl From<AllocError> for SimFault {
     }
 }
 
-/// What a reader's error is to a script.
-fn read_fault(error: &io::Error) -> SimFault {
-    if error.kind() == ErrorKind::OutOfMemory {
-        SimFault::OutOfMemory
-    } else {
-        SimFault::Read
-    }
-}
-
 /// A line without the byte 0A at its end.
 fn without_end(line: &[u8]) -> &[u8]
     ensures { result.now ≡ strip_last 10 line.now }
@@ -74,9 +65,11 @@ fn pass<W: Write>(
     requires { AreWhole machine.old }
     ensures whole { OnOk result (AreWhole machine.new) }
     ensures ok { (p : Point) → StandsAt p.stage machine.old → result ≡ Ok true → (q : Point) × IsPassed p bytes.now q
-        × GoesOnAt p q machine.new (W.contents writer.old) (W.contents writer.new)
+        × RunsOnAt p q machine.new (W.contents writer.old) (W.contents writer.new)
         × (IsHarmless (line_of bytes.now) → IsFaithfulAt p.stage → IsFaithfulAt q.stage) }
     ensures bad { (p : Point) → StandsAt p.stage machine.old → result ≡ Ok false → IsBad p.stage bytes.now × (W.contents writer.new ≡ W.contents writer.old) }
+    ensures err { (p : Point) → StandsAt p.stage machine.old → IfErr result (λ e. GivesUpAt p (λ q. IsPassed p bytes.now q ⊎ IsWithin p (bytes.now ∷ []) q) e
+        (W.contents writer.old) (W.contents writer.new)) }
 {
     if bytes.is_empty() {
         return Ok(true);
@@ -106,7 +99,8 @@ fn pass<W: Write>(
 
 /// Tells the number of a line that the script can't have.
 fn tell_bad<W: Write>(alloc: Global, writer: &mut W, number: u64) -> Result<(), SimFault>
-    ensures { OnOk result (Appends (W.contents writer.old) (W.contents writer.new) (error_text number)) }
+    ensures ok { OnOk result (Appends (W.contents writer.old) (W.contents writer.new) (error_text number)) }
+    ensures err { IfErr result (λ e. IsUntold e (error_text number) (W.contents writer.old) (W.contents writer.new)) }
 {
     let text = format!(in alloc; "{}", ErrorText(number))?;
     put(writer, text.as_bytes())
@@ -121,16 +115,13 @@ fn run_lines<R: BufRead, W: Write>(
     ensures ok { IfOk result (λ ending. IfSome (R.remaining reader.old) (λ input. (text : List ℕ) × IsScriptText input text ending
         × (IsHarmlessScript input → HasNoFailure text) × Appends (W.contents writer.old) (W.contents writer.new) text)) }
     ensures end { result ≡ Ok Ending.End → IfSome (R.remaining reader.old) (λ _. IsAtEnd (R.remaining reader.new)) }
+    ensures err { IfErr result (λ e. IfSome (R.remaining reader.old) (λ input. (text : List ℕ) × IsWrittenAt input text e × Appends (W.contents writer.old) (W.contents writer.new) text)) }
 {
     let mut machine = None;
     let mut line = Vec::new(alloc);
+    let mut held = 0;
     for number in 0..u64::MAX {
-        line.clear();
-        let count = match reader.read_until(b'\n', &mut line) {
-            Ok(count) => count,
-            Err(error) => return Err(read_fault(&error)),
-        };
-        if count == 0 {
+        if !next_line(reader, writer, &mut held, &mut line)? {
             return Ok(Ending::End);
         }
         if !pass(alloc, writer, &mut machine, without_end(line.as_slice()))? {
@@ -139,6 +130,26 @@ fn run_lines<R: BufRead, W: Write>(
         }
     }
     Err(SimFault::Read)
+}
+
+/// Runs the lines of a script, and tells where memory ran out.
+fn run_to_end<R: BufRead, W: Write>(
+    alloc: Global,
+    reader: &mut R,
+    writer: &mut W,
+) -> Result<Ending, SimFault>
+    ensures ok { IfOk result (λ ending. IfSome (R.remaining reader.old) (λ input. (text : List ℕ) × IsScriptText input text ending
+        × (IsHarmlessScript input → HasNoFailure text) × Appends (W.contents writer.old) (W.contents writer.new) text)) }
+    ensures end { result ≡ Ok Ending.End → IfSome (R.remaining reader.old) (λ _. IsAtEnd (R.remaining reader.new)) }
+    ensures err { IfErr result (λ e. IfSome (R.remaining reader.old) (λ input. (text : List ℕ) × IsCutText input text e × Appends (W.contents writer.old) (W.contents writer.new) text)) }
+{
+    match run_lines(alloc, reader, writer) {
+        Err(SimFault::OutOfMemory) => {
+            put(writer, b"out of memory\n")?;
+            Err(SimFault::OutOfMemory)
+        }
+        ended => ended,
+    }
 }
 
 /// Runs a script and writes what it prints. What ends a run early is the last line that is written: the number of a
@@ -151,14 +162,11 @@ pub fn run_script<R: BufRead, W: Write>(
     ensures ok { IfOk result (λ ending. IfSome (R.remaining reader.old) (λ input. (text : List ℕ) × IsScriptText input text ending
         × (IsHarmlessScript input → HasNoFailure text) × Appends (W.contents writer.old) (W.contents writer.new) text)) }
     ensures end { result ≡ Ok Ending.End → IfSome (R.remaining reader.old) (λ _. IsAtEnd (R.remaining reader.new)) }
+    ensures err { IfErr result (λ e. IfSome (R.remaining reader.old) (λ input. (text : List ℕ) × IsCutText input text e × Appends (W.contents writer.old) (W.contents writer.new) text)) }
 {
-    match run_lines(alloc, reader, writer) {
-        Err(SimFault::OutOfMemory) => {
-            put(writer, b"out of memory\n")?;
-            Err(SimFault::OutOfMemory)
-        }
-        ended => ended,
-    }
+    let ended = run_to_end(alloc, reader, writer);
+    flush(writer)?;
+    ended
 }
 
 #[cfg(test)]

@@ -1,6 +1,9 @@
-use Rattle.std.proofs.Common.{Some, sym, ap, ◌∙◌, subst}
+use Rattle.std.proofs.Common.{Some, inl, inr, refl, sym, ap, ◌∙◌, subst}
 use Rattle.oramsim.specs.Standing.{StandsAt}
 use Rattle.oramsim.specs.declared.line.Line.{Line}
+use Rattle.oramsim.specs.declared.script.SimFault.TheVariants.{OutOfMemory}
+use Rattle.oramsim.proofs.Cut.{obeyed_cut, started_cut, stays_at}
+use Rattle.oramsim.proofs.GivenUp.{raised}
 use Rattle.oramsim.proofs.Passing.{empty_passed, passed_some, refused_some, started}
 use Rattle.oramsim.proofs.script.pass.Goals as goal
 
@@ -19,3 +22,16 @@ pub returns-in_ok-machine-in-None-clause-ok : goal.returns-in_ok-machine-in-None
 returns-in_ok-machine-in-None-clause-ok g c = λ p f e.
     started p c.in_ok-machine-in-None.field-0 c.args.bytes.now _ _ _ _ _ c.new-device.result _ _ c.new-device.ensures
     c.in_ok-machine-in-None.ensures.ok (sym c.if-is_empty.ensures) (sym c.in_ok-line.ensures ∙ (c.in-Some.is ∙ ap (λ (l : Line). Some l) c.in-Device.is)) (subst (StandsAt p.stage) c.in-None.is f)
+
+pub returns-in_err-line-clause-err : goal.returns-in_err-line-clause-err
+returns-in_err-line-clause-err g c = λ p f. raised _ _ OutOfMemory c.from_residual.ensures.1 (stays_at p _ _ _ _ f (inr (inl refl)) refl)
+
+pub returns-in-Some-machine-clause-err : goal.returns-in-Some-machine-clause-err
+returns-in-Some-machine-clause-err g c = λ p f.
+    obeyed_cut p c.in-Some-machine.machine c.args.bytes.now c.in-Some.line c.obey.result _ _ c.obey.ensures.err (sym c.if-is_empty.ensures) (sym c.in_ok-line.ensures ∙ c.in-Some.is) (subst (StandsAt p.stage) c.in-Some-machine.is f)
+
+pub returns-in_err-machine-in-None-clause-err : goal.returns-in_err-machine-in-None-clause-err
+returns-in_err-machine-in-None-clause-err g c = λ p f.
+    let e = c.in_err-machine-in-None.field-0.0 in
+    raised _ _ e c.from_residual-in_err-machine-in-None.ensures.1 (started_cut p c.args.bytes.now _ _ _ _ _ c.new-device.result e _ _ c.new-device.ensures c.in_err-machine-in-None.ensures.err
+    (sym c.if-is_empty.ensures) (sym c.in_ok-line.ensures ∙ (c.in-Some.is ∙ ap (λ (l : Line). Some l) c.in-Device.is)) (subst (StandsAt p.stage) c.in-None.is f))

@@ -1,4 +1,7 @@
+use Rattle.std.proofs.Common.{inl, refl}
 use Rattle.oramsim.proofs.Answering.{answered, fewer_as, heard_stands, IsHeard}
+use Rattle.oramsim.specs.declared.script.SimFault.TheVariants.{OutOfMemory}
+use Rattle.oramsim.proofs.GivenUp.{if_err, answer_cut, raised, stays}
 use Rattle.oramsim.proofs.Turning.{on_ok}
 use Rattle.oramsim.proofs.machine.Machine.answer.Goals as goal
 
@@ -14,3 +17,13 @@ returns-clause-ok g c = λ r f.
     let n = c.answer_of_host.new.self in
     let h : IsHeard m n c.in_ok-bytes.bytes = record { replies = c.in_ok-bytes.ensures.bytes; core = c.answer_of_host.ensures.core; outstanding = c.answer_of_host.ensures.outstanding; snapshot = c.answer_of_host.ensures.snapshot } in
     on_ok _ _ c.tell.result (λ q. answered r m n c.tell.new.self c.in_ok-bytes.bytes _ _ c.requires f h q) (c.tell.ensures.ok _ (heard_stands r m n c.in_ok-bytes.bytes f h))
+
+pub returns-in_err-bytes-clause-err : goal.returns-in_err-bytes-clause-err
+returns-in_err-bytes-clause-err g c = λ r f. raised _ _ OutOfMemory c.from_residual.ensures.1 (stays r c.args.self.now _ _ _ f (inl refl) refl)
+
+pub returns-clause-err : goal.returns-clause-err
+returns-clause-err g c = λ r f.
+    let m = c.args.self.now in
+    let n = c.answer_of_host.new.self in
+    let h : IsHeard m n c.in_ok-bytes.bytes = record { replies = c.in_ok-bytes.ensures.bytes; core = c.answer_of_host.ensures.core; outstanding = c.answer_of_host.ensures.outstanding; snapshot = c.answer_of_host.ensures.snapshot } in
+    if_err _ _ c.tell.result (λ e q. answer_cut r m n c.in_ok-bytes.bytes e _ _ f h q) (c.tell.ensures.err _ (heard_stands r m n c.in_ok-bytes.bytes f h))

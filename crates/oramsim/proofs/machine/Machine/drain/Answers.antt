@@ -1,5 +1,6 @@
 use Rattle.std.proofs.Common.{[], refl, sym, ◌∙◌}
 use Rattle.oramsim.proofs.Drained.{drained_more, none_left}
+use Rattle.oramsim.proofs.GivenUp.{drain_cut, raised}
 use Rattle.oramsim.proofs.Turning.{silent}
 use Rattle.oramsim.proofs.machine.Machine.drain.Goals as goal
 
@@ -19,3 +20,9 @@ pub returns-clause-ok : goal.returns-clause-ok
 returns-clause-ok g c = λ r f.
     let p = c.loop-alloc.invariant.so_far r f in
     (p.0, p.1, p.2, sym p.3.0.message ∙ none_left _ (sym c.loop-alloc-test.ensures), p.3, p.4)
+
+pub returns-in_err-answer-clause-err : goal.returns-in_err-answer-clause-err
+returns-in_err-answer-clause-err g c = λ r f.
+    let p = c.loop-alloc.invariant.so_far r f in
+    let e = c.in_err-answer.field-0.0 in
+    raised _ _ e c.from_residual.ensures.1 (drain_cut r p.1 c.loop-alloc.self e _ _ _ p.0 p.2 p.3 (sym c.loop-alloc-test.ensures) (c.in_err-answer.ensures.err p.1 p.3.0))

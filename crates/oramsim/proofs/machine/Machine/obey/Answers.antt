@@ -1,6 +1,8 @@
 use Rattle.std.proofs.Common.{refl}
-use Rattle.oramsim.specs.declared.line.Line.TheVariants.{Late}
-use Rattle.oramsim.proofs.Obeyed.{answer_obeyed, drain_obeyed, restore_obeyed, restore_unfit, snapshot_obeyed, spoken_obeyed, tamper_obeyed, tamper_unfit, told_obeyed, when_false, when_true}
+use Rattle.oramsim.specs.declared.line.Line.TheVariants.{Late, Told}
+use Rattle.oramsim.specs.declared.script.SimFault.TheVariants.{OutOfMemory}
+use Rattle.oramsim.proofs.GivenUp.{line_answered, line_cut, line_drained, line_stays, raised}
+use Rattle.oramsim.proofs.Obeyed.{answer_obeyed, drain_obeyed, restore_obeyed, restore_unfit, snapshot_obeyed, spoken_obeyed, swap_obeyed, swap_unfit, tamper_obeyed, tamper_unfit, told_obeyed, when_false, when_true}
 use Rattle.oramsim.proofs.machine.Machine.obey.Goals as goal
 
 pub returns-in_ok-tell-in-Told-clause-ok : goal.returns-in_ok-tell-in-Told-clause-ok
@@ -26,6 +28,14 @@ pub returns-in-Tamper-clause-bad : goal.returns-in-Tamper-clause-bad
 returns-in-Tamper-clause-bad g c = λ r f e.
     (tamper_unfit r c.args.line c.in-Tamper.tree c.in-Tamper.node c.in-Tamper.offset c.in-Tamper.is (when_false _ _ c.tamper.result _ refl (c.tamper.ensures.ok r f) e), refl)
 
+pub returns-in-Swap-clause-ok : goal.returns-in-Swap-clause-ok
+returns-in-Swap-clause-ok g c = λ r f e.
+    let l = c.in-Swap in swap_obeyed r c.args.line c.swap.new.self l.tree_a l.node_a l.tree_b l.node_b _ l.is (when_true _ _ c.swap.result _ refl (c.swap.ensures.ok r f) e)
+
+pub returns-in-Swap-clause-bad : goal.returns-in-Swap-clause-bad
+returns-in-Swap-clause-bad g c = λ r f e.
+    let l = c.in-Swap in (swap_unfit r c.args.line l.tree_a l.node_a l.tree_b l.node_b l.is (when_false _ _ c.swap.result _ refl (c.swap.ensures.ok r f) e), refl)
+
 pub returns-in_ok-restore-in-Restore-clause-ok : goal.returns-in_ok-restore-in-Restore-clause-ok
 returns-in_ok-restore-in-Restore-clause-ok g c = λ r f e.
     restore_obeyed r c.args.line c.restore.new.self _ c.in-Restore.is (when_true _ _ c.in_ok-restore-in-Restore.field-0 _ refl (c.in_ok-restore-in-Restore.ensures.ok r f) e)
@@ -33,3 +43,21 @@ returns-in_ok-restore-in-Restore-clause-ok g c = λ r f e.
 pub returns-in_ok-restore-in-Restore-clause-bad : goal.returns-in_ok-restore-in-Restore-clause-bad
 returns-in_ok-restore-in-Restore-clause-bad g c = λ r f e.
     (restore_unfit r c.args.line c.in-Restore.is (when_false _ _ c.in_ok-restore-in-Restore.field-0 _ refl (c.in_ok-restore-in-Restore.ensures.ok r f) e), refl)
+
+pub returns-in_err-tell-in-Told-clause-err : goal.returns-in_err-tell-in-Told-clause-err
+returns-in_err-tell-in-Told-clause-err g c = λ r f. raised _ _ c.in_err-tell-in-Told.field-0.0 c.from_residual.ensures.1 (line_cut r c.args.line (Told c.in-Told.event) c.in_err-tell-in-Told.field-0.0 _ _ c.in-Told.is (c.in_err-tell-in-Told.ensures.err r f))
+
+pub returns-in_err-answer-in-Answer-clause-err : goal.returns-in_err-answer-in-Answer-clause-err
+returns-in_err-answer-in-Answer-clause-err g c = λ r f. raised _ _ c.in_err-answer-in-Answer.field-0.0 c.from_residual-in_err-answer-in-Answer.ensures.1 (line_answered r c.args.line c.in_err-answer-in-Answer.field-0.0 _ _ c.in-Answer.is (c.in_err-answer-in-Answer.ensures.err r f))
+
+pub returns-in_err-drain-in-Drain-clause-err : goal.returns-in_err-drain-in-Drain-clause-err
+returns-in_err-drain-in-Drain-clause-err g c = λ r f. raised _ _ c.in_err-drain-in-Drain.field-0.0 c.from_residual-in_err-drain-in-Drain.ensures.1 (line_drained r c.args.line c.in_err-drain-in-Drain.field-0.0 _ _ c.in-Drain.is (c.in_err-drain-in-Drain.ensures.err r f))
+
+pub returns-in_err-lose_answer-in-Late-clause-err : goal.returns-in_err-lose_answer-in-Late-clause-err
+returns-in_err-lose_answer-in-Late-clause-err g c = λ r f. raised _ _ c.in_err-lose_answer-in-Late.field-0.0 c.from_residual-in_err-lose_answer-in-Late.ensures.1 (line_cut r c.args.line Late c.in_err-lose_answer-in-Late.field-0.0 _ _ c.in-Late.is (c.in_err-lose_answer-in-Late.ensures.err r f))
+
+pub returns-in_err-keep-in-Snapshot-clause-err : goal.returns-in_err-keep-in-Snapshot-clause-err
+returns-in_err-keep-in-Snapshot-clause-err g c = λ r f. raised _ _ OutOfMemory c.from_residual-in_err-keep-in-Snapshot.ensures.1 (line_stays r c.args.self.now c.args.line _ _ f refl)
+
+pub returns-in_err-restore-in-Restore-clause-err : goal.returns-in_err-restore-in-Restore-clause-err
+returns-in_err-restore-in-Restore-clause-err g c = λ r f. raised _ _ OutOfMemory c.from_residual-in_err-restore-in-Restore.ensures.1 (line_stays r c.args.self.now c.args.line _ _ f refl)

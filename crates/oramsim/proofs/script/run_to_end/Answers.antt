@@ -1,0 +1,13 @@
+use Rattle.oramsim.proofs.Cut.{front_as, memory_cut, memory_told}
+use Rattle.oramsim.proofs.GivenUp.{raised}
+use Rattle.oramsim.proofs.script.run_to_end.Goals as goal
+
+pub returns-in_err-put-in-Err-OutOfMemory-clause-err : goal.returns-in_err-put-in-Err-OutOfMemory-clause-err
+returns-in_err-put-in-Err-OutOfMemory-clause-err g c =
+    let put = c.in_err-put-in-Err-OutOfMemory in
+    raised _ _ put.field-0.0 c.from_residual.ensures.1
+    (memory_cut _ _ _ _ put.field-0.0 (front_as _ _ _ _ c.in-Err-OutOfMemory.field-0-is c.in-Err-OutOfMemory.ensures.err) put.ensures.cut put.ensures.fault)
+
+pub returns-in_ok-put-in-Err-OutOfMemory-clause-err : goal.returns-in_ok-put-in-Err-OutOfMemory-clause-err
+returns-in_ok-put-in-Err-OutOfMemory-clause-err g c =
+    memory_told _ _ _ _ (front_as _ _ _ _ c.in-Err-OutOfMemory.field-0-is c.in-Err-OutOfMemory.ensures.err) c.in_ok-put-in-Err-OutOfMemory.ensures.ok
