@@ -1,11 +1,15 @@
 -- Rows that the definitions compute.
-use Rattle.std.proofs.Common.{◌≡◌, ◌∷◌, [], ◌++◌, false, refl}
+use Rattle.std.proofs.Common.{◌≡◌, ◌∷◌, [], ◌++◌, false, true, refl}
 use Rattle.std.specs.List.{flat_map}
 use Rattle.oram_wire.specs.declared.host_messages.HostAnswer.TheVariants as answer
 use Rattle.oram_wire.specs.declared.host_messages.HostRequest.TheVariants as request
+use Rattle.oram_wire.specs.declared.session_messages.SessionReply.TheVariants as reply
+use Rattle.oram_wire.specs.declared.session_messages.SessionRequest.TheVariants as session
 use Rattle.oram_wire.specs.FrameStream.{frame, length_at}
 use Rattle.oram_wire.specs.HostMessages.{answer_body, fetch_body, put_body, request_body, shape_body, store_body}
 use Rattle.oram_wire.specs.HostReading.{is_request_length, names_answer, names_request}
+use Rattle.oram_wire.specs.SessionMessages.{session_reply_body, session_request_body}
+use Rattle.oram_wire.specs.SessionReading.{is_session_request_length, names_session_reply, names_session_request}
 
 fetch_row : request_body (request.Fetch 0 6) ≡ 1 ∷ 0 ∷ 0 ∷ 0 ∷ 0 ∷ 6 ∷ []
 fetch_row = refl
@@ -41,3 +45,31 @@ cut_short = refl
 
 not_an_answer : names_answer (1 ∷ []) ≡ false
 not_an_answer = refl
+
+read_row : session_request_body (session.Read 5) ≡ 17 ∷ 0 ∷ 0 ∷ 0 ∷ 5 ∷ []
+read_row = refl
+
+write_row : session_request_body (session.Write 5 (255 ∷ 254 ∷ [])) ≡ 18 ∷ 0 ∷ 0 ∷ 0 ∷ 5 ∷ 255 ∷ 254 ∷ []
+write_row = refl
+
+discard_row : session_request_body (session.Discard 5) ≡ 19 ∷ 0 ∷ 0 ∷ 0 ∷ 5 ∷ []
+discard_row = refl
+
+-- frames of replies: a write is done, an address is bad, a body is no request, a read of two zeros
+reply_rows : flat_map frame (session_reply_body reply.Done ∷ session_reply_body (reply.Refused 1) ∷ session_reply_body (reply.Refused 7) ∷ session_reply_body (reply.Data (0 ∷ 0 ∷ [])) ∷ []) ≡ 0 ∷ 0 ∷ 0 ∷ 1 ∷ 145 ∷ 0 ∷ 0 ∷ 0 ∷ 2 ∷ 146 ∷ 1 ∷ 0 ∷ 0 ∷ 0 ∷ 2 ∷ 146 ∷ 7 ∷ 0 ∷ 0 ∷ 0 ∷ 3 ∷ 144 ∷ 0 ∷ 0 ∷ []
+reply_rows = refl
+
+not_a_session_request : names_session_request (20 ∷ []) ≡ false
+not_a_session_request = refl
+
+read_with_a_byte_more : is_session_request_length 17 6 ≡ false
+read_with_a_byte_more = refl
+
+write_of_nothing : is_session_request_length 18 5 ≡ true
+write_of_nothing = refl
+
+write_cut_short : is_session_request_length 18 4 ≡ false
+write_cut_short = refl
+
+not_a_reply : names_session_reply (147 ∷ []) ≡ false
+not_a_reply = refl

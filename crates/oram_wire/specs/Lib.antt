@@ -1,5 +1,7 @@
 pub mod HostMessages
 pub mod HostReading
+pub mod SessionMessages
+pub mod SessionReading
 pub mod FrameStream
 pub mod ListOfBodies
 pub mod Fronts

@@ -1,12 +1,14 @@
-//! What goes over the wire between the store and its bucket host: message bodies and their frames.
+//! What goes over the wire between the store and its bucket host, and between a client and the store: message bodies and
+//! their frames.
 //!
-//! A body is a request to the host or its answer. A frame is a body behind its length in four bytes. `Frames` takes a
-//! stream of frames in whatever pieces it comes.
+//! A body is a request to the host or its answer, or a client's request to the store or its reply. A frame is a body
+//! behind its length in four bytes. `Frames` takes a stream of frames in whatever pieces it comes.
 #![tactic(auto)]
 
 mod faults;
 mod framing;
 mod host_messages;
+mod session_messages;
 mod sinks;
 
 pub use faults::WireFault;
@@ -14,6 +16,7 @@ pub use framing::{Fed, Frames};
 pub use host_messages::{
     GOOD, HEADER_LEN, HostAnswer, HostRequest, HostView, REFUSED, fetch_header, store_header,
 };
+pub use session_messages::{BAD_REQUEST, DEVICE_FAILED, SessionReply, SessionRequest};
 pub use sinks::{ListSink, Sink, SinkFault};
 
 /// The longest body of a frame, in bytes.

@@ -1,0 +1,31 @@
+-- The bodies that a client sends over a session and is answered. All numbers are big-endian.
+use Rattle.std.specs.Prelude.{ℕ, List, [], ◌∷◌, ◌++◌}
+use Rattle.std.specs.Int.{w32, to_be_bytes}
+use Rattle.oram_wire.specs.declared.session_messages.SessionRequest.{SessionRequest}
+use Rattle.oram_wire.specs.declared.session_messages.SessionRequest.TheVariants as request
+use Rattle.oram_wire.specs.declared.session_messages.SessionReply.{SessionReply}
+use Rattle.oram_wire.specs.declared.session_messages.SessionReply.TheVariants as reply
+
+-- READ: the bytes of a block are asked for
+abbrev pub read_body : ℕ → List ℕ
+read_body address = 17 ∷ to_be_bytes w32 address
+
+-- WRITE: the bytes of a block are replaced
+abbrev pub write_body : ℕ → List ℕ → List ℕ
+write_body address bytes = 18 ∷ to_be_bytes w32 address ++ bytes
+
+-- DISCARD: the bytes of a block become zeros
+abbrev pub discard_body : ℕ → List ℕ
+discard_body address = 19 ∷ to_be_bytes w32 address
+
+-- the body of a request
+abbrev pub session_request_body : SessionRequest → List ℕ
+session_request_body (request.Read address) = read_body address
+session_request_body (request.Write address bytes) = write_body address bytes
+session_request_body (request.Discard address) = discard_body address
+
+-- the body of a reply
+abbrev pub session_reply_body : SessionReply → List ℕ
+session_reply_body (reply.Data bytes) = 144 ∷ bytes
+session_reply_body reply.Done = 145 ∷ []
+session_reply_body (reply.Refused code) = 146 ∷ code ∷ []
