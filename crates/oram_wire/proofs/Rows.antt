@@ -1,5 +1,5 @@
 -- Rows that the definitions compute.
-use Rattle.std.proofs.Common.{◌≡◌, ◌∷◌, [], ◌++◌, false, true, refl}
+use Rattle.std.proofs.Common.{◌≡◌, ◌∷◌, [], ◌++◌, Some, false, true, refl, arith}
 use Rattle.std.specs.List.{flat_map}
 use Rattle.oram_wire.specs.declared.host_messages.HostAnswer.TheVariants as answer
 use Rattle.oram_wire.specs.declared.host_messages.HostRequest.TheVariants as request
@@ -8,6 +8,7 @@ use Rattle.oram_wire.specs.declared.session_messages.SessionRequest.TheVariants 
 use Rattle.oram_wire.specs.FrameStream.{frame, length_at}
 use Rattle.oram_wire.specs.HostMessages.{answer_body, fetch_body, put_body, request_body, shape_body, store_body}
 use Rattle.oram_wire.specs.HostReading.{is_request_length, names_answer, names_request}
+use Rattle.oram_wire.specs.Streaming.{GivesBrokenHead, GivesCutFrame, GivesEnd, GivesFrame, TakesPart}
 use Rattle.oram_wire.specs.SessionMessages.{session_reply_body, session_request_body}
 use Rattle.oram_wire.specs.SessionReading.{is_session_request_length, names_session_reply, names_session_request}
 
@@ -73,3 +74,25 @@ write_cut_short = refl
 
 not_a_reply : names_session_reply (147 ∷ []) ≡ false
 not_a_reply = refl
+
+-- a frame is read, and the byte after it is left
+given_row : GivesFrame (Some (0 ∷ 0 ∷ 0 ∷ 1 ∷ 145 ∷ 7 ∷ [])) (Some (7 ∷ [])) (145 ∷ [])
+given_row = (omega arith, refl)
+
+-- the length that is too long is read, and nothing after it
+broken_row : GivesBrokenHead (Some (0 ∷ 16 ∷ 0 ∷ 1 ∷ 7 ∷ [])) (Some (7 ∷ []))
+broken_row = (0 ∷ 16 ∷ 0 ∷ 1 ∷ [], refl, (omega arith, omega arith), refl)
+
+-- an input ends inside a body, inside a length, and before a frame
+cut_in_body : GivesCutFrame (Some (0 ∷ 0 ∷ 0 ∷ 2 ∷ 145 ∷ [])) (Some [])
+cut_in_body = (0 ∷ 0 ∷ 0 ∷ 2 ∷ 145 ∷ [], omega arith, λ _. (omega arith, omega arith), refl, refl)
+
+cut_in_head : GivesCutFrame (Some (0 ∷ 0 ∷ [])) (Some [])
+cut_in_head = (0 ∷ 0 ∷ [], omega arith, λ four. absurd (omega (arith, four)), refl, refl)
+
+end_row : GivesEnd (Some []) (Some [])
+end_row = (refl, refl)
+
+-- half of a length was written
+taken_row : TakesPart (Some (9 ∷ [])) (Some (9 ∷ 0 ∷ 0 ∷ [])) (frame (145 ∷ []))
+taken_row = (2, omega arith, refl)

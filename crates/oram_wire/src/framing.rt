@@ -13,7 +13,7 @@ use std::alloc::{AllocError, Global};
 use std::marker::Model;
 
 /// How many bytes the length of a body takes.
-const HEAD: usize = 4;
+pub(super) const HEAD: usize = 4;
 
 /// What came of a piece of a stream.
 #[derive(Debug, Drop)]

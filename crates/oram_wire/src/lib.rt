@@ -2,7 +2,8 @@
 //! their frames.
 //!
 //! A body is a request to the host or its answer, or a client's request to the store or its reply. A frame is a body
-//! behind its length in four bytes. `Frames` takes a stream of frames in whatever pieces it comes.
+//! behind its length in four bytes. `Frames` takes a stream of frames in whatever pieces it comes; `next_frame` reads one
+//! frame from a reader, and `put_frame` writes one to a writer.
 #![tactic(auto)]
 
 mod faults;
@@ -10,6 +11,7 @@ mod framing;
 mod host_messages;
 mod session_messages;
 mod sinks;
+mod streaming;
 
 pub use faults::WireFault;
 pub use framing::{Fed, Frames};
@@ -18,6 +20,7 @@ pub use host_messages::{
 };
 pub use session_messages::{BAD_REQUEST, DEVICE_FAILED, SessionReply, SessionRequest};
 pub use sinks::{ListSink, Sink, SinkFault};
+pub use streaming::{FrameFault, WriteFault, next_frame, put_frame};
 
 /// The longest body of a frame, in bytes.
 pub const LONGEST_BODY: usize = 1_048_576;

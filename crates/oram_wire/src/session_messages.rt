@@ -51,16 +51,13 @@ pub enum SessionReply {
     Refused(u8),
 }
 
-/// Bytes of a request before those that it writes.
-const HEADER_LEN: usize = 5;
-
 /// A first byte, an address, and then bytes.
 fn message(alloc: Global, op: u8, address: u32, bytes: &[u8]) -> Result<Vec<u8>, AllocError>
     ensures { IfOk result (λ v. v.items ≡ op ∷ to_be_bytes w32 address ++ bytes.now) }
 {
     let mut header = [op, 0, 0, 0, 0];
     BigEndian::write_u32(&mut header[1..], address);
-    let mut body = Vec::with_capacity(alloc, HEADER_LEN + bytes.len())?;
+    let mut body = Vec::with_capacity(alloc, header.len() + bytes.len())?;
     body.extend_from_slice(&header)?;
     body.extend_from_slice(bytes)?;
     Ok(body)
