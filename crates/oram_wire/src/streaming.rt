@@ -123,6 +123,9 @@ fn read_body<R: Read>(alloc: Global, reader: &mut R, len: usize) -> Result<Vec<u
 }
 
 /// Reads one frame, and no byte after it. It gives the body, or none where the input ends before a frame.
+///
+/// It asks the reader for the length, and then for the body into the vector that it gives. What was interrupted is asked
+/// for again.
 pub fn next_frame<R: Read>(alloc: Global, reader: &mut R) -> Result<Option<Vec<u8>>, FrameFault>
     ensures ok { IfOk result (λ next. MatchOption next
         (GivesEnd (R.remaining reader.old) (R.remaining reader.new))
@@ -178,7 +181,7 @@ fn write<W: Write>(writer: &mut W, bytes: &[u8]) -> Result<(), WriteFault>
     Err(WriteFault)
 }
 
-/// Writes a body as a frame: its length, and then the body itself. The writer isn't flushed.
+/// Writes a body as a frame: its length, and then the body itself, which isn't copied. The writer isn't flushed.
 pub fn put_frame<W: Write>(writer: &mut W, body: &[u8]) -> Result<(), WriteFault>
     requires { IsBody body.now }
     ensures ok { OnOk result (Appends (W.contents writer.old) (W.contents writer.new)

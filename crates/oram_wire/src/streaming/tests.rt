@@ -78,7 +78,7 @@ fn tight_with(room: usize, fails: bool) -> Tight {
     }
 }
 
-/// Reads the next frame. Where memory is refused its length alone was read, and it is read once more from there.
+/// Reads the next frame. Where memory is refused its length alone was read, and the frame is read once more.
 fn next<R: Abort + AllocGlobal>(rt: &R, input: &mut &[u8]) -> Result<Option<Vec<u8>>, FrameFault> {
     let whole = *input;
     match next_frame(rt.alloc(), input) {
@@ -191,4 +191,45 @@ fn there_and_back(rt: HostRuntime) -> Result<(), FrameFault> {
     assert!(rt; done);
     assert!(rt; next(&rt, &mut input)?.is_none());
     Ok(())
+}
+
+/// Gives and takes all that is asked, and counts the calls.
+#[derive(Drop)]
+struct Counting {
+    calls: u32,
+}
+
+impl Read for Counting {
+    fn read(&mut self, buf: &mut [u8]) -> io::Result<usize> {
+        self.calls = self.calls.saturating_add(1);
+        let most = buf.len().min(STREAM.len());
+        buf[..most].copy_from_slice(&STREAM[..most]);
+        Ok(most)
+    }
+}
+
+impl Write for Counting {
+    fn write(&mut self, buf: &[u8]) -> io::Result<usize> {
+        self.calls = self.calls.saturating_add(1);
+        Ok(buf.len())
+    }
+
+    fn flush(&mut self) -> io::Result<()> {
+        Ok(())
+    }
+}
+
+/// A frame is two calls of a reader that has all of it, and two of a writer.
+#[test]
+fn few_calls(rt: HostRuntime) {
+    let mut reader = Counting { calls: 0 };
+    if next_frame(rt.alloc(), &mut reader).is_err() {
+        assert_eq!(rt; reader.calls, 1);
+        reader.calls = 0;
+        assert!(rt; next_frame(rt.alloc(), &mut reader).is_ok());
+    }
+    assert_eq!(rt; reader.calls, 2);
+    let mut writer = Counting { calls: 0 };
+    assert_eq!(rt; put_frame(&mut writer, &STREAM[4..10]), Ok(()));
+    assert_eq!(rt; writer.calls, 2);
 }
