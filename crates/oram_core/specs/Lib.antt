@@ -1,4 +1,5 @@
 pub mod Core
+pub mod Parts
 pub mod Doing
 pub mod Rooms
 pub mod Judging

@@ -12,6 +12,7 @@ mod formatting;
 mod machine;
 mod messages;
 mod outcome;
+mod parts;
 mod storing;
 mod verdicts;
 mod whole;
@@ -19,6 +20,7 @@ mod whole;
 pub use machine::Core;
 pub use oram_run::{Command, Event, Note, Reaction, Reason, Refusal, Reply, ReplyBody, Submission};
 pub use outcome::Run;
+pub use parts::{Parts, Pending};
 pub use whole::run;
 
 #[cfg(test)]
