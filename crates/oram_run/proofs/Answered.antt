@@ -29,7 +29,8 @@ use Rattle.oram_run.specs.declared.events.Submission.{Submission}
 use Rattle.oram_run.proofs.Entries.{HasWords, turn}
 use Rattle.oram_run.specs.Law.{world_of}
 use Rattle.oram_run.proofs.Bounds.{IsFit}
-use Rattle.oram_run.proofs.Follows.{FitsTable, TicketsFrom, applied, applied_yes, entry_for, Working, Live, content_is}
+use Rattle.oram_run.specs.Agree.{TicketsFrom}
+use Rattle.oram_run.proofs.Follows.{FitsTable, applied, applied_yes, entry_for, Working, Live, content_is}
 use Rattle.oram_run.proofs.Counts.{sent_cons, records_more, accepted_len, rest_is, none_between, one_between, none_asked, one_asked, answered_is, sent_is, asked_is, no_store, store_entry_is}
 use Rattle.oram_run.proofs.Stores.{content_stored, leaf_fits, live_stored, stored_state, store_entry}
 use Rattle.oram_run.proofs.Fetches.{live_fetched, live_finished, fetched_state, finished_state, applied_fetched, applied_finished, fetch_entry}
@@ -260,17 +261,17 @@ finishes_keep v past s t old rest x y bytes fit l healthy qu w calm whole mv is 
     let g : ℕ = (progress v past).good in
     let few : s.stage < 2 * trees_of d = w.stage in
     let n : ℕ = s.nonce + 0 in
-    let u : State = finished_state v past s y rest t.trees n (latest x.sends s.last) in
+    let u : State = finished_state v past s y rest t.trees n (latest x.sends []) in
     let is_u : t ≡ u =
     mv.state
-    ∙ ap (λ k. finished_state v past s y rest t.trees (s.nonce + k) (latest x.sends s.last)) (seals_none d s.table rest) in
+    ∙ ap (λ k. finished_state v past s y rest t.trees (s.nonce + k) (latest x.sends [])) (seals_none d s.table rest) in
     let a : accepted (step ∷ past) ≡ accepted past = not_accepted past step (ap is_accepted mv.note) in
     let split : accepted past ≡ reverse old ++ y ∷ rest = l.split ∙ ap (λ xs. reverse old ++ xs) qu in
     let nonce : n ≡ nonce_at v (g + 1) =
     (let z : s.nonce + 0 ≡ s.nonce = omega arith in z) ∙ l.nonce
     ∙ sym (nonce_finished v g (length old) s.stage l.good whole) in
     let live : Live v (step ∷ past) (y ∷ old) u =
-    live_finished v past old rest s y step t.trees n fit l qu w whole calm p a mv.sends nonce in
+    live_finished v past old rest s y step t.trees n fit l qu w whole calm p a (forget_last v.shape s.last s.table rest x.sends mv.sends) nonce in
     let g' : (progress v (step ∷ past)).good ≡ g + 1 = ap (λ (q : Progress). q.good) p in
     let before : answered_tickets v past ≡ length old = answered_is v past (length old) s.stage l.good few in
     let some : 0 < trees_of d = fit.some in

@@ -19,7 +19,8 @@ use Rattle.oram_run.specs.declared.events.Submission.{Submission}
 use Rattle.oram_run.proofs.Entries.{turn}
 use Rattle.oram_run.specs.Law.{world_of}
 use Rattle.oram_run.proofs.Bounds.{IsFit}
-use Rattle.oram_run.proofs.Follows.{FitsTable, TicketsFrom, applied, applied_none, applied_yes, applied_same, entry_for, Working, AtWork, Live}
+use Rattle.oram_run.specs.Agree.{TicketsFrom}
+use Rattle.oram_run.proofs.Follows.{FitsTable, applied, applied_none, applied_yes, applied_same, entry_for, Working, AtWork, Live}
 use Rattle.oram_run.proofs.Counts.{asked_is, sent_cons}
 use Rattle.oram_run.proofs.Stores.{leaf_fits}
 
@@ -131,12 +132,12 @@ pub live_finished : (v : Setting) (past : List Step) (old rest : List Submission
     (ts : List Tree) (n : ℕ) → IsFit v.shape.device → Live v past old s → s.queue ≡ x ∷ rest → Working v past old s x
     → s.stage + 1 ≡ 2 * trees_of v.shape.device → s.lost ≡ false
     → progress v (step ∷ past) ≡ record { good = (progress v past).good + 1; lost = false; failure = None }
-    → accepted (step ∷ past) ≡ accepted past → Sends v.shape s.last (first_fetch v.shape.device s.table rest) step.sends
+    → accepted (step ∷ past) ≡ accepted past → Sends v.shape [] (first_fetch v.shape.device s.table rest) step.sends
     → n ≡ nonce_at v ((progress v past).good + 1)
-    → Live v (step ∷ past) (x ∷ old) (finished_state v past s x rest ts n (latest step.sends s.last))
+    → Live v (step ∷ past) (x ∷ old) (finished_state v past s x rest ts n (latest step.sends []))
 live_finished v past old rest s x step ts n fit l qu w last calm p a sends nonce_is =
     let d = v.shape.device in
-    let t : State = finished_state v past s x rest ts n (latest step.sends s.last) in
+    let t : State = finished_state v past s x rest ts n (latest step.sends []) in
     let all : All (FitsTable d) (x ∷ rest) = subst (All (FitsTable d)) qu l.allowed in
     let ok : FitsTable d x = All-head (FitsTable d) x rest all in
     let long : length s.queue ≡ length rest + 1 = ap length qu ∙ omega arith in
@@ -159,5 +160,5 @@ live_finished v past old rest s x step ts n fit l qu w last calm p a sends nonce
       nonce = nonce_is ∙ ap (nonce_at v) (sym (ap (λ (q : Progress). q.good) p));
       sized = l.sized;
       table = λ b below. table b below ∙ ap (λ xs. named_in d (trees_of d - 1) xs b) (sym (applied_none d (x ∷ old) rest (trees_of d - 1)));
-      work = begins_next v past (x ∷ old) rest t step fit refl calm s.last refl (All-tail (FitsTable d) x rest all) table sends;
+      work = begins_next v past (x ∷ old) rest t step fit refl calm [] refl (All-tail (FitsTable d) x rest all) table sends;
     }

@@ -13,6 +13,7 @@ use Rattle.oram_run.specs.Messages.{asked}
 use Rattle.oram_run.specs.Progress.{Setting, Step, accepted, progress, sent}
 use Rattle.oram_run.specs.Content.{block_of, named_in, content_after, content_of, accesses}
 use Rattle.oram_run.specs.State.{State, AllStand}
+use Rattle.oram_run.specs.Agree.{TicketsFrom}
 use Rattle.oram_run.specs.Moves.{leaf_for}
 use Rattle.oram_run.proofs.Nonces.{nonce_at}
 use Rattle.oram_run.specs.Law.{world_of}
@@ -25,11 +26,6 @@ use Rattle.oram_run.proofs.Bounds.{IsFit}
 pub record FitsTable (d : Sizes) (s : Submission) : Type 0 where
   pub block : block_of d (trees_of d - 1) s < blocks_in d (trees_of d - 1)
   pub words : length s.words ≡ 2 * trees_of d
-
--- tickets rise by one, from t on
-abbrev pub TicketsFrom : ℕ → List Submission → Type 0
-TicketsFrom t [] = Unit {0}
-TicketsFrom t (x ∷ xs) = (x.ticket ≡ t) × TicketsFrom (t + 1) xs
 
 -- The accesses of tree i so far, the newest first: those of the submissions with a reply and, from the good answer to its fetch on, that of the oldest without.
 unfoldable pub applied : Sizes → List Submission → List Submission → ℕ → ℕ → List Submission

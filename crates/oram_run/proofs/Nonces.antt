@@ -5,7 +5,7 @@ use Rattle.oram_geometry.specs.declared.Sizes.{Sizes}
 use Rattle.oram_geometry.specs.Sizes.{trees_of, depth_of}
 use Rattle.oram_run.specs.Content.{stage_tree}
 use Rattle.oram_run.specs.Progress.{Setting}
-use Rattle.oram_run.specs.Nonces.{formatted, buckets_below, store_nonce}
+use Rattle.oram_run.specs.Nonces.{formatted, buckets_below, next_nonce, store_nonce}
 
 rises : (d : Sizes) (n k : ℕ) → buckets_below d n ≤ buckets_below d (n + k)
 unfolding buckets_below
@@ -30,12 +30,11 @@ no_buckets d = refl
 -- the nonce of the next bucket that is sealed, after so many good answers
 unfoldable pub nonce_at : Setting → ℕ → ℕ
 nonce_at v g =
-    let d = v.shape.device in
-    let h = trees_of d in
-    formatted d + g / (2 * h) * buckets_below d h + (buckets_below d h - buckets_below d (h - (g % (2 * h) + 1) / 2))
+    let h = trees_of v.shape.device in
+    next_nonce v.shape.device (g / (2 * h)) (g % (2 * h))
 
-nonce_split : (v : Setting) (g n r : ℕ) → g ≡ n * (2 * trees_of v.shape.device) + r → r < 2 * trees_of v.shape.device →
-    nonce_at v g ≡ formatted v.shape.device + n * buckets_below v.shape.device (trees_of v.shape.device) + (buckets_below v.shape.device (trees_of v.shape.device) - buckets_below v.shape.device (trees_of v.shape.device - (r + 1) / 2))
+pub nonce_split : (v : Setting) (g n r : ℕ) → g ≡ n * (2 * trees_of v.shape.device) + r → r < 2 * trees_of v.shape.device →
+    nonce_at v g ≡ next_nonce v.shape.device n r
 unfolding nonce_at
 nonce_split v g n r e few =
     let d = v.shape.device in

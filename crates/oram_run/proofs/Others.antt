@@ -13,7 +13,8 @@ use Rattle.oram_run.specs.Moves.{accepts, latest, first_fetch, if_idle, Sends}
 use Rattle.oram_run.specs.declared.events.Submission.{Submission}
 use Rattle.oram_run.specs.Law.{world_of}
 use Rattle.oram_run.proofs.Bounds.{IsFit}
-use Rattle.oram_run.proofs.Follows.{FitsTable, TicketsFrom, applied, applied_none, AtWork, Live}
+use Rattle.oram_run.specs.Agree.{TicketsFrom}
+use Rattle.oram_run.proofs.Follows.{FitsTable, applied, applied_none, AtWork, Live}
 use Rattle.oram_run.proofs.Counts.{sent_cons}
 use Rattle.oram_run.proofs.Fetches.{begins_next}
 
@@ -23,7 +24,7 @@ all_none P = λ k e h. absurd (omega arith)
 pub all_one : {X : Type 0} (P : X → Type 0) (x : X) → P x → All P (x ∷ [])
 all_one P x h = All-push P [] x (all_none P) h
 
-tickets_push : (t : ℕ) (queue : List Submission) (x : Submission) → TicketsFrom t queue → x.ticket ≡ t + length queue
+pub tickets_push : (t : ℕ) (queue : List Submission) (x : Submission) → TicketsFrom t queue → x.ticket ≡ t + length queue
     → TicketsFrom t (queue ++ x ∷ [])
 tickets_push t [] x ts e = (e ∙ omega arith, tt)
 tickets_push t (y ∷ queue) x ts e = (ts.0, tickets_push (t + 1) queue x ts.1 (e ∙ omega arith))

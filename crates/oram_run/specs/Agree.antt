@@ -54,6 +54,11 @@ pub record IsAllowed (d : Sizes) (x : Submission) : Type 0 where
   pub data_length : has_bad_length d x.command ≡ false
   pub words : length x.words ≡ 2 * trees_of d
 
+-- tickets rise by one, from t on
+abbrev pub TicketsFrom : ℕ → List Submission → Type 0
+TicketsFrom t [] = Unit {0}
+TicketsFrom t (x ∷ xs) = (x.ticket ≡ t) × TicketsFrom (t + 1) xs
+
 -- a core's table, queue and stage are ones of the device
 pub record IsOrderly (v : Shape) (s : State) : Type 0 where
   pub sized : length s.table ≡ blocks_in v.device (trees_of v.device - 1)

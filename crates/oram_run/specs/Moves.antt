@@ -16,7 +16,7 @@ use Rattle.oram_run.specs.Blocks.{found_in, block_after, next_named, kept_of, pu
 use Rattle.oram_run.specs.Progress.{Status}
 use Rattle.oram_run.specs.Progress.Status.{Idle, Waiting, Stalling, Over}
 use Rattle.oram_run.specs.Run.{Shown, refusal_of, is_over, is_waiting}
-use Rattle.oram_run.specs.State.{State, World, AllStand, status_in, named_now, name_of}
+use Rattle.oram_run.specs.State.{State, World, AllStand, failed_state, status_in, named_now, name_of}
 use Rattle.oram_run.specs.Trees.{IsPlaced}
 use Rattle.oram_run.specs.declared.events.Event.{Event}
 use Rattle.oram_run.specs.declared.events.Event.TheVariants.{Submit, Answer, Lost, Reopen, Retry}
@@ -33,8 +33,8 @@ pub data Ask : Type 0 where
   Again : Ask
   For : Entry → Ask
 
--- What a core shows at an event, and what it and the trees are afterwards. The state's trees, nonce and last message are those of
--- before.
+-- What a core shows at an event, and what it and the trees are afterwards. The state's trees, nonce and last message are as if
+-- nothing were sent.
 pub record Moved : Type 0 where
   pub note : Note
   pub replies : List Reply
@@ -109,7 +109,7 @@ finishes v s w x rest = record {
   note = Taken;
   replies = (record { session = x.session; ticket = x.ticket; body = body_from s.before x.command }) ∷ [];
   ask = first_fetch v.device s.table rest;
-  state = record s { queue = rest; stage = 0; named = 0; before = [] };
+  state = record s { queue = rest; stage = 0; named = 0; before = []; last = [] };
   content = w.content;
 }
 
@@ -129,9 +129,9 @@ stalls s w = record { note = Stalled; replies = []; ask = Nothing; state = recor
 abbrev pub resends : State → World → Moved
 resends s w = record { note = Resent; replies = []; ask = Again; state = record s { lost = false }; content = w.content }
 
--- each command without a reply is answered Failed
+-- Each command without a reply is answered Failed, and the core forgets its trees.
 abbrev pub fails : State → World → Reason → Moved
-fails s w e = record { note = FailedNow e; replies = map failed_reply s.queue; ask = Nothing; state = record s { queue = []; failure = Some e }; content = w.content }
+fails s w e = record { note = FailedNow e; replies = map failed_reply s.queue; ask = Nothing; state = failed_state s.next s.nonce e; content = w.content }
 
 abbrev pub on_submission : Shape → State → World → Submission → Option Refusal → Moved
 on_submission v s w x (Some e) = stays s w (Refused e)
@@ -214,7 +214,7 @@ pub record MovesTo (v : Shape) (s : State) (w : World) (m : Moved) (x : Shown) (
   pub note : x.note ≡ m.note
   pub replies : x.replies ≡ m.replies
   pub sends : Sends v s.last m.ask x.sends
-  pub state : t ≡ record m.state { trees = t.trees; nonce = s.nonce + buckets_in v.device m.ask; last = latest x.sends s.last }
+  pub state : t ≡ record m.state { trees = t.trees; nonce = s.nonce + buckets_in v.device m.ask; last = latest x.sends m.state.last }
   pub holds : t.failure ≡ None → AllStand v t (world_after v w m x.sends)
   pub placed : is_new m.ask ≡ true → All (PlacedIn v s.nonce (world_after v w m x.sends)) x.sends
 
@@ -228,7 +228,7 @@ held_now v s w x = let i = stage_tree v.device s.stage in w.content i (block_of 
 
 -- Where a fetch is outstanding, its block is in the tree's content as it is named, and what the block names is a leaf of the next tree.
 pub record IsReadyFor (v : Shape) (s : State) (w : World) (x : Submission) : Type 0 where
-  pub named : name_of (held_now v s w x) ≡ named_now v s x
+  pub named : name_of (held_now v s w x) ≡ named_now v.device s x
   pub next :
       let i = stage_tree v.device s.stage in
       next_named v.device i x (found_in v.device (held_now v s w x)) ≤ 2 ^ depth_of v.device (i - 1)

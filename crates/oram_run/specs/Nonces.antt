@@ -1,5 +1,5 @@
 -- Which nonce each sealed bucket of a run has: so many buckets were sealed before it, in all trees.
-use Rattle.std.specs.Prelude.{◌≡◌, ◌≢◌, ℕ, ◌<◌, ◌≤◌, zero, suc, ◌+◌, ◌-◌, ◌*◌}
+use Rattle.std.specs.Prelude.{◌≡◌, ◌≢◌, ℕ, ◌<◌, ◌≤◌, zero, suc, ◌+◌, ◌-◌, ◌*◌, ◌/◌}
 use Rattle.oram_geometry.specs.declared.Sizes.{Sizes}
 use Rattle.oram_geometry.specs.Sizes.{trees_of, depth_of}
 use Rattle.oram_tree.specs.Content.{node_count}
@@ -25,6 +25,12 @@ buckets_after d i = buckets_below d (trees_of d) - buckets_below d (i + 1)
 -- the nonce of the root's bucket in the STORE of tree i by ticket t; that of level l is greater by l
 abbrev pub store_nonce : Sizes → ℕ → ℕ → ℕ
 store_nonce d t i = formatted d + t * buckets_below d (trees_of d) + buckets_after d i
+
+-- the nonce of the next bucket that is sealed, where so many tickets have their reply and this entry of the next one is outstanding:
+-- that one has stored a path of a tree for each of its stores up to there
+abbrev pub next_nonce : Sizes → ℕ → ℕ → ℕ
+next_nonce d answered stage =
+    formatted d + answered * buckets_below d (trees_of d) + (buckets_below d (trees_of d) - buckets_below d (trees_of d - (stage + 1) / 2))
 
 -- No two sealed buckets of a run have one nonce: not two of the formatting, each told by its tree and its place in the order
 -- of the PUTs, not two of STOREs, each told by its ticket, tree and level, and not one of each.

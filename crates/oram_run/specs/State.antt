@@ -1,6 +1,7 @@
 -- A core as plain data, and the world that it stands in.
-use Rattle.std.specs.Prelude.{ℕ, ◌<◌, ◌+◌, ◌-◌, ◌==◌, Bool, if◌then◌else◌, List, [], ◌∷◌, Option, Some, None, slice_index, slice_index_or}
+use Rattle.std.specs.Prelude.{ℕ, ◌<◌, ◌+◌, ◌-◌, ◌==◌, Bool, false, if◌then◌else◌, List, [], ◌∷◌, Option, Some, None, slice_index, slice_index_or}
 use Rattle.std.specs.Option.{option_map_or}
+use Rattle.oram_geometry.specs.declared.Sizes.{Sizes}
 use Rattle.oram_geometry.specs.Sizes.{trees_of}
 use Rattle.oram_run.specs.Shape.{Shape}
 use Rattle.oram_tree.specs.Content.{Map, Entry as Held}
@@ -30,6 +31,10 @@ pub record World : Type 0 where
   pub records : ℕ → ℕ → List ℕ
   pub content : ℕ → Map
 
+-- A core that has failed: of all that it held, it knows how many commands were accepted and how many buckets sealed.
+abbrev pub failed_state : ℕ → ℕ → Reason → State
+failed_state next nonce e = record { table = []; trees = []; next = next; nonce = nonce; queue = []; stage = 0; named = 0; before = []; last = []; lost = false; failure = Some e }
+
 abbrev pub no_tree : Tree
 no_tree = record { number = 0; root = []; stash = [] }
 
@@ -46,8 +51,8 @@ abbrev pub status_in : State → Status
 status_in s = status_by s.failure s.queue s.lost
 
 -- what is named for the block of the fetch that is outstanding
-abbrev pub named_now : Shape → State → Submission → ℕ
-named_now v s x = if s.stage == 0 then slice_index s.table (block_of v.device (trees_of v.device - 1) x) else s.named
+abbrev pub named_now : Sizes → State → Submission → ℕ
+named_now d s x = if s.stage == 0 then slice_index s.table (block_of d (trees_of d - 1) x) else s.named
 
 -- what is to be named for a block that a tree has so
 abbrev pub name_of : Option Held → ℕ
