@@ -22,11 +22,11 @@ use Rattle.oram_run.specs.declared.events.Reaction.{Reaction}
 use Rattle.oram_run.specs.declared.events.Reason.{Reason}
 use Rattle.oram_run.specs.declared.events.Submission.{Submission}
 use Rattle.oram_run.proofs.Placing.{at_leaf}
-use Rattle.oram_core.specs.Core.{IsSound, IsAtWork, AtWork}
+use Rattle.oram_core.specs.Core.{IsSound}
 use Rattle.oram_core.specs.Doing.{Done, done, failed_by, stored_by, is_misled}
 use Rattle.oram_core.proofs.Quiet.{Meets}
 use Rattle.oram_core.proofs.Rewriting.{IsAccess, not_misled, stores_met}
-use Rattle.oram_core.proofs.Sound.{tree_within}
+use Rattle.oram_core.proofs.Sound.{Outstanding, at_hand, tree_within}
 use Rattle.oram_core.proofs.Meeting.{Waits}
 use Rattle.oram_core.proofs.Hearing.{IsTreeAt}
 
@@ -36,23 +36,23 @@ pub record IsReadyTree (v : Shape) (s : State) (w : World) (x : Submission) (t :
   pub at_leaf : IsAtOrAbsent (w.content (stage_tree v.device s.stage)) (block_of v.device (stage_tree v.device s.stage) x) (asked s.last).leaf
   pub ready : IsReadyFor v s w x
 
-pub ready_tree : (v : Shape) (s : State) (w : World) (t : Tree) (o : Waits s) → IsSound v s → s.stage % 2 ≡ 0 → Fits v s w → IsTreeAt v s t → IsReadyTree v s w o.oldest t
+pub ready_tree : (v : Shape) (s : State) (w : World) (t : Tree) (o : Waits s) → IsSound v.device v.overhead s → s.stage % 2 ≡ 0 → Fits v s w → IsTreeAt v s t → IsReadyTree v s w o.oldest t
 ready_tree v s w t o h even fits at =
     let i : ℕ = stage_tree v.device s.stage in
     let x : Submission = o.oldest in
     let holds : AllStand v s w = (fits o.healthy).0 in
     let all : IsReady v s w (o.oldest ∷ o.rest) = subst (IsReady v s w) o.queue (fits o.healthy).1 in
     let ready : IsReadyFor v s w x = all even in
-    let work : IsAtWork v s x = subst (AtWork v s) o.queue h.work in
-    let stands : Stands v i (slice_index_or s.trees i no_tree) (w.records i) (w.content i) = holds i (tree_within v s h) in
+    let work : Outstanding v.device s x = at_hand v.device v.overhead s x o.rest h o.healthy o.queue in
+    let stands : Stands v i (slice_index_or s.trees i no_tree) (w.records i) (w.content i) = holds i (tree_within v.device v.overhead s h) in
     record {
       stored = subst (λ (u : Tree). IsStoredWith v.opening v.overhead v.device u (w.records i) (w.content i)) (sym at.is) stands.stored;
-      at_leaf = subst (λ (k : ℕ). IsAtOrAbsent (w.content i) (block_of v.device i x) k) (sym (ap (λ (e : Entry). e.leaf) (work.fetch even))) (at_leaf v.device i (block_of v.device i x) (named_now v s x) x (w.content i) ready.named);
+      at_leaf = subst (λ (k : ℕ). IsAtOrAbsent (w.content i) (block_of v.device i x) k) (sym (ap (λ (e : Entry). e.leaf) (work.fetch even))) (at_leaf v.device i (block_of v.device i x) (named_now v.device s x) x (w.content i) ready.named);
       ready = ready;
     }
 
 -- an access that the tree has made is taken over by the rule
-pub access_moves : (v : Shape) (s : State) (w : World) (t new : Tree) (path : Path) (found : Bool) (before records : List ℕ) (why : Reason) (y : Reaction) (u : State) (o : Waits s) → IsSound v s → s.stage % 2 ≡ 0 → Fits v s w → IsTreeAt v s t →
+pub access_moves : (v : Shape) (s : State) (w : World) (t new : Tree) (path : Path) (found : Bool) (before records : List ℕ) (why : Reason) (y : Reaction) (u : State) (o : Waits s) → IsSound v.device v.overhead s → s.stage % 2 ≡ 0 → Fits v s w → IsTreeAt v s t →
     path ≡ path_of v.device (stage_tree v.device s.stage) (asked s.last).leaf v.overhead path.bytes → length records ≡ (depth_of v.device (stage_tree v.device s.stage) + 1) * record_len v → new.number ≡ t.number →
     (let i = stage_tree v.device s.stage in let c : Cell = record { address = block_of v.device i o.oldest; leaf = new_leaf v.device i o.oldest; content = block_after v.device i o.oldest before } in
     IsUpdate v.opening v.overhead v.device path (with_bytes path records) (w.records i) (w.content i) c found before new) →
@@ -67,7 +67,7 @@ access_moves v s w t new path found before records why y u o h even fits at path
     let c : Cell = record { address = block_of v.device i x; leaf = new_leaf v.device i x; content = block_after v.device i x before } in
     let s' : State = record s { trees = slice_set s.trees i new } in
     let r = ready_tree v s w t o h even fits at in
-    let work : IsAtWork v s x = subst (AtWork v s) o.queue h.work in
+    let work : Outstanding v.device s x = at_hand v.device v.overhead s x o.rest h o.healthy o.queue in
     let a : IsAccess v s w x path new found before records = record {
       number = number ∙ at.number;
       path_is = path_is;
@@ -81,4 +81,4 @@ access_moves v s w t new path found before records why y u o h even fits at path
     let turn : (s.stage % 2 == 0) ≡ true = grind (arith, nat_tests) in
     let rule : goes_on v s w s.queue ≡ stores v s w x = ap (goes_on v s w) o.queue ∙ rw turn refl in
     subst (λ (m : Moved). MovesTo v s w m (shown y) u) (sym rule)
-    (subst (λ (d : Done). Meets v s w (stores v s w x) d) (sym e) (stores_met v s w x path new found before records h work (fits o.healthy).0 a))
+    (subst (λ (d : Done). Meets v s w (stores v s w x) d) (sym e) (stores_met v s w x path new found before records h o.healthy work (fits o.healthy).0 a))

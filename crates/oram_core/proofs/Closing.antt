@@ -2,7 +2,8 @@
 use Rattle.std.proofs.Common.{◌≡◌, ℕ, ◌+◌, ◌-◌, ◌*◌, ◌%◌, ◌^◌, ◌<◌, ◌≤◌, ◌==◌, ◌&&◌, ◌||◌, not, nat_lt, Bool, true, false, inl, inr, if◌then◌else◌, List, [], ◌∷◌, length, drop, slice_set, refl, ap, sym, ◌∙◌, subst, arith}
 use Rattle.std.proofs.lemmas.Bool.{cases_eq}
 use Rattle.std.proofs.lemmas.Bool.Decides.{nat_tests}
-use Rattle.oram_geometry.specs.Sizes.{trees_of, depth_of}
+use Rattle.oram_geometry.specs.declared.Sizes.{Sizes}
+use Rattle.oram_geometry.specs.Sizes.{trees_of, depth_of, record_len_of}
 use Rattle.oram_geometry.proofs.Measuring.{trees_of-few}
 use Rattle.oram_wire.specs.HostMessages.{store_body}
 use Rattle.oram_run.specs.Content.{block_of, new_leaf, stage_tree}
@@ -15,34 +16,33 @@ use Rattle.oram_run.specs.State.{State, status_in, named_now}
 use Rattle.oram_run.specs.declared.events.Note.TheVariants.{Taken}
 use Rattle.oram_run.specs.declared.events.Reply.{Reply}
 use Rattle.oram_run.specs.declared.events.Submission.{Submission}
-use Rattle.oram_core.specs.Core.{IsSound}
+use Rattle.oram_core.specs.Core.{IsSound, IsPathStore}
 use Rattle.oram_core.specs.Doing.{Done, fetch_of, first_message, first_messages, fetched_by, finished_by, stored_by, is_misled}
 use Rattle.oram_core.proofs.Small.{named_none}
-use Rattle.oram_core.proofs.Sound.{HasOldest, has_oldest, fetched_as, finished_as, stored_as}
+use Rattle.oram_core.proofs.Sound.{HasOldest, has_oldest, stage_within, fetched_as, finished_as, stored_as}
 
 -- stages are few
-pub stage_small : (v : Shape) (s : State) → IsSound v s → s.stage < 26
-stage_small v s h =
-    let few : trees_of v.device ≤ 13 = trees_of-few v.device h.ranges in
-    let within : s.stage < 2 * trees_of v.device = h.stage in
-    omega arith
+pub stage_small : (d : Sizes) (o : ℕ) (s : State) → IsSound d o s → s.stage < 26
+stage_small d o s h =
+    let few : trees_of d ≤ 13 = trees_of-few d h.ranges in
+    let within : s.stage < 2 * trees_of d = stage_within d o s h in
+    omega (arith, few, within)
 
 -- the leaf of the outstanding message is one of its tree's
-pub leaf_here : (v : Shape) (s : State) → IsSound v s → status_in s ≡ Waiting → (asked s.last).leaf < 2 ^ depth_of v.device (stage_tree v.device s.stage)
-leaf_here v s h now = (has_oldest v s h now).work.leaf
+pub leaf_here : (d : Sizes) (o : ℕ) (s : State) → IsSound d o s → status_in s ≡ Waiting → (asked s.last).leaf < 2 ^ depth_of d (stage_tree d s.stage)
+leaf_here d o s h now = (has_oldest d o s h now).work.leaf
 
 -- a path goes back
-pub commit_sound : (v : Shape) (s : State) (tree block leaf named nonce : ℕ) (before table kept last : List ℕ) → IsSound v s → status_in s ≡ Waiting → s.stage % 2 ≡ 0 → tree ≡ stage_tree v.device s.stage →
-    length before ≡ v.device.block_bytes → ((records : List ℕ) × (last ≡ store_body tree (asked s.last).leaf records)) →
-    ((x : Submission) (rest : List Submission) → s.queue ≡ x ∷ rest → (block ≡ block_of v.device tree x) × (leaf ≡ new_leaf v.device tree x) × (named ≡ next_named v.device tree x before)) →
-    named ≤ 2 ^ depth_of v.device (tree - 1) →
-    table ≡ (if s.stage == 0 then slice_set s.table block (leaf + 1) else s.table) → nonce ≡ s.nonce + (depth_of v.device tree + 1) → kept ≡ kept_of tree before →
-    IsSound v (record s { table = table; nonce = nonce; stage = s.stage + 1; named = named; before = kept; last = last })
-commit_sound v s tree block leaf named nonce before table kept last h now even here long sent oldest low t n k =
-    let o : HasOldest v s = has_oldest v s h now in
-    let x : Submission = o.oldest in
-    let of = oldest x o.rest o.queue in
-    let d = v.device in
+pub commit_sound : (d : Sizes) (o : ℕ) (s : State) (tree block leaf named nonce : ℕ) (before table kept last : List ℕ) → IsSound d o s → status_in s ≡ Waiting → s.stage % 2 ≡ 0 → tree ≡ stage_tree d s.stage →
+    length before ≡ d.block_bytes → IsPathStore d o tree (asked s.last).leaf last →
+    ((x : Submission) (rest : List Submission) → s.queue ≡ x ∷ rest → (block ≡ block_of d tree x) × (leaf ≡ new_leaf d tree x) × (named ≡ next_named d tree x before)) →
+    named ≤ 2 ^ depth_of d (tree - 1) →
+    table ≡ (if s.stage == 0 then slice_set s.table block (leaf + 1) else s.table) → nonce ≡ s.nonce + (depth_of d tree + 1) → kept ≡ kept_of tree before →
+    IsSound d o (record s { table = table; nonce = nonce; stage = s.stage + 1; named = named; before = kept; last = last })
+commit_sound d o s tree block leaf named nonce before table kept last h now even here long sent oldest low t n k =
+    let w : HasOldest d s = has_oldest d o s h now in
+    let x : Submission = w.oldest in
+    let of = oldest x w.rest w.queue in
     let i : ℕ = stage_tree d s.stage in
     let block_is : block ≡ block_of d i x = of.0 ∙ ap (λ j. block_of d j x) here in
     let leaf_is : leaf ≡ new_leaf d i x = of.1 ∙ ap (λ j. new_leaf d j x) here in
@@ -50,62 +50,62 @@ commit_sound v s tree block leaf named nonce before table kept last h now even h
     let table_is : table ≡ (if s.stage == 0 then slice_set s.table (block_of d i x) (new_leaf d i x + 1) else s.table) =
     t ∙ ap (λ b. if s.stage == 0 then slice_set s.table b (leaf + 1) else s.table) block_is ∙ ap (λ l. if s.stage == 0 then slice_set s.table (block_of d i x) (l + 1) else s.table) leaf_is in
     let fits : next_named d i x before ≤ 2 ^ depth_of d (i - 1) = subst (λ (z : ℕ). z ≤ 2 ^ depth_of d (i - 1)) named_is (subst (λ (j : ℕ). named ≤ 2 ^ depth_of d (j - 1)) here low) in
-    stored_as v s x o.rest before sent.0 table nonce named kept last h o.queue even long fits table_is (n ∙ ap (λ j. s.nonce + (depth_of d j + 1)) here) named_is (k ∙ ap (λ j. kept_of j before) here)
-    (sent.1 ∙ ap (λ j. store_body j (asked s.last).leaf sent.0) here)
+    stored_as d o s x w.rest before sent.records table nonce named kept last h w.healthy w.queue even long (sent.long ∙ ap (λ j. (depth_of d j + 1) * record_len_of d o) here) fits table_is (n ∙ ap (λ j. s.nonce + (depth_of d j + 1)) here) named_is (k ∙ ap (λ j. kept_of j before) here)
+    (sent.body ∙ ap (λ j. store_body j (asked s.last).leaf sent.records) here)
 
 -- the path of the next tree is fetched
-pub fetch_sound : (v : Shape) (s : State) (last : List ℕ) → IsSound v s → status_in s ≡ Waiting → s.stage % 2 ≡ 1 → s.stage + 1 < 2 * trees_of v.device →
-    ((x : Submission) (rest : List Submission) → s.queue ≡ x ∷ rest → last ≡ fetch_of (fetch_at v.device (s.stage + 1) s.named x)) → IsSound v (record s { stage = s.stage + 1; last = last })
-fetch_sound v s last h now odd more fetch =
-    let o : HasOldest v s = has_oldest v s h now in
-    fetched_as v s o.oldest o.rest last h o.queue odd more (fetch o.oldest o.rest o.queue)
+pub fetch_sound : (d : Sizes) (o : ℕ) (s : State) (last : List ℕ) → IsSound d o s → status_in s ≡ Waiting → s.stage % 2 ≡ 1 → s.stage + 1 < 2 * trees_of d →
+    ((x : Submission) (rest : List Submission) → s.queue ≡ x ∷ rest → last ≡ fetch_of (fetch_at d (s.stage + 1) s.named x)) → IsSound d o (record s { stage = s.stage + 1; last = last })
+fetch_sound d o s last h now odd more fetch =
+    let w : HasOldest d s = has_oldest d o s h now in
+    fetched_as d o s w.oldest w.rest last h w.healthy w.queue odd more (fetch w.oldest w.rest w.queue)
 
 only_one : (x : Submission) (rest : List Submission) → length (x ∷ rest) ≡ 1 → rest ≡ []
 only_one x [] one = refl
 only_one x (y ∷ rest) one = absurd (omega arith)
 
 -- the last command has its reply
-pub end_sound : (v : Shape) (s : State) (queue : List Submission) (before : List ℕ) → IsSound v s → status_in s ≡ Waiting → s.stage + 1 ≡ 2 * trees_of v.device → length s.queue ≡ 1 →
-    queue ≡ drop 1 s.queue → before ≡ [] → IsSound v (record s { queue = queue; stage = 0; named = 0; before = before })
-end_sound v s queue before h now end alone q b =
-    let o : HasOldest v s = has_oldest v s h now in
-    let none : o.rest ≡ [] = only_one o.oldest o.rest (sym (ap length o.queue) ∙ alone) in
-    finished_as v s o.oldest o.rest queue before s.last h o.queue o.calm end (q ∙ ap (drop 1) o.queue) b (sym (ap (λ r. latest (first_messages v s r) s.last) none))
+pub end_sound : (d : Sizes) (o : ℕ) (s : State) (queue : List Submission) (before last : List ℕ) → IsSound d o s → status_in s ≡ Waiting → s.stage + 1 ≡ 2 * trees_of d → length s.queue ≡ 1 →
+    queue ≡ drop 1 s.queue → before ≡ [] → last ≡ [] → IsSound d o (record s { queue = queue; stage = 0; named = 0; before = before; last = last })
+end_sound d o s queue before last h now end alone q b l =
+    let w : HasOldest d s = has_oldest d o s h now in
+    let none : w.rest ≡ [] = only_one w.oldest w.rest (sym (ap length w.queue) ∙ alone) in
+    finished_as d o s w.oldest w.rest queue before last h w.healthy w.queue w.calm end (q ∙ ap (drop 1) w.queue) b (l ∙ sym (ap (λ r. latest (first_messages d s r) []) none))
 
-next_sent : (v : Shape) (s : State) (x : Submission) (rest : List Submission) (last : List ℕ) → s.queue ≡ x ∷ rest → 1 < length s.queue →
-    ((x y : Submission) (rest : List Submission) → s.queue ≡ x ∷ y ∷ rest → last ≡ first_message v s y) → last ≡ latest (first_messages v s rest) s.last
-next_sent v s x [] last q more next = absurd (omega (arith, ap length q))
-next_sent v s x (y ∷ rest) last q more next = next x y rest q
+next_sent : (d : Sizes) (o : ℕ) (s : State) (x : Submission) (rest : List Submission) (last : List ℕ) → s.queue ≡ x ∷ rest → 1 < length s.queue →
+    ((x y : Submission) (rest : List Submission) → s.queue ≡ x ∷ y ∷ rest → last ≡ first_message d s y) → last ≡ latest (first_messages d s rest) []
+next_sent d o s x [] last q more next = absurd (omega (arith, ap length q))
+next_sent d o s x (y ∷ rest) last q more next = next x y rest q
 
 -- another one has, and the next begins
-pub pass_sound : (v : Shape) (s : State) (queue : List Submission) (before last : List ℕ) → IsSound v s → status_in s ≡ Waiting → s.stage + 1 ≡ 2 * trees_of v.device → 1 < length s.queue →
-    ((x y : Submission) (rest : List Submission) → s.queue ≡ x ∷ y ∷ rest → last ≡ first_message v s y) →
-    queue ≡ drop 1 s.queue → before ≡ [] → IsSound v (record s { queue = queue; stage = 0; named = 0; before = before; last = last })
-pass_sound v s queue before last h now end more next q b =
-    let o : HasOldest v s = has_oldest v s h now in
-    finished_as v s o.oldest o.rest queue before last h o.queue o.calm end (q ∙ ap (drop 1) o.queue) b (next_sent v s o.oldest o.rest last o.queue more next)
+pub pass_sound : (d : Sizes) (o : ℕ) (s : State) (queue : List Submission) (before last : List ℕ) → IsSound d o s → status_in s ≡ Waiting → s.stage + 1 ≡ 2 * trees_of d → 1 < length s.queue →
+    ((x y : Submission) (rest : List Submission) → s.queue ≡ x ∷ y ∷ rest → last ≡ first_message d s y) →
+    queue ≡ drop 1 s.queue → before ≡ [] → IsSound d o (record s { queue = queue; stage = 0; named = 0; before = before; last = last })
+pass_sound d o s queue before last h now end more next q b =
+    let w : HasOldest d s = has_oldest d o s h now in
+    finished_as d o s w.oldest w.rest queue before last h w.healthy w.queue w.calm end (q ∙ ap (drop 1) w.queue) b (next_sent d o s w.oldest w.rest last w.queue more next)
 
 -- what was done where nothing waits behind the oldest command
-pub ended_by : (v : Shape) (s : State) (x : Submission) (rest queue : List Submission) (replies : List Reply) (sends : List (List ℕ)) (before : List ℕ) → IsSound v s → s.queue ≡ x ∷ rest → length s.queue ≡ 1 →
-    replies ≡ (record { session = x.session; ticket = x.ticket; body = body_from s.before x.command }) ∷ [] → sends ≡ [] → queue ≡ drop 1 s.queue → before ≡ [] →
-    (let d : Done = record { note = Taken; replies = replies; sends = sends; state = record s { queue = queue; stage = 0; named = 0; before = before } } in d ≡ finished_by v s x rest)
-ended_by v s x [] queue replies sends before h q alone r m k b = let e : queue ≡ [] = k ∙ ap (drop 1) q in cc
-ended_by v s x (y ∷ rest) queue replies sends before h q alone r m k b = absurd (omega (arith, ap length q))
+pub ended_by : (v : Shape) (s : State) (x : Submission) (rest queue : List Submission) (replies : List Reply) (sends : List (List ℕ)) (before last : List ℕ) → IsSound v.device v.overhead s → s.queue ≡ x ∷ rest → length s.queue ≡ 1 →
+    replies ≡ (record { session = x.session; ticket = x.ticket; body = body_from s.before x.command }) ∷ [] → sends ≡ [] → queue ≡ drop 1 s.queue → before ≡ [] → last ≡ [] →
+    (let d : Done = record { note = Taken; replies = replies; sends = sends; state = record s { queue = queue; stage = 0; named = 0; before = before; last = last } } in d ≡ finished_by v s x rest)
+ended_by v s x [] queue replies sends before last h q alone r m k b l = let e : queue ≡ [] = k ∙ ap (drop 1) q in cc
+ended_by v s x (y ∷ rest) queue replies sends before last h q alone r m k b l = absurd (omega (arith, ap length q))
 
 -- and where one does
-pub passed_by : (v : Shape) (s : State) (x : Submission) (rest queue : List Submission) (replies : List Reply) (sends : List (List ℕ)) (before last : List ℕ) → IsSound v s → s.queue ≡ x ∷ rest → 1 < length s.queue →
-    ((x y : Submission) (rest : List Submission) → s.queue ≡ x ∷ y ∷ rest → last ≡ first_message v s y) →
+pub passed_by : (v : Shape) (s : State) (x : Submission) (rest queue : List Submission) (replies : List Reply) (sends : List (List ℕ)) (before last : List ℕ) → IsSound v.device v.overhead s → s.queue ≡ x ∷ rest → 1 < length s.queue →
+    ((x y : Submission) (rest : List Submission) → s.queue ≡ x ∷ y ∷ rest → last ≡ first_message v.device s y) →
     replies ≡ (record { session = x.session; ticket = x.ticket; body = body_from s.before x.command }) ∷ [] → sends ≡ last ∷ [] → queue ≡ drop 1 s.queue → before ≡ [] →
     (let d : Done = record { note = Taken; replies = replies; sends = sends; state = record s { queue = queue; stage = 0; named = 0; before = before; last = last } } in d ≡ finished_by v s x rest)
 passed_by v s x [] queue replies sends before last h q more next r m k b = absurd (omega (arith, ap length q))
 passed_by v s x (y ∷ rest) queue replies sends before last h q more next r m k b =
     let e : queue ≡ y ∷ rest = k ∙ ap (drop 1) q in
-    let l : last ≡ first_message v s y = next x y rest q in
-    let one : sends ≡ first_message v s y ∷ [] = m ∙ ap (λ b. b ∷ []) l in
+    let l : last ≡ first_message v.device s y = next x y rest q in
+    let one : sends ≡ first_message v.device s y ∷ [] = m ∙ ap (λ b. b ∷ []) l in
     cc
 
 -- what was done where another tree's path is fetched
-pub fetched_so : (v : Shape) (s : State) (x : Submission) (replies : List Reply) (sends : List (List ℕ)) (last : List ℕ) → IsSound v s →
+pub fetched_so : (v : Shape) (s : State) (x : Submission) (replies : List Reply) (sends : List (List ℕ)) (last : List ℕ) → IsSound v.device v.overhead s →
     last ≡ fetch_of (fetch_at v.device (s.stage + 1) s.named x) → sends ≡ last ∷ [] → replies ≡ [] →
     (let d : Done = record { note = Taken; replies = replies; sends = sends; state = record s { stage = s.stage + 1; last = last } } in d ≡ fetched_by v s x)
 fetched_so v s x replies sends last h l m r =
@@ -149,7 +149,7 @@ pub led_right : (v : Shape) (s : State) (x : Submission) (found : Bool) (before 
 led_right v s x found before tree named right t m =
     let i : ℕ = stage_tree v.device s.stage in
     let n : ℕ = next_named v.device i x before in
-    let low : (nat_lt 0 i && nat_lt (2 ^ depth_of v.device (i - 1)) n) ≡ false = neither (not (named_now v s x == 0) && not found) _ right in
+    let low : (nat_lt 0 i && nat_lt (2 ^ depth_of v.device (i - 1)) n) ≡ false = neither (not (named_now v.device s x == 0) && not found) _ right in
     let fits : n ≤ 2 ^ depth_of v.device (i - 1) = elim (cases_eq i 0) [
       | inl none ↦ subst (λ (z : ℕ). z ≤ 2 ^ depth_of v.device (i - 1)) (named_none v.device i x before none) (omega arith)
       | inr some ↦ let positive : nat_lt 0 i ≡ true = grind (arith, nat_tests) in let small : nat_lt (2 ^ depth_of v.device (i - 1)) n ≡ false = not_both (nat_lt 0 i) _ positive low in grind (arith, nat_tests)

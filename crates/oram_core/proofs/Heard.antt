@@ -1,11 +1,11 @@
 -- What becomes of an answer that is waited for, whoever gives it.
-use Rattle.std.proofs.Common.{◌≡◌, ℕ, ◌+◌, ◌*◌, ◌%◌, ◌<◌, Bool, true, false, if◌then◌else◌, List, ◌∷◌, map, Result, Ok, Err, IfOk, refl, ap, sym, subst, arith, inl, inr}
+use Rattle.std.proofs.Common.{◌∙◌, ◌≡◌, ℕ, ◌+◌, ◌*◌, ◌%◌, ◌<◌, Bool, true, false, if◌then◌else◌, List, ◌∷◌, map, Result, Ok, Err, IfOk, refl, ap, sym, subst, arith, inl, inr}
 use Rattle.oram_geometry.specs.Sizes.{trees_of}
 use Rattle.oram_tree.specs.State.{State as Tree}
 use Rattle.oram_run.specs.Events.{failed_reply}
 use Rattle.oram_run.specs.Shape.{Shape}
 use Rattle.oram_run.specs.Progress.Status.{Waiting}
-use Rattle.oram_run.specs.State.{State, status_in}
+use Rattle.oram_run.specs.State.{State, failed_state, status_in}
 use Rattle.oram_run.specs.declared.events.Reaction.{Reaction}
 use Rattle.oram_run.specs.declared.events.Reason.{Reason}
 use Rattle.oram_run.specs.declared.events.Submission.{Submission}
@@ -19,24 +19,24 @@ pub if_ok : {A E : Type 0} (P Q : A → Type 0) (r : Result A E) → ((a : A) �
 if_ok P Q (Ok a) f h = f a h
 if_ok P Q (Err e) f h = h
 
-finished_heard : (v : Shape) (s : State) (o : HasOldest v s) → s.stage + 1 ≡ 2 * trees_of v.device → Heard v s (finished_by v s o.oldest o.rest)
+finished_heard : (v : Shape) (s : State) (o : HasOldest v.device s) → s.stage + 1 ≡ 2 * trees_of v.device → Heard v s (finished_by v s o.oldest o.rest)
 finished_heard v s o end = inr (inr (record { oldest = o.oldest; rest = o.rest; queue = o.queue; does = refl; long = o.work.before end }))
 
-pub finish_heard : {E : Type 0} (v : Shape) (s : State) (r : Result Reaction E) (t : State) → IsSound v s → status_in s ≡ Waiting → s.stage + 1 ≡ 2 * trees_of v.device →
+pub finish_heard : {E : Type 0} (v : Shape) (s : State) (r : Result Reaction E) (t : State) → IsSound v.device v.overhead s → status_in s ≡ Waiting → s.stage + 1 ≡ 2 * trees_of v.device →
     ((x : Submission) (rest : List Submission) → s.queue ≡ x ∷ rest → IfOk r (λ y. done y t ≡ finished_by v s x rest)) → IfOk r (λ y. Heard v s (done y t))
 finish_heard v s r t h now end does =
-    let o : HasOldest v s = has_oldest v s h now in
+    let o : HasOldest v.device s = has_oldest v.device v.overhead s h now in
     if_ok _ _ r (λ y e. subst (Heard v s) (sym e) (finished_heard v s o end)) (does o.oldest o.rest o.queue)
 
-pub fetch_heard : {E : Type 0} (v : Shape) (s : State) (r : Result Reaction E) (t : State) → IsSound v s → status_in s ≡ Waiting → s.stage + 1 < 2 * trees_of v.device →
+pub fetch_heard : {E : Type 0} (v : Shape) (s : State) (r : Result Reaction E) (t : State) → IsSound v.device v.overhead s → status_in s ≡ Waiting → s.stage + 1 < 2 * trees_of v.device →
     ((x : Submission) (rest : List Submission) → s.queue ≡ x ∷ rest → IfOk r (λ y. done y t ≡ fetched_by v s x)) → IfOk r (λ y. Heard v s (done y t))
 fetch_heard v s r t h now more does =
-    let o : HasOldest v s = has_oldest v s h now in
+    let o : HasOldest v.device s = has_oldest v.device v.overhead s h now in
     if_ok _ _ r (λ y e. subst (Heard v s) (sym e) (inr (inl (record { note = refl; replies = refl; sends = refl; queue = refl; waits = now; next = refl; stage = refl; within = more })))) (does o.oldest o.rest o.queue)
 
 -- the device fails, whatever the trees are by then
 pub failed_heard : (v : Shape) (s t : State) (e : Reason) → t.queue ≡ s.queue → t.next ≡ s.next → t.nonce ≡ s.nonce → Heard v s (failed_by t e)
-failed_heard v s t e same next nonce = inl (record { reason = e; note = refl; replies = ap (map failed_reply) same; sends = refl; queue = refl; failure = refl; next = next; nonce = nonce })
+failed_heard v s t e same next nonce = inl (record { reason = e; note = refl; replies = ap (map failed_reply) same; sends = refl; state = ap (λ (n : ℕ). failed_state n t.nonce e) next ∙ ap (λ (n : ℕ). failed_state s.next n e) nonce })
 
 -- the path of an access goes back
 pub stored_heard : (v : Shape) (s : State) (trees : List Tree) (x : Submission) (before records : List ℕ) → status_in s ≡ Waiting → s.stage % 2 ≡ 0 → s.stage < 2 * trees_of v.device → Heard v s (stored_by v (record s { trees = trees }) x before records)

@@ -26,11 +26,11 @@ use Rattle.oram_run.specs.Trees.{Stands}
 use Rattle.oram_run.proofs.Judged.{pair_is}
 use Rattle.oram_run.specs.declared.events.Reason.TheVariants.{Malformed}
 use Rattle.oram_run.proofs.Outcomes.{fetched_is, stored_is, malformed_store, malformed_is}
-use Rattle.oram_core.specs.Core.{IsSound, IsAtWork, AtWork, IsTreeKept}
+use Rattle.oram_core.specs.Core.{IsSound, IsTreeKept}
 use Rattle.oram_core.specs.Verdicts.{Means, refusal_in}
 use Rattle.oram_core.specs.declared.verdicts.Verdict.{Verdict}
 use Rattle.oram_core.proofs.Meeting.{waits, holds_of}
-use Rattle.oram_core.proofs.Sound.{tree_within}
+use Rattle.oram_core.proofs.Sound.{Outstanding, at_hand, healthy_of, tree_within}
 
 -- a checked path of the right length is the tree's, where no two records of one digest stand in it
 path_told : (v : Shape) (records : ℕ → ℕ → List ℕ) (e : Entry) (bytes : List ℕ) → e.fetch ≡ true → HasLength (answered_path v e (128 ∷ bytes)) → pair_in v records e (128 ∷ bytes) ≡ false →
@@ -50,15 +50,15 @@ pub record IsChecked {A : Type 0} (v : Shape) (i leaf : ℕ) (root bytes : List 
       MatchResult r (λ _. IsPathOf records (path_of v.device i leaf v.overhead bytes)) (IsFaultOf records (path_of v.device i leaf v.overhead bytes)) ⊎ Collides records (path_of v.device i leaf v.overhead bytes)
 
 -- the outstanding fetch
-fetch_out : (v : Shape) (s : State) → IsSound v s → status_in s ≡ Waiting → s.stage % 2 ≡ 0 → ((asked s.last).fetch ≡ true) × ((asked s.last).tree ≡ stage_tree v.device s.stage) × ((asked s.last).leaf < 2 ^ depth_of v.device (stage_tree v.device s.stage))
+fetch_out : (v : Shape) (s : State) → IsSound v.device v.overhead s → status_in s ≡ Waiting → s.stage % 2 ≡ 0 → ((asked s.last).fetch ≡ true) × ((asked s.last).tree ≡ stage_tree v.device s.stage) × ((asked s.last).leaf < 2 ^ depth_of v.device (stage_tree v.device s.stage))
 fetch_out v s h now even =
     let o = waits s now in
-    let work : IsAtWork v s o.oldest = subst (AtWork v s) o.queue h.work in
+    let work : Outstanding v.device s o.oldest = at_hand v.device v.overhead s o.oldest o.rest h o.healthy o.queue in
     let e = work.fetch even in
     (ap (λ (x : Entry). x.fetch) e, ap (λ (x : Entry). x.tree) e, work.leaf)
 
 -- the answer means what its check told
-pub path_means : {A : Type 0} (v : Shape) (s : State) (w : World) (t : Tree) (bytes : List ℕ) (r : Result A HashFault) → IsSound v s → status_in s ≡ Waiting → s.stage % 2 ≡ 0 → Fits v s w →
+pub path_means : {A : Type 0} (v : Shape) (s : State) (w : World) (t : Tree) (bytes : List ℕ) (r : Result A HashFault) → IsSound v.device v.overhead s → status_in s ≡ Waiting → s.stage % 2 ≡ 0 → Fits v s w →
     pair_in v w.records (asked s.last) (128 ∷ bytes) ≡ false → t ≡ slice_index_or s.trees (stage_tree v.device s.stage) no_tree → IsChecked v (stage_tree v.device s.stage) (asked s.last).leaf t.root bytes r →
     outcome_of v w.records (asked s.last) (128 ∷ bytes) ≡ outcome_by (stage_tree v.device s.stage) r
 path_means v s w t bytes r h now even fits apart is checked =
@@ -66,7 +66,7 @@ path_means v s w t bytes r h now even fits apart is checked =
     let i : ℕ = stage_tree v.device s.stage in
     let out = fetch_out v s h now even in
     let e : Entry = asked s.last in
-    let stands : Stands v i (slice_index_or s.trees i no_tree) (w.records i) (w.content i) = holds_of v s w fits o.healthy i (tree_within v s h) in
+    let stands : Stands v i (slice_index_or s.trees i no_tree) (w.records i) (w.content i) = holds_of v s w fits o.healthy i (tree_within v.device v.overhead s h) in
     let stored : IsStored (depth_of v.device i) (record_len v) t.root (w.records i) = rw is (subst (λ (k : ℕ). IsStored (depth_of v.device k) (record_len v) (slice_index_or s.trees i no_tree).root (w.records i)) stands.number stands.stored.stands) in
     subst (λ (k : ℕ). outcome_of v w.records e (128 ∷ bytes) ≡ outcome_by k r) out.1
     (fetched_is v w.records e (128 ∷ bytes) t.root r out.0 refl
@@ -104,7 +104,7 @@ told_ok : {A P C : Type 0} (Q : HashFault → Type 0) (r : Result A HashFault) (
 told_ok {A} {P} {C} Q r a ok h = subst (λ (o : Result A HashFault). MatchResult o (λ _. P) Q ⊎ C) ok h
 
 -- and a path that passes is the one that stands there
-pub path_stands : {A : Type 0} (v : Shape) (s : State) (w : World) (t : Tree) (bytes : List ℕ) (a : A) (r : Result A HashFault) → IsSound v s → status_in s ≡ Waiting → s.stage % 2 ≡ 0 → Fits v s w →
+pub path_stands : {A : Type 0} (v : Shape) (s : State) (w : World) (t : Tree) (bytes : List ℕ) (a : A) (r : Result A HashFault) → IsSound v.device v.overhead s → status_in s ≡ Waiting → s.stage % 2 ≡ 0 → Fits v s w →
     pair_in v w.records (asked s.last) (128 ∷ bytes) ≡ false → t ≡ slice_index_or s.trees (stage_tree v.device s.stage) no_tree → IsChecked v (stage_tree v.device s.stage) (asked s.last).leaf t.root bytes r → r ≡ Ok a →
     IsPathOf (w.records (stage_tree v.device s.stage)) (path_of v.device (stage_tree v.device s.stage) (asked s.last).leaf v.overhead bytes)
 path_stands v s w t bytes a r h now even fits apart is checked ok =
@@ -113,7 +113,7 @@ path_stands v s w t bytes a r h now even fits apart is checked ok =
     let out = fetch_out v s h now even in
     let whole : HasLength (path_of v.device i (asked s.last).leaf v.overhead bytes) = whole_by (path_of v.device i (asked s.last).leaf v.overhead bytes) a r ok checked.short in
     let e : Entry = asked s.last in
-    let stands : Stands v i (slice_index_or s.trees i no_tree) (w.records i) (w.content i) = holds_of v s w fits o.healthy i (tree_within v s h) in
+    let stands : Stands v i (slice_index_or s.trees i no_tree) (w.records i) (w.content i) = holds_of v s w fits o.healthy i (tree_within v.device v.overhead s h) in
     let stored : IsStored (depth_of v.device i) (record_len v) t.root (w.records i) = rw is (subst (λ (k : ℕ). IsStored (depth_of v.device k) (record_len v) (slice_index_or s.trees i no_tree).root (w.records i)) stands.number stands.stored.stands) in
     subst (λ (k : ℕ). IsPathOf (w.records k) (path_of v.device k e.leaf v.overhead bytes)) out.1
     (path_told v w.records e bytes out.0 (subst (λ (k : ℕ). HasLength (path_of v.device k e.leaf v.overhead bytes)) (sym out.1) whole) apart
@@ -125,14 +125,15 @@ pub record IsTreeAt (v : Shape) (s : State) (t : Tree) : Type 0 where
   pub number : t.number ≡ stage_tree v.device s.stage
   pub blocks : All (IsBlockOf v.device (stage_tree v.device s.stage)) t.stash
 
-pub tree_at : (v : Shape) (s : State) (t : Tree) (i tree : ℕ) → IsSound v s → i ≡ tree → tree ≡ stage_tree v.device s.stage → t ≡ slice_index_or s.trees i t → IsTreeAt v s t
-tree_at v s t i tree h from of read =
+pub tree_at : (v : Shape) (s : State) (t : Tree) (i tree : ℕ) → IsSound v.device v.overhead s → status_in s ≡ Waiting → i ≡ tree → tree ≡ stage_tree v.device s.stage → t ≡ slice_index_or s.trees i t → IsTreeAt v s t
+tree_at v s t i tree h now from of read =
+    let q = healthy_of v.device v.overhead s h (waits s now).healthy in
     let n : ℕ = stage_tree v.device s.stage in
     let same : i ≡ n = from ∙ of in
-    let within : n < trees_of v.device = tree_within v s h in
-    let inside : n < length s.trees = let count : length s.trees ≡ trees_of v.device = h.count in omega arith in
+    let within : n < trees_of v.device = tree_within v.device v.overhead s h in
+    let inside : n < length s.trees = let count : length s.trees ≡ trees_of v.device = q.count in omega arith in
     let is : t ≡ slice_index_or s.trees n no_tree = get_or_read s.trees n t inside (subst (λ (k : ℕ). t ≡ slice_index_or s.trees k t) same read) no_tree in
-    let kept : IsTreeKept v.device n t = subst (IsTreeKept v.device n) (sym is) (h.kept n within) in
+    let kept : IsTreeKept v.device n t = subst (IsTreeKept v.device n) (sym is) (q.kept n within) in
     record { is = is; number = kept.number; blocks = kept.blocks }
 
 -- a refusal, by its code
@@ -184,10 +185,10 @@ not_refused bytes none = record {
   room = λ is. absurd (let no_way : Some 8 ≡ None = sym (ap refusal_in is) ∙ none in cc);
 }
 
-store_out : (v : Shape) (s : State) → IsSound v s → status_in s ≡ Waiting → s.stage % 2 ≡ 1 → (asked s.last).fetch ≡ false
+store_out : (v : Shape) (s : State) → IsSound v.device v.overhead s → status_in s ≡ Waiting → s.stage % 2 ≡ 1 → (asked s.last).fetch ≡ false
 store_out v s h now odd =
     let o = waits s now in
-    let work : IsAtWork v s o.oldest = subst (AtWork v s) o.queue h.work in
+    let work : Outstanding v.device s o.oldest = at_hand v.device v.overhead s o.oldest o.rest h o.healthy o.queue in
     ap (λ (x : Entry). x.fetch) (work.store odd)
 
 nothing : (bytes : List ℕ) → length bytes ≡ 0 → bytes ≡ []
@@ -195,11 +196,11 @@ nothing [] none = refl
 nothing (x ∷ bytes) none = absurd (omega arith)
 
 -- byte 80 alone answers a store,
-pub stored_means : (v : Shape) (s : State) (w : World) (records : List ℕ) → IsSound v s → status_in s ≡ Waiting → s.stage % 2 ≡ 1 → length records ≡ 0 → outcome_of v w.records (asked s.last) (128 ∷ records) ≡ Good
+pub stored_means : (v : Shape) (s : State) (w : World) (records : List ℕ) → IsSound v.device v.overhead s → status_in s ≡ Waiting → s.stage % 2 ≡ 1 → length records ≡ 0 → outcome_of v w.records (asked s.last) (128 ∷ records) ≡ Good
 stored_means v s w records h now odd none = stored_is v w.records (asked s.last) (128 ∷ records) (store_out v s h now odd) (ap (λ r. 128 ∷ r) (nothing records none))
 
 -- more than that doesn't,
-pub longer_means : (v : Shape) (s : State) (w : World) (records : List ℕ) → IsSound v s → status_in s ≡ Waiting → s.stage % 2 ≡ 1 → 0 < length records → outcome_of v w.records (asked s.last) (128 ∷ records) ≡ Fails Malformed
+pub longer_means : (v : Shape) (s : State) (w : World) (records : List ℕ) → IsSound v.device v.overhead s → status_in s ≡ Waiting → s.stage % 2 ≡ 1 → 0 < length records → outcome_of v w.records (asked s.last) (128 ∷ records) ≡ Fails Malformed
 longer_means v s w records h now odd some = malformed_store v w.records (asked s.last) (128 ∷ records) (store_out v s h now odd) refl (λ same. absurd (omega (arith, ap length same)))
 
 -- and nothing else begins a good answer

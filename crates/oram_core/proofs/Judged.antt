@@ -1,28 +1,25 @@
 -- What the code tells of an answer is what the core's own digests, stashes and map say of it.
-use Rattle.std.proofs.Common.{◌≡◌, ◌≢◌, ◌⊎◌, ◌↔◌, ℕ, ◌+◌, ◌*◌, ◌%◌, ◌<◌, ◌≤◌, ◌==◌, ◌&&◌, Bool, true, false, if◌then◌else◌, List, [], ◌∷◌, length, drop, slice_index, slice_index_or, nat_le, not, Option, Some, None, Result, Ok, Err, IsOk, IfOk, refl, ap, sym, ◌∙◌, subst, arith, inl, inr}
+use Rattle.std.proofs.Common.{◌≡◌, ◌≢◌, ℕ, ◌+◌, ◌*◌, ◌%◌, ◌<◌, ◌≤◌, ◌==◌, ◌&&◌, Bool, true, false, if◌then◌else◌, List, [], ◌∷◌, length, drop, slice_index, nat_le, Some, None, refl, ap, sym, ◌∙◌, subst, arith, inl, inr}
 use Rattle.std.proofs.lemmas.Bool.Decides.{nat_tests}
 use Rattle.oram_geometry.specs.Sizes.{depth_of}
-use Rattle.oram_hash.specs.Path.{Path, path_of, HasLength, IsAccepted, IsTamperedAt}
+use Rattle.oram_hash.specs.Path.{Path, HasLength, IsAccepted, IsTamperedAt}
 use Rattle.oram_bucket.specs.Reading.{Reads}
 use Rattle.oram_tree.specs.Access.{IsLookup, IsNear, IsReadable}
 use Rattle.oram_tree.specs.State.{State as Tree}
 use Rattle.oram_run.specs.Answers.{is_refusal}
 use Rattle.oram_run.specs.Content.{block_of, stage_tree}
-use Rattle.oram_run.specs.Messages.{asked}
 use Rattle.oram_run.specs.Shape.{Shape, record_len}
 use Rattle.oram_run.specs.State.{State}
 use Rattle.oram_run.specs.declared.events.Note.{Note}
 use Rattle.oram_run.specs.declared.events.Note.TheVariants.{Accepted, Refused, Taken, Stalled, FailedNow, Resent, Unexpected}
 use Rattle.oram_run.specs.declared.events.Reaction.{Reaction}
-use Rattle.oram_run.specs.declared.events.Reason.{Reason}
 use Rattle.oram_run.specs.declared.events.Reason.TheVariants.{Malformed, Tampered, HostRefused}
 use Rattle.oram_run.specs.declared.events.Submission.{Submission}
 use Rattle.oram_core.specs.Doing.{Done, done, failed_by, stored_by, is_misled}
-use Rattle.oram_core.specs.Judging.{IsGood, IsReadableNow, IsReasonFor, IsUseless, IsUseOf, IsVerdict, Leads, answer_len, is_formed, path_now, reads_now, tree_now}
+use Rattle.oram_core.specs.Judging.{IsReadableNow, IsReasonFor, IsUseless, IsUseOf, IsVerdict, Leads, answer_len, is_formed, path_now, reads_now, tree_now}
 use Rattle.oram_core.specs.Verdicts.{Tells, refusal_in}
 use Rattle.oram_core.specs.declared.verdicts.Verdict.{Verdict}
 use Rattle.oram_core.specs.declared.verdicts.Verdict.TheVariants as verdict
-use Rattle.oram_core.proofs.Heard.{if_ok}
 use Rattle.oram_core.proofs.Hearing.{IsRefused, IsTreeAt, refused_so, not_refused}
 
 -- from the use of a path to the verdict on the answer

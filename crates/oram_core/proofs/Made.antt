@@ -1,5 +1,5 @@
 -- How a device's formatting goes on, tree by tree, and what it gives.
-use Rattle.std.proofs.Common.{◌≡◌, ℕ, suc, ◌+◌, ◌-◌, ◌^◌, ◌<◌, ◌≤◌, List, [], ◌∷◌, ◌++◌, Option, false, length, slice_index_or, replicate, inl, inr, refl, ap, sym, subst, ◌∙◌, arith}
+use Rattle.std.proofs.Common.{◌/◌, ◌*◌, None, ◌≡◌, ℕ, suc, ◌+◌, ◌-◌, ◌^◌, ◌<◌, ◌≤◌, List, [], ◌∷◌, ◌++◌, Option, false, length, slice_index_or, replicate, inl, inr, refl, ap, sym, subst, ◌∙◌, arith}
 use Rattle.std.specs.List.{All}
 use Rattle.std.proofs.lemmas.Bool.{cases_eq}
 use Rattle.std.proofs.lemmas.List.Elements.{All-nil, All-replicate}
@@ -17,16 +17,15 @@ use Rattle.oram_tree.specs.declared.faults.FormatFault.{FormatFault}
 use Rattle.oram_tree.specs.declared.faults.FormatFault.TheVariants.{OutOfMemory}
 use Rattle.oram_tree.proofs.Puts.{PutsAll-append, broken_after}
 use Rattle.oram_run.specs.Formatting.{IsFormatBegun}
-use Rattle.oram_run.specs.Nonces.{formatted, formatted_below}
+use Rattle.oram_run.specs.Nonces.{formatted, formatted_below, buckets_below, next_nonce}
 use Rattle.oram_run.specs.Shape.{Shape, IsLawful}
 use Rattle.oram_run.specs.State.{State, no_tree}
 use Rattle.oram_run.specs.declared.events.Submission.{Submission}
 use Rattle.oram_run.proofs.Beginnings.{begun_between, begun_within}
 use Rattle.oram_run.proofs.Bounds.{some_trees}
-use Rattle.oram_run.proofs.NoncesApart.{formatted_small}
 use Rattle.oram_run.proofs.Formatting.{no_trees_made, one_more_made}
-use Rattle.oram_run.specs.Agree.{IsAllowed}
-use Rattle.oram_core.specs.Core.{IsTreeKept, AtWork, IsSound}
+use Rattle.oram_run.specs.Agree.{IsAllowed, TicketsFrom}
+use Rattle.oram_core.specs.Core.{IsTreeKept, AtWork, IsHealthy, IsWhole, IsSound}
 use Rattle.oram_core.specs.Formatting.{IsMade, AreMade}
 
 pub below_none : (d : Sizes) → formatted_below d 0 ≡ 0
@@ -48,10 +47,14 @@ whole_begun opening sealing overhead d nonce m number t bodies same number_is em
     let C = λ (bs : List (List ℕ)). IsFormat opening sealing overhead d m (record { number = number; root = root; stash = [] }) bs in
     ([], root, subst C (sym (append-nil bodies)) (subst B empty (subst A number_is (subst N same made))))
 
+-- before any STORE
+nonce_first : (d : Sizes) → 0 < trees_of d → next_nonce d 0 0 ≡ formatted d
+nonce_first d some = let all : trees_of d - (0 + 1) / 2 ≡ trees_of d = omega arith in ap (λ (k : ℕ). formatted d + 0 * buckets_below d (trees_of d) + (buckets_below d (trees_of d) - buckets_below d k)) all ∙ omega arith
+
 -- a core just formatted is sound
 pub new_sound : {K : Type 0} (v : Shape) (putting : K → List ℕ → K → Type 0) (from to : K) (trees : List Tree) (s : State) → IsDevice v.device → v.overhead ≤ 64 → AreMade v putting from (trees_of v.device) trees to
-    → s.table ≡ replicate (blocks_in v.device (trees_of v.device - 1)) 0 → s.trees ≡ trees → s.next ≡ 0 → s.nonce ≡ formatted v.device → s.queue ≡ [] → s.stage ≡ 0 → s.named ≡ 0 → s.lost ≡ false → IsSound v s
-new_sound v putting from to trees s device small a table_is trees_is next_is nonce_is queue_is stage_is named_is lost_is =
+    → s.table ≡ replicate (blocks_in v.device (trees_of v.device - 1)) 0 → s.trees ≡ trees → s.next ≡ 0 → s.nonce ≡ formatted v.device → s.queue ≡ [] → s.stage ≡ 0 → s.named ≡ 0 → s.before ≡ [] → s.last ≡ [] → s.lost ≡ false → s.failure ≡ None → IsSound v.device v.overhead s
+new_sound v putting from to trees s device small a table_is trees_is next_is nonce_is queue_is stage_is named_is before_is last_is lost_is alive =
     let d = v.device in
     let few : trees_of d ≤ 13 = trees_of-few d device in
     let tree = λ (ts : List Tree) (i : ℕ). slice_index_or ts i no_tree in
@@ -59,23 +62,24 @@ new_sound v putting from to trees s device small a table_is trees_is next_is non
     let Kept = λ (ts : List Tree). (i : ℕ) → i < trees_of d → IsTreeKept d i (tree ts i) in
     let Blocks = λ (i : ℕ) (cells : List Cell). All (IsBlockOf d i) cells in
     let Allowed = λ (xs : List Submission). All (IsAllowed d) xs in
-    let Work = λ (xs : List Submission). AtWork v s xs in
+    let Work = λ (xs : List Submission). AtWork d v.overhead s xs in
+    let Tickets = λ (xs : List Submission). TicketsFrom (s.next - length xs) xs in
     let none : length s.queue ≡ 0 = ap length queue_is in
-    record {
-      ranges = device;
-      overhead = small;
+    let some : 0 < trees_of d = some_trees d in
+    let answered : s.next - length s.queue ≡ 0 = omega (arith, next_is, none) in
+    let whole : IsHealthy d v.overhead s = record {
       table = ap length table_is ∙ length-replicate (blocks_in d (trees_of d - 1)) 0;
       names = subst Named (sym table_is) (All-replicate (λ e. e ≤ 2 ^ depth_of d (trees_of d - 1)) (blocks_in d (trees_of d - 1)) 0 (omega arith));
       count = ap length trees_is ∙ a.made.trees_count;
       kept = subst Kept (sym trees_is) (λ i below. record { number = (a.made.each i below).number; blocks = subst (Blocks i) (sym (a.empty i below)) (All-nil (IsBlockOf d i)) });
-      next = omega (arith, next_is);
       queue = subst Allowed (sym queue_is) (All-nil (IsAllowed d));
+      tickets = subst Tickets (sym queue_is) tt;
       most = omega (arith, none);
       begun = omega (arith, none);
-      stage = omega (arith, stage_is, some_trees d);
-      work = subst Work (sym queue_is) (λ _. record { stage = stage_is; named = named_is; lost = lost_is });
-      nonce = omega (arith, nonce_is, formatted_small d (trees_of d));
-    }
+      work = subst Work (sym queue_is) (record { stage = stage_is; named = named_is; before = before_is; last = last_is; lost = lost_is });
+      nonce = nonce_is ∙ sym (nonce_first d some) ∙ ap (λ (k : ℕ). next_nonce d 0 k) (sym stage_is) ∙ ap (λ (k : ℕ). next_nonce d k s.stage) (sym answered);
+    } in
+    record { ranges = device; small = small; next = omega (arith, next_is); whole = subst (IsWhole d v.overhead s) (sym alive) whole }
 
 module _ {K : Type 0} (v : Shape) (putting : K → List ℕ → K → Type 0) where
   pub none_made : (from : K) (trees : List Tree) → trees ≡ [] → AreMade v putting from 0 trees from

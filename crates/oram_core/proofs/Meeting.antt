@@ -5,7 +5,6 @@ use Rattle.std.proofs.lemmas.Slice.Eq.{bytes_eq-Decides}
 use Rattle.std.proofs.lemmas.Bool.Decides.{nat_tests}
 use Rattle.oram_geometry.specs.Sizes.{trees_of}
 use Rattle.oram_run.specs.Answers.{Outcome, outcome_of, pair_in}
-use Rattle.oram_run.specs.Answers.Outcome.{NoRoom, Fails}
 use Rattle.oram_run.specs.Messages.{asked}
 use Rattle.oram_run.specs.Moves.{Moved, MovesTo, Fits, moved, goes_on, stays, on_answer, on_loss, on_retry, on_submission, finishes, fetches}
 use Rattle.oram_run.specs.Progress.{Status}
@@ -22,10 +21,10 @@ use Rattle.oram_run.specs.declared.events.Reaction.{Reaction}
 use Rattle.oram_run.specs.declared.events.Reason.{Reason}
 use Rattle.oram_run.specs.declared.events.Refusal.{Refusal}
 use Rattle.oram_run.specs.declared.events.Submission.{Submission}
-use Rattle.oram_core.specs.Doing.{is_stalled, is_free_note, Done, done, noted, plain_step, submitted_by, lost_by, retried_by, unheard_by, accepted_by, finished_by, fetched_by, failed_by, stalled_by, resent_by}
+use Rattle.oram_core.specs.Doing.{is_stalled, is_free_note, Done, done, noted, plain_step, submitted_by, lost_by, retried_by, unheard_by, accepted_by, finished_by, fetched_by, stalled_by, resent_by}
 use Rattle.oram_core.specs.Judging.{IsVerdict}
 use Rattle.oram_core.specs.Steps.{Steps, Heard}
-use Rattle.oram_core.proofs.Quiet.{Meets, stays_met, accepts_met, stalls_met, resends_met, fails_met, finishes_met, fetches_met}
+use Rattle.oram_core.proofs.Quiet.{Meets, stays_met, accepts_met, stalls_met, resends_met, finishes_met, fetches_met}
 
 -- a command is at work, and its message is outstanding
 pub record Waits (s : State) : Type 0 where

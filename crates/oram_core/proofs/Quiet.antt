@@ -9,7 +9,7 @@ use Rattle.oram_run.specs.Messages.{IsMessage, written}
 use Rattle.oram_run.specs.Moves.{Moved, MovesTo, Ask, PlacedIn, stays, accepts, fetches, finishes, stalls, resends, fails, if_idle, first_fetch, fetch_at, records_after, world_after, latest}
 use Rattle.oram_run.specs.Run.{Shown}
 use Rattle.oram_run.specs.Shape.{Shape}
-use Rattle.oram_run.specs.State.{State, World, AllStand}
+use Rattle.oram_run.specs.State.{State, World, AllStand, failed_state}
 use Rattle.oram_run.specs.Content.{block_of}
 use Rattle.oram_run.specs.declared.events.Note.{Note}
 use Rattle.oram_run.specs.declared.events.Note.TheVariants.{Accepted}
@@ -84,7 +84,7 @@ fails_met v s w e = record {
   note = refl;
   replies = refl;
   sends = refl;
-  state = ap (λ (n : ℕ). record s { nonce = n; queue = []; failure = Some e }) (same_nonce s);
+  state = ap (λ (n : ℕ). failed_state s.next n e) (same_nonce s);
   holds = λ alive. absurd (let no_way : Some e ≡ None = alive in cc);
   placed = λ new. all_none _;
 }
@@ -109,7 +109,7 @@ fetches_met v s w x h =
 -- a command joins the queue
 accepts_into : (v : Shape) (s : State) (w : World) (x : Submission) (queue : List Submission) → (s.failure ≡ None → AllStand v s w) →
     (let ask : Ask = if_idle queue (first_fetch v.device s.table (x ∷ [])) in
-    let sends : List (List ℕ) = sent_if_idle queue (first_message v s x) in
+    let sends : List (List ℕ) = sent_if_idle queue (first_message v.device s x) in
     let t : State = record s { next = s.next + 1; queue = s.queue ++ x ∷ [] } in
     MovesTo v s w (record { note = Accepted x.ticket; replies = []; ask = ask; state = t; content = w.content }) (record { note = Accepted x.ticket; replies = []; sends = sends }) (record t { last = latest sends s.last }))
 accepts_into v s w x [] h =
@@ -140,7 +140,7 @@ finishes_met v s w x [] h = record {
   note = refl;
   replies = refl;
   sends = refl;
-  state = ap (λ (n : ℕ). record s { nonce = n; queue = []; stage = 0; named = 0; before = [] }) (same_nonce s);
+  state = ap (λ (n : ℕ). record s { nonce = n; queue = []; stage = 0; named = 0; before = []; last = [] }) (same_nonce s);
   holds = h;
   placed = λ new. all_none _;
 }

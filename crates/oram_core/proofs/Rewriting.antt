@@ -1,6 +1,6 @@
 -- The answer to a fetch is taken over: the tree has the access, and its path goes back.
 use Rattle.std.proofs.Math.Path.{fun_ext}
-use Rattle.std.proofs.Common.{◌≡◌, ℕ, ◌+◌, ◌-◌, ◌*◌, ◌^◌, ◌<◌, ◌≤◌, ◌==◌, ◌&&◌, not, nat_lt, Bool, true, false, if◌then◌else◌, List, [], ◌∷◌, length, slice_index_or, slice_set, refl, ap, sym, ◌∙◌, subst, arith}
+use Rattle.std.proofs.Common.{◌≡◌, ℕ, ◌+◌, ◌-◌, ◌*◌, ◌^◌, ◌<◌, ◌≤◌, ◌==◌, ◌&&◌, not, nat_lt, Bool, true, false, if◌then◌else◌, List, [], ◌∷◌, length, slice_index_or, slice_set, None, refl, ap, sym, ◌∙◌, subst, arith}
 use Rattle.std.proofs.lemmas.Bool.Decides.{nat_tests}
 use Rattle.std.proofs.Math.Pow.{pow_mono}
 use Rattle.oram_geometry.specs.Sizes.{depth_of, trees_of}
@@ -23,7 +23,8 @@ use Rattle.oram_run.specs.declared.events.Submission.{Submission}
 use Rattle.oram_run.proofs.Others.{all_one}
 use Rattle.oram_run.proofs.Bounds.{some_trees, depth_small}
 use Rattle.oram_run.proofs.Placing.{IsMade, store_stands, store_places, holds_stored, there_if_named}
-use Rattle.oram_core.specs.Core.{IsSound, IsAtWork}
+use Rattle.oram_core.specs.Core.{IsSound}
+use Rattle.oram_core.proofs.Sound.{Outstanding, healthy_of}
 use Rattle.oram_core.specs.Doing.{stored_by, is_misled}
 use Rattle.oram_core.proofs.Quiet.{Meets}
 use Rattle.oram_core.proofs.Sound.{asked_store}
@@ -54,17 +55,17 @@ pub not_misled : (v : Shape) (s : State) (w : World) (x : Submission) (path : Pa
 not_misled v s w x path tree found before records ready a =
     let d = v.device in
     let i : ℕ = stage_tree d s.stage in
-    let there : found ≡ not (named_now v s x == 0) = a.update.told ∙ there_if_named (w.content i (block_of d i x)) (named_now v s x) ready.named in
+    let there : found ≡ not (named_now v.device s x == 0) = a.update.told ∙ there_if_named (w.content i (block_of d i x)) (named_now v.device s x) ready.named in
     let fits : next_named d i x before ≤ 2 ^ depth_of d (i - 1) = subst (λ (bytes : List ℕ). next_named d i x bytes ≤ 2 ^ depth_of d (i - 1)) (sym a.update.data_told) ready.next in
     let leaf : nat_lt (2 ^ depth_of d (i - 1)) (next_named d i x before) ≡ false = grind (arith, nat_tests) in
     let none : (nat_lt 0 i && nat_lt (2 ^ depth_of d (i - 1)) (next_named d i x before)) ≡ false = rw leaf (elim (nat_lt 0 i) as (λ b. (b && false) ≡ false) [ true ↦ refl | false ↦ refl ]) in
-    rw (there, both_ways (named_now v s x == 0)) none
+    rw (there, both_ways (named_now v.device s x == 0)) none
 
 -- The access is taken over by the rule, where it found what the tree's content has.
-taken_over : (v : Shape) (s : State) (w : World) (x : Submission) (path : Path) (tree : Tree) (found : Bool) (records : List ℕ) → IsSound v s → IsAtWork v s x → AllStand v s w →
+taken_over : (v : Shape) (s : State) (w : World) (x : Submission) (path : Path) (tree : Tree) (found : Bool) (records : List ℕ) → IsSound v.device v.overhead s → s.failure ≡ None → Outstanding v.device s x → AllStand v s w →
     IsAccess v s w x path tree found (found_in v.device (w.content (stage_tree v.device s.stage) (block_of v.device (stage_tree v.device s.stage) x))) records →
     Meets v s w (stores v s w x) (stored_by v (record s { trees = slice_set s.trees (stage_tree v.device s.stage) tree }) x (found_in v.device (w.content (stage_tree v.device s.stage) (block_of v.device (stage_tree v.device s.stage) x))) records)
-taken_over v s w x path tree found records sound work holds a =
+taken_over v s w x path tree found records sound alive work holds a =
     let i : ℕ = stage_tree v.device s.stage in
     let leaf : ℕ = (asked s.last).leaf in
     let b : ℕ = block_of v.device i x in
@@ -77,7 +78,7 @@ taken_over v s w x path tree found records sound work holds a =
     let small : leaf < 2 ^ 32 = omega arith in
     let made : IsMade v i leaf s.nonce (w.records i) (w.content i) c (slice_index_or s.trees i no_tree) tree path records =
     record { path_is = a.path_is; leaf_small = small; number = a.number; rewritten = a.rewritten; updated = a.update.updated } in
-    let inside : i < length s.trees = let n : length s.trees ≡ trees_of v.device = sound.count in let some : 0 < trees_of v.device = some_trees v.device in omega arith in
+    let inside : i < length s.trees = let n : length s.trees ≡ trees_of v.device = (healthy_of v.device v.overhead s sound alive).count in let some : 0 < trees_of v.device = some_trees v.device in omega arith in
     let here : Stands v i tree (records_after v w.records (store_body i leaf records ∷ []) i) (put (w.content i) b (entry_of c)) = store_stands v w.records i leaf s.nonce (w.content i) c (slice_index_or s.trees i no_tree) tree path records made in
     let one : (i == i) ≡ true = grind (arith, nat_tests) in
     let same : put (w.content i) b (entry_of c) ≡ put_in w.content i b (entry_of c) i =
@@ -96,11 +97,11 @@ taken_over v s w x path tree found records sound work holds a =
           subst (λ (e : Entry). IsPlaced v e.tree e.leaf s.nonce (after.records e.tree) (after.content e.tree)) (sym (asked_store i leaf records small)) placed_here);
     }
 
-pub stores_met : (v : Shape) (s : State) (w : World) (x : Submission) (path : Path) (tree : Tree) (found : Bool) (before records : List ℕ) → IsSound v s → IsAtWork v s x → AllStand v s w →
+pub stores_met : (v : Shape) (s : State) (w : World) (x : Submission) (path : Path) (tree : Tree) (found : Bool) (before records : List ℕ) → IsSound v.device v.overhead s → s.failure ≡ None → Outstanding v.device s x → AllStand v s w →
     IsAccess v s w x path tree found before records →
     Meets v s w (stores v s w x) (stored_by v (record s { trees = slice_set s.trees (stage_tree v.device s.stage) tree }) x before records)
-stores_met v s w x path tree found before records sound work holds a =
+stores_met v s w x path tree found before records sound alive work holds a =
     let i : ℕ = stage_tree v.device s.stage in
     let e : before ≡ found_in v.device (w.content i (block_of v.device i x)) = a.update.data_told in
     subst (λ (b : List ℕ). Meets v s w (stores v s w x) (stored_by v (record s { trees = slice_set s.trees i tree }) x b records)) (sym e)
-    (taken_over v s w x path tree found records sound work holds (subst (λ (b : List ℕ). IsAccess v s w x path tree found b records) e a))
+    (taken_over v s w x path tree found records sound alive work holds (subst (λ (b : List ℕ). IsAccess v s w x path tree found b records) e a))

@@ -1,5 +1,5 @@
 -- What holds of each core stays so.
-use Rattle.std.proofs.Common.{◌≡◌, ℕ, zero, suc, ◌+◌, ◌-◌, ◌*◌, ◌%◌, ◌^◌, ◌<◌, ◌≤◌, ◌==◌, Bool, true, false, if◌then◌else◌, List, [], ◌∷◌, ◌++◌, length, length-append, slice_index, slice_set, Option, Some, None, refl, ap, sym, ◌∙◌, subst, arith, inl, inr}
+use Rattle.std.proofs.Common.{◌⊎◌, ◌≡◌, ℕ, zero, suc, ◌+◌, ◌-◌, ◌*◌, ◌%◌, ◌^◌, ◌<◌, ◌≤◌, ◌≢◌, ◌==◌, Bool, true, false, if◌then◌else◌, List, [], ◌∷◌, ◌++◌, length, length-append, slice_index, slice_set, Option, Some, None, refl, ap, sym, ◌∙◌, subst, arith, inl, inr}
 use Rattle.std.specs.List.{All}
 use Rattle.std.specs.Int.{w32, to_be_bytes}
 use Rattle.std.proofs.lemmas.List.{get_or-set_same, get_or-set_other, length-set}
@@ -7,25 +7,31 @@ use Rattle.std.proofs.lemmas.List.Elements.{All-push, All-head, All-tail, All-se
 use Rattle.std.proofs.lemmas.Bool.{cases_eq}
 use Rattle.std.proofs.lemmas.Bool.Decides.{nat_tests}
 use Rattle.std.proofs.lemmas.Nat.{from_be_bytes-to_be_bytes_4, pow_pos}
-use Rattle.std.proofs.Math.Nat.{mod-lt}
+use Rattle.std.proofs.Math.Nat.{mod-lt, mul-le-mul}
 use Rattle.std.proofs.Math.Pow.{pow_mono}
 use Rattle.oram_geometry.specs.declared.Sizes.{Sizes}
-use Rattle.oram_geometry.specs.Sizes.{trees_of, depth_of, blocks_in}
+use Rattle.oram_geometry.specs.Sizes.{IsDevice, trees_of, depth_of, blocks_in, record_len_of}
 use Rattle.oram_geometry.proofs.Measuring.{trees_of-few}
 use Rattle.oram_wire.specs.HostMessages.{fetch_body, store_body}
 use Rattle.oram_tree.specs.State.{State as Tree}
+use Rattle.oram_trace.specs.declared.asked.Entry.{Entry}
 use Rattle.oram_run.specs.Content.{block_of, new_leaf, stage_tree}
 use Rattle.oram_run.specs.Messages.{asked}
 use Rattle.oram_run.specs.Moves.{fetch_at, leaf_for, latest}
 use Rattle.oram_run.specs.Blocks.{next_named, kept_of}
-use Rattle.oram_run.specs.Shape.{Shape}
 use Rattle.oram_run.specs.Progress.Status.{Idle, Waiting, Stalling, Over}
-use Rattle.oram_run.specs.State.{State, named_now, no_tree, status_by, status_in}
+use Rattle.oram_run.specs.Nonces.{next_nonce, buckets_below, formatted}
+use Rattle.oram_run.specs.State.{State, failed_state, named_now, no_tree, status_by, status_in}
 use Rattle.oram_run.specs.declared.events.Reason.{Reason}
 use Rattle.oram_run.specs.declared.events.Submission.{Submission}
 use Rattle.oram_run.proofs.Bounds.{some_trees, depth_small}
-use Rattle.oram_run.specs.Agree.{IsAllowed}
-use Rattle.oram_core.specs.Core.{IsTreeKept, IsAtWork, IsResting, AtWork, IsSound}
+use Rattle.oram_run.proofs.NoncesApart.{formatted_small}
+use Rattle.oram_run.proofs.Nonces.{nonce_split, nonce_stored, nonce_fetched, nonce_finished}
+use Rattle.oram_run.proofs.Others.{tickets_push}
+use Rattle.oram_run.specs.Agree.{IsAllowed, TicketsFrom}
+use Rattle.oram_run.specs.Progress.{Setting}
+use Rattle.oram_core.specs.Core.{IsTreeKept, IsStoreOf, IsAtWork, IsResting, AtWork, IsHealthy, IsReasonOf, IsWhole, IsSound, most_named}
+use Rattle.oram_core.proofs.Small.{named_none}
 use Rattle.oram_core.specs.Doing.{fetch_of, first_message, first_messages}
 
 -- the leaf that a command fetches is one of the tree
@@ -49,10 +55,10 @@ small_leaf : (d : Sizes) (i leaf : ℕ) → leaf < 2 ^ depth_of d i → leaf < 2
 small_leaf d i leaf fits = omega (arith, fits, pow_mono {i = depth_of d i} {j = 24} (depth_small d i))
 
 -- the fetch of a stage
-pub fetch_asked : (v : Shape) (stage named : ℕ) (x : Submission) → named ≤ 2 ^ depth_of v.device (stage_tree v.device stage) → asked (fetch_of (fetch_at v.device stage named x)) ≡ fetch_at v.device stage named x
-fetch_asked v stage named x fits =
-    let i : ℕ = stage_tree v.device stage in
-    asked_fetch i (leaf_for v.device i named x) (small_leaf v.device i _ (leaf_for-range v.device i named x fits))
+pub fetch_asked : (d : Sizes) (stage named : ℕ) (x : Submission) → named ≤ 2 ^ depth_of d (stage_tree d stage) → asked (fetch_of (fetch_at d stage named x)) ≡ fetch_at d stage named x
+fetch_asked d stage named x fits =
+    let i : ℕ = stage_tree d stage in
+    asked_fetch i (leaf_for d i named x) (small_leaf d i _ (leaf_for-range d i named x fits))
 
 -- an entry of the table, 0 past its end
 entry_small : (xs : List ℕ) (n k : ℕ) → All (λ e. e ≤ n) xs → slice_index xs k ≤ n
@@ -60,204 +66,364 @@ entry_small [] n k h = omega arith
 entry_small (x ∷ xs) n zero h = All-head (λ e. e ≤ n) x xs h
 entry_small (x ∷ xs) n (suc k) h = entry_small xs n k (All-tail (λ e. e ≤ n) x xs h)
 
-resting : (v : Shape) (s : State) (queue : List Submission) → AtWork v s queue → s.failure ≡ None → length queue ≡ 0 → IsResting s
-resting v s [] w alive none = w alive
-resting v s (x ∷ rest) w alive none = absurd (omega arith)
-
-alone : (v : Shape) (t : State) (queue : List Submission) (x : Submission) → length queue ≡ 0 → IsAtWork v t x → AtWork v t (queue ++ x ∷ [])
-alone v t [] x none w = w
-alone v t (y ∷ rest) x none w = absurd (omega arith)
+-- what the outstanding message of a command says, and what is held beside it
+pub record Outstanding (d : Sizes) (s : State) (x : Submission) : Type 0 where
+  pub stage : s.stage < 2 * trees_of d
+  pub header : 6 ≤ length s.last
+  pub leaf : (asked s.last).leaf < 2 ^ depth_of d (stage_tree d s.stage)
+  pub fetch : s.stage % 2 ≡ 0 → asked s.last ≡ fetch_at d s.stage (named_now d s x) x
+  pub store : s.stage % 2 ≡ 1 → asked s.last ≡ record { fetch = false; tree = stage_tree d s.stage; leaf = (asked s.last).leaf }
+  pub named : s.named ≤ 2 ^ depth_of d (stage_tree d (s.stage + s.stage % 2))
+  pub before : s.stage + 1 ≡ 2 * trees_of d → length s.before ≡ d.block_bytes
 
 -- the first tree of a command is the last one
 last_tree : (d : Sizes) → stage_tree d 0 ≡ trees_of d - 1
 last_tree d = omega arith
 
+named_low : (d : Sizes) (stage named : ℕ) → named ≤ most_named d stage → named ≤ 2 ^ depth_of d (stage_tree d (stage + stage % 2))
+named_low d stage named h = elim (cases_eq stage 0) [
+  | inl first ↦ let e : (stage == 0) ≡ true = grind (arith, nat_tests) in let none : named ≤ 0 = subst (λ (b : Bool). named ≤ (if b then 0 else if stage + 1 == 2 * trees_of d then 0 else 2 ^ depth_of d (stage_tree d (stage + stage % 2)))) e h in omega arith
+  | inr later ↦
+      let e : (stage == 0) ≡ false = grind (arith, nat_tests) in
+      let low : named ≤ (if stage + 1 == 2 * trees_of d then 0 else 2 ^ depth_of d (stage_tree d (stage + stage % 2))) = subst (λ (b : Bool). named ≤ (if b then 0 else if stage + 1 == 2 * trees_of d then 0 else 2 ^ depth_of d (stage_tree d (stage + stage % 2)))) e h in
+      elim (stage + 1 == 2 * trees_of d) as (λ b. named ≤ (if b then 0 else 2 ^ depth_of d (stage_tree d (stage + stage % 2))) → named ≤ 2 ^ depth_of d (stage_tree d (stage + stage % 2))) [
+        | true ↦ λ none. omega (arith, none)
+        | false ↦ λ fits. fits
+      ] low
+]
+
+-- in the middle of a command
+most_amid : (d : Sizes) (stage : ℕ) → 0 < stage → stage + 1 ≢ 2 * trees_of d → most_named d stage ≡ 2 ^ depth_of d (stage_tree d (stage + stage % 2))
+most_amid d stage some more =
+    let first : (stage == 0) ≡ false = grind (arith, nat_tests) in
+    let last : (stage + 1 == 2 * trees_of d) ≡ false = grind (arith, nat_tests, more) in
+    rw (first, last) refl
+
+-- at its last store
+most_at_end : (d : Sizes) (stage : ℕ) → stage + 1 ≡ 2 * trees_of d → most_named d stage ≡ 0
+most_at_end d stage end = elim (stage == 0) as (λ b. (if b then 0 else if stage + 1 == 2 * trees_of d then 0 else 2 ^ depth_of d (stage_tree d (stage + stage % 2))) ≡ 0) [
+  | true ↦ refl
+  | false ↦ let last : (stage + 1 == 2 * trees_of d) ≡ true = grind (arith, nat_tests, end) in rw last refl
+]
+
+length_at_end : (d : Sizes) (stage : ℕ) (before : List ℕ) → length before ≡ (if stage + 1 == 2 * trees_of d then d.block_bytes else 0) → stage + 1 ≡ 2 * trees_of d → length before ≡ d.block_bytes
+length_at_end d stage before h end = let last : (stage + 1 == 2 * trees_of d) ≡ true = grind (arith, nat_tests, end) in h ∙ ap (λ (b : Bool). if b then d.block_bytes else 0) last
+
+length_amid : (d : Sizes) (stage : ℕ) → stage + 1 ≢ 2 * trees_of d → (if stage + 1 == 2 * trees_of d then d.block_bytes else 0) ≡ 0
+length_amid d stage more = let last : (stage + 1 == 2 * trees_of d) ≡ false = grind (arith, nat_tests, more) in rw last refl
+
 -- what the table names for a block
-named_first : (v : Shape) (s : State) (x : Submission) → IsSound v s → slice_index s.table (block_of v.device (trees_of v.device - 1) x) ≤ 2 ^ depth_of v.device (stage_tree v.device 0)
-named_first v s x h = subst (λ (i : ℕ). slice_index s.table (block_of v.device (trees_of v.device - 1) x) ≤ 2 ^ depth_of v.device i) (sym (last_tree v.device))
-    (entry_small s.table (2 ^ depth_of v.device (trees_of v.device - 1)) (block_of v.device (trees_of v.device - 1) x) h.names)
+named_first : (d : Sizes) (o : ℕ) (s : State) (x : Submission) → IsHealthy d o s → slice_index s.table (block_of d (trees_of d - 1) x) ≤ 2 ^ depth_of d (stage_tree d 0)
+named_first d o s x h = subst (λ (i : ℕ). slice_index s.table (block_of d (trees_of d - 1) x) ≤ 2 ^ depth_of d i) (sym (last_tree d))
+    (entry_small s.table (2 ^ depth_of d (trees_of d - 1)) (block_of d (trees_of d - 1) x) h.names)
+
+-- what is named for the block of the outstanding fetch
+named_fits : (d : Sizes) (o : ℕ) (s : State) (x : Submission) → IsHealthy d o s → s.named ≤ most_named d s.stage → s.stage % 2 ≡ 0 → named_now d s x ≤ 2 ^ depth_of d (stage_tree d s.stage)
+named_fits d o s x h named even =
+    elim (cases_eq s.stage 0) [
+      | inl first ↦
+          let e : (s.stage == 0) ≡ true = grind (arith, nat_tests) in
+          rw e (subst (λ (k : ℕ). slice_index s.table (block_of d (trees_of d - 1) x) ≤ 2 ^ depth_of d (stage_tree d k)) (sym first) (named_first d o s x h))
+      | inr later ↦
+          let e : (s.stage == 0) ≡ false = grind (arith, nat_tests) in
+          rw e (subst (λ (k : ℕ). s.named ≤ 2 ^ depth_of d (stage_tree d k)) (let same : s.stage + s.stage % 2 ≡ s.stage = omega (arith, even) in same) (named_low d s.stage s.named named))
+    ]
+
+fetch_outstanding : (d : Sizes) (o : ℕ) (s : State) (x : Submission) → IsHealthy d o s → IsAtWork d o s x → s.stage % 2 ≡ 0 → Outstanding d s x
+fetch_outstanding d o s x h w even =
+    let n : ℕ = named_now d s x in
+    let fits : n ≤ 2 ^ depth_of d (stage_tree d s.stage) = named_fits d o s x h w.named even in
+    let message : s.last ≡ fetch_of (fetch_at d s.stage n x) = w.fetch even in
+    let e : asked s.last ≡ fetch_at d s.stage n x = ap asked message ∙ fetch_asked d s.stage n x fits in
+    record {
+      stage = w.stage;
+      header = rw message (omega arith);
+      leaf = rw e (leaf_for-range d (stage_tree d s.stage) n x fits);
+      fetch = λ _. e;
+      store = λ odd. absurd (omega (arith, even, odd));
+      named = named_low d s.stage s.named w.named;
+      before = length_at_end d s.stage s.before w.before;
+    }
+
+store_outstanding : (d : Sizes) (o : ℕ) (s : State) (x : Submission) → IsAtWork d o s x → s.stage % 2 ≡ 1 → Outstanding d s x
+store_outstanding d o s x w odd =
+    let i : ℕ = stage_tree d s.stage in
+    let m : IsStoreOf d o i s.last = w.store odd in
+    let e : asked s.last ≡ record { fetch = false; tree = i; leaf = m.leaf } = ap asked m.stores.body ∙ asked_store i m.leaf m.stores.records (small_leaf d i m.leaf m.inside) in
+    let leaf : (asked s.last).leaf ≡ m.leaf = ap (λ (k : Entry). k.leaf) e in
+    record {
+      stage = w.stage;
+      header = rw m.stores.body (omega (arith, length-append (to_be_bytes w32 m.leaf) m.stores.records));
+      leaf = subst (λ (k : ℕ). k < 2 ^ depth_of d i) (sym leaf) m.inside;
+      fetch = λ even. absurd (omega (arith, even, odd));
+      store = λ _. e ∙ ap (λ (k : ℕ). record { fetch = false; tree = i; leaf = k }) (sym leaf);
+      named = named_low d s.stage s.named w.named;
+      before = length_at_end d s.stage s.before w.before;
+    }
+
+even_or_odd : (n : ℕ) → (n % 2 ≡ 0) ⊎ (n % 2 ≡ 1)
+even_or_odd n = elim (cases_eq (n % 2) 0) [ inl even ↦ inl even | inr odd ↦ inr (omega (arith, odd)) ]
+
+outstanding_by : (d : Sizes) (o : ℕ) (s : State) (x : Submission) → IsHealthy d o s → IsAtWork d o s x → Outstanding d s x
+outstanding_by d o s x h w = elim (even_or_odd s.stage) [ inl even ↦ fetch_outstanding d o s x h w even | inr odd ↦ store_outstanding d o s x w odd ]
+
+-- one that has not failed is healthy
+pub healthy_of : (d : Sizes) (o : ℕ) (s : State) → IsSound d o s → s.failure ≡ None → IsHealthy d o s
+healthy_of d o s h alive = subst (IsWhole d o s) alive h.whole
+
+pub at_hand : (d : Sizes) (o : ℕ) (s : State) (x : Submission) (rest : List Submission) → IsSound d o s → s.failure ≡ None → s.queue ≡ x ∷ rest → Outstanding d s x
+at_hand d o s x rest h alive queue =
+    let whole = healthy_of d o s h alive in
+    outstanding_by d o s x whole (subst (AtWork d o s) queue whole.work)
+
+-- what is healthy is sound
+sound_by : (d : Sizes) (o : ℕ) (t : State) → IsDevice d → o ≤ 64 → t.next ≤ d.lifetime → t.failure ≡ None → IsHealthy d o t → IsSound d o t
+sound_by d o t ranges small next alive whole = record { ranges = ranges; small = small; next = next; whole = subst (IsWhole d o t) (sym alive) whole }
+
+abbrev setting : Sizes → Setting
+setting d = record { shape = record { device = d; overhead = 0; sealing = λ n plain. plain; opening = λ sealed. None }; format = [] }
+
+-- the nonce goes on with each entry
+next_stored : (d : Sizes) (n r : ℕ) → r < 2 * trees_of d → r % 2 ≡ 0 → next_nonce d n (r + 1) ≡ next_nonce d n r + (depth_of d (stage_tree d r) + 1)
+next_stored d n r few even =
+    let g : ℕ = n * (2 * trees_of d) + r in
+    let more : g + 1 ≡ n * (2 * trees_of d) + (r + 1) = omega arith in
+    sym (nonce_split (setting d) (g + 1) n (r + 1) more (omega (arith, even)))
+    ∙ nonce_stored (setting d) g n r refl few even
+    ∙ ap (λ k. k + (depth_of d (stage_tree d r) + 1)) (nonce_split (setting d) g n r refl few)
+
+next_fetched : (d : Sizes) (n r : ℕ) → r + 1 < 2 * trees_of d → r % 2 ≡ 1 → next_nonce d n (r + 1) ≡ next_nonce d n r
+next_fetched d n r few odd =
+    let g : ℕ = n * (2 * trees_of d) + r in
+    let more : g + 1 ≡ n * (2 * trees_of d) + (r + 1) = omega arith in
+    sym (nonce_split (setting d) (g + 1) n (r + 1) more few) ∙ nonce_fetched (setting d) g n r refl few odd ∙ nonce_split (setting d) g n r refl (omega arith)
+
+next_finished : (d : Sizes) (n r : ℕ) → r + 1 ≡ 2 * trees_of d → next_nonce d (n + 1) 0 ≡ next_nonce d n r
+next_finished d n r end =
+    let g : ℕ = n * (2 * trees_of d) + r in
+    let more : g + 1 ≡ (n + 1) * (2 * trees_of d) + 0 = omega (arith, end) in
+    sym (nonce_split (setting d) (g + 1) (n + 1) 0 more (omega (arith, end))) ∙ nonce_finished (setting d) g n r refl end ∙ nonce_split (setting d) g n r refl (omega (arith, end))
+
+resting : (d : Sizes) (o : ℕ) (s : State) (queue : List Submission) → AtWork d o s queue → length queue ≡ 0 → IsResting s
+resting d o s [] w none = w
+resting d o s (x ∷ rest) w none = absurd (omega arith)
+
+alone : (d : Sizes) (o : ℕ) (t : State) (queue : List Submission) (x : Submission) → length queue ≡ 0 → IsAtWork d o t x → AtWork d o t (queue ++ x ∷ [])
+alone d o t [] x none w = w
+alone d o t (y ∷ rest) x none w = absurd (omega arith)
 
 -- a command begins: its first fetch was sent
-begun_work : (v : Shape) (s t : State) (x : Submission) → IsSound v s → t.stage ≡ 0 → t.named ≡ 0 → t.table ≡ s.table → t.last ≡ first_message v s x → IsAtWork v t x
-begun_work v s t x h stage named table last =
-    let d : Sizes = v.device in
+begun_work : (d : Sizes) (o : ℕ) (s t : State) (x : Submission) → t.stage ≡ 0 → t.named ≡ 0 → t.before ≡ [] → t.table ≡ s.table → t.last ≡ first_message d s x → IsAtWork d o t x
+begun_work d o s t x stage named before table last =
     let n : ℕ = slice_index s.table (block_of d (trees_of d - 1) x) in
-    let e : asked t.last ≡ fetch_at d 0 n x = ap asked last ∙ fetch_asked v 0 n x (named_first v s x h) in
     let some : 0 < trees_of d = some_trees d in
-    let now : named_now v t x ≡ n = rw stage (ap (λ (ts : List ℕ). slice_index ts (block_of d (trees_of d - 1) x)) table) in
+    let now : named_now d t x ≡ n = rw stage (ap (λ (ts : List ℕ). slice_index ts (block_of d (trees_of d - 1) x)) table) in
+    let same : fetch_at d t.stage (named_now d t x) x ≡ fetch_at d 0 n x = ap (λ (k : ℕ). fetch_at d k (named_now d t x) x) stage ∙ ap (λ (k : ℕ). fetch_at d 0 k x) now in
     record {
-      header = rw last (omega arith);
-      leaf = rw (e, stage) (leaf_for-range d (stage_tree d 0) n x (named_first v s x h));
-      fetch = λ even. e ∙ sym (ap (λ (k : ℕ). fetch_at d k (named_now v t x) x) stage ∙ ap (λ (k : ℕ). fetch_at d 0 k x) now);
+      stage = omega (arith, stage, some);
+      fetch = λ even. last ∙ sym (ap fetch_of same);
       store = λ odd. absurd (omega (arith, stage));
       named = rw named (omega arith);
-      before = λ last_one. absurd (omega (arith, stage, some));
+      before = ap length before ∙ sym (length_amid d t.stage (λ end. absurd (omega (arith, stage, end, some))));
     }
 
 -- one more command than none
-pub sound_begun : (v : Shape) (s : State) (x : Submission) → IsSound v s → s.failure ≡ None → length s.queue ≡ 0 → s.next < v.device.lifetime → IsAllowed v.device x →
-    IsSound v (record s { next = s.next + 1; queue = s.queue ++ x ∷ []; last = first_message v s x })
-sound_begun v s x h alive none room allowed =
-    let calm : IsResting s = resting v s s.queue h.work alive none in
-    record {
-      ranges = h.ranges;
-      overhead = h.overhead;
-      table = h.table;
-      names = h.names;
-      count = h.count;
-      kept = h.kept;
-      next = omega arith;
-      queue = All-push (IsAllowed v.device) s.queue x h.queue allowed;
-      most = omega (arith, length-append s.queue (x ∷ []));
-      begun = omega (arith, length-append s.queue (x ∷ []), h.begun);
-      stage = h.stage;
-      work = alone v (record s { next = s.next + 1; queue = s.queue ++ x ∷ []; last = first_message v s x }) s.queue x none (begun_work v s _ x h calm.stage calm.named refl refl);
-      nonce = let n = h.nonce in let b = h.begun in omega (arith, length-append s.queue (x ∷ []));
-    }
+pub sound_begun : (d : Sizes) (o : ℕ) (s : State) (x : Submission) → IsSound d o s → s.failure ≡ None → length s.queue ≡ 0 → s.next < d.lifetime → IsAllowed d x → x.ticket ≡ s.next →
+    IsSound d o (record s { next = s.next + 1; queue = s.queue ++ x ∷ []; last = first_message d s x })
+sound_begun d o s x h alive none room allowed ticket =
+    let q = healthy_of d o s h alive in
+    let calm : IsResting s = resting d o s s.queue q.work none in
+    let t : State = record s { next = s.next + 1; queue = s.queue ++ x ∷ []; last = first_message d s x } in
+    let more : length t.queue ≡ length s.queue + 1 = length-append s.queue (x ∷ []) in
+    let same : t.next - length t.queue ≡ s.next - length s.queue = omega (arith, more) in
+    sound_by d o t h.ranges h.small (omega arith) alive (record {
+      table = q.table;
+      names = q.names;
+      count = q.count;
+      kept = q.kept;
+      queue = All-push (IsAllowed d) s.queue x q.queue allowed;
+      tickets = subst (λ (k : ℕ). TicketsFrom k t.queue) (sym same) (tickets_push (s.next - length s.queue) s.queue x q.tickets (ticket ∙ (let b = q.begun in omega (arith, none))));
+      most = omega (arith, more);
+      begun = omega (arith, more, q.begun);
+      work = alone d o t s.queue x none (begun_work d o s t x calm.stage calm.named calm.before refl refl);
+      nonce = q.nonce ∙ ap (λ (k : ℕ). next_nonce d k s.stage) (sym same);
+    })
 
 -- the same command is at work where another one waits behind it
-work_pushed : (v : Shape) (s : State) (queue : List Submission) (x : Submission) (next : ℕ) → 0 < length queue → AtWork v s queue → AtWork v (record s { next = next; queue = s.queue ++ x ∷ [] }) (queue ++ x ∷ [])
-work_pushed v s [] x next some w = absurd (omega arith)
-work_pushed v s (y ∷ rest) x next some w = record { header = w.header; leaf = w.leaf; fetch = w.fetch; store = w.store; named = w.named; before = w.before }
+work_pushed : (d : Sizes) (o : ℕ) (s : State) (queue whole : List Submission) (x : Submission) (next : ℕ) → 0 < length queue → AtWork d o s queue → AtWork d o (record s { next = next; queue = whole }) (queue ++ x ∷ [])
+work_pushed d o s [] whole x next some w = absurd (omega arith)
+work_pushed d o s (y ∷ rest) whole x next some w = record { stage = w.stage; fetch = w.fetch; store = w.store; named = w.named; before = w.before }
 
 -- one more command than some
-pub sound_pushed : (v : Shape) (s : State) (x : Submission) → IsSound v s → 0 < length s.queue → length s.queue < 64 → s.next < v.device.lifetime → IsAllowed v.device x →
-    IsSound v (record s { next = s.next + 1; queue = s.queue ++ x ∷ [] })
-sound_pushed v s x h some few room allowed = record {
-  ranges = h.ranges;
-  overhead = h.overhead;
-  table = h.table;
-  names = h.names;
-  count = h.count;
-  kept = h.kept;
-  next = omega arith;
-  queue = All-push (IsAllowed v.device) s.queue x h.queue allowed;
-  most = omega (arith, length-append s.queue (x ∷ []));
-  begun = omega (arith, length-append s.queue (x ∷ []), h.begun);
-  stage = h.stage;
-  work = work_pushed v s s.queue x (s.next + 1) some h.work;
-  nonce = let n = h.nonce in let b = h.begun in omega (arith, length-append s.queue (x ∷ []));
-}
+pub sound_pushed : (d : Sizes) (o : ℕ) (s : State) (x : Submission) → IsSound d o s → s.failure ≡ None → 0 < length s.queue → length s.queue < 64 → s.next < d.lifetime → IsAllowed d x → x.ticket ≡ s.next →
+    IsSound d o (record s { next = s.next + 1; queue = s.queue ++ x ∷ [] })
+sound_pushed d o s x h alive some few room allowed ticket =
+    let q = healthy_of d o s h alive in
+    let t : State = record s { next = s.next + 1; queue = s.queue ++ x ∷ [] } in
+    let more : length t.queue ≡ length s.queue + 1 = length-append s.queue (x ∷ []) in
+    let same : t.next - length t.queue ≡ s.next - length s.queue = omega (arith, more) in
+    sound_by d o t h.ranges h.small (omega arith) alive (record {
+      table = q.table;
+      names = q.names;
+      count = q.count;
+      kept = q.kept;
+      queue = All-push (IsAllowed d) s.queue x q.queue allowed;
+      tickets = subst (λ (k : ℕ). TicketsFrom k t.queue) (sym same) (tickets_push (s.next - length s.queue) s.queue x q.tickets (ticket ∙ (let b = q.begun in omega arith)));
+      most = omega (arith, more);
+      begun = omega (arith, more, q.begun);
+      work = work_pushed d o s s.queue t.queue x (s.next + 1) some q.work;
+      nonce = q.nonce ∙ ap (λ (k : ℕ). next_nonce d k s.stage) (sym same);
+    })
 
 -- the path of the next tree is fetched
-pub sound_fetched : (v : Shape) (s : State) (x : Submission) (rest : List Submission) → IsSound v s → s.queue ≡ x ∷ rest → s.stage % 2 ≡ 1 → s.stage + 1 < 2 * trees_of v.device →
-    IsSound v (record s { stage = s.stage + 1; last = fetch_of (fetch_at v.device (s.stage + 1) s.named x) })
-sound_fetched v s x rest h queue odd more =
-    let d : Sizes = v.device in
-    let work : IsAtWork v s x = subst (AtWork v s) queue h.work in
-    let i : ℕ = stage_tree d (s.stage + 1) in
-    let fits : s.named ≤ 2 ^ depth_of d i = subst (λ (k : ℕ). s.named ≤ 2 ^ depth_of d (stage_tree d (s.stage + k))) odd work.named in
+pub sound_fetched : (d : Sizes) (o : ℕ) (s : State) (x : Submission) (rest : List Submission) → IsSound d o s → s.failure ≡ None → s.queue ≡ x ∷ rest → s.stage % 2 ≡ 1 → s.stage + 1 < 2 * trees_of d →
+    IsSound d o (record s { stage = s.stage + 1; last = fetch_of (fetch_at d (s.stage + 1) s.named x) })
+sound_fetched d o s x rest h alive queue odd more =
+    let q = healthy_of d o s h alive in
+    let w : IsAtWork d o s x = subst (AtWork d o s) queue q.work in
     let t : State = record s { stage = s.stage + 1; last = fetch_of (fetch_at d (s.stage + 1) s.named x) } in
-    let e : asked t.last ≡ fetch_at d (s.stage + 1) s.named x = fetch_asked v (s.stage + 1) s.named x fits in
     let later : (s.stage + 1 == 0) ≡ false = grind (arith, nat_tests) in
-    record {
-      ranges = h.ranges;
-      overhead = h.overhead;
-      table = h.table;
-      names = h.names;
-      count = h.count;
-      kept = h.kept;
-      next = h.next;
-      queue = h.queue;
-      most = h.most;
-      begun = h.begun;
-      stage = more;
-      work = subst (AtWork v t) (sym queue) (record {
-        header = omega arith;
-        leaf = rw e (leaf_for-range d i s.named x fits);
-        fetch = λ even. e ∙ sym (ap (λ (b : Bool). fetch_at d (s.stage + 1) (if b then slice_index s.table (block_of d (trees_of d - 1) x) else s.named) x) later);
-        store = λ turn. absurd (omega (arith, odd));
-        named = let even : 0 ≡ (s.stage + 1) % 2 = omega (arith, odd) in subst (λ (k : ℕ). s.named ≤ 2 ^ depth_of d (stage_tree d (s.stage + 1 + k))) even (subst (λ (k : ℕ). s.named ≤ 2 ^ depth_of d (stage_tree d k)) (let same : s.stage + 1 ≡ s.stage + 1 + 0 = omega arith in same) fits);
-        before = λ end. absurd (omega (arith, odd));
+    let next : s.stage + s.stage % 2 ≡ s.stage + 1 + (s.stage + 1) % 2 = omega (arith, odd) in
+    let same : most_named d s.stage ≡ most_named d (s.stage + 1) =
+    most_amid d s.stage (omega (arith, odd)) (λ end. absurd (omega (arith, more, end))) ∙ ap (λ (k : ℕ). 2 ^ depth_of d (stage_tree d k)) next ∙ sym (most_amid d (s.stage + 1) (omega arith) (λ end. absurd (omega (arith, odd, end)))) in
+    sound_by d o t h.ranges h.small h.next alive (record {
+      table = q.table;
+      names = q.names;
+      count = q.count;
+      kept = q.kept;
+      queue = q.queue;
+      tickets = q.tickets;
+      most = q.most;
+      begun = q.begun;
+      work = subst (AtWork d o t) (sym queue) (record {
+        stage = more;
+        fetch = λ even. sym (ap (λ (b : Bool). fetch_of (fetch_at d (s.stage + 1) (if b then slice_index s.table (block_of d (trees_of d - 1) x) else s.named) x)) later);
+        store = λ turn. absurd (omega (arith, odd, turn));
+        named = subst (λ (k : ℕ). s.named ≤ k) same w.named;
+        before = w.before ∙ length_amid d s.stage (λ end. absurd (omega (arith, more, end))) ∙ sym (length_amid d (s.stage + 1) (λ end. absurd (omega (arith, odd, end))));
       });
-      nonce = let n = h.nonce in omega arith;
-    }
+      nonce = q.nonce ∙ sym (next_fetched d (s.next - length s.queue) s.stage more odd);
+    })
 
-abbrev next_last : Shape → State → List Submission → List ℕ → List ℕ
-next_last v s [] last = last
-next_last v s (y ∷ rest) last = first_message v s y
-
-next_work : (v : Shape) (s : State) (rest : List Submission) (lost : s.lost ≡ false) → IsSound v s →
-    AtWork v (record s { queue = rest; stage = 0; named = 0; before = []; last = next_last v s rest s.last }) rest
-next_work v s [] lost h = λ alive. record { stage = refl; named = refl; lost = lost }
-next_work v s (y ∷ rest) lost h = begun_work v s _ y h refl refl refl refl
-
-next_latest : (v : Shape) (s : State) (rest : List Submission) → next_last v s rest s.last ≡ latest (first_messages v s rest) s.last
-next_latest v s [] = refl
-next_latest v s (y ∷ rest) = refl
+next_work : (d : Sizes) (o : ℕ) (s t : State) (rest : List Submission) → t.lost ≡ false → t.stage ≡ 0 → t.named ≡ 0 → t.before ≡ [] → t.table ≡ s.table → t.last ≡ latest (first_messages d s rest) [] → AtWork d o t rest
+next_work d o s t [] lost stage named before table last = record { stage = stage; named = named; before = before; last = last; lost = lost }
+next_work d o s t (y ∷ rest) lost stage named before table last = begun_work d o s t y stage named before table last
 
 -- the oldest command has its reply
-pub sound_finished : (v : Shape) (s : State) (x : Submission) (rest : List Submission) → IsSound v s → s.queue ≡ x ∷ rest → s.lost ≡ false → s.stage + 1 ≡ 2 * trees_of v.device →
-    IsSound v (record s { queue = rest; stage = 0; named = 0; before = []; last = next_last v s rest s.last })
-sound_finished v s x rest h queue calm end =
-    let few : trees_of v.device ≤ 13 = trees_of-few v.device h.ranges in
+pub sound_finished : (d : Sizes) (o : ℕ) (s : State) (x : Submission) (rest : List Submission) → IsSound d o s → s.failure ≡ None → s.queue ≡ x ∷ rest → s.lost ≡ false → s.stage + 1 ≡ 2 * trees_of d →
+    IsSound d o (record s { queue = rest; stage = 0; named = 0; before = []; last = latest (first_messages d s rest) [] })
+sound_finished d o s x rest h alive queue calm end =
+    let q = healthy_of d o s h alive in
+    let t : State = record s { queue = rest; stage = 0; named = 0; before = []; last = latest (first_messages d s rest) [] } in
     let count : length s.queue ≡ length rest + 1 = ap length queue ∙ omega arith in
-    record {
-      ranges = h.ranges;
-      overhead = h.overhead;
-      table = h.table;
-      names = h.names;
-      count = h.count;
-      kept = h.kept;
-      next = h.next;
-      queue = All-tail (IsAllowed v.device) x rest (subst (All (IsAllowed v.device)) queue h.queue);
-      most = let m = h.most in omega arith;
-      begun = let b = h.begun in omega arith;
-      stage = let some : 0 < trees_of v.device = some_trees v.device in omega arith;
-      work = next_work v s rest calm h;
-      nonce = let n = h.nonce in let b = h.begun in omega arith;
-    }
+    let n : ℕ = s.next - length s.queue in
+    let one : s.next - length rest ≡ n + 1 = let b = q.begun in omega (arith, count) in
+    sound_by d o t h.ranges h.small h.next alive (record {
+      table = q.table;
+      names = q.names;
+      count = q.count;
+      kept = q.kept;
+      queue = All-tail (IsAllowed d) x rest (subst (All (IsAllowed d)) queue q.queue);
+      tickets = subst (λ (k : ℕ). TicketsFrom k rest) (sym one) (subst (TicketsFrom n) queue q.tickets).1;
+      most = let m = q.most in omega (arith, count);
+      begun = let b = q.begun in omega (arith, count);
+      work = next_work d o s t rest calm refl refl refl refl refl;
+      nonce = q.nonce ∙ sym (next_finished d n s.stage end) ∙ ap (λ (k : ℕ). next_nonce d k 0) (sym one);
+    })
 
-work_accessed : (v : Shape) (s : State) (trees : List Tree) (queue : List Submission) → AtWork v s queue → AtWork v (record s { trees = trees }) queue
-work_accessed v s trees [] w = λ alive. record { stage = (w alive).stage; named = (w alive).named; lost = (w alive).lost }
-work_accessed v s trees (x ∷ rest) w = record { header = w.header; leaf = w.leaf; fetch = w.fetch; store = w.store; named = w.named; before = w.before }
+work_accessed : (d : Sizes) (o : ℕ) (s : State) (trees : List Tree) (queue : List Submission) → AtWork d o s queue → AtWork d o (record s { trees = trees }) queue
+work_accessed d o s trees [] w = record { stage = w.stage; named = w.named; before = w.before; last = w.last; lost = w.lost }
+work_accessed d o s trees (x ∷ rest) w = record { stage = w.stage; fetch = w.fetch; store = w.store; named = w.named; before = w.before }
+
+work_lost : (d : Sizes) (o : ℕ) (s : State) (b : Bool) (queue : List Submission) → 0 < length queue → AtWork d o s queue → AtWork d o (record s { lost = b }) queue
+work_lost d o s b [] some w = absurd (omega (arith, some))
+work_lost d o s b (x ∷ rest) some w = record { stage = w.stage; fetch = w.fetch; store = w.store; named = w.named; before = w.before }
+
+-- the message counts as lost, or goes out again
+pub sound_lost : (d : Sizes) (o : ℕ) (s : State) (b : Bool) → IsSound d o s → s.failure ≡ None → 0 < length s.queue → IsSound d o (record s { lost = b })
+sound_lost d o s b h alive some =
+    let q = healthy_of d o s h alive in
+    sound_by d o (record s { lost = b }) h.ranges h.small h.next alive (record {
+      table = q.table;
+      names = q.names;
+      count = q.count;
+      kept = q.kept;
+      queue = q.queue;
+      tickets = q.tickets;
+      most = q.most;
+      begun = q.begun;
+      work = work_lost d o s b s.queue some q.work;
+      nonce = q.nonce;
+    })
+
+-- the device fails
+pub sound_failed : (d : Sizes) (o : ℕ) (s : State) (e : Reason) → IsSound d o s → IsReasonOf d e → IsSound d o (failed_state s.next s.nonce e)
+sound_failed d o s e h reason = record { ranges = h.ranges; small = h.small; next = h.next; whole = (reason, refl) }
 
 -- one tree has an access
-pub sound_accessed : (v : Shape) (s : State) (i : ℕ) (tree : Tree) → IsSound v s → i < trees_of v.device → IsTreeKept v.device i tree → IsSound v (record s { trees = slice_set s.trees i tree })
-sound_accessed v s i tree h inside is =
-    let within : i < length s.trees = omega (arith, h.count) in
-    record {
-      ranges = h.ranges;
-      overhead = h.overhead;
-      table = h.table;
-      names = h.names;
-      count = length-set s.trees i tree ∙ h.count;
+pub sound_accessed : (d : Sizes) (o : ℕ) (s : State) (i : ℕ) (tree : Tree) → IsSound d o s → s.failure ≡ None → i < trees_of d → IsTreeKept d i tree → IsSound d o (record s { trees = slice_set s.trees i tree })
+sound_accessed d o s i tree h alive inside is =
+    let q = healthy_of d o s h alive in
+    let within : i < length s.trees = omega (arith, q.count) in
+    sound_by d o (record s { trees = slice_set s.trees i tree }) h.ranges h.small h.next alive (record {
+      table = q.table;
+      names = q.names;
+      count = length-set s.trees i tree ∙ q.count;
       kept = λ k below. elim (cases_eq k i) [
-        | inl same ↦ rw same (subst (IsTreeKept v.device i) (sym (get_or-set_same s.trees i tree no_tree within)) is)
-        | inr other ↦ subst (IsTreeKept v.device k) (sym (get_or-set_other s.trees i k tree no_tree other)) (h.kept k below)
+        | inl same ↦ rw same (subst (IsTreeKept d i) (sym (get_or-set_same s.trees i tree no_tree within)) is)
+        | inr other ↦ subst (IsTreeKept d k) (sym (get_or-set_other s.trees i k tree no_tree other)) (q.kept k below)
       ];
-      next = h.next;
-      queue = h.queue;
-      most = h.most;
-      begun = h.begun;
-      stage = h.stage;
-      work = work_accessed v s (slice_set s.trees i tree) s.queue h.work;
-      nonce = h.nonce;
-    }
+      queue = q.queue;
+      tickets = q.tickets;
+      most = q.most;
+      begun = q.begun;
+      work = work_accessed d o s (slice_set s.trees i tree) s.queue q.work;
+      nonce = q.nonce;
+    })
 
 -- what the table holds after a new leaf in it
-names_set : (v : Shape) (s : State) (x : Submission) → IsSound v s →
-    All (λ e. e ≤ 2 ^ depth_of v.device (trees_of v.device - 1)) (slice_set s.table (block_of v.device (stage_tree v.device 0) x) (new_leaf v.device (stage_tree v.device 0) x + 1))
-names_set v s x h =
-    let d : Sizes = v.device in
+names_set : (d : Sizes) (o : ℕ) (s : State) (x : Submission) → IsHealthy d o s →
+    All (λ e. e ≤ 2 ^ depth_of d (trees_of d - 1)) (slice_set s.table (block_of d (stage_tree d 0) x) (new_leaf d (stage_tree d 0) x + 1))
+names_set d o s x h =
     let small : new_leaf d (stage_tree d 0) x < 2 ^ depth_of d (stage_tree d 0) = mod-lt (slice_index x.words (2 * stage_tree d 0 + 1)) (pow_pos (depth_of d (stage_tree d 0))) in
     All-set (λ e. e ≤ 2 ^ depth_of d (trees_of d - 1)) s.table (block_of d (stage_tree d 0) x) (new_leaf d (stage_tree d 0) x + 1)
     (subst (λ (i : ℕ). new_leaf d (stage_tree d 0) x + 1 ≤ 2 ^ depth_of d i) (last_tree d) (omega arith)) h.names
 
-kept_before : (d : Sizes) (i : ℕ) (before : List ℕ) → i ≡ 0 → length before ≡ d.block_bytes → length (kept_of i before) ≡ d.block_bytes
-kept_before d zero before none long = long
-kept_before d (suc i) before none long = absurd (omega arith)
+-- the block of tree 0 is kept at a command's last store, and nothing before
+kept_long : (d : Sizes) (i : ℕ) (before : List ℕ) → length before ≡ d.block_bytes → length (kept_of i before) ≡ (if i == 0 then d.block_bytes else 0)
+kept_long d zero before long = long
+kept_long d (suc i) before long = let none : (suc i == 0) ≡ false = grind (arith, nat_tests) in rw none refl
 
+kept_here : (d : Sizes) (stage : ℕ) (before : List ℕ) → stage < 2 * trees_of d → stage % 2 ≡ 0 → length before ≡ d.block_bytes →
+    length (kept_of (stage_tree d stage) before) ≡ (if stage + 1 + 1 == 2 * trees_of d then d.block_bytes else 0)
+kept_here d stage before within even long =
+    kept_long d (stage_tree d stage) before long ∙ ap (λ (b : Bool). if b then d.block_bytes else 0) (let same : (stage_tree d stage == 0) ≡ (stage + 1 + 1 == 2 * trees_of d) = same_test (stage_tree d stage) (stage + 1 + 1) (2 * trees_of d) (λ e. omega (arith, within, even, e)) (λ e. omega (arith, within, even, e)) in same)
+  where
+    same_test : (a m n : ℕ) → (a ≡ 0 → m ≡ n) → (m ≡ n → a ≡ 0) → (a == 0) ≡ (m == n)
+    same_test a m n to from = elim (cases_eq a 0) [
+      | inl none ↦ let e : m ≡ n = to none in grind (arith, nat_tests, e, none)
+      | inr some ↦ let e : m ≢ n = λ same. some (from same) in grind (arith, nat_tests, e, some)
+    ]
+
+-- what a map block names for the tree below is a leaf there, and tree 0 names none
 named_next : (d : Sizes) (stage : ℕ) (x : Submission) (before : List ℕ) → stage < 2 * trees_of d → stage % 2 ≡ 0 → next_named d (stage_tree d stage) x before ≤ 2 ^ depth_of d (stage_tree d stage - 1) →
-    next_named d (stage_tree d stage) x before ≤ 2 ^ depth_of d (stage_tree d (stage + 1 + (stage + 1) % 2))
-named_next d stage x before within even fits = subst (λ (i : ℕ). next_named d (stage_tree d stage) x before ≤ 2 ^ depth_of d i) (omega arith) fits
+    next_named d (stage_tree d stage) x before ≤ most_named d (stage + 1)
+named_next d stage x before within even fits = elim (cases_eq (stage + 1 + 1) (2 * trees_of d)) [
+  | inl end ↦
+      let none : 0 ≡ next_named d (stage_tree d stage) x before = named_none d (stage_tree d stage) x before (omega (arith, within, even, end)) in
+      subst (λ (k : ℕ). next_named d (stage_tree d stage) x before ≤ k) (sym (most_at_end d (stage + 1) end)) (omega (arith, none))
+  | inr more ↦
+      let below : stage_tree d stage - 1 ≡ stage_tree d (stage + 1 + (stage + 1) % 2) = omega (arith, within, even) in
+      subst (λ (k : ℕ). next_named d (stage_tree d stage) x before ≤ k) (sym (most_amid d (stage + 1) (omega arith) more)) (subst (λ (i : ℕ). next_named d (stage_tree d stage) x before ≤ 2 ^ depth_of d i) below fits)
+]
 
 -- the path of an access goes back
-pub sound_stored : (v : Shape) (s : State) (x : Submission) (rest : List Submission) (before records : List ℕ) → IsSound v s → s.queue ≡ x ∷ rest → s.stage % 2 ≡ 0 → length before ≡ v.device.block_bytes →
-    next_named v.device (stage_tree v.device s.stage) x before ≤ 2 ^ depth_of v.device (stage_tree v.device s.stage - 1) →
-    (let d = v.device in
+pub sound_stored : (d : Sizes) (o : ℕ) (s : State) (x : Submission) (rest : List Submission) (before records : List ℕ) → IsSound d o s → s.failure ≡ None → s.queue ≡ x ∷ rest → s.stage % 2 ≡ 0 → length before ≡ d.block_bytes →
+    length records ≡ (depth_of d (stage_tree d s.stage) + 1) * record_len_of d o →
+    next_named d (stage_tree d s.stage) x before ≤ 2 ^ depth_of d (stage_tree d s.stage - 1) →
+    (let d = d in
     let i = stage_tree d s.stage in
-    IsSound v (record s {
+    IsSound d o (record s {
       table = if s.stage == 0 then slice_set s.table (block_of d i x) (new_leaf d i x + 1) else s.table;
       nonce = s.nonce + (depth_of d i + 1);
       stage = s.stage + 1;
@@ -265,109 +431,146 @@ pub sound_stored : (v : Shape) (s : State) (x : Submission) (rest : List Submiss
       before = kept_of i before;
       last = store_body i (asked s.last).leaf records;
     }))
-sound_stored v s x rest before records h queue even long fits =
-    let d : Sizes = v.device in
+sound_stored d o s x rest before records h alive queue even long whole fits =
     let i : ℕ = stage_tree d s.stage in
     let leaf : ℕ = (asked s.last).leaf in
-    let work : IsAtWork v s x = subst (AtWork v s) queue h.work in
-    let within : s.stage < 2 * trees_of d = h.stage in
-    let asks : asked (store_body i leaf records) ≡ record { fetch = false; tree = i; leaf = leaf } = asked_store i leaf records (small_leaf d i leaf work.leaf) in
-    let next_tree : stage_tree d (s.stage + 1) ≡ i = omega arith in
-    record {
-      ranges = h.ranges;
-      overhead = h.overhead;
-      table = elim (s.stage == 0) as (λ b. length (if b then slice_set s.table (block_of d i x) (new_leaf d i x + 1) else s.table) ≡ blocks_in d (trees_of d - 1)) [ true ↦ length-set s.table (block_of d i x) (new_leaf d i x + 1) ∙ h.table | false ↦ h.table ];
+    let q = healthy_of d o s h alive in
+    let work : Outstanding d s x = at_hand d o s x rest h alive queue in
+    let within : s.stage < 2 * trees_of d = work.stage in
+    let n : ℕ = s.next - length s.queue in
+    let next_tree : i ≡ stage_tree d (s.stage + 1) = omega (arith, even) in
+    let t : State = record s {
+      table = if s.stage == 0 then slice_set s.table (block_of d i x) (new_leaf d i x + 1) else s.table;
+      nonce = s.nonce + (depth_of d i + 1);
+      stage = s.stage + 1;
+      named = next_named d i x before;
+      before = kept_of i before;
+      last = store_body i leaf records;
+    } in
+    let stored : IsStoreOf d o i t.last = record { leaf = leaf; inside = work.leaf; stores = record { records = records; long = whole; body = refl } } in
+    sound_by d o t h.ranges h.small h.next alive (record {
+      table = elim (s.stage == 0) as (λ b. length (if b then slice_set s.table (block_of d i x) (new_leaf d i x + 1) else s.table) ≡ blocks_in d (trees_of d - 1)) [ true ↦ length-set s.table (block_of d i x) (new_leaf d i x + 1) ∙ q.table | false ↦ q.table ];
       names = elim (cases_eq s.stage 0) [
-        | inl first ↦ let e : (s.stage == 0) ≡ true = grind (arith, nat_tests) in rw (e, first) (names_set v s x h)
-        | inr later ↦ let e : (s.stage == 0) ≡ false = grind (arith, nat_tests) in rw e h.names
+        | inl first ↦ let e : (s.stage == 0) ≡ true = grind (arith, nat_tests) in rw (e, first) (names_set d o s x q)
+        | inr later ↦ let e : (s.stage == 0) ≡ false = grind (arith, nat_tests) in rw e q.names
       ];
-      count = h.count;
-      kept = h.kept;
-      next = h.next;
-      queue = h.queue;
-      most = h.most;
-      begun = h.begun;
-      stage = omega arith;
-      work = subst (AtWork v _) (sym queue) (record {
-        header = omega (arith, length-append (to_be_bytes w32 leaf) records);
-        leaf = rw (asks, next_tree) work.leaf;
-        fetch = λ odd. absurd (omega arith);
-        store = λ odd. rw (asks, next_tree) refl;
+      count = q.count;
+      kept = q.kept;
+      queue = q.queue;
+      tickets = q.tickets;
+      most = q.most;
+      begun = q.begun;
+      work = subst (AtWork d o t) (sym queue) (record {
+        stage = omega (arith, within, even);
+        fetch = λ turn. absurd (omega (arith, even, turn));
+        store = λ odd. subst (λ (k : ℕ). IsStoreOf d o k t.last) next_tree stored;
         named = named_next d s.stage x before within even fits;
-        before = λ end. kept_before d i before (omega arith) long;
+        before = kept_here d s.stage before within even long;
       });
-      nonce = let n = h.nonce in let deep : depth_of d i ≤ 24 = depth_small d i in omega arith;
-    }
+      nonce = ap (λ (k : ℕ). k + (depth_of d i + 1)) q.nonce ∙ sym (next_stored d n s.stage within even);
+    })
 
 -- the states that the code writes down
 
-pub begun_as : (v : Shape) (s : State) (x : Submission) (queue : List Submission) (last : List ℕ) → IsSound v s → s.failure ≡ None → length s.queue ≡ 0 → s.next < v.device.lifetime → IsAllowed v.device x →
-    queue ≡ s.queue ++ x ∷ [] → last ≡ first_message v s x → IsSound v (record s { next = s.next + 1; queue = queue; last = last })
-begun_as v s x queue last h alive none room allowed q l =
-    subst (λ (ms : List ℕ). IsSound v (record s { next = s.next + 1; queue = queue; last = ms })) (sym l)
-    (subst (λ (xs : List Submission). IsSound v (record s { next = s.next + 1; queue = xs; last = first_message v s x })) (sym q) (sound_begun v s x h alive none room allowed))
+pub begun_as : (d : Sizes) (o : ℕ) (s : State) (x : Submission) (queue : List Submission) (last : List ℕ) → IsSound d o s → s.failure ≡ None → length s.queue ≡ 0 → s.next < d.lifetime → IsAllowed d x → x.ticket ≡ s.next →
+    queue ≡ s.queue ++ x ∷ [] → last ≡ first_message d s x → IsSound d o (record s { next = s.next + 1; queue = queue; last = last })
+begun_as d o s x queue last h alive none room allowed ticket q l =
+    subst (λ (ms : List ℕ). IsSound d o (record s { next = s.next + 1; queue = queue; last = ms })) (sym l)
+    (subst (λ (xs : List Submission). IsSound d o (record s { next = s.next + 1; queue = xs; last = first_message d s x })) (sym q) (sound_begun d o s x h alive none room allowed ticket))
 
-pub fetched_as : (v : Shape) (s : State) (x : Submission) (rest : List Submission) (last : List ℕ) → IsSound v s → s.queue ≡ x ∷ rest → s.stage % 2 ≡ 1 → s.stage + 1 < 2 * trees_of v.device →
-    last ≡ fetch_of (fetch_at v.device (s.stage + 1) s.named x) → IsSound v (record s { stage = s.stage + 1; last = last })
-fetched_as v s x rest last h queue odd more l =
-    subst (λ (ms : List ℕ). IsSound v (record s { stage = s.stage + 1; last = ms })) (sym l) (sound_fetched v s x rest h queue odd more)
+pub fetched_as : (d : Sizes) (o : ℕ) (s : State) (x : Submission) (rest : List Submission) (last : List ℕ) → IsSound d o s → s.failure ≡ None → s.queue ≡ x ∷ rest → s.stage % 2 ≡ 1 → s.stage + 1 < 2 * trees_of d →
+    last ≡ fetch_of (fetch_at d (s.stage + 1) s.named x) → IsSound d o (record s { stage = s.stage + 1; last = last })
+fetched_as d o s x rest last h alive queue odd more l =
+    subst (λ (ms : List ℕ). IsSound d o (record s { stage = s.stage + 1; last = ms })) (sym l) (sound_fetched d o s x rest h alive queue odd more)
 
-pub finished_as : (v : Shape) (s : State) (x : Submission) (rest queue : List Submission) (before last : List ℕ) → IsSound v s → s.queue ≡ x ∷ rest → s.lost ≡ false → s.stage + 1 ≡ 2 * trees_of v.device →
-    queue ≡ rest → before ≡ [] → last ≡ latest (first_messages v s rest) s.last → IsSound v (record s { queue = queue; stage = 0; named = 0; before = before; last = last })
-finished_as v s x rest queue before last h is calm end q b l =
-    subst (λ (ms : List ℕ). IsSound v (record s { queue = queue; stage = 0; named = 0; before = before; last = ms })) (sym l)
-    (subst (λ (bs : List ℕ). IsSound v (record s { queue = queue; stage = 0; named = 0; before = bs; last = latest (first_messages v s rest) s.last })) (sym b)
-    (subst (λ (xs : List Submission). IsSound v (record s { queue = xs; stage = 0; named = 0; before = []; last = latest (first_messages v s rest) s.last })) (sym q)
-    (subst (λ (ms : List ℕ). IsSound v (record s { queue = rest; stage = 0; named = 0; before = []; last = ms })) (next_latest v s rest) (sound_finished v s x rest h is calm end))))
+pub finished_as : (d : Sizes) (o : ℕ) (s : State) (x : Submission) (rest queue : List Submission) (before last : List ℕ) → IsSound d o s → s.failure ≡ None → s.queue ≡ x ∷ rest → s.lost ≡ false → s.stage + 1 ≡ 2 * trees_of d →
+    queue ≡ rest → before ≡ [] → last ≡ latest (first_messages d s rest) [] → IsSound d o (record s { queue = queue; stage = 0; named = 0; before = before; last = last })
+finished_as d o s x rest queue before last h alive is calm end q b l =
+    subst (λ (ms : List ℕ). IsSound d o (record s { queue = queue; stage = 0; named = 0; before = before; last = ms })) (sym l)
+    (subst (λ (bs : List ℕ). IsSound d o (record s { queue = queue; stage = 0; named = 0; before = bs; last = latest (first_messages d s rest) [] })) (sym b)
+    (subst (λ (xs : List Submission). IsSound d o (record s { queue = xs; stage = 0; named = 0; before = []; last = latest (first_messages d s rest) [] })) (sym q)
+    (sound_finished d o s x rest h alive is calm end)))
 
-pub stored_as : (v : Shape) (s : State) (x : Submission) (rest : List Submission) (before records table : List ℕ) (nonce named : ℕ) (kept last : List ℕ) → IsSound v s → s.queue ≡ x ∷ rest → s.stage % 2 ≡ 0 → length before ≡ v.device.block_bytes →
-    next_named v.device (stage_tree v.device s.stage) x before ≤ 2 ^ depth_of v.device (stage_tree v.device s.stage - 1) →
-    (let d = v.device in
+pub stored_as : (d : Sizes) (o : ℕ) (s : State) (x : Submission) (rest : List Submission) (before records table : List ℕ) (nonce named : ℕ) (kept last : List ℕ) → IsSound d o s → s.failure ≡ None → s.queue ≡ x ∷ rest → s.stage % 2 ≡ 0 → length before ≡ d.block_bytes →
+    length records ≡ (depth_of d (stage_tree d s.stage) + 1) * record_len_of d o →
+    next_named d (stage_tree d s.stage) x before ≤ 2 ^ depth_of d (stage_tree d s.stage - 1) →
+    (let d = d in
     let i = stage_tree d s.stage in
     table ≡ (if s.stage == 0 then slice_set s.table (block_of d i x) (new_leaf d i x + 1) else s.table) → nonce ≡ s.nonce + (depth_of d i + 1) → named ≡ next_named d i x before → kept ≡ kept_of i before → last ≡ store_body i (asked s.last).leaf records →
-    IsSound v (record s { table = table; nonce = nonce; stage = s.stage + 1; named = named; before = kept; last = last }))
-stored_as v s x rest before records table nonce named kept last h queue even long fits t n m k l =
-    let d : Sizes = v.device in
+    IsSound d o (record s { table = table; nonce = nonce; stage = s.stage + 1; named = named; before = kept; last = last }))
+stored_as d o s x rest before records table nonce named kept last h alive queue even long whole fits t n m k l =
     let i : ℕ = stage_tree d s.stage in
     let remapped : List ℕ = if s.stage == 0 then slice_set s.table (block_of d i x) (new_leaf d i x + 1) else s.table in
     let body : List ℕ = store_body i (asked s.last).leaf records in
     let next : ℕ = next_named d i x before in
-    subst (λ (ts : List ℕ). IsSound v (record s { table = ts; nonce = nonce; stage = s.stage + 1; named = named; before = kept; last = last })) (sym t)
-    (subst (λ (z : ℕ). IsSound v (record s { table = remapped; nonce = z; stage = s.stage + 1; named = named; before = kept; last = last })) (sym n)
-    (subst (λ (z : ℕ). IsSound v (record s { table = remapped; nonce = s.nonce + (depth_of d i + 1); stage = s.stage + 1; named = z; before = kept; last = last })) (sym m)
-    (subst (λ (bs : List ℕ). IsSound v (record s { table = remapped; nonce = s.nonce + (depth_of d i + 1); stage = s.stage + 1; named = next; before = bs; last = last })) (sym k)
-    (subst (λ (ms : List ℕ). IsSound v (record s { table = remapped; nonce = s.nonce + (depth_of d i + 1); stage = s.stage + 1; named = next; before = kept_of i before; last = ms })) (sym l)
-    (sound_stored v s x rest before records h queue even long fits)))))
+    subst (λ (ts : List ℕ). IsSound d o (record s { table = ts; nonce = nonce; stage = s.stage + 1; named = named; before = kept; last = last })) (sym t)
+    (subst (λ (z : ℕ). IsSound d o (record s { table = remapped; nonce = z; stage = s.stage + 1; named = named; before = kept; last = last })) (sym n)
+    (subst (λ (z : ℕ). IsSound d o (record s { table = remapped; nonce = s.nonce + (depth_of d i + 1); stage = s.stage + 1; named = z; before = kept; last = last })) (sym m)
+    (subst (λ (bs : List ℕ). IsSound d o (record s { table = remapped; nonce = s.nonce + (depth_of d i + 1); stage = s.stage + 1; named = next; before = bs; last = last })) (sym k)
+    (subst (λ (ms : List ℕ). IsSound d o (record s { table = remapped; nonce = s.nonce + (depth_of d i + 1); stage = s.stage + 1; named = next; before = kept_of i before; last = ms })) (sym l)
+    (sound_stored d o s x rest before records h alive queue even long whole fits)))))
 
 -- a command is at work, and its message is outstanding
-pub record HasOldest (v : Shape) (s : State) : Type 0 where
+pub record HasOldest (d : Sizes) (s : State) : Type 0 where
   pub oldest : Submission
   pub rest : List Submission
   pub queue : s.queue ≡ oldest ∷ rest
   pub healthy : s.failure ≡ None
   pub calm : s.lost ≡ false
-  pub work : IsAtWork v s oldest
+  pub work : Outstanding d s oldest
 
-oldest_by : (v : Shape) (s : State) (failure : Option Reason) (queue : List Submission) (lost : Bool) → s.failure ≡ failure → s.queue ≡ queue → s.lost ≡ lost → status_by failure queue lost ≡ Waiting → AtWork v s queue → HasOldest v s
-oldest_by v s (Some e) queue lost f q l now w = absurd (let no_way : Over ≡ Waiting = now in cc)
-oldest_by v s None [] lost f q l now w = absurd (let no_way : Idle ≡ Waiting = now in cc)
-oldest_by v s None (x ∷ rest) true f q l now w = absurd (let no_way : Stalling ≡ Waiting = now in cc)
-oldest_by v s None (x ∷ rest) false f q l now w = record { oldest = x; rest = rest; queue = q; healthy = f; calm = l; work = w }
+oldest_by : (d : Sizes) (o : ℕ) (s : State) (failure : Option Reason) (queue : List Submission) (lost : Bool) → IsSound d o s → s.failure ≡ failure → s.queue ≡ queue → s.lost ≡ lost → status_by failure queue lost ≡ Waiting → HasOldest d s
+oldest_by d o s (Some e) queue lost h f q l now = absurd (let no_way : Over ≡ Waiting = now in cc)
+oldest_by d o s None [] lost h f q l now = absurd (let no_way : Idle ≡ Waiting = now in cc)
+oldest_by d o s None (x ∷ rest) true h f q l now = absurd (let no_way : Stalling ≡ Waiting = now in cc)
+oldest_by d o s None (x ∷ rest) false h f q l now = record { oldest = x; rest = rest; queue = q; healthy = f; calm = l; work = at_hand d o s x rest h f q }
 
-pub has_oldest : (v : Shape) (s : State) → IsSound v s → status_in s ≡ Waiting → HasOldest v s
-has_oldest v s h now = oldest_by v s s.failure s.queue s.lost refl refl refl now h.work
+pub has_oldest : (d : Sizes) (o : ℕ) (s : State) → IsSound d o s → status_in s ≡ Waiting → HasOldest d s
+has_oldest d o s h now = oldest_by d o s s.failure s.queue s.lost h refl refl refl now
 
--- the nonces of a command's stores fit
-pub nonce_small : (v : Shape) (s : State) → IsSound v s → s.nonce + depth_of v.device (stage_tree v.device s.stage) < 2 ^ 64
-nonce_small v s h =
-    let few : trees_of v.device ≤ 13 = trees_of-few v.device h.ranges in
-    let deep : depth_of v.device (stage_tree v.device s.stage) ≤ 24 = depth_small v.device (stage_tree v.device s.stage) in
-    let n = h.nonce in
-    let t = h.next in
-    let l : v.device.lifetime ≤ 2 ^ 40 = h.ranges.few_lifetime in
-    let g : s.stage < 2 * trees_of v.device = h.stage in
-    omega arith
+-- a core with a command has not failed
+pub some_healthy : (d : Sizes) (o : ℕ) (s : State) → IsSound d o s → 0 < length s.queue → s.failure ≡ None
+some_healthy d o s h some = elim s.failure as (λ f. IsWhole d o s f → f ≡ None) [
+  | None ↦ λ w. refl
+  | Some e ↦ λ w. absurd (let none : length s.queue ≡ 0 = ap (λ (t : State). length t.queue) w.1 in omega (arith, some, none))
+] h.whole
+
+-- how many buckets are sealed in the formatting and for one command, at most
+buckets_small : (d : Sizes) (n : ℕ) → buckets_below d n ≤ 25 * n
+unfolding buckets_below
+buckets_small d zero = omega arith
+buckets_small d (suc n) = let deep : depth_of d n ≤ 24 = depth_small d n in omega (arith, buckets_small d n)
+
+-- the nonces that are left are many
+pub nonce_low : (d : Sizes) (o : ℕ) (s : State) → IsSound d o s → s.failure ≡ None → s.nonce < 2 ^ 62
+nonce_low d o s h alive =
+    let q = healthy_of d o s h alive in
+    let few : trees_of d ≤ 13 = trees_of-few d h.ranges in
+    let n : ℕ = s.next - length s.queue in
+    let one : buckets_below d (trees_of d) ≤ 25 * 13 = omega (arith, buckets_small d (trees_of d), few) in
+    let l : d.lifetime ≤ 2 ^ 40 = h.ranges.few_lifetime in
+    let many : n * buckets_below d (trees_of d) ≤ 2 ^ 40 * (25 * 13) = mul-le-mul (let t = h.next in let low : n ≤ 2 ^ 40 = omega (arith, t, l) in low) one in
+    let f : formatted d ≤ 13 * 2 ^ 25 = let small = formatted_small d (trees_of d) in omega (arith, small, few) in
+    let is = q.nonce in
+    omega (arith, is, many, f, one)
+
+-- those of a command's store fit
+pub nonce_small : (d : Sizes) (o : ℕ) (s : State) → IsSound d o s → s.failure ≡ None → s.nonce + depth_of d (stage_tree d s.stage) < 2 ^ 64
+nonce_small d o s h alive =
+    let deep : depth_of d (stage_tree d s.stage) ≤ 24 = depth_small d (stage_tree d s.stage) in
+    omega (arith, nonce_low d o s h alive, deep)
+
+stage_by : (d : Sizes) (overhead : ℕ) (s : State) (queue : List Submission) → AtWork d overhead s queue → s.stage < 2 * trees_of d
+stage_by d overhead s [] w = let some : 0 < trees_of d = some_trees d in omega (arith, w.stage, some)
+stage_by d overhead s (x ∷ rest) w = w.stage
+
+-- the entry at work is one of a command's
+pub stage_within : (d : Sizes) (o : ℕ) (s : State) → IsSound d o s → s.stage < 2 * trees_of d
+stage_within d o s h = elim s.failure as (λ f. IsWhole d o s f → s.stage < 2 * trees_of d) [
+  | None ↦ λ w. stage_by d o s s.queue w.work
+  | Some e ↦ λ w. let none : s.stage ≡ 0 = ap (λ (t : State). t.stage) w.1 in let some : 0 < trees_of d = some_trees d in omega (arith, none, some)
+] h.whole
 
 -- the tree at work is one of the device's
-pub tree_within : (v : Shape) (s : State) → IsSound v s → stage_tree v.device s.stage < trees_of v.device
-tree_within v s h = let some : 0 < trees_of v.device = some_trees v.device in omega arith
+pub tree_within : (d : Sizes) (o : ℕ) (s : State) → IsSound d o s → stage_tree d s.stage < trees_of d
+tree_within d o s h = let some : 0 < trees_of d = some_trees d in omega (arith, some)

@@ -1,17 +1,21 @@
 -- A core as plain data, and what holds of each.
-use Rattle.std.specs.Prelude.{◌≡◌, ℕ, ◌+◌, ◌-◌, ◌*◌, ◌/◌, ◌%◌, ◌^◌, ◌<◌, ◌≤◌, false, List, [], ◌∷◌, length, slice_index_or, Option, None}
+use Rattle.std.specs.Prelude.{◌≡◌, ℕ, ◌+◌, ◌-◌, ◌*◌, ◌%◌, ◌^◌, ◌<◌, ◌≤◌, ◌==◌, if◌then◌else◌, false, List, [], ◌∷◌, length, slice_index_or, Option, Some, None}
 use Rattle.std.specs.List.{All}
 use Rattle.oram_geometry.specs.declared.Sizes.{Sizes}
-use Rattle.oram_geometry.specs.Sizes.{IsDevice, trees_of, depth_of, blocks_in}
+use Rattle.oram_geometry.specs.Sizes.{IsDevice, trees_of, depth_of, blocks_in, record_len_of}
 use Rattle.oram_bucket.specs.Bucket.{IsBlockOf}
 use Rattle.oram_tree.specs.State.{State as Tree}
-use Rattle.oram_run.specs.Agree.{IsAllowed}
+use Rattle.oram_wire.specs.HostMessages.{store_body}
+use Rattle.oram_run.specs.Agree.{IsAllowed, TicketsFrom}
 use Rattle.oram_run.specs.Shape.{Shape}
 use Rattle.oram_run.specs.Content.{stage_tree}
-use Rattle.oram_run.specs.Messages.{asked}
 use Rattle.oram_run.specs.Moves.{fetch_at}
-use Rattle.oram_run.specs.State.{State, named_now, no_tree}
+use Rattle.oram_run.specs.Nonces.{next_nonce}
+use Rattle.oram_run.specs.State.{State, failed_state, named_now, no_tree}
+use Rattle.oram_run.specs.declared.events.Reason.{Reason}
+use Rattle.oram_run.specs.declared.events.Reason.TheVariants.{Malformed, Tampered, HostRefused}
 use Rattle.oram_run.specs.declared.events.Submission.{Submission}
+use Rattle.oram_core.specs.Doing.{fetch_of}
 
 -- what a clause sees of a core
 pub record CoreValue (S : Type 0) : Type 0 where
@@ -36,44 +40,71 @@ pub record IsTreeKept (d : Sizes) (i : ℕ) (t : Tree) : Type 0 where
   pub number : t.number ≡ i
   pub blocks : All (IsBlockOf d i) t.stash
 
--- The oldest command is at work. The held name is that of a leaf of the tree that is fetched next, or was fetched last.
-pub record IsAtWork (v : Shape) (s : State) (x : Submission) : Type 0 where
-  pub header : 6 ≤ length s.last
-  pub leaf : (asked s.last).leaf < 2 ^ depth_of v.device (stage_tree v.device s.stage)
-  pub fetch : s.stage % 2 ≡ 0 → asked s.last ≡ fetch_at v.device s.stage (named_now v s x) x
-  pub store : s.stage % 2 ≡ 1 → asked s.last ≡ record { fetch = false; tree = stage_tree v.device s.stage; leaf = (asked s.last).leaf }
-  pub named : s.named ≤ 2 ^ depth_of v.device (stage_tree v.device (s.stage + s.stage % 2))
-  pub before : s.stage + 1 ≡ 2 * trees_of v.device → length s.before ≡ v.device.block_bytes
+-- the STORE of this path of tree i
+pub record IsPathStore (d : Sizes) (overhead i leaf : ℕ) (message : List ℕ) : Type 0 where
+  pub records : List ℕ
+  pub long : length records ≡ (depth_of d i + 1) * record_len_of d overhead
+  pub body : message ≡ store_body i leaf records
 
--- no command is at work, and the device has not failed
+-- a STORE of some path of tree i
+pub record IsStoreOf (d : Sizes) (overhead i : ℕ) (message : List ℕ) : Type 0 where
+  pub leaf : ℕ
+  pub inside : leaf < 2 ^ depth_of d i
+  pub stores : IsPathStore d overhead i leaf message
+
+-- The most that may be named for a block at this entry of a command: a leaf of the tree that is fetched next, or was fetched last.
+-- At the first fetch the table names it, and behind the last one there is none.
+abbrev pub most_named : Sizes → ℕ → ℕ
+most_named d stage = if stage == 0 then 0 else if stage + 1 == 2 * trees_of d then 0 else 2 ^ depth_of d (stage_tree d (stage + stage % 2))
+
+-- The oldest command is at work: its message is the FETCH of the leaf that is named for its block, or the STORE of a path of that
+-- tree. The block of tree 0 is held at the last one.
+pub record IsAtWork (d : Sizes) (overhead : ℕ) (s : State) (x : Submission) : Type 0 where
+  pub stage : s.stage < 2 * trees_of d
+  pub fetch : s.stage % 2 ≡ 0 → s.last ≡ fetch_of (fetch_at d s.stage (named_now d s x) x)
+  pub store : s.stage % 2 ≡ 1 → IsStoreOf d overhead (stage_tree d s.stage) s.last
+  pub named : s.named ≤ most_named d s.stage
+  pub before : length s.before ≡ (if s.stage + 1 == 2 * trees_of d then d.block_bytes else 0)
+
+-- no command is at work
 pub record IsResting (s : State) : Type 0 where
   pub stage : s.stage ≡ 0
   pub named : s.named ≡ 0
+  pub before : s.before ≡ []
+  pub last : s.last ≡ []
   pub lost : s.lost ≡ false
 
-abbrev pub AtWork : Shape → State → List Submission → Type 0
-AtWork v s [] = s.failure ≡ None → IsResting s
-AtWork v s (x ∷ rest) = IsAtWork v s x
+abbrev pub AtWork : Sizes → ℕ → State → List Submission → Type 0
+AtWork d overhead s [] = IsResting s
+AtWork d overhead s (x ∷ rest) = IsAtWork d overhead s x
 
--- most buckets that are sealed in the formatting, and for one command
-abbrev pub most_formatted : ℕ
-most_formatted = 13 * 2 ^ 25
-
-abbrev pub most_sealed : ℕ
-most_sealed = 13 * 25
-
--- what holds of each core
-pub record IsSound (v : Shape) (s : State) : Type 0 where
-  pub ranges : IsDevice v.device
-  pub overhead : v.overhead ≤ 64
-  pub table : length s.table ≡ blocks_in v.device (trees_of v.device - 1)
-  pub names : All (λ e. e ≤ 2 ^ depth_of v.device (trees_of v.device - 1)) s.table
-  pub count : length s.trees ≡ trees_of v.device
-  pub kept : (i : ℕ) → i < trees_of v.device → IsTreeKept v.device i (slice_index_or s.trees i no_tree)
-  pub next : s.next ≤ v.device.lifetime
-  pub queue : All (IsAllowed v.device) s.queue
+-- a core that has not failed
+pub record IsHealthy (d : Sizes) (overhead : ℕ) (s : State) : Type 0 where
+  pub table : length s.table ≡ blocks_in d (trees_of d - 1)
+  pub names : All (λ e. e ≤ 2 ^ depth_of d (trees_of d - 1)) s.table
+  pub count : length s.trees ≡ trees_of d
+  pub kept : (i : ℕ) → i < trees_of d → IsTreeKept d i (slice_index_or s.trees i no_tree)
+  pub queue : All (IsAllowed d) s.queue
+  pub tickets : TicketsFrom (s.next - length s.queue) s.queue
   pub most : length s.queue ≤ 64
   pub begun : length s.queue ≤ s.next
-  pub stage : s.stage < 2 * trees_of v.device
-  pub work : AtWork v s s.queue
-  pub nonce : s.nonce ≤ most_formatted + most_sealed * (s.next - length s.queue) + 25 * ((s.stage + 1) / 2)
+  pub work : AtWork d overhead s s.queue
+  pub nonce : s.nonce ≡ next_nonce d (s.next - length s.queue) s.stage
+
+-- a reason names a tree of the device and a level of it, or a code of the host
+abbrev pub IsReasonOf : Sizes → Reason → Type 0
+IsReasonOf d Malformed = Unit {0}
+IsReasonOf d (Tampered i level) = (i < trees_of d) × (level ≤ depth_of d i)
+IsReasonOf d (HostRefused code) = (0 < code) × (code < 8)
+
+-- one that has failed holds nothing else
+abbrev pub IsWhole : Sizes → ℕ → State → Option Reason → Type 0
+IsWhole d overhead s None = IsHealthy d overhead s
+IsWhole d overhead s (Some e) = IsReasonOf d e × (s ≡ failed_state s.next s.nonce e)
+
+-- what holds of each core, under a sealer of this overhead
+pub record IsSound (d : Sizes) (overhead : ℕ) (s : State) : Type 0 where
+  pub ranges : IsDevice d
+  pub small : overhead ≤ 64
+  pub next : s.next ≤ d.lifetime
+  pub whole : IsWhole d overhead s s.failure

@@ -1,6 +1,7 @@
 -- What the steps of a core do that ask nothing of the trees.
 use Rattle.std.specs.Prelude.{ℕ, ◌+◌, ◌-◌, ◌^◌, ◌==◌, ◌&&◌, ◌||◌, not, Bool, true, false, if◌then◌else◌, List, [], ◌∷◌, ◌++◌, length, slice_index, slice_set, Option, Some, None, map, nat_lt}
 use Rattle.std.specs.Str.{bytes_eq}
+use Rattle.oram_geometry.specs.declared.Sizes.{Sizes}
 use Rattle.oram_geometry.specs.Sizes.{trees_of, depth_of}
 use Rattle.oram_trace.specs.declared.asked.Entry.{Entry}
 use Rattle.oram_wire.specs.HostMessages.{fetch_body, store_body}
@@ -13,7 +14,7 @@ use Rattle.oram_run.specs.Blocks.{body_from, next_named, kept_of}
 use Rattle.oram_run.specs.Progress.{Status}
 use Rattle.oram_run.specs.Progress.Status.{Idle, Waiting, Stalling, Over}
 use Rattle.oram_run.specs.Run.{refusal_of, is_over}
-use Rattle.oram_run.specs.State.{State, named_now, status_in}
+use Rattle.oram_run.specs.State.{State, failed_state, named_now, status_in}
 use Rattle.oram_run.specs.declared.events.Event.{Event}
 use Rattle.oram_run.specs.declared.events.Event.TheVariants.{Submit, Answer, Lost, Reopen, Retry}
 use Rattle.oram_run.specs.declared.events.Note.{Note}
@@ -43,12 +44,12 @@ abbrev pub fetch_of : Entry → List ℕ
 fetch_of e = fetch_body e.tree e.leaf
 
 -- the first FETCH of a command
-abbrev pub first_message : Shape → State → Submission → List ℕ
-first_message v s x = fetch_of (fetch_at v.device 0 (slice_index s.table (block_of v.device (trees_of v.device - 1) x)) x)
+abbrev pub first_message : Sizes → State → Submission → List ℕ
+first_message d s x = fetch_of (fetch_at d 0 (slice_index s.table (block_of d (trees_of d - 1) x)) x)
 
-abbrev pub first_messages : Shape → State → List Submission → List (List ℕ)
-first_messages v s [] = []
-first_messages v s (x ∷ rest) = first_message v s x ∷ []
+abbrev pub first_messages : Sizes → State → List Submission → List (List ℕ)
+first_messages d s [] = []
+first_messages d s (x ∷ rest) = first_message d s x ∷ []
 
 abbrev pub sent_if_idle : List Submission → List ℕ → List (List ℕ)
 sent_if_idle [] m = m ∷ []
@@ -56,7 +57,7 @@ sent_if_idle (x ∷ rest) m = []
 
 abbrev pub accepted_by : Shape → State → Submission → Done
 accepted_by v s x =
-    let sends = sent_if_idle s.queue (first_message v s x) in
+    let sends = sent_if_idle s.queue (first_message v.device s x) in
     record { note = Accepted x.ticket; replies = []; sends = sends; state = record s { next = s.next + 1; queue = s.queue ++ x ∷ []; last = latest sends s.last } }
 
 abbrev pub stalled_by : State → Done
@@ -66,7 +67,7 @@ abbrev pub resent_by : State → Done
 resent_by s = record { note = Resent; replies = []; sends = s.last ∷ []; state = record s { lost = false } }
 
 abbrev pub failed_by : State → Reason → Done
-failed_by s e = record { note = FailedNow e; replies = map failed_reply s.queue; sends = []; state = record s { queue = []; failure = Some e } }
+failed_by s e = record { note = FailedNow e; replies = map failed_reply s.queue; sends = []; state = failed_state s.next s.nonce e }
 
 -- the next tree's path is fetched
 abbrev pub fetched_by : Shape → State → Submission → Done
@@ -77,12 +78,12 @@ fetched_by v s x =
 -- the oldest command has its reply
 abbrev pub finished_by : Shape → State → Submission → List Submission → Done
 finished_by v s x rest =
-    let sends = first_messages v s rest in
+    let sends = first_messages v.device s rest in
     record {
       note = Taken;
       replies = (record { session = x.session; ticket = x.ticket; body = body_from s.before x.command }) ∷ [];
       sends = sends;
-      state = record s { queue = rest; stage = 0; named = 0; before = []; last = latest sends s.last };
+      state = record s { queue = rest; stage = 0; named = 0; before = []; last = latest sends [] };
     }
 
 -- a path is stored, in a tree that holds the access already
@@ -121,7 +122,7 @@ is_stalled Over = false
 abbrev pub is_misled : Shape → State → Submission → Bool → List ℕ → Bool
 is_misled v s x found before =
     let i = stage_tree v.device s.stage in
-    (not (named_now v s x == 0) && not found) || (nat_lt 0 i && nat_lt (2 ^ depth_of v.device (i - 1)) (next_named v.device i x before))
+    (not (named_now v.device s x == 0) && not found) || (nat_lt 0 i && nat_lt (2 ^ depth_of v.device (i - 1)) (next_named v.device i x before))
 
 -- a submission is refused, or joins the queue
 abbrev pub submitted_by : Shape → State → Submission → Option Refusal → Done

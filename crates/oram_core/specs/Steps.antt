@@ -6,7 +6,7 @@ use Rattle.oram_run.specs.Moves.{Fits, Moves, shows_in}
 use Rattle.oram_run.specs.Progress.Status.{Waiting}
 use Rattle.oram_run.specs.Run.{Shown}
 use Rattle.oram_run.specs.Shape.{Shape}
-use Rattle.oram_run.specs.State.{State, World, status_in}
+use Rattle.oram_run.specs.State.{State, World, failed_state, status_in}
 use Rattle.oram_run.specs.declared.events.Event.{Event}
 use Rattle.oram_run.specs.declared.events.Event.TheVariants.{Answer}
 use Rattle.oram_run.specs.declared.events.Note.TheVariants.{Taken, FailedNow}
@@ -18,16 +18,13 @@ use Rattle.oram_core.specs.Judging.{IsVerdict}
 abbrev pub did : Shown → State → Done
 did x t = record { note = x.note; replies = x.replies; sends = x.sends; state = t }
 
--- the device fails, and each command without a reply is answered so
+-- the device fails, each command without a reply is answered so, and the core forgets its trees
 pub record Fails (s : State) (d : Done) : Type 0 where
   pub reason : Reason
   pub note : d.note ≡ FailedNow reason
   pub replies : d.replies ≡ map failed_reply s.queue
   pub sends : d.sends ≡ []
-  pub queue : d.state.queue ≡ []
-  pub failure : d.state.failure ≡ Some reason
-  pub next : d.state.next ≡ s.next
-  pub nonce : d.state.nonce ≡ s.nonce
+  pub state : d.state ≡ failed_state s.next s.nonce reason
 
 -- the oldest command's next message goes out
 pub record GoesOn (v : Shape) (s : State) (d : Done) : Type 0 where

@@ -7,7 +7,7 @@ ghost use Rattle.oram_run.specs.Moves.{Fits, MovesTo, on_answer};
 ghost use Rattle.oram_run.specs.Progress.Status.{Waiting};
 ghost use Rattle.oram_run.specs.Run.{shown};
 ghost use Rattle.oram_run.specs.State.{World, status_in};
-ghost use Rattle.oram_core.specs.Core.{IsSameDevice, shape_of};
+ghost use Rattle.oram_core.specs.Core.{IsReasonOf, IsSameDevice, shape_of};
 ghost use Rattle.oram_core.specs.Steps.{Heard};
 ghost use Rattle.oram_core.specs.Judging.{IsVerdict};
 ghost use Rattle.oram_core.specs.Doing.{done, stalled_by, failed_by};
@@ -16,6 +16,7 @@ use crate::machine::Core;
 use crate::messages::failed_replies;
 use crate::verdicts::Verdict;
 use oram_bucket::Sealer;
+use oram_bytes::Bytes;
 use oram_run::{Note, Reaction, Reason, Reply};
 use std::alloc::{AllocError, Global};
 
@@ -47,13 +48,21 @@ impl<S: Sealer> Core<S> {
         }
     }
 
-    /// The device is of no more use: each command without a reply is answered so.
+    /// The device is of no more use: each command without a reply is answered so, and the trees are forgotten.
     pub(crate) fn fail(&mut self, alloc: Global, reason: Reason, replies: Vec<Reply>) -> Reaction
-        requires { replies.items ≡ map failed_reply self.old.state.queue }
+        requires replies { replies.items ≡ map failed_reply self.old.state.queue }
+        requires reason { IsReasonOf self.old.device reason }
         ensures kept { IsSameDevice self.old self.new }
         ensures ok { done result self.new.state ≡ failed_by self.old.state reason }
     {
+        self.table = Vec::new(alloc);
+        self.trees = Vec::new(alloc);
         self.queue.clear();
+        self.stage = 0;
+        self.named = 0;
+        self.before = Bytes::from_vec(Vec::new(alloc));
+        self.last = Bytes::from_vec(Vec::new(alloc));
+        self.lost = false;
         self.failure = Some(reason);
         Reaction {
             note: Note::FailedNow(reason),

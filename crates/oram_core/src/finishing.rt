@@ -144,7 +144,7 @@ impl<S: Sealer> Core<S> {
         requires last { self.old.state.stage + 1 ≡ 2 * trees_of self.old.device }
         requires next { let v = shape_of S.overhead S.sealing S.opening self.old in
             (x y : Submission) (rest : List Submission) → self.old.state.queue ≡ x ∷ y ∷ rest
-            → sending.kept ≡ first_message v self.old.state y }
+            → sending.kept ≡ first_message v.device self.old.state y }
         requires sends { sending.sends.items ≡ sending.kept ∷ [] }
         requires more { 1 < length self.old.state.queue }
         ensures kept { IsSameDevice self.old self.new }
@@ -176,6 +176,7 @@ impl<S: Sealer> Core<S> {
         let replies = replied(alloc, &mut self.queue, &mut self.before)?;
         self.stage = 0;
         self.named = 0;
+        self.last = Bytes::from_vec(Vec::new(alloc));
         Ok(Reaction {
             note: Note::Taken,
             replies,

@@ -76,21 +76,19 @@ impl<S: Sealer> Model for Core<S> {
       };
     } };
 
-    ghost invariant = { λ c. IsSound
-        (record { device = c.device; overhead = S.overhead c.sealer; sealing = S.sealing c.sealer; opening = S.opening c.sealer })
-        (record {
-          table = c.table.items;
-          trees = c.trees.items;
-          next = c.next;
-          nonce = c.nonce;
-          queue = c.queue.items;
-          stage = c.stage;
-          named = c.named;
-          before = c.before;
-          last = c.last;
-          lost = c.lost;
-          failure = c.failure;
-        }) };
+    ghost invariant = { λ c. IsSound c.device (S.overhead c.sealer) (record {
+      table = c.table.items;
+      trees = c.trees.items;
+      next = c.next;
+      nonce = c.nonce;
+      queue = c.queue.items;
+      stage = c.stage;
+      named = c.named;
+      before = c.before;
+      last = c.last;
+      lost = c.lost;
+      failure = c.failure;
+    }) };
 }
 
 impl<S: Sealer> Core<S> {
@@ -122,12 +120,12 @@ impl<S: Sealer> Core<S> {
         self.queue.is_empty() && self.failure.is_none()
     }
 
-    /// How many blocks of a tree lie in no bucket.
+    /// How many blocks of a tree lie in no bucket; none once the device has failed, which forgets its trees.
     pub fn stash_len(&self, tree: u8) -> usize
         requires { tree < trees_of self.now.device }
         ensures { result ≡ length (slice_index_or self.now.state.trees tree no_tree).stash }
     {
-        self.trees[usize::from(tree)].stash_len()
+        self.trees.get(usize::from(tree)).map_or(0, Tree::stash_len)
     }
 
     /// Why the device failed, if it did.
@@ -238,11 +236,12 @@ impl<S: Sealer> Core<S> {
     /// An idle core fetches the first path of a command.
     fn begin(&mut self, alloc: Global, submission: Submission) -> Result<Reaction, AllocError>
         requires allowed { IsAllowed self.old.device submission }
+        requires ticket { submission.ticket ≡ self.old.state.next }
         requires healthy { self.old.state.failure ≡ None }
         requires idle { length self.old.state.queue ≡ 0 }
         requires lifetime { self.old.state.next < self.old.device.lifetime }
         ensures kept { IsSameDevice self.old self.new }
-        ensures ok { let s = self.old.state in let m = first_message (shape_of S.overhead S.sealing S.opening self.old) s submission in
+        ensures ok { let s = self.old.state in let m = first_message self.old.device s submission in
             IfOk result (λ r. done r self.new.state ≡ record {
               note = note.Accepted s.next;
               replies = [];
@@ -266,6 +265,7 @@ impl<S: Sealer> Core<S> {
     /// A command waits behind the others.
     fn enqueue(&mut self, alloc: Global, submission: Submission) -> Result<Reaction, AllocError>
         requires allowed { IsAllowed self.old.device submission }
+        requires ticket { submission.ticket ≡ self.old.state.next }
         requires some { 0 < length self.old.state.queue }
         requires few { length self.old.state.queue < 64 }
         requires lifetime { self.old.state.next < self.old.device.lifetime }
@@ -311,11 +311,12 @@ impl<S: Sealer> Core<S> {
         alloc: Global,
         submission: &Submission,
     ) -> Result<Sending, AllocError>
-        requires { IsAllowed self.now.device submission.now }
+        requires healthy { self.now.state.failure ≡ None }
+        requires allowed { IsAllowed self.now.device submission.now }
         ensures kept { let v = shape_of S.overhead S.sealing S.opening self.now in
-            IfOk result (λ s. s.kept ≡ first_message v self.now.state submission.now) }
+            IfOk result (λ s. s.kept ≡ first_message v.device self.now.state submission.now) }
         ensures sends { let v = shape_of S.overhead S.sealing S.opening self.now in
-            IfOk result (λ s. s.sends.items ≡ first_message v self.now.state submission.now ∷ []) }
+            IfOk result (λ s. s.sends.items ≡ first_message v.device self.now.state submission.now ∷ []) }
     {
         let tree = self.device.trees() - 1;
         let block = self.device.address_in(tree, submission.command.address());

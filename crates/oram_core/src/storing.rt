@@ -15,7 +15,7 @@ ghost use Rattle.oram_run.specs.Progress.Status.{Waiting};
 ghost use Rattle.oram_run.specs.Run.{shown};
 ghost use Rattle.oram_run.specs.State.{World, status_in};
 ghost use Rattle.oram_run.specs.declared.events.Submission.{Submission};
-ghost use Rattle.oram_core.specs.Core.{IsSameDevice, shape_of};
+ghost use Rattle.oram_core.specs.Core.{IsPathStore, IsSameDevice, shape_of};
 ghost use Rattle.oram_core.specs.Steps.{Heard};
 ghost use Rattle.oram_core.specs.Judging.{IsUseOf};
 ghost use Rattle.oram_core.specs.Doing.{done, failed_by, stored_by, is_misled};
@@ -105,6 +105,7 @@ impl<S: Sealer> Core<S> {
     /// Whether what was found is not what the map leads to: a block that the map names is missing, or what it names for
     /// the tree below is no leaf there.
     fn is_misled(&self, errand: &Errand, found: bool, named: u32) -> bool
+        requires healthy { self.now.state.failure ≡ None }
         requires tree { errand.now.tree ≡ stage_tree self.now.device self.now.state.stage }
         requires range { errand.now.tree < trees_of self.now.device }
         requires block { errand.now.block < blocks_in self.now.device errand.now.tree }
@@ -139,7 +140,7 @@ impl<S: Sealer> Core<S> {
         requires ranges { (errand.tree < trees_of self.old.device) × (errand.block < blocks_in self.old.device errand.tree)
             × (errand.leaf < 2 ^ depth_of self.old.device errand.tree) × (errand.new_leaf < 2 ^ depth_of self.old.device errand.tree) }
         requires whole { length lookup.before.items ≡ self.old.device.block_bytes }
-        requires message { (records : List ℕ) × (message.items ≡ store_body errand.tree errand.leaf records) }
+        requires message { IsPathStore self.old.device (S.overhead self.old.sealer) errand.tree errand.leaf message.items }
         requires room { IsRoom (length message.items) (length self.old.state.queue) room }
         ensures kept { IsSameDevice self.old self.new }
         ensures ok { let v = shape_of S.overhead S.sealing S.opening self.old in let s = self.old.state in
@@ -171,7 +172,7 @@ impl<S: Sealer> Core<S> {
         requires stage { self.old.state.stage % 2 ≡ 0 }
         requires tree { errand.tree ≡ stage_tree self.old.device self.old.state.stage }
         requires whole { length before.items ≡ self.old.device.block_bytes }
-        requires sending { (records : List ℕ) × (sending.kept ≡ store_body errand.tree (asked self.old.state.last).leaf records)
+        requires sending { IsPathStore self.old.device (S.overhead self.old.sealer) errand.tree (asked self.old.state.last).leaf sending.kept
             × (sending.sends.items ≡ sending.kept ∷ []) }
         requires oldest { (x : Submission) (rest : List Submission) → self.old.state.queue ≡ x ∷ rest
             → (errand.block ≡ block_of self.old.device errand.tree x) × (errand.new_leaf ≡ new_leaf self.old.device errand.tree x)

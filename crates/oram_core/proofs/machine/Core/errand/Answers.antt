@@ -20,5 +20,5 @@ returns-clause-ranges g c =
     let block = subst (λ (v : CoreValue g.row.S.Denot). c.address_in.result < blocks_in v.device tree) c.self.view_is c.address_in.ensures.range in
     let new = subst (λ (v : CoreValue g.row.S.Denot). c.new_leaf.result < 2 ^ depth_of v.device tree) c.self.view_is c.new_leaf.ensures.range in
     let waits = subst (λ (v : CoreValue g.row.S.Denot). status_in v.state ≡ Waiting) (sym c.self.view_is) c.requires in
-    let leaf = subst (λ (v : CoreValue g.row.S.Denot). (asked v.state.last).leaf < 2 ^ depth_of v.device (stage_tree v.device v.state.stage)) c.self.view_is (leaf_here _ _ c.self.invariant waits) in
+    let leaf = subst (λ (v : CoreValue g.row.S.Denot). (asked v.state.last).leaf < 2 ^ depth_of v.device (stage_tree v.device v.state.stage)) c.self.view_is (leaf_here _ _ _ c.self.invariant waits) in
     (c.tree_at_work-tree.ensures.range, block, rw (leaf_is, c.tree_at_work-tree.ensures.value) leaf, new)

@@ -4,13 +4,13 @@ use Rattle.oram_run.specs.Moves.{fetch_at}
 use Rattle.oram_run.specs.Progress.Status.{Waiting}
 use Rattle.oram_run.specs.State.{status_in}
 use Rattle.oram_run.specs.declared.events.Submission.{Submission}
-use Rattle.oram_core.specs.Core.{CoreValue}
+use Rattle.oram_core.specs.Core.{CoreValue, shape_with}
 use Rattle.oram_core.specs.Doing.{fetch_of}
 use Rattle.oram_core.proofs.Closing.{stage_small, fetch_sound, fetched_so}
 use Rattle.oram_core.proofs.machine.Core.fetch_next.Goals as goal
 
 pub overflow_add-self : goal.overflow_add-self
-overflow_add-self g c = omega (arith, stage_small _ _ c.self.invariant)
+overflow_add-self g c = omega (arith, stage_small _ _ _ c.self.invariant)
 
 pub invariant_of-self : goal.invariant_of-self
 invariant_of-self g c =
@@ -19,11 +19,11 @@ invariant_of-self g c =
     let odd = subst (λ (v : CoreValue g.row.S.Denot). v.state.stage % 2 ≡ 1) same c.requires.stage in
     let more = subst (λ (v : CoreValue g.row.S.Denot). v.state.stage + 1 < 2 * trees_of v.device) same c.requires.more in
     let fetch = subst (λ (v : CoreValue g.row.S.Denot). (x : Submission) (rest : List Submission) → v.state.queue ≡ x ∷ rest → c.in_ok-kept.field-0.kept ≡ fetch_of (fetch_at v.device (v.state.stage + 1) v.state.named x)) same c.in_ok-kept.ensures.kept in
-    fetch_sound _ _ _ c.self.invariant waits odd more fetch
+    fetch_sound _ _ _ _ c.self.invariant waits odd more fetch
 
 pub returns-clause-ok : goal.returns-clause-ok
 returns-clause-ok g c = λ x rest q.
     let same = sym c.self.view_is in
     let fetch = subst (λ (v : CoreValue g.row.S.Denot). (x : Submission) (rest : List Submission) → v.state.queue ≡ x ∷ rest → c.in_ok-kept.field-0.kept ≡ fetch_of (fetch_at v.device (v.state.stage + 1) v.state.named x)) same c.in_ok-kept.ensures.kept in
     let queue = subst (λ (v : CoreValue g.row.S.Denot). v.state.queue ≡ x ∷ rest) same q in
-    rw (← c.self.view_is) (fetched_so _ _ x _ _ _ c.self.invariant (fetch x rest queue) c.in_ok-kept.ensures.sends c.new.ensures.items)
+    rw (← c.self.view_is) (fetched_so (shape_with g.S.Sealer.overhead g.S.Sealer.sealing g.S.Sealer.opening c.self.inside.device c.self.inside.sealer) _ x _ _ _ c.self.invariant (fetch x rest queue) c.in_ok-kept.ensures.sends c.new.ensures.items)

@@ -3,7 +3,7 @@ use Rattle.oram_geometry.specs.Sizes.{trees_of}
 use Rattle.oram_run.specs.Progress.Status.{Waiting}
 use Rattle.oram_run.specs.State.{status_in}
 use Rattle.oram_run.specs.declared.events.Submission.{Submission}
-use Rattle.oram_core.specs.Core.{CoreValue, shape_of}
+use Rattle.oram_core.specs.Core.{CoreValue, shape_with}
 use Rattle.oram_core.specs.Doing.{first_message}
 use Rattle.oram_core.proofs.Closing.{pass_sound, passed_by}
 use Rattle.oram_core.proofs.machine.Core.finish_before_next.Goals as goal
@@ -14,13 +14,13 @@ invariant_of-self-2 g c =
     let waits = subst (λ (v : CoreValue g.row.S.Denot). status_in v.state ≡ Waiting) same c.requires.waiting in
     let end = subst (λ (v : CoreValue g.row.S.Denot). v.state.stage + 1 ≡ 2 * trees_of v.device) same c.requires.last in
     let more = subst (λ (v : CoreValue g.row.S.Denot). 1 < length v.state.queue) same c.requires.more in
-    let next = subst (λ (v : CoreValue g.row.S.Denot). (x y : Submission) (rest : List Submission) → v.state.queue ≡ x ∷ y ∷ rest → c.args.sending.kept ≡ first_message (shape_of g.S.Sealer.overhead g.S.Sealer.sealing g.S.Sealer.opening v) v.state y) same c.requires.next in
-    pass_sound _ _ _ _ _ c.self.invariant waits end more next c.in_ok-replies.ensures.queue c.in_ok-replies.ensures.ok
+    let next = subst (λ (v : CoreValue g.row.S.Denot). (x y : Submission) (rest : List Submission) → v.state.queue ≡ x ∷ y ∷ rest → c.args.sending.kept ≡ first_message v.device v.state y) same c.requires.next in
+    pass_sound _ _ _ _ _ _ c.self.invariant waits end more next c.in_ok-replies.ensures.queue c.in_ok-replies.ensures.ok
 
 pub returns-clause-ok : goal.returns-clause-ok
 returns-clause-ok g c = λ x rest q.
     let same = sym c.self.view_is in
     let more = subst (λ (v : CoreValue g.row.S.Denot). 1 < length v.state.queue) same c.requires.more in
-    let next = subst (λ (v : CoreValue g.row.S.Denot). (x y : Submission) (rest : List Submission) → v.state.queue ≡ x ∷ y ∷ rest → c.args.sending.kept ≡ first_message (shape_of g.S.Sealer.overhead g.S.Sealer.sealing g.S.Sealer.opening v) v.state y) same c.requires.next in
+    let next = subst (λ (v : CoreValue g.row.S.Denot). (x y : Submission) (rest : List Submission) → v.state.queue ≡ x ∷ y ∷ rest → c.args.sending.kept ≡ first_message v.device v.state y) same c.requires.next in
     let queue = subst (λ (v : CoreValue g.row.S.Denot). v.state.queue ≡ x ∷ rest) same q in
-    rw (← c.self.view_is) (passed_by _ _ x rest _ _ _ _ _ c.self.invariant queue more next (c.in_ok-replies.ensures.replies x rest queue) c.requires.sends c.in_ok-replies.ensures.queue c.in_ok-replies.ensures.ok)
+    rw (← c.self.view_is) (passed_by (shape_with g.S.Sealer.overhead g.S.Sealer.sealing g.S.Sealer.opening c.self.inside.device c.self.inside.sealer) _ x rest _ _ _ _ _ c.self.invariant queue more next (c.in_ok-replies.ensures.replies x rest queue) c.requires.sends c.in_ok-replies.ensures.queue c.in_ok-replies.ensures.ok)

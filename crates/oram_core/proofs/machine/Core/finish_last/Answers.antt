@@ -1,8 +1,8 @@
-use Rattle.std.proofs.Common.{◌≡◌, ◌+◌, ◌*◌, ◌∷◌, length, sym, subst}
+use Rattle.std.proofs.Common.{◌≡◌, ◌+◌, ◌*◌, ◌∷◌, length, sym, subst, ◌∙◌}
 use Rattle.oram_geometry.specs.Sizes.{trees_of}
 use Rattle.oram_run.specs.Progress.Status.{Waiting}
 use Rattle.oram_run.specs.State.{status_in}
-use Rattle.oram_core.specs.Core.{CoreValue}
+use Rattle.oram_core.specs.Core.{CoreValue, shape_with}
 use Rattle.oram_core.proofs.Closing.{end_sound, ended_by}
 use Rattle.oram_core.proofs.machine.Core.finish_last.Goals as goal
 
@@ -12,11 +12,11 @@ invariant_of-self-2 g c =
     let waits = subst (λ (v : CoreValue g.row.S.Denot). status_in v.state ≡ Waiting) same c.requires.waiting in
     let end = subst (λ (v : CoreValue g.row.S.Denot). v.state.stage + 1 ≡ 2 * trees_of v.device) same c.requires.last in
     let alone = subst (λ (v : CoreValue g.row.S.Denot). length v.state.queue ≡ 1) same c.requires.alone in
-    end_sound _ _ _ _ c.self.invariant waits end alone c.in_ok-replies.ensures.queue c.in_ok-replies.ensures.ok
+    end_sound _ _ _ _ _ _ c.self.invariant waits end alone c.in_ok-replies.ensures.queue c.in_ok-replies.ensures.ok (c.from_vec.ensures ∙ c.new.ensures.items)
 
 pub returns-clause-ok : goal.returns-clause-ok
 returns-clause-ok g c = λ x rest q.
     let same = sym c.self.view_is in
     let alone = subst (λ (v : CoreValue g.row.S.Denot). length v.state.queue ≡ 1) same c.requires.alone in
     let queue = subst (λ (v : CoreValue g.row.S.Denot). v.state.queue ≡ x ∷ rest) same q in
-    rw (← c.self.view_is) (ended_by _ _ x rest _ _ _ _ c.self.invariant queue alone (c.in_ok-replies.ensures.replies x rest queue) c.new.ensures.items c.in_ok-replies.ensures.queue c.in_ok-replies.ensures.ok)
+    rw (← c.self.view_is) (ended_by (shape_with g.S.Sealer.overhead g.S.Sealer.sealing g.S.Sealer.opening c.self.inside.device c.self.inside.sealer) _ x rest _ _ _ _ _ c.self.invariant queue alone (c.in_ok-replies.ensures.replies x rest queue) c.new-2.ensures.items c.in_ok-replies.ensures.queue c.in_ok-replies.ensures.ok (c.from_vec.ensures ∙ c.new.ensures.items))

@@ -21,4 +21,4 @@ invariant_of-result g c =
     let v = shape_with g.S.Sealer.overhead g.S.Sealer.sealing g.S.Sealer.opening d c.args.sealer in
     let table_is = c.in_ok-table.ensures.items_if_clones_equal (λ y e. e) ∙ ap (λ (n : ℕ). replicate n 0) (c.blocks_in-blocks.ensures.count ∙ ap (λ (n : ℕ). blocks_in d (n - 1)) c.trees.ensures.count) in
     new_sound v g.K.Sink.putting c.args.sink.now c.format_trees.new.sink c.in_ok-trees.field-0.trees.items _ c.trees.ensures.ranges (g.met.S.Sealer.small c.args.sealer) c.in_ok-trees.ensures.made
-    table_is refl refl c.in_ok-trees.ensures.nonce c.new.ensures.items refl refl refl
+    table_is refl refl c.in_ok-trees.ensures.nonce c.new.ensures.items refl refl (c.from_vec.ensures ∙ c.new-2.ensures.items) (c.from_vec-2.ensures ∙ c.new-3.ensures.items) refl refl

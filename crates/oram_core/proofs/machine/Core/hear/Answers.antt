@@ -1,6 +1,5 @@
-use Rattle.std.proofs.Common.{◌≡◌, ap, sym, subst}
+use Rattle.std.proofs.Common.{sym, subst}
 use Rattle.oram_core.specs.Core.{shape_of}
-use Rattle.oram_core.specs.Doing.{Done}
 use Rattle.oram_core.specs.Judging.{IsVerdict}
 use Rattle.oram_core.specs.Verdicts.{Means, Tells}
 use Rattle.oram_run.specs.Answers.Outcome.{Good}

@@ -19,17 +19,17 @@ pub check-requires-clause-leaf : goal.check-requires-clause-leaf
 check-requires-clause-leaf g c =
     let now = c.args.self.now in
     let v = shape_of g.S.Sealer.overhead g.S.Sealer.sealing g.S.Sealer.opening now in
-    let sound : IsSound v now.state = subst (λ (u : CoreValue g.row.S.Denot). IsSound (shape_of g.S.Sealer.overhead g.S.Sealer.sealing g.S.Sealer.opening u) u.state) c.self.view_is c.self.invariant in
-    let t : IsTreeAt v now.state c.index.result.now = tree_at v now.state c.index.result.now c.from.result c.tree_at_work-tree.result sound c.from.ensures c.tree_at_work-tree.ensures.value (subst (λ (u : CoreValue g.row.S.Denot). c.index.result.now ≡ slice_index_or u.state.trees c.from.result c.index.result.now) c.self.view_is c.index.ensures) in
+    let sound : IsSound v.device v.overhead now.state = subst (λ (u : CoreValue g.row.S.Denot). IsSound u.device (g.S.Sealer.overhead u.sealer) u.state) c.self.view_is c.self.invariant in
+    let t : IsTreeAt v now.state c.index.result.now = tree_at v now.state c.index.result.now c.from.result c.tree_at_work-tree.result sound c.requires.waiting c.from.ensures c.tree_at_work-tree.ensures.value (subst (λ (u : CoreValue g.row.S.Denot). c.index.result.now ≡ slice_index_or u.state.trees c.from.result c.index.result.now) c.self.view_is c.index.ensures) in
     let leaf_is : c.leaf_named-leaf.result ≡ (asked now.state.last).leaf = c.leaf_named-leaf.ensures ∙ ap message_place (c.as_slice.ensures ∙ ap (λ (u : CoreValue g.row.S.Denot). u.state.last) c.self.view_is) ∙ asked_leaf _ in
-    subst (λ (u : CoreValue g.row.S.Denot). c.leaf_named-leaf.result < 2 ^ depth_of u.device c.index.result.now.number) (sym c.self.view_is) (rw (leaf_is, t.number) (leaf_here v now.state sound c.requires.waiting))
+    subst (λ (u : CoreValue g.row.S.Denot). c.leaf_named-leaf.result < 2 ^ depth_of u.device c.index.result.now.number) (sym c.self.view_is) (rw (leaf_is, t.number) (leaf_here v.device v.overhead now.state sound c.requires.waiting))
 
 pub returns-in-Ok-clause-means : goal.returns-in-Ok-clause-means
 returns-in-Ok-clause-means g c = λ w fits apart.
     let now = c.args.self.now in
     let v = shape_of g.S.Sealer.overhead g.S.Sealer.sealing g.S.Sealer.opening now in
-    let sound : IsSound v now.state = subst (λ (u : CoreValue g.row.S.Denot). IsSound (shape_of g.S.Sealer.overhead g.S.Sealer.sealing g.S.Sealer.opening u) u.state) c.self.view_is c.self.invariant in
-    let t : IsTreeAt v now.state c.index.result.now = tree_at v now.state c.index.result.now c.from.result c.tree_at_work-tree.result sound c.from.ensures c.tree_at_work-tree.ensures.value (subst (λ (u : CoreValue g.row.S.Denot). c.index.result.now ≡ slice_index_or u.state.trees c.from.result c.index.result.now) c.self.view_is c.index.ensures) in
+    let sound : IsSound v.device v.overhead now.state = subst (λ (u : CoreValue g.row.S.Denot). IsSound u.device (g.S.Sealer.overhead u.sealer) u.state) c.self.view_is c.self.invariant in
+    let t : IsTreeAt v now.state c.index.result.now = tree_at v now.state c.index.result.now c.from.result c.tree_at_work-tree.result sound c.requires.waiting c.from.ensures c.tree_at_work-tree.ensures.value (subst (λ (u : CoreValue g.row.S.Denot). c.index.result.now ≡ slice_index_or u.state.trees c.from.result c.index.result.now) c.self.view_is c.index.ensures) in
     let leaf_is : c.leaf_named-leaf.result ≡ (asked now.state.last).leaf = c.leaf_named-leaf.ensures ∙ ap message_place (c.as_slice.ensures ∙ ap (λ (u : CoreValue g.row.S.Denot). u.state.last) c.self.view_is) ∙ asked_leaf _ in
     let device_is : c.self.inside.device ≡ now.device = ap (λ (u : CoreValue g.row.S.Denot). u.device) c.self.view_is in
     let overhead_is : c.overhead-overhead.result ≡ v.overhead = c.overhead-overhead.ensures ∙ ap (λ (u : CoreValue g.row.S.Denot). g.S.Sealer.overhead u.sealer) c.self.view_is in
@@ -44,8 +44,8 @@ pub returns-in-Ok-clause-tells : goal.returns-in-Ok-clause-tells
 returns-in-Ok-clause-tells g c =
     let now = c.args.self.now in
     let v = shape_of g.S.Sealer.overhead g.S.Sealer.sealing g.S.Sealer.opening now in
-    let sound : IsSound v now.state = subst (λ (u : CoreValue g.row.S.Denot). IsSound (shape_of g.S.Sealer.overhead g.S.Sealer.sealing g.S.Sealer.opening u) u.state) c.self.view_is c.self.invariant in
-    let t : IsTreeAt v now.state c.index.result.now = tree_at v now.state c.index.result.now c.from.result c.tree_at_work-tree.result sound c.from.ensures c.tree_at_work-tree.ensures.value (subst (λ (u : CoreValue g.row.S.Denot). c.index.result.now ≡ slice_index_or u.state.trees c.from.result c.index.result.now) c.self.view_is c.index.ensures) in
+    let sound : IsSound v.device v.overhead now.state = subst (λ (u : CoreValue g.row.S.Denot). IsSound u.device (g.S.Sealer.overhead u.sealer) u.state) c.self.view_is c.self.invariant in
+    let t : IsTreeAt v now.state c.index.result.now = tree_at v now.state c.index.result.now c.from.result c.tree_at_work-tree.result sound c.requires.waiting c.from.ensures c.tree_at_work-tree.ensures.value (subst (λ (u : CoreValue g.row.S.Denot). c.index.result.now ≡ slice_index_or u.state.trees c.from.result c.index.result.now) c.self.view_is c.index.ensures) in
     let leaf_is : c.leaf_named-leaf.result ≡ (asked now.state.last).leaf = c.leaf_named-leaf.ensures ∙ ap message_place (c.as_slice.ensures ∙ ap (λ (u : CoreValue g.row.S.Denot). u.state.last) c.self.view_is) ∙ asked_leaf _ in
     let device_is : c.self.inside.device ≡ now.device = ap (λ (u : CoreValue g.row.S.Denot). u.device) c.self.view_is in
     let overhead_is : c.overhead-overhead.result ≡ v.overhead = c.overhead-overhead.ensures ∙ ap (λ (u : CoreValue g.row.S.Denot). g.S.Sealer.overhead u.sealer) c.self.view_is in
@@ -58,8 +58,8 @@ pub returns-in-Err-Length-clause-tells : goal.returns-in-Err-Length-clause-tells
 returns-in-Err-Length-clause-tells g c =
     let now = c.args.self.now in
     let v = shape_of g.S.Sealer.overhead g.S.Sealer.sealing g.S.Sealer.opening now in
-    let sound : IsSound v now.state = subst (λ (u : CoreValue g.row.S.Denot). IsSound (shape_of g.S.Sealer.overhead g.S.Sealer.sealing g.S.Sealer.opening u) u.state) c.self.view_is c.self.invariant in
-    let t : IsTreeAt v now.state c.index.result.now = tree_at v now.state c.index.result.now c.from.result c.tree_at_work-tree.result sound c.from.ensures c.tree_at_work-tree.ensures.value (subst (λ (u : CoreValue g.row.S.Denot). c.index.result.now ≡ slice_index_or u.state.trees c.from.result c.index.result.now) c.self.view_is c.index.ensures) in
+    let sound : IsSound v.device v.overhead now.state = subst (λ (u : CoreValue g.row.S.Denot). IsSound u.device (g.S.Sealer.overhead u.sealer) u.state) c.self.view_is c.self.invariant in
+    let t : IsTreeAt v now.state c.index.result.now = tree_at v now.state c.index.result.now c.from.result c.tree_at_work-tree.result sound c.requires.waiting c.from.ensures c.tree_at_work-tree.ensures.value (subst (λ (u : CoreValue g.row.S.Denot). c.index.result.now ≡ slice_index_or u.state.trees c.from.result c.index.result.now) c.self.view_is c.index.ensures) in
     let leaf_is : c.leaf_named-leaf.result ≡ (asked now.state.last).leaf = c.leaf_named-leaf.ensures ∙ ap message_place (c.as_slice.ensures ∙ ap (λ (u : CoreValue g.row.S.Denot). u.state.last) c.self.view_is) ∙ asked_leaf _ in
     let device_is : c.self.inside.device ≡ now.device = ap (λ (u : CoreValue g.row.S.Denot). u.device) c.self.view_is in
     let overhead_is : c.overhead-overhead.result ≡ v.overhead = c.overhead-overhead.ensures ∙ ap (λ (u : CoreValue g.row.S.Denot). g.S.Sealer.overhead u.sealer) c.self.view_is in
@@ -70,8 +70,8 @@ pub returns-in-Err-Tampered-clause-tells : goal.returns-in-Err-Tampered-clause-t
 returns-in-Err-Tampered-clause-tells g c =
     let now = c.args.self.now in
     let v = shape_of g.S.Sealer.overhead g.S.Sealer.sealing g.S.Sealer.opening now in
-    let sound : IsSound v now.state = subst (λ (u : CoreValue g.row.S.Denot). IsSound (shape_of g.S.Sealer.overhead g.S.Sealer.sealing g.S.Sealer.opening u) u.state) c.self.view_is c.self.invariant in
-    let t : IsTreeAt v now.state c.index.result.now = tree_at v now.state c.index.result.now c.from.result c.tree_at_work-tree.result sound c.from.ensures c.tree_at_work-tree.ensures.value (subst (λ (u : CoreValue g.row.S.Denot). c.index.result.now ≡ slice_index_or u.state.trees c.from.result c.index.result.now) c.self.view_is c.index.ensures) in
+    let sound : IsSound v.device v.overhead now.state = subst (λ (u : CoreValue g.row.S.Denot). IsSound u.device (g.S.Sealer.overhead u.sealer) u.state) c.self.view_is c.self.invariant in
+    let t : IsTreeAt v now.state c.index.result.now = tree_at v now.state c.index.result.now c.from.result c.tree_at_work-tree.result sound c.requires.waiting c.from.ensures c.tree_at_work-tree.ensures.value (subst (λ (u : CoreValue g.row.S.Denot). c.index.result.now ≡ slice_index_or u.state.trees c.from.result c.index.result.now) c.self.view_is c.index.ensures) in
     let leaf_is : c.leaf_named-leaf.result ≡ (asked now.state.last).leaf = c.leaf_named-leaf.ensures ∙ ap message_place (c.as_slice.ensures ∙ ap (λ (u : CoreValue g.row.S.Denot). u.state.last) c.self.view_is) ∙ asked_leaf _ in
     let device_is : c.self.inside.device ≡ now.device = ap (λ (u : CoreValue g.row.S.Denot). u.device) c.self.view_is in
     let overhead_is : c.overhead-overhead.result ≡ v.overhead = c.overhead-overhead.ensures ∙ ap (λ (u : CoreValue g.row.S.Denot). g.S.Sealer.overhead u.sealer) c.self.view_is in
@@ -83,8 +83,8 @@ pub returns-in-Err-Length-clause-means : goal.returns-in-Err-Length-clause-means
 returns-in-Err-Length-clause-means g c = λ w fits apart.
     let now = c.args.self.now in
     let v = shape_of g.S.Sealer.overhead g.S.Sealer.sealing g.S.Sealer.opening now in
-    let sound : IsSound v now.state = subst (λ (u : CoreValue g.row.S.Denot). IsSound (shape_of g.S.Sealer.overhead g.S.Sealer.sealing g.S.Sealer.opening u) u.state) c.self.view_is c.self.invariant in
-    let t : IsTreeAt v now.state c.index.result.now = tree_at v now.state c.index.result.now c.from.result c.tree_at_work-tree.result sound c.from.ensures c.tree_at_work-tree.ensures.value (subst (λ (u : CoreValue g.row.S.Denot). c.index.result.now ≡ slice_index_or u.state.trees c.from.result c.index.result.now) c.self.view_is c.index.ensures) in
+    let sound : IsSound v.device v.overhead now.state = subst (λ (u : CoreValue g.row.S.Denot). IsSound u.device (g.S.Sealer.overhead u.sealer) u.state) c.self.view_is c.self.invariant in
+    let t : IsTreeAt v now.state c.index.result.now = tree_at v now.state c.index.result.now c.from.result c.tree_at_work-tree.result sound c.requires.waiting c.from.ensures c.tree_at_work-tree.ensures.value (subst (λ (u : CoreValue g.row.S.Denot). c.index.result.now ≡ slice_index_or u.state.trees c.from.result c.index.result.now) c.self.view_is c.index.ensures) in
     let leaf_is : c.leaf_named-leaf.result ≡ (asked now.state.last).leaf = c.leaf_named-leaf.ensures ∙ ap message_place (c.as_slice.ensures ∙ ap (λ (u : CoreValue g.row.S.Denot). u.state.last) c.self.view_is) ∙ asked_leaf _ in
     let device_is : c.self.inside.device ≡ now.device = ap (λ (u : CoreValue g.row.S.Denot). u.device) c.self.view_is in
     let overhead_is : c.overhead-overhead.result ≡ v.overhead = c.overhead-overhead.ensures ∙ ap (λ (u : CoreValue g.row.S.Denot). g.S.Sealer.overhead u.sealer) c.self.view_is in
@@ -95,8 +95,8 @@ pub returns-in-Err-Tampered-clause-means : goal.returns-in-Err-Tampered-clause-m
 returns-in-Err-Tampered-clause-means g c = λ w fits apart.
     let now = c.args.self.now in
     let v = shape_of g.S.Sealer.overhead g.S.Sealer.sealing g.S.Sealer.opening now in
-    let sound : IsSound v now.state = subst (λ (u : CoreValue g.row.S.Denot). IsSound (shape_of g.S.Sealer.overhead g.S.Sealer.sealing g.S.Sealer.opening u) u.state) c.self.view_is c.self.invariant in
-    let t : IsTreeAt v now.state c.index.result.now = tree_at v now.state c.index.result.now c.from.result c.tree_at_work-tree.result sound c.from.ensures c.tree_at_work-tree.ensures.value (subst (λ (u : CoreValue g.row.S.Denot). c.index.result.now ≡ slice_index_or u.state.trees c.from.result c.index.result.now) c.self.view_is c.index.ensures) in
+    let sound : IsSound v.device v.overhead now.state = subst (λ (u : CoreValue g.row.S.Denot). IsSound u.device (g.S.Sealer.overhead u.sealer) u.state) c.self.view_is c.self.invariant in
+    let t : IsTreeAt v now.state c.index.result.now = tree_at v now.state c.index.result.now c.from.result c.tree_at_work-tree.result sound c.requires.waiting c.from.ensures c.tree_at_work-tree.ensures.value (subst (λ (u : CoreValue g.row.S.Denot). c.index.result.now ≡ slice_index_or u.state.trees c.from.result c.index.result.now) c.self.view_is c.index.ensures) in
     let leaf_is : c.leaf_named-leaf.result ≡ (asked now.state.last).leaf = c.leaf_named-leaf.ensures ∙ ap message_place (c.as_slice.ensures ∙ ap (λ (u : CoreValue g.row.S.Denot). u.state.last) c.self.view_is) ∙ asked_leaf _ in
     let device_is : c.self.inside.device ≡ now.device = ap (λ (u : CoreValue g.row.S.Denot). u.device) c.self.view_is in
     let overhead_is : c.overhead-overhead.result ≡ v.overhead = c.overhead-overhead.ensures ∙ ap (λ (u : CoreValue g.row.S.Denot). g.S.Sealer.overhead u.sealer) c.self.view_is in

@@ -11,7 +11,7 @@ returns-then-self-eq0-clause-means g c = c.path_verdict.ensures.means
 pub returns-then-is_empty-clause-means : goal.returns-then-is_empty-clause-means
 returns-then-is_empty-clause-means g c = λ w fits apart.
     let now = c.args.self.now in
-    let sound = subst (λ (u : CoreValue g.row.S.Denot). IsSound (shape_of g.S.Sealer.overhead g.S.Sealer.sealing g.S.Sealer.opening u) u.state) c.self.view_is c.self.invariant in
+    let sound = subst (λ (u : CoreValue g.row.S.Denot). IsSound u.device (g.S.Sealer.overhead u.sealer) u.state) c.self.view_is c.self.invariant in
     let odd : now.state.stage % 2 ≡ 1 = subst (λ (u : CoreValue g.row.S.Denot). u.state.stage % 2 ≡ 1) c.self.view_is (omega arith) in
     let none : length c.args.records.now ≡ 0 = first_of (search rules, grind (arith, common_steps)) in
     stored_means (shape_of g.S.Sealer.overhead g.S.Sealer.sealing g.S.Sealer.opening now) now.state w c.args.records.now sound c.requires odd none
@@ -29,7 +29,7 @@ returns-then-is_empty-clause-tells g c =
 pub returns-clause-means : goal.returns-clause-means
 returns-clause-means g c = λ w fits apart.
     let now = c.args.self.now in
-    let sound = subst (λ (u : CoreValue g.row.S.Denot). IsSound (shape_of g.S.Sealer.overhead g.S.Sealer.sealing g.S.Sealer.opening u) u.state) c.self.view_is c.self.invariant in
+    let sound = subst (λ (u : CoreValue g.row.S.Denot). IsSound u.device (g.S.Sealer.overhead u.sealer) u.state) c.self.view_is c.self.invariant in
     let odd : now.state.stage % 2 ≡ 1 = subst (λ (u : CoreValue g.row.S.Denot). u.state.stage % 2 ≡ 1) c.self.view_is (omega arith) in
     let some : 0 < length c.args.records.now = first_of (search rules, grind (arith, common_steps)) in
     longer_means (shape_of g.S.Sealer.overhead g.S.Sealer.sealing g.S.Sealer.opening now) now.state w c.args.records.now sound c.requires odd some

@@ -1,11 +1,11 @@
-use Rattle.std.proofs.Common.{◌≡◌, ◌++◌, append_assoc, if◌then◌else◌, ℕ, slice_set, ◌+◌, ◌*◌, ◌^◌, ◌<◌, length, ap, MatchResult, OnOk, Err, ◌∷◌, List, slice_index_or, refl, sym, ◌∙◌, subst}
+use Rattle.std.proofs.Common.{◌≡◌, ◌++◌, if◌then◌else◌, ℕ, slice_set, ◌+◌, ◌*◌, ◌^◌, ◌<◌, length, ap, MatchResult, OnOk, Err, ◌∷◌, List, slice_index_or, refl, sym, ◌∙◌, subst}
 use Rattle.std.specs.List.{All}
 use Rattle.oram_geometry.specs.Sizes.{depth_of, trees_of}
 use Rattle.oram_bucket.specs.Bucket.{IsBlockOf}
 use Rattle.oram_run.specs.Content.{block_of, new_leaf}
 use Rattle.oram_run.specs.declared.events.Submission.{Submission}
 use Rattle.oram_core.specs.Core.{CoreValue, IsSound, IsTreeKept, shape_of}
-use Rattle.oram_core.proofs.Sound.{nonce_small, sound_accessed}
+use Rattle.oram_core.proofs.Sound.{nonce_small, sound_accessed, stage_within}
 use Rattle.oram_run.specs.Content.{stage_tree}
 use Rattle.oram_run.specs.declared.events.Reason.TheVariants as reason
 use Rattle.oram_core.specs.Doing.{done, failed_by, stored_by, is_misled}
@@ -34,8 +34,8 @@ pub access_to-looked-requires-clause-old_leaf : goal.access_to-looked-requires-c
 access_to-looked-requires-clause-old_leaf g c =
     let now = c.args.self.now in
     let v = shape_of g.S.Sealer.overhead g.S.Sealer.sealing g.S.Sealer.opening now in
-    let sound : IsSound v now.state = subst (λ (u : CoreValue g.row.S.Denot). IsSound (shape_of g.S.Sealer.overhead g.S.Sealer.sealing g.S.Sealer.opening u) u.state) c.self.view_is c.self.invariant in
-    let t : IsTreeAt v now.state c.index_mut.result.now = tree_at v now.state c.index_mut.result.now c.from.result c.errand-errand.result.tree sound c.from.ensures c.errand-errand.ensures.tree (subst (λ (u : CoreValue g.row.S.Denot). c.index_mut.result.now ≡ slice_index_or u.state.trees c.from.result c.index_mut.result.now) c.self.view_is c.index_mut.ensures.value) in
+    let sound : IsSound v.device v.overhead now.state = subst (λ (u : CoreValue g.row.S.Denot). IsSound u.device (g.S.Sealer.overhead u.sealer) u.state) c.self.view_is c.self.invariant in
+    let t : IsTreeAt v now.state c.index_mut.result.now = tree_at v now.state c.index_mut.result.now c.from.result c.errand-errand.result.tree sound c.requires.waiting c.from.ensures c.errand-errand.ensures.tree (subst (λ (u : CoreValue g.row.S.Denot). c.index_mut.result.now ≡ slice_index_or u.state.trees c.from.result c.index_mut.result.now) c.self.view_is c.index_mut.ensures.value) in
     let number : c.index_mut.result.now.number ≡ c.errand-errand.result.tree = t.number ∙ sym c.errand-errand.ensures.tree in
     subst (λ (u : CoreValue g.row.S.Denot). c.errand-errand.result.leaf < 2 ^ depth_of u.device c.index_mut.result.now.number) (sym c.self.view_is) (rw number c.errand-errand.ensures.ranges.2)
 
@@ -43,8 +43,8 @@ pub access_to-looked-requires-clause-new_leaf : goal.access_to-looked-requires-c
 access_to-looked-requires-clause-new_leaf g c =
     let now = c.args.self.now in
     let v = shape_of g.S.Sealer.overhead g.S.Sealer.sealing g.S.Sealer.opening now in
-    let sound : IsSound v now.state = subst (λ (u : CoreValue g.row.S.Denot). IsSound (shape_of g.S.Sealer.overhead g.S.Sealer.sealing g.S.Sealer.opening u) u.state) c.self.view_is c.self.invariant in
-    let t : IsTreeAt v now.state c.index_mut.result.now = tree_at v now.state c.index_mut.result.now c.from.result c.errand-errand.result.tree sound c.from.ensures c.errand-errand.ensures.tree (subst (λ (u : CoreValue g.row.S.Denot). c.index_mut.result.now ≡ slice_index_or u.state.trees c.from.result c.index_mut.result.now) c.self.view_is c.index_mut.ensures.value) in
+    let sound : IsSound v.device v.overhead now.state = subst (λ (u : CoreValue g.row.S.Denot). IsSound u.device (g.S.Sealer.overhead u.sealer) u.state) c.self.view_is c.self.invariant in
+    let t : IsTreeAt v now.state c.index_mut.result.now = tree_at v now.state c.index_mut.result.now c.from.result c.errand-errand.result.tree sound c.requires.waiting c.from.ensures c.errand-errand.ensures.tree (subst (λ (u : CoreValue g.row.S.Denot). c.index_mut.result.now ≡ slice_index_or u.state.trees c.from.result c.index_mut.result.now) c.self.view_is c.index_mut.ensures.value) in
     let number : c.index_mut.result.now.number ≡ c.errand-errand.result.tree = t.number ∙ sym c.errand-errand.ensures.tree in
     subst (λ (u : CoreValue g.row.S.Denot). c.errand-errand.result.new_leaf < 2 ^ depth_of u.device c.index_mut.result.now.number) (sym c.self.view_is) (rw number c.errand-errand.ensures.ranges.3)
 
@@ -52,17 +52,17 @@ pub access_to-looked-requires-clause-nonces : goal.access_to-looked-requires-cla
 access_to-looked-requires-clause-nonces g c =
     let now = c.args.self.now in
     let v = shape_of g.S.Sealer.overhead g.S.Sealer.sealing g.S.Sealer.opening now in
-    let sound : IsSound v now.state = subst (λ (u : CoreValue g.row.S.Denot). IsSound (shape_of g.S.Sealer.overhead g.S.Sealer.sealing g.S.Sealer.opening u) u.state) c.self.view_is c.self.invariant in
-    let t : IsTreeAt v now.state c.index_mut.result.now = tree_at v now.state c.index_mut.result.now c.from.result c.errand-errand.result.tree sound c.from.ensures c.errand-errand.ensures.tree (subst (λ (u : CoreValue g.row.S.Denot). c.index_mut.result.now ≡ slice_index_or u.state.trees c.from.result c.index_mut.result.now) c.self.view_is c.index_mut.ensures.value) in
+    let sound : IsSound v.device v.overhead now.state = subst (λ (u : CoreValue g.row.S.Denot). IsSound u.device (g.S.Sealer.overhead u.sealer) u.state) c.self.view_is c.self.invariant in
+    let t : IsTreeAt v now.state c.index_mut.result.now = tree_at v now.state c.index_mut.result.now c.from.result c.errand-errand.result.tree sound c.requires.waiting c.from.ensures c.errand-errand.ensures.tree (subst (λ (u : CoreValue g.row.S.Denot). c.index_mut.result.now ≡ slice_index_or u.state.trees c.from.result c.index_mut.result.now) c.self.view_is c.index_mut.ensures.value) in
     let number : c.index_mut.result.now.number ≡ c.errand-errand.result.tree = t.number ∙ sym c.errand-errand.ensures.tree in
-    subst (λ (u : CoreValue g.row.S.Denot). u.state.nonce + depth_of u.device c.index_mut.result.now.number < 2 ^ 64) (sym c.self.view_is) (rw t.number (nonce_small v now.state sound))
+    subst (λ (u : CoreValue g.row.S.Denot). u.state.nonce + depth_of u.device c.index_mut.result.now.number < 2 ^ 64) (sym c.self.view_is) (rw t.number (nonce_small v.device v.overhead now.state sound (waits now.state c.requires.waiting).healthy))
 
 pub access_to-looked-requires-clause-edit : goal.access_to-looked-requires-clause-edit
 access_to-looked-requires-clause-edit g c =
     let now = c.args.self.now in
     let v = shape_of g.S.Sealer.overhead g.S.Sealer.sealing g.S.Sealer.opening now in
-    let sound : IsSound v now.state = subst (λ (u : CoreValue g.row.S.Denot). IsSound (shape_of g.S.Sealer.overhead g.S.Sealer.sealing g.S.Sealer.opening u) u.state) c.self.view_is c.self.invariant in
-    let t : IsTreeAt v now.state c.index_mut.result.now = tree_at v now.state c.index_mut.result.now c.from.result c.errand-errand.result.tree sound c.from.ensures c.errand-errand.ensures.tree (subst (λ (u : CoreValue g.row.S.Denot). c.index_mut.result.now ≡ slice_index_or u.state.trees c.from.result c.index_mut.result.now) c.self.view_is c.index_mut.ensures.value) in
+    let sound : IsSound v.device v.overhead now.state = subst (λ (u : CoreValue g.row.S.Denot). IsSound u.device (g.S.Sealer.overhead u.sealer) u.state) c.self.view_is c.self.invariant in
+    let t : IsTreeAt v now.state c.index_mut.result.now = tree_at v now.state c.index_mut.result.now c.from.result c.errand-errand.result.tree sound c.requires.waiting c.from.ensures c.errand-errand.ensures.tree (subst (λ (u : CoreValue g.row.S.Denot). c.index_mut.result.now ≡ slice_index_or u.state.trees c.from.result c.index_mut.result.now) c.self.view_is c.index_mut.ensures.value) in
     let number : c.index_mut.result.now.number ≡ c.errand-errand.result.tree = t.number ∙ sym c.errand-errand.ensures.tree in
     rw number c.edit_for.ensures.edit
 
@@ -70,8 +70,8 @@ pub access_to-looked-requires-clause-blocks : goal.access_to-looked-requires-cla
 access_to-looked-requires-clause-blocks g c =
     let now = c.args.self.now in
     let v = shape_of g.S.Sealer.overhead g.S.Sealer.sealing g.S.Sealer.opening now in
-    let sound : IsSound v now.state = subst (λ (u : CoreValue g.row.S.Denot). IsSound (shape_of g.S.Sealer.overhead g.S.Sealer.sealing g.S.Sealer.opening u) u.state) c.self.view_is c.self.invariant in
-    let t : IsTreeAt v now.state c.index_mut.result.now = tree_at v now.state c.index_mut.result.now c.from.result c.errand-errand.result.tree sound c.from.ensures c.errand-errand.ensures.tree (subst (λ (u : CoreValue g.row.S.Denot). c.index_mut.result.now ≡ slice_index_or u.state.trees c.from.result c.index_mut.result.now) c.self.view_is c.index_mut.ensures.value) in
+    let sound : IsSound v.device v.overhead now.state = subst (λ (u : CoreValue g.row.S.Denot). IsSound u.device (g.S.Sealer.overhead u.sealer) u.state) c.self.view_is c.self.invariant in
+    let t : IsTreeAt v now.state c.index_mut.result.now = tree_at v now.state c.index_mut.result.now c.from.result c.errand-errand.result.tree sound c.requires.waiting c.from.ensures c.errand-errand.ensures.tree (subst (λ (u : CoreValue g.row.S.Denot). c.index_mut.result.now ≡ slice_index_or u.state.trees c.from.result c.index_mut.result.now) c.self.view_is c.index_mut.ensures.value) in
     let number : c.index_mut.result.now.number ≡ c.errand-errand.result.tree = t.number ∙ sym c.errand-errand.ensures.tree in
     subst (λ (u : CoreValue g.row.S.Denot). All (IsBlockOf u.device c.index_mut.result.now.number) c.index_mut.result.now.stash) (sym c.self.view_is) (rw t.number t.blocks)
 
@@ -83,39 +83,39 @@ pub invariant_of-self : goal.invariant_of-self
 invariant_of-self g c =
     let now = c.args.self.now in
     let v = shape_of g.S.Sealer.overhead g.S.Sealer.sealing g.S.Sealer.opening now in
-    let sound : IsSound v now.state = subst (λ (u : CoreValue g.row.S.Denot). IsSound (shape_of g.S.Sealer.overhead g.S.Sealer.sealing g.S.Sealer.opening u) u.state) c.self.view_is c.self.invariant in
-    let t : IsTreeAt v now.state c.index_mut.result.now = tree_at v now.state c.index_mut.result.now c.from.result c.errand-errand.result.tree sound c.from.ensures c.errand-errand.ensures.tree (subst (λ (u : CoreValue g.row.S.Denot). c.index_mut.result.now ≡ slice_index_or u.state.trees c.from.result c.index_mut.result.now) c.self.view_is c.index_mut.ensures.value) in
+    let sound : IsSound v.device v.overhead now.state = subst (λ (u : CoreValue g.row.S.Denot). IsSound u.device (g.S.Sealer.overhead u.sealer) u.state) c.self.view_is c.self.invariant in
+    let t : IsTreeAt v now.state c.index_mut.result.now = tree_at v now.state c.index_mut.result.now c.from.result c.errand-errand.result.tree sound c.requires.waiting c.from.ensures c.errand-errand.ensures.tree (subst (λ (u : CoreValue g.row.S.Denot). c.index_mut.result.now ≡ slice_index_or u.state.trees c.from.result c.index_mut.result.now) c.self.view_is c.index_mut.ensures.value) in
     let number : c.index_mut.result.now.number ≡ c.errand-errand.result.tree = t.number ∙ sym c.errand-errand.ensures.tree in
     let new = c.access_to-looked.new.self in
     let at : c.index_mut.result.now.number ≡ c.from.result = number ∙ sym c.from.ensures in
     let blocks : All (IsBlockOf now.device c.from.result) new.stash = subst (λ (k : ℕ). All (IsBlockOf now.device k) new.stash) at (subst (λ (u : CoreValue g.row.S.Denot). All (IsBlockOf u.device c.index_mut.result.now.number) new.stash) c.self.view_is c.access_to-looked.ensures.blocks) in
     let kept : IsTreeKept now.device c.from.result new = record { number = c.access_to-looked.ensures.number ∙ at; blocks = blocks } in
     let within : c.from.result < trees_of now.device = rw c.from.ensures c.errand-errand.ensures.ranges.0 in
-    subst (λ (u : CoreValue g.row.S.Denot). IsSound (shape_of g.S.Sealer.overhead g.S.Sealer.sealing g.S.Sealer.opening u) (record u.state { trees = slice_set u.state.trees c.from.result new })) (sym c.self.view_is)
-    (sound_accessed v now.state c.from.result new sound within kept)
+    subst (λ (u : CoreValue g.row.S.Denot). IsSound u.device (g.S.Sealer.overhead u.sealer) (record u.state { trees = slice_set u.state.trees c.from.result new })) (sym c.self.view_is)
+    (sound_accessed v.device v.overhead now.state c.from.result new sound (waits now.state c.requires.waiting).healthy within kept)
 
 pub invariant_of-self-in-Unreadable : goal.invariant_of-self-in-Unreadable
 invariant_of-self-in-Unreadable g c =
     let now = c.args.self.now in
     let v = shape_of g.S.Sealer.overhead g.S.Sealer.sealing g.S.Sealer.opening now in
-    let sound : IsSound v now.state = subst (λ (u : CoreValue g.row.S.Denot). IsSound (shape_of g.S.Sealer.overhead g.S.Sealer.sealing g.S.Sealer.opening u) u.state) c.self.view_is c.self.invariant in
-    let t : IsTreeAt v now.state c.index_mut.result.now = tree_at v now.state c.index_mut.result.now c.from.result c.errand-errand.result.tree sound c.from.ensures c.errand-errand.ensures.tree (subst (λ (u : CoreValue g.row.S.Denot). c.index_mut.result.now ≡ slice_index_or u.state.trees c.from.result c.index_mut.result.now) c.self.view_is c.index_mut.ensures.value) in
+    let sound : IsSound v.device v.overhead now.state = subst (λ (u : CoreValue g.row.S.Denot). IsSound u.device (g.S.Sealer.overhead u.sealer) u.state) c.self.view_is c.self.invariant in
+    let t : IsTreeAt v now.state c.index_mut.result.now = tree_at v now.state c.index_mut.result.now c.from.result c.errand-errand.result.tree sound c.requires.waiting c.from.ensures c.errand-errand.ensures.tree (subst (λ (u : CoreValue g.row.S.Denot). c.index_mut.result.now ≡ slice_index_or u.state.trees c.from.result c.index_mut.result.now) c.self.view_is c.index_mut.ensures.value) in
     let number : c.index_mut.result.now.number ≡ c.errand-errand.result.tree = t.number ∙ sym c.errand-errand.ensures.tree in
     let new = c.access_to-looked.new.self in
     let at : c.index_mut.result.now.number ≡ c.from.result = number ∙ sym c.from.ensures in
     let blocks : All (IsBlockOf now.device c.from.result) new.stash = subst (λ (k : ℕ). All (IsBlockOf now.device k) new.stash) at (subst (λ (u : CoreValue g.row.S.Denot). All (IsBlockOf u.device c.index_mut.result.now.number) new.stash) c.self.view_is c.access_to-looked.ensures.blocks) in
     let kept : IsTreeKept now.device c.from.result new = record { number = c.access_to-looked.ensures.number ∙ at; blocks = blocks } in
     let within : c.from.result < trees_of now.device = rw c.from.ensures c.errand-errand.ensures.ranges.0 in
-    subst (λ (u : CoreValue g.row.S.Denot). IsSound (shape_of g.S.Sealer.overhead g.S.Sealer.sealing g.S.Sealer.opening u) (record u.state { trees = slice_set u.state.trees c.from.result new })) (sym c.self.view_is)
-    (sound_accessed v now.state c.from.result new sound within kept)
+    subst (λ (u : CoreValue g.row.S.Denot). IsSound u.device (g.S.Sealer.overhead u.sealer) (record u.state { trees = slice_set u.state.trees c.from.result new })) (sym c.self.view_is)
+    (sound_accessed v.device v.overhead now.state c.from.result new sound (waits now.state c.requires.waiting).healthy within kept)
 
 pub returns-in-Ok-clause-moves : goal.returns-in-Ok-clause-moves
 returns-in-Ok-clause-moves g c = λ w fits on_path.
     let now = c.args.self.now in
     let v = shape_of g.S.Sealer.overhead g.S.Sealer.sealing g.S.Sealer.opening now in
-    let sound : IsSound v now.state = subst (λ (u : CoreValue g.row.S.Denot). IsSound (shape_of g.S.Sealer.overhead g.S.Sealer.sealing g.S.Sealer.opening u) u.state) c.self.view_is c.self.invariant in
+    let sound : IsSound v.device v.overhead now.state = subst (λ (u : CoreValue g.row.S.Denot). IsSound u.device (g.S.Sealer.overhead u.sealer) u.state) c.self.view_is c.self.invariant in
     let told = c.index_mut.result.now in
-    let t : IsTreeAt v now.state told = tree_at v now.state told c.from.result c.errand-errand.result.tree sound c.from.ensures c.errand-errand.ensures.tree (subst (λ (u : CoreValue g.row.S.Denot). told ≡ slice_index_or u.state.trees c.from.result told) c.self.view_is c.index_mut.ensures.value) in
+    let t : IsTreeAt v now.state told = tree_at v now.state told c.from.result c.errand-errand.result.tree sound c.requires.waiting c.from.ensures c.errand-errand.ensures.tree (subst (λ (u : CoreValue g.row.S.Denot). told ≡ slice_index_or u.state.trees c.from.result told) c.self.view_is c.index_mut.ensures.value) in
     let o : Waits now.state = waits now.state c.requires.waiting in
     let i = stage_tree now.device now.state.stage in
     let new = c.access_to-looked.new.self in
@@ -165,9 +165,9 @@ pub returns-in-Unreadable-clause-moves : goal.returns-in-Unreadable-clause-moves
 returns-in-Unreadable-clause-moves g c = λ w fits on_path.
     let now = c.args.self.now in
     let v = shape_of g.S.Sealer.overhead g.S.Sealer.sealing g.S.Sealer.opening now in
-    let sound : IsSound v now.state = subst (λ (u : CoreValue g.row.S.Denot). IsSound (shape_of g.S.Sealer.overhead g.S.Sealer.sealing g.S.Sealer.opening u) u.state) c.self.view_is c.self.invariant in
+    let sound : IsSound v.device v.overhead now.state = subst (λ (u : CoreValue g.row.S.Denot). IsSound u.device (g.S.Sealer.overhead u.sealer) u.state) c.self.view_is c.self.invariant in
     let told = c.index_mut.result.now in
-    let t : IsTreeAt v now.state told = tree_at v now.state told c.from.result c.errand-errand.result.tree sound c.from.ensures c.errand-errand.ensures.tree (subst (λ (u : CoreValue g.row.S.Denot). told ≡ slice_index_or u.state.trees c.from.result told) c.self.view_is c.index_mut.ensures.value) in
+    let t : IsTreeAt v now.state told = tree_at v now.state told c.from.result c.errand-errand.result.tree sound c.requires.waiting c.from.ensures c.errand-errand.ensures.tree (subst (λ (u : CoreValue g.row.S.Denot). told ≡ slice_index_or u.state.trees c.from.result told) c.self.view_is c.index_mut.ensures.value) in
     let o : Waits now.state = waits now.state c.requires.waiting in
     let i = stage_tree now.device now.state.stage in
     let new = c.access_to-looked.new.self in
@@ -191,7 +191,7 @@ pub returns-in-Ok-clause-heard : goal.returns-in-Ok-clause-heard
 returns-in-Ok-clause-heard g c =
     let now = c.args.self.now in
     let v = shape_of g.S.Sealer.overhead g.S.Sealer.sealing g.S.Sealer.opening now in
-    let sound : IsSound v now.state = subst (λ (u : CoreValue g.row.S.Denot). IsSound (shape_of g.S.Sealer.overhead g.S.Sealer.sealing g.S.Sealer.opening u) u.state) c.self.view_is c.self.invariant in
+    let sound : IsSound v.device v.overhead now.state = subst (λ (u : CoreValue g.row.S.Denot). IsSound u.device (g.S.Sealer.overhead u.sealer) u.state) c.self.view_is c.self.invariant in
     let o : Waits now.state = waits now.state c.requires.waiting in
     let new = c.access_to-looked.new.self in
     let before = c.in-Ok.lookup.before.items in
@@ -200,7 +200,7 @@ returns-in-Ok-clause-heard g c =
     let body : message ≡ store_body c.errand-errand.result.tree c.errand-errand.result.leaf records = c.in-Ok.ensures.appends.1 ∙ c.in_ok-message.ensures.items records in
     let does = subst (λ (u : CoreValue g.row.S.Denot). (x : Submission) (rest : List Submission) (records : List ℕ) → u.state.queue ≡ x ∷ rest → message ≡ store_body c.errand-errand.result.tree c.errand-errand.result.leaf records → done c.take_over.result c.take_over.new.self.state ≡ (let t = record u.state { trees = slice_set u.state.trees c.from.result new } in if is_misled (shape_of g.S.Sealer.overhead g.S.Sealer.sealing g.S.Sealer.opening u) t x c.in-Ok.lookup.found before then failed_by t (reason.Tampered (stage_tree u.device u.state.stage) 0) else stored_by (shape_of g.S.Sealer.overhead g.S.Sealer.sealing g.S.Sealer.opening u) t x before records)) c.self.view_is c.take_over.ensures.ok in
     subst (Heard v now.state) (sym (does o.oldest o.rest records o.queue body))
-    (taken_heard v now.state (slice_set now.state.trees c.from.result new) o.oldest c.in-Ok.lookup.found before records (reason.Tampered (stage_tree now.device now.state.stage) 0) c.requires.waiting c.requires.stage sound.stage)
+    (taken_heard v now.state (slice_set now.state.trees c.from.result new) o.oldest c.in-Ok.lookup.found before records (reason.Tampered (stage_tree now.device now.state.stage) 0) c.requires.waiting c.requires.stage (stage_within v.device v.overhead now.state sound))
 
 pub returns-in-Unreadable-clause-heard : goal.returns-in-Unreadable-clause-heard
 returns-in-Unreadable-clause-heard g c =
@@ -215,9 +215,9 @@ pub returns-in-Ok-clause-uses : goal.returns-in-Ok-clause-uses
 returns-in-Ok-clause-uses g c =
     let now = c.args.self.now in
     let v = shape_of g.S.Sealer.overhead g.S.Sealer.sealing g.S.Sealer.opening now in
-    let sound : IsSound v now.state = subst (λ (u : CoreValue g.row.S.Denot). IsSound (shape_of g.S.Sealer.overhead g.S.Sealer.sealing g.S.Sealer.opening u) u.state) c.self.view_is c.self.invariant in
+    let sound : IsSound v.device v.overhead now.state = subst (λ (u : CoreValue g.row.S.Denot). IsSound u.device (g.S.Sealer.overhead u.sealer) u.state) c.self.view_is c.self.invariant in
     let told = c.index_mut.result.now in
-    let t : IsTreeAt v now.state told = tree_at v now.state told c.from.result c.errand-errand.result.tree sound c.from.ensures c.errand-errand.ensures.tree (subst (λ (u : CoreValue g.row.S.Denot). told ≡ slice_index_or u.state.trees c.from.result told) c.self.view_is c.index_mut.ensures.value) in
+    let t : IsTreeAt v now.state told = tree_at v now.state told c.from.result c.errand-errand.result.tree sound c.requires.waiting c.from.ensures c.errand-errand.ensures.tree (subst (λ (u : CoreValue g.row.S.Denot). told ≡ slice_index_or u.state.trees c.from.result told) c.self.view_is c.index_mut.ensures.value) in
     let o : Waits now.state = waits now.state c.requires.waiting in
     let i = stage_tree now.device now.state.stage in
     let new = c.access_to-looked.new.self in
@@ -242,9 +242,9 @@ pub returns-in-Unreadable-clause-uses : goal.returns-in-Unreadable-clause-uses
 returns-in-Unreadable-clause-uses g c =
     let now = c.args.self.now in
     let v = shape_of g.S.Sealer.overhead g.S.Sealer.sealing g.S.Sealer.opening now in
-    let sound : IsSound v now.state = subst (λ (u : CoreValue g.row.S.Denot). IsSound (shape_of g.S.Sealer.overhead g.S.Sealer.sealing g.S.Sealer.opening u) u.state) c.self.view_is c.self.invariant in
+    let sound : IsSound v.device v.overhead now.state = subst (λ (u : CoreValue g.row.S.Denot). IsSound u.device (g.S.Sealer.overhead u.sealer) u.state) c.self.view_is c.self.invariant in
     let told = c.index_mut.result.now in
-    let t : IsTreeAt v now.state told = tree_at v now.state told c.from.result c.errand-errand.result.tree sound c.from.ensures c.errand-errand.ensures.tree (subst (λ (u : CoreValue g.row.S.Denot). told ≡ slice_index_or u.state.trees c.from.result told) c.self.view_is c.index_mut.ensures.value) in
+    let t : IsTreeAt v now.state told = tree_at v now.state told c.from.result c.errand-errand.result.tree sound c.requires.waiting c.from.ensures c.errand-errand.ensures.tree (subst (λ (u : CoreValue g.row.S.Denot). told ≡ slice_index_or u.state.trees c.from.result told) c.self.view_is c.index_mut.ensures.value) in
     let new = c.access_to-looked.new.self in
     let path = c.args.path.now in
     let e = reason.Tampered c.errand-errand.result.tree 0 in
