@@ -69,8 +69,8 @@ submitted : (d : Sizes) (s : State) (x : Submission) (o : Option Refusal) (messa
     → Leaves d message (submitted_by (plain_shape d) s x o)
 submitted d s x (Some e) message alive w = w
 submitted d s x None message alive w = record {
-  waits = accepted_waits s.failure s.queue s.lost x (first_message (plain_shape d) s x) message (alive refl) w.rests w.waits;
-  latest = accepted_latest s.queue (first_message (plain_shape d) s x) s.last message w.latest;
+  waits = accepted_waits s.failure s.queue s.lost x (first_message d s x) message (alive refl) w.rests w.waits;
+  latest = accepted_latest s.queue (first_message d s x) s.last message w.latest;
   rests = λ none e. long s.queue x e;
   stage = w.stage;
 }
@@ -126,12 +126,12 @@ not_lost None [] l w = cc
 not_lost None (y ∷ q) true w = cc
 not_lost None (y ∷ q) false w = refl
 
-finished_waits : (f : Option Reason) (q : List Submission) (l : Bool) (v : Sizes) (s : State) (rest : List Submission) → status_by f q l ≡ Waiting → is_some (newest_of (first_messages (plain_shape v) s rest) None) ≡ is_waiting (status_by f rest l)
+finished_waits : (f : Option Reason) (q : List Submission) (l : Bool) (v : Sizes) (s : State) (rest : List Submission) → status_by f q l ≡ Waiting → is_some (newest_of (first_messages v s rest) None) ≡ is_waiting (status_by f rest l)
 finished_waits (Some e) q l v s rest w = cc
 finished_waits None q l v s [] w = refl
 finished_waits None q l v s (y ∷ rest) w = rw (not_lost None q l w) refl
 
-finished_latest : (d : Sizes) (s : State) (rest : List Submission) (last : List ℕ) → IfSome (newest_of (first_messages (plain_shape d) s rest) None) (λ k. k ≡ latest (first_messages (plain_shape d) s rest) last)
+finished_latest : (d : Sizes) (s : State) (rest : List Submission) (last : List ℕ) → IfSome (newest_of (first_messages d s rest) None) (λ k. k ≡ latest (first_messages d s rest) last)
 finished_latest d s [] last = tt
 finished_latest d s (y ∷ rest) last = refl
 
@@ -144,10 +144,10 @@ no_failure None q l w = refl
 
 heard : (d : Sizes) (s t : State) (x : Shown) (message : Option (List ℕ)) → status_in s ≡ Waiting → IsWhole d s message → Heard (plain_shape d) s (did x t) → IsWhole d t (newest_of x.sends None)
 heard d s t x message e w (inl h) = record {
-  waits = failed_waits x.sends t.failure t.queue t.lost h.reason h.sends h.failure;
+  waits = failed_waits x.sends t.failure t.queue t.lost h.reason h.sends (ap (λ (u : State). u.failure) h.state);
   latest = rw h.sends tt;
-  rests = λ none. absurd (let both : Some h.reason ≡ None = sym h.failure ∙ none in cc);
-  stage = λ none. absurd (let both : Some h.reason ≡ None = sym h.failure ∙ none in cc);
+  rests = λ none. absurd (let both : Some h.reason ≡ None = sym (ap (λ (u : State). u.failure) h.state) ∙ none in cc);
+  stage = λ none. absurd (let both : Some h.reason ≡ None = sym (ap (λ (u : State). u.failure) h.state) ∙ none in cc);
 }
 heard d s t x message e w (inr (inl h)) = record {
   waits = rw h.sends (sym (ap is_waiting h.waits));
@@ -157,7 +157,7 @@ heard d s t x message e w (inr (inl h)) = record {
 }
 heard d s t x message e w (inr (inr h)) = by_plain d None x t (finished_by (plain_shape d) s h.oldest h.rest) h.does (record {
   waits = finished_waits s.failure s.queue s.lost d s h.rest e;
-  latest = finished_latest d s h.rest s.last;
+  latest = finished_latest d s h.rest [];
   rests = λ none empty. not_lost s.failure s.queue s.lost e;
   stage = λ none. some_trees d s.stage (w.stage none);
 })
@@ -202,7 +202,7 @@ is_waiting_at Stalling w = cc
 is_waiting_at Over w = cc
 
 finished_wanted : (d : Sizes) (s : State) (x : Submission) (rest : List Submission) → s.queue ≡ x ∷ rest → s.stage < 2 * trees_of d
-    → answers_left d (finished_by (plain_shape d) s x rest).state (newest_of (first_messages (plain_shape d) s rest) None) < 2 * trees_of d * length s.queue - s.stage + 1
+    → answers_left d (finished_by (plain_shape d) s x rest).state (newest_of (first_messages d s rest) None) < 2 * trees_of d * length s.queue - s.stage + 1
 finished_wanted d s x [] q within = omega arith
 finished_wanted d s x (y ∷ rest) q within = rw q (omega (arith, within))
 
