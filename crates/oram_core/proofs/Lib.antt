@@ -6,7 +6,9 @@ pub mod Meeting
 pub mod Hearing
 pub mod Judged
 pub mod Accessing
+pub mod Again
 pub mod Closing
+pub mod Fits
 pub mod Heard
 pub mod Made
 pub mod Running

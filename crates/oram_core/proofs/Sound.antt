@@ -536,7 +536,7 @@ some_healthy d o s h some = elim s.failure as (λ f. IsWhole d o s f → f ≡ N
 ] h.whole
 
 -- how many buckets are sealed in the formatting and for one command, at most
-buckets_small : (d : Sizes) (n : ℕ) → buckets_below d n ≤ 25 * n
+pub buckets_small : (d : Sizes) (n : ℕ) → buckets_below d n ≤ 25 * n
 unfolding buckets_below
 buckets_small d zero = omega arith
 buckets_small d (suc n) = let deep : depth_of d n ≤ 24 = depth_small d n in omega (arith, buckets_small d n)

@@ -1,8 +1,14 @@
 -- What a client keeps of a core in its state file.
-use Rattle.std.specs.Prelude.{ℕ, Bool, List, Option}
+use Rattle.std.specs.Prelude.{ℕ, ◌+◌, ◌-◌, Bool, List, [], ◌∷◌, Option, length, map}
+use Rattle.std.specs.List.{All}
 use Rattle.oram_geometry.specs.declared.Sizes.{Sizes}
-use Rattle.oram_tree.specs.Parts.{Parts as TreeParts}
+use Rattle.oram_bucket.specs.Cell.{IsRising}
+use Rattle.oram_tree.specs.Parts.{Parts as TreeParts, parts_of as tree_parts, tree_of}
+use Rattle.oram_tree.specs.State.{State as Tree}
+use Rattle.oram_run.specs.State.{State}
 use Rattle.oram_run.specs.declared.events.Reason.{Reason}
+use Rattle.oram_run.specs.declared.events.Submission.{Submission}
+use Rattle.oram_core.specs.Core.{IsSound}
 use Rattle.oram_core.specs.declared.parts.Pending.{Pending}
 
 pub record Parts : Type 0 where
@@ -18,3 +24,59 @@ pub record Parts : Type 0 where
   pub held_data : List ℕ  -- the block of tree 0 as it was read
   pub message : List ℕ  -- the message sent last
   pub stalled : Bool  -- whether that counts as lost
+
+-- a command without its ticket
+abbrev pub pending_of : Submission → Pending
+pending_of x = record { session = x.session; command = x.command; words = x.words }
+
+abbrev pub parts_of : Sizes → State → Parts
+parts_of d s = record {
+  device = d;
+  tickets = s.next;
+  nonce = s.nonce;
+  table = s.table;
+  trees = map tree_parts s.trees;
+  failure = s.failure;
+  waiting = map pending_of s.queue;
+  r = s.stage;
+  held_entry = s.named;
+  held_data = s.before;
+  message = s.last;
+  stalled = s.lost;
+}
+
+-- and with it
+abbrev pub submission_at : ℕ → Pending → Submission
+submission_at t p = record { session = p.session; ticket = t; command = p.command; words = p.words }
+
+-- the commands with their tickets, from this one on
+abbrev pub submissions_from : ℕ → List Pending → List Submission
+submissions_from t [] = []
+submissions_from t (p ∷ rest) = submission_at t p ∷ submissions_from (t + 1) rest
+
+-- the trees by their numbers, from this one on
+abbrev pub trees_from : ℕ → List TreeParts → List Tree
+trees_from i [] = []
+trees_from i (p ∷ rest) = tree_of i p ∷ trees_from (i + 1) rest
+
+-- the core of the parts
+abbrev pub state_of : Parts → State
+state_of p = record {
+  table = p.table;
+  trees = trees_from 0 p.trees;
+  next = p.tickets;
+  nonce = p.nonce;
+  queue = submissions_from (p.tickets - length p.waiting) p.waiting;
+  stage = p.r;
+  named = p.held_entry;
+  before = p.held_data;
+  last = p.message;
+  lost = p.stalled;
+  failure = p.failure;
+}
+
+-- They may be the parts of a core under a sealer of this overhead: what holds of each core holds of the one that they make, and
+-- the blocks of each stash stand by rising address.
+pub record AreParts (overhead : ℕ) (p : Parts) : Type 0 where
+  pub sound : IsSound p.device overhead (state_of p)
+  pub rising : All (λ t. IsRising t.stash) p.trees

@@ -1,7 +1,7 @@
 //! The access that a command makes to a tree.
-ghost use Rattle.std.specs.Prelude.{◌≡◌, ◌+◌, ◌-◌, ◌*◌, ◌%◌, ◌<◌, ◌≤◌, ◌^◌, ℕ, List, ◌∷◌, length, map, replicate, slice_range};
+ghost use Rattle.std.specs.Prelude.{◌≡◌, ◌+◌, ◌-◌, ◌*◌, ◌%◌, ◌<◌, ◌≤◌, ◌^◌, ℕ, List, ◌∷◌, length, map, replicate, slice_index, slice_range, ◌==◌, if◌then◌else◌};
 ghost use Rattle.std.specs.Int.{w32, from_be_bytes};
-ghost use Rattle.oram_geometry.specs.Sizes.{trees_of, depth_of, blocks_in, fanout};
+ghost use Rattle.oram_geometry.specs.Sizes.{trees_of, depth_of, blocks_in, fanout, leaf_of};
 ghost use Rattle.oram_tree.specs.Edits.{IsEditOf, edited_content};
 ghost use Rattle.oram_run.specs.Blocks.{block_after, next_named};
 ghost use Rattle.oram_run.specs.Content.{block_of, new_leaf, stage_tree};
@@ -74,6 +74,20 @@ pub(crate) fn new_leaf(device: &Device, tree: u8, submission: &Submission) -> u3
     ensures range { result < 2 ^ depth_of device.now tree }
 {
     device.leaf_of(tree, submission.words.as_slice()[2 * usize::from(tree) + 1])
+}
+
+/// The leaf whose path is fetched in a tree where the map names this for the block, by a command with these words.
+pub(crate) fn leaf_for(device: &Device, tree: u8, named: u32, words: &[u64]) -> u32
+    requires tree { tree < trees_of device.now }
+    requires named { named ≤ 2 ^ depth_of device.now tree }
+    requires words { length words.now ≡ 2 * trees_of device.now }
+    ensures value { result ≡ (if named == 0 then leaf_of device.now tree (slice_index words.now (2 * tree)) else named - 1) }
+    ensures range { result < 2 ^ depth_of device.now tree }
+{
+    match named {
+        0 => device.leaf_of(tree, words[2 * usize::from(tree)]),
+        named => named - 1,
+    }
 }
 
 /// A block of zeros is a part of these, as many as a block's bytes at most.

@@ -13,6 +13,7 @@ ghost use Rattle.oram_core.specs.Core.{IsSameDevice, shape_of};
 ghost use Rattle.oram_core.specs.Steps.{Heard};
 ghost use Rattle.oram_core.specs.Doing.{done, fetched_by, finished_by, first_message, fetch_of};
 
+use crate::errands::leaf_for;
 use crate::machine::Core;
 use crate::messages::Sending;
 use oram_bucket::Sealer;
@@ -93,7 +94,7 @@ impl<S: Sealer> Core<S> {
         ensures sends { IfOk result (λ s. s.sends.items ≡ s.kept ∷ []) }
     {
         let tree = self.device.trees() - 1 - (self.stage + 1) / 2;
-        let leaf = self.leaf_for(tree, self.named, self.oldest());
+        let leaf = leaf_for(&self.device, tree, self.named, self.oldest().words.as_slice());
         Sending::fetch(alloc, tree, leaf)
     }
 

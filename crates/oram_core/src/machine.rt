@@ -12,6 +12,7 @@ ghost use Rattle.oram_core.specs.Core.{CoreValue, IsSound, IsSameDevice, shape_o
 ghost use Rattle.oram_core.specs.Steps.{Steps};
 ghost use Rattle.oram_core.specs.Doing.{is_idle, is_stalled, Done, plain_step, is_free_note, done, accepted_by, stalled_by, resent_by, noted, first_message};
 
+use crate::errands::leaf_for;
 use crate::messages::Sending;
 use oram_bucket::Sealer;
 use oram_bytes::{Bytes, Words};
@@ -23,7 +24,7 @@ use std::collections::VecDeque;
 use std::marker::Model;
 
 /// Commands that may wait for a reply.
-const MOST_WAITING: usize = 64;
+pub(crate) const MOST_WAITING: usize = 64;
 
 /// The core of a device: it takes events and says what to reply and to send.
 #[derive(Drop)]
@@ -289,22 +290,6 @@ impl<S: Sealer> Core<S> {
         })
     }
 
-    /// The leaf whose path a command fetches in a tree where the map names this for its block.
-    pub(crate) fn leaf_for(&self, tree: u8, named: u32, submission: &Submission) -> u32
-        requires tree { tree < trees_of self.now.device }
-        requires named { named ≤ 2 ^ depth_of self.now.device tree }
-        requires allowed { IsAllowed self.now.device submission.now }
-        ensures value { result ≡ leaf_for self.now.device tree named submission.now }
-        ensures range { result < 2 ^ depth_of self.now.device tree }
-    {
-        match named {
-            0 => self
-                .device
-                .leaf_of(tree, submission.words.as_slice()[2 * usize::from(tree)]),
-            named => named - 1,
-        }
-    }
-
     /// The fetch of a command in the last tree, whose map is the table.
     pub(crate) fn first_fetch(
         &self,
@@ -320,7 +305,8 @@ impl<S: Sealer> Core<S> {
     {
         let tree = self.device.trees() - 1;
         let block = self.device.address_in(tree, submission.command.address());
-        let leaf = self.leaf_for(tree, self.table[block as usize], submission);
+        let named = self.table[block as usize];
+        let leaf = leaf_for(&self.device, tree, named, submission.words.as_slice());
         Sending::fetch(alloc, tree, leaf)
     }
 

@@ -1,9 +1,20 @@
 //! What a client keeps of a core in its state file.
+ghost use Rattle.std.specs.Prelude.{◌≡◌, ◌+◌, length, map, All, IfOk, IsOk, Err};
+ghost use Rattle.oram_bucket.specs.Cell.{IsRising};
+ghost use Rattle.oram_tree.specs.Parts.{parts_of as tree_parts};
+ghost use Rattle.oram_core.specs.Parts.{AreParts, parts_of, pending_of, state_of};
 
+mod fitting;
+mod making;
+
+use crate::machine::Core;
+use oram_bucket::Sealer;
 use oram_bytes::{Bytes, Words};
 use oram_geometry::Device;
-use oram_run::{Command, Reason};
-use oram_tree::TreeParts;
+use oram_run::{Command, Reason, Submission};
+use oram_tree::{Tree, TreeParts};
+use std::alloc::{AllocError, Global};
+use std::collections::VecDeque;
 use std::marker::Model;
 
 /// A command without a reply. Its ticket follows from its place among them and how many were accepted.
@@ -63,4 +74,81 @@ impl Model for Parts {
       message = p.message;
       stalled = p.stalled;
     } };
+}
+
+/// Copies of the commands, without their tickets.
+fn pendings(alloc: Global, queue: &VecDeque<Submission>) -> Result<Vec<Pending>, AllocError>
+    ensures { IfOk result (λ v. v.items ≡ map pending_of queue.now.items) }
+{
+    let mut waiting = Vec::with_capacity(alloc, queue.len())?;
+    for at in 0..queue.len() {
+        let submission = &queue[at];
+        waiting.push(Pending {
+            session: submission.session,
+            command: submission.command.copy(alloc)?,
+            words: Words::copy(alloc, submission.words.as_slice())?,
+        })?;
+    }
+    Ok(waiting)
+}
+
+/// The parts of the trees, with copies of their blocks.
+fn trees_parts(alloc: Global, trees: &[Tree]) -> Result<Vec<TreeParts>, AllocError>
+    ensures same { IfOk result (λ v. v.items ≡ map tree_parts trees.now) }
+    ensures rising { IfOk result (λ v. All (λ t. IsRising t.stash) v.items) }
+{
+    let mut parts = Vec::with_capacity(alloc, trees.len())?;
+    for tree in trees {
+        parts.push(tree.parts(alloc)?)?;
+    }
+    Ok(parts)
+}
+
+/// A copy of the table.
+fn table_copy(alloc: Global, table: &[u32]) -> Result<Vec<u32>, AllocError>
+    ensures { IfOk result (λ v. v.items ≡ table.now) }
+{
+    let mut copy = Vec::with_capacity(alloc, table.len())?;
+    copy.extend_from_slice(table)?;
+    Ok(copy)
+}
+
+impl<S: Sealer> Core<S> {
+    /// How many bytes the core's sealer adds to a bucket.
+    pub fn overhead(&self) -> usize
+        ensures { result ≡ S.overhead self.now.sealer }
+    {
+        self.sealer.overhead()
+    }
+
+    /// What a client keeps of the core, in copies. `from_parts` makes the same core of it.
+    pub fn parts(&self, alloc: Global) -> Result<Parts, AllocError>
+        ensures same { IfOk result (λ p. p ≡ parts_of self.now.device self.now.state) }
+        ensures right { IfOk result (λ p. AreParts (S.overhead self.now.sealer) p) }
+        ensures again { IfOk result (λ p. state_of p ≡ self.now.state) }
+    {
+        let trees = trees_parts(alloc, &self.trees)?;
+        self.parts_beside(alloc, trees)
+    }
+
+    /// The parts, with these of the trees.
+    fn parts_beside(&self, alloc: Global, trees: Vec<TreeParts>) -> Result<Parts, AllocError>
+        requires { trees.items ≡ map tree_parts self.now.state.trees }
+        ensures { IfOk result (λ p. p ≡ parts_of self.now.device self.now.state) }
+    {
+        Ok(Parts {
+            device: self.device.copy(),
+            tickets: self.next,
+            nonce: self.nonce,
+            table: table_copy(alloc, &self.table)?,
+            trees,
+            failure: self.failure,
+            waiting: pendings(alloc, &self.queue)?,
+            r: u32::from(self.stage),
+            held_entry: self.named,
+            held_data: Bytes::copy(alloc, self.before.as_slice())?,
+            message: Bytes::copy(alloc, self.last.as_slice())?,
+            stalled: self.lost,
+        })
+    }
 }

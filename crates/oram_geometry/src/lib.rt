@@ -113,6 +113,18 @@ impl Device {
         })
     }
 
+    /// The same device again.
+    pub fn copy(&self) -> Device
+        ensures { result ≡ self.now }
+    {
+        Device {
+            sizes: self.sizes,
+            trees: self.trees,
+            blocks: self.blocks,
+            depths: self.depths,
+        }
+    }
+
     /// How many trees there are.
     pub fn trees(&self) -> u8
         ensures count { result ≡ trees_of self.now }

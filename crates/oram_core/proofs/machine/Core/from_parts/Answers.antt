@@ -1,0 +1,53 @@
+use Rattle.std.proofs.Common.{◌≡◌, ◌≤◌, ◌<◌, ◌*◌, ℕ, Err, refl, ap, sym, ◌∙◌, subst, arith}
+use mathlib.Core.Bool.{false≢true}
+use Rattle.oram_geometry.specs.Sizes.{IsDevice, trees_of}
+use Rattle.oram_geometry.proofs.Measuring.{trees_of-few}
+use Rattle.oram_core.specs.Core.{IsSound}
+use Rattle.oram_core.specs.Fitting.{AreTrees, IsFitting}
+use Rattle.oram_core.specs.Parts.{Parts, AreParts, state_of}
+use Rattle.oram_tree.specs.declared.faults.PartsFault.{PartsFault}
+use Rattle.oram_core.proofs.Fits.{parts_by, fits_of, told_err, trees_of_parts}
+use Rattle.oram_core.proofs.Sound.{stage_within}
+use Rattle.oram_core.proofs.machine.Core.from_parts.Goals as goal
+
+pub returns-then-not-is_fitting-clause-content : goal.returns-then-not-is_fitting-clause-content
+returns-then-not-is_fitting-clause-content g c = λ same are. false≢true (sym c.if-not-is_fitting.true ∙ c.is_fitting.ensures.1 (subst (λ (n : ℕ). IsFitting n c.args.parts c.args.parts.failure) (sym c.overhead.ensures) (fits_of (g.S.Sealer.overhead c.args.sealer) c.args.parts are)))
+
+pub returns-in_err-trees-clause-content : goal.returns-in_err-trees-clause-content
+returns-in_err-trees-clause-content g c = λ same are.
+    let o = g.S.Sealer.overhead c.args.sealer in
+    let trees = subst (λ (p : Parts). AreTrees p.device 0 p.trees) (sym c.parts.view_is) (trees_of_parts o c.args.parts are) in
+    c.in_err-trees.ensures.content (ap Err (sym (told_err c.from_residual.result _ PartsFault.Content same c.from_residual.ensures.1))) trees
+
+pub overflow_cast-result : goal.overflow_cast-result
+overflow_cast-result g c =
+    let o = g.S.Sealer.overhead c.args.sealer in
+    let ranges = subst (λ (p : Parts). IsDevice p.device) c.parts.view_is c.trees_of.ensures.ranges in
+    let fits : IsFitting o c.args.parts c.args.parts.failure = subst (λ (n : ℕ). IsFitting n c.args.parts c.args.parts.failure) c.overhead.ensures (c.is_fitting.ensures.0 c.if-not-is_fitting.false) in
+    let trees = subst (λ (p : Parts). AreTrees p.device 0 p.trees) c.parts.view_is (c.in_ok-trees.ensures.fits refl) in
+    let next : c.args.parts.tickets ≤ c.args.parts.device.lifetime = subst (λ (p : Parts). p.tickets ≤ p.device.lifetime) c.parts.view_is (omega (arith, c.if-parts-lifetime.false, c.lifetime.ensures.value)) in
+    let are : AreParts o c.args.parts = parts_by o c.args.parts ranges (g.met.S.Sealer.small c.args.sealer) next fits trees in
+    let stage : c.args.parts.r < 2 * trees_of c.args.parts.device = stage_within c.args.parts.device o (state_of c.args.parts) are.sound in
+    let few = trees_of-few c.args.parts.device ranges in
+    let same : c.parts.inside.r ≡ c.args.parts.r = ap (λ (p : Parts). p.r) c.parts.view_is in
+    omega (arith, stage, few, same)
+
+pub invariant_of-result : goal.invariant_of-result
+invariant_of-result g c =
+    let o = g.S.Sealer.overhead c.args.sealer in
+    let ranges = subst (λ (p : Parts). IsDevice p.device) c.parts.view_is c.trees_of.ensures.ranges in
+    let fits : IsFitting o c.args.parts c.args.parts.failure = subst (λ (n : ℕ). IsFitting n c.args.parts c.args.parts.failure) c.overhead.ensures (c.is_fitting.ensures.0 c.if-not-is_fitting.false) in
+    let trees = subst (λ (p : Parts). AreTrees p.device 0 p.trees) c.parts.view_is (c.in_ok-trees.ensures.fits refl) in
+    let next : c.args.parts.tickets ≤ c.args.parts.device.lifetime = subst (λ (p : Parts). p.tickets ≤ p.device.lifetime) c.parts.view_is (omega (arith, c.if-parts-lifetime.false, c.lifetime.ensures.value)) in
+    let are : AreParts o c.args.parts = parts_by o c.args.parts ranges (g.met.S.Sealer.small c.args.sealer) next fits trees in
+    let sound = subst (λ (p : Parts). IsSound p.device o (state_of p)) (sym c.parts.view_is) are.sound in
+    rw (c.in_ok-trees.ensures.made, c.in_ok-queue_of.ensures) sound
+
+pub returns-clause-fits : goal.returns-clause-fits
+returns-clause-fits g c = λ whole.
+    let o = g.S.Sealer.overhead c.args.sealer in
+    let ranges = subst (λ (p : Parts). IsDevice p.device) c.parts.view_is c.trees_of.ensures.ranges in
+    let fits : IsFitting o c.args.parts c.args.parts.failure = subst (λ (n : ℕ). IsFitting n c.args.parts c.args.parts.failure) c.overhead.ensures (c.is_fitting.ensures.0 c.if-not-is_fitting.false) in
+    let trees = subst (λ (p : Parts). AreTrees p.device 0 p.trees) c.parts.view_is (c.in_ok-trees.ensures.fits refl) in
+    let next : c.args.parts.tickets ≤ c.args.parts.device.lifetime = subst (λ (p : Parts). p.tickets ≤ p.device.lifetime) c.parts.view_is (omega (arith, c.if-parts-lifetime.false, c.lifetime.ensures.value)) in
+    parts_by o c.args.parts ranges (g.met.S.Sealer.small c.args.sealer) next fits trees

@@ -1,0 +1,5 @@
+use Rattle.oram_run.proofs.Bounds.{some_trees}
+use Rattle.oram_core.proofs.parts.fitting.is_allowed.Goals as goal
+
+pub blocks_in-requires : goal.blocks_in-requires
+blocks_in-requires c = some_trees c.args.device.now

@@ -1,0 +1,242 @@
+//! Which parts may be those of a core.
+ghost use Rattle.std.specs.Prelude.{◌≡◌, ◌↔◌, ◌+◌, ◌-◌, ◌*◌, ◌<◌, ◌≤◌, ◌^◌, ◌==◌, ℕ, if◌then◌else◌, List, [], Some, length, slice_index, All, IsTrue};
+ghost use Rattle.oram_geometry.specs.Sizes.{trees_of, depth_of, blocks_in, leaf_of};
+ghost use Rattle.oram_wire.specs.HostMessages.{fetch_body};
+ghost use Rattle.oram_run.specs.Agree.{IsAllowed};
+ghost use Rattle.oram_run.specs.Content.{stage_tree};
+ghost use Rattle.oram_run.specs.Nonces.{formatted, buckets_below, next_nonce};
+ghost use Rattle.oram_run.specs.State.{named_now};
+ghost use Rattle.oram_core.specs.Core.{IsAtWork, IsReasonOf, IsResting, IsStoreOf, most_named};
+ghost use Rattle.oram_core.specs.Fitting.{AreWaiting, HasMessage, HasTable, HoldsNothing, IsEnded, IsFitting, IsWorking};
+ghost use Rattle.oram_core.specs.Parts.{state_of, submission_at};
+
+use super::{Parts, Pending};
+use crate::errands::leaf_for;
+use crate::machine::MOST_WAITING;
+use oram_geometry::Device;
+use oram_run::{Command, Reason};
+use oram_wire::HostView;
+
+/// Whether a reason names a tree of the device and a level of it, or a code of the host.
+fn is_reason(device: &Device, reason: Reason) -> bool
+    ensures { IsTrue result ↔ IsReasonOf device.now reason }
+{
+    match reason {
+        Reason::Malformed => true,
+        Reason::Tampered(tree, level) => tree < device.trees() && level <= device.depth(tree),
+        Reason::HostRefused(code) => 0 < code && code < 8,
+    }
+}
+
+/// Whether no command is at work.
+fn is_resting(parts: &Parts) -> bool
+    ensures { IsTrue result ↔ IsResting (state_of parts.now) }
+{
+    parts.r == 0
+        && parts.held_entry == 0
+        && parts.held_data.is_empty()
+        && parts.message.is_empty()
+        && !parts.stalled
+}
+
+/// Whether a core that failed for this reason has these parts: it holds nothing else.
+fn is_ended(parts: &Parts, reason: Reason) -> bool
+    ensures { IsTrue result ↔ IsEnded parts.now reason }
+{
+    is_reason(&parts.device, reason) && holds_nothing(parts) && is_resting(parts)
+}
+
+/// Whether there are no table, no trees and no commands.
+fn holds_nothing(parts: &Parts) -> bool
+    ensures { IsTrue result ↔ HoldsNothing parts.now }
+{
+    parts.table.is_empty() && parts.trees.is_empty() && parts.waiting.is_empty()
+}
+
+/// Whether a table has an entry for each block of the last tree, none above its leaves.
+fn is_table(device: &Device, table: &[u32]) -> bool
+    ensures { IsTrue result ↔ HasTable device.now table.now }
+{
+    let last = device.trees() - 1;
+    let most = 1u32 << device.depth(last);
+    table.len() == device.blocks_in(last) as usize && table.iter().all(|entry| *entry <= most)
+}
+
+/// Whether the device allows a command.
+fn is_allowed(device: &Device, pending: &Pending) -> bool
+    ensures { IsTrue result ↔ IsAllowed device.now (submission_at 0 pending.now) }
+{
+    let is_long = match &pending.command {
+        Command::Write(_, bytes) => bytes.len() == device.block_bytes(),
+        Command::Read(_) | Command::Discard(_) => true,
+    };
+    pending.command.address() < device.blocks_in(0)
+        && is_long
+        && pending.words.len() == 2 * usize::from(device.trees())
+}
+
+/// Whether the device allows them all.
+fn are_allowed(device: &Device, waiting: &[Pending]) -> bool
+    ensures { IsTrue result ↔ All (λ p. IsAllowed device.now (submission_at 0 p)) waiting.now }
+{
+    waiting.iter().all(|pending| is_allowed(device, pending))
+}
+
+/// Whether there are no more commands than may wait, each accepted and allowed.
+fn are_waiting(parts: &Parts) -> bool
+    ensures { IsTrue result ↔ AreWaiting parts.now }
+{
+    parts.waiting.len() <= MOST_WAITING
+        && parts.waiting.len() as u64 <= parts.tickets
+        && are_allowed(&parts.device, &parts.waiting)
+}
+
+/// The most that may be named for a block at this entry of a command.
+fn most_named(device: &Device, stage: u32) -> u32
+    requires { stage < 2 * trees_of device.now }
+    ensures { result ≡ most_named device.now stage }
+{
+    let trees = u32::from(device.trees());
+    if stage == 0 || stage + 1 == 2 * trees {
+        return 0;
+    }
+    1 << device.depth((trees - 1 - (stage + stage % 2) / 2) as u8)
+}
+
+/// Whether a message is the FETCH of this path.
+fn is_fetch(message: &[u8], tree: u8, leaf: u32) -> bool
+    ensures { IsTrue result ↔ (message.now ≡ fetch_body tree leaf) }
+{
+    match HostView::read(message) {
+        Ok(HostView::Fetch {
+            tree: asked,
+            leaf: named,
+        }) => asked == tree && named == leaf,
+        _ => false,
+    }
+}
+
+/// Whether a message is the STORE of some path of a tree.
+fn is_store(message: &[u8], device: &Device, overhead: usize, tree: u8) -> bool
+    requires tree { tree < trees_of device.now }
+    requires overhead { overhead ≤ 64 }
+    ensures { IsTrue result ↔ IsStoreOf device.now overhead tree message.now }
+{
+    match HostView::read(message) {
+        Ok(HostView::Store {
+            tree: asked,
+            leaf,
+            records,
+        }) => {
+            let depth = device.depth(tree);
+            let path_len = (usize::from(depth) + 1) * device.record_len(overhead);
+            asked == tree && leaf < 1 << depth && records.len() == path_len
+        }
+        _ => false,
+    }
+}
+
+/// Whether the outstanding message is the one that the oldest command has at this entry.
+fn is_message(parts: &Parts, oldest: &Pending, overhead: usize) -> bool
+    requires stage { parts.now.r < 2 * trees_of parts.now.device }
+    requires table { HasTable parts.now.device parts.now.table }
+    requires named { parts.now.held_entry ≤ most_named parts.now.device parts.now.r }
+    requires allowed { IsAllowed parts.now.device (submission_at 0 oldest.now) }
+    requires overhead { overhead ≤ 64 }
+    ensures { IsTrue result ↔ HasMessage parts.now.device overhead (state_of parts.now) (submission_at 0 oldest.now) }
+{
+    let tree = parts.device.trees() - 1 - (parts.r / 2) as u8;
+    if parts.r % 2 == 1 {
+        return is_store(parts.message.as_slice(), &parts.device, overhead, tree);
+    }
+    let named = match parts.r {
+        0 => parts.table[parts.device.address_in(tree, oldest.command.address()) as usize],
+        _ => parts.held_entry,
+    };
+    let leaf = leaf_for(&parts.device, tree, named, oldest.words.as_slice());
+    is_fetch(parts.message.as_slice(), tree, leaf)
+}
+
+/// Whether the oldest command is at work so.
+fn is_at_work(parts: &Parts, oldest: &Pending, overhead: usize) -> bool
+    requires table { HasTable parts.now.device parts.now.table }
+    requires allowed { IsAllowed parts.now.device (submission_at 0 oldest.now) }
+    requires overhead { overhead ≤ 64 }
+    ensures { IsTrue result ↔ IsAtWork parts.now.device overhead (state_of parts.now) (submission_at 0 oldest.now) }
+{
+    let trees = u32::from(parts.device.trees());
+    if parts.r >= 2 * trees || parts.held_entry > most_named(&parts.device, parts.r) {
+        return false;
+    }
+    let held_len = match parts.r + 1 == 2 * trees {
+        true => parts.device.block_bytes(),
+        false => 0,
+    };
+    parts.held_data.len() == held_len && is_message(parts, oldest, overhead)
+}
+
+/// How many buckets were sealed at the formatting.
+fn formatted(device: &Device) -> u64
+    ensures { result ≡ formatted device.now }
+{
+    let mut buckets = 0;
+    for tree in 0..device.trees() {
+        buckets += (2u64 << device.depth(tree)) - 1;
+    }
+    buckets
+}
+
+/// How many buckets the paths of a ticket have in the trees from this one on.
+fn path_buckets(device: &Device, first: u8) -> u64
+    requires { first ≤ trees_of device.now }
+    ensures { result ≡ buckets_below device.now (trees_of device.now) - buckets_below device.now first }
+{
+    let mut buckets = 0;
+    for tree in first..device.trees() {
+        buckets += u64::from(device.depth(tree)) + 1;
+    }
+    buckets
+}
+
+/// The nonce of the next bucket that is sealed, where so many tickets have their reply and the next one is at this entry.
+fn next_nonce(device: &Device, answered: u64, stage: u32) -> u64
+    requires answered { answered ≤ 2 ^ 40 }
+    requires stage { stage < 2 * trees_of device.now }
+    ensures { result ≡ next_nonce device.now answered stage }
+{
+    let unstored = device.trees() - ((stage + 1) / 2) as u8;
+    formatted(device) + answered * path_buckets(device, 0) + path_buckets(device, unstored)
+}
+
+/// Whether the parts may be those of a core that has not failed, as far as its trees' stashes don't matter.
+fn is_working(parts: &Parts, overhead: usize) -> bool
+    requires tickets { parts.now.tickets ≤ parts.now.device.lifetime }
+    requires overhead { overhead ≤ 64 }
+    ensures { IsTrue result ↔ IsWorking overhead parts.now }
+{
+    let device = &parts.device;
+    if !is_table(device, &parts.table)
+        || parts.trees.len() != usize::from(device.trees())
+        || !are_waiting(parts)
+    {
+        return false;
+    }
+    let is_right = match parts.waiting.first() {
+        None => is_resting(parts),
+        Some(oldest) => is_at_work(parts, oldest, overhead),
+    };
+    let answered = parts.tickets - parts.waiting.len() as u64;
+    is_right && parts.nonce == next_nonce(device, answered, parts.r)
+}
+
+/// Whether the parts may be those of a core, as far as the blocks of its stashes don't matter.
+pub(super) fn is_fitting(parts: &Parts, overhead: usize) -> bool
+    requires tickets { parts.now.tickets ≤ parts.now.device.lifetime }
+    requires overhead { overhead ≤ 64 }
+    ensures { IsTrue result ↔ IsFitting overhead parts.now parts.now.failure }
+{
+    match parts.failure {
+        Some(reason) => is_ended(parts, reason),
+        None => is_working(parts, overhead),
+    }
+}
