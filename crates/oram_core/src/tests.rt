@@ -1,6 +1,7 @@
 //! Worked runs over a plain host.
 mod hostile;
 mod play;
+mod remade;
 mod shelf;
 mod worlds;
 

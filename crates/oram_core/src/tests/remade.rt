@@ -1,0 +1,150 @@
+//! Cores that are made of their parts again.
+use super::shelf::Shelf;
+use super::{Sign, formatted, read, show, write};
+use crate::{Core, Event, Note, Parts, PartsFault, Reason, Refusal};
+use oram_bucket::{Block, PlainSeal};
+use oram_bytes::Bytes;
+use oram_geometry::Device;
+use std::alloc::{AllocError, Global};
+use std::process::Abort;
+use std::test::Fail;
+
+fn three_trees(rt: &impl Abort, alloc: Global) -> Result<(Core<PlainSeal>, Shelf), AllocError> {
+    let device = Device::new(64, 16, 4, 4, 100).expect(rt, "a device");
+    formatted(rt, alloc, device, PlainSeal)
+}
+
+/// The core of these parts, or None where they are no core's.
+fn made(alloc: Global, parts: Parts) -> Result<Option<Core<PlainSeal>>, AllocError> {
+    match Core::from_parts(alloc, PlainSeal, parts) {
+        Ok(core) => Ok(Some(core)),
+        Err(PartsFault::Content) => Ok(None),
+        Err(PartsFault::OutOfMemory) => Err(AllocError),
+    }
+}
+
+fn remade(
+    rt: &impl Abort,
+    alloc: Global,
+    core: &Core<PlainSeal>,
+) -> Result<Core<PlainSeal>, AllocError> {
+    assert_eq!(rt; core.overhead(), 0);
+    let again = made(alloc, core.parts(alloc)?)?.expect(rt, "parts of a core");
+    assert_eq!(rt; again.next_ticket(), core.next_ticket());
+    assert_eq!(rt; again.waiting(), core.waiting());
+    assert_eq!(rt; again.failure(), core.failure());
+    Ok(again)
+}
+
+/// Two reads and a write wait at once, and the core is made anew before each step.
+fn steps_of_remade(rt: &impl Abort, alloc: Global) -> Result<(), AllocError> {
+    let (mut core, mut shelf) = three_trees(rt, alloc)?;
+    let mut shown: Vec<Sign> = Vec::new(alloc);
+    let first = core.step(alloc, &read(alloc, 1, 37, &[10, 11, 12, 13, 14, 15])?)?;
+    let mut outstanding = first.sends;
+    core = remade(rt, alloc, &core)?;
+    core.step(alloc, &write(alloc, 38, &[0xff; 16], &[20, 21, 22, 23, 24, 25])?)?;
+    core.step(alloc, &read(alloc, 2, 38, &[1, 2, 3, 4, 5, 6])?)?;
+    for _ in 0..1000 {
+        let Some(message) = outstanding.pop() else {
+            break;
+        };
+        let answered = shelf.answer(alloc, message.as_slice())?;
+        core = remade(rt, alloc, &core)?;
+        let mut reaction = core.step(alloc, &Event::Answer(Bytes::from_vec(answered)))?;
+        assert_eq!(rt; reaction.note, Note::Taken);
+        if let Some(sent) = show(&mut reaction, &mut shown)? {
+            outstanding.push(sent)?;
+        }
+    }
+    assert!(rt; core.is_idle());
+    let replies = [
+        ("data", 1, 0),
+        ("done", 1, 1),
+        ("data", 2, 2),
+    ];
+    let mut told = Vec::new(alloc);
+    for sign in &shown {
+        if sign.0 != "fetch" && sign.0 != "store" {
+            told.push(*sign)?;
+        }
+    }
+    assert_eq!(rt; told.as_slice(), replies.as_slice());
+    Ok(())
+}
+
+#[test]
+fn a_core_goes_on_from_its_parts(rt: HostRuntime) -> Result<(), Fail> {
+    if steps_of_remade(&rt, rt.alloc()).is_err() {
+        steps_of_remade(&rt, rt.alloc())?;
+    }
+    Ok(())
+}
+
+/// A map block in the stash of tree 1 names, for the block of address 37, what is no leaf of tree 0.
+fn map_astray(rt: &impl Abort, alloc: Global) -> Result<(), AllocError> {
+    let (core, mut shelf) = three_trees(rt, alloc)?;
+    let mut parts = core.parts(alloc)?;
+    let mut content = Vec::with_capacity(alloc, 16)?;
+    content.extend_from_slice(&[0, 0, 0, 0, 0, 0, 0, 65, 0, 0, 0, 0, 0, 0, 0, 0])?;
+    parts.trees[1].stash.push(Block {
+        address: 9,
+        leaf: 0,
+        content,
+    })?;
+    let mut core = made(alloc, parts)?.expect(rt, "parts of a core");
+    assert_eq!(rt; core.stash_len(1), 1);
+    let mut reaction = core.step(alloc, &read(alloc, 1, 37, &[10, 11, 12, 13, 14, 15])?)?;
+    for _ in 0..3 {
+        let message = reaction.sends.pop().expect(rt, "a message");
+        let answered = shelf.answer(alloc, message.as_slice())?;
+        reaction = core.step(alloc, &Event::Answer(Bytes::from_vec(answered)))?;
+    }
+    assert_eq!(rt; reaction.note, Note::FailedNow(Reason::Tampered(1, 0)));
+    assert_eq!(rt; core.stash_len(1), 0);
+    let mut ended = remade(rt, alloc, &core)?;
+    let refused = ended.step(alloc, &read(alloc, 1, 0, &[0; 6])?)?;
+    assert_eq!(rt; refused.note, Note::Refused(Refusal::Failed));
+    Ok(())
+}
+
+#[test]
+fn a_map_that_leads_astray_fails_the_device(rt: HostRuntime) -> Result<(), Fail> {
+    if map_astray(&rt, rt.alloc()).is_err() {
+        map_astray(&rt, rt.alloc())?;
+    }
+    Ok(())
+}
+
+/// Parts of a core at its first fetch, with one of them changed, are no core's.
+fn parts_of_none(rt: &impl Abort, alloc: Global) -> Result<(), AllocError> {
+    let (mut core, _) = three_trees(rt, alloc)?;
+    core.step(alloc, &read(alloc, 1, 37, &[10, 11, 12, 13, 14, 15])?)?;
+    let mut other_nonce = core.parts(alloc)?;
+    other_nonce.nonce += 1;
+    assert!(rt; made(alloc, other_nonce)?.is_none());
+    let mut no_leaf = core.parts(alloc)?;
+    no_leaf.table[0] = 5;
+    assert!(rt; made(alloc, no_leaf)?.is_none());
+    let mut held_name = core.parts(alloc)?;
+    held_name.held_entry = 1;
+    assert!(rt; made(alloc, held_name)?.is_none());
+    let mut other_message = core.parts(alloc)?;
+    other_message.message = Bytes::copy(alloc, &[1, 2, 0, 0, 0, 0])?;
+    assert!(rt; made(alloc, other_message)?.is_none());
+    let mut lost = core.parts(alloc)?;
+    lost.stalled = true;
+    assert!(rt; made(alloc, lost)?.is_some());
+    let mut failed = core.parts(alloc)?;
+    failed.failure = Some(Reason::Malformed);
+    assert!(rt; made(alloc, failed)?.is_none());
+    Ok(())
+}
+
+#[test]
+fn changed_parts_are_no_cores(rt: HostRuntime) -> Result<(), Fail> {
+    if parts_of_none(&rt, rt.alloc()).is_err() {
+        parts_of_none(&rt, rt.alloc())?;
+    }
+    Ok(())
+}
