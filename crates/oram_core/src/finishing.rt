@@ -94,7 +94,12 @@ impl<S: Sealer> Core<S> {
         ensures sends { IfOk result (λ s. s.sends.items ≡ s.kept ∷ []) }
     {
         let tree = self.device.trees() - 1 - (self.stage + 1) / 2;
-        let leaf = leaf_for(&self.device, tree, self.named, self.oldest().words.as_slice());
+        let leaf = leaf_for(
+            &self.device,
+            tree,
+            self.named,
+            self.oldest().words.as_slice(),
+        );
         Sending::fetch(alloc, tree, leaf)
     }
 

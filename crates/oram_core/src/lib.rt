@@ -18,8 +18,8 @@ mod verdicts;
 mod whole;
 
 pub use machine::Core;
-pub use oram_tree::{PartsFault, TreeParts};
 pub use oram_run::{Command, Event, Note, Reaction, Reason, Refusal, Reply, ReplyBody, Submission};
+pub use oram_tree::{PartsFault, TreeParts};
 pub use outcome::Run;
 pub use parts::{Parts, Pending};
 pub use whole::run;

@@ -108,10 +108,12 @@ fn is_fetch(message: &[u8], tree: u8, leaf: u32) -> bool
     ensures { IsTrue result ↔ (message.now ≡ fetch_body tree leaf) }
 {
     match HostView::read(message) {
-        Ok(HostView::Fetch {
-            tree: asked,
-            leaf: named,
-        }) => asked == tree && named == leaf,
+        Ok(
+            HostView::Fetch {
+                tree: asked,
+                leaf: named,
+            },
+        ) => asked == tree && named == leaf,
         _ => false,
     }
 }
@@ -123,11 +125,13 @@ fn is_store(message: &[u8], device: &Device, overhead: usize, tree: u8) -> bool
     ensures { IsTrue result ↔ IsStoreOf device.now overhead tree message.now }
 {
     match HostView::read(message) {
-        Ok(HostView::Store {
-            tree: asked,
-            leaf,
-            records,
-        }) => {
+        Ok(
+            HostView::Store {
+                tree: asked,
+                leaf,
+                records,
+            },
+        ) => {
             let depth = device.depth(tree);
             let path_len = (usize::from(depth) + 1) * device.record_len(overhead);
             asked == tree && leaf < 1 << depth && records.len() == path_len

@@ -15,11 +15,7 @@ use std::alloc::{AllocError, Global};
 use std::collections::VecDeque;
 
 /// The trees of a device that have these parts.
-fn trees_of(
-    alloc: Global,
-    device: &Device,
-    parts: Vec<TreeParts>,
-) -> Result<Vec<Tree>, PartsFault>
+fn trees_of(alloc: Global, device: &Device, parts: Vec<TreeParts>) -> Result<Vec<Tree>, PartsFault>
     requires { length parts.items ≤ trees_of device.now }
     ensures ranges { IsDevice device.now }
     ensures made { IfOk result (λ v. v.items ≡ trees_from 0 parts.items) }

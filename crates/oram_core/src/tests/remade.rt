@@ -43,7 +43,10 @@ fn steps_of_remade(rt: &impl Abort, alloc: Global) -> Result<(), AllocError> {
     let first = core.step(alloc, &read(alloc, 1, 37, &[10, 11, 12, 13, 14, 15])?)?;
     let mut outstanding = first.sends;
     core = remade(rt, alloc, &core)?;
-    core.step(alloc, &write(alloc, 38, &[0xff; 16], &[20, 21, 22, 23, 24, 25])?)?;
+    core.step(
+        alloc,
+        &write(alloc, 38, &[0xff; 16], &[20, 21, 22, 23, 24, 25])?,
+    )?;
     core.step(alloc, &read(alloc, 2, 38, &[1, 2, 3, 4, 5, 6])?)?;
     for _ in 0..1000 {
         let Some(message) = outstanding.pop() else {
@@ -58,11 +61,7 @@ fn steps_of_remade(rt: &impl Abort, alloc: Global) -> Result<(), AllocError> {
         }
     }
     assert!(rt; core.is_idle());
-    let replies = [
-        ("data", 1, 0),
-        ("done", 1, 1),
-        ("data", 2, 2),
-    ];
+    let replies = [("data", 1, 0), ("done", 1, 1), ("data", 2, 2)];
     let mut told = Vec::new(alloc);
     for sign in &shown {
         if sign.0 != "fetch" && sign.0 != "store" {
