@@ -1,0 +1,18 @@
+use Rattle.std.proofs.Common.{◌≡◌, ◌++◌, ◌∷◌, []}
+use Rattle.std.proofs.lemmas.Result.{err_from_is_err_and}
+use Rattle.std.specs.Int.{w64}
+use Rattle.oram_state.specs.Reading.{many, next_number}
+use Rattle.oram_state.proofs.Loops.{goes_on, ends, is_done}
+use Rattle.oram_state.proofs.fields.read_longs.Goals as goal
+
+pub returns-in_err-number : goal.returns-in_err-number
+returns-in_err-number c =
+    let p = err_from_is_err_and c.from_residual-in_err-number.result c.from_residual-in_err-number.ensures.1 in
+    rw (p.1, p.2) (ends (next_number w64) c.in_err-number.field-0.0 c.loop.numbers.items c.args.count c.loop.counter c.loop.rest.now (many (next_number w64) c.args.count c.args.bytes.now) c.loop-test.true c.in_err-number.ensures c.loop.invariant)
+
+pub loop-preserved : goal.loop-preserved
+loop-preserved c =
+    rw c.in_ok-push.ensures.items (goes_on (next_number w64) c.loop.numbers.items c.args.count c.loop.counter c.loop.rest.now c.in_ok-number.number c.in_ok-number.after.now (many (next_number w64) c.args.count c.args.bytes.now) c.loop-test.true c.in_ok-number.ensures c.loop.invariant)
+
+pub returns : goal.returns
+returns c = is_done (next_number w64) c.loop.numbers.items c.args.count c.loop.counter c.loop.rest.now (many (next_number w64) c.args.count c.args.bytes.now) c.loop-test.false c.loop.invariant

@@ -1,0 +1,7 @@
+use Rattle.std.proofs.Common.{◌≡◌, ◌++◌, take}
+use Rattle.std.specs.List.{flat_map}
+use Rattle.oram_state.specs.Spelling.{tree_text}
+use Rattle.oram_state.proofs.writing.push_trees.Given as goal
+
+abbrev pub invariant-loop-tree : goal.invariant-loop-tree
+invariant-loop-tree l = l.out.items ≡ l.fn.out.items ++ flat_map tree_text (take l.tree-index l.trees)

@@ -1,0 +1,3 @@
+pub mod Spelling
+pub mod WellSized
+pub mod Reading

@@ -1,0 +1,97 @@
+-- What the parts of a core keep to for a file to spell them in one way: how many of each thing there are, and how long.
+use Rattle.std.specs.Prelude.{◌≡◌, ℕ, ◌+◌, ◌-◌, ◌*◌, ◌^◌, ◌<◌, ◌≤◌, ◌==◌, Bool, false, if◌then◌else◌, List, [], ◌∷◌, length, Option, Some, None, ◌⊎◌}
+use Rattle.std.specs.List.{AllByRecursion}
+use Rattle.oram_geometry.specs.declared.Sizes.{Sizes}
+use Rattle.oram_geometry.specs.Sizes.{IsDevice, blocks_in, trees_of}
+use Rattle.oram_bucket.specs.Cell.{Cell}
+use Rattle.oram_tree.specs.Parts.{Parts as TreeParts}
+use Rattle.oram_run.specs.declared.events.Command.{Command}
+use Rattle.oram_run.specs.declared.events.Command.TheVariants.{Read, Write, Discard}
+use Rattle.oram_run.specs.declared.events.Reason.{Reason}
+use Rattle.oram_core.specs.Parts.{Parts}
+use Rattle.oram_core.specs.declared.parts.Pending.{Pending}
+use Rattle.oram_state.specs.Spelling.{Work, work_of, state_file}
+
+-- numbers of four bytes, and of eight
+abbrev pub IsShort : ℕ → Type 0
+IsShort n = n < 2 ^ 32
+
+abbrev pub IsLong : ℕ → Type 0
+IsLong n = n < 2 ^ 64
+
+-- a failed core keeps no table and no trees
+abbrev pub table_len : Sizes → Option Reason → ℕ
+table_len d None = blocks_in d (trees_of d - 1)
+table_len d (Some why) = 0
+
+abbrev pub tree_count : Sizes → Option Reason → ℕ
+tree_count d None = trees_of d
+tree_count d (Some why) = 0
+
+pub record IsSizedBlock (d : Sizes) (c : Cell) : Type 0 where
+  pub address : IsShort c.address
+  pub leaf : IsShort c.leaf
+  pub whole : length c.content ≡ d.block_bytes
+
+pub record IsSizedTree (d : Sizes) (t : TreeParts) : Type 0 where
+  pub root : length t.root ≡ 32
+  pub count : IsShort (length t.stash)
+  pub blocks : AllByRecursion (IsSizedBlock d) t.stash
+
+abbrev pub IsSizedCommand : Sizes → Command → Type 0
+IsSizedCommand d (Read address) = IsShort address
+IsSizedCommand d (Write address content) = IsShort address × (length content ≡ d.block_bytes)
+IsSizedCommand d (Discard address) = IsShort address
+
+pub record IsSizedPending (d : Sizes) (q : Pending) : Type 0 where
+  pub session : IsShort q.session
+  pub command : IsSizedCommand d q.command
+  pub count : length q.words ≡ 2 * trees_of d
+  pub words : AllByRecursion IsLong q.words
+
+-- data is held at the last step alone
+abbrev pub held_len : Sizes → ℕ → ℕ
+held_len d r = if r + 1 == 2 * trees_of d then d.block_bytes else 0
+
+pub record IsSizedWork (d : Sizes) (w : Work) : Type 0 where
+  pub few : length w.waiting ≤ 64
+  pub commands : AllByRecursion (IsSizedPending d) w.waiting
+  pub step : w.r < 2 * trees_of d
+  pub entry : IsShort w.held_entry
+  pub held : length w.held_data ≡ held_len d w.r
+  pub message : IsShort (length w.message)
+
+-- nothing to work on
+abbrev pub no_work : Work
+no_work = record { waiting = []; r = 0; held_entry = 0; held_data = []; message = [] }
+
+pub record IsNoWork (w : Work) (stalled : Bool) : Type 0 where
+  pub none : w ≡ no_work
+  pub not_stalled : stalled ≡ false
+
+-- by why it failed, if it did, and what waits
+abbrev pub IsWorkBy : Sizes → Option Reason → List Pending → Work → Bool → Type 0
+IsWorkBy d (Some why) waiting w stalled = IsNoWork w stalled
+IsWorkBy d None [] w stalled = IsNoWork w stalled
+IsWorkBy d None (first ∷ others) w stalled = IsSizedWork d w
+
+pub record IsWellSized (p : Parts) : Type 0 where
+  pub device : IsDevice p.device
+  pub tickets : IsLong p.tickets
+  pub nonce : IsLong p.nonce
+  pub table : length p.table ≡ table_len p.device p.failure
+  pub entries : AllByRecursion IsShort p.table
+  pub count : length p.trees ≡ tree_count p.device p.failure
+  pub trees : AllByRecursion (IsSizedTree p.device) p.trees
+  pub work : IsWorkBy p.device p.failure p.waiting (work_of p) p.stalled
+
+-- the first version has no file of a core that is at work
+abbrev pub HasFile : ℕ → Parts → Type 0
+HasFile version p = (version ≡ 1) × (p.waiting ≡ []) ⊎ (version ≡ 2)
+
+-- a file of this version spells these parts, under this overhead
+pub record IsFileOf (text : List ℕ) (version overhead : ℕ) (p : Parts) : Type 0 where
+  pub version_known : HasFile version p
+  pub overhead_fits : IsShort overhead
+  pub sized : IsWellSized p
+  pub spelled : text ≡ state_file version overhead p

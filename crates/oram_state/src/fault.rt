@@ -1,0 +1,65 @@
+//! Why bytes are no state file.
+
+ghost use Rattle.std.specs.Prelude.{◌≡◌};
+ghost use Rattle.oram_state.specs.declared.fault.StateFault.TheVariants.{Content, OutOfMemory};
+ghost use Rattle.oram_state.specs.Reading.{fault_number};
+
+use oram_geometry::ShapeFault;
+use std::alloc::{AllocError, AllocFailed};
+
+/// Why bytes are no state file, or can't be read as one.
+#[derive(Clone, Copy, Debug, PartialEq, Eq)]
+pub enum StateFault {
+    /// They don't begin with the eight letters.
+    Magic,
+    /// The version is not known.
+    Version,
+    /// They aren't as many as they say, or fewer than any file has.
+    Length,
+    /// They don't end with the digest of the others.
+    Digest,
+    /// They tell of what no client keeps.
+    Content,
+    /// Memory was refused.
+    OutOfMemory,
+}
+
+impl StateFault {
+    /// The number that is shown, from 1 to 5 in the order above. Refused memory has none.
+    pub fn number(self) -> Option<u8>
+        ensures { result ≡ fault_number self }
+    {
+        match self {
+            StateFault::Magic => Some(1),
+            StateFault::Version => Some(2),
+            StateFault::Length => Some(3),
+            StateFault::Digest => Some(4),
+            StateFault::Content => Some(5),
+            StateFault::OutOfMemory => None,
+        }
+    }
+}
+
+impl From<AllocError> for StateFault {
+    ghost from_gives = { λ _ why. why ≡ OutOfMemory };
+
+    fn from(_error: AllocError) -> StateFault {
+        StateFault::OutOfMemory
+    }
+}
+
+impl<T: Drop> From<AllocFailed<T>> for StateFault {
+    ghost from_gives = { λ _ why. why ≡ OutOfMemory };
+
+    fn from(_error: AllocFailed<T>) -> StateFault {
+        StateFault::OutOfMemory
+    }
+}
+
+impl From<ShapeFault> for StateFault {
+    ghost from_gives = { λ _ why. why ≡ Content };
+
+    fn from(_fault: ShapeFault) -> StateFault {
+        StateFault::Content
+    }
+}

@@ -1,0 +1,61 @@
+//! What stands round the fields of a file: letters, version and length before them, and a digest after them.
+
+ghost use Rattle.std.specs.Prelude.{◌≡◌, ◌≤◌, length, slice_range};
+ghost use Rattle.std.specs.Int.{w32, w64, from_be_bytes};
+ghost use Rattle.oram_state.specs.declared.framing.TheConstants.{LENGTH_END, VERSION_END};
+ghost use Rattle.oram_state.specs.Reading.{Gives, fields_in};
+
+use crate::fault::StateFault;
+use byteorder::{BigEndian, ByteOrder};
+use oram_hash::DIGEST_LEN;
+use sha2::{Digest, Sha256};
+
+pub(crate) const MAGIC: [u8; 8] = *b"PATHORAM";
+
+/// Where the version ends, and where the length does, behind which the fields begin.
+pub(crate) const VERSION_END: usize = 12;
+pub(crate) const LENGTH_END: usize = 20;
+
+/// Bytes of a file beside its fields.
+pub(crate) const FRAME_LEN: usize = LENGTH_END + DIGEST_LEN;
+
+/// The version of a file, and its fields.
+#[tactic(auto, unfolding(crate::specs::Reading::fields_in))]
+pub(crate) fn open(file: &[u8]) -> Result<(u32, &[u8]), StateFault>
+    ensures { Gives (λ x. (x.0, x.1.now)) result (fields_in file.now) }
+{
+    if !file.starts_with(&MAGIC) {
+        return Err(StateFault::Magic);
+    }
+    if file.len() < VERSION_END {
+        return Err(StateFault::Length);
+    }
+    let version = version_told(file);
+    if version != 1 && version != 2 {
+        return Err(StateFault::Version);
+    }
+    if file.len() < FRAME_LEN || length_told(file) != file.len() as u64 {
+        return Err(StateFault::Length);
+    }
+    let (text, digest) = file.split_at(file.len() - DIGEST_LEN);
+    if digest != Sha256::digest(text).as_slice() {
+        return Err(StateFault::Digest);
+    }
+    Ok((version, &text[LENGTH_END..]))
+}
+
+/// The length that a file tells.
+fn length_told(file: &[u8]) -> u64
+    requires { LENGTH_END ≤ length file.now }
+    ensures { result ≡ from_be_bytes w64 (slice_range file.now 12 20) }
+{
+    BigEndian::read_u64(&file[VERSION_END..LENGTH_END])
+}
+
+/// The version that a file tells.
+fn version_told(file: &[u8]) -> u32
+    requires { VERSION_END ≤ length file.now }
+    ensures { result ≡ from_be_bytes w32 (slice_range file.now 8 12) }
+{
+    BigEndian::read_u32(&file[MAGIC.len()..VERSION_END])
+}

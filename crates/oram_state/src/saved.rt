@@ -1,0 +1,49 @@
+//! What a state file tells, part by part.
+
+use crate::mode::Mode;
+use oram_bytes::Bytes;
+use oram_core::{Parts, Pending};
+use oram_geometry::Device;
+use std::marker::Model;
+
+/// What a file tells.
+#[derive(Debug, Drop)]
+pub(crate) struct Saved {
+    /// How many bytes the core's sealer adds.
+    pub(crate) overhead: u32,
+    pub(crate) parts: Parts,
+}
+
+/// What each file begins with.
+#[derive(Debug, Drop)]
+pub(crate) struct Head {
+    pub(crate) device: Device,
+    pub(crate) overhead: u32,
+    pub(crate) mode: Mode,
+    pub(crate) tickets: u64,
+    pub(crate) nonce: u64,
+}
+
+/// What a core is at work on.
+#[derive(Debug, Drop)]
+pub(crate) struct Work {
+    pub(crate) waiting: Vec<Pending>,
+    pub(crate) r: u32,
+    pub(crate) held_entry: u32,
+    pub(crate) held_data: Bytes,
+    pub(crate) message: Bytes,
+}
+
+impl Model for Work {
+    ghost use Rattle.oram_state.specs.Spelling.{Work as WorkValue};
+
+    ghost Value = { WorkValue };
+
+    ghost view = { λ w. record {
+      waiting = w.waiting.items;
+      r = w.r;
+      held_entry = w.held_entry;
+      held_data = w.held_data;
+      message = w.message;
+    } };
+}

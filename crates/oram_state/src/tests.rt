@@ -1,0 +1,2 @@
+use crate::reading::read_state;
+use crate::writing::write_state;
