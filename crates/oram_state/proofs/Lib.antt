@@ -2,3 +2,8 @@ pub mod Loops
 pub mod Written
 pub mod Tools
 pub mod Several
+pub mod Devices
+pub mod Trees
+pub mod Works
+pub mod Whole
+pub mod Framed

@@ -87,7 +87,7 @@ pub record IsWellSized (p : Parts) : Type 0 where
 
 -- the first version has no file of a core that is at work
 abbrev pub HasFile : ℕ → Parts → Type 0
-HasFile version p = (version ≡ 1) × (p.waiting ≡ []) ⊎ (version ≡ 2)
+HasFile version p = ((version ≡ 1) × (p.waiting ≡ [])) ⊎ (version ≡ 2)
 
 -- a file of this version spells these parts, under this overhead
 pub record IsFileOf (text : List ℕ) (version overhead : ℕ) (p : Parts) : Type 0 where

@@ -4,6 +4,11 @@
 //! that stands before. All numbers are big-endian.
 #![tactic(auto)]
 
+ghost use Rattle.std.specs.Prelude.{◌≡◌, ◌↔◌, ◌<◌, ◌^◌, ℕ, List, All, Ok, length};
+ghost use Rattle.oram_core.specs.Parts.{Parts};
+ghost use Rattle.oram_state.specs.Reading.{state_in};
+ghost use Rattle.oram_state.specs.WellSized.{IsFileOf};
+
 mod fault;
 mod fields;
 mod framing;
@@ -15,6 +20,14 @@ mod work;
 mod writing;
 
 pub use fault::StateFault;
+
+/// A text of bytes tells of a core's parts and its sealer's overhead exactly where it is their file, of one version or the
+/// other. So a file tells of one core alone.
+pub fn files_are_exact()
+    ensures { (text : List ℕ) (overhead : ℕ) (p : Parts) → All (λ b. b < 256) text → length text < 2 ^ 64
+        → (state_in text ≡ Ok (record { overhead = overhead; parts = p }))
+            ↔ ((version : ℕ) × IsFileOf text version overhead p) }
+{}
 
 #[cfg(test)]
 mod tests;

@@ -1,6 +1,8 @@
 //! A file is read.
 
-ghost use Rattle.std.specs.Prelude.{◌≡◌};
+ghost use Rattle.std.specs.Prelude.{◌≡◌, ℕ, IfOk, Ok};
+ghost use Rattle.oram_core.specs.Parts.{Parts as PartsValue};
+ghost use Rattle.oram_state.specs.WellSized.{IsFileOf};
 ghost use Rattle.oram_state.specs.Reading.{Gives, next_head, next_saved, saved_in, state_in};
 
 use crate::fault::StateFault;
@@ -81,9 +83,23 @@ fn read_fields(alloc: Global, bytes: &[u8], version: u32) -> Result<Saved, State
 
 /// What a file tells.
 #[tactic(auto, unfolding(crate::specs::Reading::state_in))]
-pub(crate) fn read_state(alloc: Global, file: &[u8]) -> Result<Saved, StateFault>
-    ensures exact { Gives (λ saved. saved) result (state_in file.now) }
+fn read_file(alloc: Global, file: &[u8]) -> Result<Saved, StateFault>
+    ensures { Gives (λ saved. saved) result (state_in file.now) }
 {
     let (version, fields) = open(file)?;
     read_fields(alloc, fields, version)
+}
+
+/// What a file tells, of either version.
+pub(crate) fn read_state(alloc: Global, file: &[u8]) -> Result<Saved, StateFault>
+    // What is told is what the file was written of.
+    ensures found { IfOk result (λ saved. (version : ℕ)
+        × IsFileOf file.now version saved.overhead saved.parts) }
+    // What has a file is told, unless memory is refused.
+    ensures only { (version overhead : ℕ) (p : PartsValue) → IsFileOf file.now version overhead p
+        → Gives (λ saved. saved) result (Ok (record { overhead = overhead; parts = p })) }
+    // Which fault it is.
+    ensures exact { Gives (λ saved. saved) result (state_in file.now) }
+{
+    read_file(alloc, file)
 }
