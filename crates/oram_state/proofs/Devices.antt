@@ -1,11 +1,11 @@
 -- The front of a file: the device, and where the core stands.
-use Rattle.std.proofs.Common.{◌≡◌, ◌≢◌, ℕ, ◌%◌, ◌^◌, ◌<◌, ◌≤◌, Bool, true, false, cond, List, [], ◌∷◌, ◌++◌, Option, Some, None, Result, Ok, Err, refl, sym, ap, subst, ◌∙◌, append_assoc, arith}
+use Rattle.std.proofs.Common.{◌≡◌, ℕ, ◌^◌, Bool, true, false, cond, List, ◌∷◌, ◌++◌, Option, Some, None, Ok, Err, refl, sym, ap, ◌∙◌, append_assoc, arith}
 use Rattle.std.specs.Prelude.{IfOk, ◌&&◌, ◌==◌, ⊤}
 use Rattle.std.proofs.lemmas.Bool.{le-leb, eqb-true}
 use Rattle.std.specs.Int.{w32, w64}
 use Rattle.oram_geometry.specs.declared.Sizes.{Sizes}
 use Rattle.oram_geometry.specs.declared.ShapeFault.{ShapeFault}
-use Rattle.oram_geometry.specs.Sizes.{IsDevice, device_of, device_unless, is_between, range_fault}
+use Rattle.oram_geometry.specs.Sizes.{IsDevice, device_of, device_unless, range_fault}
 use Rattle.oram_geometry.proofs.Ranges.{in_ranges}
 use Rattle.oram_state.specs.declared.fault.StateFault.TheVariants.{Content}
 use Rattle.oram_state.specs.declared.mode.Mode.{Mode}
@@ -13,7 +13,7 @@ use Rattle.oram_state.specs.declared.mode.Mode.TheVariants.{Idle, Failed, Waitin
 use Rattle.oram_state.specs.declared.saved.Head.{Head}
 use Rattle.oram_state.specs.Spelling.{short, long, device_text, mode_number}
 use Rattle.oram_state.specs.WellSized.{IsShort, IsLong}
-use Rattle.oram_state.specs.Reading.{◌>>=◌, known, mode_in, next_byte, next_device, next_head, next_number}
+use Rattle.oram_state.specs.Reading.{known, mode_in, next_byte, next_device, next_head, next_number}
 use Rattle.oram_state.proofs.Tools.{IsBytes, Took, took_both, then_ok, goes, byte_takes, byte_again, short_takes, short_again, long_takes, long_again}
 
 -- ---- the device
@@ -49,7 +49,7 @@ device_takes text h =
     then_ok _ _ (next_number w64 d.1) _ (long_takes d.1 pd.0.bytes) (λ e pe.
     let s : Sizes = record { blocks = a.0; block_bytes = b.0; slots = c.0; top = d.0; lifetime = e.0 } in
     then_ok _ _ (known (device_of s)) _ (known_takes s) (λ f pf.
-      (rw pf.0 (took_both (took_both (took_both (took_both pa.0 pb.0) pc.0) pd.0) pe.0), pf.1)))))))
+    (rw pf.0 (took_both (took_both (took_both (took_both pa.0 pb.0) pc.0) pd.0) pe.0), pf.1)))))))
 
 pub device_again : (d : Sizes) (rest : List ℕ) → IsDevice d → next_device (device_text d ++ rest) ≡ Ok (d, rest)
 unfolding next_device
@@ -57,11 +57,11 @@ device_again d rest h =
     let regrouped : device_text d ++ rest ≡ short d.blocks ++ (short d.block_bytes ++ (short d.slots ++ (short d.top ++ (long d.lifetime ++ rest)))) = simp append_assoc in
     ap next_device regrouped
     ∙ goes _ _ _ _ (short_again d.blocks _ (omega (arith, h.few_blocks)))
-      (goes _ _ _ _ (short_again d.block_bytes _ (omega (arith, h.few_bytes)))
-      (goes _ _ _ _ (short_again d.slots _ (omega (arith, h.few_slots)))
-      (goes _ _ _ _ (short_again d.top _ (omega (arith, h.few_top)))
-      (goes _ _ _ _ (long_again d.lifetime rest (omega (arith, h.few_lifetime)))
-      (goes _ _ _ _ (known_again d h) refl)))))
+    (goes _ _ _ _ (short_again d.block_bytes _ (omega (arith, h.few_bytes)))
+    (goes _ _ _ _ (short_again d.slots _ (omega (arith, h.few_slots)))
+    (goes _ _ _ _ (short_again d.top _ (omega (arith, h.few_top)))
+    (goes _ _ _ _ (long_again d.lifetime rest (omega (arith, h.few_lifetime)))
+    (goes _ _ _ _ (known_again d h) refl)))))
 
 -- ---- where the core stands
 
@@ -113,9 +113,10 @@ head_takes version text h =
     then_ok _ _ (next_byte b.1) _ (byte_takes b.1 pb.0.bytes) (λ c pc.
     then_ok _ _ (mode_in version c.0) _ (mode_takes version c.0) (λ m pm.
     then_ok _ _ (next_number w64 c.1) _ (long_takes c.1 pc.bytes) (λ d pd.
-    then_ok _ _ (next_number w64 d.1) _ (long_takes d.1 pd.0.bytes) (λ e pe.
-      (rw pm.0 (took_both (took_both pa.0 pb.0) (took_both pc (took_both pd.0 pe.0))),
-       record { device = pa.1; overhead = pb.1; mode = pm.1; tickets = pd.1; nonce = pe.1 })))))))
+    then_ok _ _ (next_number w64 d.1) _ (long_takes d.1 pd.0.bytes) (λ e pe. (
+      rw pm.0 (took_both (took_both pa.0 pb.0) (took_both pc (took_both pd.0 pe.0))),
+      record { device = pa.1; overhead = pb.1; mode = pm.1; tickets = pd.1; nonce = pe.1 },
+    )))))))
 
 pub head_again : (version : ℕ) (x : Head) (rest : List ℕ) → IsHead version x → next_head version (head_fields x ++ rest) ≡ Ok (x, rest)
 unfolding next_head
@@ -123,8 +124,8 @@ head_again version x rest h =
     let regrouped : head_fields x ++ rest ≡ device_text x.device ++ (short x.overhead ++ (mode_number x.mode ∷ (long x.tickets ++ (long x.nonce ++ rest)))) = simp append_assoc in
     ap (next_head version) regrouped
     ∙ goes _ _ _ _ (device_again x.device _ h.device)
-      (goes _ _ _ _ (short_again x.overhead _ h.overhead)
-      (goes _ _ _ _ (byte_again (mode_number x.mode) _)
-      (goes _ _ _ _ (mode_again version x.mode h.mode)
-      (goes _ _ _ _ (long_again x.tickets _ h.tickets)
-      (goes _ _ _ _ (long_again x.nonce rest h.nonce) refl)))))
+    (goes _ _ _ _ (short_again x.overhead _ h.overhead)
+    (goes _ _ _ _ (byte_again (mode_number x.mode) _)
+    (goes _ _ _ _ (mode_again version x.mode h.mode)
+    (goes _ _ _ _ (long_again x.tickets _ h.tickets)
+    (goes _ _ _ _ (long_again x.nonce rest h.nonce) refl)))))

@@ -1,5 +1,5 @@
 -- What stands round the fields of a file, and the whole.
-use Rattle.std.proofs.Common.{◌≡◌, ℕ, zero, suc, ◌-◌, ◌+◌, ◌^◌, ◌<◌, ◌≤◌, Bool, true, false, cond, List, [], ◌∷◌, ◌++◌, length, take, drop, Option, Some, None, Result, Ok, Err, refl, sym, ap, subst, ◌∙◌, append_assoc, arith, rules, inl, inr}
+use Rattle.std.proofs.Common.{◌≡◌, ℕ, ◌-◌, ◌+◌, ◌^◌, ◌<◌, ◌≤◌, Bool, true, false, List, [], ◌∷◌, ◌++◌, length, take, drop, Option, Some, None, Result, Ok, Err, refl, sym, ap, subst, ◌∙◌, append_assoc, arith, rules, inl, inr}
 use Rattle.std.specs.Prelude.{IfOk, ◌==◌, ◌&&◌, ◌||◌, ◌⊎◌, ◌↔◌, nat_eq, nat_le, codes, slice_range}
 use Rattle.std.specs.List.{starts_with}
 use Rattle.std.specs.Cmp.Lexicographic.{pointwise, same_text}
@@ -16,7 +16,7 @@ use Rattle.oram_core.specs.declared.parts.Pending.{Pending}
 use Rattle.oram_state.specs.declared.fault.StateFault.{StateFault}
 use Rattle.oram_state.specs.declared.fault.StateFault.TheVariants.{Magic, Version, Length, Digest}
 use Rattle.oram_state.specs.declared.saved.Saved.{Saved}
-use Rattle.oram_state.specs.Spelling.{Work, short, long, body, with_digest, state_file, fields_text, mode_by, mode_of, work_of}
+use Rattle.oram_state.specs.Spelling.{Work, short, long, body, with_digest, fields_text, mode_by, mode_of, work_of}
 use Rattle.oram_state.specs.WellSized.{IsWellSized, IsWorkBy, HasFile, IsFileOf}
 use Rattle.oram_state.specs.Reading.{◌>>=◌, Gives, ends_with_digest, fields_in, saved_in, state_in, unless}
 use Rattle.oram_state.proofs.Tools.{IsBytes, IsBytes-take, IsBytes-drop, is_short, is_long, then_ok, goes, unless_ok}
@@ -40,14 +40,14 @@ framed text bytes letters least told digest =
     let len : long n ≡ slice_range text 12 20 = ap long (sym told) ∙ is_long.back (slice_range text 12 20) (omega (arith, length-take 8 (drop 12 text), length-drop 12 text)) (IsBytes-take 8 (drop 12 text) (IsBytes-drop 12 text bytes)) in
     let count : n ≡ 52 + length fields = omega (arith, length-take (n - 32 - 20) (drop 20 text), length-drop 20 text) in
     let whole : text ≡ codes "PATHORAM" ++ (short (told_version text) ++ (long n ++ (fields ++ drop (n - 32) text))) =
-        sym (take-append-drop 8 text) ∙ ap (λ (x : List ℕ). x ++ drop 8 text) (sym letters)
-        ∙ ap (λ (x : List ℕ). codes "PATHORAM" ++ x) (drop_split text 8 12 (omega arith) ∙ ap (λ (x : List ℕ). x ++ drop 12 text) (sym version)
-          ∙ ap (λ (x : List ℕ). short (told_version text) ++ x) (drop_split text 12 20 (omega arith) ∙ ap (λ (x : List ℕ). x ++ drop 20 text) (sym len)
-            ∙ ap (λ (x : List ℕ). long n ++ x) (drop_split text 20 (n - 32) (omega (arith, least))))) in
+    sym (take-append-drop 8 text) ∙ ap (λ (x : List ℕ). x ++ drop 8 text) (sym letters)
+    ∙ ap (λ (x : List ℕ). codes "PATHORAM" ++ x) (drop_split text 8 12 (omega arith) ∙ ap (λ (x : List ℕ). x ++ drop 12 text) (sym version)
+    ∙ ap (λ (x : List ℕ). short (told_version text) ++ x) (drop_split text 12 20 (omega arith) ∙ ap (λ (x : List ℕ). x ++ drop 20 text) (sym len)
+    ∙ ap (λ (x : List ℕ). long n ++ x) (drop_split text 20 (n - 32) (omega (arith, least))))) in
     let regrouped : text ≡ body (told_version text) fields ++ drop (n - 32) text =
-        whole ∙ regroup (short (told_version text)) (long n) fields (drop (n - 32) text) ∙ ap (λ (k : ℕ). (codes "PATHORAM" ++ short (told_version text) ++ long k ++ fields) ++ drop (n - 32) text) count in
+    whole ∙ regroup (short (told_version text)) (long n) fields (drop (n - 32) text) ∙ ap (λ (k : ℕ). (codes "PATHORAM" ++ short (told_version text) ++ long k ++ fields) ++ drop (n - 32) text) count in
     let front : take (n - 32) text ≡ body (told_version text) fields =
-        ap (take (n - 32)) regrouped ∙ take_at (body (told_version text) fields) (drop (n - 32) text) (n - 32) (omega (arith, count, length-body (told_version text) fields)) in
+    ap (take (n - 32)) regrouped ∙ take_at (body (told_version text) fields) (drop (n - 32) text) (n - 32) (omega (arith, count, length-body (told_version text) fields)) in
     regrouped ∙ ap (λ (x : List ℕ). body (told_version text) fields ++ x) (digest ∙ ap sha256 front)
   where
     regroup : (a b c e : List ℕ) → codes "PATHORAM" ++ (a ++ (b ++ (c ++ e))) ≡ (codes "PATHORAM" ++ a ++ b ++ c) ++ e
@@ -71,10 +71,11 @@ fields_takes text h =
     then_ok _ _ (unless Version (told_version text == 1 || told_version text == 2)) _ (unless_ok Version (told_version text == 1 || told_version text == 2)) (λ _ version.
     then_ok _ _ (unless Length (nat_le 52 n && from_be_bytes w64 (slice_range text 12 20) == n)) _ (unless_ok Length (nat_le 52 n && from_be_bytes w64 (slice_range text 12 20) == n)) (λ _ len.
     then_ok _ _ (unless Digest (ends_with_digest text)) _ (unless_ok Digest (ends_with_digest text)) (λ _ digest.
-      let both = both_true (nat_le 52 n) (from_be_bytes w64 (slice_range text 12 20) == n) len in
-      (framed text h (same_text (codes "PATHORAM") (take 8 text) (sym letters)) (leb-true 52 n both.0) (eqb-true _ n both.1) (same_text (drop (n - 32) text) (sha256 (take (n - 32) text)) (sym digest)),
-       known_of (told_version text) (told_version text == 1) (told_version text == 2) refl refl version,
-       IsBytes-take (n - 32 - 20) (drop 20 text) (IsBytes-drop 20 text h)))))))
+    let both = both_true (nat_le 52 n) (from_be_bytes w64 (slice_range text 12 20) == n) len in (
+      framed text h (same_text (codes "PATHORAM") (take 8 text) (sym letters)) (leb-true 52 n both.0) (eqb-true _ n both.1) (same_text (drop (n - 32) text) (sha256 (take (n - 32) text)) (sym digest)),
+      known_of (told_version text) (told_version text == 1) (told_version text == 2) refl refl version,
+      IsBytes-take (n - 32 - 20) (drop 20 text) (IsBytes-drop 20 text h),
+    ))))))
 
 -- ---- again
 
@@ -119,11 +120,11 @@ fields_again version fields is_known fits =
     let digest : ends_with_digest text ≡ true = digest_again (body version fields) (length text - 32) (omega (arith, n, length-body version fields)) in
     let rest : told_fields text ≡ fields = ap (take (length text - 32 - 20)) (after_head version fields) ∙ take_at fields (sha256 (body version fields)) (length text - 32 - 20) (omega (arith, n)) in
     passes Magic _ _ _ letters
-      (passes Length _ _ _ (le-leb 12 (length text) (omega (arith, n)))
-      (passes Version _ _ _ tested
-      (passes Length _ _ _ counted
-      (passes Digest _ _ _ digest
-        (ok_pair (told_version text) version (told_fields text) fields told rest)))))
+    (passes Length _ _ _ (le-leb 12 (length text) (omega (arith, n)))
+    (passes Version _ _ _ tested
+    (passes Length _ _ _ counted
+    (passes Digest _ _ _ digest
+    (ok_pair (told_version text) version (told_fields text) fields told rest)))))
   where
     same : (k : ℕ) → (k == k) ≡ true
     same k = search rules
@@ -172,7 +173,7 @@ state_again text version overhead p fits h =
     let fields = fields_text overhead p in
     ap state_in h.spelled
     ∙ goes _ _ _ _ (fields_again version fields (known_file version p h.version_known) (subst (λ (x : List ℕ). length x < 2 ^ 64) h.spelled fits))
-      (all_again version s (is_mode version p.failure p.waiting p.stalled h.version_known, h.overhead_fits, h.sized))
+    (all_again version s (is_mode version p.failure p.waiting p.stalled h.version_known, h.overhead_fits, h.sized))
 
 pub found : (text : List ℕ) (r : Result Saved StateFault) → IsBytes text → Gives (λ s. s) r (state_in text) → IfOk r (λ s. (version : ℕ) × IsFileOf text version s.overhead s.parts)
 found text (Ok s) h e = subst (λ (x : Result Saved StateFault). IfOk x (λ s. (version : ℕ) × IsFileOf text version s.overhead s.parts)) e (state_takes text h)

@@ -7,3 +7,4 @@ pub mod Trees
 pub mod Works
 pub mod Whole
 pub mod Framed
+pub mod Rows

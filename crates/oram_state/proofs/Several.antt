@@ -1,9 +1,9 @@
 -- Several things of one kind, one after the other.
-use Rattle.std.proofs.Common.{◌≡◌, ℕ, zero, suc, List, [], ◌∷◌, ◌++◌, length, Result, Ok, Err, refl, sym, ap, ◌∙◌, append_assoc}
+use Rattle.std.proofs.Common.{◌≡◌, ℕ, zero, suc, List, [], ◌∷◌, ◌++◌, length, Ok, refl, ap, ◌∙◌, append_assoc}
 use Rattle.std.specs.Prelude.{IfOk}
 use Rattle.std.specs.List.{flat_map, AllByRecursion}
 use Rattle.std.proofs.lemmas.List.Concat.{flat_map-cons}
-use Rattle.oram_state.specs.Reading.{◌>>=◌, Reading, many}
+use Rattle.oram_state.specs.Reading.{Reading, many}
 use Rattle.oram_state.proofs.Tools.{IsBytes, Took, took_both, then_ok, goes}
 
 -- a reader takes such things alone, and takes each of them again
@@ -17,7 +17,7 @@ unfolding many
 many_takes spelled Is next law zero text h = (record { parts = refl; bytes = h }, refl, tt)
 many_takes spelled Is next law (suc n) text h =
     then_ok _ _ (next text) _ (law.takes text h) (λ a p. then_ok _ _ (many next n a.1) _ (many_takes spelled Is next law n a.1 p.0.bytes) (λ b q.
-      (rw flat_map-cons (took_both p.0 q.0), ap suc q.1, (p.1, q.2))))
+    (rw flat_map-cons (took_both p.0 q.0), ap suc q.1, (p.1, q.2))))
 
 pub many_again : {X : Type 0} (spelled : X → List ℕ) (Is : X → Type 0) (next : List ℕ → Reading X) → Law spelled Is next → (xs : List X) (rest : List ℕ) → AllByRecursion Is xs
     → many next (length xs) (flat_map spelled xs ++ rest) ≡ Ok (xs, rest)
@@ -27,4 +27,4 @@ many_again spelled Is next law (x ∷ xs) rest h =
     let regrouped : flat_map spelled (x ∷ xs) ++ rest ≡ spelled x ++ (flat_map spelled xs ++ rest) = ap (λ (y : List ℕ). y ++ rest) (flat_map-cons spelled x xs) ∙ append_assoc (spelled x) (flat_map spelled xs) rest in
     ap (many next (suc (length xs))) regrouped
     ∙ goes (next (spelled x ++ (flat_map spelled xs ++ rest))) (x, flat_map spelled xs ++ rest) _ _ (law.again x (flat_map spelled xs ++ rest) h.0)
-      (goes (many next (length xs) (flat_map spelled xs ++ rest)) (xs, rest) _ _ (many_again spelled Is next law xs rest h.1) refl)
+    (goes (many next (length xs) (flat_map spelled xs ++ rest)) (xs, rest) _ _ (many_again spelled Is next law xs rest h.1) refl)

@@ -1,7 +1,7 @@
 -- What a reader took from the front of a text, and what was written there.
-use Rattle.std.proofs.Common.{◌≡◌, ℕ, suc, ◌+◌, ◌^◌, ◌<◌, ◌≤◌, Bool, true, false, cond, ltb, List, [], ◌∷◌, ◌++◌, length, get_or, take, drop, Result, Ok, Err, refl, sym, ap, subst, ◌∙◌, append_assoc, arith, inl, inr}
+use Rattle.std.proofs.Common.{◌≡◌, ℕ, suc, ◌+◌, ◌^◌, ◌<◌, ◌≤◌, Bool, true, false, cond, ltb, List, [], ◌∷◌, ◌++◌, length, get_or, take, drop, Result, Ok, Err, refl, sym, ap, ◌∙◌, append_assoc, arith, inl, inr}
 use Rattle.std.specs.Prelude.{IfOk}
-use Rattle.std.specs.Int.{Width, w32, w64, byte_len, from_be_bytes, to_be_bytes}
+use Rattle.std.specs.Int.{Width, w32, w64, byte_len, from_be_bytes}
 use Rattle.std.proofs.lemmas.Bool.{cases_lt, ltb-false, le-ltb}
 use Rattle.std.proofs.lemmas.List.{take_at, drop_at, take-append-drop, length-append, length-take, get_or-drop, get_or-take, get_or_past}
 use Rattle.std.proofs.lemmas.Nat.{be_bytes_4, be_bytes_8, from_be_bytes-to_be_bytes_4, from_be_bytes-to_be_bytes_8}
@@ -9,7 +9,7 @@ use Rattle.oram_state.specs.declared.fault.StateFault.{StateFault}
 use Rattle.oram_state.specs.declared.fault.StateFault.TheVariants.{Content}
 use Rattle.oram_state.specs.Spelling.{short, long}
 use Rattle.oram_state.specs.WellSized.{IsShort, IsLong}
-use Rattle.oram_state.specs.Reading.{◌>>=◌, Reading, next_byte, next_bytes, next_number, unless}
+use Rattle.oram_state.specs.Reading.{◌>>=◌, next_byte, next_bytes, next_number, unless}
 
 abbrev pub IsBytes : List ℕ → Type 0
 IsBytes bytes = (i : ℕ) → get_or bytes i 0 < 256
@@ -104,9 +104,10 @@ number_takes_by : (w : Width) (limit : ℕ) (spelled : ℕ → List ℕ) → IsW
 number_takes_by w limit spelled wide text true e h = tt
 number_takes_by w limit spelled wide text false e h =
     let enough : byte_len w ≤ length text = ltb-false _ _ (sym e) in
-    let front : spelled (from_be_bytes w (take (byte_len w) text)) ≡ take (byte_len w) text = wide.back (take (byte_len w) text) (omega (arith, length-take (byte_len w) text)) (IsBytes-take (byte_len w) text h) in
-    (record { parts = sym (ap (λ (x : List ℕ). x ++ drop (byte_len w) text) front ∙ take-append-drop (byte_len w) text); bytes = IsBytes-drop (byte_len w) text h },
-     wide.below (take (byte_len w) text) (IsBytes-take (byte_len w) text h))
+    let front : spelled (from_be_bytes w (take (byte_len w) text)) ≡ take (byte_len w) text = wide.back (take (byte_len w) text) (omega (arith, length-take (byte_len w) text)) (IsBytes-take (byte_len w) text h) in (
+      record { parts = sym (ap (λ (x : List ℕ). x ++ drop (byte_len w) text) front ∙ take-append-drop (byte_len w) text); bytes = IsBytes-drop (byte_len w) text h },
+      wide.below (take (byte_len w) text) (IsBytes-take (byte_len w) text h),
+    )
 
 pub number_takes : (w : Width) (limit : ℕ) (spelled : ℕ → List ℕ) → IsWide w limit spelled → (text : List ℕ) → IsBytes text → IfOk (next_number w text) (λ x. Took text (spelled x.0) x.1 × (x.0 < limit))
 unfolding next_number

@@ -1,9 +1,9 @@
 -- What a file tells of a core that did not fail, its trees, and of one that did, the reason.
-use Rattle.std.proofs.Common.{◌≡◌, ℕ, ◌^◌, ◌<◌, Bool, true, false, cond, List, [], ◌∷◌, ◌++◌, length, Option, Some, None, Result, Ok, Err, refl, sym, ap, subst, ◌∙◌, append_assoc, arith}
+use Rattle.std.proofs.Common.{◌≡◌, ℕ, Bool, true, false, cond, List, [], ◌∷◌, ◌++◌, length, Option, Some, None, Ok, Err, refl, sym, ap, ◌∙◌, append_assoc}
 use Rattle.std.specs.Prelude.{IfOk, ◌&&◌, ◌==◌, ⊤}
 use Rattle.std.specs.List.{flat_map}
 use Rattle.std.proofs.lemmas.Bool.{eqb-true}
-use Rattle.std.specs.Int.{w32, w64}
+use Rattle.std.specs.Int.{w32}
 use Rattle.oram_geometry.specs.declared.Sizes.{Sizes}
 use Rattle.oram_bucket.specs.Cell.{Cell}
 use Rattle.oram_tree.specs.Parts.{Parts as TreeParts}
@@ -13,9 +13,9 @@ use Rattle.oram_state.specs.declared.fault.StateFault.TheVariants.{Content}
 use Rattle.oram_state.specs.declared.mode.Mode.{Mode}
 use Rattle.oram_state.specs.declared.mode.Mode.TheVariants.{Idle, Failed, Waiting, Stalled}
 use Rattle.oram_state.specs.Spelling.{short, block_text, tree_text, reason_text, failure_text}
-use Rattle.oram_state.specs.WellSized.{IsShort, IsSizedBlock, IsSizedTree}
-use Rattle.oram_state.specs.Reading.{◌>>=◌, many, next_block, next_byte, next_bytes, next_failure, next_number, next_reason, next_tree, reason_in}
-use Rattle.oram_state.proofs.Tools.{IsBytes, Took, took_both, then_ok, goes, byte_takes, byte_again, bytes_takes, bytes_again, short_takes, short_again}
+use Rattle.oram_state.specs.WellSized.{IsSizedBlock, IsSizedTree}
+use Rattle.oram_state.specs.Reading.{many, next_block, next_byte, next_bytes, next_failure, next_number, next_reason, next_tree, reason_in}
+use Rattle.oram_state.proofs.Tools.{IsBytes, Took, took_both, then_ok, goes, byte_takes, bytes_takes, bytes_again, short_takes, short_again}
 use Rattle.oram_state.proofs.Several.{Law, many_takes, many_again}
 use Rattle.oram_state.proofs.Devices.{both_true}
 
@@ -49,7 +49,7 @@ reason_takes text h =
     then_ok _ _ (next_byte b.1) _ (byte_takes b.1 pb.bytes) (λ c pc.
     then_ok _ _ (next_byte c.1) _ (byte_takes c.1 pc.bytes) (λ d pd.
     then_ok _ _ (reason_in a.0 b.0 c.0 d.0) _ (reason_known a.0 b.0 c.0 d.0) (λ why pw.
-      rw pw (took_both pa (took_both pb (took_both pc pd))))))))
+    rw pw (took_both pa (took_both pb (took_both pc pd))))))))
 
 reason_again : (why : Reason) (rest : List ℕ) → next_reason (reason_text why ++ rest) ≡ Ok (why, rest)
 unfolding next_reason next_byte
@@ -90,7 +90,7 @@ block_takes d text h =
     then_ok _ _ (next_number w32 text) _ (short_takes text h) (λ a pa.
     then_ok _ _ (next_number w32 a.1) _ (short_takes a.1 pa.0.bytes) (λ b pb.
     then_ok _ _ (next_bytes d.block_bytes b.1) _ (bytes_takes d.block_bytes b.1 pb.0.bytes) (λ c pc.
-      (took_both (took_both pa.0 pb.0) pc.0, record { address = pa.1; leaf = pb.1; whole = pc.1 }))))
+    (took_both (took_both pa.0 pb.0) pc.0, record { address = pa.1; leaf = pb.1; whole = pc.1 }))))
 
 block_again : (d : Sizes) (c : Cell) (rest : List ℕ) → IsSizedBlock d c → next_block d (block_text c ++ rest) ≡ Ok (c, rest)
 unfolding next_block
@@ -98,8 +98,8 @@ block_again d c rest h =
     let regrouped : block_text c ++ rest ≡ short c.address ++ (short c.leaf ++ (c.content ++ rest)) = simp append_assoc in
     ap (next_block d) regrouped
     ∙ goes _ _ _ _ (short_again c.address _ h.address)
-      (goes _ _ _ _ (short_again c.leaf _ h.leaf)
-      (goes _ _ _ _ (bytes_again d.block_bytes c.content rest h.whole) refl))
+    (goes _ _ _ _ (short_again c.leaf _ h.leaf)
+    (goes _ _ _ _ (bytes_again d.block_bytes c.content rest h.whole) refl))
 
 block_law : (d : Sizes) → Law block_text (IsSizedBlock d) (next_block d)
 block_law d = record { takes = block_takes d; again = block_again d }
@@ -110,7 +110,7 @@ tree_takes d text h =
     then_ok _ _ (next_bytes 32 text) _ (bytes_takes 32 text h) (λ a pa.
     then_ok _ _ (next_number w32 a.1) _ (short_takes a.1 pa.0.bytes) (λ b pb.
     then_ok _ _ (many (next_block d) b.0 b.1) _ (many_takes block_text (IsSizedBlock d) (next_block d) (block_law d) b.0 b.1 pb.0.bytes) (λ c pc.
-      (rw pc.1 (took_both (took_both pa.0 pb.0) pc.0), record { root = pa.1; count = rw pc.1 pb.1; blocks = pc.2 }))))
+    (rw pc.1 (took_both (took_both pa.0 pb.0) pc.0), record { root = pa.1; count = rw pc.1 pb.1; blocks = pc.2 }))))
 
 tree_again : (d : Sizes) (t : TreeParts) (rest : List ℕ) → IsSizedTree d t → next_tree d (tree_text t ++ rest) ≡ Ok (t, rest)
 unfolding next_tree
@@ -118,8 +118,8 @@ tree_again d t rest h =
     let regrouped : tree_text t ++ rest ≡ t.root ++ (short (length t.stash) ++ (flat_map block_text t.stash ++ rest)) = simp append_assoc in
     ap (next_tree d) regrouped
     ∙ goes _ _ _ _ (bytes_again 32 t.root _ h.root)
-      (goes _ _ _ _ (short_again (length t.stash) _ h.count)
-      (goes _ _ _ _ (many_again block_text (IsSizedBlock d) (next_block d) (block_law d) t.stash rest h.blocks) refl))
+    (goes _ _ _ _ (short_again (length t.stash) _ h.count)
+    (goes _ _ _ _ (many_again block_text (IsSizedBlock d) (next_block d) (block_law d) t.stash rest h.blocks) refl))
 
 pub tree_law : (d : Sizes) → Law tree_text (IsSizedTree d) (next_tree d)
 tree_law d = record { takes = tree_takes d; again = tree_again d }

@@ -1,25 +1,22 @@
 -- The fields of a file are those of parts that have one, and are read again.
-use Rattle.std.proofs.Common.{◌≡◌, ℕ, zero, suc, ◌-◌, ◌+◌, ◌^◌, ◌<◌, ◌≤◌, Bool, true, false, cond, List, [], ◌∷◌, ◌++◌, length, Option, Some, None, Result, Ok, Err, refl, sym, ap, subst, ◌∙◌, append_assoc, append-nil, arith, inl, inr}
-use Rattle.std.specs.Prelude.{IfOk, ◌==◌, ◌⊎◌}
+use Rattle.std.proofs.Common.{◌≡◌, ℕ, ◌≤◌, Bool, true, false, List, [], ◌∷◌, ◌++◌, length, Option, Some, None, Ok, refl, sym, ap, ◌∙◌, append_assoc, append-nil, arith}
+use Rattle.std.specs.Prelude.{IfOk, ◌==◌}
 use Rattle.std.specs.List.{flat_map, AllByRecursion}
 use Rattle.std.proofs.lemmas.Bool.{eqb-true}
 use Rattle.std.proofs.lemmas.List.{nil_from_length}
-use Rattle.std.specs.Int.{w32, w64}
+use Rattle.std.specs.Int.{w32}
 use Rattle.oram_geometry.specs.declared.Sizes.{Sizes}
-use Rattle.oram_geometry.specs.Sizes.{IsDevice}
 use Rattle.oram_tree.specs.Parts.{Parts as TreeParts}
 use Rattle.oram_run.specs.declared.events.Reason.{Reason}
-use Rattle.oram_core.specs.Parts.{Parts}
 use Rattle.oram_core.specs.declared.parts.Pending.{Pending}
-use Rattle.oram_state.specs.declared.fault.StateFault.{StateFault}
 use Rattle.oram_state.specs.declared.fault.StateFault.TheVariants.{Content}
 use Rattle.oram_state.specs.declared.mode.Mode.{Mode}
 use Rattle.oram_state.specs.declared.mode.Mode.TheVariants.{Idle, Failed, Waiting, Stalled}
 use Rattle.oram_state.specs.declared.saved.Head.{Head}
 use Rattle.oram_state.specs.declared.saved.Saved.{Saved}
-use Rattle.oram_state.specs.Spelling.{Work, short, tree_text, failure_text, work_text, work_of, mode_by, mode_of, head_text, rest_text, fields_text}
-use Rattle.oram_state.specs.WellSized.{IsShort, IsLong, IsSizedTree, IsNoWork, IsWorkBy, IsWellSized, HasFile, no_work, table_len, tree_count}
-use Rattle.oram_state.specs.Reading.{◌>>=◌, Reading, is_stalled, many, next_failure, next_head, next_number, next_saved, next_tree, next_work_in, saved_in, saved_of, unless}
+use Rattle.oram_state.specs.Spelling.{Work, short, tree_text, failure_text, work_text, work_of, mode_by, mode_of, rest_text, fields_text}
+use Rattle.oram_state.specs.WellSized.{IsShort, IsSizedTree, IsNoWork, IsWorkBy, IsWellSized, table_len, tree_count}
+use Rattle.oram_state.specs.Reading.{is_stalled, many, next_failure, next_head, next_number, next_saved, next_tree, next_work_in, saved_in, saved_of, unless}
 use Rattle.oram_state.proofs.Tools.{IsBytes, Took, took_both, then_ok, goes, unless_ok, short_takes, short_again}
 use Rattle.oram_state.proofs.Several.{Law, many_takes, many_again}
 use Rattle.oram_state.proofs.Devices.{IsModeOf, IsHead, head_fields, head_takes, head_again}
@@ -77,10 +74,14 @@ fields_of : (version : ℕ) (h : Head) (failure : Option Reason) (table : List �
     → Took text (head_fields h) a → Took a (failure_text failure) b → Took b (flat_map short table) c → Took c (flat_map tree_text trees) e → Took e (work_text w) rest
     → (let s = saved_of h failure table trees w in Took text (fields_text s.overhead s.parts) rest × MayTell version s)
 fields_of version h failure table trees w head f work len entries count sized p q r s t =
-    let mode = mode_made h.device h.mode failure w f work in
-    (rw mode (took_both p (took_both (took_both (took_both q r) s) t)),
-     (rw mode head.mode, head.overhead,
-      record { device = head.device; tickets = head.tickets; nonce = head.nonce; table = len; entries = entries; count = count; trees = sized; work = work_made h.device h.mode failure w f work }))
+    let mode = mode_made h.device h.mode failure w f work in (
+      rw mode (took_both p (took_both (took_both (took_both q r) s) t)),
+      (
+        rw mode head.mode,
+        head.overhead,
+        record { device = head.device; tickets = head.tickets; nonce = head.nonce; table = len; entries = entries; count = count; trees = sized; work = work_made h.device h.mode failure w f work },
+      ),
+    )
 
 saved_takes : (version : ℕ) (text : List ℕ) → IsBytes text → IfOk (next_saved version text) (λ x. Took text (fields_text x.0.overhead x.0.parts) x.1 × MayTell version x.0)
 unfolding next_saved
@@ -90,7 +91,7 @@ saved_takes version text h =
     then_ok _ _ (many (next_number w32) (table_len a.0.device b.0) b.1) _ (many_takes short IsShort (next_number w32) short_law (table_len a.0.device b.0) b.1 pb.0.bytes) (λ c pc.
     then_ok _ _ (many (next_tree a.0.device) (tree_count a.0.device b.0) c.1) _ (many_takes tree_text (IsSizedTree a.0.device) (next_tree a.0.device) (tree_law a.0.device) (tree_count a.0.device b.0) c.1 pc.0.bytes) (λ e pe.
     then_ok _ _ (next_work_in a.0.device a.0.mode e.1) _ (work_in_takes a.0.device a.0.mode e.1 pe.0.bytes) (λ f pf.
-      fields_of version a.0 b.0 c.0 e.0 f.0 pa.1 pb.1 pf.1 pc.1 pc.2 pe.1 pe.2 pa.0 pb.0 pc.0 pe.0 pf.0)))))
+    fields_of version a.0 b.0 c.0 e.0 f.0 pa.1 pb.1 pf.1 pc.1 pc.2 pe.1 pe.2 pa.0 pb.0 pc.0 pe.0 pf.0)))))
 
 -- ---- again
 
@@ -121,19 +122,19 @@ saved_again version s rest may =
     let w = work_of p in
     let head : Head = record { device = p.device; overhead = s.overhead; mode = mode; tickets = p.tickets; nonce = p.nonce } in
     let regrouped : fields_text s.overhead p ++ rest ≡ head_fields head ++ (failure_text p.failure ++ (flat_map short p.table ++ (flat_map tree_text p.trees ++ (work_text w ++ rest)))) =
-        append_assoc (head_fields head) (rest_text p) rest ∙ ap (λ (x : List ℕ). head_fields head ++ x) (regroup (failure_text p.failure) (flat_map short p.table) (flat_map tree_text p.trees) (work_text w)) in
+    append_assoc (head_fields head) (rest_text p) rest ∙ ap (λ (x : List ℕ). head_fields head ++ x) (regroup (failure_text p.failure) (flat_map short p.table) (flat_map tree_text p.trees) (work_text w)) in
     let table : many (next_number w32) (table_len p.device p.failure) (flat_map short p.table ++ (flat_map tree_text p.trees ++ (work_text w ++ rest))) ≡ Ok (p.table, flat_map tree_text p.trees ++ (work_text w ++ rest)) =
-        rw (← h.table) (many_again short IsShort (next_number w32) short_law p.table _ h.entries) in
+    rw (← h.table) (many_again short IsShort (next_number w32) short_law p.table _ h.entries) in
     let trees : many (next_tree p.device) (tree_count p.device p.failure) (flat_map tree_text p.trees ++ (work_text w ++ rest)) ≡ Ok (p.trees, work_text w ++ rest) =
-        rw (← h.count) (many_again tree_text (IsSizedTree p.device) (next_tree p.device) (tree_law p.device) p.trees _ h.trees) in
+    rw (← h.count) (many_again tree_text (IsSizedTree p.device) (next_tree p.device) (tree_law p.device) p.trees _ h.trees) in
     let stalled : is_stalled mode ≡ p.stalled = stalled_is p.device p.failure p.waiting w p.stalled h.work in
     ap (next_saved version) regrouped
     ∙ goes _ _ _ _ (head_again version head _ (record { device = h.device; overhead = may.1; mode = may.0; tickets = h.tickets; nonce = h.nonce }))
-      (goes _ _ _ _ (failure_again mode p.failure _ (failure_is p.failure p.waiting p.stalled))
-      (goes _ _ _ _ table
-      (goes _ _ _ _ trees
-      (goes _ _ _ _ (work_in_again p.device mode w rest h.device (work_is p.device p.failure p.waiting w p.stalled refl h.work))
-        (ap (λ (b : Bool). Ok (record { overhead = s.overhead; parts = record p { stalled = b } }, rest)) stalled)))))
+    (goes _ _ _ _ (failure_again mode p.failure _ (failure_is p.failure p.waiting p.stalled))
+    (goes _ _ _ _ table
+    (goes _ _ _ _ trees
+    (goes _ _ _ _ (work_in_again p.device mode w rest h.device (work_is p.device p.failure p.waiting w p.stalled refl h.work))
+    (ap (λ (b : Bool). Ok (record { overhead = s.overhead; parts = record p { stalled = b } }, rest)) stalled)))))
   where
     regroup : (a b c e : List ℕ) → (((a ++ b) ++ c) ++ e) ++ rest ≡ a ++ (b ++ (c ++ (e ++ rest)))
     regroup a b c e = simp append_assoc
@@ -145,8 +146,8 @@ unfolding saved_in
 all_takes version text h =
     then_ok _ _ (next_saved version text) _ (saved_takes version text h) (λ a pa.
     then_ok _ _ (unless Content (length a.1 == 0)) _ (unless_ok Content (length a.1 == 0)) (λ _ ended.
-      let nothing : a.1 ≡ [] = nil_from_length a.1 (eqb-true (length a.1) 0 ended) in
-      (pa.0.parts ∙ ap (λ (x : List ℕ). fields_text a.0.overhead a.0.parts ++ x) nothing ∙ append-nil _, pa.1)))
+    let nothing : a.1 ≡ [] = nil_from_length a.1 (eqb-true (length a.1) 0 ended) in
+    (pa.0.parts ∙ ap (λ (x : List ℕ). fields_text a.0.overhead a.0.parts ++ x) nothing ∙ append-nil _, pa.1)))
 
 pub all_again : (version : ℕ) (s : Saved) → MayTell version s → saved_in version (fields_text s.overhead s.parts) ≡ Ok s
 unfolding saved_in

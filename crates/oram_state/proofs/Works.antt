@@ -1,6 +1,6 @@
 -- What a file tells of a core at work.
-use Rattle.std.proofs.Common.{◌≡◌, ℕ, zero, suc, ◌+◌, ◌*◌, ◌^◌, ◌<◌, ◌≤◌, Bool, true, false, cond, List, [], ◌∷◌, ◌++◌, length, Option, Some, None, Result, Ok, Err, refl, sym, ap, subst, ◌∙◌, append_assoc, arith}
-use Rattle.std.specs.Prelude.{IfOk, ◌&&◌, ◌==◌, nat_lt, nat_le, ⊤}
+use Rattle.std.proofs.Common.{◌≡◌, ℕ, ◌*◌, ◌<◌, ◌≤◌, Bool, true, false, cond, List, [], ◌∷◌, ◌++◌, length, Result, Ok, Err, refl, sym, ap, ◌∙◌, append_assoc, arith}
+use Rattle.std.specs.Prelude.{IfOk, ◌==◌, nat_lt, nat_le}
 use Rattle.std.specs.List.{flat_map, AllByRecursion}
 use Rattle.std.proofs.lemmas.Bool.{eqb-true, lt-ltb, le-leb, ltb-true, leb-true}
 use Rattle.std.specs.Int.{w32, w64}
@@ -17,7 +17,7 @@ use Rattle.oram_state.specs.declared.mode.Mode.TheVariants.{Idle, Failed, Waitin
 use Rattle.oram_state.specs.Spelling.{Work, short, long, command_text, pending_text, text_unless_idle, work_fields, work_text}
 use Rattle.oram_state.specs.WellSized.{IsShort, IsLong, IsSizedCommand, IsSizedPending, IsSizedWork, held_len, no_work}
 use Rattle.oram_state.specs.Reading.{◌>>=◌, Reading, many, next_byte, next_bytes, next_command, next_data, next_message, next_number, next_pending, next_step, next_waiting, next_work, next_work_in, unless}
-use Rattle.oram_state.proofs.Tools.{IsBytes, Took, took_both, then_ok, goes, unless_ok, byte_takes, byte_again, bytes_takes, bytes_again, short_takes, short_again, long_takes, long_again}
+use Rattle.oram_state.proofs.Tools.{IsBytes, Took, took_both, then_ok, goes, unless_ok, byte_takes, bytes_takes, bytes_again, short_takes, short_again, long_takes, long_again}
 use Rattle.oram_state.proofs.Several.{Law, many_takes, many_again}
 use Rattle.oram_state.proofs.Devices.{both_true}
 
@@ -26,7 +26,7 @@ use Rattle.oram_state.proofs.Devices.{both_true}
 -- what was taken for a command, once its first byte and its address were
 data_by_tests : (d : Sizes) (op address : ℕ) (text : List ℕ) (a b c : Bool) → a ≡ (op == 17) → b ≡ (op == 18) → c ≡ (op == 19) → IsShort address → IsBytes text
     → IfOk {T = Command × List ℕ} (cond a (Ok (Read address, text)) (cond b (next_bytes d.block_bytes text >>= λ x. Ok (Write address x.0, x.1)) (cond c (Ok (Discard address, text)) (Err Content))))
-      (λ x. (before : List ℕ) (at : List ℕ) → Took before (op ∷ short address) text → Took before (command_text x.0) x.1 × IsSizedCommand d x.0)
+    (λ x. (before : List ℕ) (at : List ℕ) → Took before (op ∷ short address) text → Took before (command_text x.0) x.1 × IsSizedCommand d x.0)
 data_by_tests d op address text true b c e f g short_one h = λ before at p. (rw (eqb-true op 17 (sym e)) at p, short_one)
 data_by_tests d op address text false true c e f g short_one h =
     then_ok _ _ (next_bytes d.block_bytes text) _ (bytes_takes d.block_bytes text h) (λ x px. λ before at p. (rw (eqb-true op 18 (sym f)) at (took_both p px.0), (short_one, px.1)))
@@ -66,7 +66,7 @@ pending_takes d text h =
     then_ok _ _ (next_number w32 text) _ (short_takes text h) (λ a pa.
     then_ok _ _ (next_command d a.1) _ (command_takes d a.1 pa.0.bytes) (λ b pb.
     then_ok _ _ (many (next_number w64) (2 * trees_of d) b.1) _ (many_takes long IsLong (next_number w64) long_law (2 * trees_of d) b.1 pb.0.bytes) (λ c pc.
-      (took_both (took_both pa.0 pb.0) pc.0, record { session = pa.1; command = pb.1; count = pc.1; words = pc.2 }))))
+    (took_both (took_both pa.0 pb.0) pc.0, record { session = pa.1; command = pb.1; count = pc.1; words = pc.2 }))))
 
 pending_again : (d : Sizes) (q : Pending) (rest : List ℕ) → IsSizedPending d q → next_pending d (pending_text q ++ rest) ≡ Ok (q, rest)
 unfolding next_pending
@@ -75,8 +75,8 @@ pending_again d q rest h =
     let words : many (next_number w64) (2 * trees_of d) (flat_map long q.words ++ rest) ≡ Ok (q.words, rest) = rw (← h.count) (many_again long IsLong (next_number w64) long_law q.words rest h.words) in
     ap (next_pending d) regrouped
     ∙ goes _ _ _ _ (short_again q.session _ h.session)
-      (goes _ _ _ _ (command_again d q.command _ h.command)
-      (goes _ _ _ _ words refl))
+    (goes _ _ _ _ (command_again d q.command _ h.command)
+    (goes _ _ _ _ words refl))
 
 pending_law : (d : Sizes) → Law pending_text (IsSizedPending d) (next_pending d)
 pending_law d = record { takes = pending_takes d; again = pending_again d }
@@ -109,7 +109,7 @@ waiting_again d waiting rest h =
     let high = le-leb (length waiting) 64 h.few in
     let lawful : is_between 1 64 (length waiting) ≡ true = rw (low, high) refl in
     goes _ _ _ _ (short_again (length waiting) _ (omega (arith, h.few)))
-      (rw lawful (many_again pending_text (IsSizedPending d) (next_pending d) (pending_law d) waiting rest h.commands))
+    (rw lawful (many_again pending_text (IsSizedPending d) (next_pending d) (pending_law d) waiting rest h.commands))
 
 -- ---- how far the first of them is
 
@@ -118,7 +118,7 @@ unfolding next_step
 step_takes d text h =
     then_ok _ _ (next_number w32 text) _ (short_takes text h) (λ a pa.
     then_ok _ _ (unless Content (nat_lt a.0 (2 * trees_of d))) _ (unless_ok Content (nat_lt a.0 (2 * trees_of d))) (λ _ lawful.
-      (pa.0, ltb-true a.0 (2 * trees_of d) lawful)))
+    (pa.0, ltb-true a.0 (2 * trees_of d) lawful)))
 
 step_again : (d : Sizes) (r : ℕ) (rest : List ℕ) → r < 2 * trees_of d → IsShort r → next_step d (short r ++ rest) ≡ Ok (r, rest)
 unfolding next_step
@@ -151,9 +151,10 @@ work_takes d text h =
     then_ok _ _ (next_number w32 b.1) _ (short_takes b.1 pb.0.bytes) (λ c pc.
     then_ok _ _ (next_bytes (held_len d b.0) c.1) _ (bytes_takes (held_len d b.0) c.1 pc.0.bytes) (λ e pe.
     then_ok _ _ (next_message e.1) _ (message_takes e.1 pe.0.bytes) (λ f pf.
-      let taken = took_both (took_both (took_both (took_both pa.0 pb.0) pc.0) pe.0) pf.0 in
-      (record { parts = taken.parts ∙ ap (λ (x : List ℕ). x ++ f.1) (sym (append_assoc _ (short (length f.0)) f.0)); bytes = taken.bytes },
-       record { some = pa.1.some; sized = record { few = pa.1.few; commands = pa.1.commands; step = pb.1; entry = pc.1; held = pe.1; message = pf.1 } }))))))
+    let taken = took_both (took_both (took_both (took_both pa.0 pb.0) pc.0) pe.0) pf.0 in (
+      record { parts = taken.parts ∙ ap (λ (x : List ℕ). x ++ f.1) (sym (append_assoc _ (short (length f.0)) f.0)); bytes = taken.bytes },
+      record { some = pa.1.some; sized = record { few = pa.1.few; commands = pa.1.commands; step = pb.1; entry = pc.1; held = pe.1; message = pf.1 } },
+    ))))))
 
 work_again : (d : Sizes) (w : Work) (rest : List ℕ) → IsDevice d → IsAtWork d w → next_work d (work_fields w ++ rest) ≡ Ok (w, rest)
 unfolding next_work
@@ -162,10 +163,10 @@ work_again d w rest device h =
     let regrouped : work_fields w ++ rest ≡ short (length w.waiting) ++ (flat_map pending_text w.waiting ++ (short w.r ++ (short w.held_entry ++ (w.held_data ++ (short (length w.message) ++ (w.message ++ rest)))))) = simp append_assoc in
     ap (next_work d) regrouped
     ∙ goes _ _ _ _ (waiting_again d w.waiting _ (record { some = h.some; few = s.few; commands = s.commands }))
-      (goes _ _ _ _ (step_again d w.r _ s.step (omega (arith, s.step, trees_of-few d device)))
-      (goes _ _ _ _ (short_again w.held_entry _ s.entry)
-      (goes _ _ _ _ (bytes_again (held_len d w.r) w.held_data _ s.held)
-      (goes _ _ _ _ (message_again w.message rest s.message) refl))))
+    (goes _ _ _ _ (step_again d w.r _ s.step (omega (arith, s.step, trees_of-few d device)))
+    (goes _ _ _ _ (short_again w.held_entry _ s.entry)
+    (goes _ _ _ _ (bytes_again (held_len d w.r) w.held_data _ s.held)
+    (goes _ _ _ _ (message_again w.message rest s.message) refl))))
 
 -- what a core is at work on where it stands
 abbrev pub IsWorkOf : Sizes → Mode → Work → Type 0

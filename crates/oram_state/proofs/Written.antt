@@ -1,5 +1,5 @@
 -- A file whose length was written last.
-use Rattle.std.proofs.Common.{◌≡◌, ℕ, ◌+◌, ◌≤◌, List, [], ◌∷◌, ◌++◌, length, take, drop, refl, sym, ap, arith, length-append, append_assoc, ◌∙◌}
+use Rattle.std.proofs.Common.{◌≡◌, ℕ, ◌+◌, List, ◌++◌, length, take, drop, refl, sym, ap, arith, length-append, append_assoc, ◌∙◌}
 use Rattle.std.specs.Prelude.{codes}
 use Rattle.oram_state.specs.Spelling.{short, long, body}
 

@@ -14,6 +14,7 @@ pub(crate) const MAGIC: [u8; 8] = *b"PATHORAM";
 
 /// Where the version ends, and where the length does, behind which the fields begin.
 pub(crate) const VERSION_END: usize = 12;
+
 pub(crate) const LENGTH_END: usize = 20;
 
 /// Bytes of a file beside its fields.

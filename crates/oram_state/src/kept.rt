@@ -58,10 +58,7 @@ fn read_reason(bytes: &[u8]) -> Result<(Reason, &[u8]), StateFault>
 
 /// Why a core failed, if it did.
 #[tactic(auto, unfolding(crate::specs::Reading::next_failure))]
-pub(crate) fn read_failure(
-    bytes: &[u8],
-    mode: Mode,
-) -> Result<(Option<Reason>, &[u8]), StateFault>
+pub(crate) fn read_failure(bytes: &[u8], mode: Mode) -> Result<(Option<Reason>, &[u8]), StateFault>
     ensures { Gives (λ x. (x.0, x.1.now)) result (next_failure mode bytes.now) }
 {
     match mode {
@@ -103,14 +100,14 @@ fn read_blocks<'a>(
 ) -> Result<(Vec<Block>, &'a [u8]), StateFault>
     ensures { Gives (λ x. (x.0.items, x.1.now)) result (many (next_block device.now) count bytes.now) }
 {
-    let mut blocks = Vec::new(alloc);
+    let mut stash = Vec::new(alloc);
     let mut rest = bytes;
     for _ in 0..count {
         let (block, after) = read_block(alloc, rest, device)?;
-        blocks.push(block)?;
+        stash.push(block)?;
         rest = after;
     }
-    Ok((blocks, rest))
+    Ok((stash, rest))
 }
 
 #[tactic(auto, unfolding(crate::specs::Reading::next_tree))]

@@ -26,7 +26,7 @@ pub use fault::StateFault;
 pub fn files_are_exact()
     ensures { (text : List ℕ) (overhead : ℕ) (p : Parts) → All (λ b. b < 256) text → length text < 2 ^ 64
         → (state_in text ≡ Ok (record { overhead = overhead; parts = p }))
-            ↔ ((version : ℕ) × IsFileOf text version overhead p) }
+        ↔ ((version : ℕ) × IsFileOf text version overhead p) }
 {}
 
 #[cfg(test)]

@@ -16,7 +16,9 @@ use std::alloc::Global;
 
 /// What asks for a block, and what follows the address in a write.
 pub(crate) const READ: u8 = 0x11;
+
 pub(crate) const WRITE: u8 = 0x12;
+
 pub(crate) const DISCARD: u8 = 0x13;
 
 /// The most commands without a reply.

@@ -1,0 +1,121 @@
+-- Rows that the definitions compute.
+use Rattle.std.proofs.Common.{◌≡◌, ℕ, ◌+◌, [], ◌∷◌, Some, None, true, false, Ok, Err, length, take, refl, ap, ◌∙◌, length-append}
+use Rattle.std.specs.Prelude.{replicate}
+use Rattle.sha2.specs.Sha256.{sha256}
+use Rattle.sha2.proofs.Facts256.{length-sha256}
+use Rattle.oram_geometry.specs.declared.Sizes.{Sizes}
+use Rattle.oram_geometry.specs.Least.{least_from}
+use Rattle.oram_geometry.specs.Sizes.{blocks_in, trees_of}
+use Rattle.oram_run.specs.declared.events.Command.TheVariants.{Read, Write}
+use Rattle.oram_run.specs.declared.events.Reason.TheVariants.{Malformed, Tampered, HostRefused}
+use Rattle.oram_core.specs.Parts.{Parts}
+use Rattle.oram_state.specs.declared.fault.StateFault.TheVariants.{Magic, Length}
+use Rattle.oram_state.specs.declared.mode.Mode.TheVariants.{Idle, Failed, Stalled}
+use Rattle.oram_state.specs.Spelling.{short, long, body, command_text, fields_text, mode_of, reason_text, state_file}
+use Rattle.oram_state.specs.WellSized.{held_len, table_len, tree_count}
+use Rattle.oram_state.specs.Reading.{fields_in, reason_in}
+
+abbrev device : Sizes
+device = record { blocks = 8; block_bytes = 16; slots = 4; top = 8; lifetime = 100 }
+
+-- just formatted
+abbrev idle : Parts
+idle = record {
+  device = device;
+  tickets = 0;
+  nonce = 15;
+  table = replicate 8 0;
+  trees = record { root = replicate 32 0; stash = [] } ∷ [];
+  failure = None;
+  waiting = [];
+  r = 0;
+  held_entry = 0;
+  held_data = [];
+  message = [];
+  stalled = false;
+}
+
+-- a read whose fetch is outstanding, and then its store
+abbrev fetching : Parts
+fetching = record idle { tickets = 1; waiting = record { session = 1; command = Read 5; words = 6 ∷ 3 ∷ [] } ∷ []; message = replicate 6 0 }
+
+abbrev storing : Parts
+storing = record fetching { nonce = 19; r = 1; held_data = replicate 16 0; message = replicate 646 0 }
+
+-- the host refused the fetch
+abbrev failed : Parts
+failed = record idle { tickets = 1; table = []; trees = []; failure = Some (HostRefused 6) }
+
+-- a file is its text and a digest of 32 bytes
+file_len : (version overhead : ℕ) (p : Parts) → length (state_file version overhead p) ≡ length (body version (fields_text overhead p)) + 32
+file_len version overhead p = let text = body version (fields_text overhead p) in length-append text (sha256 text) ∙ ap (λ n. length text + n) (length-sha256 text)
+
+idle_len : length (state_file 2 0 idle) ≡ 165
+unfolding short long
+idle_len = file_len 2 0 idle
+
+failed_len : length (state_file 1 0 failed) ≡ 101
+unfolding short long
+failed_len = file_len 1 0 failed
+
+fetching_len : length (state_file 2 0 fetching) ≡ 212
+unfolding short long
+fetching_len = file_len 2 0 fetching
+
+storing_len : length (state_file 2 0 storing) ≡ 868
+unfolding short long
+storing_len = file_len 2 0 storing
+
+letters : take 8 (state_file 2 0 idle) ≡ 0x50 ∷ 0x41 ∷ 0x54 ∷ 0x48 ∷ 0x4f ∷ 0x52 ∷ 0x41 ∷ 0x4d ∷ []
+letters = refl
+
+-- the whole text of a failed core's file, of the first version: the fields between the length and the digest
+failed_text : body 1 (fields_text 0 failed) ≡ 0x50 ∷ 0x41 ∷ 0x54 ∷ 0x48 ∷ 0x4f ∷ 0x52 ∷ 0x41 ∷ 0x4d ∷ 0 ∷ 0 ∷ 0 ∷ 1 ∷ 0 ∷ 0 ∷ 0 ∷ 0 ∷ 0 ∷ 0 ∷ 0 ∷ 0x65
+    ∷ 0 ∷ 0 ∷ 0 ∷ 8 ∷ 0 ∷ 0 ∷ 0 ∷ 0x10 ∷ 0 ∷ 0 ∷ 0 ∷ 4 ∷ 0 ∷ 0 ∷ 0 ∷ 8 ∷ 0 ∷ 0 ∷ 0 ∷ 0 ∷ 0 ∷ 0 ∷ 0 ∷ 0x64 ∷ 0 ∷ 0 ∷ 0 ∷ 0 ∷ 1
+    ∷ 0 ∷ 0 ∷ 0 ∷ 0 ∷ 0 ∷ 0 ∷ 0 ∷ 1 ∷ 0 ∷ 0 ∷ 0 ∷ 0 ∷ 0 ∷ 0 ∷ 0 ∷ 0xf ∷ 3 ∷ 0 ∷ 0 ∷ 6 ∷ []
+unfolding short long
+failed_text = refl
+
+write_row : command_text (Write 2 (0xff ∷ 0xfe ∷ [])) ≡ 0x12 ∷ 0 ∷ 0 ∷ 0 ∷ 2 ∷ 0xff ∷ 0xfe ∷ []
+unfolding short
+write_row = refl
+
+tampered_row : reason_text (Tampered 0 3) ≡ 2 ∷ 0 ∷ 3 ∷ 0 ∷ []
+tampered_row = refl
+
+code_row : reason_in 3 0 0 6 ≡ Ok (HostRefused 6)
+code_row = refl
+
+idle_mode : mode_of idle ≡ Idle
+idle_mode = refl
+
+stalled_mode : mode_of (record storing { stalled = true }) ≡ Stalled
+stalled_mode = refl
+
+failed_mode : mode_of failed ≡ Failed
+failed_mode = refl
+
+table_row : table_len device None ≡ 8
+unfolding blocks_in trees_of least_from
+table_row = refl
+
+no_trees : tree_count device (Some Malformed) ≡ 0
+no_trees = refl
+
+-- of one tree's two entries, data is held at the last
+held_row : held_len device 1 ≡ 16
+unfolding trees_of blocks_in least_from
+held_row = refl
+
+not_held : held_len device 0 ≡ 0
+unfolding trees_of blocks_in least_from
+not_held = refl
+
+-- a text that is too short, by which part of it is missing
+no_letters : fields_in (0x50 ∷ 0x41 ∷ []) ≡ Err Magic
+unfolding fields_in
+no_letters = refl
+
+no_version : fields_in (0x50 ∷ 0x41 ∷ 0x54 ∷ 0x48 ∷ 0x4f ∷ 0x52 ∷ 0x41 ∷ 0x4d ∷ 0 ∷ 0 ∷ []) ≡ Err Length
+unfolding fields_in
+no_version = refl
