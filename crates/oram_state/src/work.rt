@@ -14,7 +14,7 @@ use oram_core::{Command, Pending};
 use oram_geometry::Device;
 use std::alloc::Global;
 
-/// What asks for a block, and what follows the address in a write.
+/// The byte by which a command says what is asked.
 pub(crate) const READ: u8 = 0x11;
 
 pub(crate) const WRITE: u8 = 0x12;
@@ -24,7 +24,7 @@ pub(crate) const DISCARD: u8 = 0x13;
 /// The most commands without a reply.
 const MOST_WAITING: u32 = 64;
 
-/// The data that a write has behind its address.
+/// The command of this first byte: a write has data behind its address.
 #[tactic(auto, unfolding(crate::specs::Reading::next_data))]
 fn read_data<'a>(
     alloc: Global,
