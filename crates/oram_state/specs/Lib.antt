@@ -1,3 +1,4 @@
 pub mod Spelling
 pub mod WellSized
 pub mod Reading
+pub mod Decoding

@@ -9,6 +9,8 @@ use Rattle.oram_geometry.specs.declared.ShapeFault.{ShapeFault}
 use Rattle.oram_geometry.specs.Sizes.{device_of, is_between, trees_of}
 use Rattle.oram_bucket.specs.Cell.{Cell}
 use Rattle.oram_tree.specs.Parts.{Parts as TreeParts}
+use Rattle.oram_tree.specs.declared.faults.PartsFault.{PartsFault}
+use Rattle.oram_tree.specs.declared.faults.PartsFault.TheVariants as parts_fault
 use Rattle.oram_run.specs.declared.events.Command.{Command}
 use Rattle.oram_run.specs.declared.events.Command.TheVariants.{Read, Write, Discard}
 use Rattle.oram_run.specs.declared.events.Reason.{Reason}
@@ -30,6 +32,10 @@ fault_number Length = Some 3
 fault_number Digest = Some 4
 fault_number Content = Some 5
 fault_number OutOfMemory = None
+
+abbrev pub fault_of_parts : PartsFault → StateFault
+fault_of_parts parts_fault.Content = Content
+fault_of_parts parts_fault.OutOfMemory = OutOfMemory
 
 infixl 10 ◌>>=◌
 abbrev pub ◌>>=◌ : {X Y : Type 0} → Result X StateFault → (X → Result Y StateFault) → Result Y StateFault

@@ -2,8 +2,9 @@
 
 ghost use Rattle.std.specs.Prelude.{◌≡◌};
 ghost use Rattle.oram_state.specs.declared.fault.StateFault.TheVariants.{Content, OutOfMemory};
-ghost use Rattle.oram_state.specs.Reading.{fault_number};
+ghost use Rattle.oram_state.specs.Reading.{fault_number, fault_of_parts};
 
+use oram_core::PartsFault;
 use oram_geometry::ShapeFault;
 use std::alloc::{AllocError, AllocFailed};
 
@@ -53,6 +54,17 @@ impl<T: Drop> From<AllocFailed<T>> for StateFault {
 
     fn from(_error: AllocFailed<T>) -> StateFault {
         StateFault::OutOfMemory
+    }
+}
+
+impl From<PartsFault> for StateFault {
+    ghost from_gives = { λ fault why. why ≡ fault_of_parts fault };
+
+    fn from(fault: PartsFault) -> StateFault {
+        match fault {
+            PartsFault::Content => StateFault::Content,
+            PartsFault::OutOfMemory => StateFault::OutOfMemory,
+        }
     }
 }
 

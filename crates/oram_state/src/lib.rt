@@ -9,6 +9,7 @@ ghost use Rattle.oram_core.specs.Parts.{Parts};
 ghost use Rattle.oram_state.specs.Reading.{state_in};
 ghost use Rattle.oram_state.specs.WellSized.{IsFileOf};
 
+mod decoding;
 mod fault;
 mod fields;
 mod framing;
@@ -19,6 +20,7 @@ mod saved;
 mod work;
 mod writing;
 
+pub use decoding::decode_state;
 pub use fault::StateFault;
 
 /// A text of bytes tells of a core's parts and its sealer's overhead exactly where it is their file, of one version or the

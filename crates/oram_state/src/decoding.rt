@@ -1,0 +1,37 @@
+//! A core is read from its file.
+
+ghost use Rattle.std.specs.Prelude.{◌≡◌, ℕ, IfOk, IfErr};
+ghost use Rattle.oram_core.specs.Parts.{Parts as PartsValue, AreParts};
+ghost use Rattle.oram_state.specs.Decoding.{IsFaultIn, IsSaved};
+ghost use Rattle.oram_state.specs.WellSized.{IsFileOf};
+
+use crate::fault::StateFault;
+use crate::reading::read_state;
+use crate::saved::Saved;
+use oram_bucket::Sealer;
+use oram_core::Core;
+use std::alloc::Global;
+
+/// The core that a file tells of, under the sealer that it was saved with. Files of the first version, which has none of a core
+/// at work, are read as those of the second.
+pub fn decode_state<S: Sealer>(
+    alloc: Global,
+    sealer: S,
+    file: &[u8],
+) -> Result<Core<S>, StateFault>
+    ensures sealer { IfOk result (λ c. c.sealer ≡ sealer) }
+    ensures core { IfOk result (λ c. IsSaved file.now (S.overhead sealer) c.device c.state) }
+    // What is a core's file is read, unless memory is refused.
+    ensures only { (version : ℕ) (p : PartsValue) → IsFileOf file.now version (S.overhead sealer) p
+        → AreParts (S.overhead sealer) p → IfErr result (λ fault. fault ≡ StateFault.OutOfMemory) }
+    ensures first { IfErr result (λ fault. IsFaultIn file.now (S.overhead sealer) fault) }
+{
+    let Saved { overhead, parts } = read_state(alloc, file)?;
+    if overhead as usize != sealer.overhead() {
+        return Err(StateFault::Content);
+    }
+    match Core::from_parts(alloc, sealer, parts) {
+        Ok(core) => Ok(core),
+        Err(fault) => Err(fault.into()),
+    }
+}
