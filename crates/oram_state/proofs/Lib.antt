@@ -7,4 +7,5 @@ pub mod Trees
 pub mod Works
 pub mod Whole
 pub mod Framed
+pub mod Counted
 pub mod Rows

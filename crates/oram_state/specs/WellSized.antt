@@ -1,6 +1,6 @@
 -- What the parts of a core keep to for a file to spell them in one way: how many of each thing there are, and how long.
 use Rattle.std.specs.Prelude.{◌≡◌, ℕ, ◌+◌, ◌-◌, ◌*◌, ◌^◌, ◌<◌, ◌≤◌, ◌==◌, Bool, false, if◌then◌else◌, List, [], ◌∷◌, length, Option, Some, None, ◌⊎◌}
-use Rattle.std.specs.List.{AllByRecursion}
+use Rattle.std.specs.List.{All, AllByRecursion}
 use Rattle.oram_geometry.specs.declared.Sizes.{Sizes}
 use Rattle.oram_geometry.specs.Sizes.{IsDevice, blocks_in, trees_of}
 use Rattle.oram_bucket.specs.Cell.{Cell}
@@ -84,6 +84,12 @@ pub record IsWellSized (p : Parts) : Type 0 where
   pub count : length p.trees ≡ tree_count p.device p.failure
   pub trees : AllByRecursion (IsSizedTree p.device) p.trees
   pub work : IsWorkBy p.device p.failure p.waiting (work_of p) p.stalled
+
+-- counts and lengths that a file has room for
+pub record HasCounts (p : Parts) : Type 0 where
+  pub trees : All (λ t. IsShort (length t.stash)) p.trees
+  pub waiting : IsShort (length p.waiting)
+  pub message : IsShort (length p.message)
 
 -- the first version has no file of a core that is at work
 abbrev pub HasFile : ℕ → Parts → Type 0

@@ -14,11 +14,7 @@ use std::alloc::Global;
 
 /// The core that a file tells of, under the sealer that it was saved with. Files of the first version, which has none of a core
 /// at work, are read as those of the second.
-pub fn decode_state<S: Sealer>(
-    alloc: Global,
-    sealer: S,
-    file: &[u8],
-) -> Result<Core<S>, StateFault>
+pub fn decode_state<S: Sealer>(alloc: Global, sealer: S, file: &[u8]) -> Result<Core<S>, StateFault>
     ensures sealer { IfOk result (λ c. c.sealer ≡ sealer) }
     ensures core { IfOk result (λ c. IsSaved file.now (S.overhead sealer) c.device c.state) }
     // What is a core's file is read, unless memory is refused.

@@ -10,6 +10,7 @@ ghost use Rattle.oram_state.specs.Reading.{state_in};
 ghost use Rattle.oram_state.specs.WellSized.{IsFileOf};
 
 mod decoding;
+mod encoding;
 mod fault;
 mod fields;
 mod framing;
@@ -21,6 +22,7 @@ mod work;
 mod writing;
 
 pub use decoding::decode_state;
+pub use encoding::encode_state;
 pub use fault::StateFault;
 
 /// A text of bytes tells of a core's parts and its sealer's overhead exactly where it is their file, of one version or the

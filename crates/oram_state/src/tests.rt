@@ -1,5 +1,16 @@
 //! Files that another program wrote are read, and written again byte for byte.
 
+// Calls once more where one allocation was refused, so that the tests hold whichever it is.
+macro_rules! retried {
+    ($call:expr) => {
+        match $call {
+            Err(StateFault::OutOfMemory) => $call,
+            answer => answer,
+        }
+    };
+}
+
+mod cores;
 mod files;
 
 use self::files::*;
@@ -12,16 +23,6 @@ use oram_core::{Command, Reason};
 use sha2::{Digest, Sha256};
 use std::alloc::Global;
 use std::process::Abort;
-
-// Calls once more where one allocation was refused, so that the tests hold whichever it is.
-macro_rules! retried {
-    ($call:expr) => {
-        match $call {
-            Err(StateFault::OutOfMemory) => $call,
-            answer => answer,
-        }
-    };
-}
 
 fn bytes_of(alloc: Global, digits: &str) -> Result<Vec<u8>, StateFault> {
     match hex::decode(alloc, digits) {

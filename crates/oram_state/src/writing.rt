@@ -4,7 +4,7 @@ ghost use Rattle.std.specs.Prelude.{◌≡◌, ◌≢◌, ◌≤◌, ◌<◌, �
 ghost use Rattle.std.specs.List.{flat_map};
 ghost use Rattle.oram_state.specs.declared.framing.TheConstants.{LENGTH_END};
 ghost use Rattle.oram_state.specs.Spelling.{block_text, body, command_text, device_text, fields_text, head_text, long, pending_text, reason_text, rest_text, short, state_file, tree_text, work_fields, work_of};
-ghost use Rattle.oram_state.specs.WellSized.{IsSizedWork, IsWellSized};
+ghost use Rattle.oram_state.specs.WellSized.{HasCounts};
 
 use crate::framing::{FRAME_LEN, LENGTH_END, MAGIC, VERSION_END};
 use crate::mode::Mode;
@@ -29,7 +29,7 @@ pub(crate) fn write_state(
     overhead: u32,
     parts: &Parts,
 ) -> Result<Vec<u8>, AllocError>
-    requires { IsWellSized parts.now }
+    requires { HasCounts parts.now }
     ensures { IfOk result (λ file. file.items ≡ state_file 2 overhead parts.now) }
 {
     let mut file = write_body(alloc, overhead, parts)?;
@@ -40,7 +40,7 @@ pub(crate) fn write_state(
 
 /// All of the file but its digest. The length is written last, into a place that was left for it.
 fn write_body(alloc: Global, overhead: u32, parts: &Parts) -> Result<Vec<u8>, AllocError>
-    requires { IsWellSized parts.now }
+    requires { HasCounts parts.now }
     ensures { IfOk result (λ file. file.items ≡ body 2 (fields_text overhead parts.now)) }
 {
     let mut file = Vec::with_capacity(alloc, room(parts))?;
@@ -115,7 +115,7 @@ fn push_head(out: &mut Vec<u8>, overhead: u32, parts: &Parts) -> Result<(), Allo
 }
 
 fn push_rest(out: &mut Vec<u8>, parts: &Parts) -> Result<(), AllocError>
-    requires { IsWellSized parts.now }
+    requires { HasCounts parts.now }
     ensures { OnOk result (out.new.items ≡ out.old.items ++ rest_text parts.now) }
 {
     if let Some(why) = parts.failure {
@@ -232,7 +232,7 @@ fn push_pendings(out: &mut Vec<u8>, waiting: &[Pending]) -> Result<(), AllocErro
 }
 
 fn push_work(out: &mut Vec<u8>, parts: &Parts) -> Result<(), AllocError>
-    requires { IsSizedWork parts.now.device (work_of parts.now) }
+    requires { HasCounts parts.now }
     ensures { OnOk result (out.new.items ≡ out.old.items ++ work_fields (work_of parts.now)) }
 {
     push_short(out, parts.waiting.len() as u32)?;

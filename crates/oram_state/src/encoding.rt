@@ -1,0 +1,18 @@
+//! A core is written to its file.
+
+ghost use Rattle.std.specs.Prelude.{◌≡◌, IfOk};
+ghost use Rattle.oram_core.specs.Parts.{parts_of};
+ghost use Rattle.oram_state.specs.Spelling.{state_file};
+
+use crate::writing::write_state;
+use oram_bucket::Sealer;
+use oram_core::Core;
+use std::alloc::{AllocError, Global};
+
+/// The file of a core, idle, at work, stalled or failed, in the second version.
+pub fn encode_state<S: Sealer>(alloc: Global, core: &Core<S>) -> Result<Vec<u8>, AllocError>
+    ensures { IfOk result (λ file. file.items ≡ state_file 2 (S.overhead core.now.sealer) (parts_of core.now.device core.now.state)) }
+{
+    let parts = core.parts(alloc)?;
+    write_state(alloc, core.overhead() as u32, &parts)
+}
