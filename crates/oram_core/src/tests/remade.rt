@@ -1,7 +1,7 @@
 //! Cores that are made of their parts again.
 use super::shelf::Shelf;
 use super::{Sign, formatted, read, show, write};
-use crate::{Core, Event, Note, Parts, PartsFault, Reason, Refusal};
+use crate::{Core, Event, Note, Parts, PartsFault, Reaction, Reason};
 use oram_bucket::{Block, PlainSeal};
 use oram_bytes::Bytes;
 use oram_geometry::Device;
@@ -52,6 +52,25 @@ fn answered(
     show(&mut reaction, shown)
 }
 
+/// The host answers until nothing is outstanding.
+fn answer_all(
+    rt: &impl Abort,
+    alloc: Global,
+    core: &mut Core<PlainSeal>,
+    shelf: &mut Shelf,
+    first: Option<Bytes>,
+    shown: &mut Vec<Sign>,
+) -> Result<(), AllocError> {
+    let mut outstanding = first;
+    for _ in 0..1000 {
+        let Some(message) = outstanding else {
+            return Ok(());
+        };
+        outstanding = answered(rt, alloc, core, shelf, &message, shown)?;
+    }
+    panic!(rt; "the core goes on asking");
+}
+
 /// The replies among what was shown.
 fn replies(alloc: Global, shown: &[Sign]) -> Result<Vec<Sign>, AllocError> {
     let mut told = Vec::new(alloc);
@@ -63,25 +82,31 @@ fn replies(alloc: Global, shown: &[Sign]) -> Result<Vec<Sign>, AllocError> {
     Ok(told)
 }
 
-/// A read, a write and a read wait at once, and the core is made anew before each step.
+/// A read, and a write and a read that wait behind it. Gives what the first sends.
+fn submit_all(alloc: Global, core: &mut Core<PlainSeal>) -> Result<Option<Bytes>, AllocError> {
+    let first = read(alloc, 1, 37, &[10, 11, 12, 13, 14, 15])?;
+    let sent = core.step(alloc, &first)?.sends.pop();
+    let second = write(alloc, 38, &[0xff; 16], &[20, 21, 22, 23, 24, 25])?;
+    core.step(alloc, &second)?;
+    let third = read(alloc, 2, 38, &[1, 2, 3, 4, 5, 6])?;
+    core.step(alloc, &third)?;
+    Ok(sent)
+}
+
+fn assert_replied(rt: &impl Abort, alloc: Global, shown: &[Sign]) -> Result<(), AllocError> {
+    let due = [("data", 1, 0), ("done", 1, 1), ("data", 2, 2)];
+    assert_eq!(rt; replies(alloc, shown)?.as_slice(), due.as_slice());
+    Ok(())
+}
+
+/// Three commands wait at once, and the core is made anew before each answer.
 fn steps_of_remade(rt: &impl Abort, alloc: Global) -> Result<(), AllocError> {
     let (mut core, mut shelf) = three_trees(rt, alloc)?;
+    let sent = submit_all(alloc, &mut core)?;
     let mut shown: Vec<Sign> = Vec::new(alloc);
-    let first = &read(alloc, 1, 37, &[10, 11, 12, 13, 14, 15])?;
-    let mut outstanding = core.step(alloc, first)?.sends.pop();
-    core = remade(rt, alloc, &core)?;
-    core.step(
-        alloc,
-        &write(alloc, 38, &[0xff; 16], &[20, 21, 22, 23, 24, 25])?,
-    )?;
-    core.step(alloc, &read(alloc, 2, 38, &[1, 2, 3, 4, 5, 6])?)?;
-    while let Some(message) = outstanding {
-        outstanding = answered(rt, alloc, &mut core, &mut shelf, &message, &mut shown)?;
-    }
+    answer_all(rt, alloc, &mut core, &mut shelf, sent, &mut shown)?;
     assert!(rt; core.is_idle());
-    let due = [("data", 1, 0), ("done", 1, 1), ("data", 2, 2)];
-    assert_eq!(rt; replies(alloc, &shown)?.as_slice(), due.as_slice());
-    Ok(())
+    assert_replied(rt, alloc, &shown)
 }
 
 #[test]
@@ -92,30 +117,66 @@ fn a_core_goes_on_from_its_parts(rt: HostRuntime) -> Result<(), Fail> {
     Ok(())
 }
 
-/// A map block in the stash of tree 1 names, for the block of address 37, what is no leaf of tree 0.
-fn map_astray(rt: &impl Abort, alloc: Global) -> Result<(), AllocError> {
-    let (core, mut shelf) = three_trees(rt, alloc)?;
+/// The core of a device just formatted, with a map block in the stash of tree 1 that names, for the block of address 37, what
+/// is no leaf of tree 0.
+fn led_astray(
+    rt: &impl Abort,
+    alloc: Global,
+    core: &Core<PlainSeal>,
+) -> Result<Core<PlainSeal>, AllocError> {
     let mut parts = core.parts(alloc)?;
     let mut content = Vec::with_capacity(alloc, 16)?;
     content.extend_from_slice(&[0, 0, 0, 0, 0, 0, 0, 65, 0, 0, 0, 0, 0, 0, 0, 0])?;
-    parts.trees[1].stash.push(Block {
+    let map = parts.trees.get_mut(1).expect(rt, "a map");
+    map.stash.push(Block {
         address: 9,
         leaf: 0,
         content,
     })?;
-    let mut core = made(alloc, parts)?.expect(rt, "parts of a core");
-    assert_eq!(rt; core.stash_len(1), 1);
-    let mut reaction = core.step(alloc, &read(alloc, 1, 37, &[10, 11, 12, 13, 14, 15])?)?;
-    for _ in 0..3 {
-        let message = reaction.sends.pop().expect(rt, "a message");
+    Ok(made(alloc, parts)?.expect(rt, "parts of a core"))
+}
+
+/// The host answers, until a message has no answer.
+fn last_note(
+    alloc: Global,
+    core: &mut Core<PlainSeal>,
+    shelf: &mut Shelf,
+    first: Reaction,
+) -> Result<Note, AllocError> {
+    let mut reaction = first;
+    for _ in 0..1000 {
+        let Some(message) = reaction.sends.pop() else {
+            break;
+        };
         let answered = shelf.answer(alloc, message.as_slice())?;
         reaction = core.step(alloc, &Event::Answer(Bytes::from_vec(answered)))?;
     }
-    assert_eq!(rt; reaction.note, Note::FailedNow(Reason::Tampered(1, 0)));
-    assert_eq!(rt; core.stash_len(1), 0);
-    let mut ended = remade(rt, alloc, &core)?;
-    let refused = ended.step(alloc, &read(alloc, 1, 0, &[0; 6])?)?;
-    assert_eq!(rt; refused.note, Note::Refused(Refusal::Failed));
+    Ok(reaction.note)
+}
+
+/// A core that is led astray, with its host.
+fn astray(rt: &impl Abort, alloc: Global) -> Result<(Core<PlainSeal>, Shelf), AllocError> {
+    let (core, shelf) = three_trees(rt, alloc)?;
+    Ok((led_astray(rt, alloc, &core)?, shelf))
+}
+
+/// What becomes of a read of address 37.
+fn note_of_read(
+    alloc: Global,
+    core: &mut Core<PlainSeal>,
+    shelf: &mut Shelf,
+) -> Result<Note, AllocError> {
+    let submitted = read(alloc, 1, 37, &[10, 11, 12, 13, 14, 15])?;
+    let first = core.step(alloc, &submitted)?;
+    last_note(alloc, core, shelf, first)
+}
+
+/// The step that meets the name fails the device, and so it stays in its parts.
+fn map_astray(rt: &impl Abort, alloc: Global) -> Result<(), AllocError> {
+    let (mut core, mut shelf) = astray(rt, alloc)?;
+    let note = note_of_read(alloc, &mut core, &mut shelf)?;
+    assert_eq!(rt; note, Note::FailedNow(Reason::Tampered(1, 0)));
+    remade(rt, alloc, &core)?;
     Ok(())
 }
 
@@ -131,7 +192,7 @@ fn a_map_that_leads_astray_fails_the_device(rt: HostRuntime) -> Result<(), Fail>
 #[derive(Clone, Copy)]
 enum Change {
     Nonce,
-    TableEntry,
+    Table,
     HeldEntry,
     Message,
     Stalled,
@@ -142,8 +203,8 @@ enum Change {
 fn is_made_with(alloc: Global, core: &Core<PlainSeal>, change: Change) -> Result<bool, AllocError> {
     let mut parts = core.parts(alloc)?;
     match change {
-        Change::Nonce => parts.nonce += 1,
-        Change::TableEntry => parts.table[0] = 5,
+        Change::Nonce => parts.nonce = 0,
+        Change::Table => parts.table.clear(),
         Change::HeldEntry => parts.held_entry = 1,
         Change::Message => parts.message = Bytes::copy(alloc, &[1, 2, 0, 0, 0, 0])?,
         Change::Stalled => parts.stalled = true,
@@ -158,7 +219,7 @@ fn changed_parts(rt: &impl Abort, alloc: Global) -> Result<(), AllocError> {
     core.step(alloc, &read(alloc, 1, 37, &[10, 11, 12, 13, 14, 15])?)?;
     assert!(rt; is_made_with(alloc, &core, Change::Stalled)?);
     assert!(rt; !is_made_with(alloc, &core, Change::Nonce)?);
-    assert!(rt; !is_made_with(alloc, &core, Change::TableEntry)?);
+    assert!(rt; !is_made_with(alloc, &core, Change::Table)?);
     assert!(rt; !is_made_with(alloc, &core, Change::HeldEntry)?);
     assert!(rt; !is_made_with(alloc, &core, Change::Message)?);
     assert!(rt; !is_made_with(alloc, &core, Change::Failure)?);
