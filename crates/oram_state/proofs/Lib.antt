@@ -8,4 +8,5 @@ pub mod Works
 pub mod Whole
 pub mod Framed
 pub mod Counted
+pub mod Sized
 pub mod Rows

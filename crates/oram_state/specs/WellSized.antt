@@ -91,6 +91,17 @@ pub record HasCounts (p : Parts) : Type 0 where
   pub waiting : IsShort (length p.waiting)
   pub message : IsShort (length p.message)
 
+-- a command whose numbers fit their fields
+pub record CommandFits (q : Pending) : Type 0 where
+  pub session : IsShort q.session
+  pub words : All IsLong q.words
+
+-- Numbers and digests fit their fields. What holds of each core doesn't say so of these, but their types do.
+pub record FitsFields (p : Parts) : Type 0 where
+  pub nonce : IsLong p.nonce
+  pub roots : All (λ t. length t.root ≡ 32) p.trees
+  pub waiting : All CommandFits p.waiting
+
 -- the first version has no file of a core that is at work
 abbrev pub HasFile : ℕ → Parts → Type 0
 HasFile version p = ((version ≡ 1) × (p.waiting ≡ [])) ⊎ (version ≡ 2)

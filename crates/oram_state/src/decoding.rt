@@ -1,9 +1,9 @@
 //! A core is read from its file.
 
-ghost use Rattle.std.specs.Prelude.{◌≡◌, ℕ, IfOk, IfErr};
-ghost use Rattle.oram_core.specs.Parts.{Parts as PartsValue, AreParts};
+ghost use Rattle.std.specs.Prelude.{◌≡◌, IfOk, IfErr};
+ghost use Rattle.oram_geometry.specs.declared.Sizes.{Sizes};
+ghost use Rattle.oram_run.specs.State.{State};
 ghost use Rattle.oram_state.specs.Decoding.{IsFaultIn, IsSaved};
-ghost use Rattle.oram_state.specs.WellSized.{IsFileOf};
 
 use crate::fault::StateFault;
 use crate::reading::read_state;
@@ -17,9 +17,11 @@ use std::alloc::Global;
 pub fn decode_state<S: Sealer>(alloc: Global, sealer: S, file: &[u8]) -> Result<Core<S>, StateFault>
     ensures sealer { IfOk result (λ c. c.sealer ≡ sealer) }
     ensures core { IfOk result (λ c. IsSaved file.now (S.overhead sealer) c.device c.state) }
-    // What is a core's file is read, unless memory is refused.
-    ensures only { (version : ℕ) (p : PartsValue) → IsFileOf file.now version (S.overhead sealer) p
-        → AreParts (S.overhead sealer) p → IfErr result (λ fault. fault ≡ StateFault.OutOfMemory) }
+    // The core that was saved is the one read, unless memory is refused.
+    ensures same { (d : Sizes) (s : State) → IsSaved file.now (S.overhead sealer) d s
+        → IfOk result (λ c. (c.device ≡ d) × (c.state ≡ s)) }
+    ensures only { (d : Sizes) (s : State) → IsSaved file.now (S.overhead sealer) d s
+        → IfErr result (λ fault. fault ≡ StateFault.OutOfMemory) }
     ensures first { IfErr result (λ fault. IsFaultIn file.now (S.overhead sealer) fault) }
 {
     let Saved { overhead, parts } = read_state(alloc, file)?;

@@ -2,6 +2,7 @@
 
 ghost use Rattle.std.specs.Prelude.{◌≡◌, IfOk};
 ghost use Rattle.oram_core.specs.Parts.{parts_of};
+ghost use Rattle.oram_state.specs.Decoding.{IsSaved};
 ghost use Rattle.oram_state.specs.Spelling.{state_file};
 
 use crate::writing::write_state;
@@ -11,7 +12,11 @@ use std::alloc::{AllocError, Global};
 
 /// The file of a core, idle, at work, stalled or failed, in the second version.
 pub fn encode_state<S: Sealer>(alloc: Global, core: &Core<S>) -> Result<Vec<u8>, AllocError>
-    ensures { IfOk result (λ file. file.items ≡ state_file 2 (S.overhead core.now.sealer) (parts_of core.now.device core.now.state)) }
+    // A file tells of one core alone, so it is read as this one.
+    ensures saved { IfOk result (λ file.
+        IsSaved file.items (S.overhead core.now.sealer) core.now.device core.now.state) }
+    ensures spelled { IfOk result (λ file. file.items
+        ≡ state_file 2 (S.overhead core.now.sealer) (parts_of core.now.device core.now.state)) }
 {
     let parts = core.parts(alloc)?;
     write_state(alloc, core.overhead() as u32, &parts)

@@ -5,7 +5,10 @@
 #![tactic(auto)]
 
 ghost use Rattle.std.specs.Prelude.{◌≡◌, ◌↔◌, ◌<◌, ◌^◌, ℕ, List, All, Ok, length};
+ghost use Rattle.oram_geometry.specs.declared.Sizes.{Sizes};
+ghost use Rattle.oram_run.specs.State.{State};
 ghost use Rattle.oram_core.specs.Parts.{Parts};
+ghost use Rattle.oram_state.specs.Decoding.{IsSaved};
 ghost use Rattle.oram_state.specs.Reading.{state_in};
 ghost use Rattle.oram_state.specs.WellSized.{IsFileOf};
 
@@ -26,11 +29,17 @@ pub use encoding::encode_state;
 pub use fault::StateFault;
 
 /// A text of bytes tells of a core's parts and its sealer's overhead exactly where it is their file, of one version or the
-/// other. So a file tells of one core alone.
+/// other.
 pub fn files_are_exact()
     ensures { (text : List ℕ) (overhead : ℕ) (p : Parts) → All (λ b. b < 256) text → length text < 2 ^ 64
         → (state_in text ≡ Ok (record { overhead = overhead; parts = p }))
         ↔ ((version : ℕ) × IsFileOf text version overhead p) }
+{}
+
+/// A text tells of one core alone.
+pub fn files_tell_of_one_core()
+    ensures { (text : List ℕ) (overhead : ℕ) (d d' : Sizes) (s s' : State) → length text < 2 ^ 64
+        → IsSaved text overhead d s → IsSaved text overhead d' s' → (d ≡ d') × (s ≡ s') }
 {}
 
 #[cfg(test)]

@@ -4,7 +4,7 @@ ghost use Rattle.std.specs.Prelude.{◌≡◌, ◌≢◌, ◌≤◌, ◌<◌, �
 ghost use Rattle.std.specs.List.{flat_map};
 ghost use Rattle.oram_state.specs.declared.framing.TheConstants.{LENGTH_END};
 ghost use Rattle.oram_state.specs.Spelling.{block_text, body, command_text, device_text, fields_text, head_text, long, pending_text, reason_text, rest_text, short, state_file, tree_text, work_fields, work_of};
-ghost use Rattle.oram_state.specs.WellSized.{HasCounts};
+ghost use Rattle.oram_state.specs.WellSized.{CommandFits, FitsFields, HasCounts, IsLong, IsShort};
 
 use crate::framing::{FRAME_LEN, LENGTH_END, MAGIC, VERSION_END};
 use crate::mode::Mode;
@@ -30,7 +30,8 @@ pub(crate) fn write_state(
     parts: &Parts,
 ) -> Result<Vec<u8>, AllocError>
     requires { HasCounts parts.now }
-    ensures { IfOk result (λ file. file.items ≡ state_file 2 overhead parts.now) }
+    ensures spelled { IfOk result (λ file. file.items ≡ state_file 2 overhead parts.now) }
+    ensures fit { IfOk result (λ file. FitsFields parts.now) }
 {
     let mut file = write_body(alloc, overhead, parts)?;
     let digest = Sha256::digest(file.as_slice());
@@ -41,7 +42,8 @@ pub(crate) fn write_state(
 /// All of the file but its digest. The length is written last, into a place that was left for it.
 fn write_body(alloc: Global, overhead: u32, parts: &Parts) -> Result<Vec<u8>, AllocError>
     requires { HasCounts parts.now }
-    ensures { IfOk result (λ file. file.items ≡ body 2 (fields_text overhead parts.now)) }
+    ensures spelled { IfOk result (λ file. file.items ≡ body 2 (fields_text overhead parts.now)) }
+    ensures fit { IfOk result (λ file. FitsFields parts.now) }
 {
     let mut file = Vec::with_capacity(alloc, room(parts))?;
     file.extend_from_slice(&MAGIC)?;
@@ -105,7 +107,8 @@ fn push_device(out: &mut Vec<u8>, device: &Device) -> Result<(), AllocError>
 }
 
 fn push_head(out: &mut Vec<u8>, overhead: u32, parts: &Parts) -> Result<(), AllocError>
-    ensures { OnOk result (out.new.items ≡ out.old.items ++ head_text overhead parts.now) }
+    ensures spelled { OnOk result (out.new.items ≡ out.old.items ++ head_text overhead parts.now) }
+    ensures fit { OnOk result (IsLong parts.now.nonce) }
 {
     push_device(out, &parts.device)?;
     push_short(out, overhead)?;
@@ -116,7 +119,9 @@ fn push_head(out: &mut Vec<u8>, overhead: u32, parts: &Parts) -> Result<(), Allo
 
 fn push_rest(out: &mut Vec<u8>, parts: &Parts) -> Result<(), AllocError>
     requires { HasCounts parts.now }
-    ensures { OnOk result (out.new.items ≡ out.old.items ++ rest_text parts.now) }
+    ensures spelled { OnOk result (out.new.items ≡ out.old.items ++ rest_text parts.now) }
+    ensures roots { OnOk result (All (λ t. length t.root ≡ 32) parts.now.trees) }
+    ensures waiting { OnOk result (All CommandFits parts.now.waiting) }
 {
     if let Some(why) = parts.failure {
         push_reason(out, why)?;
@@ -150,7 +155,8 @@ fn push_shorts(out: &mut Vec<u8>, numbers: &[u32]) -> Result<(), AllocError>
 }
 
 fn push_longs(out: &mut Vec<u8>, numbers: &[u64]) -> Result<(), AllocError>
-    ensures { OnOk result (out.new.items ≡ out.old.items ++ flat_map long numbers.now) }
+    ensures spelled { OnOk result (out.new.items ≡ out.old.items ++ flat_map long numbers.now) }
+    ensures fit { OnOk result (All IsLong numbers.now) }
 {
     for number in numbers {
         push_long(out, *number)?;
@@ -177,7 +183,8 @@ fn push_blocks(out: &mut Vec<u8>, blocks: &[Block]) -> Result<(), AllocError>
 
 fn push_tree(out: &mut Vec<u8>, tree: &TreeParts) -> Result<(), AllocError>
     requires { length tree.now.stash < 2 ^ 32 }
-    ensures { OnOk result (out.new.items ≡ out.old.items ++ tree_text tree.now) }
+    ensures spelled { OnOk result (out.new.items ≡ out.old.items ++ tree_text tree.now) }
+    ensures root { OnOk result (length tree.now.root ≡ 32) }
 {
     out.extend_from_slice(&tree.root)?;
     push_short(out, tree.stash.len() as u32)?;
@@ -186,7 +193,8 @@ fn push_tree(out: &mut Vec<u8>, tree: &TreeParts) -> Result<(), AllocError>
 
 fn push_trees(out: &mut Vec<u8>, trees: &[TreeParts]) -> Result<(), AllocError>
     requires { All (λ t. length t.stash < 2 ^ 32) trees.now }
-    ensures { OnOk result (out.new.items ≡ out.old.items ++ flat_map tree_text trees.now) }
+    ensures spelled { OnOk result (out.new.items ≡ out.old.items ++ flat_map tree_text trees.now) }
+    ensures roots { OnOk result (All (λ t. length t.root ≡ 32) trees.now) }
 {
     for tree in trees {
         push_tree(out, tree)?;
@@ -215,7 +223,8 @@ fn push_command(out: &mut Vec<u8>, command: &Command) -> Result<(), AllocError>
 }
 
 fn push_pending(out: &mut Vec<u8>, pending: &Pending) -> Result<(), AllocError>
-    ensures { OnOk result (out.new.items ≡ out.old.items ++ pending_text pending.now) }
+    ensures spelled { OnOk result (out.new.items ≡ out.old.items ++ pending_text pending.now) }
+    ensures fit { OnOk result (CommandFits pending.now) }
 {
     push_short(out, pending.session)?;
     push_command(out, &pending.command)?;
@@ -223,7 +232,8 @@ fn push_pending(out: &mut Vec<u8>, pending: &Pending) -> Result<(), AllocError>
 }
 
 fn push_pendings(out: &mut Vec<u8>, waiting: &[Pending]) -> Result<(), AllocError>
-    ensures { OnOk result (out.new.items ≡ out.old.items ++ flat_map pending_text waiting.now) }
+    ensures spelled { OnOk result (out.new.items ≡ out.old.items ++ flat_map pending_text waiting.now) }
+    ensures fit { OnOk result (All CommandFits waiting.now) }
 {
     for pending in waiting {
         push_pending(out, pending)?;
@@ -233,7 +243,8 @@ fn push_pendings(out: &mut Vec<u8>, waiting: &[Pending]) -> Result<(), AllocErro
 
 fn push_work(out: &mut Vec<u8>, parts: &Parts) -> Result<(), AllocError>
     requires { HasCounts parts.now }
-    ensures { OnOk result (out.new.items ≡ out.old.items ++ work_fields (work_of parts.now)) }
+    ensures spelled { OnOk result (out.new.items ≡ out.old.items ++ work_fields (work_of parts.now)) }
+    ensures fit { OnOk result (All CommandFits parts.now.waiting) }
 {
     push_short(out, parts.waiting.len() as u32)?;
     push_pendings(out, &parts.waiting)?;

@@ -11,8 +11,8 @@ set_length-requires c =
     (search rules) (search rules) (search rules) (search rules) (search rules) in
     omega (arith, ap length (c.deref_mut.ensures.value ∙ e), length-unmeasured fields)
 
-pub returns : goal.returns
-returns c =
+pub returns-clause-spelled : goal.returns-clause-spelled
+returns-clause-spelled c =
     let fields = fields_text c.args.overhead c.args.parts.now in
     let e : c.push_rest.new.out.items ≡ unmeasured fields = pieced c.extend_from_slice.new.self.items c.push_short.new.out.items c.push_long.new.out.items c.push_head.new.out.items c.push_rest.new.out.items (head_text c.args.overhead c.args.parts.now) (rest_text c.args.parts.now)
     (search rules) (search rules) (search rules) (search rules) (search rules) in
