@@ -28,8 +28,5 @@ pub fn decode_state<S: Sealer>(alloc: Global, sealer: S, file: &[u8]) -> Result<
     if overhead as usize != sealer.overhead() {
         return Err(StateFault::Content);
     }
-    match Core::from_parts(alloc, sealer, parts) {
-        Ok(core) => Ok(core),
-        Err(fault) => Err(fault.into()),
-    }
+    Ok(Core::from_parts(alloc, sealer, parts)?)
 }
