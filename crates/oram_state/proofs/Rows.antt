@@ -46,6 +46,15 @@ storing = record fetching { nonce = 19; r = 1; held_data = replicate 16 0; messa
 abbrev failed : Parts
 failed = record idle { tickets = 1; table = []; trees = []; failure = Some (HostRefused 6) }
 
+-- three trees, just formatted
+abbrev three_trees : Parts
+three_trees = record idle {
+  device = record { blocks = 64; block_bytes = 16; slots = 4; top = 4; lifetime = 100 };
+  nonce = 165;
+  table = replicate 4 0;
+  trees = replicate 3 (record { root = replicate 32 0; stash = [] });
+}
+
 -- a file is its text and a digest of 32 bytes
 file_len : (version overhead : ℕ) (p : Parts) → length (state_file version overhead p) ≡ length (body version (fields_text overhead p)) + 32
 file_len version overhead p = let text = body version (fields_text overhead p) in length-append text (sha256 text) ∙ ap (λ n. length text + n) (length-sha256 text)
@@ -53,6 +62,24 @@ file_len version overhead p = let text = body version (fields_text overhead p) i
 idle_len : length (state_file 2 0 idle) ≡ 165
 unfolding short long
 idle_len = file_len 2 0 idle
+
+-- the first version's is as long
+first_version_len : length (state_file 1 0 idle) ≡ 165
+unfolding short long
+first_version_len = file_len 1 0 idle
+
+three_trees_len : length (state_file 2 0 three_trees) ≡ 221
+unfolding short long
+three_trees_len = file_len 2 0 three_trees
+
+-- a failed core's is as long whatever the reason
+malformed_len : length (state_file 2 8 (record failed { failure = Some Malformed })) ≡ 101
+unfolding short long
+malformed_len = file_len 2 8 (record failed { failure = Some Malformed })
+
+tampered_len : length (state_file 2 0 (record failed { failure = Some (Tampered 0 3) })) ≡ 101
+unfolding short long
+tampered_len = file_len 2 0 (record failed { failure = Some (Tampered 0 3) })
 
 failed_len : length (state_file 1 0 failed) ≡ 101
 unfolding short long

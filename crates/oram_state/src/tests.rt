@@ -12,6 +12,7 @@ macro_rules! retried {
 
 mod cores;
 mod files;
+mod served;
 
 use self::files::*;
 use crate::StateFault;
@@ -171,10 +172,10 @@ fn each_byte_counts(rt: HostRuntime) -> Result<(), StateFault> {
     Ok(())
 }
 
-/// Flips the highest bit of a byte.
+/// Flips the lowest bit of a byte.
 fn flip(file: &mut [u8], place: usize) {
     if let Some(byte) = file.get_mut(place) {
-        *byte ^= 0x80;
+        *byte ^= 1;
     }
 }
 

@@ -24,7 +24,7 @@ fn file_after<S: Sealer>(
     Ok(encode_state(alloc, &core)?)
 }
 
-fn chacha() -> ChaChaSeal {
+pub(super) fn chacha() -> ChaChaSeal {
     let mut key = [0; 32];
     for (place, byte) in key.iter_mut().enumerate() {
         *byte = place as u8;
@@ -61,7 +61,7 @@ fn cores_are_written_again(rt: HostRuntime) -> Result<(), StateFault> {
 }
 
 /// A read of block 5.
-fn read(alloc: Global) -> Result<Event, StateFault> {
+pub(super) fn read(alloc: Global) -> Result<Event, StateFault> {
     Ok(Event::Submit {
         session: 1,
         command: Command::Read(5),
