@@ -2,7 +2,7 @@
 //!
 //! Run it with the word `run`: a single tree of large blocks, plain and sealed, two trees of as many blocks as a disk of 256 MiB
 //! has, and three trees of small blocks, and 2,000 accesses each. It also tells what formatting a record took, beside one
-//! hashing of it.
+//! hashing of it, and what writing the state file at the end took, beside one hashing of as many bytes.
 #![tactic(auto)]
 
 use oram_bucket::{ChaChaSeal, PlainSeal, Sealer};
@@ -11,8 +11,10 @@ use oram_core::{Command, Core, Event};
 use oram_geometry::Device;
 use oram_hash::node_digest;
 use oram_host::Server;
+use oram_state::encode_state;
 use rand_chacha::ChaCha20Rng;
 use rand_core::{Rng, SeedableRng};
+use sha2::{Digest, Sha256};
 use std::alloc::{AllocError, Global};
 use std::time::{Duration, Instant};
 use std::{env, io};
@@ -166,7 +168,8 @@ fn measure<S: Sealer>(rt: &HostRuntime, name: &str, device: Device, sealer: S) -
         let command = some_access(rt.alloc(), core.device(), &mut random)?;
         access(rt, &mut core, &mut server, &command, record_len, &mut times)?;
     }
-    report(rt, &core, &times)
+    report(rt, &core, &times)?;
+    report_file(rt, &core)
 }
 
 /// A part of a whole, in hundredths.
@@ -201,6 +204,22 @@ fn report<S: Sealer>(rt: &HostRuntime, core: &Core<S>, times: &Times) -> io::Res
         )?;
     }
     Ok(())
+}
+
+/// Prints what writing the core's state file takes, and one hashing of as many bytes.
+fn report_file<S: Sealer>(rt: &HostRuntime, core: &Core<S>) -> io::Result<()> {
+    let start = Instant::now(rt)?;
+    let file = encode_state(rt.alloc(), core)?;
+    let writing = start.elapsed(rt)?;
+    let start = Instant::now(rt)?;
+    let _ = Sha256::digest(&file);
+    let hashing = start.elapsed(rt)?;
+    println!(rt;
+        "  a state file of {} bytes: {} us, one hashing of it: {} us",
+        file.len(),
+        writing.as_micros(),
+        hashing.as_micros()
+    )
 }
 
 fn main(rt: HostRuntime) -> io::Result<()> {
