@@ -12,6 +12,7 @@ pub mod Faithful
 pub mod Answering
 pub mod Drained
 pub mod Meddling
+pub mod Reopened
 pub mod Obeyed
 pub mod Formatted
 pub mod Started

@@ -19,7 +19,7 @@ use Rattle.oramsim.specs.Reading.{lines_of, line_of}
 use Rattle.oramsim.specs.Script.{HasNoFailure, HasRun, IsBad, IsDone, IsHarmless, IsHarmlessScript, IsPassed, IsRefusedLine, IsScriptText, IsUnfit, Point, Running, Stage, Starts, stage_text, start, text_at}
 use Rattle.oramsim.specs.Standing.{RunsOnAt, IsFaithfulAt, IsAtRun, StandsAt, Prints}
 use Rattle.oramsim.specs.declared.line.Line.{Line}
-use Rattle.oramsim.specs.declared.line.Line.TheVariants.{Device, Told, Answer, Drain, Late, Tamper, Swap, Snapshot, Restore}
+use Rattle.oramsim.specs.declared.line.Line.TheVariants.{Device, Told, Answer, Drain, Late, Reopen, Tamper, Swap, Snapshot, Restore}
 use Rattle.oramsim.specs.declared.machine.Machine.{Machine}
 use Rattle.oramsim.specs.declared.script.Ending.TheVariants.{End, BadLine}
 use Rattle.oramsim.specs.declared.script.SimFault.{SimFault}
@@ -103,6 +103,7 @@ head_done None p q (Told e) k clean = absurd k
 head_done None p q Answer k clean = absurd k
 head_done None p q Drain k clean = absurd k
 head_done None p q Late k clean = absurd k
+head_done None p q Reopen k clean = absurd k
 head_done None p q (Tamper tree node offset) k clean = absurd k
 head_done None p q (Swap tree_a node_a tree_b node_b) k clean = absurd k
 head_done None p q Snapshot k clean = absurd k

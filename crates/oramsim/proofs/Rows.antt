@@ -12,7 +12,7 @@ use Rattle.oram_run.specs.declared.events.Refusal.TheVariants.{Exhausted}
 use Rattle.oram_run.specs.declared.events.ReplyBody.TheVariants.{Data}
 use Rattle.oramsim.specs.Printing.{note_text, reply_text, send_text, error_text}
 use Rattle.oramsim.specs.Reading.{lines_of, line_of, line_from, device_from, addressed, read_from, discard_from, write_from, raw_from, tamper_from, swap_from, named_line, number_below, numbers_below, hex_bytes}
-use Rattle.oramsim.specs.declared.line.Line.TheVariants.{Device, Told, Drain, Tamper, Swap, Restore}
+use Rattle.oramsim.specs.declared.line.Line.TheVariants.{Device, Told, Drain, Reopen, Tamper, Swap, Restore}
 
 lines_ended : lines_of (97 ∷ 10 ∷ 10 ∷ 98 ∷ 10 ∷ []) ≡ (97 ∷ []) ∷ [] ∷ (98 ∷ []) ∷ []
 lines_ended = refl
@@ -103,6 +103,14 @@ swap_of_more = refl
 lost_line : line_of (codes "lost") ≡ Some (Told event.Lost)
 unfolding line_from named_line
 lost_line = refl
+
+reopen_line : line_of (codes "reopen") ≡ Some Reopen
+unfolding line_from named_line
+reopen_line = refl
+
+reopen_of_something : line_of (codes "reopen 1") ≡ None
+unfolding line_from named_line
+reopen_of_something = refl
 
 restore_line : line_of (codes "restore") ≡ Some Restore
 unfolding line_from named_line

@@ -9,7 +9,7 @@ use Rattle.hex.specs.Hex.{decode_of}
 use Rattle.oram_run.specs.declared.events.Command.TheVariants.{Read, Write, Discard}
 use Rattle.oram_run.specs.declared.events.Event.TheVariants as event
 use Rattle.oramsim.specs.declared.line.Line.{Line}
-use Rattle.oramsim.specs.declared.line.Line.TheVariants.{Device, Told, Answer, Drain, Late, Tamper, Swap, Snapshot, Restore}
+use Rattle.oramsim.specs.declared.line.Line.TheVariants.{Device, Told, Answer, Drain, Late, Reopen, Tamper, Swap, Snapshot, Restore}
 
 infixl 10 ◌>>=◌
 abbrev pub ◌>>=◌ : {A B : Type 0} → Option A → (A → Option B) → Option B
@@ -126,6 +126,7 @@ named_line word =
     else if bytes_eq word (codes "lost") then Some (Told event.Lost)
     else if bytes_eq word (codes "late") then Some Late
     else if bytes_eq word (codes "retry") then Some (Told event.Retry)
+    else if bytes_eq word (codes "reopen") then Some Reopen
     else if bytes_eq word (codes "snapshot") then Some Snapshot
     else if bytes_eq word (codes "restore") then Some Restore
     else None

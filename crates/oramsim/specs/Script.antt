@@ -22,7 +22,7 @@ use Rattle.oramsim.specs.Hosting.{Takes}
 use Rattle.oramsim.specs.Printing.{reaction_text, ready_text, shape_text, error_text, memory_text}
 use Rattle.oramsim.specs.Reading.{lines_of, line_of}
 use Rattle.oramsim.specs.declared.line.Line.{Line}
-use Rattle.oramsim.specs.declared.line.Line.TheVariants.{Device, Told, Answer, Drain, Late, Tamper, Swap, Snapshot, Restore}
+use Rattle.oramsim.specs.declared.line.Line.TheVariants.{Device, Told, Answer, Drain, Late, Reopen, Tamper, Swap, Snapshot, Restore}
 use Rattle.oramsim.specs.declared.script.Ending.{Ending}
 use Rattle.oramsim.specs.declared.script.Ending.TheVariants.{End, BadLine}
 use Rattle.oramsim.specs.declared.script.SimFault.{SimFault}
@@ -89,6 +89,7 @@ Obeys r (Told e) after = AtEvent r e after
 Obeys r Answer after = (x : Shown) × IsAnswered r x after
 Obeys r Drain after = (xs : List Shown) × FoldsTo IsDrained r xs after × (after.message ≡ None)
 Obeys r Late after = (bytes : List ℕ) × (host : Host) × HostAnswers r.host r.message bytes host × AtEvent (with_host r host) event.Lost after
+Obeys r Reopen after = AtEvent r event.Reopen after
 Obeys r (Tamper tree node offset) after = (host : Host) × IsFlipped r.host tree node offset host × (after ≡ with_host r host)
 Obeys r (Swap tree_a node_a tree_b node_b) after = (host : Host) × IsSwapped r.host tree_a node_a tree_b node_b host × (after ≡ with_host r host)
 Obeys r Snapshot after = after ≡ record r { copy = Some r.host }
@@ -141,6 +142,7 @@ IsDone p None (Told e) q = ⊥
 IsDone p None Answer q = ⊥
 IsDone p None Drain q = ⊥
 IsDone p None Late q = ⊥
+IsDone p None Reopen q = ⊥
 IsDone p None (Tamper tree node offset) q = ⊥
 IsDone p None (Swap tree_a node_a tree_b node_b) q = ⊥
 IsDone p None Snapshot q = ⊥
@@ -161,6 +163,7 @@ IsUnfit r (Told e) = ⊥
 IsUnfit r Answer = ⊥
 IsUnfit r Drain = ⊥
 IsUnfit r Late = ⊥
+IsUnfit r Reopen = ⊥
 IsUnfit r Snapshot = ⊥
 
 abbrev pub is_device : Line → Bool
@@ -169,6 +172,7 @@ is_device (Told e) = false
 is_device Answer = false
 is_device Drain = false
 is_device Late = false
+is_device Reopen = false
 is_device (Tamper tree node offset) = false
 is_device (Swap tree_a node_a tree_b node_b) = false
 is_device Snapshot = false
@@ -245,6 +249,7 @@ is_meddling (Device blocks block_bytes slots top lifetime) = false
 is_meddling Answer = false
 is_meddling Drain = false
 is_meddling Late = false
+is_meddling Reopen = false
 is_meddling Snapshot = false
 
 abbrev pub IsHarmless : Option Line → Type 0

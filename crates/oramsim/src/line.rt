@@ -31,6 +31,8 @@ pub enum Line {
     Drain,
     /// The server gets the outstanding message, and its answer is lost.
     Late,
+    /// The device's core is saved and read back, and the outstanding message is lost with the old one.
+    Reopen,
     /// The lowest bit of a byte of a stored record flips.
     Tamper {
         tree: u64,
@@ -286,6 +288,8 @@ fn word_line(word: &[u8]) -> Option<Line>
         Some(Line::Late)
     } else if word == b"retry".as_slice() {
         Some(Line::Told(Event::Retry))
+    } else if word == b"reopen".as_slice() {
+        Some(Line::Reopen)
     } else if word == b"snapshot".as_slice() {
         Some(Line::Snapshot)
     } else if word == b"restore".as_slice() {

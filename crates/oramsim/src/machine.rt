@@ -19,6 +19,7 @@ use oram_bytes::Bytes;
 use oram_core::{Core, Event};
 use oram_geometry::{Device, ShapeFault};
 use oram_host::Server;
+use oram_state::{StateFault, decode_state, encode_state};
 use oram_tree::FormatFault;
 use std::alloc::{AllocError, Global};
 use std::io::{ErrorKind, Write};
@@ -82,6 +83,21 @@ fn left_at(event: &Event, outstanding: Option<Bytes>) -> Option<Bytes>
     match event {
         Event::Submit { .. } | Event::Retry => outstanding,
         Event::Answer(_) | Event::Lost | Event::Reopen => None,
+    }
+}
+
+/// The core that is read back from the file of this one.
+fn read_back(alloc: Global, core: &Core<PlainSeal>) -> Result<Core<PlainSeal>, AllocError>
+    ensures { IfOk result (λ again. again ≡ core.now) }
+{
+    let file = encode_state(alloc, core)?;
+    match decode_state(alloc, PlainSeal, &file) {
+        Ok(again) => Ok(again),
+        Err(fault) => match fault {
+            StateFault::OutOfMemory => Err(AllocError),
+            // What was just written is a core's file.
+            _ => unreachable!(),
+        },
     }
 }
 
@@ -163,6 +179,19 @@ impl Machine {
         self.tell(alloc, writer, &Event::Lost)
     }
 
+    /// Goes on with the core that is read back from the file of this one. The outstanding message is lost with the old core.
+    pub fn reopen<W: Write>(&mut self, alloc: Global, writer: &mut W) -> Result<(), SimFault>
+        requires { IsWholeMachine self.old }
+        ensures whole { OnOk result (IsWholeMachine self.new) }
+        ensures ok { (r : Running) → IsAtRun r self.old → OnOk result ((later : Running) × Obeys r Line.Reopen later
+            × RunsOn r later self.new (W.contents writer.old) (W.contents writer.new) × (IsFaithful r → IsFaithful later)) }
+        ensures err { (r : Running) → IsAtRun r self.old → IfErr result (λ e. GivesUp r (λ later. (later ≡ r) ⊎ Obeys r Line.Reopen later) e
+            (W.contents writer.old) (W.contents writer.new)) }
+    {
+        self.core = read_back(alloc, &self.core)?;
+        self.tell(alloc, writer, &Event::Reopen)
+    }
+
     /// Keeps a copy of the host.
     pub fn keep(&mut self, alloc: Global) -> Result<(), AllocError>
         requires { IsWholeMachine self.old }
@@ -239,6 +268,10 @@ impl Machine {
             }
             Line::Late => {
                 self.lose_answer(alloc, writer)?;
+                Ok(true)
+            }
+            Line::Reopen => {
+                self.reopen(alloc, writer)?;
                 Ok(true)
             }
             Line::Snapshot => {

@@ -1,4 +1,6 @@
 //! The statuses that the program ends with.
+mod reopened;
+
 use crate::script::{Ending, SimFault};
 use crate::status;
 

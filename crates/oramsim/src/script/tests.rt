@@ -2,6 +2,7 @@
 mod discards;
 mod fakes;
 mod meddling;
+mod reopening;
 mod streams;
 
 use super::{Ending, SimFault, run_script};

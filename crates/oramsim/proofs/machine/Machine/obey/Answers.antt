@@ -1,5 +1,5 @@
 use Rattle.std.proofs.Common.{refl}
-use Rattle.oramsim.specs.declared.line.Line.TheVariants.{Late, Told}
+use Rattle.oramsim.specs.declared.line.Line.TheVariants.{Late, Reopen, Told}
 use Rattle.oramsim.specs.declared.script.SimFault.TheVariants.{OutOfMemory}
 use Rattle.oramsim.proofs.GivenUp.{line_answered, line_cut, line_drained, line_stays, raised}
 use Rattle.oramsim.proofs.Obeyed.{answer_obeyed, drain_obeyed, restore_obeyed, restore_unfit, snapshot_obeyed, spoken_obeyed, swap_obeyed, swap_unfit, tamper_obeyed, tamper_unfit, told_obeyed, when_false, when_true}
@@ -16,6 +16,9 @@ returns-in_ok-drain-in-Drain-clause-ok g c = λ r f e. drain_obeyed r c.args.lin
 
 pub returns-in_ok-lose_answer-in-Late-clause-ok : goal.returns-in_ok-lose_answer-in-Late-clause-ok
 returns-in_ok-lose_answer-in-Late-clause-ok g c = λ r f e. spoken_obeyed r c.args.line Late c.lose_answer.new.self _ _ c.in-Late.is (c.in_ok-lose_answer-in-Late.ensures.ok r f)
+
+pub returns-in_ok-reopen-in-Reopen-clause-ok : goal.returns-in_ok-reopen-in-Reopen-clause-ok
+returns-in_ok-reopen-in-Reopen-clause-ok g c = λ r f e. spoken_obeyed r c.args.line Reopen c.reopen.new.self _ _ c.in-Reopen.is (c.in_ok-reopen-in-Reopen.ensures.ok r f)
 
 pub returns-in_ok-keep-in-Snapshot-clause-ok : goal.returns-in_ok-keep-in-Snapshot-clause-ok
 returns-in_ok-keep-in-Snapshot-clause-ok g c = λ r f e. snapshot_obeyed r c.args.line c.keep.new.self _ c.in-Snapshot.is (c.in_ok-keep-in-Snapshot.ensures.ok r f)
@@ -55,6 +58,9 @@ returns-in_err-drain-in-Drain-clause-err g c = λ r f. raised _ _ c.in_err-drain
 
 pub returns-in_err-lose_answer-in-Late-clause-err : goal.returns-in_err-lose_answer-in-Late-clause-err
 returns-in_err-lose_answer-in-Late-clause-err g c = λ r f. raised _ _ c.in_err-lose_answer-in-Late.field-0.0 c.from_residual-in_err-lose_answer-in-Late.ensures.1 (line_cut r c.args.line Late c.in_err-lose_answer-in-Late.field-0.0 _ _ c.in-Late.is (c.in_err-lose_answer-in-Late.ensures.err r f))
+
+pub returns-in_err-reopen-in-Reopen-clause-err : goal.returns-in_err-reopen-in-Reopen-clause-err
+returns-in_err-reopen-in-Reopen-clause-err g c = λ r f. raised _ _ c.in_err-reopen-in-Reopen.field-0.0 c.from_residual-in_err-reopen-in-Reopen.ensures.1 (line_cut r c.args.line Reopen c.in_err-reopen-in-Reopen.field-0.0 _ _ c.in-Reopen.is (c.in_err-reopen-in-Reopen.ensures.err r f))
 
 pub returns-in_err-keep-in-Snapshot-clause-err : goal.returns-in_err-keep-in-Snapshot-clause-err
 returns-in_err-keep-in-Snapshot-clause-err g c = λ r f. raised _ _ OutOfMemory c.from_residual-in_err-keep-in-Snapshot.ensures.1 (line_stays r c.args.self.now c.args.line _ _ f refl)
