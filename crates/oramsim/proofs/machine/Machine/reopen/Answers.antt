@@ -2,7 +2,6 @@ use Rattle.std.proofs.Common.{ap, inl, refl}
 use Rattle.oramsim.proofs.GivenUp.{raised, stays}
 use Rattle.oramsim.proofs.Reopened.{reopened, same_stands}
 use Rattle.oramsim.proofs.Turning.{on_ok}
-use Rattle.oramsim.specs.declared.machine.Machine.{Machine}
 use Rattle.oramsim.specs.declared.script.SimFault.TheVariants.{OutOfMemory}
 use Rattle.oramsim.proofs.machine.Machine.reopen.Goals as goal
 
