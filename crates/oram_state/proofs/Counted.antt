@@ -1,7 +1,6 @@
 -- What is counted and measured in a core's parts is little enough for a file.
-use Rattle.std.proofs.Common.{◌≡◌, ℕ, suc, ◌+◌, ◌-◌, ◌*◌, ◌%◌, ◌^◌, ◌<◌, ◌≤◌, ◌==◌, if◌then◌else◌, List, [], ◌∷◌, length, length-append, Option, Some, None, All, refl, ap, sym, ◌∙◌, subst, arith, inl, inr}
+use Rattle.std.proofs.Common.{◌≡◌, ℕ, suc, ◌+◌, ◌-◌, ◌*◌, ◌%◌, ◌^◌, ◌<◌, ◌≤◌, List, [], ◌∷◌, length, length-append, Option, Some, None, All, ap, arith, inl, inr}
 use Rattle.std.specs.Int.{w32, to_be_bytes}
-use Rattle.std.specs.List.{AllPairs}
 use Rattle.std.proofs.lemmas.Bool.{cases_eq}
 use Rattle.std.proofs.lemmas.List.Elements.{All-nil, All-head, All-tail, All-cons}
 use Rattle.std.proofs.Math.Nat.{mul-le-mul}
@@ -12,8 +11,7 @@ use Rattle.oram_bucket.specs.Bucket.{IsBlockOf}
 use Rattle.oram_bucket.specs.Cell.{Cell, IsRising}
 use Rattle.oram_tree.specs.Parts.{Parts as TreeParts, ArePartsOf}
 use Rattle.oram_run.specs.Content.{stage_tree}
-use Rattle.oram_run.specs.Moves.{fetch_at}
-use Rattle.oram_run.specs.State.{State, named_now}
+use Rattle.oram_run.specs.State.{State}
 use Rattle.oram_run.specs.declared.events.Reason.{Reason}
 use Rattle.oram_run.specs.declared.events.Submission.{Submission}
 use Rattle.oram_run.proofs.Bounds.{depth_small}

@@ -1,7 +1,7 @@
 -- The parts of a core have a file, and a file tells of one core.
-use Rattle.std.proofs.Common.{◌≡◌, ℕ, ◌+◌, ◌-◌, ◌*◌, ◌%◌, ◌^◌, ◌<◌, ◌≤◌, ◌==◌, Bool, true, false, not, if◌then◌else◌, List, [], ◌∷◌, length, Option, Some, None, Result, Ok, All, refl, ap, sym, ◌∙◌, subst, arith, inl, inr}
+use Rattle.std.proofs.Common.{◌≡◌, ℕ, ◌+◌, ◌-◌, ◌*◌, ◌%◌, ◌^◌, ◌<◌, ◌≤◌, ◌==◌, Bool, true, false, not, if◌then◌else◌, List, [], ◌∷◌, length, Option, Some, None, Result, Ok, All, refl, ap, sym, ◌∙◌, subst, arith, inr}
 use Rattle.std.specs.List.{AllByRecursion}
-use Rattle.std.proofs.lemmas.Bool.{cases_eq, eqb-true}
+use Rattle.std.proofs.lemmas.Bool.{eqb-true}
 use Rattle.std.proofs.lemmas.List.Elements.{All-head, All-tail, recursion_from_All}
 use Rattle.std.proofs.Math.Nat.{pow-le-pow_right}
 use Rattle.oram_geometry.specs.declared.Sizes.{Sizes}
@@ -19,7 +19,7 @@ use Rattle.oram_run.specs.declared.events.Command.{Command}
 use Rattle.oram_run.specs.declared.events.Command.TheVariants.{Read, Write, Discard}
 use Rattle.oram_run.specs.declared.events.Reason.{Reason}
 use Rattle.oram_run.proofs.Bounds.{depth_small}
-use Rattle.oram_core.specs.Core.{AtWork, IsAtWork, IsResting, most_named}
+use Rattle.oram_core.specs.Core.{AtWork, IsResting, most_named}
 use Rattle.oram_core.specs.Fitting.{AreTrees, IsFitting}
 use Rattle.oram_core.specs.Parts.{Parts, AreParts, parts_of, state_of, submission_at, submissions_from}
 use Rattle.oram_core.specs.declared.parts.Pending.{Pending}
@@ -28,8 +28,8 @@ use Rattle.oram_state.specs.declared.fault.StateFault.{StateFault}
 use Rattle.oram_state.specs.declared.saved.Saved.{Saved}
 use Rattle.oram_state.specs.Decoding.{IsSaved}
 use Rattle.oram_state.specs.Reading.{state_in}
-use Rattle.oram_state.specs.Spelling.{Work, state_file, work_of}
-use Rattle.oram_state.specs.WellSized.{CommandFits, FitsFields, HasCounts, IsFileOf, IsLong, IsNoWork, IsShort, IsSizedBlock, IsSizedCommand, IsSizedPending, IsSizedTree, IsSizedWork, IsWellSized, IsWorkBy, no_work, table_len, tree_count}
+use Rattle.oram_state.specs.Spelling.{state_file, work_of}
+use Rattle.oram_state.specs.WellSized.{CommandFits, FitsFields, IsLong, IsNoWork, IsShort, IsSizedBlock, IsSizedCommand, IsSizedPending, IsSizedTree, IsWellSized, IsWorkBy, table_len, tree_count}
 use Rattle.oram_state.proofs.Counted.{counted}
 use Rattle.oram_state.proofs.Framed.{state_again}
 

@@ -1,6 +1,4 @@
-use Rattle.std.proofs.Common.{◌≡◌, IfOk, Result, Ok, Err}
-use Rattle.oram_state.specs.Spelling.{state_file}
-use Rattle.oram_state.specs.WellSized.{FitsFields}
+use Rattle.std.proofs.Common.{IfOk, Result, Ok, Err}
 use Rattle.oram_state.proofs.Counted.{counted}
 use Rattle.oram_state.proofs.Sized.{saved_as}
 use Rattle.oram_state.proofs.encoding.encode_state.Goals as goal
