@@ -1,5 +1,5 @@
 -- What the code makes of an answer is what the answer means.
-use Rattle.std.proofs.Common.{◌≡◌, ◌≢◌, ◌⊎◌, ◌↔◌, ℕ, ◌+◌, ◌*◌, ◌%◌, ◌^◌, ◌<◌, ◌≤◌, ◌==◌, ◌&&◌, Bool, true, false, if◌then◌else◌, List, [], ◌∷◌, length, drop, slice_index, slice_index_or, nat_le, nat_lt, not, Some, None, Result, Ok, Err, IsOk, MatchResult, refl, ap, sym, ◌∙◌, subst, arith, inl, inr}
+use Rattle.std.proofs.Common.{◌≡◌, ◌≢◌, ◌⊎◌, ◌↔◌, ℕ, ◌+◌, ◌*◌, ◌%◌, ◌^◌, ◌<◌, ◌≤◌, ◌==◌, ◌&&◌, Bool, true, false, if◌then◌else◌, List, [], ◌∷◌, length, drop, slice_index, slice_index_or, slice_set, nat_le, nat_lt, not, Option, Some, None, Result, Ok, Err, IsOk, MatchResult, refl, ap, sym, ◌∙◌, subst, arith, inl, inr}
 use Rattle.std.specs.List.{All}
 use Rattle.std.proofs.lemmas.List.{get_or_read}
 use Rattle.std.proofs.lemmas.Bool.{cases_eq}
@@ -26,11 +26,12 @@ use Rattle.oram_run.specs.Trees.{Stands}
 use Rattle.oram_run.proofs.Judged.{pair_is}
 use Rattle.oram_run.specs.declared.events.Reason.TheVariants.{Malformed}
 use Rattle.oram_run.proofs.Outcomes.{fetched_is, stored_is, malformed_store, malformed_is}
-use Rattle.oram_core.specs.Core.{IsSound, IsTreeKept}
+use Rattle.oram_core.specs.Core.{CoreValue, IsSound, IsTreeKept, shape_of}
+use Rattle.oram_core.specs.Judging.{IsChecked, path_now, tree_now}
 use Rattle.oram_core.specs.Verdicts.{Means, refusal_in}
 use Rattle.oram_core.specs.declared.verdicts.Verdict.{Verdict}
 use Rattle.oram_core.proofs.Meeting.{waits, holds_of}
-use Rattle.oram_core.proofs.Sound.{Outstanding, at_hand, healthy_of, tree_within}
+use Rattle.oram_core.proofs.Sound.{Outstanding, at_hand, healthy_of, sound_accessed, tree_within}
 
 -- a checked path of the right length is the tree's, where no two records of one digest stand in it
 path_told : (v : Shape) (records : ℕ → ℕ → List ℕ) (e : Entry) (bytes : List ℕ) → e.fetch ≡ true → HasLength (answered_path v e (128 ∷ bytes)) → pair_in v records e (128 ∷ bytes) ≡ false →
@@ -41,14 +42,6 @@ path_told v records e bytes fetch whole apart (inr pair) =
     let payload : is_payload v e (128 ∷ bytes) ≡ true = rw (fetch, long) refl in
     absurd (let both : true ≡ false = sym (pair_is v records e (128 ∷ bytes) payload pair) ∙ apart in cc)
 
--- what is known of the check of an answer to the outstanding fetch
-pub record IsChecked {A : Type 0} (v : Shape) (i leaf : ℕ) (root bytes : List ℕ) (r : Result A HashFault) : Type 0 where
-  pub accepted : IsOk r ↔ IsAccepted (path_of v.device i leaf v.overhead bytes) root
-  pub short : (r ≡ Err fault.Length) ↔ (¬ HasLength (path_of v.device i leaf v.overhead bytes))
-  pub tampered : (level : ℕ) → (r ≡ Err (fault.Tampered level)) ↔ IsTamperedAt (path_of v.device i leaf v.overhead bytes) root level
-  pub judged : (records : ℕ → List ℕ) → IsStored (depth_of v.device i) (record_len v) root records →
-      MatchResult r (λ _. IsPathOf records (path_of v.device i leaf v.overhead bytes)) (IsFaultOf records (path_of v.device i leaf v.overhead bytes)) ⊎ Collides records (path_of v.device i leaf v.overhead bytes)
-
 -- the outstanding fetch
 fetch_out : (v : Shape) (s : State) → IsSound v.device v.overhead s → status_in s ≡ Waiting → s.stage % 2 ≡ 0 → ((asked s.last).fetch ≡ true) × ((asked s.last).tree ≡ stage_tree v.device s.stage) × ((asked s.last).leaf < 2 ^ depth_of v.device (stage_tree v.device s.stage))
 fetch_out v s h now even =
@@ -57,41 +50,55 @@ fetch_out v s h now even =
     let e = work.fetch even in
     (ap (λ (x : Entry). x.fetch) e, ap (λ (x : Entry). x.tree) e, work.leaf)
 
+-- the host's records stand under the root of the tree at work
+stored_now : (v : Shape) (s : State) (w : World) → IsSound v.device v.overhead s → status_in s ≡ Waiting → Fits v s w →
+    IsStored (depth_of v.device (stage_tree v.device s.stage)) (record_len v) (tree_now v s).root (w.records (stage_tree v.device s.stage))
+stored_now v s w h now fits =
+    let i : ℕ = stage_tree v.device s.stage in
+    let stands : Stands v i (tree_now v s) (w.records i) (w.content i) = holds_of v s w fits (waits s now).healthy i (tree_within v.device v.overhead s h) in
+    subst (λ (k : ℕ). IsStored (depth_of v.device k) (record_len v) (tree_now v s).root (w.records i)) stands.number stands.stored.stands
+
 -- the answer means what its check told
-pub path_means : {A : Type 0} (v : Shape) (s : State) (w : World) (t : Tree) (bytes : List ℕ) (r : Result A HashFault) → IsSound v.device v.overhead s → status_in s ≡ Waiting → s.stage % 2 ≡ 0 → Fits v s w →
-    pair_in v w.records (asked s.last) (128 ∷ bytes) ≡ false → t ≡ slice_index_or s.trees (stage_tree v.device s.stage) no_tree → IsChecked v (stage_tree v.device s.stage) (asked s.last).leaf t.root bytes r →
-    outcome_of v w.records (asked s.last) (128 ∷ bytes) ≡ outcome_by (stage_tree v.device s.stage) r
-path_means v s w t bytes r h now even fits apart is checked =
-    let o = waits s now in
+pub path_means : {A : Type 0} (v : Shape) (s : State) (w : World) (bytes : List ℕ) (r : Result A HashFault) → IsSound v.device v.overhead s → status_in s ≡ Waiting → s.stage % 2 ≡ 0 → Fits v s w →
+    pair_in v w.records (asked s.last) (128 ∷ bytes) ≡ false → IsChecked v s bytes r → outcome_of v w.records (asked s.last) (128 ∷ bytes) ≡ outcome_by (stage_tree v.device s.stage) r
+path_means v s w bytes r h now even fits apart checked =
     let i : ℕ = stage_tree v.device s.stage in
     let out = fetch_out v s h now even in
     let e : Entry = asked s.last in
-    let stands : Stands v i (slice_index_or s.trees i no_tree) (w.records i) (w.content i) = holds_of v s w fits o.healthy i (tree_within v.device v.overhead s h) in
-    let stored : IsStored (depth_of v.device i) (record_len v) t.root (w.records i) = rw is (subst (λ (k : ℕ). IsStored (depth_of v.device k) (record_len v) (slice_index_or s.trees i no_tree).root (w.records i)) stands.number stands.stored.stands) in
+    let root : List ℕ = (tree_now v s).root in
+    let stored = stored_now v s w h now fits in
     subst (λ (k : ℕ). outcome_of v w.records e (128 ∷ bytes) ≡ outcome_by k r) out.1
-    (fetched_is v w.records e (128 ∷ bytes) t.root r out.0 refl
+    (fetched_is v w.records e (128 ∷ bytes) root r out.0 refl
     (subst (λ (k : ℕ). e.leaf < 2 ^ depth_of v.device k) (sym out.1) out.2)
-    (subst (λ (k : ℕ). IsStored (depth_of v.device k) (record_len v) t.root (w.records k)) (sym out.1) stored)
+    (subst (λ (k : ℕ). IsStored (depth_of v.device k) (record_len v) root (w.records k)) (sym out.1) stored)
     apart
     (subst (λ (k : ℕ). (r ≡ Err fault.Length) ↔ (¬ HasLength (path_of v.device k e.leaf v.overhead bytes))) (sym out.1) checked.short)
     (subst (λ (k : ℕ). MatchResult r (λ _. IsPathOf (w.records k) (path_of v.device k e.leaf v.overhead bytes)) (IsFaultOf (w.records k) (path_of v.device k e.leaf v.overhead bytes)) ⊎ Collides (w.records k) (path_of v.device k e.leaf v.overhead bytes)) (sym out.1)
     (checked.judged (w.records i) stored)))
 
+-- the path that is checked
+pub path_same : (v : Shape) (s : State) (number leaf overhead : ℕ) (device : Sizes) (bytes : List ℕ) → device ≡ v.device → number ≡ stage_tree v.device s.stage → leaf ≡ (asked s.last).leaf → overhead ≡ v.overhead →
+    path_of device number leaf overhead bytes ≡ path_now v s bytes
+path_same v s number leaf overhead device bytes d n l o = cc
+
 -- the check's own words
-pub checked_as : {A : Type 0} (v : Shape) (i leaf number l overhead : ℕ) (device : Sizes) (root bytes : List ℕ) (r : Result A HashFault) → device ≡ v.device → number ≡ i → l ≡ leaf → overhead ≡ v.overhead →
-    (let p = path_of device number l overhead bytes in IsOk r ↔ IsAccepted p root) →
-    (let p = path_of device number l overhead bytes in (r ≡ Err fault.Length) ↔ (¬ HasLength p)) →
-    (let p = path_of device number l overhead bytes in (level : ℕ) → (r ≡ Err (fault.Tampered level)) ↔ IsTamperedAt p root level) →
-    (let p = path_of device number l overhead bytes in
-    (records : ℕ → List ℕ) → IsStored p.depth p.record_len root records → MatchResult r (λ _. IsPathOf records p) (IsFaultOf records p) ⊎ Collides records p) →
-    IsChecked v i leaf root bytes r
-checked_as v i leaf number l overhead device root bytes r d n e o accepted short tampered judged =
-    let same : path_of device number l overhead bytes ≡ path_of v.device i leaf v.overhead bytes = cc in
+pub checked_as : {A : Type 0} (v : Shape) (s : State) (number leaf overhead : ℕ) (device : Sizes) (t : Tree) (bytes : List ℕ) (r : Result A HashFault) → device ≡ v.device → number ≡ stage_tree v.device s.stage → leaf ≡ (asked s.last).leaf → overhead ≡ v.overhead → t ≡ tree_now v s →
+    (let p = path_of device number leaf overhead bytes in IsOk r ↔ IsAccepted p t.root) →
+    (let p = path_of device number leaf overhead bytes in (r ≡ Err fault.Length) ↔ (¬ HasLength p)) →
+    (let p = path_of device number leaf overhead bytes in (level : ℕ) → (r ≡ Err (fault.Tampered level)) ↔ IsTamperedAt p t.root level) →
+    (let p = path_of device number leaf overhead bytes in
+    (records : ℕ → List ℕ) → IsStored p.depth p.record_len t.root records → MatchResult r (λ _. IsPathOf records p) (IsFaultOf records p) ⊎ Collides records p) →
+    IsChecked v s bytes r
+checked_as v s number leaf overhead device t bytes r d n l o is accepted short tampered judged =
+    let same = path_same v s number leaf overhead device bytes d n l o in
+    let root : t.root ≡ (tree_now v s).root = ap (λ (k : Tree). k.root) is in
     record {
-      accepted = subst (λ (p : Path). IsOk r ↔ IsAccepted p root) same accepted;
-      tampered = subst (λ (p : Path). (level : ℕ) → (r ≡ Err (fault.Tampered level)) ↔ IsTamperedAt p root level) same tampered;
+      accepted = subst (λ (p : Path). IsOk r ↔ IsAccepted p (tree_now v s).root) same (subst (λ (k : List ℕ). IsOk r ↔ IsAccepted (path_of device number leaf overhead bytes) k) root accepted);
       short = subst (λ (p : Path). (r ≡ Err fault.Length) ↔ (¬ HasLength p)) same short;
-      judged = subst (λ (p : Path). (records : ℕ → List ℕ) → IsStored p.depth p.record_len root records → MatchResult r (λ _. IsPathOf records p) (IsFaultOf records p) ⊎ Collides records p) same judged;
+      tampered = subst (λ (p : Path). (level : ℕ) → (r ≡ Err (fault.Tampered level)) ↔ IsTamperedAt p (tree_now v s).root level) same
+          (subst (λ (k : List ℕ). (level : ℕ) → (r ≡ Err (fault.Tampered level)) ↔ IsTamperedAt (path_of device number leaf overhead bytes) k level) root tampered);
+      judged = subst (λ (p : Path). (records : ℕ → List ℕ) → IsStored p.depth p.record_len (tree_now v s).root records → MatchResult r (λ _. IsPathOf records p) (IsFaultOf records p) ⊎ Collides records p) same
+          (subst (λ (k : List ℕ). let p = path_of device number leaf overhead bytes in (records : ℕ → List ℕ) → IsStored p.depth p.record_len k records → MatchResult r (λ _. IsPathOf records p) (IsFaultOf records p) ⊎ Collides records p) root judged);
     }
 
 whole_by : {A : Type 0} (p : Path) (a : A) (r : Result A HashFault) → r ≡ Ok a → (r ≡ Err fault.Length) ↔ (¬ HasLength p) → HasLength p
@@ -104,20 +111,16 @@ told_ok : {A P C : Type 0} (Q : HashFault → Type 0) (r : Result A HashFault) (
 told_ok {A} {P} {C} Q r a ok h = subst (λ (o : Result A HashFault). MatchResult o (λ _. P) Q ⊎ C) ok h
 
 -- and a path that passes is the one that stands there
-pub path_stands : {A : Type 0} (v : Shape) (s : State) (w : World) (t : Tree) (bytes : List ℕ) (a : A) (r : Result A HashFault) → IsSound v.device v.overhead s → status_in s ≡ Waiting → s.stage % 2 ≡ 0 → Fits v s w →
-    pair_in v w.records (asked s.last) (128 ∷ bytes) ≡ false → t ≡ slice_index_or s.trees (stage_tree v.device s.stage) no_tree → IsChecked v (stage_tree v.device s.stage) (asked s.last).leaf t.root bytes r → r ≡ Ok a →
-    IsPathOf (w.records (stage_tree v.device s.stage)) (path_of v.device (stage_tree v.device s.stage) (asked s.last).leaf v.overhead bytes)
-path_stands v s w t bytes a r h now even fits apart is checked ok =
-    let o = waits s now in
-    let i : ℕ = stage_tree v.device s.stage in
+pub path_stands : {A : Type 0} (v : Shape) (s : State) (w : World) (bytes : List ℕ) (a : A) (r : Result A HashFault) → IsSound v.device v.overhead s → status_in s ≡ Waiting → s.stage % 2 ≡ 0 → Fits v s w →
+    pair_in v w.records (asked s.last) (128 ∷ bytes) ≡ false → IsChecked v s bytes r → r ≡ Ok a → IsPathOf (w.records (stage_tree v.device s.stage)) (path_now v s bytes)
+path_stands v s w bytes a r h now even fits apart checked ok =
     let out = fetch_out v s h now even in
-    let whole : HasLength (path_of v.device i (asked s.last).leaf v.overhead bytes) = whole_by (path_of v.device i (asked s.last).leaf v.overhead bytes) a r ok checked.short in
     let e : Entry = asked s.last in
-    let stands : Stands v i (slice_index_or s.trees i no_tree) (w.records i) (w.content i) = holds_of v s w fits o.healthy i (tree_within v.device v.overhead s h) in
-    let stored : IsStored (depth_of v.device i) (record_len v) t.root (w.records i) = rw is (subst (λ (k : ℕ). IsStored (depth_of v.device k) (record_len v) (slice_index_or s.trees i no_tree).root (w.records i)) stands.number stands.stored.stands) in
+    let whole : HasLength (path_now v s bytes) = whole_by (path_now v s bytes) a r ok checked.short in
     subst (λ (k : ℕ). IsPathOf (w.records k) (path_of v.device k e.leaf v.overhead bytes)) out.1
     (path_told v w.records e bytes out.0 (subst (λ (k : ℕ). HasLength (path_of v.device k e.leaf v.overhead bytes)) (sym out.1) whole) apart
-    (subst (λ (k : ℕ). IsPathOf (w.records k) (path_of v.device k e.leaf v.overhead bytes) ⊎ Collides (w.records k) (path_of v.device k e.leaf v.overhead bytes)) (sym out.1) (told_ok _ r a ok (checked.judged (w.records i) stored))))
+    (subst (λ (k : ℕ). IsPathOf (w.records k) (path_of v.device k e.leaf v.overhead bytes) ⊎ Collides (w.records k) (path_of v.device k e.leaf v.overhead bytes)) (sym out.1)
+    (told_ok _ r a ok (checked.judged (w.records (stage_tree v.device s.stage)) (stored_now v s w h now fits)))))
 
 -- the tree at work, as the code reads it
 pub record IsTreeAt (v : Shape) (s : State) (t : Tree) : Type 0 where
@@ -135,6 +138,31 @@ tree_at v s t i tree h now from of read =
     let is : t ≡ slice_index_or s.trees n no_tree = get_or_read s.trees n t inside (subst (λ (k : ℕ). t ≡ slice_index_or s.trees k t) same read) no_tree in
     let kept : IsTreeKept v.device n t = subst (IsTreeKept v.device n) (sym is) (q.kept n within) in
     record { is = is; number = kept.number; blocks = kept.blocks }
+
+-- The core that lends the tree at work, as a method of it sees them: what it keeps inside is what it was seen as.
+pub record Lends (v : Shape) (s : State) (t : Tree) (tree : ℕ) : Type 0 where
+  pub sound : IsSound v.device v.overhead s
+  pub at : IsTreeAt v s t
+  pub number : t.number ≡ tree
+
+pub lends : {S : Type 0} (overhead : S → ℕ) (sealing : S → ℕ → List ℕ → List ℕ) (opening : S → List ℕ → Option (List ℕ)) (inside now : CoreValue S) (t : Tree) (i tree : ℕ) → inside ≡ now →
+    IsSound inside.device (overhead inside.sealer) inside.state → status_in now.state ≡ Waiting → i ≡ tree → tree ≡ stage_tree now.device now.state.stage → t ≡ slice_index_or inside.state.trees i t →
+    Lends (shape_of overhead sealing opening now) now.state t tree
+lends overhead sealing opening inside now t i tree same sound waiting from of read =
+    let v = shape_of overhead sealing opening now in
+    let here : IsSound v.device v.overhead now.state = subst (λ (u : CoreValue _). IsSound u.device (overhead u.sealer) u.state) same sound in
+    let at : IsTreeAt v now.state t = tree_at v now.state t i tree here waiting from of (subst (λ (u : CoreValue _). t ≡ slice_index_or u.state.trees i t) same read) in
+    record { sound = here; at = at; number = at.number ∙ sym of }
+
+-- It is sound again with another tree in the place of that one.
+pub gives_back : {S : Type 0} (overhead : S → ℕ) (inside now : CoreValue S) (t new : Tree) (i tree : ℕ) → inside ≡ now → IsSound inside.device (overhead inside.sealer) inside.state → status_in now.state ≡ Waiting →
+    i ≡ tree → tree < trees_of now.device → t.number ≡ tree → new.number ≡ t.number → All (IsBlockOf inside.device t.number) new.stash →
+    IsSound inside.device (overhead inside.sealer) (record inside.state { trees = slice_set inside.state.trees i new })
+gives_back overhead inside now t new i tree same sound waiting from within number kept blocks =
+    let at : t.number ≡ i = number ∙ sym from in
+    subst (λ (u : CoreValue _). IsSound u.device (overhead u.sealer) (record u.state { trees = slice_set u.state.trees i new })) (sym same)
+    (sound_accessed now.device (overhead now.sealer) now.state i new (subst (λ (u : CoreValue _). IsSound u.device (overhead u.sealer) u.state) same sound) (waits now.state waiting).healthy (rw from within)
+    (record { number = kept ∙ at; blocks = subst (λ (k : ℕ). All (IsBlockOf now.device k) new.stash) at (subst (λ (u : CoreValue _). All (IsBlockOf u.device t.number) new.stash) same blocks) }))
 
 -- a refusal, by its code
 pub record IsRefused (bytes : List ℕ) (code : ℕ) : Type 0 where

@@ -1,9 +1,13 @@
 -- What an answer is to a core that waits for it: judged by the root digests, the stashes and the map that the core itself has.
-use Rattle.std.specs.Prelude.{◌≡◌, ℕ, ◌+◌, ◌*◌, ◌%◌, ◌≤◌, ◌⊎◌, ◌==◌, ◌&&◌, Bool, true, false, if◌then◌else◌, List, [], ◌∷◌, length, slice_index_or}
+use Rattle.std.specs.Prelude.{◌≡◌, ℕ, ◌+◌, ◌*◌, ◌%◌, ◌≤◌, ◌⊎◌, ◌↔◌, ◌==◌, ◌&&◌, Bool, true, false, if◌then◌else◌, List, [], ◌∷◌, length, slice_index_or, Result, Err, IsOk, MatchResult}
 use Rattle.oram_geometry.specs.Sizes.{depth_of}
 use Rattle.oram_bucket.specs.Cell.{Cell}
 use Rattle.oram_bucket.specs.Reading.{Reads}
-use Rattle.oram_hash.specs.Path.{Path, path_of, IsAccepted, IsTamperedAt}
+use Rattle.oram_hash.specs.declared.HashFault.{HashFault}
+use Rattle.oram_hash.specs.declared.HashFault.TheVariants as fault
+use Rattle.oram_hash.specs.Path.{Path, path_of, HasLength, IsAccepted, IsTamperedAt}
+use Rattle.oram_hash.specs.Tree.{IsStored, IsPathOf, Collides}
+use Rattle.oram_hash.specs.Verdict.{IsFaultOf}
 use Rattle.oram_tree.specs.Access.{IsLookup, IsNear, IsReadable}
 use Rattle.oram_tree.specs.State.{State as Tree}
 use Rattle.oram_run.specs.Answers.{is_refusal}
@@ -29,6 +33,14 @@ path_now v s records = path_of v.device (stage_tree v.device s.stage) (asked s.l
 -- which blocks a sealed bucket of that tree reads as
 abbrev pub reads_now : Shape → State → List ℕ → List Cell → Type 0
 reads_now v s = Reads v.opening v.device (stage_tree v.device s.stage)
+
+-- The check of these records as that path, under the root of its tree: by digests, and against every stored tree under the root.
+pub record IsChecked {A : Type 0} (v : Shape) (s : State) (records : List ℕ) (checked : Result A HashFault) : Type 0 where
+  pub accepted : IsOk checked ↔ IsAccepted (path_now v s records) (tree_now v s).root
+  pub short : (checked ≡ Err fault.Length) ↔ (¬ HasLength (path_now v s records))
+  pub tampered : (level : ℕ) → (checked ≡ Err (fault.Tampered level)) ↔ IsTamperedAt (path_now v s records) (tree_now v s).root level
+  pub judged : (stored : ℕ → List ℕ) → IsStored (depth_of v.device (stage_tree v.device s.stage)) (record_len v) (tree_now v s).root stored →
+      MatchResult checked (λ _. IsPathOf stored (path_now v s records)) (IsFaultOf stored (path_now v s records)) ⊎ Collides stored (path_now v s records)
 
 -- bytes behind the first one of an answer that has the right length: a path's to a fetch, none to a store
 abbrev pub answer_len : Shape → State → ℕ

@@ -17,7 +17,7 @@ mod storing;
 mod verdicts;
 mod whole;
 
-pub use machine::Core;
+pub use machine::{Core, MOST_WAITING};
 pub use oram_run::{Command, Event, Note, Reaction, Reason, Refusal, Reply, ReplyBody, Submission};
 pub use oram_tree::{PartsFault, TreeParts};
 pub use outcome::Run;

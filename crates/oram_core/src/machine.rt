@@ -24,7 +24,7 @@ use std::collections::VecDeque;
 use std::marker::Model;
 
 /// Commands that may wait for a reply.
-pub(crate) const MOST_WAITING: usize = 64;
+pub const MOST_WAITING: usize = 64;
 
 /// The core of a device: it takes events and says what to reply and to send.
 #[derive(Drop)]
@@ -95,7 +95,9 @@ impl<S: Sealer> Model for Core<S> {
 impl<S: Sealer> Core<S> {
     /// The device.
     pub fn device(&self) -> &Device
-        ensures { result.now ≡ self.now.device }
+        ensures value { result.now ≡ self.now.device }
+        // What holds of each core can be asked of any.
+        ensures sound { IsSound self.now.device (S.overhead self.now.sealer) self.now.state }
     {
         &self.device
     }

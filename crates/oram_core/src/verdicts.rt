@@ -1,11 +1,12 @@
 //! What an answer to the outstanding message is.
-ghost use Rattle.std.specs.Prelude.{◌≡◌, ◌≢◌, ◌↔◌, ◌%◌, ℕ, false, List, [], ◌∷◌};
+ghost use Rattle.std.specs.Prelude.{◌≡◌, ◌≢◌, ◌↔◌, ◌%◌, ℕ, false, List, [], ◌∷◌, IfOk};
 ghost use Rattle.oram_run.specs.Answers.{outcome_of, pair_in};
 ghost use Rattle.oram_run.specs.Messages.{asked};
 ghost use Rattle.oram_run.specs.Moves.{Fits};
 ghost use Rattle.oram_run.specs.Progress.Status.{Waiting};
 ghost use Rattle.oram_run.specs.State.{World, status_in};
-ghost use Rattle.oram_core.specs.Core.{CoreValue, shape_of};
+ghost use Rattle.oram_core.specs.Core.{CoreValue, IsSound, shape_of};
+ghost use Rattle.oram_core.specs.Judging.{IsChecked, path_now};
 ghost use Rattle.oram_core.specs.Verdicts.{Means, Tells, refusal_in};
 
 use crate::machine::Core;
@@ -94,13 +95,25 @@ impl<S: Sealer> Core<S> {
         ensures tells { Tells (shape_of S.overhead S.sealing S.opening self.now) self.now.state (128 ∷ records.now) result }
         ensures room { result ≢ Verdict.NoRoom }
     {
+        match self.checked(records) {
+            Ok(path) => Verdict::Path(path),
+            Err(HashFault::Length) => Verdict::Bad(Reason::Malformed),
+            Err(HashFault::Tampered(level)) => {
+                Verdict::Bad(Reason::Tampered(self.tree_at_work(), level))
+            }
+        }
+    }
+
+    /// The records as the path that was asked for, under the root that its tree has.
+    fn checked<'a>(&self, records: &'a [u8]) -> Result<PathView<'a>, HashFault>
+        requires { status_in self.now.state ≡ Waiting }
+        ensures sound { IsSound self.now.device (S.overhead self.now.sealer) self.now.state }
+        ensures checked { IsChecked (shape_of S.overhead S.sealing S.opening self.now) self.now.state records.now result }
+        ensures view { IfOk result (λ p. p ≡ path_now (shape_of S.overhead S.sealing S.opening self.now) self.now.state records.now) }
+    {
         let tree = self.tree_at_work();
         let leaf = leaf_named(self.last.as_slice());
         let overhead = self.sealer.overhead();
-        match self.trees[usize::from(tree)].check(&self.device, leaf, overhead, records) {
-            Ok(path) => Verdict::Path(path),
-            Err(HashFault::Length) => Verdict::Bad(Reason::Malformed),
-            Err(HashFault::Tampered(level)) => Verdict::Bad(Reason::Tampered(tree, level)),
-        }
+        self.trees[usize::from(tree)].check(&self.device, leaf, overhead, records)
     }
 }

@@ -1,11 +1,11 @@
 use Rattle.std.proofs.Common.{◌≡◌, ◌++◌, if◌then◌else◌, ℕ, slice_set, ◌+◌, ◌*◌, ◌^◌, ◌<◌, length, ap, MatchResult, OnOk, Err, ◌∷◌, List, slice_index_or, refl, sym, ◌∙◌, subst}
 use Rattle.std.specs.List.{All}
-use Rattle.oram_geometry.specs.Sizes.{depth_of, trees_of}
+use Rattle.oram_geometry.specs.Sizes.{depth_of}
 use Rattle.oram_bucket.specs.Bucket.{IsBlockOf}
 use Rattle.oram_run.specs.Content.{block_of, new_leaf}
 use Rattle.oram_run.specs.declared.events.Submission.{Submission}
-use Rattle.oram_core.specs.Core.{CoreValue, IsSound, IsTreeKept, shape_of}
-use Rattle.oram_core.proofs.Sound.{nonce_small, sound_accessed, stage_within}
+use Rattle.oram_core.specs.Core.{CoreValue, IsSound, shape_of}
+use Rattle.oram_core.proofs.Sound.{nonce_small, stage_within}
 use Rattle.oram_run.specs.Content.{stage_tree}
 use Rattle.oram_run.specs.declared.events.Reason.TheVariants as reason
 use Rattle.oram_core.specs.Doing.{done, failed_by, stored_by, is_misled}
@@ -13,7 +13,7 @@ use Rattle.oram_core.specs.Steps.{Heard}
 use Rattle.oram_core.proofs.Heard.{taken_heard, failed_heard}
 use Rattle.oram_core.proofs.Judged.{access_used, unreadable_used, readable_now, readable_told, looked_now}
 use Rattle.oram_core.proofs.Meeting.{Waits, waits}
-use Rattle.oram_core.proofs.Hearing.{IsTreeAt, tree_at}
+use Rattle.oram_core.proofs.Hearing.{lends, gives_back}
 use Rattle.oram_core.proofs.Accessing.{access_moves, ready_tree}
 use Rattle.oram_hash.specs.Path.{Path, with_bytes}
 use Rattle.oram_bucket.specs.Cell.{Cell}
@@ -32,48 +32,30 @@ use Rattle.oram_core.proofs.machine.Core.store.Goals as goal
 
 pub access_to-looked-requires-clause-old_leaf : goal.access_to-looked-requires-clause-old_leaf
 access_to-looked-requires-clause-old_leaf g c =
-    let now = c.args.self.now in
-    let v = shape_of g.S.Sealer.overhead g.S.Sealer.sealing g.S.Sealer.opening now in
-    let sound : IsSound v.device v.overhead now.state = subst (λ (u : CoreValue g.row.S.Denot). IsSound u.device (g.S.Sealer.overhead u.sealer) u.state) c.self.view_is c.self.invariant in
-    let t : IsTreeAt v now.state c.index_mut.result.now = tree_at v now.state c.index_mut.result.now c.from.result c.errand-errand.result.tree sound c.requires.waiting c.from.ensures c.errand-errand.ensures.tree (subst (λ (u : CoreValue g.row.S.Denot). c.index_mut.result.now ≡ slice_index_or u.state.trees c.from.result c.index_mut.result.now) c.self.view_is c.index_mut.ensures.value) in
-    let number : c.index_mut.result.now.number ≡ c.errand-errand.result.tree = t.number ∙ sym c.errand-errand.ensures.tree in
-    subst (λ (u : CoreValue g.row.S.Denot). c.errand-errand.result.leaf < 2 ^ depth_of u.device c.index_mut.result.now.number) (sym c.self.view_is) (rw number c.errand-errand.ensures.ranges.2)
+    let h = lends g.S.Sealer.overhead g.S.Sealer.sealing g.S.Sealer.opening _ c.args.self.now c.index_mut.result.now c.from.result c.errand-errand.result.tree c.self.view_is c.self.invariant c.requires.waiting c.from.ensures c.errand-errand.ensures.tree c.index_mut.ensures.value in
+    subst (λ (u : CoreValue g.row.S.Denot). c.errand-errand.result.leaf < 2 ^ depth_of u.device c.index_mut.result.now.number) (sym c.self.view_is) (rw h.number c.errand-errand.ensures.ranges.2)
 
 pub access_to-looked-requires-clause-new_leaf : goal.access_to-looked-requires-clause-new_leaf
 access_to-looked-requires-clause-new_leaf g c =
-    let now = c.args.self.now in
-    let v = shape_of g.S.Sealer.overhead g.S.Sealer.sealing g.S.Sealer.opening now in
-    let sound : IsSound v.device v.overhead now.state = subst (λ (u : CoreValue g.row.S.Denot). IsSound u.device (g.S.Sealer.overhead u.sealer) u.state) c.self.view_is c.self.invariant in
-    let t : IsTreeAt v now.state c.index_mut.result.now = tree_at v now.state c.index_mut.result.now c.from.result c.errand-errand.result.tree sound c.requires.waiting c.from.ensures c.errand-errand.ensures.tree (subst (λ (u : CoreValue g.row.S.Denot). c.index_mut.result.now ≡ slice_index_or u.state.trees c.from.result c.index_mut.result.now) c.self.view_is c.index_mut.ensures.value) in
-    let number : c.index_mut.result.now.number ≡ c.errand-errand.result.tree = t.number ∙ sym c.errand-errand.ensures.tree in
-    subst (λ (u : CoreValue g.row.S.Denot). c.errand-errand.result.new_leaf < 2 ^ depth_of u.device c.index_mut.result.now.number) (sym c.self.view_is) (rw number c.errand-errand.ensures.ranges.3)
+    let h = lends g.S.Sealer.overhead g.S.Sealer.sealing g.S.Sealer.opening _ c.args.self.now c.index_mut.result.now c.from.result c.errand-errand.result.tree c.self.view_is c.self.invariant c.requires.waiting c.from.ensures c.errand-errand.ensures.tree c.index_mut.ensures.value in
+    subst (λ (u : CoreValue g.row.S.Denot). c.errand-errand.result.new_leaf < 2 ^ depth_of u.device c.index_mut.result.now.number) (sym c.self.view_is) (rw h.number c.errand-errand.ensures.ranges.3)
 
 pub access_to-looked-requires-clause-nonces : goal.access_to-looked-requires-clause-nonces
 access_to-looked-requires-clause-nonces g c =
     let now = c.args.self.now in
     let v = shape_of g.S.Sealer.overhead g.S.Sealer.sealing g.S.Sealer.opening now in
-    let sound : IsSound v.device v.overhead now.state = subst (λ (u : CoreValue g.row.S.Denot). IsSound u.device (g.S.Sealer.overhead u.sealer) u.state) c.self.view_is c.self.invariant in
-    let t : IsTreeAt v now.state c.index_mut.result.now = tree_at v now.state c.index_mut.result.now c.from.result c.errand-errand.result.tree sound c.requires.waiting c.from.ensures c.errand-errand.ensures.tree (subst (λ (u : CoreValue g.row.S.Denot). c.index_mut.result.now ≡ slice_index_or u.state.trees c.from.result c.index_mut.result.now) c.self.view_is c.index_mut.ensures.value) in
-    let number : c.index_mut.result.now.number ≡ c.errand-errand.result.tree = t.number ∙ sym c.errand-errand.ensures.tree in
-    subst (λ (u : CoreValue g.row.S.Denot). u.state.nonce + depth_of u.device c.index_mut.result.now.number < 2 ^ 64) (sym c.self.view_is) (rw t.number (nonce_small v.device v.overhead now.state sound (waits now.state c.requires.waiting).healthy))
+    let h = lends g.S.Sealer.overhead g.S.Sealer.sealing g.S.Sealer.opening _ c.args.self.now c.index_mut.result.now c.from.result c.errand-errand.result.tree c.self.view_is c.self.invariant c.requires.waiting c.from.ensures c.errand-errand.ensures.tree c.index_mut.ensures.value in
+    subst (λ (u : CoreValue g.row.S.Denot). u.state.nonce + depth_of u.device c.index_mut.result.now.number < 2 ^ 64) (sym c.self.view_is) (rw h.at.number (nonce_small v.device v.overhead now.state h.sound (waits now.state c.requires.waiting).healthy))
 
 pub access_to-looked-requires-clause-edit : goal.access_to-looked-requires-clause-edit
 access_to-looked-requires-clause-edit g c =
-    let now = c.args.self.now in
-    let v = shape_of g.S.Sealer.overhead g.S.Sealer.sealing g.S.Sealer.opening now in
-    let sound : IsSound v.device v.overhead now.state = subst (λ (u : CoreValue g.row.S.Denot). IsSound u.device (g.S.Sealer.overhead u.sealer) u.state) c.self.view_is c.self.invariant in
-    let t : IsTreeAt v now.state c.index_mut.result.now = tree_at v now.state c.index_mut.result.now c.from.result c.errand-errand.result.tree sound c.requires.waiting c.from.ensures c.errand-errand.ensures.tree (subst (λ (u : CoreValue g.row.S.Denot). c.index_mut.result.now ≡ slice_index_or u.state.trees c.from.result c.index_mut.result.now) c.self.view_is c.index_mut.ensures.value) in
-    let number : c.index_mut.result.now.number ≡ c.errand-errand.result.tree = t.number ∙ sym c.errand-errand.ensures.tree in
-    rw number c.edit_for.ensures.edit
+    let h = lends g.S.Sealer.overhead g.S.Sealer.sealing g.S.Sealer.opening _ c.args.self.now c.index_mut.result.now c.from.result c.errand-errand.result.tree c.self.view_is c.self.invariant c.requires.waiting c.from.ensures c.errand-errand.ensures.tree c.index_mut.ensures.value in
+    rw h.number c.edit_for.ensures.edit
 
 pub access_to-looked-requires-clause-blocks : goal.access_to-looked-requires-clause-blocks
 access_to-looked-requires-clause-blocks g c =
-    let now = c.args.self.now in
-    let v = shape_of g.S.Sealer.overhead g.S.Sealer.sealing g.S.Sealer.opening now in
-    let sound : IsSound v.device v.overhead now.state = subst (λ (u : CoreValue g.row.S.Denot). IsSound u.device (g.S.Sealer.overhead u.sealer) u.state) c.self.view_is c.self.invariant in
-    let t : IsTreeAt v now.state c.index_mut.result.now = tree_at v now.state c.index_mut.result.now c.from.result c.errand-errand.result.tree sound c.requires.waiting c.from.ensures c.errand-errand.ensures.tree (subst (λ (u : CoreValue g.row.S.Denot). c.index_mut.result.now ≡ slice_index_or u.state.trees c.from.result c.index_mut.result.now) c.self.view_is c.index_mut.ensures.value) in
-    let number : c.index_mut.result.now.number ≡ c.errand-errand.result.tree = t.number ∙ sym c.errand-errand.ensures.tree in
-    subst (λ (u : CoreValue g.row.S.Denot). All (IsBlockOf u.device c.index_mut.result.now.number) c.index_mut.result.now.stash) (sym c.self.view_is) (rw t.number t.blocks)
+    let h = lends g.S.Sealer.overhead g.S.Sealer.sealing g.S.Sealer.opening _ c.args.self.now c.index_mut.result.now c.from.result c.errand-errand.result.tree c.self.view_is c.self.invariant c.requires.waiting c.from.ensures c.errand-errand.ensures.tree c.index_mut.ensures.value in
+    subst (λ (u : CoreValue g.row.S.Denot). All (IsBlockOf u.device c.index_mut.result.now.number) c.index_mut.result.now.stash) (sym c.self.view_is) (rw h.at.number h.at.blocks)
 
 pub take_over-requires-clause-oldest : goal.take_over-requires-clause-oldest
 take_over-requires-clause-oldest g c =
@@ -81,41 +63,20 @@ take_over-requires-clause-oldest g c =
 
 pub invariant_of-self : goal.invariant_of-self
 invariant_of-self g c =
-    let now = c.args.self.now in
-    let v = shape_of g.S.Sealer.overhead g.S.Sealer.sealing g.S.Sealer.opening now in
-    let sound : IsSound v.device v.overhead now.state = subst (λ (u : CoreValue g.row.S.Denot). IsSound u.device (g.S.Sealer.overhead u.sealer) u.state) c.self.view_is c.self.invariant in
-    let t : IsTreeAt v now.state c.index_mut.result.now = tree_at v now.state c.index_mut.result.now c.from.result c.errand-errand.result.tree sound c.requires.waiting c.from.ensures c.errand-errand.ensures.tree (subst (λ (u : CoreValue g.row.S.Denot). c.index_mut.result.now ≡ slice_index_or u.state.trees c.from.result c.index_mut.result.now) c.self.view_is c.index_mut.ensures.value) in
-    let number : c.index_mut.result.now.number ≡ c.errand-errand.result.tree = t.number ∙ sym c.errand-errand.ensures.tree in
-    let new = c.access_to-looked.new.self in
-    let at : c.index_mut.result.now.number ≡ c.from.result = number ∙ sym c.from.ensures in
-    let blocks : All (IsBlockOf now.device c.from.result) new.stash = subst (λ (k : ℕ). All (IsBlockOf now.device k) new.stash) at (subst (λ (u : CoreValue g.row.S.Denot). All (IsBlockOf u.device c.index_mut.result.now.number) new.stash) c.self.view_is c.access_to-looked.ensures.blocks) in
-    let kept : IsTreeKept now.device c.from.result new = record { number = c.access_to-looked.ensures.number ∙ at; blocks = blocks } in
-    let within : c.from.result < trees_of now.device = rw c.from.ensures c.errand-errand.ensures.ranges.0 in
-    subst (λ (u : CoreValue g.row.S.Denot). IsSound u.device (g.S.Sealer.overhead u.sealer) (record u.state { trees = slice_set u.state.trees c.from.result new })) (sym c.self.view_is)
-    (sound_accessed v.device v.overhead now.state c.from.result new sound (waits now.state c.requires.waiting).healthy within kept)
+    let h = lends g.S.Sealer.overhead g.S.Sealer.sealing g.S.Sealer.opening _ c.args.self.now c.index_mut.result.now c.from.result c.errand-errand.result.tree c.self.view_is c.self.invariant c.requires.waiting c.from.ensures c.errand-errand.ensures.tree c.index_mut.ensures.value in
+    gives_back g.S.Sealer.overhead _ c.args.self.now c.index_mut.result.now c.access_to-looked.new.self c.from.result c.errand-errand.result.tree c.self.view_is c.self.invariant c.requires.waiting c.from.ensures c.errand-errand.ensures.ranges.0 h.number c.access_to-looked.ensures.number c.access_to-looked.ensures.blocks
 
 pub invariant_of-self-in-Unreadable : goal.invariant_of-self-in-Unreadable
 invariant_of-self-in-Unreadable g c =
-    let now = c.args.self.now in
-    let v = shape_of g.S.Sealer.overhead g.S.Sealer.sealing g.S.Sealer.opening now in
-    let sound : IsSound v.device v.overhead now.state = subst (λ (u : CoreValue g.row.S.Denot). IsSound u.device (g.S.Sealer.overhead u.sealer) u.state) c.self.view_is c.self.invariant in
-    let t : IsTreeAt v now.state c.index_mut.result.now = tree_at v now.state c.index_mut.result.now c.from.result c.errand-errand.result.tree sound c.requires.waiting c.from.ensures c.errand-errand.ensures.tree (subst (λ (u : CoreValue g.row.S.Denot). c.index_mut.result.now ≡ slice_index_or u.state.trees c.from.result c.index_mut.result.now) c.self.view_is c.index_mut.ensures.value) in
-    let number : c.index_mut.result.now.number ≡ c.errand-errand.result.tree = t.number ∙ sym c.errand-errand.ensures.tree in
-    let new = c.access_to-looked.new.self in
-    let at : c.index_mut.result.now.number ≡ c.from.result = number ∙ sym c.from.ensures in
-    let blocks : All (IsBlockOf now.device c.from.result) new.stash = subst (λ (k : ℕ). All (IsBlockOf now.device k) new.stash) at (subst (λ (u : CoreValue g.row.S.Denot). All (IsBlockOf u.device c.index_mut.result.now.number) new.stash) c.self.view_is c.access_to-looked.ensures.blocks) in
-    let kept : IsTreeKept now.device c.from.result new = record { number = c.access_to-looked.ensures.number ∙ at; blocks = blocks } in
-    let within : c.from.result < trees_of now.device = rw c.from.ensures c.errand-errand.ensures.ranges.0 in
-    subst (λ (u : CoreValue g.row.S.Denot). IsSound u.device (g.S.Sealer.overhead u.sealer) (record u.state { trees = slice_set u.state.trees c.from.result new })) (sym c.self.view_is)
-    (sound_accessed v.device v.overhead now.state c.from.result new sound (waits now.state c.requires.waiting).healthy within kept)
+    let h = lends g.S.Sealer.overhead g.S.Sealer.sealing g.S.Sealer.opening _ c.args.self.now c.index_mut.result.now c.from.result c.errand-errand.result.tree c.self.view_is c.self.invariant c.requires.waiting c.from.ensures c.errand-errand.ensures.tree c.index_mut.ensures.value in
+    gives_back g.S.Sealer.overhead _ c.args.self.now c.index_mut.result.now c.access_to-looked.new.self c.from.result c.errand-errand.result.tree c.self.view_is c.self.invariant c.requires.waiting c.from.ensures c.errand-errand.ensures.ranges.0 h.number c.access_to-looked.ensures.number c.access_to-looked.ensures.blocks
 
 pub returns-in-Ok-clause-moves : goal.returns-in-Ok-clause-moves
 returns-in-Ok-clause-moves g c = λ w fits on_path.
     let now = c.args.self.now in
     let v = shape_of g.S.Sealer.overhead g.S.Sealer.sealing g.S.Sealer.opening now in
-    let sound : IsSound v.device v.overhead now.state = subst (λ (u : CoreValue g.row.S.Denot). IsSound u.device (g.S.Sealer.overhead u.sealer) u.state) c.self.view_is c.self.invariant in
     let told = c.index_mut.result.now in
-    let t : IsTreeAt v now.state told = tree_at v now.state told c.from.result c.errand-errand.result.tree sound c.requires.waiting c.from.ensures c.errand-errand.ensures.tree (subst (λ (u : CoreValue g.row.S.Denot). told ≡ slice_index_or u.state.trees c.from.result told) c.self.view_is c.index_mut.ensures.value) in
+    let h = lends g.S.Sealer.overhead g.S.Sealer.sealing g.S.Sealer.opening _ c.args.self.now c.index_mut.result.now c.from.result c.errand-errand.result.tree c.self.view_is c.self.invariant c.requires.waiting c.from.ensures c.errand-errand.ensures.tree c.index_mut.ensures.value in
     let o : Waits now.state = waits now.state c.requires.waiting in
     let i = stage_tree now.device now.state.stage in
     let new = c.access_to-looked.new.self in
@@ -148,7 +109,7 @@ returns-in-Ok-clause-moves g c = λ w fits on_path.
     ap (λ (k : ℕ). let d : Cell = record { address = k; leaf = c.errand-errand.result.new_leaf; content = edited_content c.edit_for.result before } in d) at_block
     ∙ ap (λ (k : ℕ). let d : Cell = record { address = block_of now.device i x; leaf = k; content = edited_content c.edit_for.result before } in d) at_leaf
     ∙ ap (λ (b : List ℕ). let d : Cell = record { address = block_of now.device i x; leaf = new_leaf now.device i x; content = b } in d) content in
-    let ready = ready_tree v now.state w told o sound c.requires.stage fits t in
+    let ready = ready_tree v now.state w told o h.sound c.requires.stage fits h.at in
     let absent : IsAtOrAbsent (w.content i) c.errand-errand.result.block c.errand-errand.result.leaf =
     subst (λ (k : ℕ). IsAtOrAbsent (w.content i) c.errand-errand.result.block k) (sym c.errand-errand.ensures.leaf)
     (subst (λ (k : ℕ). IsAtOrAbsent (w.content i) k (asked now.state.last).leaf) (sym at_block) ready.at_leaf) in
@@ -159,15 +120,14 @@ returns-in-Ok-clause-moves g c = λ w fits on_path.
     subst (λ (d : Cell). IsUpdate v.opening v.overhead now.device path (with_bytes path records) (w.records i) (w.content i) d found before new) same (told_so records gained) in
     let made : IsRewritten (Reads v.opening now.device told.number) v.sealing now.device now.state.nonce path told.stash (with_bytes path records) cell new.stash =
     subst (λ (d : Cell). IsRewritten (Reads v.opening now.device told.number) v.sealing now.device now.state.nonce path told.stash (with_bytes path records) d new.stash) same written in
-    access_moves v now.state w told new path found before records why c.take_over.result c.take_over.new.self.state o sound c.requires.stage fits t c.requires.path long c.access_to-looked.ensures.number update made does_at
+    access_moves v now.state w told new path found before records why c.take_over.result c.take_over.new.self.state o h.sound c.requires.stage fits h.at c.requires.path long c.access_to-looked.ensures.number update made does_at
 
 pub returns-in-Unreadable-clause-moves : goal.returns-in-Unreadable-clause-moves
 returns-in-Unreadable-clause-moves g c = λ w fits on_path.
     let now = c.args.self.now in
     let v = shape_of g.S.Sealer.overhead g.S.Sealer.sealing g.S.Sealer.opening now in
-    let sound : IsSound v.device v.overhead now.state = subst (λ (u : CoreValue g.row.S.Denot). IsSound u.device (g.S.Sealer.overhead u.sealer) u.state) c.self.view_is c.self.invariant in
     let told = c.index_mut.result.now in
-    let t : IsTreeAt v now.state told = tree_at v now.state told c.from.result c.errand-errand.result.tree sound c.requires.waiting c.from.ensures c.errand-errand.ensures.tree (subst (λ (u : CoreValue g.row.S.Denot). told ≡ slice_index_or u.state.trees c.from.result told) c.self.view_is c.index_mut.ensures.value) in
+    let h = lends g.S.Sealer.overhead g.S.Sealer.sealing g.S.Sealer.opening _ c.args.self.now c.index_mut.result.now c.from.result c.errand-errand.result.tree c.self.view_is c.self.invariant c.requires.waiting c.from.ensures c.errand-errand.ensures.tree c.index_mut.ensures.value in
     let o : Waits now.state = waits now.state c.requires.waiting in
     let i = stage_tree now.device now.state.stage in
     let new = c.access_to-looked.new.self in
@@ -178,7 +138,7 @@ returns-in-Unreadable-clause-moves g c = λ w fits on_path.
     let tree = c.errand-errand.ensures.tree in
     let ob = c.errand-errand.ensures.oldest o.oldest o.rest o.queue in
     let at_block : c.errand-errand.result.block ≡ block_of now.device i x = ob.0 ∙ ap (λ (k : ℕ). block_of now.device k x) tree in
-    let ready = ready_tree v now.state w told o sound c.requires.stage fits t in
+    let ready = ready_tree v now.state w told o h.sound c.requires.stage fits h.at in
     let absent : IsAtOrAbsent (w.content i) c.errand-errand.result.block c.errand-errand.result.leaf =
     subst (λ (k : ℕ). IsAtOrAbsent (w.content i) c.errand-errand.result.block k) (sym c.errand-errand.ensures.leaf)
     (subst (λ (k : ℕ). IsAtOrAbsent (w.content i) k (asked now.state.last).leaf) (sym at_block) ready.at_leaf) in
@@ -198,7 +158,7 @@ returns-in-Ok-clause-heard g c =
     let records = c.in-Ok.ensures.appends.0 in
     let message = c.access_to-looked.new.out.items in
     let body : message ≡ store_body c.errand-errand.result.tree c.errand-errand.result.leaf records = c.in-Ok.ensures.appends.1 ∙ c.in_ok-message.ensures.items records in
-    let does = subst (λ (u : CoreValue g.row.S.Denot). (x : Submission) (rest : List Submission) (records : List ℕ) → u.state.queue ≡ x ∷ rest → message ≡ store_body c.errand-errand.result.tree c.errand-errand.result.leaf records → done c.take_over.result c.take_over.new.self.state ≡ (let t = record u.state { trees = slice_set u.state.trees c.from.result new } in if is_misled (shape_of g.S.Sealer.overhead g.S.Sealer.sealing g.S.Sealer.opening u) t x c.in-Ok.lookup.found before then failed_by t (reason.Tampered (stage_tree u.device u.state.stage) 0) else stored_by (shape_of g.S.Sealer.overhead g.S.Sealer.sealing g.S.Sealer.opening u) t x before records)) c.self.view_is c.take_over.ensures.ok in
+    let does = subst (λ (u : CoreValue g.row.S.Denot). (x : Submission) (rest : List Submission) (records : List ℕ) → u.state.queue ≡ x ∷ rest → message ≡ store_body c.errand-errand.result.tree c.errand-errand.result.leaf records → done c.take_over.result c.take_over.new.self.state ≡ (let after = record u.state { trees = slice_set u.state.trees c.from.result new } in if is_misled (shape_of g.S.Sealer.overhead g.S.Sealer.sealing g.S.Sealer.opening u) after x c.in-Ok.lookup.found before then failed_by after (reason.Tampered (stage_tree u.device u.state.stage) 0) else stored_by (shape_of g.S.Sealer.overhead g.S.Sealer.sealing g.S.Sealer.opening u) after x before records)) c.self.view_is c.take_over.ensures.ok in
     subst (Heard v now.state) (sym (does o.oldest o.rest records o.queue body))
     (taken_heard v now.state (slice_set now.state.trees c.from.result new) o.oldest c.in-Ok.lookup.found before records (reason.Tampered (stage_tree now.device now.state.stage) 0) c.requires.waiting c.requires.stage (stage_within v.device v.overhead now.state sound))
 
@@ -215,9 +175,8 @@ pub returns-in-Ok-clause-uses : goal.returns-in-Ok-clause-uses
 returns-in-Ok-clause-uses g c =
     let now = c.args.self.now in
     let v = shape_of g.S.Sealer.overhead g.S.Sealer.sealing g.S.Sealer.opening now in
-    let sound : IsSound v.device v.overhead now.state = subst (λ (u : CoreValue g.row.S.Denot). IsSound u.device (g.S.Sealer.overhead u.sealer) u.state) c.self.view_is c.self.invariant in
     let told = c.index_mut.result.now in
-    let t : IsTreeAt v now.state told = tree_at v now.state told c.from.result c.errand-errand.result.tree sound c.requires.waiting c.from.ensures c.errand-errand.ensures.tree (subst (λ (u : CoreValue g.row.S.Denot). told ≡ slice_index_or u.state.trees c.from.result told) c.self.view_is c.index_mut.ensures.value) in
+    let h = lends g.S.Sealer.overhead g.S.Sealer.sealing g.S.Sealer.opening _ c.args.self.now c.index_mut.result.now c.from.result c.errand-errand.result.tree c.self.view_is c.self.invariant c.requires.waiting c.from.ensures c.errand-errand.ensures.tree c.index_mut.ensures.value in
     let o : Waits now.state = waits now.state c.requires.waiting in
     let i = stage_tree now.device now.state.stage in
     let new = c.access_to-looked.new.self in
@@ -232,23 +191,22 @@ returns-in-Ok-clause-uses g c =
     let looked = subst (λ (u : CoreValue g.row.S.Denot). IsLookup (IsNear (Reads (g.S.Sealer.opening u.sealer) u.device told.number) path told.stash) u.device.block_bytes c.errand-errand.result.block found before) c.self.view_is c.in-Ok.ensures.lookup in
     let ob = c.errand-errand.ensures.oldest o.oldest o.rest o.queue in
     let at_block : c.errand-errand.result.block ≡ block_of now.device i o.oldest = ob.0 ∙ ap (λ (k : ℕ). block_of now.device k o.oldest) c.errand-errand.ensures.tree in
-    let does = subst (λ (u : CoreValue g.row.S.Denot). (x : Submission) (rest : List Submission) (records : List ℕ) → u.state.queue ≡ x ∷ rest → message ≡ store_body c.errand-errand.result.tree c.errand-errand.result.leaf records → done c.take_over.result c.take_over.new.self.state ≡ (let t = record u.state { trees = slice_set u.state.trees c.from.result new } in if is_misled (shape_of g.S.Sealer.overhead g.S.Sealer.sealing g.S.Sealer.opening u) t x found before then failed_by t (reason.Tampered (stage_tree u.device u.state.stage) 0) else stored_by (shape_of g.S.Sealer.overhead g.S.Sealer.sealing g.S.Sealer.opening u) t x before records)) c.self.view_is c.take_over.ensures.ok in
+    let does = subst (λ (u : CoreValue g.row.S.Denot). (x : Submission) (rest : List Submission) (records : List ℕ) → u.state.queue ≡ x ∷ rest → message ≡ store_body c.errand-errand.result.tree c.errand-errand.result.leaf records → done c.take_over.result c.take_over.new.self.state ≡ (let after = record u.state { trees = slice_set u.state.trees c.from.result new } in if is_misled (shape_of g.S.Sealer.overhead g.S.Sealer.sealing g.S.Sealer.opening u) after x found before then failed_by after (reason.Tampered (stage_tree u.device u.state.stage) 0) else stored_by (shape_of g.S.Sealer.overhead g.S.Sealer.sealing g.S.Sealer.opening u) after x before records)) c.self.view_is c.take_over.ensures.ok in
     access_used v now.state (slice_set now.state.trees c.from.result new) o.oldest o.rest path found before records c.take_over.result c.take_over.new.self.state o.queue
-    (readable_now v now.state told path t read)
-    (looked_now v now.state told path c.errand-errand.result.block o.oldest found before t at_block looked)
+    (readable_now v now.state told path h.at read)
+    (looked_now v now.state told path c.errand-errand.result.block o.oldest found before h.at at_block looked)
     (does o.oldest o.rest records o.queue body)
 
 pub returns-in-Unreadable-clause-uses : goal.returns-in-Unreadable-clause-uses
 returns-in-Unreadable-clause-uses g c =
     let now = c.args.self.now in
     let v = shape_of g.S.Sealer.overhead g.S.Sealer.sealing g.S.Sealer.opening now in
-    let sound : IsSound v.device v.overhead now.state = subst (λ (u : CoreValue g.row.S.Denot). IsSound u.device (g.S.Sealer.overhead u.sealer) u.state) c.self.view_is c.self.invariant in
     let told = c.index_mut.result.now in
-    let t : IsTreeAt v now.state told = tree_at v now.state told c.from.result c.errand-errand.result.tree sound c.requires.waiting c.from.ensures c.errand-errand.ensures.tree (subst (λ (u : CoreValue g.row.S.Denot). told ≡ slice_index_or u.state.trees c.from.result told) c.self.view_is c.index_mut.ensures.value) in
+    let h = lends g.S.Sealer.overhead g.S.Sealer.sealing g.S.Sealer.opening _ c.args.self.now c.index_mut.result.now c.from.result c.errand-errand.result.tree c.self.view_is c.self.invariant c.requires.waiting c.from.ensures c.errand-errand.ensures.tree c.index_mut.ensures.value in
     let new = c.access_to-looked.new.self in
     let path = c.args.path.now in
     let e = reason.Tampered c.errand-errand.result.tree 0 in
     let unreadable = subst (λ (u : CoreValue g.row.S.Denot). c.access_to-looked.result ≡ Err fault.Unreadable → ¬ IsReadable (Reads (g.S.Sealer.opening u.sealer) u.device told.number) path told.stash) c.self.view_is c.access_to-looked.ensures.unreadable in
     let does = subst (λ (u : CoreValue g.row.S.Denot). done c.fail.result c.fail.new.self.state ≡ failed_by (record u.state { trees = slice_set u.state.trees c.from.result new }) e) c.self.view_is c.fail.ensures.ok in
     unreadable_used v now.state (record now.state { trees = slice_set now.state.trees c.from.result new }) c.fail.new.self.state c.errand-errand.result.tree path c.fail.result c.errand-errand.ensures.tree
-    (λ h. unreadable (c.in-Err.is ∙ ap Err c.in-Unreadable.is) (readable_told v now.state told path t h)) does
+    (λ so. unreadable (c.in-Err.is ∙ ap Err c.in-Unreadable.is) (readable_told v now.state told path h.at so)) does
