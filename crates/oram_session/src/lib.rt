@@ -1,0 +1,27 @@
+//! Sessions: what a client asks in frames is answered by the core, with a host behind a link and the words of a tape.
+//!
+//! A [`Link`] leads to the bucket host: [`Direct`] to a server in memory, [`FaultLink`] over another link with faults of
+//! its own. A [`Tape`] gives the words that each command brings: [`ListTape`] those of a list, [`ChaChaTape`] those of a
+//! stream cipher.
+#![tactic(auto)]
+
+// Calls once more where one allocation was refused, so that the tests hold whichever it is.
+#[cfg(test)]
+macro_rules! retried {
+    ($call:expr) => {
+        match $call {
+            Ok(value) => value,
+            Err(_) => $call?,
+        }
+    };
+}
+
+mod link;
+mod links;
+mod tape;
+mod tapes;
+
+pub use link::{Link, LinkFault};
+pub use links::{Direct, FaultLink};
+pub use tape::Tape;
+pub use tapes::{ChaChaTape, ListTape};

@@ -1,0 +1,57 @@
+//! Ways to a host.
+ghost use Rattle.std.specs.Prelude.{◌≡◌, ℕ, List};
+ghost use Rattle.oram_session.specs.Outcome.{Outcome, outcome_of, faults_after};
+
+use std::alloc::Global;
+use std::fmt;
+
+/// Why a call of a link has no answer.
+#[derive(Clone, Copy, Debug, PartialEq, Eq)]
+pub enum LinkFault {
+    /// Reading or writing failed.
+    Io,
+    /// The other side is gone, or the link had a fault before that it can't go on from.
+    Closed,
+    /// The message or the answer is longer than a frame's body.
+    TooLong,
+    /// The frame is longer than this link takes.
+    TooLarge,
+    /// Memory was refused.
+    OutOfMemory,
+}
+
+impl fmt::Display for LinkFault {
+    fn fmt<W: fmt::Write>(&self, f: &mut fmt::Formatter<W>) -> fmt::Result {
+        f.write_str(match self {
+            LinkFault::Io => "the link failed",
+            LinkFault::Closed => "the link is closed",
+            LinkFault::TooLong => "the message or its answer is longer than a frame",
+            LinkFault::TooLarge => "the frame is longer than the link takes",
+            LinkFault::OutOfMemory => "out of memory",
+        })
+    }
+}
+
+/// A way to a host.
+pub trait Link {
+    /// From the first value a call with these bytes may have this outcome and leave the second.
+    ghost calls: { Self → List ℕ → Outcome → Self → Type 0 };
+
+    /// How many calls had a fault.
+    ghost fault_count: { Self → ℕ };
+
+    /// Sends the body of a message to the host, and gives that of its answer.
+    fn call(&mut self, alloc: Global, body: &[u8]) -> Result<Vec<u8>, LinkFault>
+        ensures { calls self.old body.now (outcome_of result) self.new };
+
+    /// How many calls had a fault; the count stays at `u64::MAX`.
+    fn faults(&self) -> u64
+        ensures { result ≡ fault_count self.now };
+
+    // Each fault is counted, and nothing else is.
+    ghost counts: { (l m : Self) (body : List ℕ) (outcome : Outcome)
+        → calls l body outcome m → fault_count m ≡ faults_after (fault_count l) outcome };
+}
+
+#[cfg(test)]
+mod tests;
