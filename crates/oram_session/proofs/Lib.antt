@@ -1,1 +1,5 @@
 pub mod Words
+pub mod Steppings
+pub mod Exchanged
+pub mod Turned
+pub mod Served

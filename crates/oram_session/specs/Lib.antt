@@ -1,3 +1,9 @@
 pub mod Outcome
+pub mod Faults
 pub mod Links
 pub mod Tapes
+pub mod Requests
+pub mod Settled
+pub mod Exchanges
+pub mod Turns
+pub mod Sessions

@@ -2,7 +2,7 @@
 //!
 //! A [`Link`] leads to the bucket host: [`Direct`] to a server in memory, [`FaultLink`] over another link with faults of
 //! its own. A [`Tape`] gives the words that each command brings: [`ListTape`] those of a list, [`ChaChaTape`] those of a
-//! stream cipher.
+//! stream cipher. [`serve`] answers the request frames of a reader, one after the other.
 #![tactic(auto)]
 
 // Calls once more where one allocation was refused, so that the tests hold whichever it is.
@@ -16,12 +16,18 @@ macro_rules! retried {
     };
 }
 
+mod exchanges;
+mod faults;
 mod link;
 mod links;
+mod requests;
+mod serving;
 mod tape;
 mod tapes;
 
+pub use faults::ServeFault;
 pub use link::{Link, LinkFault};
 pub use links::{Direct, FaultLink};
+pub use serving::serve;
 pub use tape::Tape;
 pub use tapes::{ChaChaTape, ListTape};

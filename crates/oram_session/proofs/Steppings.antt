@@ -1,0 +1,175 @@
+-- What a session needs to know of a core's step, whatever the host is.
+use Rattle.std.proofs.Common.{◌≡◌, ◌≢◌, ℕ, zero, suc, ◌+◌, ◌-◌, ◌*◌, ◌<◌, ◌≤◌, Bool, true, false, if◌then◌else◌, List, [], ◌∷◌, length, map, Option, Some, None, Ok, Err, refl, sym, ap, ◌∙◌, subst, arith, inl, inr}
+use Rattle.std.specs.Str.{bytes_eq}
+use Rattle.oram_geometry.specs.declared.Sizes.{Sizes}
+use Rattle.oram_geometry.specs.Sizes.{trees_of}
+use Rattle.oram_run.specs.Blocks.{body_from}
+use Rattle.oram_run.specs.Events.{failed_reply}
+use Rattle.oram_run.specs.Progress.Status.{Waiting, Stalling}
+use Rattle.oram_run.specs.Run.{Shown, refusal_of, is_over}
+use Rattle.oram_run.specs.Shape.{Shape}
+use Rattle.oram_run.specs.State.{State, status_by, status_in}
+use Rattle.oram_run.specs.declared.events.Command.{Command}
+use Rattle.oram_run.specs.declared.events.Command.TheVariants.{Read, Write, Discard}
+use Rattle.oram_run.specs.declared.events.Event.{Event}
+use Rattle.oram_run.specs.declared.events.Event.TheVariants.{Submit, Retry}
+use Rattle.oram_run.specs.declared.events.Note.TheVariants.{Stalled}
+use Rattle.oram_run.specs.declared.events.Reason.{Reason}
+use Rattle.oram_run.specs.declared.events.Refusal.{Refusal}
+use Rattle.oram_run.specs.declared.events.Refusal.TheVariants as refusal
+use Rattle.oram_run.specs.declared.events.Submission.{Submission}
+use Rattle.oram_core.specs.Core.{CoreValue, IsSameDevice, shape_of, shape_with}
+use Rattle.oram_core.specs.Doing.{Done, plain_step, stalled_by, resent_by, submitted_by, finished_by}
+use Rattle.oram_core.specs.Steps.{Steps, Heard, did}
+use Rattle.oram_session.specs.Exchanges.{event_of, is_stall}
+use Rattle.oram_session.specs.Outcome.{Outcome}
+use Rattle.oram_session.specs.Settled.{is_settled_by, IsSettled, outstanding, IsBusy, IsBodyOf, IsReplied, IsNext, IsBegun, answers_left}
+
+-- a core that keeps its device and sealer keeps its shape
+pub same_shape : {S : Type 0} (overhead : S → ℕ) (sealing : S → ℕ → List ℕ → List ℕ) (opening : S → List ℕ → Option (List ℕ)) (c d : CoreValue S) →
+    IsSameDevice c d → shape_of overhead sealing opening d ≡ shape_of overhead sealing opening c
+same_shape {S} overhead sealing opening c d h =
+    ap (λ (x : Sizes). shape_with overhead sealing opening x d.sealer) h.0 ∙ ap (λ (x : S). shape_with overhead sealing opening c.device x) h.1
+
+-- so its steps are those of the core before
+pub steps_under : {S : Type 0} (overhead : S → ℕ) (sealing : S → ℕ → List ℕ → List ℕ) (opening : S → List ℕ → Option (List ℕ)) (c d : CoreValue S) →
+    IsSameDevice c d → (s : State) (e : Event) (x : Shown) (t : State) → Steps (shape_of overhead sealing opening d) s e x t → Steps (shape_of overhead sealing opening c) s e x t
+steps_under overhead sealing opening c d h s e x t step = subst (λ (v : Shape). Steps v s e x t) (same_shape overhead sealing opening c d h) step
+
+pub same_trans : {S : Type 0} (a b c : CoreValue S) → IsSameDevice a b → IsSameDevice b c → IsSameDevice a c
+same_trans a b c h k = (k.0 ∙ h.0, k.1 ∙ h.1)
+
+-- what a status says of the parts that it stands on
+still_waits : (f : Option Reason) (q : List Submission) (l : Bool) → status_by f q l ≡ Waiting → (f ≡ None) × (l ≡ false) × (status_by f q true ≡ Stalling)
+still_waits (Some e) q l h = absurd cc
+still_waits None [] l h = absurd cc
+still_waits None (x ∷ q) true h = absurd cc
+still_waits None (x ∷ q) false h = (refl, refl, refl)
+
+pub waits_outstanding : (s : State) → status_in s ≡ Waiting → outstanding s ≡ Some s.last
+waits_outstanding s w = rw w refl
+
+stall_plain : (v : Shape) (s : State) (o : Outcome) → status_in s ≡ Waiting → is_stall o ≡ true → plain_step v s (event_of o) ≡ Some (stalled_by s)
+stall_plain v s (Ok b) w f = rw (w, f) refl
+stall_plain v s (Err e) w f = rw w refl
+
+-- a call without an answer stalls the core
+pub stalled : (v : Shape) (s t : State) (o : Outcome) (x : Shown) → status_in s ≡ Waiting → is_stall o ≡ true → Steps v s (event_of o) x t → did x t ≡ stalled_by s
+stalled v s t o x w f h = h.plain (stalled_by s) (stall_plain v s o w f)
+
+-- a stall and a Retry leave it as it was
+pub retried_is : (v : Shape) (s u t : State) (x : Shown) → status_in s ≡ Waiting → u ≡ record s { lost = true } → Steps v u Retry x t → (x.replies ≡ []) × (t ≡ s)
+retried_is v s u t x w held h =
+    let k = still_waits s.failure s.queue s.lost w in
+    let g : Steps v (record s { lost = true }) Retry x t = subst (λ (b : State). Steps v b Retry x t) held h in
+    let again : plain_step v (record s { lost = true }) Retry ≡ Some (resent_by (record s { lost = true })) = rw k.2 refl in
+    let e = g.plain (resent_by (record s { lost = true })) again in
+    (ap (λ (d : Done). d.replies) e, ap (λ (d : Done). d.state) e ∙ ap (λ (b : Bool). let r : State = record s { lost = b } in r) (sym k.1))
+
+no_room : (b : List ℕ) → bytes_eq b (129 ∷ 8 ∷ []) ≡ false → b ≢ 129 ∷ 8 ∷ []
+no_room b f e = let g : bytes_eq (129 ∷ 8 ∷ []) (129 ∷ 8 ∷ []) ≡ false = subst (λ (xs : List ℕ). bytes_eq xs (129 ∷ 8 ∷ []) ≡ false) e f in cc
+
+-- any other is heard
+pub heard_is : (v : Shape) (s t : State) (o : Outcome) (x : Shown) → status_in s ≡ Waiting → is_stall o ≡ false → Steps v s (event_of o) x t → Heard v s (did x t)
+heard_is v s t (Ok b) x w f h = h.heard b refl w (no_room b f)
+heard_is v s t (Err e) x w f h = absurd cc
+
+quiet : (v : Shape) (s : State) (d : Done) → Heard v s d → d.note ≢ Stalled
+quiet v s d (inl f) n = let e = sym f.note ∙ n in cc
+quiet v s d (inr (inl g)) n = let e = sym g.note ∙ n in cc
+quiet v s d (inr (inr r)) n = let e = sym (ap (λ (m : Done). m.note) r.does) ∙ n in cc
+
+-- the note tells which it was
+pub stall_noted : (v : Shape) (s t : State) (o : Outcome) (x : Shown) → status_in s ≡ Waiting → Steps v s (event_of o) x t → x.note ≡ Stalled → is_stall o ≡ true
+stall_noted v s t o x w h n = at (is_stall o) refl
+  where
+    at : (b : Bool) → is_stall o ≡ b → is_stall o ≡ true
+    at true e = e
+    at false e = absurd (quiet v s (did x t) (heard_is v s t o x w e h) n)
+
+pub answer_noted : (v : Shape) (s t : State) (o : Outcome) (x : Shown) → status_in s ≡ Waiting → Steps v s (event_of o) x t → x.note ≢ Stalled → is_stall o ≡ false
+answer_noted v s t o x w h n = at (is_stall o) refl
+  where
+    at : (b : Bool) → is_stall o ≡ b → is_stall o ≡ false
+    at false e = e
+    at true e = absurd (n (ap (λ (d : Done). d.note) (stalled v s t o x w e h)))
+
+settled_over : (s : State) (e : Reason) → s.failure ≡ Some e → IsSettled s
+settled_over s e h = rw h refl
+
+body_is : (d : Sizes) (before : List ℕ) (c : Command) → length before ≡ d.block_bytes → IsBodyOf d (body_from before c)
+body_is d before (Read a) h = h
+body_is d before (Write a bytes) h = tt
+body_is d before (Discard a) h = tt
+
+failed_alone : (d : Sizes) (q : List Submission) → length q ≡ 1 → IsReplied d (map failed_reply q)
+failed_alone d [] h = absurd (omega arith)
+failed_alone d (x ∷ []) h = record { reply = failed_reply x; only = refl; body = tt }
+failed_alone d (x ∷ y ∷ q) h = absurd (omega arith)
+
+finished_next : (v : Shape) (s : State) (x : Submission) (rest : List Submission) → length (x ∷ rest) ≡ 1 → status_in s ≡ Waiting → length s.before ≡ v.device.block_bytes →
+    IsNext v.device (finished_by v s x rest)
+finished_next v s x [] one w long =
+    let k = still_waits s.failure s.queue s.lost w in
+    let rests : IsSettled (finished_by v s x []).state = rw (k.0, k.1) refl in
+    inr (rests, refl, record { reply = record { session = x.session; ticket = x.ticket; body = body_from s.before x.command }; only = refl; body = body_is v.device s.before x.command long })
+finished_next v s x (y ∷ rest) one w long = absurd (omega arith)
+
+-- what follows an answer, where one command is at work
+pub next_heard : (v : Shape) (s : State) (d : Done) → IsBusy s → Heard v s d → IsNext v.device d
+next_heard v s d busy (inl f) =
+    inr (settled_over d.state f.reason (ap (λ (t : State). t.failure) f.state), f.sends, subst (IsReplied v.device) (sym f.replies) (failed_alone v.device s.queue busy.alone))
+next_heard v s d busy (inr (inl g)) = inl (record { waits = g.waits; alone = ap length g.queue ∙ busy.alone }, g.sends, g.replies)
+next_heard v s d busy (inr (inr r)) =
+    subst (IsNext v.device) (sym r.does) (finished_next v s r.oldest r.rest (sym (ap length r.queue) ∙ busy.alone) busy.waits r.long)
+
+-- an answer leaves fewer to wait for
+left_more : (n k stage : ℕ) → 1 ≤ n → 0 * (k + 1) + (k - 0) < n * (k + 1) + (k - stage)
+left_more zero k stage h = absurd (omega arith)
+left_more (suc n) k stage h = omega arith
+
+left_finished : (n k stage : ℕ) → n * (k + 1) + (k - 0) < suc n * (k + 1) + (k - stage)
+left_finished n k stage = omega arith
+
+pub left_heard : (v : Shape) (s : State) (d : Done) → 1 ≤ length s.queue → Heard v s d → answers_left v.device d.state < answers_left v.device s
+left_heard v s d some (inl f) =
+    subst (λ (t : State). answers_left v.device t < answers_left v.device s) (sym f.state) (left_more (length s.queue) (2 * trees_of v.device) s.stage some)
+left_heard v s d some (inr (inl g)) =
+    let k = 2 * trees_of v.device in
+    let same : length d.state.queue * (k + 1) ≡ length s.queue * (k + 1) = ap (λ (q : List Submission). length q * (k + 1)) g.queue in
+    let on = g.stage in
+    let within = g.within in
+    omega arith
+left_heard v s d some (inr (inr r)) =
+    let k = 2 * trees_of v.device in
+    let fewer = left_finished (length r.rest) k s.stage in
+    let count : suc (length r.rest) * (k + 1) ≡ length s.queue * (k + 1) = ap (λ (q : List Submission). length q * (k + 1)) (sym r.queue) in
+    subst (λ (m : Done). answers_left v.device m.state < answers_left v.device s) (sym r.does)
+    (subst (λ (n : ℕ). length r.rest * (k + 1) + (k - 0) < n + (k - s.stage)) count fewer)
+
+-- a submission to a settled core
+
+if_none : (b : Bool) (o : Option Refusal) → (if b then Some refusal.Failed else o) ≡ None → b ≡ false
+if_none false o e = refl
+if_none true o e = absurd cc
+
+settled_idle : (f : Option Reason) (q : List Submission) (l : Bool) → is_settled_by (status_by f q l) l ≡ true → is_over (status_by f q l) ≡ false → (f ≡ None) × (q ≡ []) × (l ≡ false)
+settled_idle (Some e) q l h over = absurd cc
+settled_idle None [] true h over = absurd cc
+settled_idle None [] false h over = (refl, refl, refl)
+settled_idle None (x ∷ q) true h over = absurd cc
+settled_idle None (x ∷ q) false h over = absurd cc
+
+begun_at : (v : Shape) (s : State) (x : Submission) (o : Option Refusal) → IsSettled s → (o ≡ None → is_over (status_in s) ≡ false) →
+    IsBegun v.device s (submitted_by v s x o).note (submitted_by v s x o)
+begun_at v s x (Some e) settled going = refl
+begun_at v s x None settled going =
+    let k = settled_idle s.failure s.queue s.lost settled (going refl) in
+    rw (k.0, k.1, k.2) (inl (record { waits = refl; alone = refl }, refl, refl), refl)
+
+pub begun_is : (v : Shape) (s t : State) (session : ℕ) (c : Command) (words : List ℕ) (x : Shown) → IsSettled s → Steps v s (Submit session c words) x t → IsBegun v.device s x.note (did x t)
+begun_is v s t session c words x settled h =
+    let sub : Submission = record { session = session; ticket = s.next; command = c; words = words } in
+    let why = refusal_of v.device (is_over (status_in s)) (length s.queue) s.next c words in
+    let e = h.plain (submitted_by v s sub why) refl in
+    subst (λ (m : Done). IsBegun v.device s m.note m) (sym e) (begun_at v s sub why settled (λ none. if_none (is_over (status_in s)) _ none))

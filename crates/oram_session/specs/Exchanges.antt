@@ -1,0 +1,76 @@
+-- One message of the core, and what comes of the calls with it.
+use Rattle.std.specs.Prelude.{◌≡◌, ℕ, ◌≤◌, Bool, true, false, List, [], ◌∷◌, ◌++◌, length, Some, Ok, Err, All, ◌⊎◌}
+use Rattle.std.specs.List.{flat_map, FoldsTo}
+use Rattle.std.specs.Str.{bytes_eq}
+use Rattle.oram_run.specs.Run.{Shown}
+use Rattle.oram_run.specs.Shape.{Shape}
+use Rattle.oram_run.specs.State.{State}
+use Rattle.oram_run.specs.declared.events.Event.{Event}
+use Rattle.oram_run.specs.declared.events.Event.TheVariants.{Answer, Lost, Retry}
+use Rattle.oram_run.specs.declared.events.Reply.{Reply}
+use Rattle.oram_core.specs.Steps.{Steps}
+use Rattle.oram_session.specs.Outcome.{Outcome}
+use Rattle.oram_session.specs.Settled.{outstanding}
+
+-- what the core is told of a call
+abbrev pub event_of : Outcome → Event
+event_of (Ok bytes) = Answer bytes
+event_of (Err fault) = Lost
+
+-- the message stalls: there is no answer, or the host has no room
+abbrev pub is_stall : Outcome → Bool
+is_stall (Ok bytes) = bytes_eq bytes (129 ∷ 8 ∷ [])
+is_stall (Err fault) = true
+
+-- the events lead the core from one state to another, and these are all its replies
+abbrev pub Runs : Shape → State → List Event → List Reply → State → Type 0
+Runs v s [] replies t = (replies ≡ []) × (s ≡ t)
+Runs v s (event ∷ events) replies t =
+    (x : Shown) × (mid : State) × (later : List Reply) × Steps v s event x mid × Runs v mid events later t × (replies ≡ x.replies ++ later)
+
+-- A message, and what came of each call with it: first those that stalled and were followed by another.
+pub record Sending : Type 0 where
+  pub message : List ℕ
+  pub stalls : List Outcome
+  pub last : Outcome
+  pub replies : List Reply  -- what the core replied meanwhile
+
+abbrev pub outcomes_of : Sending → List Outcome
+outcomes_of x = x.stalls ++ x.last ∷ []
+
+-- a Retry follows each stall
+abbrev pub retried : List Outcome → List Event
+retried outcomes = flat_map (λ o. event_of o ∷ Retry ∷ []) outcomes
+
+-- but the last call's
+abbrev pub events_of : Sending → List Event
+events_of x = retried x.stalls ++ event_of x.last ∷ []
+
+abbrev pub IsAnswered : Sending → Type 0
+IsAnswered x = is_stall x.last ≡ false
+
+-- it stalled once more than it may be sent again
+abbrev pub IsGivenUp : ℕ → Sending → Type 0
+IsGivenUp most x = (length x.stalls ≡ most) × (is_stall x.last ≡ true)
+
+-- over a link whose calls meet this relation, where a message may be sent again so often
+module _ (v : Shape) {L : Type 0} (calls : L → List ℕ → Outcome → L → Type 0) (most : ℕ) where
+  -- the link is called with the message that is outstanding, and the core is told what comes of it
+  pub record IsSent (p : State × L) (x : Sending) (q : State × L) : Type 0 where
+    pub message : outstanding p.0 ≡ Some x.message
+    pub stalls : All (λ o. is_stall o ≡ true) x.stalls
+    pub few : length x.stalls ≤ most
+    pub link : FoldsTo (λ l o m. calls l x.message o m) p.1 (outcomes_of x) q.1
+    pub core : Runs v p.0 (events_of x) x.replies q.0
+
+  -- The same, but memory was refused before the core could take what came of the last call, or after it.
+  pub record IsCutOff (p : State × L) (x : Sending) (q : State × L) : Type 0 where
+    pub message : outstanding p.0 ≡ Some x.message
+    pub stalls : All (λ o. is_stall o ≡ true) x.stalls
+    pub few : length x.stalls ≤ most
+    pub link : FoldsTo (λ l o m. calls l x.message o m) p.1 (outcomes_of x) q.1
+    pub core : Runs v p.0 (retried x.stalls) [] q.0 ⊎ Runs v p.0 (events_of x) x.replies q.0
+
+  -- one message after the other, each until it had its answer
+  abbrev pub AllSent : State × L → List Sending → State × L → Type 0
+  AllSent p xs q = FoldsTo {P = State × L} (λ a x b. IsSent a x b × IsAnswered x) p xs q

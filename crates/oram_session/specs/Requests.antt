@@ -1,0 +1,33 @@
+-- What a session asks of the core, and what it is told.
+use Rattle.std.specs.Prelude.{◌≡◌, ℕ, false, List, ◌⊎◌}
+use Rattle.oram_wire.specs.SessionMessages.{session_request_body}
+use Rattle.oram_wire.specs.SessionReading.{names_session_request, IsSessionMisfit, HasAddress}
+use Rattle.oram_wire.specs.declared.session_messages.SessionRequest.{SessionRequest}
+use Rattle.oram_wire.specs.declared.session_messages.SessionRequest.TheVariants as request
+use Rattle.oram_wire.specs.declared.session_messages.SessionReply.{SessionReply}
+use Rattle.oram_wire.specs.declared.session_messages.SessionReply.TheVariants as reply
+use Rattle.oram_run.specs.declared.events.Command.{Command}
+use Rattle.oram_run.specs.declared.events.Command.TheVariants.{Read, Write, Discard}
+use Rattle.oram_run.specs.declared.events.ReplyBody.{ReplyBody}
+use Rattle.oram_run.specs.declared.events.ReplyBody.TheVariants as body
+
+-- the body is this request's
+pub record IsRequest (body : List ℕ) (message : SessionRequest) : Type 0 where
+  pub address : HasAddress message
+  pub spells : body ≡ session_request_body message
+
+-- the body is no request's
+abbrev pub IsNoRequest : List ℕ → Type 0
+IsNoRequest body = (names_session_request body ≡ false) ⊎ IsSessionMisfit body
+
+-- the command of a request
+abbrev pub command_of : SessionRequest → Command
+command_of (request.Read address) = Read address
+command_of (request.Write address bytes) = Write address bytes
+command_of (request.Discard address) = Discard address
+
+-- what a session is told of a core's reply: a failure is a refusal with code 6
+abbrev pub told : ReplyBody → SessionReply
+told (body.Data bytes) = reply.Data bytes
+told body.Done = reply.Done
+told body.Failed = reply.Refused 6

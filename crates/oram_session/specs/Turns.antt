@@ -1,0 +1,91 @@
+-- One request of a session, and what it leads to.
+use Rattle.std.specs.Prelude.{◌≡◌, ℕ, ◌*◌, List, [], ◌∷◌, ◌⊎◌}
+use Rattle.std.specs.List.{flat_map}
+use Rattle.oram_geometry.specs.Sizes.{trees_of}
+use Rattle.oram_wire.specs.declared.session_messages.SessionRequest.{SessionRequest}
+use Rattle.oram_wire.specs.declared.session_messages.SessionReply.{SessionReply}
+use Rattle.oram_wire.specs.declared.session_messages.SessionReply.TheVariants.{Refused}
+use Rattle.oram_run.specs.Events.{refusal_number}
+use Rattle.oram_run.specs.Run.{Shown}
+use Rattle.oram_run.specs.Shape.{Shape}
+use Rattle.oram_run.specs.State.{State}
+use Rattle.oram_run.specs.declared.events.Event.TheVariants.{Submit}
+use Rattle.oram_run.specs.declared.events.Note.{Note}
+use Rattle.oram_run.specs.declared.events.Note.TheVariants as note
+use Rattle.oram_run.specs.declared.events.Reply.{Reply}
+use Rattle.oram_core.specs.Steps.{Steps}
+use Rattle.oram_session.specs.Exchanges.{Sending, IsSent, IsCutOff, IsGivenUp, AllSent}
+use Rattle.oram_session.specs.Outcome.{Outcome}
+use Rattle.oram_session.specs.Requests.{IsRequest, IsNoRequest, command_of, told}
+use Rattle.oram_session.specs.Settled.{IsSettled}
+
+-- A request's body, the messages that it took, and the reply.
+pub record Turn : Type 0 where
+  pub body : List ℕ
+  pub sendings : List Sending
+  pub reply : SessionReply
+
+-- how often a message may be sent again
+abbrev pub most_retries : ℕ
+most_retries = 3
+
+-- over a link whose calls meet this relation, with the words of a tape, by a session's number
+module _ (v : Shape) {L : Type 0} (calls : L → List ℕ → Outcome → L → Type 0) (words : ℕ → ℕ → List ℕ) (session : ℕ) where
+  -- A body that is no request is refused, and the core isn't asked.
+  pub record IsUnread (p : State × L) (turn : Turn) (q : State × L) : Type 0 where
+    pub none : IsNoRequest turn.body
+    pub sendings : turn.sendings ≡ []
+    pub reply : turn.reply ≡ Refused 7
+    pub same : p ≡ q
+
+  -- the core is asked what the request asks, with the tape's words of the next ticket, and shows this
+  pub record IsAsked (body : List ℕ) (s : State) (x : Shown) (t : State) : Type 0 where
+    pub message : SessionRequest
+    pub request : IsRequest body message
+    pub step : Steps v s (Submit session (command_of message) (words s.next (2 * trees_of v.device))) x t
+
+  -- how it goes on, once the core has noted this
+  abbrev pub IsReply : Note → State × L → Turn → State × L → Type 0
+  IsReply (note.Accepted ticket) p turn q =
+      AllSent v calls most_retries p turn.sendings q × IsSettled q.0
+      × (x : Reply) × (flat_map (λ y. y.replies) turn.sendings ≡ x ∷ []) × (turn.reply ≡ told x.body)
+  IsReply (note.Refused why) p turn q = (turn.sendings ≡ []) × (turn.reply ≡ Refused (refusal_number why)) × (p ≡ q)
+  IsReply note.Taken p turn q = ⊥
+  IsReply note.Stalled p turn q = ⊥
+  IsReply (note.FailedNow why) p turn q = ⊥
+  IsReply note.Resent p turn q = ⊥
+  IsReply note.Unexpected p turn q = ⊥
+
+  pub record IsServed (p : State × L) (turn : Turn) (q : State × L) : Type 0 where
+    pub shown : Shown
+    pub begun : State
+    pub asked : IsAsked turn.body p.0 shown begun
+    pub replied : IsReply shown.note (begun, p.1) turn q
+
+  abbrev pub IsTurn : State × L → Turn → State × L → Type 0
+  IsTurn p turn q = IsUnread p turn q ⊎ IsServed p turn q
+
+  -- A request was accepted, and some messages had their answers since.
+  pub record IsAtWork (p : State × L) (body : List ℕ) (q : State × L) : Type 0 where
+    pub shown : Shown
+    pub begun : State
+    pub ticket : ℕ
+    pub asked : IsAsked body p.0 shown begun
+    pub accepted : shown.note ≡ note.Accepted ticket
+    pub sendings : List Sending
+    pub sent : AllSent v calls most_retries (begun, p.1) sendings q
+
+  -- It got no reply, since one message stalled four times.
+  pub record IsStuck (p : State × L) (body : List ℕ) (q : State × L) : Type 0 where
+    pub mid : State × L
+    pub work : IsAtWork p body mid
+    pub last : Sending
+    pub tried : IsSent v calls most_retries mid last q
+    pub stuck : IsGivenUp most_retries last
+
+  -- It got no reply, since memory was refused.
+  pub record IsCutTurn (p : State × L) (body : List ℕ) (q : State × L) : Type 0 where
+    pub mid : State × L
+    pub work : IsAtWork p body mid
+    pub last : Sending
+    pub cut : IsCutOff v calls most_retries mid last q

@@ -1,0 +1,118 @@
+//! Messages of the core, exchanged over a link.
+ghost use Rattle.std.specs.Prelude.{◌≡◌, ◌<◌, ◌⊎◌, [], ◌∷◌, List, IfOk, IfErr, IsErrOf, OnOk, OnErr};
+ghost use Rattle.std.specs.List.{flat_map};
+ghost use Rattle.oram_run.specs.Run.{shown};
+ghost use Rattle.oram_run.specs.State.{State, status_in};
+ghost use Rattle.oram_run.specs.Progress.Status.{Waiting};
+ghost use Rattle.oram_run.specs.declared.events.Reply.{Reply};
+ghost use Rattle.oram_core.specs.Core.{IsSameDevice, shape_of};
+ghost use Rattle.oram_core.specs.Doing.{done};
+ghost use Rattle.oram_core.specs.Steps.{Steps, Heard};
+ghost use Rattle.oram_session.specs.Outcome.{Outcome};
+ghost use Rattle.oram_session.specs.Requests.{told};
+ghost use Rattle.oram_session.specs.Settled.{IsSettled, IsNext, IsBodyOf, answers_left};
+ghost use Rattle.oram_session.specs.Exchanges.{Sending, IsSent, IsCutOff, IsAnswered, IsGivenUp, AllSent, event_of};
+ghost use Rattle.oram_session.specs.Turns.{most_retries};
+
+use crate::faults::ServeFault;
+use crate::link::Link;
+use oram_bucket::Sealer;
+use oram_bytes::Bytes;
+use oram_core::{Core, Event, Note, Reaction, Reply};
+use std::alloc::{AllocError, Global};
+
+/// How often a message is sent again.
+const MOST_RETRIES: u32 = 3;
+
+/// Calls the link once, and tells the core what came of it.
+fn attempt<S: Sealer, L: Link>(
+    alloc: Global,
+    core: &mut Core<S>,
+    link: &mut L,
+    message: &[u8],
+) -> Result<Reaction, AllocError>
+    ensures kept { IsSameDevice core.old core.new }
+    ensures ok { let v = shape_of S.overhead S.sealing S.opening core.old in
+        IfOk result (λ r. (o : Outcome) × L.calls link.old message.now o link.new
+        × Steps v core.old.state (event_of o) (shown r) core.new.state) }
+    ensures err { OnErr result ((core.new ≡ core.old) × ((o : Outcome) × L.calls link.old message.now o link.new)) }
+{
+    let event = match link.call(alloc, message) {
+        Ok(bytes) => Event::Answer(Bytes::from_vec(bytes)),
+        Err(_) => Event::Lost,
+    };
+    core.step(alloc, &event)
+}
+
+/// Sends the outstanding message until it is answered, and again so often at most.
+pub fn exchange<S: Sealer, L: Link>(
+    alloc: Global,
+    core: &mut Core<S>,
+    link: &mut L,
+    message: &[u8],
+    most: u32,
+) -> Result<Reaction, ServeFault>
+    requires waits { status_in core.old.state ≡ Waiting }
+    requires message { message.now ≡ core.old.state.last }
+    ensures kept { IsSameDevice core.old core.new }
+    ensures ok { let v = shape_of S.overhead S.sealing S.opening core.old in
+        IfOk result (λ r. (x : Sending) × IsSent v L.calls most (core.old.state, link.old) x (core.new.state, link.new)
+        × IsAnswered x × (x.replies ≡ r.replies.items)) }
+    ensures heard { let v = shape_of S.overhead S.sealing S.opening core.old in
+        IfOk result (λ r. Heard v core.old.state (done r core.new.state)) }
+    ensures stalled { let v = shape_of S.overhead S.sealing S.opening core.old in
+        IsErrOf result ServeFault.Stalled → (x : Sending)
+        × IsSent v L.calls most (core.old.state, link.old) x (core.new.state, link.new) × IsGivenUp most x }
+    ensures memory { let v = shape_of S.overhead S.sealing S.opening core.old in
+        IsErrOf result ServeFault.OutOfMemory → (x : Sending)
+        × IsCutOff v L.calls most (core.old.state, link.old) x (core.new.state, link.new) }
+    ensures fault { IfErr result (λ e. (e ≡ ServeFault.Stalled) ⊎ (e ≡ ServeFault.OutOfMemory)) }
+{
+    let mut retries = 0;
+    loop {
+        let reaction = attempt(alloc, core, link, message)?;
+        if !matches!(reaction.note, Note::Stalled) {
+            return Ok(reaction);
+        }
+        if retries == most {
+            return Err(ServeFault::Stalled);
+        }
+        let _resent = core.step(alloc, &Event::Retry)?;
+        retries += 1;
+    }
+}
+
+/// Exchanges messages until the command at work has its reply.
+pub fn carry_out<S: Sealer, L: Link>(
+    alloc: Global,
+    core: &mut Core<S>,
+    link: &mut L,
+    mut reaction: Reaction,
+) -> Result<Reply, ServeFault>
+    requires next { IsNext core.old.device (done reaction core.old.state) }
+    requires none { reaction.replies.items ≡ [] }
+    ensures kept { IsSameDevice core.old core.new }
+    ensures ok { let v = shape_of S.overhead S.sealing S.opening core.old in
+        IfOk result (λ reply. (xs : List Sending)
+        × AllSent v L.calls most_retries (core.old.state, link.old) xs (core.new.state, link.new)
+        × (flat_map (λ y. y.replies) xs ≡ reply ∷ [])) }
+    ensures settled { OnOk result (IsSettled core.new.state) }
+    ensures block { IfOk result (λ reply. IsBodyOf core.old.device reply.body) }
+    ensures stalled { let v = shape_of S.overhead S.sealing S.opening core.old in
+        IsErrOf result ServeFault.Stalled → (xs : List Sending) × (mid : State × L) × (last : Sending)
+        × AllSent v L.calls most_retries (core.old.state, link.old) xs mid
+        × IsSent v L.calls most_retries mid last (core.new.state, link.new) × IsGivenUp most_retries last }
+    ensures memory { let v = shape_of S.overhead S.sealing S.opening core.old in
+        IsErrOf result ServeFault.OutOfMemory → (xs : List Sending) × (mid : State × L) × (last : Sending)
+        × AllSent v L.calls most_retries (core.old.state, link.old) xs mid
+        × IsCutOff v L.calls most_retries mid last (core.new.state, link.new) }
+    ensures fault { IfErr result (λ e. (e ≡ ServeFault.Stalled) ⊎ (e ≡ ServeFault.OutOfMemory)) }
+{
+    while let Some(message) = reaction.sends.pop() {
+        reaction = exchange(alloc, core, link, message.as_slice(), MOST_RETRIES)?;
+    }
+    match reaction.replies.pop() {
+        Some(reply) => Ok(reply),
+        None => unreachable!(),
+    }
+}

@@ -1,0 +1,46 @@
+//! What a session asks of the core, and what it is told.
+ghost use Rattle.std.specs.Prelude.{◌≡◌, IfOk, IfErr, MatchOption};
+ghost use Rattle.oram_session.specs.Requests.{IsRequest, IsNoRequest, command_of, told};
+ghost use Rattle.oram_wire.specs.declared.session_messages.SessionRequest.{SessionRequest};
+ghost use Rattle.oram_wire.specs.SessionReading.{HasAddress};
+
+use crate::faults::ServeFault;
+use oram_core::{Command, ReplyBody};
+use oram_wire::{DEVICE_FAILED, SessionReply, SessionRequest, WireFault};
+use std::alloc::Global;
+
+/// The command of a request.
+fn command_of(request: SessionRequest) -> Command
+    ensures command { result ≡ command_of request }
+    ensures address { HasAddress request }
+{
+    match request {
+        SessionRequest::Read { address } => Command::Read(address),
+        SessionRequest::Write { address, bytes } => Command::Write(address, bytes),
+        SessionRequest::Discard { address } => Command::Discard(address),
+    }
+}
+
+/// The command that a body asks for, if it is a request's.
+pub fn command_in(alloc: Global, body: &[u8]) -> Result<Option<Command>, ServeFault>
+    ensures ok { IfOk result (λ asked. MatchOption asked (IsNoRequest body.now)
+        (λ command. (message : SessionRequest) × IsRequest body.now message × (command ≡ command_of message))) }
+    ensures err { IfErr result (λ f. f ≡ ServeFault.OutOfMemory) }
+{
+    match SessionRequest::decode(alloc, body) {
+        Ok(request) => Ok(Some(command_of(request))),
+        Err(WireFault::OutOfMemory) => Err(ServeFault::OutOfMemory),
+        Err(WireFault::Op | WireFault::Length | WireFault::Code) => Ok(None),
+    }
+}
+
+/// What a session is told of a reply.
+pub fn told(body: ReplyBody) -> SessionReply
+    ensures { result ≡ told body }
+{
+    match body {
+        ReplyBody::Data(bytes) => SessionReply::Data(bytes),
+        ReplyBody::Done => SessionReply::Done,
+        ReplyBody::Failed => SessionReply::Refused(DEVICE_FAILED),
+    }
+}
