@@ -3,3 +3,4 @@ pub mod Steppings
 pub mod Exchanged
 pub mod Turned
 pub mod Served
+mod Rows

@@ -69,3 +69,6 @@ impl From<WriteFault> for ServeFault {
         ServeFault::Write
     }
 }
+
+#[cfg(test)]
+mod tests;

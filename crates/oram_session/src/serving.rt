@@ -186,3 +186,6 @@ pub fn serve<S: Sealer, R: Read, W: Write, L: Link, T: Tape>(
     }
     Err(ServeFault::Read)
 }
+
+#[cfg(test)]
+mod tests;
