@@ -2,12 +2,12 @@
 //!
 //! Run it with the word `run`: a single tree of large blocks, plain and sealed, two trees of as many blocks as a disk of 256 MiB
 //! has, and three trees of small blocks, and 2,000 accesses each. It also tells what formatting a record took, beside one
-//! hashing of it, and what writing the state file at the end took, beside one hashing of as many bytes.
+//! hashing of it, and what writing the state file at the end took, and that of a large core, beside one hashing of as many bytes.
 #![tactic(auto)]
 
-use oram_bucket::{ChaChaSeal, PlainSeal, Sealer};
+use oram_bucket::{Block, ChaChaSeal, PlainSeal, Sealer};
 use oram_bytes::{Bytes, Words};
-use oram_core::{Command, Core, Event};
+use oram_core::{Command, Core, Event, Parts, TreeParts};
 use oram_geometry::Device;
 use oram_hash::node_digest;
 use oram_host::Server;
@@ -222,6 +222,50 @@ fn report_file<S: Sealer>(rt: &HostRuntime, core: &Core<S>) -> io::Result<()> {
     )
 }
 
+/// The parts of a new core of a device of 4 GiB whose client keeps the whole map, with so many blocks in its stash.
+fn large_parts(alloc: Global, device: Device, blocks: u32) -> Result<Parts, AllocError> {
+    let mut stash = Vec::new(alloc);
+    for address in 0..blocks {
+        stash.push(Block {
+            address,
+            leaf: 0,
+            content: vec![in alloc; 0; 4_096]?,
+        })?;
+    }
+    let mut trees = Vec::new(alloc);
+    trees.push(TreeParts {
+        root: [0; 32],
+        stash,
+    })?;
+    Ok(Parts {
+        device,
+        tickets: 0,
+        nonce: (1 << 21) - 1,
+        table: vec![in alloc; 0; 1 << 20]?,
+        trees,
+        failure: None,
+        waiting: Vec::new(alloc),
+        r: 0,
+        held_entry: 0,
+        held_data: Bytes::from_vec(Vec::new(alloc)),
+        message: Bytes::from_vec(Vec::new(alloc)),
+        stalled: false,
+    })
+}
+
+/// Prints what writing a large core's state file takes.
+fn report_large_file(rt: &HostRuntime) -> io::Result<()> {
+    let Ok(device) = Device::new(1 << 20, 4_096, 4, 1 << 20, 1 << 40) else {
+        return Ok(());
+    };
+    let parts = large_parts(rt.alloc(), device, 100)?;
+    let Ok(core) = Core::from_parts(rt.alloc(), PlainSeal, parts) else {
+        return println!(rt; "a large core could not be made");
+    };
+    println!(rt; "a table of 1,048,576 entries, 100 blocks of 4,096 bytes in the stash")?;
+    report_file(rt, &core)
+}
+
 fn main(rt: HostRuntime) -> io::Result<()> {
     let wanted = env::args(&rt)?.nth(1);
     if wanted.is_none_or(|word| word.as_str() != "run") {
@@ -250,5 +294,5 @@ fn main(rt: HostRuntime) -> io::Result<()> {
     if let Ok(device) = Device::new(64, 16, 4, 4, 1 << 40) {
         measure(&rt, "three trees, blocks of 16 bytes", device, PlainSeal)?;
     }
-    Ok(())
+    report_large_file(&rt)
 }

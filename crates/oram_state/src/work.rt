@@ -10,7 +10,7 @@ use crate::fields::{read_byte, read_bytes, read_longs, read_short};
 use crate::mode::Mode;
 use crate::saved::Work;
 use oram_bytes::{Bytes, Words};
-use oram_core::{Command, Pending};
+use oram_core::{Command, MOST_WAITING, Pending};
 use oram_geometry::Device;
 use std::alloc::Global;
 
@@ -20,9 +20,6 @@ pub(crate) const READ: u8 = 0x11;
 pub(crate) const WRITE: u8 = 0x12;
 
 pub(crate) const DISCARD: u8 = 0x13;
-
-/// The most commands without a reply.
-const MOST_WAITING: u32 = 64;
 
 /// The command of this first byte: a write has data behind its address.
 #[tactic(auto, unfolding(crate::specs::Reading::next_data))]
@@ -110,7 +107,7 @@ fn read_waiting<'a>(
     ensures { Gives (λ x. (x.0.items, x.1.now)) result (next_waiting device.now bytes.now) }
 {
     let (count, rest) = read_short(bytes)?;
-    if count < 1 || count > MOST_WAITING {
+    if count < 1 || count as usize > MOST_WAITING {
         return Err(StateFault::Content);
     }
     read_pendings(alloc, rest, device, count)
