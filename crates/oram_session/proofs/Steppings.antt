@@ -18,7 +18,7 @@ use Rattle.oram_run.specs.declared.events.Reason.{Reason}
 use Rattle.oram_run.specs.declared.events.Refusal.{Refusal}
 use Rattle.oram_run.specs.declared.events.Refusal.TheVariants as refusal
 use Rattle.oram_run.specs.declared.events.Submission.{Submission}
-use Rattle.oram_core.specs.Core.{CoreValue, IsSameDevice, shape_of, shape_with}
+use Rattle.oram_core.specs.Core.{AtWork, CoreValue, IsHealthy, IsResting, IsSameDevice, IsSound, IsWhole, shape_of, shape_with}
 use Rattle.oram_core.specs.Doing.{Done, plain_step, stalled_by, resent_by, submitted_by, finished_by}
 use Rattle.oram_core.specs.Steps.{Steps, Heard, did}
 use Rattle.oram_session.specs.Exchanges.{event_of, is_stall}
@@ -111,7 +111,7 @@ finished_next : (v : Shape) (s : State) (x : Submission) (rest : List Submission
     IsNext v.device (finished_by v s x rest)
 finished_next v s x [] one w long =
     let k = still_waits s.failure s.queue s.lost w in
-    let rests : IsSettled (finished_by v s x []).state = rw (k.0, k.1) refl in
+    let rests : IsSettled (finished_by v s x []).state = rw k.0 refl in
     inr (rests, refl, record { reply = record { session = x.session; ticket = x.ticket; body = body_from s.before x.command }; only = refl; body = body_is v.device s.before x.command long })
 finished_next v s x (y ∷ rest) one w long = absurd (omega arith)
 
@@ -153,23 +153,29 @@ if_none : (b : Bool) (o : Option Refusal) → (if b then Some refusal.Failed els
 if_none false o e = refl
 if_none true o e = absurd cc
 
-settled_idle : (f : Option Reason) (q : List Submission) (l : Bool) → is_settled_by (status_by f q l) l ≡ true → is_over (status_by f q l) ≡ false → (f ≡ None) × (q ≡ []) × (l ≡ false)
+settled_idle : (f : Option Reason) (q : List Submission) (l : Bool) → is_settled_by (status_by f q l) ≡ true → is_over (status_by f q l) ≡ false → (f ≡ None) × (q ≡ [])
 settled_idle (Some e) q l h over = absurd cc
-settled_idle None [] true h over = absurd cc
-settled_idle None [] false h over = (refl, refl, refl)
+settled_idle None [] l h over = (refl, refl)
 settled_idle None (x ∷ q) true h over = absurd cc
 settled_idle None (x ∷ q) false h over = absurd cc
 
-begun_at : (v : Shape) (s : State) (x : Submission) (o : Option Refusal) → IsSettled s → (o ≡ None → is_over (status_in s) ≡ false) →
-    IsBegun v.device s (submitted_by v s x o).note (submitted_by v s x o)
-begun_at v s x (Some e) settled going = refl
-begun_at v s x None settled going =
-    let k = settled_idle s.failure s.queue s.lost settled (going refl) in
-    rw (k.0, k.1, k.2) (inl (record { waits = refl; alone = refl }, refl, refl), refl)
+-- an idle core has no message that could be lost
+calm_by : (d : Sizes) (o : ℕ) (s : State) → s.failure ≡ None → s.queue ≡ [] → IsSound d o s → s.lost ≡ false
+calm_by d o s alive none sound =
+    let healthy : IsHealthy d o s = subst (IsWhole d o s) alive sound.whole in
+    let rests : IsResting s = subst (AtWork d o s) none healthy.work in
+    rests.lost
 
-pub begun_is : (v : Shape) (s t : State) (session : ℕ) (c : Command) (words : List ℕ) (x : Shown) → IsSettled s → Steps v s (Submit session c words) x t → IsBegun v.device s x.note (did x t)
-begun_is v s t session c words x settled h =
+begun_at : (v : Shape) (s : State) (x : Submission) (o : Option Refusal) → IsSound v.device v.overhead s → IsSettled s → (o ≡ None → is_over (status_in s) ≡ false) →
+    IsBegun v.device s (submitted_by v s x o).note (submitted_by v s x o)
+begun_at v s x (Some e) sound settled going = refl
+begun_at v s x None sound settled going =
+    let k = settled_idle s.failure s.queue s.lost settled (going refl) in
+    rw (k.0, k.1, calm_by v.device v.overhead s k.0 k.1 sound) (inl (record { waits = refl; alone = refl }, refl, refl), refl)
+
+pub begun_is : (v : Shape) (s t : State) (session : ℕ) (c : Command) (words : List ℕ) (x : Shown) → IsSound v.device v.overhead s → IsSettled s → Steps v s (Submit session c words) x t → IsBegun v.device s x.note (did x t)
+begun_is v s t session c words x sound settled h =
     let sub : Submission = record { session = session; ticket = s.next; command = c; words = words } in
     let why = refusal_of v.device (is_over (status_in s)) (length s.queue) s.next c words in
     let e = h.plain (submitted_by v s sub why) refl in
-    subst (λ (m : Done). IsBegun v.device s m.note m) (sym e) (begun_at v s sub why settled (λ none. if_none (is_over (status_in s)) _ none))
+    subst (λ (m : Done). IsBegun v.device s m.note m) (sym e) (begun_at v s sub why sound settled (λ none. if_none (is_over (status_in s)) _ none))

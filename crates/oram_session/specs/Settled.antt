@@ -1,5 +1,5 @@
 -- A core between two requests, and one that a single command keeps at work.
-use Rattle.std.specs.Prelude.{◌≡◌, ℕ, ◌+◌, ◌-◌, ◌*◌, Bool, true, false, not, List, [], ◌∷◌, length, ◌⊎◌, ⊤, Option, Some, None, if◌then◌else◌}
+use Rattle.std.specs.Prelude.{◌≡◌, ℕ, ◌+◌, ◌-◌, ◌*◌, Bool, true, false, List, [], ◌∷◌, length, ◌⊎◌, ⊤, Option, Some, None, if◌then◌else◌}
 use Rattle.oram_geometry.specs.declared.Sizes.{Sizes}
 use Rattle.oram_geometry.specs.Sizes.{trees_of}
 use Rattle.oram_run.specs.Progress.{Status}
@@ -13,15 +13,15 @@ use Rattle.oram_run.specs.declared.events.ReplyBody.{ReplyBody}
 use Rattle.oram_run.specs.declared.events.ReplyBody.TheVariants.{Data, Done, Failed}
 use Rattle.oram_core.specs.Doing.{Done as Did}
 
-abbrev pub is_settled_by : Status → Bool → Bool
-is_settled_by Over lost = true
-is_settled_by Idle lost = not lost
-is_settled_by Waiting lost = false
-is_settled_by Stalling lost = false
+abbrev pub is_settled_by : Status → Bool
+is_settled_by Over = true
+is_settled_by Idle = true
+is_settled_by Waiting = false
+is_settled_by Stalling = false
 
--- The core has failed, or it is idle and no message counts as lost.
+-- The core has failed, or it is idle.
 abbrev pub IsSettled : State → Type 0
-IsSettled s = is_settled_by (status_in s) s.lost ≡ true
+IsSettled s = is_settled_by (status_in s) ≡ true
 
 -- the message that was sent and has no answer
 abbrev pub outstanding : State → Option (List ℕ)

@@ -120,7 +120,7 @@ fn put_reply<W: Write>(
     Ok(())
 }
 
-/// Answers each request frame in turn, to the end of the input, and tells how many there were. The core is to be settled.
+/// Answers each request frame in turn, to the end of the input, and tells how many there were. The core is to be idle or failed.
 pub fn serve<S: Sealer, R: Read, W: Write, L: Link, T: Tape>(
     alloc: Global,
     reader: &mut R,
