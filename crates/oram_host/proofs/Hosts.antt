@@ -14,7 +14,7 @@ use Rattle.oram_host.specs.declared.refusals.HostRefusal.TheVariants.{NoShape}
 use Rattle.oram_host.specs.declared.trees.Tree.{Tree}
 use Rattle.oram_host.specs.Answers.{IsFetched, IsPut, IsShaped, IsStored, Keeps}
 use Rattle.oram_host.specs.Host.{Host, IsShape, Kept, tree_at}
-use Rattle.oram_host.specs.Path.{IsBehind, IsPath, PutsRecord, StoresPath}
+use Rattle.oram_host.specs.Path.{FitsAnswer, IsBehind, IsPath, PutsRecord, StoresPath}
 use Rattle.oram_host.specs.Refusals.{Refuses, RefusesFetch, RefusesPut, RefusesStore}
 use Rattle.oram_host.specs.Trees.{AreNodes, AreTrees, IsRecord, IsTree, host_of, is_there, kept_by}
 use Rattle.oram_host.proofs.Records.{not_at}
@@ -38,8 +38,8 @@ with_shape None k A P e p = absurd cc
 with_shape (Some x) k A P e p = let same : k ≡ x = cc in subst P same p
 
 pub fetched : {T : Type 0} (items : T → List ℕ) (front : List ℕ) (host : Host) (tree leaf : ℕ) (kept : Kept) (r : Result T HostRefusal) → tree_at host tree ≡ Some kept
-    → MatchResult r (λ v. (leaf < 2 ^ kept.depth) × IsBehind front (λ bytes. IsPath kept leaf bytes × (0 < length bytes)) (items v)) (λ why. RefusesFetch kept leaf why)
-    → MatchResult r (λ v. IsBehind front (λ bytes. IsFetched host tree leaf bytes × (0 < length bytes)) (items v)) (Refuses host (request.Fetch tree leaf))
+    → MatchResult r (λ v. (leaf < 2 ^ kept.depth) × IsBehind front (λ bytes. IsPath kept leaf bytes × FitsAnswer bytes) (items v)) (λ why. RefusesFetch kept leaf why)
+    → MatchResult r (λ v. IsBehind front (λ bytes. IsFetched host tree leaf bytes × FitsAnswer bytes) (items v)) (Refuses host (request.Fetch tree leaf))
 fetched items front host tree leaf kept (Ok v) shaped h = (h.1.0, h.1.1, (record { kept = kept; shaped = shaped; leaf_in = h.0; path = h.1.2.0 }, h.1.2.1))
 fetched items front host tree leaf kept (Err why) shaped h = with_shape (tree_at host tree) kept (why ≡ NoShape) (λ k. RefusesFetch k leaf why) shaped h
 

@@ -1,5 +1,6 @@
 -- The path from the root to a leaf, and the records along it.
 use Rattle.std.specs.Prelude.{◌≡◌, ◌≢◌, ℕ, ◌+◌, ◌-◌, ◌*◌, ◌/◌, ◌^◌, ◌<◌, ◌≤◌, List, ◌++◌, length, slice_range, Some}
+use Rattle.oram_wire.specs.declared.TheConstants.{LONGEST_BODY}
 use Rattle.oram_host.specs.Host.{Kept, record_of}
 
 -- the node at a level of a leaf's path, from level 0 at the root on
@@ -34,6 +35,11 @@ pub record PutsRecord (old : Kept) (node : ℕ) (bytes : List ℕ) (new : Kept) 
   pub whole : length bytes ≡ old.record_len
   pub put : record_of new node ≡ Some bytes
   pub others : (other : ℕ) → other ≢ node → record_of new other ≡ record_of old other
+
+-- records that an answer has room for: some, and fewer bytes than a frame's
+pub record FitsAnswer (bytes : List ℕ) : Type 0 where
+  pub some : 0 < length bytes
+  pub few : length bytes < LONGEST_BODY
 
 -- the bytes are these in front, and behind them some that are so
 abbrev pub IsBehind : List ℕ → (List ℕ → Type 0) → List ℕ → Type 0

@@ -7,11 +7,12 @@ ghost use Rattle.oram_host.specs.ImageReading.{IsFirstFault, fault_number, host_
 ghost use Rattle.oram_host.specs.Host.{Host, IsHost};
 ghost use Rattle.oram_host.specs.Flips.{IsByteless, IsFlipped};
 ghost use Rattle.oram_host.specs.Answers.{Answers, IsFetched, IsPut, IsShaped, IsStored};
-ghost use Rattle.oram_host.specs.Path.{IsBehind};
+ghost use Rattle.oram_host.specs.Path.{FitsAnswer, IsBehind};
 ghost use Rattle.oram_host.specs.Refusals.{Refuses, code_of};
 ghost use Rattle.oram_host.specs.Serving.{Serves, StandsFor};
 ghost use Rattle.oram_host.specs.Swaps.{IsSwapped, LacksPair};
 ghost use Rattle.oram_host.specs.Transfers.{Begins, TakesFrom};
+ghost use Rattle.oram_wire.specs.FrameStream.{IsBody};
 ghost use Rattle.oram_wire.specs.HostMessages.{answer_body, request_body};
 ghost use Rattle.oram_wire.specs.HostReading.{HasNumbers, IsAnswer, IsMisfit, names_request, request_of};
 
@@ -78,7 +79,7 @@ impl Server {
     fn fetch(&self, tree: u8, leaf: u32, front: &[u8]) -> Result<Vec<u8>, HostRefusal>
         requires { length front.now ≤ 1 }
         ensures { MatchResult result
-            (λ v. IsBehind front.now (λ bytes. IsFetched self.now tree leaf bytes × (0 < length bytes)) v.items)
+            (λ v. IsBehind front.now (λ bytes. IsFetched self.now tree leaf bytes × FitsAnswer bytes) v.items)
             (Refuses self.now (HostRequest.Fetch tree leaf)) }
     {
         let Some(kept) = self.trees.get(&tree) else {
@@ -135,7 +136,7 @@ impl Server {
     fn serve(&mut self, request: HostView<'_>, front: &[u8]) -> Result<Served, HostRefusal>
         requires { length front.now ≤ 1 }
         ensures { MatchResult result (λ served. StandsFor front.now served (λ answer.
-            Answers self.old (request_of request.entry) answer self.new × IsAnswer answer))
+            Answers self.old (request_of request.entry) answer self.new × IsAnswer answer × IsBody (answer_body answer)))
             (λ why. Refuses self.old (request_of request.entry) why × (self.new ≡ self.old)) }
     {
         match request {
@@ -170,7 +171,7 @@ impl Server {
     fn serve_body(&mut self, body: &[u8], front: &[u8]) -> Result<Served, HostRefusal>
         requires { length front.now ≤ 1 }
         ensures { MatchResult result (λ served. StandsFor front.now served (λ answer.
-            Serves self.old body.now answer self.new × IsAnswer answer))
+            Serves self.old body.now answer self.new × IsAnswer answer × IsBody (answer_body answer)))
             (λ why. Serves self.old body.now (HostAnswer.Refused (code_of why)) self.new
             × (self.new ≡ self.old)) }
     {
@@ -209,6 +210,8 @@ impl Server {
     pub fn answer(&mut self, alloc: Global, body: &[u8]) -> Result<Vec<u8>, AllocError>
         ensures ok { IfOk result (λ v. (answer : HostAnswer) × Serves self.old body.now answer self.new
             × IsAnswer answer × (v.items ≡ answer_body answer)) }
+        // A frame has room for it.
+        ensures fits { IfOk result (λ v. IsBody v.items) }
         ensures err { OnErr result (self.new ≡ self.old) }
     {
         let mut short = Vec::with_capacity(alloc, 2)?;

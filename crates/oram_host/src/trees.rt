@@ -5,7 +5,7 @@ ghost use Rattle.std.specs.Ordering.{nat_cmp};
 ghost use Rattle.std.specs.BTreeMap.{IsOrdered, Updates, get, keys, values};
 ghost use Rattle.oram_host.specs.Flips.{FlipsByte, HasByte, LacksByte, flipped};
 ghost use Rattle.oram_host.specs.Host.{IsShape, record_of};
-ghost use Rattle.oram_host.specs.Path.{IsBehind, IsPath, PutsRecord, StoresPath, node_on, record_at};
+ghost use Rattle.oram_host.specs.Path.{FitsAnswer, IsBehind, IsPath, PutsRecord, StoresPath, node_on, record_at};
 ghost use Rattle.oram_host.specs.Refusals.{RefusesFetch, RefusesPut, RefusesStore};
 ghost use Rattle.oram_host.specs.Trees.{AreNodes, AreTrees, IsRecord, IsTree, host_of, is_there, kept_by, records_in};
 
@@ -259,7 +259,7 @@ impl Tree {
             → IsSome (record_of (kept_by self.now) (node_on self.now.depth leaf level)) }
         requires short { length front.now ≤ 1 }
         ensures { IfOk result (λ v. IsBehind front.now
-            (λ bytes. IsPath (kept_by self.now) leaf bytes × (0 < length bytes)) v.items) }
+            (λ bytes. IsPath (kept_by self.now) leaf bytes × FitsAnswer bytes) v.items) }
     {
         let mut bytes = Vec::with_capacity(alloc, front.len() + self.path_len())?;
         bytes.extend_from_slice(front)?;
@@ -283,7 +283,7 @@ impl Tree {
         requires short { length front.now ≤ 1 }
         ensures { MatchResult result (λ v. (leaf < 2 ^ self.now.depth)
             × IsBehind front.now
-            (λ bytes. IsPath (kept_by self.now) leaf bytes × (0 < length bytes)) v.items)
+            (λ bytes. IsPath (kept_by self.now) leaf bytes × FitsAnswer bytes) v.items)
             (λ why. RefusesFetch (kept_by self.now) leaf why) }
     {
         if leaf >= 1 << self.depth {

@@ -2,5 +2,7 @@ pub mod Words
 pub mod Steppings
 pub mod Exchanged
 pub mod Turned
+pub mod Answered
+pub mod Hosted
 pub mod Served
 mod Rows

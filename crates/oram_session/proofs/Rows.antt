@@ -9,7 +9,8 @@ use Rattle.oram_session.specs.Exchanges.{Sending, is_stall, events_of}
 use Rattle.oram_session.specs.Links.{Faulty, is_due}
 use Rattle.oram_session.specs.Outcome.{faults_after}
 use Rattle.oram_session.specs.Requests.{told}
-use Rattle.oram_session.specs.Sessions.{input_of, output_of}
+use Rattle.oram_session.specs.Answered.{frames_of}
+use Rattle.oram_session.specs.Sessions.{reply_body}
 use Rattle.oram_session.specs.Tapes.{list_words, chacha_words}
 use Rattle.oram_session.specs.Turns.{Turn}
 use Rattle.oram_session.specs.declared.link.LinkFault.TheVariants.{Io}
@@ -69,11 +70,11 @@ turns =
     ∷ (record { body = 18 ∷ 0 ∷ 0 ∷ 0 ∷ 64 ∷ []; sendings = []; reply = Refused 1 })
     ∷ []
 
-read : input_of turns ≡ 0 ∷ 0 ∷ 0 ∷ 0 ∷ 0 ∷ 0 ∷ 0 ∷ 5 ∷ 18 ∷ 0 ∷ 0 ∷ 0 ∷ 64 ∷ []
+read : frames_of (λ (x : Turn). x.body) turns ≡ 0 ∷ 0 ∷ 0 ∷ 0 ∷ 0 ∷ 0 ∷ 0 ∷ 5 ∷ 18 ∷ 0 ∷ 0 ∷ 0 ∷ 64 ∷ []
 unfolding turns
 read = refl
 
-written : output_of turns ≡ 0 ∷ 0 ∷ 0 ∷ 2 ∷ 146 ∷ 7 ∷ 0 ∷ 0 ∷ 0 ∷ 2 ∷ 146 ∷ 1 ∷ []
+written : frames_of reply_body turns ≡ 0 ∷ 0 ∷ 0 ∷ 2 ∷ 146 ∷ 7 ∷ 0 ∷ 0 ∷ 0 ∷ 2 ∷ 146 ∷ 1 ∷ []
 unfolding turns
 written = refl
 

@@ -6,4 +6,6 @@ pub mod Requests
 pub mod Settled
 pub mod Exchanges
 pub mod Turns
+pub mod Answered
 pub mod Sessions
+pub mod Answering

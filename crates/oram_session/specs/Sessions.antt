@@ -1,29 +1,23 @@
 -- A whole session: what is read, what is written, and what the core and the host are told in between.
-use Rattle.std.specs.Prelude.{◌≡◌, ℕ, ◌≤◌, List, ◌++◌, length, Option, All, ◌⊎◌, ⊤, Result, Ok, Err}
-use Rattle.std.specs.List.{flat_map, FoldsTo}
-use Rattle.std.specs.Io.KnownBytes.{Appends, Consumes}
+use Rattle.std.specs.Prelude.{◌≡◌, ℕ, ◌≤◌, List, length, Option, ◌⊎◌, ⊤, Result, Ok, Err}
 use Rattle.oram_wire.specs.FrameStream.{IsBody, frame, length_at}
 use Rattle.oram_wire.specs.SessionMessages.{session_reply_body}
 use Rattle.oram_wire.specs.declared.TheConstants.{LONGEST_BODY}
 use Rattle.oram_run.specs.Shape.{Shape}
 use Rattle.oram_run.specs.State.{State}
+use Rattle.oram_session.specs.Answered.{HasAnswered}
 use Rattle.oram_session.specs.Outcome.{Outcome}
 use Rattle.oram_session.specs.Settled.{IsSettled}
 use Rattle.oram_session.specs.Turns.{Turn, IsTurn, IsCutTurn}
 use Rattle.oram_session.specs.declared.faults.ServeFault.{ServeFault}
 use Rattle.oram_session.specs.declared.faults.ServeFault.TheVariants.{Read, Write, Frame, Truncated, Stalled, OutOfMemory}
 
--- a reply as a frame
+-- a turn's reply as bytes, and as a frame
+abbrev pub reply_body : Turn → List ℕ
+reply_body turn = session_reply_body turn.reply
+
 abbrev pub reply_frame : Turn → List ℕ
-reply_frame turn = frame (session_reply_body turn.reply)
-
--- what is read in these turns
-abbrev pub input_of : List Turn → List ℕ
-input_of turns = flat_map (λ x. frame x.body) turns
-
--- what is written in them
-abbrev pub output_of : List Turn → List ℕ
-output_of turns = flat_map reply_frame turns
+reply_frame turn = frame (reply_body turn)
 
 -- the core is settled but where a message stalled or memory was refused
 abbrev pub LeavesCore : Result ℕ ServeFault → State → Type 0
@@ -36,16 +30,9 @@ LeavesCore (Err Stalled) s = ⊤
 LeavesCore (Err OutOfMemory) s = ⊤
 
 module _ (v : Shape) {L : Type 0} (calls : L → List ℕ → Outcome → L → Type 0) (words : ℕ → ℕ → List ℕ) (session : ℕ) where
-  -- the turns lead core and link from one state to another
-  abbrev pub IsSession : State × L → List Turn → State × L → Type 0
-  IsSession p turns q = FoldsTo {P = State × L} (IsTurn v calls words session) p turns q
-
-  -- Whole turns: their frames were read, and then so many bytes more; their replies were written, and then so many bytes more.
-  pub record HasServed (p : State × L) (turns : List Turn) (q : State × L) (part : List ℕ) (unread unread' : Option (List ℕ)) (more : List ℕ) (written written' : Option (List ℕ)) : Type 0 where
-    pub turned : IsSession p turns q
-    pub fits : All (λ x. IsBody x.body) turns
-    pub read : Consumes unread unread' (input_of turns ++ part)
-    pub wrote : Appends written written' (output_of turns ++ more)
+  -- The turns lead core and link from one state to another, with what was read and written, and then so many bytes more.
+  abbrev pub HasServed : State × L → List Turn → State × L → List ℕ → Option (List ℕ) → Option (List ℕ) → List ℕ → Option (List ℕ) → Option (List ℕ) → Type 0
+  HasServed = HasAnswered {P = State × L} (IsTurn v calls words session) (λ x. x.body) reply_body
 
   -- What a refusal of memory leaves of a turn. The length of the frame was read alone; or the frame was read, and nothing came of it,
   -- or as much as a request that was cut off, or all but the reply.

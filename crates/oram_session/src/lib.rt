@@ -2,7 +2,8 @@
 //!
 //! A [`Link`] leads to the bucket host: [`Direct`] to a server in memory, [`FaultLink`] over another link with faults of
 //! its own. A [`Tape`] gives the words that each command brings: [`ListTape`] those of a list, [`ChaChaTape`] those of a
-//! stream cipher. [`serve`] answers the request frames of a reader, one after the other.
+//! stream cipher. [`serve`] answers the request frames of a reader, one after the other; so does [`host_serve`], with a bucket
+//! server, at the other end of a link.
 #![tactic(auto)]
 
 // Calls once more where one allocation was refused, so that the tests hold whichever it is.
@@ -16,6 +17,7 @@ macro_rules! retried {
     };
 }
 
+mod answering;
 mod exchanges;
 mod faults;
 mod link;
@@ -24,7 +26,10 @@ mod requests;
 mod serving;
 mod tape;
 mod tapes;
+#[cfg(test)]
+mod testing;
 
+pub use answering::host_serve;
 pub use faults::ServeFault;
 pub use link::{Link, LinkFault};
 pub use links::{Direct, FaultLink};

@@ -15,6 +15,7 @@ ghost use Rattle.oram_session.specs.Settled.{IsSettled, IsBegun};
 ghost use Rattle.oram_session.specs.Turns.{Turn, IsTurn, IsStuck, IsCutTurn};
 ghost use Rattle.oram_session.specs.Sessions.{HasServed, IsLeft, LeavesCore, reply_frame};
 
+use crate::answering::put_body;
 use crate::exchanges::carry_out;
 use crate::faults::ServeFault;
 use crate::link::Link;
@@ -23,7 +24,7 @@ use crate::tape::Tape;
 use oram_bucket::Sealer;
 use oram_bytes::Words;
 use oram_core::{Command, Core, Event, Note, Reaction};
-use oram_wire::{BAD_REQUEST, SessionReply, next_frame, put_frame};
+use oram_wire::{BAD_REQUEST, SessionReply, next_frame};
 use std::alloc::{AllocError, Global};
 use std::io::{Read, Write};
 
@@ -113,11 +114,7 @@ fn put_reply<W: Write>(
     ensures fault { IfErr result (λ e. (e ≡ ServeFault.Write) ⊎ (e ≡ ServeFault.OutOfMemory)) }
 {
     let body = reply.encode(alloc)?;
-    put_frame(writer, &body)?;
-    if writer.flush().is_err() {
-        return Err(ServeFault::Write);
-    }
-    Ok(())
+    put_body(writer, &body)
 }
 
 /// Answers each request frame in turn, to the end of the input, and tells how many there were. The core is to be idle or failed.

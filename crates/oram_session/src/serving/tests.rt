@@ -4,11 +4,10 @@ ghost use Rattle.oram_session.specs.Settled.{IsSettled};
 use super::*;
 use crate::links::{Direct, FaultLink};
 use crate::tapes::{ChaChaTape, ListTape};
+use crate::testing::{Failing, Page};
 use oram_bucket::PlainSeal;
 use oram_geometry::Device;
 use oram_host::Server;
-use std::io;
-use std::io::ErrorKind;
 use std::process::Abort;
 use std::test::Fail;
 
@@ -26,71 +25,6 @@ const REPLIES: [u8; 47] = [
 
 /// Bytes of the first reply's frame.
 const FIRST: usize = 21;
-
-/// Room for what a session writes, which fails once `room` bytes are there, and at each flush if it is to.
-#[derive(Drop)]
-struct Page {
-    bytes: [u8; 64],
-    len: usize,
-    room: usize,
-    flush_fails: bool,
-}
-
-impl Page {
-    fn new(room: usize, flush_fails: bool) -> Page {
-        Page {
-            bytes: [0; 64],
-            len: 0,
-            room,
-            flush_fails,
-        }
-    }
-
-    fn text(&self) -> &[u8] {
-        self.bytes.get(..self.len).unwrap_or(&[])
-    }
-}
-
-impl Write for Page {
-    fn write(&mut self, buf: &[u8]) -> io::Result<usize> {
-        let Some(byte) = buf.first() else {
-            return Ok(0);
-        };
-        if self.len >= self.room || self.len >= 64 {
-            return Err(io::Error::from(ErrorKind::StorageFull));
-        }
-        self.bytes[self.len] = *byte;
-        self.len += 1;
-        Ok(1)
-    }
-
-    fn flush(&mut self) -> io::Result<()> {
-        if self.flush_fails {
-            return Err(io::Error::from(ErrorKind::Other));
-        }
-        Ok(())
-    }
-}
-
-/// A reader that fails behind its bytes.
-#[derive(Drop)]
-struct Failing<'a> {
-    rest: &'a [u8],
-}
-
-impl Read for Failing<'_> {
-    fn read(&mut self, buf: &mut [u8]) -> io::Result<usize> {
-        let Some((byte, rest)) = self.rest.split_first() else {
-            return Err(io::Error::from(ErrorKind::Other));
-        };
-        let Some(first) = buf.first_mut() else {
-            return Ok(0);
-        };
-        *first = *byte;
-        self.rest = rest;
-        Ok(1)
-    }
-}
 
 /// A core of 64 blocks, just formatted, on a link to its server.
 fn formatted(alloc: Global) -> Result<(Core<PlainSeal>, Direct), ServeFault>
@@ -196,13 +130,15 @@ fn the_reader_fails(rt: HostRuntime) -> Result<(), Fail> {
     let mut reader = Failing {
         rest: &REQUESTS[..11],
     };
-    if served(rt.alloc(), &mut reader, &mut page) == Err(ServeFault::OutOfMemory) {
+    let mut ended = served(rt.alloc(), &mut reader, &mut page);
+    if ended == Err(ServeFault::OutOfMemory) {
         page = Page::new(64, false);
         reader = Failing {
             rest: &REQUESTS[..11],
         };
-        assert!(rt; served(rt.alloc(), &mut reader, &mut page) == Err(ServeFault::Read));
+        ended = served(rt.alloc(), &mut reader, &mut page);
     }
+    assert!(rt; ended == Err(ServeFault::Read));
     assert_eq!(rt; page.text(), &REPLIES[..FIRST]);
     Ok(())
 }
@@ -218,7 +154,7 @@ fn writer_fails(rt: &impl Abort, alloc: Global, room: usize, flush_fails: bool) 
         ended = served(alloc, &mut reader, &mut page);
     }
     assert!(rt; ended == Err(ServeFault::Write));
-    assert!(rt; page.len <= FIRST);
+    assert!(rt; page.text().len() <= FIRST);
 }
 
 #[test]

@@ -10,7 +10,8 @@ use Rattle.oram_core.specs.Core.{shape_of}
 use Rattle.oram_session.specs.Sessions.{reply_frame}
 use Rattle.oram_session.specs.Turns.{IsTurn, IsStuck, IsCutTurn}
 use Rattle.oram_session.specs.declared.faults.ServeFault.TheVariants.{Write, Stalled, OutOfMemory}
-use Rattle.oram_session.proofs.Served.{served_more, served_then, under, same_pair, was_read, was_frame, was_memory}
+use Rattle.oram_session.proofs.Answered.{was_read, was_frame, was_memory}
+use Rattle.oram_session.proofs.Served.{served_more, served_then, under, same_pair}
 use Rattle.oram_session.proofs.Steppings.{same_shape, same_trans}
 use Rattle.oram_session.proofs.Turned.{err_is}
 use Rattle.oram_session.proofs.serving.serve.Goals as goal
@@ -24,7 +25,7 @@ returns-in_err-body-clause-frame g c = λ e.
     let w = c.in_err-body.ensures.frame (ap Err h) in
     let k = c.loop-served.invariant.so_far in
     let v = shape_of g.S.Sealer.overhead g.S.Sealer.sealing g.S.Sealer.opening c.args.core.now in
-    (k.turns, w.0, w.1, w.2, served_then v g.L.Link.calls (g.T.Tape.words c.args.tape.now) c.args.session _ _ _ _ _ _ _ _ _ w.0 [] k w.3 (Appends-nil _))
+    (k.all, w.0, w.1, w.2, served_then v g.L.Link.calls (g.T.Tape.words c.args.tape.now) c.args.session _ _ _ _ _ _ _ _ _ w.0 [] k w.3 (Appends-nil _))
 
 pub returns-in_err-body-clause-read : goal.returns-in_err-body-clause-read
 returns-in_err-body-clause-read g c = λ e.
@@ -33,7 +34,7 @@ returns-in_err-body-clause-read g c = λ e.
     let w = c.in_err-body.ensures.read (ap Err h) in
     let k = c.loop-served.invariant.so_far in
     let v = shape_of g.S.Sealer.overhead g.S.Sealer.sealing g.S.Sealer.opening c.args.core.now in
-    (k.turns, w.0, w.1, served_then v g.L.Link.calls (g.T.Tape.words c.args.tape.now) c.args.session _ _ _ _ _ _ _ _ _ w.0 [] k w.2 (Appends-nil _))
+    (k.all, w.0, w.1, served_then v g.L.Link.calls (g.T.Tape.words c.args.tape.now) c.args.session _ _ _ _ _ _ _ _ _ w.0 [] k w.2 (Appends-nil _))
 
 pub returns-in_err-body-clause-memory : goal.returns-in_err-body-clause-memory
 returns-in_err-body-clause-memory g c = λ e.
@@ -42,7 +43,7 @@ returns-in_err-body-clause-memory g c = λ e.
     let w = c.in_err-body.ensures.memory (ap Err h) in
     let k = c.loop-served.invariant.so_far in
     let v = shape_of g.S.Sealer.overhead g.S.Sealer.sealing g.S.Sealer.opening c.args.core.now in (
-      k.turns,
+      k.all,
       (c.loop-served.core.state, c.loop-served.link),
       w.0,
       inl (refl, w.1, w.2),
@@ -53,7 +54,7 @@ pub returns-clause-read : goal.returns-clause-read
 returns-clause-read g c = λ _.
     let k = c.loop-served.invariant.so_far in
     let v = shape_of g.S.Sealer.overhead g.S.Sealer.sealing g.S.Sealer.opening c.args.core.now in
-    (k.turns, [], (λ h. absurd (omega arith)), served_then v g.L.Link.calls (g.T.Tape.words c.args.tape.now) c.args.session _ _ _ _ _ _ _ _ _ [] [] k (Consumes-nil _) (Appends-nil _))
+    (k.all, [], (λ h. absurd (omega arith)), served_then v g.L.Link.calls (g.T.Tape.words c.args.tape.now) c.args.session _ _ _ _ _ _ _ _ _ [] [] k (Consumes-nil _) (Appends-nil _))
 
 -- a request ends it
 
@@ -68,7 +69,7 @@ returns-in_err-reply-clause-stalled g c = λ e.
     let same = same_shape g.S.Sealer.overhead g.S.Sealer.sealing g.S.Sealer.opening c.args.core.now c.loop-served.core c.loop-served.invariant.kept in
     let came = rw c.in-Some.is at c.in_ok-body.ensures.ok in
     let P = λ (u : Shape) (f : ℕ → ℕ → List ℕ). IsStuck u g.L.Link.calls f c.args.session (c.loop-served.core.state, c.loop-served.link) c.deref.result.now (c.take_turn.new.core.state, c.take_turn.new.link) in (
-      k.turns,
+      k.all,
       (c.loop-served.core.state, c.loop-served.link),
       c.in-Some.body.items,
       came.0,
@@ -88,7 +89,7 @@ returns-in_err-reply-clause-memory g c = λ e.
     let same = same_shape g.S.Sealer.overhead g.S.Sealer.sealing g.S.Sealer.opening c.args.core.now c.loop-served.core c.loop-served.invariant.kept in
     let came = rw c.in-Some.is at c.in_ok-body.ensures.ok in
     let P = λ (u : Shape) (f : ℕ → ℕ → List ℕ). IsCutTurn u g.L.Link.calls f c.args.session (c.loop-served.core.state, c.loop-served.link) c.deref.result.now (c.take_turn.new.core.state, c.take_turn.new.link) in (
-      k.turns,
+      k.all,
       (c.loop-served.core.state, c.loop-served.link),
       frame c.in-Some.body.items,
       inr (
@@ -119,7 +120,7 @@ returns-in_err-put_reply-clause-write g c = λ e.
     let x = c.in_ok-reply.ensures.ok in
     let body : x.0.body ≡ c.in-Some.body.items = x.1 ∙ c.deref.ensures.value in
     let P = λ (u : Shape) (f : ℕ → ℕ → List ℕ). IsTurn u g.L.Link.calls f c.args.session (c.loop-served.core.state, c.loop-served.link) x.0 (c.take_turn.new.core.state, c.take_turn.new.link) in (
-      k.turns,
+      k.all,
       (c.loop-served.core.state, c.loop-served.link),
       x.0,
       w.0,
@@ -142,7 +143,7 @@ returns-in_err-put_reply-clause-memory g c = λ e.
     let came = rw c.in-Some.is at c.in_ok-body.ensures.ok in
     let x = c.in_ok-reply.ensures.ok in
     let P = λ (u : Shape) (f : ℕ → ℕ → List ℕ). IsTurn u g.L.Link.calls f c.args.session (c.loop-served.core.state, c.loop-served.link) x.0 (c.take_turn.new.core.state, c.take_turn.new.link) in (
-      k.turns,
+      k.all,
       (c.loop-served.core.state, c.loop-served.link),
       frame c.in-Some.body.items,
       inr (c.in-Some.body.items, came.0, refl, inr (inr (x.0, x.1 ∙ c.deref.ensures.value, under P v _ words _ same c.loop-served.invariant.tape x.3))),

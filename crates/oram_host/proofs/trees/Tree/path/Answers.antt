@@ -45,4 +45,4 @@ returns c =
     let end : c.loop-level.level ≡ c.args.self.now.depth + 1 = omega arith in
     let whole : length (drop (length c.args.front.now) c.loop-level.bytes.items) ≡ (c.args.self.now.depth + 1) * c.args.self.now.record_len = inv.whole ∙ ap (λ (n : ℕ). n * c.args.self.now.record_len) end in
     let least : 1 * c.args.self.now.record_len ≤ (c.args.self.now.depth + 1) * c.args.self.now.record_len = mul-le-mul_right c.args.self.now.record_len (omega arith) in
-    (drop (length c.args.front.now) c.loop-level.bytes.items, inv.behind, (record { whole = whole; each = λ level h. inv.each level (omega arith) }, omega (arith, whole, least, c.requires.tree.shape.long)))
+    (drop (length c.args.front.now) c.loop-level.bytes.items, inv.behind, (record { whole = whole; each = λ level h. inv.each level (omega arith) }, record { some = omega (arith, whole, least, c.requires.tree.shape.long); few = omega (arith, whole, c.requires.tree.shape.fits) }))
