@@ -27,6 +27,9 @@ pub(crate) fn put_body<W: Write>(writer: &mut W, body: &[u8]) -> Result<(), Serv
 }
 
 /// Carries out each request frame in turn, to the end of the input, and tells how many there were.
+///
+/// A body that is no request's is answered as the server refuses it. An answer is flushed before the next frame is read.
+/// `Stalled` never comes.
 pub fn host_serve<R: Read, W: Write>(
     alloc: Global,
     reader: &mut R,

@@ -118,6 +118,10 @@ fn put_reply<W: Write>(
 }
 
 /// Answers each request frame in turn, to the end of the input, and tells how many there were. The core is to be idle or failed.
+///
+/// A command takes the words of its ticket from the tape, two for each tree of the device. A call of the link that has a fault, or
+/// finds the host without room, is made again, three times at most. A reply is flushed before the next frame is read. After
+/// `Stalled` and `OutOfMemory` a command may be left at work; after any other end the core is idle or failed again.
 pub fn serve<S: Sealer, R: Read, W: Write, L: Link, T: Tape>(
     alloc: Global,
     reader: &mut R,
