@@ -1,9 +1,10 @@
 //! Sessions: what a client asks in frames is answered by the core, with a host behind a link and the words of a tape.
 //!
-//! A [`Link`] leads to the bucket host: [`Direct`] to a server in memory, [`FaultLink`] over another link with faults of
-//! its own. A [`Tape`] gives the words that each command brings: [`ListTape`] those of a list, [`ChaChaTape`] those of a
-//! stream cipher. [`serve`] answers the request frames of a reader, one after the other; so does [`host_serve`], with a bucket
-//! server, at the other end of a link.
+//! A [`Link`] leads to the bucket host: [`Direct`] to a server in memory, [`StreamLink`] over a reader and a writer,
+//! [`FaultLink`] over another link with faults of its own. A
+//! [`Tape`] gives the words that each command brings: [`ListTape`] those of a list, [`ChaChaTape`] those of a stream cipher.
+//! [`serve`] answers the request frames of a reader, one after the
+//! other; so does [`host_serve`], with a bucket server, at the other end of a link.
 #![tactic(auto)]
 
 // Calls once more where one allocation was refused, so that the tests hold whichever it is.
@@ -32,7 +33,7 @@ mod testing;
 pub use answering::host_serve;
 pub use faults::ServeFault;
 pub use link::{Link, LinkFault};
-pub use links::{Direct, FaultLink};
+pub use links::{Direct, FaultLink, StreamLink};
 pub use serving::serve;
 pub use tape::Tape;
 pub use tapes::{ChaChaTape, ListTape};

@@ -2,7 +2,7 @@
 ghost use Rattle.std.specs.Prelude.{◌≡◌, ℕ, List};
 ghost use Rattle.oram_session.specs.Outcome.{Outcome, outcome_of, faults_after};
 
-use std::alloc::Global;
+use std::alloc::{AllocError, Global};
 use std::fmt;
 
 /// Why a call of a link has no answer.
@@ -29,6 +29,16 @@ impl fmt::Display for LinkFault {
             LinkFault::TooLarge => "the frame is longer than the link takes",
             LinkFault::OutOfMemory => "out of memory",
         })
+    }
+}
+
+impl From<AllocError> for LinkFault {
+    ghost use Rattle.oram_session.specs.declared.link.LinkFault.TheVariants.{OutOfMemory};
+
+    ghost from_gives = { λ _ f. f ≡ OutOfMemory };
+
+    fn from(_error: AllocError) -> LinkFault {
+        LinkFault::OutOfMemory
     }
 }
 

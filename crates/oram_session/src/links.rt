@@ -1,10 +1,13 @@
-//! Links that need no stream.
+//! Links: to a server in memory, over a reader and a writer, and over another link with faults of its own.
 
 mod direct;
 mod faulty;
+mod frames;
+mod stream;
 
 pub use direct::Direct;
 pub use faulty::FaultLink;
+pub use stream::StreamLink;
 
 #[cfg(test)]
 mod tests;

@@ -11,6 +11,8 @@ use oram_host::Server;
 use std::process::Abort;
 use std::test::Fail;
 
+mod streamed;
+
 /// A read of block 5, a write of ones there, and the read again.
 const REQUESTS: [u8; 43] = [
     0, 0, 0, 5, 0x11, 0, 0, 0, 5, 0, 0, 0, 21, 0x12, 0, 0, 0, 5, 255, 255, 255, 255, 255, 255, 255,
