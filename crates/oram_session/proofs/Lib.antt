@@ -1,4 +1,5 @@
 pub mod Words
+pub mod Formatted
 pub mod Steppings
 pub mod Exchanged
 pub mod Turned

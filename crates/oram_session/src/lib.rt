@@ -3,7 +3,7 @@
 //! A [`Link`] leads to the bucket host: [`Direct`] to a server in memory, [`StreamLink`] over a reader and a writer,
 //! [`FaultLink`] over another link with faults of its own. A
 //! [`Tape`] gives the words that each command brings: [`ListTape`] those of a list, [`ChaChaTape`] those of a stream cipher.
-//! [`serve`] answers the request frames of a reader, one after the
+//! [`format_device`] makes a device on the host behind a link. [`serve`] answers the request frames of a reader, one after the
 //! other; so does [`host_serve`], with a bucket server, at the other end of a link.
 #![tactic(auto)]
 
@@ -21,6 +21,7 @@ macro_rules! retried {
 mod answering;
 mod exchanges;
 mod faults;
+mod formatting;
 mod link;
 mod links;
 mod requests;
@@ -32,6 +33,7 @@ mod testing;
 
 pub use answering::host_serve;
 pub use faults::ServeFault;
+pub use formatting::format_device;
 pub use link::{Link, LinkFault};
 pub use links::{Direct, FaultLink, StreamLink};
 pub use serving::serve;
