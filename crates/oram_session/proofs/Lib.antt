@@ -1,5 +1,6 @@
 pub mod Words
 pub mod Formatted
+pub mod Looped
 pub mod Steppings
 pub mod Exchanged
 pub mod Turned

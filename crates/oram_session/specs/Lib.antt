@@ -2,6 +2,7 @@ pub mod Outcome
 pub mod Faults
 pub mod Links
 pub mod Streams
+pub mod Loopback
 pub mod Formatting
 pub mod Tapes
 pub mod Requests

@@ -1,7 +1,7 @@
 //! Sessions: what a client asks in frames is answered by the core, with a host behind a link and the words of a tape.
 //!
 //! A [`Link`] leads to the bucket host: [`Direct`] to a server in memory, [`StreamLink`] over a reader and a writer,
-//! [`FaultLink`] over another link with faults of its own. A
+//! [`LoopLink`] to a server of its own over a socket to itself, [`FaultLink`] over another link with faults of its own. A
 //! [`Tape`] gives the words that each command brings: [`ListTape`] those of a list, [`ChaChaTape`] those of a stream cipher.
 //! [`format_device`] makes a device on the host behind a link. [`serve`] answers the request frames of a reader, one after the
 //! other; so does [`host_serve`], with a bucket server, at the other end of a link.
@@ -35,7 +35,7 @@ pub use answering::host_serve;
 pub use faults::ServeFault;
 pub use formatting::format_device;
 pub use link::{Link, LinkFault};
-pub use links::{Direct, FaultLink, StreamLink};
+pub use links::{Direct, FaultLink, LoopLink, StreamLink};
 pub use serving::serve;
 pub use tape::Tape;
 pub use tapes::{ChaChaTape, ListTape};

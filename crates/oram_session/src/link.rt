@@ -3,7 +3,7 @@ ghost use Rattle.std.specs.Prelude.{◌≡◌, ℕ, List};
 ghost use Rattle.oram_session.specs.Outcome.{Outcome, outcome_of, faults_after};
 
 use std::alloc::{AllocError, Global};
-use std::fmt;
+use std::{fmt, io};
 
 /// Why a call of a link has no answer.
 #[derive(Clone, Copy, Debug, PartialEq, Eq)]
@@ -39,6 +39,16 @@ impl From<AllocError> for LinkFault {
 
     fn from(_error: AllocError) -> LinkFault {
         LinkFault::OutOfMemory
+    }
+}
+
+impl From<io::Error> for LinkFault {
+    ghost use Rattle.oram_session.specs.declared.link.LinkFault.TheVariants.{Io};
+
+    ghost from_gives = { λ _ f. f ≡ Io };
+
+    fn from(_error: io::Error) -> LinkFault {
+        LinkFault::Io
     }
 }
 

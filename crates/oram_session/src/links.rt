@@ -3,10 +3,12 @@
 mod direct;
 mod faulty;
 mod frames;
+mod loopback;
 mod stream;
 
 pub use direct::Direct;
 pub use faulty::FaultLink;
+pub use loopback::LoopLink;
 pub use stream::StreamLink;
 
 #[cfg(test)]

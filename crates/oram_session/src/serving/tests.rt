@@ -11,6 +11,7 @@ use oram_host::Server;
 use std::process::Abort;
 use std::test::Fail;
 
+mod looped;
 mod streamed;
 
 /// A read of block 5, a write of ones there, and the read again.
