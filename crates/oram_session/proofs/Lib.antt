@@ -3,6 +3,7 @@ pub mod Formatted
 pub mod Looped
 pub mod Steppings
 pub mod Exchanged
+pub mod Resumed
 pub mod Turned
 pub mod Answered
 pub mod Hosted

@@ -1,16 +1,13 @@
 -- What a session needs to know of a core's step, whatever the host is.
-use Rattle.std.proofs.Common.{◌≡◌, ◌≢◌, ℕ, zero, suc, ◌+◌, ◌-◌, ◌*◌, ◌<◌, ◌≤◌, Bool, true, false, if◌then◌else◌, List, [], ◌∷◌, length, map, Option, Some, None, Ok, Err, refl, sym, ap, ◌∙◌, subst, arith, inl, inr}
+use Rattle.std.proofs.Common.{◌≡◌, ◌≢◌, ℕ, zero, suc, ◌+◌, ◌-◌, ◌*◌, ◌<◌, ◌≤◌, Bool, true, false, if◌then◌else◌, List, [], ◌∷◌, length, Option, Some, None, Ok, Err, refl, sym, ap, ◌∙◌, subst, arith, inl, inr}
 use Rattle.std.specs.Str.{bytes_eq}
 use Rattle.oram_geometry.specs.declared.Sizes.{Sizes}
 use Rattle.oram_geometry.specs.Sizes.{trees_of}
-use Rattle.oram_run.specs.Blocks.{body_from}
-use Rattle.oram_run.specs.Events.{failed_reply}
 use Rattle.oram_run.specs.Progress.Status.{Waiting, Stalling}
 use Rattle.oram_run.specs.Run.{Shown, refusal_of, is_over}
 use Rattle.oram_run.specs.Shape.{Shape}
 use Rattle.oram_run.specs.State.{State, status_by, status_in}
 use Rattle.oram_run.specs.declared.events.Command.{Command}
-use Rattle.oram_run.specs.declared.events.Command.TheVariants.{Read, Write, Discard}
 use Rattle.oram_run.specs.declared.events.Event.{Event}
 use Rattle.oram_run.specs.declared.events.Event.TheVariants.{Submit, Retry}
 use Rattle.oram_run.specs.declared.events.Note.TheVariants.{Stalled}
@@ -19,11 +16,11 @@ use Rattle.oram_run.specs.declared.events.Refusal.{Refusal}
 use Rattle.oram_run.specs.declared.events.Refusal.TheVariants as refusal
 use Rattle.oram_run.specs.declared.events.Submission.{Submission}
 use Rattle.oram_core.specs.Core.{AtWork, CoreValue, IsHealthy, IsResting, IsSameDevice, IsSound, IsWhole, shape_of, shape_with}
-use Rattle.oram_core.specs.Doing.{Done, plain_step, stalled_by, resent_by, submitted_by, finished_by}
+use Rattle.oram_core.specs.Doing.{Done, plain_step, stalled_by, resent_by, submitted_by}
 use Rattle.oram_core.specs.Steps.{Steps, Heard, did}
 use Rattle.oram_session.specs.Exchanges.{event_of, is_stall}
 use Rattle.oram_session.specs.Outcome.{Outcome}
-use Rattle.oram_session.specs.Settled.{is_settled_by, IsSettled, outstanding, IsBusy, IsBodyOf, IsReplied, IsNext, IsBegun, answers_left}
+use Rattle.oram_session.specs.Settled.{is_settled_by, IsSettled, outstanding, IsBegun, answers_left}
 
 -- a core that keeps its device and sealer keeps its shape
 pub same_shape : {S : Type 0} (overhead : S → ℕ) (sealing : S → ℕ → List ℕ → List ℕ) (opening : S → List ℕ → Option (List ℕ)) (c d : CoreValue S) →
@@ -40,7 +37,7 @@ pub same_trans : {S : Type 0} (a b c : CoreValue S) → IsSameDevice a b → IsS
 same_trans a b c h k = (k.0 ∙ h.0, k.1 ∙ h.1)
 
 -- what a status says of the parts that it stands on
-still_waits : (f : Option Reason) (q : List Submission) (l : Bool) → status_by f q l ≡ Waiting → (f ≡ None) × (l ≡ false) × (status_by f q true ≡ Stalling)
+pub still_waits : (f : Option Reason) (q : List Submission) (l : Bool) → status_by f q l ≡ Waiting → (f ≡ None) × (l ≡ false) × (status_by f q true ≡ Stalling)
 still_waits (Some e) q l h = absurd cc
 still_waits None [] l h = absurd cc
 still_waits None (x ∷ q) true h = absurd cc
@@ -56,6 +53,9 @@ stall_plain v s (Err e) w f = rw w refl
 -- a call without an answer stalls the core
 pub stalled : (v : Shape) (s t : State) (o : Outcome) (x : Shown) → status_in s ≡ Waiting → is_stall o ≡ true → Steps v s (event_of o) x t → did x t ≡ stalled_by s
 stalled v s t o x w f h = h.plain (stalled_by s) (stall_plain v s o w f)
+
+pub stalled_status : (v : Shape) (s t : State) (o : Outcome) (x : Shown) → status_in s ≡ Waiting → is_stall o ≡ true → Steps v s (event_of o) x t → status_in t ≡ Stalling
+stalled_status v s t o x w f h = ap (λ (d : Done). status_in d.state) (stalled v s t o x w f h) ∙ (still_waits s.failure s.queue s.lost w).2
 
 -- a stall and a Retry leave it as it was
 pub retried_is : (v : Shape) (s u t : State) (x : Shown) → status_in s ≡ Waiting → u ≡ record s { lost = true } → Steps v u Retry x t → (x.replies ≡ []) × (t ≡ s)
@@ -94,34 +94,8 @@ answer_noted v s t o x w h n = at (is_stall o) refl
     at false e = e
     at true e = absurd (n (ap (λ (d : Done). d.note) (stalled v s t o x w e h)))
 
-settled_over : (s : State) (e : Reason) → s.failure ≡ Some e → IsSettled s
+pub settled_over : (s : State) (e : Reason) → s.failure ≡ Some e → IsSettled s
 settled_over s e h = rw h refl
-
-body_is : (d : Sizes) (before : List ℕ) (c : Command) → length before ≡ d.block_bytes → IsBodyOf d (body_from before c)
-body_is d before (Read a) h = h
-body_is d before (Write a bytes) h = tt
-body_is d before (Discard a) h = tt
-
-failed_alone : (d : Sizes) (q : List Submission) → length q ≡ 1 → IsReplied d (map failed_reply q)
-failed_alone d [] h = absurd (omega arith)
-failed_alone d (x ∷ []) h = record { reply = failed_reply x; only = refl; body = tt }
-failed_alone d (x ∷ y ∷ q) h = absurd (omega arith)
-
-finished_next : (v : Shape) (s : State) (x : Submission) (rest : List Submission) → length (x ∷ rest) ≡ 1 → status_in s ≡ Waiting → length s.before ≡ v.device.block_bytes →
-    IsNext v.device (finished_by v s x rest)
-finished_next v s x [] one w long =
-    let k = still_waits s.failure s.queue s.lost w in
-    let rests : IsSettled (finished_by v s x []).state = rw k.0 refl in
-    inr (rests, refl, record { reply = record { session = x.session; ticket = x.ticket; body = body_from s.before x.command }; only = refl; body = body_is v.device s.before x.command long })
-finished_next v s x (y ∷ rest) one w long = absurd (omega arith)
-
--- what follows an answer, where one command is at work
-pub next_heard : (v : Shape) (s : State) (d : Done) → IsBusy s → Heard v s d → IsNext v.device d
-next_heard v s d busy (inl f) =
-    inr (settled_over d.state f.reason (ap (λ (t : State). t.failure) f.state), f.sends, subst (IsReplied v.device) (sym f.replies) (failed_alone v.device s.queue busy.alone))
-next_heard v s d busy (inr (inl g)) = inl (record { waits = g.waits; alone = ap length g.queue ∙ busy.alone }, g.sends, g.replies)
-next_heard v s d busy (inr (inr r)) =
-    subst (IsNext v.device) (sym r.does) (finished_next v s r.oldest r.rest (sym (ap length r.queue) ∙ busy.alone) busy.waits r.long)
 
 -- an answer leaves fewer to wait for
 left_more : (n k stage : ℕ) → 1 ≤ n → 0 * (k + 1) + (k - 0) < n * (k + 1) + (k - stage)
@@ -167,15 +141,15 @@ calm_by d o s alive none sound =
     rests.lost
 
 begun_at : (v : Shape) (s : State) (x : Submission) (o : Option Refusal) → IsSound v.device v.overhead s → IsSettled s → (o ≡ None → is_over (status_in s) ≡ false) →
-    IsBegun v.device s (submitted_by v s x o).note (submitted_by v s x o)
+    IsBegun s (submitted_by v s x o).note (submitted_by v s x o)
 begun_at v s x (Some e) sound settled going = refl
 begun_at v s x None sound settled going =
     let k = settled_idle s.failure s.queue s.lost settled (going refl) in
-    rw (k.0, k.1, calm_by v.device v.overhead s k.0 k.1 sound) (inl (record { waits = refl; alone = refl }, refl, refl), refl)
+    rw (k.0, k.1, calm_by v.device v.overhead s k.0 k.1 sound) (record { waits = refl; sends = refl; none = refl }, refl)
 
-pub begun_is : (v : Shape) (s t : State) (session : ℕ) (c : Command) (words : List ℕ) (x : Shown) → IsSound v.device v.overhead s → IsSettled s → Steps v s (Submit session c words) x t → IsBegun v.device s x.note (did x t)
+pub begun_is : (v : Shape) (s t : State) (session : ℕ) (c : Command) (words : List ℕ) (x : Shown) → IsSound v.device v.overhead s → IsSettled s → Steps v s (Submit session c words) x t → IsBegun s x.note (did x t)
 begun_is v s t session c words x sound settled h =
     let sub : Submission = record { session = session; ticket = s.next; command = c; words = words } in
     let why = refusal_of v.device (is_over (status_in s)) (length s.queue) s.next c words in
     let e = h.plain (submitted_by v s sub why) refl in
-    subst (λ (m : Done). IsBegun v.device s m.note m) (sym e) (begun_at v s sub why sound settled (λ none. if_none (is_over (status_in s)) _ none))
+    subst (λ (m : Done). IsBegun s m.note m) (sym e) (begun_at v s sub why sound settled (λ none. if_none (is_over (status_in s)) _ none))

@@ -74,3 +74,14 @@ module _ (v : Shape) {L : Type 0} (calls : L → List ℕ → Outcome → L → 
   -- one message after the other, each until it had its answer
   abbrev pub AllSent : State × L → List Sending → State × L → Type 0
   AllSent p xs q = FoldsTo {P = State × L} (λ a x b. IsSent a x b × IsAnswered x) p xs q
+
+-- how often the message after these may be sent again, where the first of all may so often, and each later one so often
+abbrev pub retries_after : ℕ → ℕ → List Sending → ℕ
+retries_after first most [] = first
+retries_after first most (x ∷ xs) = most
+
+module _ (v : Shape) {L : Type 0} (calls : L → List ℕ → Outcome → L → Type 0) (first most : ℕ) where
+  -- one message after the other, each until it had its answer, where the first may be sent again so often
+  abbrev pub AllSentFrom : State × L → List Sending → State × L → Type 0
+  AllSentFrom p [] q = p ≡ q
+  AllSentFrom p (x ∷ xs) q = (mid : State × L) × IsSent v calls first p x mid × IsAnswered x × AllSent v calls most mid xs q

@@ -9,6 +9,7 @@ pub mod Requests
 pub mod Settled
 pub mod Exchanges
 pub mod Turns
+pub mod Resuming
 pub mod Answered
 pub mod Sessions
 pub mod Answering

@@ -1,17 +1,16 @@
 //! Messages of the core, exchanged over a link.
-ghost use Rattle.std.specs.Prelude.{◌≡◌, ◌<◌, ◌⊎◌, [], ◌∷◌, List, IfOk, IfErr, IsErrOf, OnOk, OnErr};
+ghost use Rattle.std.specs.Prelude.{◌≡◌, ◌<◌, ◌⊎◌, [], ◌∷◌, ◌++◌, List, All, length, IfOk, IfErr, IsErrOf, OnOk, OnErr};
 ghost use Rattle.std.specs.List.{flat_map};
 ghost use Rattle.oram_run.specs.Run.{shown};
 ghost use Rattle.oram_run.specs.State.{State, status_in};
-ghost use Rattle.oram_run.specs.Progress.Status.{Waiting};
+ghost use Rattle.oram_run.specs.Progress.Status.{Waiting, Stalling};
 ghost use Rattle.oram_run.specs.declared.events.Reply.{Reply};
 ghost use Rattle.oram_core.specs.Core.{IsSameDevice, shape_of};
 ghost use Rattle.oram_core.specs.Doing.{done};
 ghost use Rattle.oram_core.specs.Steps.{Steps, Heard};
 ghost use Rattle.oram_session.specs.Outcome.{Outcome};
-ghost use Rattle.oram_session.specs.Requests.{told};
-ghost use Rattle.oram_session.specs.Settled.{IsSettled, IsNext, IsBodyOf, answers_left};
-ghost use Rattle.oram_session.specs.Exchanges.{Sending, IsSent, IsCutOff, IsAnswered, IsGivenUp, AllSent, event_of};
+ghost use Rattle.oram_session.specs.Settled.{IsSettled, IsUnderWay, IsBodyOf};
+ghost use Rattle.oram_session.specs.Exchanges.{Sending, IsSent, IsCutOff, IsAnswered, IsGivenUp, AllSent, AllSentFrom, event_of, retries_after};
 ghost use Rattle.oram_session.specs.Turns.{most_retries};
 
 use crate::faults::ServeFault;
@@ -22,7 +21,7 @@ use oram_core::{Core, Event, Note, Reaction, Reply};
 use std::alloc::{AllocError, Global};
 
 /// How often a message is sent again.
-const MOST_RETRIES: u32 = 3;
+pub(crate) const MOST_RETRIES: u32 = 3;
 
 /// Calls the link once, and tells the core what came of it.
 fn attempt<S: Sealer, L: Link>(
@@ -63,6 +62,7 @@ pub fn exchange<S: Sealer, L: Link>(
     ensures stalled { let v = shape_of S.overhead S.sealing S.opening core.old in
         IsErrOf result ServeFault.Stalled → (x : Sending)
         × IsSent v L.calls most (core.old.state, link.old) x (core.new.state, link.new) × IsGivenUp most x }
+    ensures left { IsErrOf result ServeFault.Stalled → status_in core.new.state ≡ Stalling }
     ensures memory { let v = shape_of S.overhead S.sealing S.opening core.old in
         IsErrOf result ServeFault.OutOfMemory → (x : Sending)
         × IsCutOff v L.calls most (core.old.state, link.old) x (core.new.state, link.new) }
@@ -82,15 +82,53 @@ pub fn exchange<S: Sealer, L: Link>(
     }
 }
 
-/// Exchanges messages until the command at work has its reply.
-pub fn carry_out<S: Sealer, L: Link>(
+/// Exchanges messages until no command is left, and gives the reaction to the last answer. The first message is sent again at
+/// most so often.
+pub(crate) fn exchange_all<S: Sealer, L: Link>(
     alloc: Global,
     core: &mut Core<S>,
     link: &mut L,
     mut reaction: Reaction,
+    first: u32,
+) -> Result<Reaction, ServeFault>
+    requires { IsUnderWay (done reaction core.old.state) }
+    ensures kept { IsSameDevice core.old core.new }
+    ensures ok { let v = shape_of S.overhead S.sealing S.opening core.old in
+        IfOk result (λ r. (xs : List Sending) × (length (flat_map (λ y. y.replies) xs) ≡ length core.old.state.queue)
+        × ((early : List Reply) × (flat_map (λ y. y.replies) xs ≡ early ++ r.replies.items))
+        × AllSentFrom v L.calls first most_retries (core.old.state, link.old) xs (core.new.state, link.new)) }
+    ensures settled { OnOk result (IsSettled core.new.state) }
+    ensures replied { IfOk result (λ r. 0 < length r.replies.items) }
+    ensures block { IfOk result (λ r. All (λ reply. IsBodyOf core.old.device reply.body) r.replies.items) }
+    ensures stalled { let v = shape_of S.overhead S.sealing S.opening core.old in
+        IsErrOf result ServeFault.Stalled → (xs : List Sending) × (mid : State × L) × (last : Sending)
+        × AllSentFrom v L.calls first most_retries (core.old.state, link.old) xs mid
+        × IsSent v L.calls (retries_after first most_retries xs) mid last (core.new.state, link.new)
+        × IsGivenUp (retries_after first most_retries xs) last }
+    ensures left { IsErrOf result ServeFault.Stalled → status_in core.new.state ≡ Stalling }
+    ensures memory { let v = shape_of S.overhead S.sealing S.opening core.old in
+        IsErrOf result ServeFault.OutOfMemory → (xs : List Sending) × (mid : State × L) × (last : Sending)
+        × AllSentFrom v L.calls first most_retries (core.old.state, link.old) xs mid
+        × IsCutOff v L.calls (retries_after first most_retries xs) mid last (core.new.state, link.new) }
+    ensures fault { IfErr result (λ e. (e ≡ ServeFault.Stalled) ⊎ (e ≡ ServeFault.OutOfMemory)) }
+{
+    let mut most = first;
+    while let Some(message) = reaction.sends.pop() {
+        reaction = exchange(alloc, core, link, message.as_slice(), most)?;
+        most = MOST_RETRIES;
+    }
+    Ok(reaction)
+}
+
+/// Exchanges messages until the one command at work has its reply.
+pub fn carry_out<S: Sealer, L: Link>(
+    alloc: Global,
+    core: &mut Core<S>,
+    link: &mut L,
+    reaction: Reaction,
 ) -> Result<Reply, ServeFault>
-    requires next { IsNext core.old.device (done reaction core.old.state) }
-    requires none { reaction.replies.items ≡ [] }
+    requires under_way { IsUnderWay (done reaction core.old.state) }
+    requires alone { length core.old.state.queue ≡ 1 }
     ensures kept { IsSameDevice core.old core.new }
     ensures ok { let v = shape_of S.overhead S.sealing S.opening core.old in
         IfOk result (λ reply. (xs : List Sending)
@@ -108,10 +146,8 @@ pub fn carry_out<S: Sealer, L: Link>(
         × IsCutOff v L.calls most_retries mid last (core.new.state, link.new) }
     ensures fault { IfErr result (λ e. (e ≡ ServeFault.Stalled) ⊎ (e ≡ ServeFault.OutOfMemory)) }
 {
-    while let Some(message) = reaction.sends.pop() {
-        reaction = exchange(alloc, core, link, message.as_slice(), MOST_RETRIES)?;
-    }
-    match reaction.replies.pop() {
+    let mut last = exchange_all(alloc, core, link, reaction, MOST_RETRIES)?;
+    match last.replies.pop() {
         Some(reply) => Ok(reply),
         None => unreachable!(),
     }

@@ -4,7 +4,8 @@
 //! [`LoopLink`] to a server of its own over a socket to itself, [`FaultLink`] over another link with faults of its own. A
 //! [`Tape`] gives the words that each command brings: [`ListTape`] those of a list, [`ChaChaTape`] those of a stream cipher.
 //! [`format_device`] makes a device on the host behind a link. [`serve`] answers the request frames of a reader, one after the
-//! other; so does [`host_serve`], with a bucket server, at the other end of a link.
+//! other; so does [`host_serve`], with a bucket server, at the other end of a link. [`resume`] carries out what still waits in a
+//! core that was read back.
 #![tactic(auto)]
 
 // Calls once more where one allocation was refused, so that the tests hold whichever it is.
@@ -25,6 +26,7 @@ mod formatting;
 mod link;
 mod links;
 mod requests;
+mod resuming;
 mod serving;
 mod tape;
 mod tapes;
@@ -36,6 +38,7 @@ pub use faults::ServeFault;
 pub use formatting::format_device;
 pub use link::{Link, LinkFault};
 pub use links::{Direct, FaultLink, LoopLink, StreamLink};
+pub use resuming::resume;
 pub use serving::serve;
 pub use tape::Tape;
 pub use tapes::{ChaChaTape, ListTape};

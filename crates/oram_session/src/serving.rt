@@ -41,7 +41,7 @@ fn submit<S: Sealer, T: Tape>(
     ensures ok { let v = shape_of S.overhead S.sealing S.opening core.old in
         IfOk result (λ r. Steps v core.old.state
         (Submit session command (T.words tape.old core.old.state.next (2 * trees_of core.old.device))) (shown r) core.new.state) }
-    ensures begun { IfOk result (λ r. IsBegun core.old.device core.old.state r.note (done r core.new.state)) }
+    ensures begun { IfOk result (λ r. IsBegun core.old.state r.note (done r core.new.state)) }
     ensures ranges { IsDevice core.old.device }
     ensures tape { T.words tape.new ≡ T.words tape.old }
     ensures err { OnErr result (core.new ≡ core.old) }

@@ -7,7 +7,7 @@ use Rattle.oram_run.specs.declared.events.Note.TheVariants.{Stalled}
 use Rattle.oram_core.specs.Core.{shape_of}
 use Rattle.oram_core.specs.Steps.{Heard, did}
 use Rattle.oram_session.specs.Exchanges.{Sending, event_of, IsCutOff}
-use Rattle.oram_session.proofs.Steppings.{steps_under, same_trans, answer_noted, stall_noted, heard_is}
+use Rattle.oram_session.proofs.Steppings.{steps_under, same_trans, answer_noted, stall_noted, stalled_status, heard_is}
 use Rattle.oram_session.proofs.Exchanged.{tried_more, sent, untold, told_then}
 use Rattle.oram_session.proofs.exchanges.exchange.Goals as goal
 use Rattle.oram_session.proofs.exchanges.exchange.Goals.{in-Stalled, in_default}
@@ -54,6 +54,16 @@ returns-then-retries-most-clause-stalled g c = λ _.
       sent v g.L.Link.calls c.args.most _ _ _ _ _ _ _ _ e.0 x c.requires.waits c.requires.message c.loop-reaction.invariant.few k e.1 step,
       (let n = k.count in omega arith, stall_noted v c.loop-reaction.core.state c.attempt.new.core.state e.0 x waits step is),
     )
+
+pub returns-then-retries-most-clause-left : goal.returns-then-retries-most-clause-left
+returns-then-retries-most-clause-left g c = λ _.
+    let k = c.loop-reaction.invariant.tried in
+    let e = c.in_ok-reaction.ensures.ok in
+    let x = shown c.in_ok-reaction.reaction in
+    let u = shape_of g.S.Sealer.overhead g.S.Sealer.sealing g.S.Sealer.opening c.loop-reaction.core in
+    let waits : status_in c.loop-reaction.core.state ≡ Waiting = subst (λ (s : State). status_in s ≡ Waiting) (sym k.same) c.requires.waits in
+    let is : c.in_ok-reaction.reaction.note ≡ Stalled = elim c.match-matches.branch [ in-Stalled w ↦ w.in-Stalled.is | in_default w ↦ absurd cc ] in
+    stalled_status u c.loop-reaction.core.state c.attempt.new.core.state e.0 x waits (stall_noted u c.loop-reaction.core.state c.attempt.new.core.state e.0 x waits e.2 is) e.2
 
 pub loop-reaction-preserved : goal.loop-reaction-preserved
 loop-reaction-preserved g c =

@@ -10,5 +10,5 @@ use Rattle.oram_session.proofs.serving.submit.Goals as goal
 pub returns-clause-begun : goal.returns-clause-begun
 returns-clause-begun g c =
     let v = shape_of g.S.Sealer.overhead g.S.Sealer.sealing g.S.Sealer.opening c.args.core.now in
-    IfOk-weaker c.step.result _ (λ (r : Reaction). IsBegun c.args.core.now.device c.args.core.now.state r.note (done r c.step.new.self.state))
+    IfOk-weaker c.step.result _ (λ (r : Reaction). IsBegun c.args.core.now.state r.note (done r c.step.new.self.state))
     (λ r h. begun_is v c.args.core.now.state c.step.new.self.state c.args.session c.args.command _ (shown r) c.device.ensures.sound c.requires h) c.step.ensures.promise

@@ -1,0 +1,45 @@
+-- How a core goes on that was kept while a message was outstanding.
+use Rattle.std.specs.Prelude.{◌≡◌, ℕ, List, [], ◌∷◌, ◌⊎◌}
+use Rattle.oram_run.specs.Shape.{Shape}
+use Rattle.oram_run.specs.State.{State}
+use Rattle.oram_run.specs.declared.events.Event.TheVariants.{Reopen, Retry}
+use Rattle.oram_session.specs.Exchanges.{Sending, Runs, IsSent, IsCutOff, IsGivenUp, AllSentFrom, retries_after}
+use Rattle.oram_session.specs.Outcome.{Outcome}
+use Rattle.oram_session.specs.Turns.{most_retries}
+
+-- how often the message that was outstanding may be sent again after its first retry: it has stalled once already
+abbrev pub first_retries : ℕ
+first_retries = 2
+
+-- how often the message after these may be sent again
+abbrev pub retries_now : List Sending → ℕ
+retries_now xs = retries_after first_retries most_retries xs
+
+-- over a link whose calls meet this relation
+module _ (v : Shape) {L : Type 0} (calls : L → List ℕ → Outcome → L → Type 0) where
+  -- The core is told that it was reopened, and is to send its message again; this one and those after it have their answers.
+  pub record HasGoneOn (p : State × L) (xs : List Sending) (q : State × L) : Type 0 where
+    pub reopened : State
+    pub told : Runs v p.0 (Reopen ∷ Retry ∷ []) [] reopened
+    pub sent : AllSentFrom v calls first_retries most_retries (reopened, p.1) xs q
+
+  -- It went on, until one message stalled the fourth time.
+  pub record HasStalled (p q : State × L) : Type 0 where
+    pub sendings : List Sending
+    pub mid : State × L
+    pub went : HasGoneOn p sendings mid
+    pub last : Sending
+    pub tried : IsSent v calls (retries_now sendings) mid last q
+    pub stuck : IsGivenUp (retries_now sendings) last
+
+  -- It went on, until memory was refused at a message.
+  pub record HasRunOut (p q : State × L) : Type 0 where
+    pub sendings : List Sending
+    pub mid : State × L
+    pub went : HasGoneOn p sendings mid
+    pub last : Sending
+    pub cut : IsCutOff v calls (retries_now sendings) mid last q
+
+  -- Memory was refused before anything was sent, and the core knows of the reopening alone; or later.
+  abbrev pub IsCutShort : State × L → State × L → Type 0
+  IsCutShort p q = (Runs v p.0 (Reopen ∷ []) [] q.0 × (q.1 ≡ p.1)) ⊎ HasRunOut p q

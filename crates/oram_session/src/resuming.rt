@@ -1,0 +1,83 @@
+//! What waits in a core that was read back goes on.
+ghost use Rattle.std.specs.Prelude.{◌≡◌, ◌⊎◌, [], ◌∷◌, List, length, Ok, IfOk, IfErr, IsErrOf, OnOk, OnErr};
+ghost use Rattle.std.specs.List.{flat_map};
+ghost use Rattle.oram_run.specs.Progress.Status.{Stalling};
+ghost use Rattle.oram_run.specs.State.{status_in};
+ghost use Rattle.oram_run.specs.declared.events.Event.TheVariants.{Reopen, Retry};
+ghost use Rattle.oram_core.specs.Core.{IsSameDevice, shape_of};
+ghost use Rattle.oram_core.specs.Doing.{done};
+ghost use Rattle.oram_session.specs.Exchanges.{Runs, Sending};
+ghost use Rattle.oram_session.specs.Settled.{IsSettled, IsUnderWay, is_settled_by};
+ghost use Rattle.oram_session.specs.Resuming.{HasGoneOn, HasStalled, IsCutShort};
+
+use crate::exchanges::{MOST_RETRIES, exchange_all};
+use crate::faults::ServeFault;
+use crate::link::Link;
+use oram_bucket::Sealer;
+use oram_core::{Core, Event, Reaction};
+use std::alloc::{AllocError, Global};
+
+/// Whether the core is idle or has failed.
+fn is_settled<S: Sealer>(core: &Core<S>) -> bool
+    ensures { result ≡ is_settled_by (status_in core.now.state) }
+{
+    core.is_idle() || core.failure().is_some()
+}
+
+/// Tells a core at work that it was reopened, and has it send its message again.
+fn reopen<S: Sealer>(alloc: Global, core: &mut Core<S>) -> Result<Reaction, AllocError>
+    requires { ¬ IsSettled core.old.state }
+    ensures kept { IsSameDevice core.old core.new }
+    ensures ok { let v = shape_of S.overhead S.sealing S.opening core.old in
+        OnOk result (Runs v core.old.state (Reopen ∷ Retry ∷ []) [] core.new.state) }
+    ensures under_way { IfOk result (λ r. IsUnderWay (done r core.new.state)) }
+    ensures queue { OnOk result (core.new.state.queue ≡ core.old.state.queue) }
+    ensures err { let v = shape_of S.overhead S.sealing S.opening core.old in
+        OnErr result (Runs v core.old.state (Reopen ∷ []) [] core.new.state) }
+{
+    let _stalled = core.step(alloc, &Event::Reopen)?;
+    core.step(alloc, &Event::Retry)
+}
+
+/// Carries out the commands that wait, and tells how many there were; their replies are dropped. Any core may be given, also
+/// one that was read back from where it was kept.
+///
+/// The outstanding message counts as lost, which is its first stall, and is sent again. From there on a call of the link that has
+/// a fault, or finds the host without room, is made again, until one message has stalled four times. After `Stalled` and
+/// `OutOfMemory` the rest may be carried out by another call.
+pub fn resume<S: Sealer, L: Link>(
+    alloc: Global,
+    core: &mut Core<S>,
+    link: &mut L,
+) -> Result<u64, ServeFault>
+    ensures kept { IsSameDevice core.old core.new }
+    ensures settled { OnOk result (IsSettled core.new.state) }
+
+    // An idle or failed core has nothing to carry out.
+    ensures none { IsSettled core.old.state → (result ≡ Ok 0) × (core.new ≡ core.old) × (link.new ≡ link.old) }
+
+    // Any other has a reply for each command that waits.
+    ensures count { ¬ IsSettled core.old.state → IfOk result (λ k. k ≡ length core.old.state.queue) }
+    ensures ok { let v = shape_of S.overhead S.sealing S.opening core.old in
+        ¬ IsSettled core.old.state → IfOk result (λ k. (xs : List Sending) × (length (flat_map (λ y. y.replies) xs) ≡ k)
+        × HasGoneOn v L.calls (core.old.state, link.old) xs (core.new.state, link.new)) }
+
+    // One message stalled four times, or memory was refused; what was done before stands.
+    ensures stalled { let v = shape_of S.overhead S.sealing S.opening core.old in
+        IsErrOf result ServeFault.Stalled → HasStalled v L.calls (core.old.state, link.old) (core.new.state, link.new) }
+    ensures left { IsErrOf result ServeFault.Stalled → status_in core.new.state ≡ Stalling }
+    ensures memory { let v = shape_of S.overhead S.sealing S.opening core.old in
+        IsErrOf result ServeFault.OutOfMemory → IsCutShort v L.calls (core.old.state, link.old) (core.new.state, link.new) }
+    ensures fault { IfErr result (λ e. (e ≡ ServeFault.Stalled) ⊎ (e ≡ ServeFault.OutOfMemory)) }
+{
+    if is_settled(core) {
+        return Ok(0);
+    }
+    let waiting = core.waiting() as u64;
+    let reaction = reopen(alloc, core)?;
+    exchange_all(alloc, core, link, reaction, MOST_RETRIES - 1)?;
+    Ok(waiting)
+}
+
+#[cfg(test)]
+mod tests;
