@@ -5,7 +5,7 @@ use Rattle.oram_host.specs.Host.{Host}
 use Rattle.oram_run.specs.Run.{Shown}
 use Rattle.oram_run.specs.State.{status_in}
 use Rattle.oram_run.specs.declared.events.Event.TheVariants.{Answer, Lost}
-use Rattle.oramsim.specs.Hosting.{IsHonest}
+use Rattle.oram_honest.specs.Honest.{IsHonest}
 use Rattle.oramsim.specs.Script.{IsAnswered, Obeys, HostAnswers, Running, after_turn, with_host}
 use Rattle.oramsim.specs.Standing.{RunsOn, IsFaithful, IsWholeMachine, IsAtRun, StaysFaithful, answers_left}
 use Rattle.oramsim.specs.declared.line.Line.TheVariants.{Late}

@@ -17,7 +17,7 @@ use Rattle.oram_run.proofs.Bounds.{IsFit, fit_device}
 use Rattle.oram_run.proofs.Follows.{Follows}
 use Rattle.oram_run.proofs.Formatting.{formatted_holds}
 use Rattle.oram_run.proofs.Going.{new_follows, one_step, steps_are_right}
-use Rattle.oramsim.specs.Hosting.{IsHonest}
+use Rattle.oram_honest.specs.Honest.{IsHonest}
 use Rattle.oramsim.specs.Script.{HostAnswers, Running, Turn, all_shown, events, is_answer, plain_shape}
 use Rattle.oramsim.specs.Standing.{AllApart, IsPlayed, LeadsTo, IsAtRun, StaysFaithful, past_from}
 use Rattle.oramsim.specs.declared.machine.Machine.{Machine}

@@ -1,27 +1,36 @@
 -- A device just formatted.
-use Rattle.std.proofs.Common.{◌≡◌, ◌<◌, ◌*◌, [], None, refl, sym, ap, subst, arith}
+use Rattle.std.proofs.Common.{◌≡◌, ◌<◌, ◌≤◌, ◌*◌, List, [], None, refl, sym, ap, subst, arith, inl}
 use Rattle.oram_geometry.specs.declared.Sizes.{Sizes}
 use Rattle.oram_geometry.specs.Sizes.{IsDevice, trees_of}
 use Rattle.oram_host.specs.Host.{Host}
 use Rattle.oram_tree.specs.declared.faults.FormatFault.{FormatFault}
 use Rattle.oram_tree.specs.declared.faults.FormatFault.TheVariants as formatting
-use Rattle.oram_run.specs.Formatting.{IsFormatBegun}
+use Rattle.oram_run.specs.Formatting.{IsFormatBegun, IsFormatted}
 use Rattle.oram_tree.specs.Format.{IsBrokenOff, PutsAll}
-use Rattle.oram_run.specs.Progress.{Setting}
+use Rattle.oram_tree.specs.State.{State as Tree}
+use Rattle.oram_run.specs.Progress.{Setting, progress, sent}
 use Rattle.oram_run.specs.State.{State}
 use Rattle.oram_run.proofs.Bounds.{some_trees}
 use Rattle.oram_core.specs.Formatting as core
-use Rattle.oramsim.specs.Hosting.{Refusing, Takes}
+use Rattle.oram_honest.specs.Honest.{Refusing, Takes}
+use Rattle.oram_honest.proofs.FormattedHosts.{broken_off_for_room, formatted_kept}
+use Rattle.oramsim.specs.Hosting.{IsServed}
 use Rattle.oramsim.specs.Script.{IsNewRun, Running, plain_shape}
 use Rattle.oramsim.specs.Standing.{IsFaithful, IsWhole, IsAtRun}
 use Rattle.oramsim.specs.declared.machine.Machine.{Machine}
-use Rattle.oramsim.proofs.HostedFormat.{broken_off_for_room, formatted_served}
 
 some_stages : (d : Sizes) → 0 < 2 * trees_of d
 some_stages d = let some : 0 < trees_of d = some_trees d in omega (arith, some)
 
 pub new_whole : (d : Sizes) (s : State) (from to : Host) → core.IsNew (plain_shape d) Takes from s to → IsWhole d s None
 new_whole d s from to k = rw k.state (record { waits = refl; latest = tt; rests = λ none empty. refl; stage = λ none. some_stages d })
+
+-- the host that was formatted serves the run from its beginning
+formatted_served : (v : Setting) (trees : List Tree) (host : Host) → IsDevice v.shape.device → v.shape.overhead ≤ 64
+    → IsFormatted v trees → PutsAll Takes [] v.format host → IsServed v [] host
+unfolding sent progress
+formatted_served v trees host device light made puts =
+    record { alive = refl; whole = tt; keeps = inl (formatted_kept v trees host device light made puts) }
 
 pub new_run : (d : Sizes) (m : Machine) (from : Host) → IsDevice d → m.core.device ≡ d → from ≡ [] → core.IsNew (plain_shape d) Takes from m.core.state m.server → m.outstanding ≡ None → m.snapshot ≡ None
     → (r : Running) × IsNewRun d r × IsAtRun r m × IsFaithful r

@@ -27,8 +27,9 @@ use Rattle.oram_run.proofs.Follows.{AtWork, Live, FollowsAt, Follows}
 use Rattle.oram_run.proofs.Counts.{accepted_cons, again_same, accepted_len, status_is}
 use Rattle.oram_run.proofs.Keeps.{asked_now}
 use Rattle.oram_host.specs.Serving.{Serves}
-use Rattle.oramsim.specs.Hosting.{KeepsAll, IsServed}
-use Rattle.oramsim.proofs.Hosted.{IsGood, IsFull, handed}
+use Rattle.oram_honest.specs.Honest.{KeepsAll}
+use Rattle.oram_honest.proofs.Handed.{IsGood, IsFull, handed}
+use Rattle.oramsim.specs.Hosting.{IsServed}
 
 -- an entry asks for a path of the device
 entry_inside : (d : Sizes) (addresses tape : List ℕ) (m : ℕ) → (entry d addresses tape m).tree < trees_of d

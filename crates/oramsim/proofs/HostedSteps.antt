@@ -30,8 +30,9 @@ use Rattle.oram_run.proofs.Keeps.{Kept, records_quiet}
 use Rattle.oram_run.proofs.Going.{one_step}
 use Rattle.oram_run.proofs.Told.{status_told}
 use Rattle.oram_run.specs.State.{status_in}
-use Rattle.oramsim.specs.Hosting.{KeepsAll, IsServed, HeardOrNot, IsHonestWaiting, IsHonest}
-use Rattle.oramsim.proofs.Hosted.{full_outcome, full_apart}
+use Rattle.oram_honest.specs.Honest.{KeepsAll, HeardOrNot, IsHonestWaiting, IsHonest}
+use Rattle.oram_honest.proofs.Handed.{full_outcome, full_apart}
+use Rattle.oramsim.specs.Hosting.{IsServed}
 use Rattle.oramsim.proofs.HostedPast.{entry_fits, good_few, outstanding, waits_missing, first_of, again, Met, met_now, handed_served, onward, progress_next, IsBare, entries_same, entries_more, quiet_sends, next_sends}
 
 -- what the host has after a step

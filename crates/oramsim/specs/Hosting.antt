@@ -1,37 +1,11 @@
--- An honest host: what it answers to the messages of a run, and what it keeps of them.
-use Rattle.std.specs.Prelude.{◌≡◌, ◌⊎◌, ℕ, ◌<◌, List, [], ◌∷◌, Some, None}
+-- A run that an honest host serves: what it keeps of the messages of its past.
+use Rattle.std.specs.Prelude.{◌≡◌, ◌⊎◌, ℕ, ◌<◌, List, [], ◌∷◌, None}
 use Rattle.std.specs.List.{AllByRecursion}
-use Rattle.oram_geometry.specs.Sizes.{trees_of, depth_of}
-use Rattle.oram_wire.specs.HostMessages.{answer_body}
-use Rattle.oram_wire.specs.declared.host_messages.HostAnswer.{HostAnswer}
-use Rattle.oram_wire.specs.declared.host_messages.HostAnswer.TheVariants.{Done}
-use Rattle.oram_wire.specs.declared.sinks.SinkFault.{SinkFault}
-use Rattle.oram_host.specs.Serving.{Serves, fault_by}
-use Rattle.oram_host.specs.Host.{Host, Kept, record_of, tree_at}
-use Rattle.oram_tree.specs.Content.{node_count}
-use Rattle.oram_run.specs.Shape.{Shape, record_len}
+use Rattle.oram_host.specs.Host.{Host}
 use Rattle.oram_run.specs.Messages.{IsMessage, asked}
-use Rattle.oram_run.specs.Progress.{Setting, Step, Status, sent, records_of, entries, progress}
-use Rattle.oram_run.specs.Progress.Status.{Idle, Waiting, Stalling, Over}
+use Rattle.oram_run.specs.Progress.{Setting, Step, sent, records_of, entries, progress}
 use Rattle.oram_run.specs.Moves.{records_after}
-use Rattle.oram_run.specs.declared.events.Event.{Event}
-use Rattle.oram_run.specs.declared.events.Event.TheVariants.{Submit, Answer, Lost, Reopen, Retry}
-
--- a body that the host carries out
-abbrev pub Takes : Host → List ℕ → Host → Type 0
-Takes host body after = Serves host body Done after
-
--- the host keeps tree i of the device, with these records, one at each node
-pub record KeepsTree (v : Shape) (i : ℕ) (records : ℕ → List ℕ) (host : Host) : Type 0 where
-  pub kept : Kept
-  pub there : tree_at host i ≡ Some kept
-  pub depth : kept.depth ≡ depth_of v.device i
-  pub record_len : kept.record_len ≡ record_len v
-  pub each : (n : ℕ) → n < node_count (depth_of v.device i) → record_of kept n ≡ Some (records n)
-
--- and so each tree
-abbrev pub KeepsAll : Shape → (ℕ → ℕ → List ℕ) → Host → Type 0
-KeepsAll v records host = (i : ℕ) → i < trees_of v.device → KeepsTree v i (records i) host
+use Rattle.oram_honest.specs.Honest.{KeepsAll}
 
 -- The message sent last hasn't come to the host yet, and its answer is missing.
 pub record LacksLast (v : Setting) (past : List Step) (host : Host) : Type 0 where
@@ -48,29 +22,3 @@ pub record IsServed (v : Setting) (past : List Step) (host : Host) : Type 0 wher
   pub alive : (progress v past).failure ≡ None
   pub whole : AllByRecursion (λ m. IsMessage v.shape (asked m) m) (sent past)
   pub keeps : KeepsAll v.shape (records_of v past) host ⊎ LacksLast v past host
-
--- a message was lost, or the host's answer to it
-abbrev pub HeardOrNot : List ℕ → Host → Host → Type 0
-HeardOrNot message host after = (after ≡ host) ⊎ ((answer : HostAnswer) × Serves host message answer after)
-
--- What an event has to do with the host while a message is outstanding: an answer is the host's to that message, and a loss is
--- that of the message, or of its answer.
-abbrev pub IsHonestWaiting : List ℕ → Event → Host → Host → Type 0
-IsHonestWaiting message (Answer bytes) host after =
-    (answer : HostAnswer) × (bytes ≡ answer_body answer) × Serves host message answer after
-IsHonestWaiting message Lost host after = HeardOrNot message host after
-IsHonestWaiting message Reopen host after = HeardOrNot message host after
-IsHonestWaiting message Retry host after = after ≡ host
-IsHonestWaiting message (Submit s c w) host after = after ≡ host
-
--- At an event the host does what an honest one does, where the core has this status and sent this message last: otherwise
--- nothing comes to it.
-abbrev pub IsHonest : Status → List ℕ → Event → Host → Host → Type 0
-IsHonest Waiting message event host after = IsHonestWaiting message event host after
-IsHonest Idle message event host after = after ≡ host
-IsHonest Stalling message event host after = after ≡ host
-IsHonest Over message event host after = after ≡ host
-
--- how a server that is formatted refuses a body
-abbrev pub Refusing : Host → List ℕ → SinkFault → Host → Type 0
-Refusing host body fault after = (answer : HostAnswer) × Serves host body answer after × (fault_by answer ≡ Some fault)

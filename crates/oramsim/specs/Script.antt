@@ -18,7 +18,7 @@ use Rattle.oram_run.specs.Formatting.{IsFormatted}
 use Rattle.oram_run.specs.Run.{Shown, AllRight}
 use Rattle.oram_run.specs.declared.events.Event.{Event}
 use Rattle.oram_run.specs.declared.events.Event.TheVariants as event
-use Rattle.oramsim.specs.Hosting.{Takes}
+use Rattle.oram_honest.specs.Honest.{Takes}
 use Rattle.oramsim.specs.Printing.{reaction_text, ready_text, shape_text, error_text, memory_text}
 use Rattle.oramsim.specs.Reading.{lines_of, line_of}
 use Rattle.oramsim.specs.declared.line.Line.{Line}

@@ -13,7 +13,8 @@ use Rattle.oram_run.specs.Run.{Shown, fails_now, is_waiting, shows_pair, step_of
 use Rattle.oram_run.specs.State.{State, status_in}
 use Rattle.oram_run.specs.declared.events.Event.{Event}
 use Rattle.oram_core.specs.Steps.{Steps}
-use Rattle.oramsim.specs.Hosting.{IsHonest, IsServed}
+use Rattle.oram_honest.specs.Honest.{IsHonest}
+use Rattle.oramsim.specs.Hosting.{IsServed}
 use Rattle.oramsim.specs.Printing.{reaction_text}
 use Rattle.oramsim.specs.Script.{HasPassed, HasRun, IsBeginning, IsDrained, IsDue, Obeys, Point, GetsTo, Running, Stage, Turn, after_turn, newest_of, plain_shape, stage_text, text_at, with_host}
 use Rattle.oramsim.specs.declared.line.Line.{Line}

@@ -26,14 +26,14 @@ use Rattle.oram_wire.specs.declared.sinks.SinkFault.TheVariants as sinking
 use Rattle.oram_tree.specs.State.{State as Tree}
 use Rattle.oram_run.specs.Shape.{Shape, record_len}
 use Rattle.oram_run.specs.Formatting.{IsTreeMade, AreTreesMade, IsFormatted, IsFormatBegun}
-use Rattle.oram_run.specs.Progress.{Setting, progress, sent, records_of}
+use Rattle.oram_run.specs.Progress.{Setting, sent, records_of}
 use Rattle.oram_run.specs.State.{no_tree}
 use Rattle.oram_run.proofs.Bounds.{depth_small}
 use Rattle.oram_run.proofs.PostOrder.{Each, Some1, each_append, each_put, some_put, order_cut, order_leaf}
 use Rattle.oram_run.proofs.Formatting.{each_joined, some_joined, left_there}
 use Rattle.oram_host.specs.Serving.{Serves, fault_by}
-use Rattle.oramsim.specs.Hosting.{Refusing, Takes, KeepsAll, IsServed}
-use Rattle.oramsim.proofs.Hosted.{kept_same, IsFull}
+use Rattle.oram_honest.specs.Honest.{Refusing, Takes, KeepsAll}
+use Rattle.oram_honest.proofs.Handed.{kept_same, IsFull}
 
 -- the shape of each tree is one that a host takes
 
@@ -396,13 +396,6 @@ formatted_kept v trees host device light made puts i below =
           ap (λ (q : Kept). record_of q n) (kept_same (tree_at host i) h.kept r.kept h.there r.there) ∙ r.here
           ∙ ap (λ (x : List ℕ). Some x) (sym (left_there v.shape (trees_of v.shape.device) trees v.format made i n below small));
     }
-
--- and so serves a run from its beginning;
-pub formatted_served : (v : Setting) (trees : List Tree) (host : Host) → IsDevice v.shape.device → v.shape.overhead ≤ 64
-    → IsFormatted v trees → PutsAll Takes [] v.format host → IsServed v [] host
-unfolding sent progress
-formatted_served v trees host device light made puts =
-    record { alive = refl; whole = tt; keeps = inl (formatted_kept v trees host device light made puts) }
 
 -- and it carries out each of them, unless it has no room.
 pub format_taken : (v : Shape) (taken : List (List ℕ)) (body : List ℕ) (host after : Host) (answer : HostAnswer)

@@ -33,7 +33,7 @@ use Rattle.oram_run.proofs.Judged.{good_is, bytes_same}
 use Rattle.oram_run.proofs.Outcomes.{no_room_is, stored_is}
 use Rattle.oram_run.proofs.Replaced.{store_replaces, store_leaves}
 use Rattle.oram_host.specs.Serving.{Serves}
-use Rattle.oramsim.specs.Hosting.{KeepsTree, KeepsAll}
+use Rattle.oram_honest.specs.Honest.{KeepsTree, KeepsAll}
 
 -- the two spellings of a node and of a record on a path
 pub node_same : (depth leaf level : ℕ) → host_node depth leaf level ≡ node_on depth leaf level

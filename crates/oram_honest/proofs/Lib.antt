@@ -1,0 +1,5 @@
+pub mod Handed
+pub mod FormattedHosts
+pub mod Meeting
+pub mod Going
+pub mod Honest

@@ -1,0 +1,44 @@
+-- A host that keeps the records of a core's world, while the core goes from message to message.
+use Rattle.std.specs.Prelude.{◌≡◌, ◌⊎◌, ℕ, ◌<◌, ◌^◌, false, List, [], ◌∷◌, None}
+use Rattle.oram_geometry.specs.Sizes.{depth_of}
+use Rattle.oram_host.specs.Host.{Host}
+use Rattle.oram_run.specs.Content.{stage_tree}
+use Rattle.oram_run.specs.Law.{HasGoneOn}
+use Rattle.oram_run.specs.Messages.{IsMessage, asked}
+use Rattle.oram_run.specs.Moves.{moved, records_after, shows_in, world_after}
+use Rattle.oram_run.specs.Run.{Shown, fails_now}
+use Rattle.oram_run.specs.Shape.{Shape}
+use Rattle.oram_run.specs.State.{State, World}
+use Rattle.oram_run.specs.declared.events.Event.{Event}
+use Rattle.oram_run.specs.declared.events.Submission.{Submission}
+use Rattle.oram_honest.specs.Honest.{KeepsAll}
+
+-- The message sent last asks for a path of the tree that is at work.
+pub record IsPosted (v : Shape) (s : State) : Type 0 where
+  pub whole : IsMessage v (asked s.last) s.last
+  pub tree : (asked s.last).tree ≡ stage_tree v.device s.stage
+  pub leaf : (asked s.last).leaf < 2 ^ depth_of v.device (stage_tree v.device s.stage)
+
+-- While a command is at work the host keeps the world's records, or, where its message hasn't come yet, those before it.
+pub record HostsWork (v : Shape) (s : State) (w : World) (host : Host) : Type 0 where
+  pub posted : IsPosted v s
+  pub before : ℕ → ℕ → List ℕ
+  pub leaves : w.records ≡ records_after v before (s.last ∷ [])
+  pub keeps : KeepsAll v before host ⊎ KeepsAll v w.records host
+
+abbrev pub HostsBy : Shape → State → World → Host → List Submission → Type 0
+HostsBy v s w host [] = KeepsAll v w.records host
+HostsBy v s w host (x ∷ rest) = HostsWork v s w host
+
+-- otherwise it keeps the world's
+abbrev pub Hosts : Shape → State → World → Host → Type 0
+Hosts v s w host = HostsBy v s w host s.queue
+
+-- An event of an honest host: it shows no two records of one digest and doesn't fail the device, the core goes on and serves the
+-- array, and the host keeps the records of the world that the event leaves.
+pub record GoesOnHosted (v : Shape) (s t : State) (w : World) (array : ℕ → List ℕ) (event : Event) (x : Shown) (after : Host) : Type 0 where
+  pub apart : shows_in v s w event ≡ false
+  pub calm : fails_now x.note ≡ false
+  pub alive : t.failure ≡ None
+  pub goes_on : HasGoneOn v s t (world_after v w (moved v s w event) x.sends) array x
+  pub hosts : Hosts v t (world_after v w (moved v s w event) x.sends) after

@@ -1,0 +1,3 @@
+pub mod Honest
+pub mod Hosting
+pub mod Law
