@@ -8,4 +8,5 @@ pub mod Turned
 pub mod Answered
 pub mod Hosted
 pub mod Served
+pub mod Honesty
 mod Rows

@@ -13,3 +13,4 @@ pub mod Resuming
 pub mod Answered
 pub mod Sessions
 pub mod Answering
+pub mod Honesty

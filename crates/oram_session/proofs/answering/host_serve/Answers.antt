@@ -1,4 +1,4 @@
-use Rattle.std.proofs.Common.{◌≡◌, ◌∙◌, List, ℕ, [], Err, refl, sym, ap, subst, inl, inr, arith, take}
+use Rattle.std.proofs.Common.{◌∙◌, List, ℕ, [], Err, refl, sym, ap, subst, inl, inr, arith, take}
 use Rattle.std.specs.Io.KnownBytes.{Appends}
 use Rattle.std.proofs.KnownBytes.{Appends-nil, Consumes-nil}
 use Rattle.std.proofs.lemmas.Result.{err_from_is_err_and}
@@ -6,8 +6,7 @@ use Rattle.oram_wire.specs.FrameStream.{frame}
 use Rattle.oram_wire.specs.HostMessages.{answer_body}
 use Rattle.oram_host.specs.Host.{Host}
 use Rattle.oram_host.specs.Serving.{Serves}
-use Rattle.oram_session.specs.Answering.{Exchange, IsExchange, HasHosted}
-use Rattle.oram_session.specs.declared.faults.ServeFault.TheVariants.{Write, OutOfMemory}
+use Rattle.oram_session.specs.Answering.{Exchange, HasHosted}
 use Rattle.oram_session.proofs.Answered.{was_read, was_frame, was_memory}
 use Rattle.oram_session.proofs.Hosted.{hosted_more, hosted_then}
 use Rattle.oram_session.proofs.Turned.{err_is}

@@ -1,0 +1,66 @@
+-- A session over a link to an honest host: a plain array answers it.
+use Rattle.std.specs.Prelude.{◌≡◌, ◌≢◌, ◌⊎◌, ℕ, List, None, Ok, Err}
+use Rattle.std.specs.List.{FoldsTo}
+use Rattle.oram_geometry.specs.declared.Sizes.{Sizes}
+use Rattle.oram_geometry.specs.Sizes.{IsDevice}
+use Rattle.oram_wire.specs.HostMessages.{answer_body}
+use Rattle.oram_wire.specs.HostReading.{IsAnswer}
+use Rattle.oram_wire.specs.declared.host_messages.HostAnswer.{HostAnswer}
+use Rattle.oram_wire.specs.declared.session_messages.SessionReply.{SessionReply}
+use Rattle.oram_wire.specs.declared.session_messages.SessionReply.TheVariants.{Refused}
+use Rattle.oram_wire.specs.declared.session_messages.SessionRequest.{SessionRequest}
+use Rattle.oram_host.specs.Host.{Host}
+use Rattle.oram_host.specs.Serving.{Serves}
+use Rattle.oram_run.specs.Blocks.{body_from}
+use Rattle.oram_run.specs.Events.{address_of, refusal_number}
+use Rattle.oram_run.specs.Law.{IsServing}
+use Rattle.oram_run.specs.Serving.{array_after}
+use Rattle.oram_run.specs.Shape.{Shape}
+use Rattle.oram_run.specs.State.{State, World}
+use Rattle.oram_run.specs.declared.events.Command.{Command}
+use Rattle.oram_run.specs.declared.events.Refusal.{Refusal}
+use Rattle.oram_run.specs.declared.events.Refusal.TheVariants.{Failed}
+use Rattle.oram_honest.specs.Honest.{HeardOrNot}
+use Rattle.oram_honest.specs.Hosting.{Hosts}
+use Rattle.oram_session.specs.Outcome.{Outcome}
+use Rattle.oram_session.specs.Requests.{IsRequest, IsNoRequest, command_of, told}
+use Rattle.oram_session.specs.Settled.{IsSettled}
+use Rattle.oram_session.specs.Turns.{Turn, IsTurn}
+
+-- What a call answers is the host's answer. At a fault the host has heard the message, or it hasn't.
+abbrev pub IsHonestCall : Host → List ℕ → Outcome → Host → Type 0
+IsHonestCall host body (Ok bytes) after =
+    (answer : HostAnswer) × IsAnswer answer × (bytes ≡ answer_body answer) × Serves host body answer after
+IsHonestCall host body (Err fault) after = HeardOrNot body host after
+
+-- each call of the link, where this is the host behind it
+abbrev pub IsHonestLink : {L : Type 0} → (L → List ℕ → Outcome → L → Type 0) → (L → Host) → Type 0
+IsHonestLink {L} calls host_of = (l m : L) (body : List ℕ) (o : Outcome) → calls l body o m → IsHonestCall (host_of l) body o (host_of m)
+
+-- the array's reply to a command, or a refusal for what the command asks; never one for the device's failure
+abbrev pub IsArrayReply : Sizes → Command → (ℕ → List ℕ) → SessionReply → (ℕ → List ℕ) → Type 0
+IsArrayReply d c array reply after =
+    ((reply ≡ told (body_from (array (address_of c)) c)) × (after ≡ array_after d c array))
+    ⊎ ((why : Refusal) × (why ≢ Failed) × (reply ≡ Refused (refusal_number why)) × (after ≡ array))
+
+-- a request is answered by the array before it, and leaves this one
+abbrev pub IsArrayTurn : Sizes → (ℕ → List ℕ) → Turn → (ℕ → List ℕ) → Type 0
+IsArrayTurn d array turn after =
+    (IsNoRequest turn.body × (turn.reply ≡ Refused 7) × (after ≡ array))
+    ⊎ ((message : SessionRequest) × IsRequest turn.body message × IsArrayReply d (command_of message) array turn.reply after)
+
+-- Between two requests: the core is idle, its trees stand in a world and agree there and hold the array, and the host behind the
+-- link keeps the world's records.
+pub record IsHeld (v : Shape) {L : Type 0} (host_of : L → Host) (p : State × L) (array : ℕ → List ℕ) : Type 0 where
+  pub settled : IsSettled p.0
+  pub alive : p.0.failure ≡ None
+  pub world : World
+  pub serving : IsServing v p.0 world array
+  pub hosts : Hosts v p.0 world (host_of p.1)
+
+-- Over an honest link each turn is the array's, and the device is held so again.
+abbrev pub SessionsAreTheArrays : {L : Type 0} → (L → List ℕ → Outcome → L → Type 0) → Type 0
+SessionsAreTheArrays {L} calls = (host_of : L → Host) → IsHonestLink calls host_of
+    → (v : Shape) (words : ℕ → ℕ → List ℕ) (session : ℕ) (p q : State × L) (turns : List Turn) (array : ℕ → List ℕ) → IsDevice v.device
+    → IsHeld v host_of p array → FoldsTo {P = State × L} (IsTurn v calls words session) p turns q
+    → (after : ℕ → List ℕ) × FoldsTo {P = ℕ → List ℕ} (IsArrayTurn v.device) array turns after × IsHeld v host_of q after
