@@ -1,14 +1,20 @@
 -- Over a link to an honest host a plain array answers a session.
-use Rattle.std.proofs.Common.{◌≡◌, ◌≢◌, ◌⊎◌, ℕ, ◌*◌, Bool, true, false, if◌then◌else◌, List, [], ◌∷◌, ◌++◌, length, drop, Option, Some, None, unwrap_or, Ok, Err, refl, sym, ap, ◌∙◌, subst, inl, inr, append-nil}
+use Rattle.std.proofs.Common.{◌≡◌, ◌≢◌, ◌⊎◌, ℕ, ◌*◌, ◌<◌, arith, Bool, true, false, if◌then◌else◌, List, [], ◌∷◌, ◌++◌, length, drop, Option, Some, None, unwrap_or, Ok, Err, refl, sym, ap, ◌∙◌, subst, inl, inr, append-nil}
 use Rattle.std.specs.Prelude.{MatchBool}
 use Rattle.std.specs.List.{All, FoldsTo, flat_map}
 use Rattle.std.proofs.lemmas.List.Elements.{All-head, All-tail}
 use Rattle.oram_geometry.specs.declared.Sizes.{Sizes}
 use Rattle.oram_geometry.specs.Sizes.{IsDevice, trees_of}
+use Rattle.oram_wire.specs.HostMessages.{answer_body}
+use Rattle.oram_wire.specs.HostReading.{IsAnswer}
+use Rattle.oram_wire.specs.declared.host_messages.HostAnswer.{HostAnswer}
+use Rattle.oram_wire.specs.declared.host_messages.HostAnswer.TheVariants.{Done, Payload, Refused}
 use Rattle.oram_host.specs.Host.{Host}
-use Rattle.oram_run.specs.Law.{IsServing}
+use Rattle.oram_host.specs.Serving.{Serves}
+use Rattle.oram_tree.specs.Format.{PutsAll}
+use Rattle.oram_run.specs.Law.{IsServing, new_state, world_of}
 use Rattle.oram_run.specs.Moves.{moved, world_after}
-use Rattle.oram_run.specs.Progress.{Status}
+use Rattle.oram_run.specs.Progress.{Setting, Status}
 use Rattle.oram_run.specs.Progress.Status.{Idle, Waiting, Stalling, Over}
 use Rattle.oram_run.specs.Run.{Shown, is_over, is_waiting, refusal_of}
 use Rattle.oram_run.specs.Serving.{ServesArray, array_after, reply_by}
@@ -22,14 +28,16 @@ use Rattle.oram_run.specs.declared.events.Refusal.{Refusal}
 use Rattle.oram_run.specs.declared.events.Refusal.TheVariants.{BadAddress, BadLength, BadWords, Busy, Exhausted, Failed}
 use Rattle.oram_run.specs.declared.events.Reply.{Reply}
 use Rattle.oram_run.specs.declared.events.Submission.{Submission}
-use Rattle.oram_core.specs.Doing.{Done, submitted_by}
+use Rattle.oram_core.specs.Doing.{Done as Did, submitted_by}
 use Rattle.oram_core.specs.Steps.{Steps, Heard, did}
-use Rattle.oram_honest.specs.Honest.{IsHonest}
+use Rattle.oram_honest.specs.Honest.{IsHonest, Takes}
 use Rattle.oram_honest.specs.Hosting.{GoesOnHosted, Hosts, HostsBy, HostsWork}
-use Rattle.oram_honest.proofs.Honest.{honest_hosts_serve}
+use Rattle.oram_honest.specs.Law.{IsNewHosted}
+use Rattle.oram_honest.proofs.Honest.{honest_hosts_serve, new_hosts_serve}
 use Rattle.oram_honest.proofs.Meeting.{met, met_hosts}
 use Rattle.oram_session.specs.Exchanges.{Runs, Sending, IsSent, IsAnswered, AllSent, event_of, is_stall, retried}
-use Rattle.oram_session.specs.Honesty.{IsHonestCall, IsHonestLink, IsArrayTurn, IsHeld, SessionsAreTheArrays}
+use Rattle.oram_session.specs.Formatting.{TakesMessage}
+use Rattle.oram_session.specs.Honesty.{IsHonestCall, IsHonestLink, IsArrayTurn, IsHeld, NewDevicesHoldZeros, SessionsAreTheArrays}
 use Rattle.oram_session.specs.Links.{AnswersOf, DirectCall, Faulty, FaultyCall, ToServer, is_due}
 use Rattle.oram_session.specs.Outcome.{Outcome}
 use Rattle.oram_session.specs.Requests.{command_of, told}
@@ -94,13 +102,13 @@ module _ (v : Shape) (s t : State) (x : Shown) (alive : t.failure ≡ None) wher
   still_queued : Heard v s (did x t) → x.replies ≡ [] → t.queue ≡ s.queue
   still_queued (inl f) none = absurd (let both = sym (ap (λ (u : State). u.failure) f.state) ∙ alive in cc)
   still_queued (inr (inl g)) none = g.queue
-  still_queued (inr (inr r)) none = absurd (let both = sym (ap (λ (d : Done). d.replies) r.does) ∙ none in cc)
+  still_queued (inr (inr r)) none = absurd (let both = sym (ap (λ (d : Did). d.replies) r.does) ∙ none in cc)
 
   unqueued : (y : Submission) (z : Reply) → Heard v s (did x t) → s.queue ≡ y ∷ [] → x.replies ≡ z ∷ [] → t.queue ≡ []
   unqueued y z (inl f) queue one = absurd (let both = sym (ap (λ (u : State). u.failure) f.state) ∙ alive in cc)
   unqueued y z (inr (inl g)) queue one = absurd (let both = sym g.replies ∙ one in cc)
   unqueued y z (inr (inr r)) queue one =
-      ap (λ (d : Done). d.state.queue) r.does ∙ ap (λ (q : List Submission). drop 1 q) (sym r.queue ∙ queue)
+      ap (λ (d : Did). d.state.queue) r.does ∙ ap (λ (q : List Submission). drop 1 q) (sym r.queue ∙ queue)
 
 as_honest : (o : Outcome) (last : List ℕ) (host after : Host) → IsHonestCall host last o after → IsHonest Waiting last (event_of o) host after
 as_honest (Ok bytes) last host after h = (h.0, h.2, h.3)
@@ -144,9 +152,9 @@ module _ {L : Type 0} (calls : L → List ℕ → Outcome → L → Type 0) (hos
   reached (o ∷ stalls) last message s t w l m replies waits named work all link core =
       let again = core.4 in
       let first : did core.0 core.1 ≡ _ = stalled v s core.1 o core.0 waits (All-head (λ (y : Outcome). is_stall y ≡ true) o stalls all) core.3 in
-      let back = retried_is v s core.1 again.1 again.0 waits (ap (λ (d : Done). d.state) first) again.3 in
+      let back = retried_is v s core.1 again.1 again.0 waits (ap (λ (d : Did). d.state) first) again.3 in
       let same : replies ≡ again.2 =
-      core.5 ∙ ap (λ (xs : List Reply). xs ++ core.2) (ap (λ (d : Done). d.replies) first) ∙ again.5 ∙ ap (λ (xs : List Reply). xs ++ again.2) back.0 in
+      core.5 ∙ ap (λ (xs : List Reply). xs ++ core.2) (ap (λ (d : Did). d.replies) first) ∙ again.5 ∙ ap (λ (xs : List Reply). xs ++ again.2) back.0 in
       let heard : IsHonestCall (host_of l) s.last o (host_of link.0) =
       subst (λ (k : List ℕ). IsHonestCall (host_of l) k o (host_of link.0)) named (honest l link.0 message o link.1) in
       subst (λ (rs : List Reply). Reached s w m last rs t) (sym same)
@@ -249,9 +257,9 @@ module _ {L : Type 0} (calls : L → List ℕ → Outcome → L → Type 0) (hos
         (did h.shown h.begun ≡ submitted_by v p.0 x o) × (refusal_of v.device (is_over (status_in p.0)) (length p.0.queue) p.0.next x.command x.words ≡ o))
         → After p array turn q
     asked (Some e) p q array turn h held is =
-        let note : h.shown.note ≡ _ = ap (λ (d : Done). d.note) is.0 in
+        let note : h.shown.note ≡ _ = ap (λ (d : Did). d.note) is.0 in
         let reply = subst (λ (n : Note). IsReply v calls words session n (h.begun, p.1) turn q) note h.replied in
-        let same : h.begun ≡ p.0 = ap (λ (d : Done). d.state) is.0 in
+        let same : h.begun ≡ p.0 = ap (λ (d : Did). d.state) is.0 in
         let c : Command = command_of h.asked.message in
         let ws : List ℕ = words p.0.next (2 * trees_of v.device) in
         let none : refusal_of v.device false (length p.0.queue) p.0.next c ws ≡ Some e =
@@ -263,7 +271,7 @@ module _ {L : Type 0} (calls : L → List ℕ → Outcome → L → Type 0) (hos
     asked None p q array turn h held is =
         let x : Submission = record { session = session; ticket = p.0.next; command = command_of h.asked.message; words = words p.0.next (2 * trees_of v.device) } in
         let event : Event = Submit session x.command x.words in
-        let note : h.shown.note ≡ _ = ap (λ (d : Done). d.note) is.0 in
+        let note : h.shown.note ≡ _ = ap (λ (d : Did). d.note) is.0 in
         let reply = subst (λ (n : Note). IsReply v calls words session n (h.begun, p.1) turn q) note h.replied in
         let rests : p.0.queue ≡ [] = resting p.0 held.settled held.alive in
         let on : GoesOnHosted v p.0 h.begun held.world array event h.shown (host_of p.1) =
@@ -276,7 +284,7 @@ module _ {L : Type 0} (calls : L → List ℕ → Outcome → L → Type 0) (hos
         ] in
         let w : Working (h.begun, p.1) x array = record {
           alive = on.alive;
-          queue = ap (λ (d : Done). d.state.queue) is.0 ∙ ap (λ (z : List Submission). z ++ x ∷ []) rests;
+          queue = ap (λ (d : Did). d.state.queue) is.0 ∙ ap (λ (z : List Submission). z ++ x ∷ []) rests;
           world = world_after v held.world (moved v p.0 held.world event) h.shown.sends;
           serving = record { orderly = on.goes_on.orderly; holds = on.goes_on.holds; agrees = on.goes_on.agrees; serves = serves };
           hosts = on.hosts;
@@ -308,6 +316,35 @@ module _ {L : Type 0} (calls : L → List ℕ → Outcome → L → Type 0) (hos
 pub sessions_are_the_arrays : {L : Type 0} (calls : L → List ℕ → Outcome → L → Type 0) → SessionsAreTheArrays calls
 sessions_are_the_arrays calls host_of honest v words session p q turns array device held fold =
     session_held calls host_of honest v device words session turns p q array held fold
+
+-- a device that was formatted
+
+-- the answer of one byte, 80, is that a message was taken
+done_by : (answer : HostAnswer) → IsAnswer answer → 128 ∷ [] ≡ answer_body answer → answer ≡ Done
+done_by Done is e = refl
+done_by (Payload bytes) is e =
+    let none : [] ≡ bytes = ap (λ (b : List ℕ). drop 1 b) e in
+    absurd (let some : 0 < length bytes = is in let few : length bytes ≡ 0 = ap length (sym none) in omega arith)
+done_by (Refused code) is e = absurd cc
+
+takes_all : {L : Type 0} (calls : L → List ℕ → Outcome → L → Type 0) (host_of : L → Host) → IsHonestLink calls host_of
+    → (messages : List (List ℕ)) (from to : L) → PutsAll (TakesMessage calls) from messages to
+    → PutsAll Takes (host_of from) messages (host_of to)
+takes_all calls host_of honest [] from to puts = ap host_of puts
+takes_all calls host_of honest (m ∷ messages) from to puts =
+    let h : IsHonestCall (host_of from) m (Ok (128 ∷ [])) (host_of puts.0) = honest from puts.0 m (Ok (128 ∷ [])) puts.1 in (
+      host_of puts.0,
+      subst (λ (answer : HostAnswer). Serves (host_of from) m answer (host_of puts.0)) (done_by h.0 h.1 h.2) h.3,
+      takes_all calls host_of honest messages puts.0 to puts.2,
+    )
+
+pub new_devices_hold_zeros : {L : Type 0} (calls : L → List ℕ → Outcome → L → Type 0) → NewDevicesHoldZeros calls
+new_devices_hold_zeros calls host_of honest v from to s light empty k =
+    let setting : Setting = record { shape = v; format = k.format } in
+    let puts : PutsAll Takes [] k.format (host_of to) =
+    subst (λ (h : Host). PutsAll Takes h k.format (host_of to)) empty (takes_all calls host_of honest k.format from to k.puts) in
+    let new : IsNewHosted v (new_state setting k.trees) (world_of setting []) (host_of to) = new_hosts_serve setting k.trees (host_of to) k.ranges light k.formatted puts in
+    rw k.state (record { settled = refl; alive = refl; world = world_of setting []; serving = new.serving; hosts = new.hosts })
 
 -- the links that are honest
 

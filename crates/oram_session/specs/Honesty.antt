@@ -1,5 +1,5 @@
 -- A session over a link to an honest host: a plain array answers it.
-use Rattle.std.specs.Prelude.{◌≡◌, ◌≢◌, ◌⊎◌, ℕ, List, None, Ok, Err}
+use Rattle.std.specs.Prelude.{◌≡◌, ◌≢◌, ◌⊎◌, ℕ, ◌≤◌, List, [], replicate, None, Ok, Err}
 use Rattle.std.specs.List.{FoldsTo}
 use Rattle.oram_geometry.specs.declared.Sizes.{Sizes}
 use Rattle.oram_geometry.specs.Sizes.{IsDevice}
@@ -20,8 +20,10 @@ use Rattle.oram_run.specs.State.{State, World}
 use Rattle.oram_run.specs.declared.events.Command.{Command}
 use Rattle.oram_run.specs.declared.events.Refusal.{Refusal}
 use Rattle.oram_run.specs.declared.events.Refusal.TheVariants.{Failed}
+use Rattle.oram_core.specs.Formatting.{IsNew}
 use Rattle.oram_honest.specs.Honest.{HeardOrNot}
 use Rattle.oram_honest.specs.Hosting.{Hosts}
+use Rattle.oram_session.specs.Formatting.{TakesMessage}
 use Rattle.oram_session.specs.Outcome.{Outcome}
 use Rattle.oram_session.specs.Requests.{IsRequest, IsNoRequest, command_of, told}
 use Rattle.oram_session.specs.Settled.{IsSettled}
@@ -57,6 +59,12 @@ pub record IsHeld (v : Shape) {L : Type 0} (host_of : L → Host) (p : State × 
   pub world : World
   pub serving : IsServing v p.0 world array
   pub hosts : Hosts v p.0 world (host_of p.1)
+
+-- A device that was formatted over an honest link to a host that kept nothing is held so, and its array is zeros.
+abbrev pub NewDevicesHoldZeros : {L : Type 0} → (L → List ℕ → Outcome → L → Type 0) → Type 0
+NewDevicesHoldZeros {L} calls = (host_of : L → Host) → IsHonestLink calls host_of
+    → (v : Shape) (from to : L) (s : State) → v.overhead ≤ 64 → host_of from ≡ [] → IsNew v (TakesMessage calls) from s to
+    → IsHeld v host_of (s, to) (λ a. replicate v.device.block_bytes 0)
 
 -- Over an honest link each turn is the array's, and the device is held so again.
 abbrev pub SessionsAreTheArrays : {L : Type 0} → (L → List ℕ → Outcome → L → Type 0) → Type 0

@@ -1,6 +1,6 @@
 //! Laws about sessions over honest hosts.
 ghost use Rattle.oram_host.specs.Host.{Host};
-ghost use Rattle.oram_session.specs.Honesty.{IsHonestLink, SessionsAreTheArrays};
+ghost use Rattle.oram_session.specs.Honesty.{IsHonestLink, NewDevicesHoldZeros, SessionsAreTheArrays};
 ghost use Rattle.oram_session.specs.Links.{DirectCall, FaultyCall};
 
 use crate::link::Link;
@@ -9,6 +9,12 @@ use crate::link::Link;
 /// held, no command is refused for a failure of the device, and the device holds the array as the commands leave it.
 pub fn sessions_are_the_arrays<L: Link>()
     ensures { SessionsAreTheArrays L.calls }
+{}
+
+/// A law about definitions: a device that was formatted over a link to an honest host, which kept nothing before, holds an array
+/// of zeros.
+pub fn new_devices_hold_zeros<L: Link>()
+    ensures { NewDevicesHoldZeros L.calls }
 {}
 
 /// A law about definitions: a link to a server in memory leads to an honest host.

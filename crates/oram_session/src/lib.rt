@@ -37,7 +37,10 @@ mod testing;
 pub use answering::host_serve;
 pub use faults::ServeFault;
 pub use formatting::format_device;
-pub use law::{direct_links_are_honest, faulty_links_are_honest, sessions_are_the_arrays};
+pub use law::{
+    direct_links_are_honest, faulty_links_are_honest, new_devices_hold_zeros,
+    sessions_are_the_arrays,
+};
 pub use link::{Link, LinkFault};
 pub use links::{Direct, FaultLink, LoopLink, StreamLink};
 pub use resuming::resume;
