@@ -2,8 +2,11 @@
 //!
 //! Run it with the word `run`: a single tree of large blocks, plain and sealed, two trees of as many blocks as a disk of 256 MiB
 //! has, and three trees of small blocks, and 2,000 accesses each. It also tells what formatting a record took, beside one
-//! hashing of it, and what writing the state file at the end took, and that of a large core, beside one hashing of as many bytes.
+//! hashing of it, and what writing the state file at the end took, and that of a large core, beside one hashing of as many bytes;
+//! and what the accesses take as a session, beside the same through the core and the server alone.
 #![tactic(auto)]
+
+mod sessions;
 
 use oram_bucket::{Block, ChaChaSeal, PlainSeal, Sealer};
 use oram_bytes::{Bytes, Words};
@@ -293,6 +296,13 @@ fn main(rt: HostRuntime) -> io::Result<()> {
     }
     if let Ok(device) = Device::new(64, 16, 4, 4, 1 << 40) {
         measure(&rt, "three trees, blocks of 16 bytes", device, PlainSeal)?;
+    }
+    if let Ok(device) = Device::new(4_096, 4_096, 4, 4_096, 1 << 40) {
+        sessions::measure_session(
+            &rt,
+            "a session on one tree of depth 12, blocks of 4,096 bytes",
+            device,
+        )?;
     }
     report_large_file(&rt)
 }
