@@ -1,0 +1,7 @@
+mod Looped
+mod Matches
+mod Numbers
+mod Ports
+mod Rows
+mod Settling
+mod TableKeys

@@ -1,0 +1,28 @@
+-- What a formatting leaves.
+use Rattle.std.specs.Prelude.{◌≡◌, ◌⊎◌, ℕ, List}
+use Rattle.oram_tree.specs.Format.{IsBrokenOff}
+use Rattle.oram_tree.specs.declared.faults.FormatFault.{FormatFault}
+use Rattle.oram_run.specs.Formatting.{IsFormatBegun}
+use Rattle.oram_run.specs.Shape.{Shape}
+use Rattle.oram_run.specs.State.{State}
+use Rattle.oram_core.specs.Formatting.{IsNew}
+use Rattle.oram_session.specs.Formatting.{TakesMessage, RefusesMessage}
+use Rattle.oram_session.specs.Outcome.{Outcome}
+use Rattle.oramd.specs.declared.faults.Fault.{Fault}
+use Rattle.oramd.specs.declared.faults.Fault.TheVariants.{OutOfMemory}
+use Rattle.oramd.specs.Telling.{format_fault}
+
+-- over a link whose calls meet this relation
+module _ (v : Shape) {L : Type 0} (calls : L → List ℕ → Outcome → L → Type 0) where
+  -- the messages that make the device's trees went over the link, each taken, and the core is new
+  abbrev pub IsFormatted : L → State → L → Type 0
+  IsFormatted from s to = IsNew v (TakesMessage calls) from s to
+
+  -- a beginning of them did, and this is told
+  abbrev pub IsUnformatted : L → Fault → L → Type 0
+  IsUnformatted from told to = (why : FormatFault) × (told ≡ format_fault why)
+      × IsBrokenOff (TakesMessage calls) (RefusesMessage calls) (IsFormatBegun v) from why to
+
+  -- No state file is given: the formatting was broken off, or it was made and there was no memory for the file.
+  abbrev pub GivesNoFile : L → Fault → L → Type 0
+  GivesNoFile from told to = IsUnformatted from told to ⊎ ((s : State) × IsFormatted from s to × (told ≡ OutOfMemory))

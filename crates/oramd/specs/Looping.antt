@@ -1,0 +1,48 @@
+-- Session frames that are answered by a device of their own.
+use Rattle.std.specs.Prelude.{◌≡◌, ℕ, List, [], length, Option, Some, Result, Ok, Err, replicate}
+use Rattle.std.specs.Io.KnownBytes.{IsAtEnd}
+use Rattle.oram_geometry.specs.declared.Sizes.{Sizes}
+use Rattle.oram_geometry.specs.Sizes.{trees_of}
+use Rattle.oram_run.specs.Shape.{Shape}
+use Rattle.oram_run.specs.State.{State}
+use Rattle.oram_session.specs.Outcome.{Outcome}
+use Rattle.oram_session.specs.Sessions.{HasServed}
+use Rattle.oram_session.specs.Tapes.{chacha_words}
+use Rattle.oram_session.specs.Turns.{Turn}
+use Rattle.oram_session.specs.declared.faults.ServeFault.{ServeFault}
+use Rattle.oram_session.specs.declared.faults.ServeFault.TheVariants as serve
+use Rattle.oramd.specs.Formatting.{IsFormatted}
+use Rattle.oramd.specs.declared.faults.Fault.{Fault}
+use Rattle.oramd.specs.declared.faults.Fault.TheVariants.{Hex, OutOfMemory, Stalled}
+
+-- 64 blocks of 16 bytes in one tree
+abbrev pub loop_sizes : Sizes
+loop_sizes = record { blocks = 64; block_bytes = 16; slots = 4; top = 64; lifetime = 100 }
+
+-- unsealed
+abbrev pub loop_shape : Shape
+loop_shape = record { device = loop_sizes; overhead = 0; sealing = λ nonce plain. plain; opening = λ bytes. Some bytes }
+
+-- the words of the zero key
+abbrev pub loop_words : ℕ → ℕ → List ℕ
+loop_words = chacha_words (replicate 32 0) (trees_of loop_sizes)
+
+-- Frames that are too long or cut short are told as the digits' fault. Replies go to memory, so one that can't be written had none.
+abbrev pub after_frames : Result ℕ ServeFault → Result (Unit {0}) Fault
+after_frames (Ok count) = Ok tt
+after_frames (Err serve.Read) = Err Hex
+after_frames (Err serve.Frame) = Err Hex
+after_frames (Err serve.Truncated) = Err Hex
+after_frames (Err serve.Stalled) = Err Stalled
+after_frames (Err serve.Write) = Err OutOfMemory
+after_frames (Err serve.OutOfMemory) = Err OutOfMemory
+
+-- The device was formatted over a link whose calls meet this relation, and session 0 of it answered these turns; so many bytes more
+-- were read, and the replies stand behind what was there.
+pub record HasAnswered {L : Type 0} (calls : L → List ℕ → Outcome → L → Type 0) (from : L) (frames part replies replies' : List ℕ) (unread : List ℕ) (to : L) : Type 0 where
+  pub new : State
+  pub mid : L
+  pub formatted : IsFormatted loop_shape calls from new mid
+  pub turns : List Turn
+  pub after : State
+  pub served : HasServed loop_shape calls loop_words 0 (new, mid) turns (after, to) part (Some frames) (Some unread) [] (Some replies) (Some replies')

@@ -1,0 +1,32 @@
+-- What faults of the libraries are to the program.
+use Rattle.std.specs.Prelude.{◌≡◌, ℕ, Result, Ok, Err}
+use Rattle.std.specs.Option.{option_map_or}
+use Rattle.oram_geometry.specs.declared.Sizes.{Sizes}
+use Rattle.oram_geometry.specs.declared.ShapeFault.{ShapeFault}
+use Rattle.oram_geometry.specs.Sizes as sizes
+use Rattle.oram_wire.specs.declared.sinks.SinkFault.TheVariants as sink
+use Rattle.oram_tree.specs.declared.faults.FormatFault.{FormatFault}
+use Rattle.oram_tree.specs.declared.faults.FormatFault.TheVariants as format
+use Rattle.oram_state.specs.Reading as state
+use Rattle.oram_state.specs.declared.fault.StateFault.{StateFault}
+use Rattle.oramd.specs.declared.faults.Fault.{Fault}
+use Rattle.oramd.specs.declared.faults.Fault.TheVariants.{HostRefused, OutOfMemory, Shape, Socket, State}
+
+-- numbers that make no device are told by the number of their fault
+abbrev pub shape_fault : ShapeFault → Fault
+shape_fault why = Shape (sizes.fault_number why)
+
+-- so is a state file that tells of no core, but want of memory has no number
+abbrev pub state_fault : StateFault → Fault
+state_fault why = option_map_or State (state.fault_number why) OutOfMemory
+
+abbrev pub format_fault : FormatFault → Fault
+format_fault (format.Sink sink.Refused) = HostRefused
+format_fault (format.Sink sink.Link) = Socket
+format_fault (format.Sink sink.OutOfMemory) = OutOfMemory
+format_fault format.OutOfMemory = OutOfMemory
+
+-- the device of five numbers, or what is told of them
+abbrev pub made_device : Result Sizes ShapeFault → Result Sizes Fault
+made_device (Ok d) = Ok d
+made_device (Err why) = Err (shape_fault why)

@@ -1,0 +1,102 @@
+//! The command line.
+
+ghost use Rattle.std.specs.Prelude.{◌≡◌, ◌≢◌, None, Some, false, IfOk, IsErrOf};
+ghost use Rattle.clap.specs.Walk.{texts};
+ghost use Rattle.clap.specs.Words.{app_of, kind_of, shape_of};
+ghost use Rattle.clap.specs.declared.builder.command.Command.TheViews.{out-Command as fields_of};
+ghost use Rattle.oramd.specs.CommandLine.{program, request_in, request_of, shown};
+ghost use Rattle.oramd.specs.CommandLine as spec;
+
+use crate::input::InputFault;
+use clap::error::ErrorKind;
+use clap::{Arg, Command, Error};
+use std::alloc::{AllocError, Global};
+
+/// What the program does with its settings.
+#[derive(Clone, Copy, Debug, PartialEq, Eq)]
+pub enum Role {
+    /// Keeps buckets for others.
+    Host,
+    /// Makes a device on a host.
+    Format,
+    /// Answers the sessions of a device.
+    Proxy,
+}
+
+/// What the words of a command line ask for.
+#[derive(Debug, Drop)]
+pub enum Words {
+    /// A role, with the name of the file that its settings stand in.
+    Run(Role, String),
+    /// Answers to the session frames that these hexadecimal digits spell.
+    Loop(String),
+}
+
+/// A subcommand that takes one word.
+fn word_taker<'a>(alloc: Global, name: &'a str) -> Result<Command<'a>, AllocError>
+    ensures local { IfOk result (λ c. (fields_of c).has_globals ≡ false) }
+    ensures shape { IfOk result (λ c. shape_of c ≡ spec.word_taker name.entry.now) }
+{
+    Command::new(alloc, name).arg(Arg::new(alloc, "word").required(true))
+}
+
+/// The command line as clap is told of it.
+fn command<'a>(alloc: Global) -> Result<Command<'a>, AllocError>
+    ensures { IfOk result (λ c. app_of c ≡ program) }
+{
+    Command::new(alloc, "oramd")
+        .subcommand_required(true)
+        .subcommand(word_taker(alloc, "host")?)?
+        .subcommand(word_taker(alloc, "format")?)?
+        .subcommand(word_taker(alloc, "proxy")?)?
+        .subcommand(word_taker(alloc, "loop")?)
+}
+
+/// What an error of clap's is to the program.
+fn input_fault(error: &Error) -> InputFault
+    ensures { result ≡ InputFault.Bad → kind_of error.now ≢ ErrorKind.OutOfMemory }
+{
+    if error.kind() == ErrorKind::OutOfMemory {
+        InputFault::OutOfMemory
+    } else {
+        InputFault::Bad
+    }
+}
+
+/// What a subcommand asks for, with its word.
+fn asked(alloc: Global, name: &str, word: &str) -> Result<Words, InputFault>
+    ensures ok { IfOk result (λ w. request_of name.now word.now ≡ Some (shown w)) }
+    ensures bad { IsErrOf result InputFault.Bad → request_of name.now word.now ≡ None }
+{
+    let word = String::from_str(alloc, word)?;
+    match name {
+        "host" => Ok(Words::Run(Role::Host, word)),
+        "format" => Ok(Words::Run(Role::Format, word)),
+        "proxy" => Ok(Words::Run(Role::Proxy, word)),
+        "loop" => Ok(Words::Loop(word)),
+        _ => Err(InputFault::Bad),
+    }
+}
+
+/// Reads the words of a command line, of which the first is the program's name. Help isn't among what can be asked for.
+pub fn read_words(alloc: Global, words: &[&str]) -> Result<Words, InputFault>
+    // It is what clap's matches of the words ask for.
+    ensures ok { IfOk result (λ w. request_in (texts words.now) ≡ Some (shown w)) }
+    // Bad comes only where they ask for nothing.
+    ensures bad { IsErrOf result InputFault.Bad → request_in (texts words.now) ≡ None }
+{
+    let matches = match command(alloc)?.try_get_matches_from(words) {
+        Ok(matches) => matches,
+        Err(error) => return Err(input_fault(&error)),
+    };
+    let Some((name, inner)) = matches.subcommand() else {
+        return Err(InputFault::Bad);
+    };
+    let Some(word) = inner.get_str("word") else {
+        return Err(InputFault::Bad);
+    };
+    asked(alloc, name, word)
+}
+
+#[cfg(test)]
+mod tests;

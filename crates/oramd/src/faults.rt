@@ -1,0 +1,159 @@
+//! How the program ends where it can't go on.
+
+ghost use Rattle.std.specs.Prelude.{◌≡◌, OnOk};
+ghost use Rattle.std.specs.Io.KnownBytes.{Appends};
+ghost use Rattle.oram_host.specs.Transfers.{Begins};
+ghost use Rattle.oramd.specs.Faults.{IsFileFault, line_of, message_of, status_of};
+ghost use Rattle.oramd.specs.declared.faults.Fault.TheVariants.{OutOfMemory};
+
+use crate::writing::{put, put_both, put_number};
+use oram_geometry::ShapeFault;
+use oram_state::StateFault;
+use oram_tree::FormatFault;
+use oram_wire::{SinkFault, WriteFault};
+use std::alloc::{AllocError, Global};
+use std::io::Write;
+
+/// Why the program ends, each with a line of its own.
+#[derive(Debug, PartialEq, Eq, Drop)]
+pub enum Fault {
+    /// The words of the command line ask for nothing.
+    CommandLine,
+    /// Digits spell no bytes, or the bytes no whole frames.
+    Hex,
+    /// A settings file isn't one of the role's.
+    Settings,
+    OutOfMemory,
+    /// The file of this name can't be read or written, or is there already.
+    File(String),
+    /// A socket failed.
+    Socket,
+    /// The settings' numbers make no device; the first that is out of its range.
+    Shape(u8),
+    /// The state file tells of no core; why.
+    State(u8),
+    /// The image file tells of no host; why.
+    Image(u8),
+    /// The host answered a message of the formatting with a refusal.
+    HostRefused,
+    /// A message to the host had no answer, four times.
+    Stalled,
+    /// The device failed.
+    Failed,
+}
+
+impl From<AllocError> for Fault {
+    ghost from_gives = { λ _ fault. fault ≡ OutOfMemory };
+
+    fn from(_error: AllocError) -> Fault {
+        Fault::OutOfMemory
+    }
+}
+
+impl From<StateFault> for Fault {
+    ghost use Rattle.oramd.specs.Telling.{state_fault};
+
+    ghost from_gives = { λ why fault. fault ≡ state_fault why };
+
+    fn from(why: StateFault) -> Fault {
+        match why.number() {
+            Some(number) => Fault::State(number),
+            None => Fault::OutOfMemory,
+        }
+    }
+}
+
+impl From<ShapeFault> for Fault {
+    ghost use Rattle.oramd.specs.Telling.{shape_fault};
+
+    ghost from_gives = { λ why fault. fault ≡ shape_fault why };
+
+    fn from(why: ShapeFault) -> Fault {
+        Fault::Shape(why.number())
+    }
+}
+
+impl From<FormatFault> for Fault {
+    ghost use Rattle.oramd.specs.Telling.{format_fault};
+
+    ghost from_gives = { λ why fault. fault ≡ format_fault why };
+
+    fn from(why: FormatFault) -> Fault {
+        match why {
+            FormatFault::Sink(SinkFault::Refused) => Fault::HostRefused,
+            FormatFault::Sink(SinkFault::Link) => Fault::Socket,
+            FormatFault::Sink(SinkFault::OutOfMemory) | FormatFault::OutOfMemory => {
+                Fault::OutOfMemory
+            }
+        }
+    }
+}
+
+/// The fault of the file of this name.
+pub(crate) fn file_fault(alloc: Global, name: &str) -> Fault
+    ensures { IsFileFault name.now result }
+{
+    match String::from_str(alloc, name) {
+        Ok(name) => Fault::File(name),
+        Err(_) => Fault::OutOfMemory,
+    }
+}
+
+impl Fault {
+    /// The exit status.
+    fn status(&self) -> u8
+        ensures { result ≡ status_of self.now }
+    {
+        match self {
+            Fault::CommandLine | Fault::Hex | Fault::Settings => 2,
+            Fault::OutOfMemory => 3,
+            Fault::File(_) | Fault::Socket => 4,
+            Fault::Shape(_) | Fault::State(_) | Fault::Image(_) => 5,
+            Fault::HostRefused | Fault::Stalled | Fault::Failed => 6,
+        }
+    }
+}
+
+/// Writes what the line says of a fault.
+fn put_message<W: Write>(writer: &mut W, fault: &Fault) -> Result<(), WriteFault>
+    ensures ok { OnOk result (Appends (W.contents writer.old) (W.contents writer.new) (message_of fault.now)) }
+    ensures begun { Begins (W.contents writer.old) (W.contents writer.new) (message_of fault.now) }
+{
+    match fault {
+        Fault::CommandLine => put(writer, b"bad command line"),
+        Fault::Hex => put(writer, b"bad hex"),
+        Fault::Settings => put(writer, b"bad settings"),
+        Fault::OutOfMemory => put(writer, b"out of memory"),
+        Fault::File(name) => put_both(writer, b"file ", name.as_bytes()),
+        Fault::Socket => put(writer, b"socket"),
+        Fault::Shape(number) => put_number(writer, b"shape ", *number),
+        Fault::State(number) => put_number(writer, b"state ", *number),
+        Fault::Image(number) => put_number(writer, b"image ", *number),
+        Fault::HostRefused => put(writer, b"host refused"),
+        Fault::Stalled => put(writer, b"stalled"),
+        Fault::Failed => put(writer, b"failed"),
+    }
+}
+
+/// Writes the line of a fault.
+fn put_line<W: Write>(writer: &mut W, fault: &Fault) -> Result<(), WriteFault>
+    ensures ok { OnOk result (Appends (W.contents writer.old) (W.contents writer.new) (line_of fault.now)) }
+    ensures begun { Begins (W.contents writer.old) (W.contents writer.new) (line_of fault.now) }
+{
+    put(writer, b"oramd: ")?;
+    put_message(writer, fault)?;
+    put(writer, b"\n")
+}
+
+/// Writes the line of a fault, as far as the writer takes it, and gives the exit status. It takes no memory.
+pub fn report<W: Write>(writer: &mut W, fault: &Fault) -> u8
+    // All of the line, unless the writer failed.
+    ensures line { Begins (W.contents writer.old) (W.contents writer.new) (line_of fault.now) }
+    ensures status { result ≡ status_of fault.now }
+{
+    let _passed_over = put_line(writer, fault);
+    fault.status()
+}
+
+#[cfg(test)]
+mod tests;

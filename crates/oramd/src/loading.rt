@@ -1,0 +1,60 @@
+//! What the program kept is loaded.
+
+ghost use Rattle.std.specs.Prelude.{◌≡◌, IfErr, IfOk, OnOk};
+ghost use Rattle.std.specs.Io.KnownBytes.{Consumes, IsAtEnd};
+ghost use Rattle.oram_host.specs.Host.{IsHost};
+ghost use Rattle.oram_host.specs.Image.{image};
+ghost use Rattle.oram_host.specs.ImageReading.{IsFirstFault, host_in};
+ghost use Rattle.oram_host.specs.declared.images.ImageFault.{ImageFault};
+ghost use Rattle.oram_state.specs.Decoding.{IsFaultIn, IsSaved};
+ghost use Rattle.oram_state.specs.declared.fault.StateFault.{StateFault};
+ghost use Rattle.oramd.specs.Loading.{IsImageFault};
+ghost use Rattle.oramd.specs.Telling.{state_fault};
+
+use crate::faults::{Fault, file_fault};
+use oram_bucket::Sealer;
+use oram_core::Core;
+use oram_host::{ImageFault, Server};
+use oram_state::decode_state;
+use std::alloc::Global;
+use std::io::Read;
+
+/// What a fault of the image in the file of this name is to the program.
+fn image_fault(alloc: Global, name: &str, why: ImageFault) -> Fault
+    ensures { IsImageFault name.now why result }
+{
+    match why.number() {
+        Some(number) => Fault::Image(number),
+        None => match why {
+            ImageFault::Io => file_fault(alloc, name),
+            _ => Fault::OutOfMemory,
+        },
+    }
+}
+
+/// Loads the server whose image stands in the file of this name. It is all that the reader holds.
+pub fn load_host<R: Read>(alloc: Global, name: &str, reader: &mut R) -> Result<Server, Fault>
+    ensures ok { IfOk result (λ server. Consumes (R.remaining reader.old) (R.remaining reader.new) (image server)) }
+    ensures end { OnOk result (IsAtEnd (R.remaining reader.new)) }
+    ensures host { IfOk result (λ server. IsHost server) }
+    ensures fault { IfErr result (λ told. (why : ImageFault) × IsImageFault name.now why told
+        × IsFirstFault host_in why (R.remaining reader.old)) }
+{
+    match Server::load_image(alloc, reader) {
+        Ok(server) => Ok(server),
+        Err(why) => Err(image_fault(alloc, name, why)),
+    }
+}
+
+/// The core that a state file tells of, under the sealer that it was saved with.
+pub fn load_core<S: Sealer>(alloc: Global, sealer: S, file: &[u8]) -> Result<Core<S>, Fault>
+    ensures sealer { IfOk result (λ c. c.sealer ≡ sealer) }
+    ensures core { IfOk result (λ c. IsSaved file.now (S.overhead sealer) c.device c.state) }
+    ensures fault { IfErr result (λ told. (why : StateFault) × (told ≡ state_fault why)
+        × IsFaultIn file.now (S.overhead sealer) why) }
+{
+    Ok(decode_state(alloc, sealer, file)?)
+}
+
+#[cfg(test)]
+mod tests;

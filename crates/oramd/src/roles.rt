@@ -1,0 +1,253 @@
+//! What the program does in each role, by its files and sockets.
+
+ghost use Rattle.oram_core.specs.Core.{IsSameDevice};
+
+use crate::command_line::Role;
+use crate::endings::{after_serving, ending};
+use crate::faults::Fault;
+use crate::files::{KeptFile, bytes_in, call_fault};
+use crate::formatting::{format_state, made_device};
+use crate::input::InputFault;
+use crate::loading::load_core;
+use crate::looping::{answer_frames, bytes_of};
+use crate::settings_file::{Settings, read_settings};
+use crate::sockets::{connect, listen, next_connection};
+use oram_bucket::{ChaChaSeal, PlainSeal, Sealer};
+use oram_core::Core;
+use oram_geometry::Device;
+use oram_host::Server;
+use oram_session::{
+    ChaChaTape, Link, LinkFault, LoopLink, StreamLink, Tape, host_serve, resume, serve,
+};
+use oram_state::encode_state;
+use std::alloc::Global;
+use std::io::{Read, Write};
+use std::net::{Net, OpenListener, OpenStream};
+use std::rt::Files;
+use std::str;
+
+/// Carries out the requests of so many connections, one after the other.
+fn host_connections<L: OpenListener>(
+    alloc: Global,
+    listener: &L,
+    connections: u64,
+    server: &mut Server,
+) -> Result<(), Fault>
+where
+    L::Stream: Read + Write + OpenStream,
+{
+    for _ in 0..connections {
+        let (mut reader, mut writer) = next_connection(alloc, listener)?;
+        after_serving(host_serve(alloc, &mut reader, &mut writer, server))?;
+    }
+    Ok(())
+}
+
+/// Keeps buckets for others. The image is saved however the serving ends.
+fn host<R: Files + Net + AllocGlobal>(
+    rt: &R,
+    address: &str,
+    connections: u64,
+    image: String,
+) -> Result<(), Fault> {
+    let file = KeptFile::new(rt.alloc(), image)?;
+    let mut server = file.load(rt)?;
+    let listener = listen(rt, address)?;
+    let served = host_connections(rt.alloc(), &listener, connections, &mut server);
+    file.save_image(rt, &server)?;
+    served
+}
+
+/// Makes a device on a host, and its state file, of which there is to be none.
+fn format<R: Files + Net + AllocGlobal, S: Sealer>(
+    rt: &R,
+    host: &str,
+    state: String,
+    device: Device,
+    sealer: S,
+) -> Result<(), Fault> {
+    let file = KeptFile::new(rt.alloc(), state)?;
+    file.check_absent(rt)?;
+    let (reader, writer) = connect(rt, host)?;
+    let mut link = StreamLink::new(rt.alloc(), reader, writer);
+    let bytes = format_state(rt.alloc(), device, sealer, &mut link)?;
+    file.save_bytes(rt, &bytes)
+}
+
+/// The same, sealed under a key, if there is one.
+fn format_under<R: Files + Net + AllocGlobal>(
+    rt: &R,
+    host: &str,
+    state: String,
+    device: Device,
+    key: Option<[u8; 32]>,
+) -> Result<(), Fault> {
+    match key {
+        None => format(rt, host, state, device, PlainSeal),
+        Some(key) => format(rt, host, state, device, ChaChaSeal { key }),
+    }
+}
+
+/// Carries out what waits in the core, and answers so many sessions, one after the other, by rising number.
+fn sessions<L: OpenListener, S: Sealer, H: Link, T: Tape>(
+    alloc: Global,
+    listener: &L,
+    connections: u64,
+    core: &mut Core<S>,
+    link: &mut H,
+    tape: &mut T,
+) -> Result<(), Fault>
+where
+    L::Stream: Read + Write + OpenStream,
+    ensures { IsSameDevice core.old core.new }
+{
+    after_serving(resume(alloc, core, link))?;
+    for session in 0..u32::try_from(connections).unwrap_or(u32::MAX) {
+        let (mut reader, mut writer) = next_connection(alloc, listener)?;
+        let ended = serve(alloc, &mut reader, &mut writer, core, link, tape, session);
+        after_serving(ended)?;
+    }
+    Ok(())
+}
+
+/// Where a proxy listens, how many sessions it answers, and where its host and its state are.
+#[derive(Drop)]
+struct Serving {
+    address: String,
+    connections: u64,
+    host: String,
+    state: String,
+    tape_key: [u8; 32],
+}
+
+/// Answers the sessions of a device. Its state is saved however that ends.
+fn proxy<R: Files + Net + AllocGlobal, S: Sealer>(
+    rt: &R,
+    serving: Serving,
+    sealer: S,
+) -> Result<(), Fault> {
+    let Serving {
+        address,
+        connections,
+        host,
+        state,
+        tape_key,
+    } = serving;
+    let file = KeptFile::new(rt.alloc(), state)?;
+    let bytes = bytes_in(rt, file.name())?;
+    let mut core = load_core(rt.alloc(), sealer, &bytes)?;
+    let trees = core.device().trees();
+    let mut tape = ChaChaTape {
+        key: tape_key,
+        trees,
+    };
+    let listener = listen(rt, address.as_str())?;
+    let (reader, writer) = connect(rt, host.as_str())?;
+    let mut link = StreamLink::new(rt.alloc(), reader, writer);
+    let served = sessions(
+        rt.alloc(),
+        &listener,
+        connections,
+        &mut core,
+        &mut link,
+        &mut tape,
+    );
+    let bytes = encode_state(rt.alloc(), &core)?;
+    file.save_bytes(rt, &bytes)?;
+    ending(&core, served)
+}
+
+/// The same, sealed under a key, if there is one.
+fn proxy_under<R: Files + Net + AllocGlobal>(
+    rt: &R,
+    serving: Serving,
+    key: Option<[u8; 32]>,
+) -> Result<(), Fault> {
+    match key {
+        None => proxy(rt, serving, PlainSeal),
+        Some(key) => proxy(rt, serving, ChaChaSeal { key }),
+    }
+}
+
+/// The settings of a role that stand in a file.
+fn settings_in<R: Files + AllocGlobal>(rt: &R, role: Role, name: &str) -> Result<Settings, Fault> {
+    let bytes = bytes_in(rt, name)?;
+    let Ok(text) = str::from_utf8(bytes.as_slice()) else {
+        return Err(Fault::Settings);
+    };
+    match read_settings(rt.alloc(), role, text) {
+        Ok(settings) => Ok(settings),
+        Err(InputFault::Bad) => Err(Fault::Settings),
+        Err(InputFault::OutOfMemory) => Err(Fault::OutOfMemory),
+    }
+}
+
+/// Does what a role does, with the settings in the file of this name.
+pub(crate) fn run<R: Files + Net + AllocGlobal>(
+    rt: &R,
+    role: Role,
+    name: &str,
+) -> Result<(), Fault> {
+    match settings_in(rt, role, name)? {
+        Settings::Host {
+            listen,
+            connections,
+            image,
+        } => host(rt, listen.as_str(), connections, image),
+        Settings::Format {
+            host,
+            state,
+            key,
+            blocks,
+            block_bytes,
+            slots,
+            top,
+            lifetime,
+        } => {
+            let device = made_device(blocks, block_bytes, slots, top, lifetime)?;
+            format_under(rt, host.as_str(), state, device, key)
+        }
+        Settings::Proxy {
+            listen,
+            connections,
+            host,
+            state,
+            key,
+            tape_key,
+        } => {
+            let serving = Serving {
+                address: listen,
+                connections,
+                host,
+                state,
+                tape_key,
+            };
+            proxy_under(rt, serving, key)
+        }
+    }
+}
+
+/// A line of hexadecimal digits.
+fn print_digits<R: Print + AllocGlobal>(rt: &R, bytes: &[u8]) -> Result<(), Fault> {
+    let digits = hex::encode(rt.alloc(), bytes)?;
+    match println!(rt; "{digits}") {
+        Ok(()) => Ok(()),
+        Err(error) => Err(call_fault(rt.alloc(), "standard output", &error)),
+    }
+}
+
+/// Answers the session frames that digits spell, and prints the frames of the replies, also those before one that can't be read.
+pub(crate) fn loop_frames<R: Net + Print + AllocGlobal>(rt: &R, digits: &str) -> Result<(), Fault> {
+    let frames = bytes_of(rt.alloc(), digits)?;
+    let mut link = match LoopLink::open(rt, rt.alloc(), Server::new(rt.alloc())) {
+        Ok(link) => link,
+        Err(LinkFault::OutOfMemory) => return Err(Fault::OutOfMemory),
+        Err(_) => return Err(Fault::Socket),
+    };
+    let mut replies = Vec::new(rt.alloc());
+    let ended = answer_frames(rt.alloc(), &mut link, &frames, &mut replies);
+    if matches!(ended, Ok(()) | Err(Fault::Hex)) {
+        print_digits(rt, &replies)?;
+    }
+    ended
+}

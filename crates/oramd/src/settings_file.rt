@@ -1,0 +1,177 @@
+//! The settings file.
+
+ghost use Rattle.std.specs.Prelude.{◌≡◌, Some, IfOk, IsErrOf};
+ghost use Rattle.toml.specs.Parse.{parse_document};
+ghost use Rattle.toml.specs.View.{table_view};
+ghost use Rattle.oramd.specs.Settings.{Finds, IsDocumentOf, IsSettings, shown};
+
+use crate::command_line::Role;
+use crate::input::InputFault;
+use crate::tables::{address_at, count_at, has_only, key_at, name_at, number_at, sealer_in};
+use std::alloc::Global;
+use std::fmt;
+use toml::Table;
+
+/// What a settings file says.
+#[derive(Drop)]
+pub enum Settings {
+    /// Of a bucket host: where it listens, how many connections it serves, and the file that its buckets are kept in.
+    Host {
+        listen: String,
+        connections: u64,
+        image: String,
+    },
+    /// Of a device's formatting: its host, the file for its state, its sealer and its five numbers.
+    Format {
+        host: String,
+        state: String,
+        /// The sealer's, where it seals by ChaCha20.
+        key: Option<[u8; 32]>,
+        blocks: u64,
+        block_bytes: u64,
+        slots: u64,
+        top: u64,
+        lifetime: u64,
+    },
+    /// Of a proxy: where it listens, how many sessions it serves, and its device.
+    Proxy {
+        listen: String,
+        connections: u64,
+        host: String,
+        state: String,
+        /// The sealer's, where it seals by ChaCha20.
+        key: Option<[u8; 32]>,
+        tape_key: [u8; 32],
+    },
+}
+
+// No key is shown.
+impl fmt::Debug for Settings {
+    fn fmt<W: fmt::Write>(&self, f: &mut fmt::Formatter<W>) -> fmt::Result {
+        f.write_str(match self {
+            Settings::Host { .. } => "Host { .. }",
+            Settings::Format { .. } => "Format { .. }",
+            Settings::Proxy { .. } => "Proxy { .. }",
+        })
+    }
+}
+
+fn host_in(alloc: Global, table: &Table) -> Result<Settings, InputFault>
+    ensures { Finds shown (IsSettings Role.Host (table_view table.now)) result }
+{
+    if !has_only(table, &["listen", "connections", "image"]) {
+        return Err(InputFault::Bad);
+    }
+    let listen = address_at(table, "listen")?;
+    let connections = count_at(table, "connections")?;
+    let image = name_at(table, "image")?;
+    Ok(Settings::Host {
+        listen: String::from_str(alloc, listen)?,
+        connections,
+        image: String::from_str(alloc, image)?,
+    })
+}
+
+fn format_in(alloc: Global, table: &Table) -> Result<Settings, InputFault>
+    ensures { Finds shown (IsSettings Role.Format (table_view table.now)) result }
+{
+    if !has_only(
+        table,
+        &[
+            "host",
+            "state",
+            "seal",
+            "seal_key",
+            "blocks",
+            "block_bytes",
+            "slots",
+            "top",
+            "lifetime",
+        ],
+    ) {
+        return Err(InputFault::Bad);
+    }
+    let host = address_at(table, "host")?;
+    let state = name_at(table, "state")?;
+    let key = sealer_in(table)?;
+    let blocks = number_at(table, "blocks")?;
+    let block_bytes = number_at(table, "block_bytes")?;
+    let slots = number_at(table, "slots")?;
+    let top = number_at(table, "top")?;
+    let lifetime = number_at(table, "lifetime")?;
+    Ok(Settings::Format {
+        host: String::from_str(alloc, host)?,
+        state: String::from_str(alloc, state)?,
+        key,
+        blocks,
+        block_bytes,
+        slots,
+        top,
+        lifetime,
+    })
+}
+
+fn proxy_in(alloc: Global, table: &Table) -> Result<Settings, InputFault>
+    ensures { Finds shown (IsSettings Role.Proxy (table_view table.now)) result }
+{
+    if !has_only(
+        table,
+        &[
+            "listen",
+            "connections",
+            "host",
+            "state",
+            "seal",
+            "seal_key",
+            "tape_key",
+        ],
+    ) {
+        return Err(InputFault::Bad);
+    }
+    let listen = address_at(table, "listen")?;
+    let connections = count_at(table, "connections")?;
+    let host = address_at(table, "host")?;
+    let state = name_at(table, "state")?;
+    let key = sealer_in(table)?;
+    let tape_key = key_at(table, "tape_key")?;
+    Ok(Settings::Proxy {
+        listen: String::from_str(alloc, listen)?,
+        connections,
+        host: String::from_str(alloc, host)?,
+        state: String::from_str(alloc, state)?,
+        key,
+        tape_key,
+    })
+}
+
+/// The table that a text is.
+fn table_of(alloc: Global, text: &str) -> Result<Table, InputFault>
+    ensures { Finds table_view (λ t. parse_document text.now ≡ Some t) result }
+{
+    match toml::table_from_str(alloc, text) {
+        Ok(table) => Ok(table),
+        Err(error) => Err(if error.is_memory() {
+            InputFault::OutOfMemory
+        } else {
+            InputFault::Bad
+        }),
+    }
+}
+
+/// Reads the settings of a role from a TOML document.
+pub fn read_settings(alloc: Global, role: Role, text: &str) -> Result<Settings, InputFault>
+    // The text is a document whose table is that of these settings.
+    ensures ok { IfOk result (λ s. IsDocumentOf role text.now (shown s)) }
+    // Bad comes only where it is no such document of any settings of the role.
+    ensures bad { IsErrOf result InputFault.Bad → (s : _) → IsDocumentOf role text.now s → ⊥ }
+{
+    let table = table_of(alloc, text)?;
+    match role {
+        Role::Host => host_in(alloc, &table),
+        Role::Format => format_in(alloc, &table),
+        Role::Proxy => proxy_in(alloc, &table),
+    }
+}
+
+#[cfg(test)]
+mod tests;
