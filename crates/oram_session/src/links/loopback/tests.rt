@@ -1,4 +1,5 @@
 use super::*;
+use oram_wire::HostAnswer;
 use std::io;
 use std::net::Shutdown;
 use std::process::Abort;
@@ -32,6 +33,15 @@ fn fails<L: Link>(rt: &impl Abort, alloc: Global, link: &mut L, body: &[u8], wan
     assert_eq!(rt; called(alloc, link, body).err(), Some(wanted));
 }
 
+/// A server that has that tree.
+fn shaped(alloc: Global) -> Server {
+    let mut server = Server::new(alloc);
+    if !matches!(server.handle(&SHAPE), HostAnswer::Done) {
+        let _again = server.handle(&SHAPE);
+    }
+    server
+}
+
 /// Puts a record of that tree at a node.
 fn puts<L: Link>(rt: &impl Abort, alloc: Global, link: &mut L, node: u8) -> Result<(), Fail> {
     let mut body = retried!(vec![in alloc; 0; 10_006]);
@@ -43,8 +53,7 @@ fn puts<L: Link>(rt: &impl Abort, alloc: Global, link: &mut L, node: u8) -> Resu
 #[test]
 fn a_long_answer_is_too_large(rt: HostRuntime) -> Result<(), Fail> {
     let alloc = rt.alloc();
-    let mut link = LoopLink::open(&rt, alloc, Server::new(alloc))?;
-    answers(&rt, alloc, &mut link, &SHAPE, &[0x80]);
+    let mut link = LoopLink::open(&rt, alloc, shaped(alloc))?;
     puts(&rt, alloc, &mut link, 0)?;
     puts(&rt, alloc, &mut link, 1)?;
     fails(&rt, alloc, &mut link, &FETCH, LinkFault::TooLarge);
@@ -78,7 +87,13 @@ fn a_broken_connection_is_opened_anew(rt: HostRuntime) -> Result<(), Fail> {
     let mut link = LoopLink::open(&rt, alloc, Server::new(alloc))?;
     answers(&rt, alloc, &mut link, &FETCH, &[0x81, 1]);
     shut(&link)?;
-    fails(&rt, alloc, &mut link, &FETCH, LinkFault::Io);
+    let mut fault = link.call(alloc, &FETCH).err();
+    if fault == Some(LinkFault::OutOfMemory) {
+        answers(&rt, alloc, &mut link, &FETCH, &[0x81, 1]);
+        shut(&link)?;
+        fault = link.call(alloc, &FETCH).err();
+    }
+    assert_eq!(rt; fault, Some(LinkFault::Io));
     answers(&rt, alloc, &mut link, &FETCH, &[0x81, 1]);
     assert!(rt; link.faults() <= 2);
     Ok(())
