@@ -3,5 +3,4 @@ mod Matches
 mod Numbers
 mod Ports
 mod Rows
-mod Settling
 mod TableKeys
