@@ -1,5 +1,5 @@
 -- Session frames that are answered by a device of their own.
-use Rattle.std.specs.Prelude.{◌≡◌, ℕ, List, [], length, Option, Some, Result, Ok, Err, replicate}
+use Rattle.std.specs.Prelude.{◌≡◌, ◌⊎◌, ℕ, List, [], length, Option, Some, Result, Ok, Err, replicate}
 use Rattle.std.specs.Io.KnownBytes.{IsAtEnd}
 use Rattle.oram_geometry.specs.declared.Sizes.{Sizes}
 use Rattle.oram_geometry.specs.Sizes.{trees_of}
@@ -11,7 +11,9 @@ use Rattle.oram_session.specs.Tapes.{chacha_words}
 use Rattle.oram_session.specs.Turns.{Turn}
 use Rattle.oram_session.specs.declared.faults.ServeFault.{ServeFault}
 use Rattle.oram_session.specs.declared.faults.ServeFault.TheVariants as serve
+use Rattle.oram_tree.specs.declared.faults.FormatFault.{FormatFault}
 use Rattle.oramd.specs.Formatting.{IsFormatted}
+use Rattle.oramd.specs.Telling.{format_fault}
 use Rattle.oramd.specs.declared.faults.Fault.{Fault}
 use Rattle.oramd.specs.declared.faults.Fault.TheVariants.{Hex, OutOfMemory, Stalled}
 
@@ -36,6 +38,10 @@ after_frames (Err serve.Truncated) = Err Hex
 after_frames (Err serve.Stalled) = Err Stalled
 after_frames (Err serve.Write) = Err OutOfMemory
 after_frames (Err serve.OutOfMemory) = Err OutOfMemory
+
+-- Why the frames have no answers, or not all: the formatting was broken off, or the serving of the frames.
+abbrev pub IsUnansweredFor : Fault → Type 0
+IsUnansweredFor told = ((why : FormatFault) × (told ≡ format_fault why)) ⊎ ((ended : Result ℕ ServeFault) × (Err told ≡ after_frames ended))
 
 -- The device was formatted over a link whose calls meet this relation, and session 0 of it answered these turns; so many bytes more
 -- were read, and the replies stand behind what was there.

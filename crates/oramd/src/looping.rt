@@ -4,7 +4,7 @@ ghost use Rattle.std.specs.Prelude.{◌≡◌, ◌⊎◌, ℕ, [], length, List,
 ghost use Rattle.hex.specs.Hex.{decode_of};
 ghost use Rattle.hex.specs.declared.error.FromHexError.{FromHexError};
 ghost use Rattle.oram_wire.specs.FrameStream.{IsBroken, IsUnfinished};
-ghost use Rattle.oramd.specs.Looping.{HasAnswered};
+ghost use Rattle.oramd.specs.Looping.{HasAnswered, IsUnansweredFor};
 ghost use Rattle.oramd.specs.Looping as spec;
 
 use crate::faults::Fault;
@@ -52,6 +52,8 @@ pub fn answer_frames<L: Link>(
     // Those before a frame that is too long or cut short were.
     ensures hex { IsErrOf result Fault.Hex → (part unread : List ℕ) × (IsUnfinished part ⊎ ((length part ≡ 4) × IsBroken part))
         × HasAnswered L.calls link.old frames.now part replies.old.items replies.new.items unread link.new }
+    // There is no other fault than the formatting's and the serving's.
+    ensures fault { IfErr result (λ told. IsUnansweredFor told) }
 {
     let device = made_device(64, 16, 4, 64, 100)?;
     let mut core = format_device(alloc, device, PlainSeal, link)?;
