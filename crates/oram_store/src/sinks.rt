@@ -1,0 +1,25 @@
+//! A store as what takes the messages of a formatting.
+
+use crate::storing::Store;
+use oram_host::HostRefusal;
+use oram_wire::{HostAnswer, Sink, SinkFault};
+use sqlite::Alter;
+
+// A sink that hands each body to the store. What it leaves isn't told.
+impl<S: Alter> Sink for Store<S> {
+    ghost use Rattle.std.specs.Prelude.{⊤};
+
+    ghost putting = { λ _ _ _. ⊤ };
+
+    ghost refusing = { λ _ _ _ _. ⊤ };
+
+    fn put(&mut self, body: &[u8]) -> Result<(), SinkFault> {
+        match self.handle(body) {
+            HostAnswer::Done => Ok(()),
+            HostAnswer::Refused(code) if code == HostRefusal::OutOfMemory.code() => {
+                Err(SinkFault::OutOfMemory)
+            }
+            HostAnswer::Payload(_) | HostAnswer::Refused(_) => Err(SinkFault::Refused),
+        }
+    }
+}

@@ -1,0 +1,258 @@
+//! The store.
+
+ghost use Rattle.std.specs.Prelude.{◌≡◌, ◌<◌, length, false};
+ghost use Rattle.oram_wire.specs.HostReading.{IsMisfit, names_request};
+
+use crate::faults::StoreFault;
+use crate::shapes::{Place, Shape};
+use crate::statements::{
+    begin, commit, read_path, read_shapes, roll_back, write_path, write_record, write_shape,
+};
+use crate::tables::prepare;
+use oram_bytes::Bytes;
+use oram_host::HostRefusal;
+use oram_wire::{GOOD, HostAnswer, HostView, REFUSED, WireFault};
+use sqlite::{Alter, Connection, FileStore};
+use sqlite_disk::Disk;
+use std::alloc::{AllocError, Global};
+
+/// How many records of a formatting are committed together.
+const GROUP: u32 = 1_000;
+
+/// A bucket server whose records lie in a database.
+#[derive(Drop)]
+pub struct Store<S: Alter> {
+    alloc: Global,
+    conn: Connection<S>,
+    /// By tree, as the table of shapes has them.
+    shapes: Vec<Option<Shape>>,
+    /// How many records of a formatting were taken and aren't committed.
+    pending: u32,
+    /// Why there was no room, the last time that this was answered.
+    failure: Option<StoreFault>,
+}
+
+/// What came of a request that was carried out.
+enum Served {
+    /// The records that it asks for, behind other bytes.
+    Records(Vec<u8>),
+    Done,
+}
+
+impl<S: Alter + Drop> Store<S> {
+    /// A store over a database, which gets its tables where it has none at all. A database that has other tables is left as
+    /// it is.
+    pub fn over(alloc: Global, mut conn: Connection<S>) -> Result<Store<S>, StoreFault> {
+        let prepared = prepare(alloc, &mut conn);
+        roll_back(&mut conn);
+        prepared?;
+        let shapes = read_shapes(alloc, &mut conn)?;
+        Ok(Store {
+            alloc,
+            conn,
+            shapes,
+            pending: 0,
+            failure: None,
+        })
+    }
+}
+
+impl<S: Alter> Store<S> {
+    fn shape_of(&self, tree: u8) -> Option<Shape> {
+        match self.shapes.get(usize::from(tree)) {
+            Some(shape) => *shape,
+            None => None,
+        }
+    }
+
+    /// Why the last answer that there is no room was given, the code 8. After `Closed` the file has to be opened again.
+    pub fn failure(&self) -> Option<StoreFault> {
+        self.failure
+    }
+
+    /// Keeps why there is no room.
+    fn refuse(&mut self, fault: StoreFault) -> HostRefusal {
+        self.failure = Some(fault);
+        HostRefusal::OutOfMemory
+    }
+
+    fn settled(&mut self) -> Result<(), HostRefusal> {
+        match self.settle() {
+            Ok(()) => Ok(()),
+            Err(fault) => Err(self.refuse(fault)),
+        }
+    }
+
+    /// Commits what a formatting has put so far. Where that fails, these records are lost.
+    pub fn settle(&mut self) -> Result<(), StoreFault> {
+        if self.pending == 0 {
+            return Ok(());
+        }
+        self.pending = 0;
+        let done = commit(&mut self.conn);
+        roll_back(&mut self.conn);
+        Ok(done?)
+    }
+
+    /// The records of a path, behind other bytes.
+    fn fetch(&mut self, tree: u8, leaf: u32, front: &[u8]) -> Result<Vec<u8>, HostRefusal>
+        requires { length front.now < 2 }
+    {
+        let Some(shape) = self.shape_of(tree) else {
+            return Err(HostRefusal::NoShape);
+        };
+        if leaf >= shape.leaves() {
+            return Err(HostRefusal::BadLeaf);
+        }
+        self.settled()?;
+        match read_path(self.alloc, &mut self.conn, tree, shape, leaf, front) {
+            Ok(Some(bytes)) => Ok(bytes),
+            Ok(None) => Err(HostRefusal::Missing),
+            Err(fault) => Err(self.refuse(fault)),
+        }
+    }
+
+    fn store(&mut self, tree: u8, leaf: u32, records: &[u8]) -> Result<(), HostRefusal> {
+        let Some(shape) = self.shape_of(tree) else {
+            return Err(HostRefusal::NoShape);
+        };
+        if leaf >= shape.leaves() {
+            return Err(HostRefusal::BadLeaf);
+        }
+        if records.len() != shape.path_len() {
+            return Err(HostRefusal::BadLength);
+        }
+        self.settled()?;
+        let done = write_path(self.alloc, &mut self.conn, tree, shape, leaf, records);
+        roll_back(&mut self.conn);
+        match done {
+            Ok(()) => Ok(()),
+            Err(fault) => Err(self.refuse(fault)),
+        }
+    }
+
+    /// Takes a record into the group that is open.
+    fn take(&mut self, place: Place, bytes: &[u8]) -> Result<(), StoreFault> {
+        if self.pending == 0 {
+            begin(&mut self.conn)?;
+        }
+        match write_record(self.alloc, &mut self.conn, place, bytes) {
+            Ok(()) => {
+                self.pending = self.pending.saturating_add(1);
+                Ok(())
+            }
+            Err(fault) => {
+                self.pending = 0;
+                roll_back(&mut self.conn);
+                Err(fault)
+            }
+        }
+    }
+
+    fn put(&mut self, tree: u8, node: u32, bytes: &[u8]) -> Result<(), HostRefusal> {
+        let Some(shape) = self.shape_of(tree) else {
+            return Err(HostRefusal::NoShape);
+        };
+        if node >= shape.nodes() {
+            return Err(HostRefusal::BadNode);
+        }
+        if bytes.len() != shape.record_len as usize {
+            return Err(HostRefusal::BadLength);
+        }
+        if let Err(fault) = self.take(Place { tree, node }, bytes) {
+            return Err(self.refuse(fault));
+        }
+        if self.pending >= GROUP {
+            self.settled()?;
+        }
+        Ok(())
+    }
+
+    fn shape(&mut self, tree: u8, depth: u8, record_len: u32) -> Result<(), HostRefusal> {
+        let Some(shape) = Shape::new(depth, record_len) else {
+            return Err(HostRefusal::BadLength);
+        };
+        if self.shape_of(tree).is_some() {
+            return Err(HostRefusal::ShapeTaken);
+        }
+        self.settled()?;
+        let done = write_shape(&mut self.conn, tree, shape);
+        roll_back(&mut self.conn);
+        if let Err(error) = done {
+            return Err(self.refuse(error.into()));
+        }
+        if let Some(cell) = self.shapes.get_mut(usize::from(tree)) {
+            *cell = Some(shape);
+        }
+        Ok(())
+    }
+
+    /// Carries out a request, and puts records that it asks for behind other bytes.
+    fn serve(&mut self, request: HostView<'_>, front: &[u8]) -> Result<Served, HostRefusal>
+        requires { length front.now < 2 }
+    {
+        match request {
+            HostView::Fetch { tree, leaf } => {
+                let records = self.fetch(tree, leaf, front)?;
+                return Ok(Served::Records(records));
+            }
+            HostView::Store {
+                tree,
+                leaf,
+                records,
+            } => self.store(tree, leaf, records)?,
+            HostView::Put { tree, node, bytes } => self.put(tree, node, bytes)?,
+            HostView::Shape {
+                tree,
+                depth,
+                record_len,
+            } => self.shape(tree, depth, record_len)?,
+        }
+        Ok(Served::Done)
+    }
+
+    /// Carries out the request that a body is, and puts records that it asks for behind other bytes.
+    fn serve_body(&mut self, body: &[u8], front: &[u8]) -> Result<Served, HostRefusal>
+        requires { length front.now < 2 }
+    {
+        match HostView::read(body) {
+            Ok(request) => self.serve(request, front),
+            Err(WireFault::Op) => Err(HostRefusal::BadOp),
+            Err(_) => Err(HostRefusal::BadLength),
+        }
+    }
+
+    /// Answers the body of a request. A STORE that is answered as done is on the disk. A request that is refused changes
+    /// nothing, but where the database failed: then the records of a formatting that weren't committed are lost.
+    pub fn handle(&mut self, body: &[u8]) -> HostAnswer {
+        match self.serve_body(body, &[]) {
+            Ok(Served::Records(records)) => HostAnswer::Payload(Bytes::from_vec(records)),
+            Ok(Served::Done) => HostAnswer::Done,
+            Err(why) => HostAnswer::Refused(why.code()),
+        }
+    }
+
+    /// The bytes of the answer to the body of a request, which `handle` would answer alike. Records stand in one vector
+    /// with the byte before them, so they are copied once.
+    ///
+    /// Room for an answer without records is taken first: where there is none, nothing is served.
+    pub fn answer(&mut self, alloc: Global, body: &[u8]) -> Result<Vec<u8>, AllocError> {
+        let mut short = Vec::with_capacity(alloc, 2)?;
+        match self.serve_body(body, &[GOOD]) {
+            Ok(Served::Records(answer)) => return Ok(answer),
+            Ok(Served::Done) => short.extend_from_slice(&[GOOD])?,
+            Err(why) => short.extend_from_slice(&[REFUSED, why.code()])?,
+        }
+        Ok(short)
+    }
+}
+
+impl<D: Disk + Drop> Store<FileStore<D>> {
+    /// Commits, copies the log into the file and closes both.
+    pub fn close(mut self) -> Result<(), StoreFault> {
+        let settled = self.settle();
+        let Store { conn, .. } = self;
+        conn.close()?;
+        settled
+    }
+}
