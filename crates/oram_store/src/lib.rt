@@ -5,6 +5,7 @@
 #![tactic(auto)]
 
 mod faults;
+mod looking;
 mod opening;
 mod shapes;
 mod sinks;
@@ -13,7 +14,7 @@ mod storing;
 mod tables;
 
 pub use faults::StoreFault;
-pub use opening::{FileStored, open_store};
+pub use opening::{BucketFile, open_store};
 pub use storing::Store;
 
 #[cfg(test)]

@@ -3,7 +3,8 @@
 //! Each stands in a function of its own with no clause on the connection, since a proof carries what is said of each
 //! statement.
 
-ghost use Rattle.std.specs.Prelude.{◌≡◌, ◌<◌, ◌^◌, ◌+◌, ◌*◌, length};
+ghost use Rattle.std.specs.Prelude.{◌≡◌, ◌<◌, ◌≤◌, ◌^◌, ◌+◌, ◌*◌, ◌++◌, List, ℕ, length, IfOk, IfSome, OnOk};
+ghost use Rattle.oram_host.specs.Path.{FitsAnswer, IsBehind};
 
 use crate::faults::StoreFault;
 use crate::shapes::{Place, Shape};
@@ -68,7 +69,9 @@ fn row_at<S: Alter>(
 }
 
 /// Appends what a row holds. A record of another length is damage.
-fn append(row: &Row, record_len: usize, bytes: &mut Vec<u8>) -> Result<(), StoreFault> {
+fn append(row: &Row, record_len: usize, bytes: &mut Vec<u8>) -> Result<(), StoreFault>
+    ensures { OnOk result ((more : List ℕ) × (bytes.new.items ≡ bytes.old.items ++ more) × (length more ≡ record_len)) }
+{
     let Ok(ValueRef::Blob(record)) = row.get_ref(0) else {
         return Err(StoreFault::Damaged);
     };
@@ -89,7 +92,8 @@ pub(crate) fn read_path<S: Alter>(
     front: &[u8],
 ) -> Result<Option<Vec<u8>>, StoreFault>
     requires leaf { leaf < 2 ^ shape.depth }
-    requires short { length front.now < 2 }
+    requires short { length front.now ≤ 1 }
+    ensures { IfOk result (λ found. IfSome found (λ v. IsBehind front.now FitsAnswer v.items)) }
 {
     let mut bytes = Vec::with_capacity(alloc, front.len() + shape.path_len())?;
     bytes.extend_from_slice(front)?;

@@ -1,7 +1,11 @@
 //! The store.
 
-ghost use Rattle.std.specs.Prelude.{◌≡◌, ◌<◌, length, false};
-ghost use Rattle.oram_wire.specs.HostReading.{IsMisfit, names_request};
+ghost use Rattle.std.specs.Prelude.{◌≡◌, ◌≤◌, length, false, IfOk, OnErr};
+ghost use Rattle.oram_host.specs.Path.{FitsAnswer, IsBehind};
+ghost use Rattle.oram_store.specs.Serving.{StandsBehind};
+ghost use Rattle.oram_wire.specs.FrameStream.{IsBody};
+ghost use Rattle.oram_wire.specs.HostMessages.{answer_body};
+ghost use Rattle.oram_wire.specs.HostReading.{IsAnswer, IsMisfit, names_request};
 
 use crate::faults::StoreFault;
 use crate::shapes::{Place, Shape};
@@ -26,8 +30,8 @@ pub struct Store<S: Alter> {
     conn: Connection<S>,
     /// By tree, as the table of shapes has them.
     shapes: Vec<Option<Shape>>,
-    /// How many records of a formatting were taken and aren't committed.
-    pending: u32,
+    /// How many records of a formatting the open transaction has, where one is open.
+    taken: u32,
     /// Why there was no room, the last time that this was answered.
     failure: Option<StoreFault>,
 }
@@ -51,7 +55,7 @@ impl<S: Alter + Drop> Store<S> {
             alloc,
             conn,
             shapes,
-            pending: 0,
+            taken: 0,
             failure: None,
         })
     }
@@ -85,10 +89,9 @@ impl<S: Alter> Store<S> {
 
     /// Commits what a formatting has put so far. Where that fails, these records are lost.
     pub fn settle(&mut self) -> Result<(), StoreFault> {
-        if self.pending == 0 {
+        if self.conn.is_autocommit() {
             return Ok(());
         }
-        self.pending = 0;
         let done = commit(&mut self.conn);
         roll_back(&mut self.conn);
         Ok(done?)
@@ -96,7 +99,8 @@ impl<S: Alter> Store<S> {
 
     /// The records of a path, behind other bytes.
     fn fetch(&mut self, tree: u8, leaf: u32, front: &[u8]) -> Result<Vec<u8>, HostRefusal>
-        requires { length front.now < 2 }
+        requires { length front.now ≤ 1 }
+        ensures { IfOk result (λ v. IsBehind front.now FitsAnswer v.items) }
     {
         let Some(shape) = self.shape_of(tree) else {
             return Err(HostRefusal::NoShape);
@@ -131,22 +135,15 @@ impl<S: Alter> Store<S> {
         }
     }
 
-    /// Takes a record into the group that is open.
+    /// Takes a record into the group that is open, or begins one.
     fn take(&mut self, place: Place, bytes: &[u8]) -> Result<(), StoreFault> {
-        if self.pending == 0 {
+        if self.conn.is_autocommit() {
             begin(&mut self.conn)?;
+            self.taken = 0;
         }
-        match write_record(self.alloc, &mut self.conn, place, bytes) {
-            Ok(()) => {
-                self.pending = self.pending.saturating_add(1);
-                Ok(())
-            }
-            Err(fault) => {
-                self.pending = 0;
-                roll_back(&mut self.conn);
-                Err(fault)
-            }
-        }
+        write_record(self.alloc, &mut self.conn, place, bytes)?;
+        self.taken = self.taken.saturating_add(1);
+        Ok(())
     }
 
     fn put(&mut self, tree: u8, node: u32, bytes: &[u8]) -> Result<(), HostRefusal> {
@@ -162,7 +159,7 @@ impl<S: Alter> Store<S> {
         if let Err(fault) = self.take(Place { tree, node }, bytes) {
             return Err(self.refuse(fault));
         }
-        if self.pending >= GROUP {
+        if self.taken >= GROUP {
             self.settled()?;
         }
         Ok(())
@@ -189,7 +186,8 @@ impl<S: Alter> Store<S> {
 
     /// Carries out a request, and puts records that it asks for behind other bytes.
     fn serve(&mut self, request: HostView<'_>, front: &[u8]) -> Result<Served, HostRefusal>
-        requires { length front.now < 2 }
+        requires { length front.now ≤ 1 }
+        ensures { IfOk result (StandsBehind front.now) }
     {
         match request {
             HostView::Fetch { tree, leaf } => {
@@ -213,7 +211,10 @@ impl<S: Alter> Store<S> {
 
     /// Carries out the request that a body is, and puts records that it asks for behind other bytes.
     fn serve_body(&mut self, body: &[u8], front: &[u8]) -> Result<Served, HostRefusal>
-        requires { length front.now < 2 }
+        requires { length front.now ≤ 1 }
+        ensures op { names_request body.now ≡ false → result ≡ Err HostRefusal.BadOp }
+        ensures misfit { IsMisfit body.now → result ≡ Err HostRefusal.BadLength }
+        ensures served { IfOk result (StandsBehind front.now) }
     {
         match HostView::read(body) {
             Ok(request) => self.serve(request, front),
@@ -224,7 +225,14 @@ impl<S: Alter> Store<S> {
 
     /// Answers the body of a request. A STORE that is answered as done is on the disk. A request that is refused changes
     /// nothing, but where the database failed: then the records of a formatting that weren't committed are lost.
-    pub fn handle(&mut self, body: &[u8]) -> HostAnswer {
+    pub fn handle(&mut self, body: &[u8]) -> HostAnswer
+        // A body that is no request's is refused.
+        ensures op { names_request body.now ≡ false → result ≡ HostAnswer.Refused 7 }
+        ensures misfit { IsMisfit body.now → result ≡ HostAnswer.Refused 4 }
+
+        // The answer has a body.
+        ensures spelled { IsAnswer result }
+    {
         match self.serve_body(body, &[]) {
             Ok(Served::Records(records)) => HostAnswer::Payload(Bytes::from_vec(records)),
             Ok(Served::Done) => HostAnswer::Done,
@@ -236,7 +244,14 @@ impl<S: Alter> Store<S> {
     /// with the byte before them, so they are copied once.
     ///
     /// Room for an answer without records is taken first: where there is none, nothing is served.
-    pub fn answer(&mut self, alloc: Global, body: &[u8]) -> Result<Vec<u8>, AllocError> {
+    pub fn answer(&mut self, alloc: Global, body: &[u8]) -> Result<Vec<u8>, AllocError>
+        ensures ok { IfOk result (λ v. (answer : HostAnswer) × IsAnswer answer × (v.items ≡ answer_body answer)) }
+        ensures op { names_request body.now ≡ false → IfOk result (λ v. v.items ≡ answer_body (HostAnswer.Refused 7)) }
+        ensures misfit { IsMisfit body.now → IfOk result (λ v. v.items ≡ answer_body (HostAnswer.Refused 4)) }
+        // A frame has room for it.
+        ensures fits { IfOk result (λ v. IsBody v.items) }
+        ensures err { OnErr result (self.new ≡ self.old) }
+    {
         let mut short = Vec::with_capacity(alloc, 2)?;
         match self.serve_body(body, &[GOOD]) {
             Ok(Served::Records(answer)) => return Ok(answer),
@@ -251,7 +266,13 @@ impl<D: Disk + Drop> Store<FileStore<D>> {
     /// Commits, copies the log into the file and closes both.
     pub fn close(mut self) -> Result<(), StoreFault> {
         let settled = self.settle();
-        let Store { conn, .. } = self;
+        let Store {
+            alloc: _,
+            conn,
+            shapes: _,
+            taken: _,
+            failure: _,
+        } = self;
         conn.close()?;
         settled
     }

@@ -1,0 +1,236 @@
+//! FETCHes and STOREs, side by side.
+
+use crate::system::{new_store, report_memory};
+use oram_bytes::Bytes;
+use oram_geometry::Device;
+use oram_host::Server;
+use oram_store::Store;
+use oram_wire::HostRequest;
+use rand_chacha::ChaCha20Rng;
+use rand_core::{Rng, SeedableRng};
+use sqlite::Alter;
+use std::alloc::{AllocError, Global};
+use std::fs::OpenFile;
+use std::io::{Seek, Write};
+use std::rt::{Clock, Files};
+use std::time::{Duration, Instant};
+use std::{fs, io};
+
+const ACCESSES: u32 = 500;
+
+/// A tree of records.
+#[derive(Clone, Copy)]
+pub(crate) struct Shape {
+    pub(crate) depth: u8,
+    pub(crate) record_len: u32,
+}
+
+/// What takes the bodies of requests.
+trait Takes {
+    fn take(&mut self, alloc: Global, body: &[u8]) -> io::Result<Vec<u8>>;
+}
+
+impl Takes for Server {
+    fn take(&mut self, alloc: Global, body: &[u8]) -> io::Result<Vec<u8>> {
+        Ok(self.answer(alloc, body)?)
+    }
+}
+
+impl<S: Alter> Takes for Store<S> {
+    fn take(&mut self, alloc: Global, body: &[u8]) -> io::Result<Vec<u8>> {
+        Ok(self.answer(alloc, body)?)
+    }
+}
+
+/// A file whose first bytes are overwritten by each body, and synced.
+struct Plain<F>(F);
+
+impl<F: OpenFile + Write + Seek> Takes for Plain<F> {
+    fn take(&mut self, alloc: Global, body: &[u8]) -> io::Result<Vec<u8>> {
+        self.0.rewind()?;
+        self.0.write_all(body)?;
+        self.0.sync_all()?;
+        Ok(Vec::new(alloc))
+    }
+}
+
+/// What the FETCHes and the STOREs took, in all.
+#[derive(Clone, Copy)]
+struct Times {
+    fetches: Duration,
+    stores: Duration,
+}
+
+const NONE: Times = Times {
+    fetches: Duration::ZERO,
+    stores: Duration::ZERO,
+};
+
+/// Hands over a body, and adds to a time what that takes.
+fn timed<T: Takes>(
+    rt: &(impl Alloc<A = Global> + Clock),
+    taker: &mut T,
+    body: &[u8],
+    time: &mut Duration,
+) -> io::Result<Vec<u8>> {
+    let start = Instant::now(rt)?;
+    let answer = taker.take(rt.alloc(), body)?;
+    *time = time.saturating_add(start.elapsed(rt)?);
+    Ok(answer)
+}
+
+pub(crate) fn shape_body(alloc: Global, shape: Shape) -> Result<Vec<u8>, AllocError> {
+    HostRequest::Shape {
+        tree: 0,
+        depth: shape.depth,
+        record_len: shape.record_len,
+    }
+    .encode(alloc)
+}
+
+/// The body of a PUT of bytes that are all alike.
+pub(crate) fn put_body(alloc: Global, shape: Shape, node: u32) -> Result<Vec<u8>, AllocError> {
+    let record_len = shape.record_len as usize;
+    HostRequest::Put {
+        tree: 0,
+        node,
+        bytes: Bytes::from_vec(vec![in alloc; node.to_be_bytes()[3]; record_len]?),
+    }
+    .encode(alloc)
+}
+
+/// Gives a tree its shape and all its records.
+fn format<T: Takes>(alloc: Global, taker: &mut T, shape: Shape) -> io::Result<()> {
+    let _ = taker.take(alloc, shape_body(alloc, shape)?.as_slice())?;
+    for node in 0..(2u32 << shape.depth).saturating_sub(1) {
+        let _ = taker.take(alloc, put_body(alloc, shape, node)?.as_slice())?;
+    }
+    Ok(())
+}
+
+/// A FETCH of a leaf, and a STORE of bytes drawn at random to it.
+fn bodies(
+    alloc: Global,
+    shape: Shape,
+    random: &mut ChaCha20Rng,
+) -> Result<(Vec<u8>, Vec<u8>), AllocError> {
+    let leaf = random.next_u32() % (1u32 << shape.depth).max(1);
+    let fetch = HostRequest::Fetch { tree: 0, leaf }.encode(alloc)?;
+    let length = usize::from(shape.depth)
+        .saturating_add(1)
+        .saturating_mul(shape.record_len as usize);
+    let mut records = vec![in alloc; 0u8; length]?;
+    random.fill_bytes(records.as_mut_slice());
+    let store = HostRequest::Store {
+        tree: 0,
+        leaf,
+        records: Bytes::from_vec(records),
+    };
+    Ok((fetch, store.encode(alloc)?))
+}
+
+/// Hands each access to the store, the server and the plain file in turn. Tells how many answers differ.
+fn compare<S: Alter, F: OpenFile + Write + Seek>(
+    rt: &(impl Alloc<A = Global> + Clock),
+    shape: Shape,
+    store: &mut Store<S>,
+    server: &mut Server,
+    plain: &mut Plain<F>,
+    times: &mut [Times; 3],
+) -> io::Result<u32> {
+    let mut random = ChaCha20Rng::from_seed([1; 32]);
+    let mut differing = 0u32;
+    for _ in 0..ACCESSES {
+        let (fetch, put) = bodies(rt.alloc(), shape, &mut random)?;
+        let from_file = timed(rt, store, fetch.as_slice(), &mut times[0].fetches)?;
+        let from_memory = timed(rt, server, fetch.as_slice(), &mut times[1].fetches)?;
+        let kept = timed(rt, store, put.as_slice(), &mut times[0].stores)?;
+        let held = timed(rt, server, put.as_slice(), &mut times[1].stores)?;
+        let _ = timed(rt, plain, put.as_slice(), &mut times[2].stores)?;
+        if from_file != from_memory || kept != held {
+            differing = differing.saturating_add(1);
+        }
+    }
+    Ok(differing)
+}
+
+fn each(time: Duration) -> u128 {
+    time.as_micros() / u128::from(ACCESSES)
+}
+
+/// How many a second.
+fn rate(time: Duration) -> u128 {
+    1_000_000 / each(time).max(1)
+}
+
+fn report(rt: &impl Print, times: &[Times; 3], differing: u32) -> io::Result<()> {
+    let [store, server, plain] = times;
+    for (name, time) in [
+        ("FETCHes from the file", store.fetches),
+        ("FETCHes from memory", server.fetches),
+        ("STOREs to the file", store.stores),
+        ("STOREs to memory", server.stores),
+        ("writes of a STORE's bytes, synced", plain.stores),
+    ] {
+        println!(rt; "  {name}: {} a second, {} us each", rate(time), each(time))?;
+    }
+    let ratio = store.stores.as_micros() * 100 / plain.stores.as_micros().max(1);
+    println!(rt;
+        "  a STORE to the file is {}.{:02} times a synced write",
+        ratio / 100,
+        ratio % 100
+    )?;
+    println!(rt; "  answers that differ: {differing}")
+}
+
+/// Formats a tree in a new file and in memory, and makes accesses to both.
+fn measure_shape<R: Files + Clock + Print + Alloc<A = Global>, S: Alter>(
+    rt: &R,
+    shape: Shape,
+    store: &mut Store<S>,
+    file: &str,
+) -> io::Result<()>
+where
+    R::File: Write + Seek,
+{
+    let mut server = Server::new(rt.alloc());
+    let start = Instant::now(rt)?;
+    format(rt.alloc(), store, shape)?;
+    if store.settle().is_err() {
+        return Err(io::ErrorKind::Other.into());
+    }
+    let formatting = start.elapsed(rt)?;
+    println!(rt;
+        "a tree of depth {}, records of {} bytes, put in {} ms",
+        shape.depth,
+        shape.record_len,
+        formatting.as_millis()
+    )?;
+    format(rt.alloc(), &mut server, shape)?;
+    let plain_name = format!(in rt.alloc(); "{file}-plain")?;
+    let mut plain = Plain(fs::create(rt, plain_name.as_str())?);
+    let mut times = [NONE; 3];
+    let differing = compare(rt, shape, store, &mut server, &mut plain, &mut times)?;
+    fs::remove_file(rt, plain_name.as_str())?;
+    report(rt, &times, differing)
+}
+
+/// The records of the first device of `bench_core`.
+pub(crate) fn first_shape() -> Option<Shape> {
+    let device = Device::new(4_096, 4_096, 4, 4_096, 1 << 40).ok()?;
+    prove!(0 < device.trees());
+    Some(Shape {
+        depth: device.depth(0),
+        record_len: device.record_len(0) as u32,
+    })
+}
+
+pub(crate) fn measure(rt: &HostRuntime, file: &str) -> io::Result<()> {
+    let Some(shape) = first_shape() else {
+        return Ok(());
+    };
+    let mut store = new_store(rt, file)?;
+    measure_shape(rt, shape, &mut store, file)?;
+    let _ = store.close();
+    report_memory(rt)
+}

@@ -1,0 +1,28 @@
+//! How long a bucket server in a file takes, beside the one in memory and a write of the same bytes.
+//!
+//! `run FILE` makes the first device of `bench_core` in a new file, one tree of blocks of 4,096 bytes, and tells how many FETCHes
+//! and STOREs a second the store answers, how many the server in memory, and how many writes of the same bytes are synced a second,
+//! in one run. `fill FILE MEGABYTES` makes a deep tree of the same records in a new file and puts as many bytes; `open FILE` opens
+//! what `fill` left, and fetches. Each tells the most memory that the process had.
+#![tactic(auto)]
+
+mod accesses;
+mod filling;
+mod system;
+
+use accesses::measure;
+use filling::{fill, reopen};
+use std::{env, io};
+
+fn main(rt: HostRuntime) -> io::Result<()> {
+    let mut words = env::args(&rt)?.skip(1);
+    let mode = words.next();
+    let file = words.next();
+    let size = words.next();
+    match (mode.as_deref(), file.as_deref(), size.as_deref()) {
+        (Some("run"), Some(file), None) => measure(&rt, file),
+        (Some("open"), Some(file), None) => reopen(&rt, file),
+        (Some("fill"), Some(file), Some(size)) => fill(&rt, file, size),
+        _ => println!(rt; "bench_store run FILE | open FILE | fill FILE MEGABYTES"),
+    }
+}

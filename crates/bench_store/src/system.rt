@@ -1,0 +1,34 @@
+//! What the system is asked: files that aren't there yet, and how much memory the process had.
+
+use oram_store::{BucketFile, open_store};
+use std::rt::Files;
+use std::{fs, io};
+
+/// A new file's store. A file that is there is left alone.
+pub(crate) fn new_store(rt: &HostRuntime, name: &str) -> io::Result<BucketFile> {
+    if fs::exists(rt, name)? {
+        return Err(io::ErrorKind::AlreadyExists.into());
+    }
+    opened(rt, name)
+}
+
+pub(crate) fn opened(rt: &HostRuntime, name: &str) -> io::Result<BucketFile> {
+    match open_store(rt, rt.alloc(), name) {
+        Ok(store) => Ok(store),
+        Err(fault) => {
+            println!(rt; "{name}: {fault}")?;
+            Err(io::ErrorKind::Other.into())
+        }
+    }
+}
+
+/// Prints the line of the process's status that tells the most memory that it had.
+pub(crate) fn report_memory(rt: &(impl Files + AllocGlobal + Print)) -> io::Result<()> {
+    let status = fs::read_to_string(rt, "/proc/self/status")?;
+    for line in status.as_str().lines() {
+        if line.starts_with("VmHWM:") {
+            rt.println(line)?;
+        }
+    }
+    Ok(())
+}
