@@ -32,7 +32,7 @@ pub struct Store<S: Alter> {
     shapes: Vec<Option<Shape>>,
     /// How many records of a formatting the open transaction has, where one is open.
     taken: u32,
-    /// Why there was no room, the last time that this was answered.
+    /// Why there was no room, the last time that there was none.
     failure: Option<StoreFault>,
 }
 
@@ -69,7 +69,8 @@ impl<S: Alter> Store<S> {
         }
     }
 
-    /// Why the last answer that there is no room was given, the code 8. After `Closed` the file has to be opened again.
+    /// Why there was no room, the last time that a request was refused by the code 8 or `settle` failed. After `Closed` the
+    /// file has to be opened again.
     pub fn failure(&self) -> Option<StoreFault> {
         self.failure
     }
@@ -80,13 +81,6 @@ impl<S: Alter> Store<S> {
         HostRefusal::OutOfMemory
     }
 
-    fn settled(&mut self) -> Result<(), HostRefusal> {
-        match self.settle() {
-            Ok(()) => Ok(()),
-            Err(fault) => Err(self.refuse(fault)),
-        }
-    }
-
     /// Commits what a formatting has put so far. Where that fails, these records are lost.
     pub fn settle(&mut self) -> Result<(), StoreFault> {
         if self.conn.is_autocommit() {
@@ -94,7 +88,19 @@ impl<S: Alter> Store<S> {
         }
         let done = commit(&mut self.conn);
         roll_back(&mut self.conn);
-        Ok(done?)
+        if let Err(error) = done {
+            let fault = StoreFault::from(error);
+            self.failure = Some(fault);
+            return Err(fault);
+        }
+        Ok(())
+    }
+
+    fn settled(&mut self) -> Result<(), HostRefusal> {
+        match self.settle() {
+            Ok(()) => Ok(()),
+            Err(_) => Err(HostRefusal::OutOfMemory),
+        }
     }
 
     /// The records of a path, behind other bytes.
