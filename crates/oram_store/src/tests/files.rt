@@ -11,16 +11,17 @@ fn run<S: Alter>(conn: &mut Connection<S>, sql: &str) -> Result<(), Error> {
     conn.execute_batch(sql)
 }
 
-/// The file is refused with this fault, and keeps its bytes; once more where memory was refused.
-fn refused(rt: &HostRuntime, path: &str, wanted: StoreFault) -> Result<(), Fail> {
+/// Why the file is refused; asked once more where memory was refused. It keeps its bytes.
+fn refusal(rt: &HostRuntime, path: &str) -> Result<Option<StoreFault>, Fail> {
     let before = fs::read(rt, path)?;
     let mut fault = open_store(rt, rt.alloc(), path).err();
     if fault == Some(StoreFault::OutOfMemory) {
         fault = open_store(rt, rt.alloc(), path).err();
     }
-    assert_eq!(rt; fault, Some(wanted));
-    assert!(rt; fs::read(rt, path)? == before);
-    Ok(())
+    if fs::read(rt, path)? != before {
+        Err("the file was changed")?;
+    }
+    Ok(fault)
 }
 
 const FOREIGN: &str = "oram_store_foreign";
@@ -30,15 +31,29 @@ fn files_of_others(rt: HostRuntime) -> Result<(), Fail> {
     let _ = fs::remove_dir_all(&rt, FOREIGN);
     fs::create_dir(&rt, FOREIGN)?;
     fs::write(&rt, "oram_store_foreign/text", "S")?;
-    refused(&rt, "oram_store_foreign/text", StoreFault::NotOurs)?;
+    assert_eq!(rt;
+        refusal(&rt, "oram_store_foreign/text")?,
+        Some(StoreFault::NotOurs)
+    );
     fs::write(
         &rt,
         "oram_store_foreign/long",
         vec![in rt.alloc(); 7; 9_000]?.as_slice(),
     )?;
-    refused(&rt, "oram_store_foreign/long", StoreFault::NotOurs)?;
+    assert_eq!(rt;
+        refusal(&rt, "oram_store_foreign/long")?,
+        Some(StoreFault::NotOurs)
+    );
     assert!(rt; !fs::exists(&rt, "oram_store_foreign/long-wal")?);
-    refused_database(&rt)?;
+    make_databases(&rt)?;
+    assert_eq!(rt;
+        refusal(&rt, "oram_store_foreign/notes")?,
+        Some(StoreFault::NotOurs)
+    );
+    assert_eq!(rt;
+        refusal(&rt, "oram_store_foreign/trees")?,
+        Some(StoreFault::NotOurs)
+    );
     assert_eq!(rt;
         open_store(&rt, rt.alloc(), FOREIGN).err(),
         Some(StoreFault::NotOurs)
@@ -47,19 +62,18 @@ fn files_of_others(rt: HostRuntime) -> Result<(), Fail> {
     Ok(())
 }
 
-/// A database with a table of another kind, also where its text names the table of a store.
-fn refused_database(rt: &HostRuntime) -> Result<(), Fail> {
+/// A database with a table of another kind, and one with no more than the first table of a store.
+fn make_databases(rt: &HostRuntime) -> Result<(), Fail> {
     let mut conn = Connection::open(rt, "oram_store_foreign/notes")?;
     run(
         &mut conn,
         "CREATE TABLE note (text TEXT); INSERT INTO note VALUES ('a')",
     )?;
     conn.close()?;
-    refused(rt, "oram_store_foreign/notes", StoreFault::NotOurs)?;
     let mut conn = Connection::open(rt, "oram_store_foreign/trees")?;
     run(&mut conn, crate::tables::SHAPES)?;
     conn.close()?;
-    refused(rt, "oram_store_foreign/trees", StoreFault::NotOurs)
+    Ok(())
 }
 
 const OWN: &str = "oram_store_own";
@@ -74,13 +88,13 @@ fn held_and_damaged(rt: HostRuntime) -> Result<(), Fail> {
     let Ok(store) = open_store(&rt, rt.alloc(), PATH) else {
         return Err("no store")?;
     };
-    refused(&rt, PATH, StoreFault::Busy)?;
+    assert_eq!(rt; refusal(&rt, PATH)?, Some(StoreFault::Busy));
     assert!(rt; store.close().is_ok());
     let mut bytes = fs::read(&rt, PATH)?;
     let whole = bytes.len();
     bytes.truncate(whole / 2);
     fs::write(&rt, PATH, bytes.as_slice())?;
-    refused(&rt, PATH, StoreFault::Damaged)?;
+    assert_eq!(rt; refusal(&rt, PATH)?, Some(StoreFault::Damaged));
     fs::remove_dir_all(&rt, OWN)?;
     Ok(())
 }
