@@ -43,6 +43,7 @@ impl<S: Alter> Takes for Store<S> {
 }
 
 /// A file whose first bytes are overwritten by each body, and synced.
+#[derive(Drop)]
 struct Plain<F>(F);
 
 impl<F: OpenFile + Write + Seek> Takes for Plain<F> {

@@ -3,7 +3,7 @@
 use crate::accesses::{Shape, first_shape, put_body, shape_body};
 use crate::system::{new_store, opened, report_memory};
 use oram_store::Store;
-use oram_wire::fetch_header;
+use oram_wire::{GOOD, fetch_header};
 use sqlite::Alter;
 use std::alloc::{AllocError, Global};
 use std::io;
@@ -26,7 +26,7 @@ fn put_records<S: Alter>(
     let _ = store.answer(alloc, shape_body(alloc, shape)?.as_slice())?;
     for node in 0..count {
         let body = put_body(alloc, shape, node)?;
-        if store.answer(alloc, body.as_slice())?.as_slice() == &[0x80] {
+        if store.answer(alloc, body.as_slice())?.as_slice() == [GOOD].as_slice() {
             taken = taken.saturating_add(1);
         }
     }
