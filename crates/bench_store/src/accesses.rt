@@ -1,5 +1,7 @@
 //! FETCHes and STOREs, side by side.
 
+ghost use Rattle.std.specs.Prelude.{◌≤◌};
+
 use crate::system::{new_store, report_memory};
 use oram_bytes::Bytes;
 use oram_geometry::Device;
@@ -23,6 +25,7 @@ const ACCESSES: u32 = 500;
 pub(crate) struct Shape {
     pub(crate) depth: u8,
     pub(crate) record_len: u32,
+    ghost deep: { depth ≤ 24 },
 }
 
 /// What takes the bodies of requests.
@@ -175,7 +178,7 @@ fn report(rt: &impl Print, times: &[Times; 3], differing: u32) -> io::Result<()>
     ] {
         println!(rt; "  {name}: {} a second, {} us each", rate(time), each(time))?;
     }
-    let ratio = store.stores.as_micros() * 100 / plain.stores.as_micros().max(1);
+    let ratio = store.stores.as_micros().saturating_mul(100) / plain.stores.as_micros().max(1);
     println!(rt;
         "  a STORE to the file is {}.{:02} times a synced write",
         ratio / 100,
