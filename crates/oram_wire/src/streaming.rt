@@ -38,8 +38,9 @@ impl From<AllocError> for FrameFault {
 #[derive(Clone, Copy, Debug, PartialEq, Eq)]
 pub struct WriteFault;
 
-/// Reads until the buffer is full or the input ends, and tells how many bytes were read.
-fn fill<R: Read>(reader: &mut R, buf: &mut [u8]) -> Result<usize, FrameFault>
+/// Reads until the buffer is full or the input ends, and tells how many bytes were read. What was interrupted is asked for
+/// again.
+pub fn fill<R: Read>(reader: &mut R, buf: &mut [u8]) -> Result<usize, FrameFault>
     ensures within { IfOk result (λ n. n ≤ length buf.new) }
     ensures ok { IfOk result (λ n. Consumes (R.remaining reader.old) (R.remaining reader.new)
         (take n buf.new)) }
@@ -101,8 +102,8 @@ fn read_head<R: Read>(reader: &mut R) -> Result<Option<u32>, FrameFault>
     Ok(Some(number_of(&head)))
 }
 
-/// So many bytes.
-fn read_body<R: Read>(alloc: Global, reader: &mut R, len: usize) -> Result<Vec<u8>, FrameFault>
+/// So many bytes. Memory is taken before any is read.
+pub fn read_body<R: Read>(alloc: Global, reader: &mut R, len: usize) -> Result<Vec<u8>, FrameFault>
     ensures ok { IfOk result (λ body. (length body.items ≡ len)
         × Consumes (R.remaining reader.old) (R.remaining reader.new) body.items) }
     ensures read { IsErrOf result FrameFault.Read → (part : List ℕ) × (length part < len)
@@ -152,8 +153,8 @@ pub fn next_frame<R: Read>(alloc: Global, reader: &mut R) -> Result<Option<Vec<u
     Ok(Some(body))
 }
 
-/// Writes all of the bytes, or a beginning of them.
-fn write<W: Write>(writer: &mut W, bytes: &[u8]) -> Result<(), WriteFault>
+/// Writes all of the bytes, or a beginning of them. The writer isn't flushed.
+pub fn write<W: Write>(writer: &mut W, bytes: &[u8]) -> Result<(), WriteFault>
     ensures ok { OnOk result (Appends (W.contents writer.old) (W.contents writer.new) bytes.now) }
     ensures err { OnErr result (TakesPart (W.contents writer.old) (W.contents writer.new)
         bytes.now) }

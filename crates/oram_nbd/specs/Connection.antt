@@ -1,0 +1,27 @@
+-- A whole connection: its handshake, and then its requests.
+use Rattle.std.specs.Prelude.{◌≡◌, ◌⊎◌, ℕ, ◌≤◌, List, Option, nat_le, Bool, ◌&&◌, if◌then◌else◌, length}
+use Rattle.std.specs.Int.{is_power_of_two}
+use Rattle.oram_nbd.specs.Negotiation.{HasAgreed, StopsNegotiating}
+use Rattle.oram_nbd.specs.Transmission.{HasTransmitted, StopsServing}
+use Rattle.oram_nbd.specs.declared.faults.NbdFault.{NbdFault}
+use Rattle.oram_nbd.specs.declared.handshake.Agreement.TheVariants.{Transmission, Gone}
+
+-- how many bytes a request has at best: as many as a block, where that is a power of two that clients take
+abbrev pub preferred_of : ℕ → ℕ
+preferred_of len = if is_power_of_two len && nat_le 512 len && nat_le len 33554432 then len else 4096
+
+-- over a device of blocks of len bytes, which may be sound, told of by this name
+module _ (sound : Type 0) (len : ℕ) (name : List ℕ) where
+  -- The client went in the handshake; or requests followed, and so many were answered.
+  abbrev pub HasConnected : List ℕ → ℕ → List ℕ → Option (List ℕ) → Option (List ℕ) → Option (List ℕ) → Option (List ℕ) → Type 0
+  HasConnected old count new unread unread' written written' =
+      (HasAgreed name (length old) (preferred_of len) Gone unread unread' written written' × (count ≡ 0) × (new ≡ old))
+      ⊎ ((midread midwritten : Option (List ℕ)) × HasAgreed name (length old) (preferred_of len) Transmission unread midread written midwritten
+      × HasTransmitted sound len old count new midread unread' midwritten written')
+
+  -- It stopped in the handshake, and the device was left alone; or behind it.
+  abbrev pub StopsConnection : List ℕ → NbdFault → List ℕ → Option (List ℕ) → Option (List ℕ) → Option (List ℕ) → Option (List ℕ) → Type 0
+  StopsConnection old fault new unread unread' written written' =
+      (StopsNegotiating name (length old) (preferred_of len) fault unread unread' written written' × (new ≡ old))
+      ⊎ ((midread midwritten : Option (List ℕ)) × HasAgreed name (length old) (preferred_of len) Transmission unread midread written midwritten
+      × StopsServing sound len old fault new midread unread' midwritten written')

@@ -1,0 +1,20 @@
+-- The protocol's numbers of errors, and what a fault below a connection is told as.
+use Rattle.std.specs.Prelude.{ℕ}
+use Rattle.oram_wire.specs.declared.streaming.FrameFault.{FrameFault}
+use Rattle.oram_wire.specs.declared.streaming.FrameFault.TheVariants as frames
+use Rattle.oram_nbd.specs.declared.faults.NbdError.{NbdError}
+use Rattle.oram_nbd.specs.declared.faults.NbdError.TheVariants.{Io, NoMemory, Invalid, NoSpace}
+use Rattle.oram_nbd.specs.declared.faults.NbdFault.{NbdFault}
+use Rattle.oram_nbd.specs.declared.faults.NbdFault.TheVariants as fault
+
+abbrev pub error_number : NbdError → ℕ
+error_number Io = 5
+error_number NoMemory = 12
+error_number Invalid = 22
+error_number NoSpace = 28
+
+abbrev pub reading_fault : FrameFault → NbdFault
+reading_fault frames.Read = fault.Read
+reading_fault frames.Truncated = fault.Truncated
+reading_fault frames.Frame = fault.Magic
+reading_fault frames.OutOfMemory = fault.OutOfMemory

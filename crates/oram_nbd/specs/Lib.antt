@@ -1,0 +1,12 @@
+pub mod Bytes
+pub mod Trimming
+pub mod MemBlocks
+pub mod Errors
+pub mod Streams
+pub mod Messages
+pub mod Serving
+pub mod Transmission
+pub mod Options
+pub mod Handshake
+pub mod Negotiation
+pub mod Connection

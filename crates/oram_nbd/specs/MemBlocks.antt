@@ -1,0 +1,13 @@
+-- What a device in memory holds.
+use Rattle.std.specs.Prelude.{◌≡◌, ℕ, ◌*◌, ◌<◌, ◌^◌, List, length}
+
+pub record MemBlocks : Type 0 where
+  pub bytes : List ℕ
+  pub block_len : ℕ
+  pub blocks : ℕ
+
+-- so many blocks, each of so many bytes, one at least
+pub record IsWhole (d : MemBlocks) : Type 0 where
+  pub some : 0 < d.block_len
+  pub whole : d.block_len * d.blocks ≡ length d.bytes
+  pub bound : length d.bytes < 2 ^ 63

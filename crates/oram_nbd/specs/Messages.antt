@@ -1,0 +1,60 @@
+-- Requests and replies as bytes. All numbers are big-endian.
+use Rattle.std.specs.Prelude.{◌≡◌, ◌≢◌, ℕ, ◌<◌, ◌^◌, List, [], ◌∷◌, ◌++◌}
+use Rattle.std.specs.Int.{w16, w32, w64, to_be_bytes}
+use Rattle.oram_nbd.specs.Errors.{error_number}
+use Rattle.oram_nbd.specs.declared.requests.Command.{Command}
+use Rattle.oram_nbd.specs.declared.requests.Command.TheVariants as command
+use Rattle.oram_nbd.specs.declared.requests.Request.{Request}
+use Rattle.oram_nbd.specs.declared.replies.SimpleReply.{SimpleReply}
+use Rattle.oram_nbd.specs.declared.replies.SimpleReply.TheVariants as reply
+
+abbrev pub command_code : Command → ℕ
+command_code command.Read = 0
+command_code command.Write = 1
+command_code command.Disconnect = 2
+command_code command.Flush = 3
+command_code command.Trim = 4
+command_code command.WriteZeroes = 6
+command_code (command.Other code) = code
+
+-- no other command has the number of one that is served
+abbrev pub IsTold : Command → Type 0
+IsTold (command.Other code) = (code ≢ 0) × (code ≢ 1) × (code ≢ 2) × (code ≢ 3) × (code ≢ 4) × (code ≢ 6)
+IsTold _ = Unit {0}
+
+-- the 28 bytes of a request
+abbrev pub request_text : Request → List ℕ
+request_text r =
+    to_be_bytes w32 0x25609513 ++ to_be_bytes w16 r.flags ++ to_be_bytes w16 (command_code r.command)
+    ++ to_be_bytes w64 r.cookie ++ to_be_bytes w64 r.offset ++ to_be_bytes w32 r.length
+
+-- what has a spelling
+pub record IsRequest (r : Request) : Type 0 where
+  pub told : IsTold r.command
+  pub code : command_code r.command < 2 ^ 16
+  pub flags : r.flags < 2 ^ 16
+  pub cookie : r.cookie < 2 ^ 64
+  pub offset : r.offset < 2 ^ 64
+  pub length : r.length < 2 ^ 32
+
+-- how many bytes follow a request
+abbrev pub payload_len : Command → ℕ → ℕ
+payload_len command.Write n = n
+payload_len _ n = 0
+
+-- 0 where the request was carried out
+abbrev pub reply_number : SimpleReply → ℕ
+reply_number (reply.Done bytes) = 0
+reply_number (reply.Refused e) = error_number e
+
+-- the bytes of a read
+abbrev pub reply_bytes : SimpleReply → List ℕ
+reply_bytes (reply.Done bytes) = bytes
+reply_bytes (reply.Refused e) = []
+
+-- a reply's 16 bytes
+abbrev pub reply_head : ℕ → SimpleReply → List ℕ
+reply_head cookie r = to_be_bytes w32 0x67446698 ++ to_be_bytes w32 (reply_number r) ++ to_be_bytes w64 cookie
+
+abbrev pub reply_text : ℕ → SimpleReply → List ℕ
+reply_text cookie r = reply_head cookie r ++ reply_bytes r

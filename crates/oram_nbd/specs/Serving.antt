@@ -1,0 +1,101 @@
+-- What the service of requests is: each is answered as an array of bytes answers it.
+use Rattle.std.specs.Prelude.{◌≡◌, ◌⊎◌, ℕ, ◌+◌, ◌*◌, ◌<◌, ◌≤◌, List, [], ◌∷◌, ◌++◌, length, Option, Some, None, nat_lt, if◌then◌else◌}
+use Rattle.std.specs.List.{flat_map}
+use Rattle.oram_nbd.specs.Bytes.{bytes_at, written, zeroes, IsBegun}
+use Rattle.oram_nbd.specs.Trimming.{first_block, trim_len, trimmed}
+use Rattle.oram_nbd.specs.Messages.{payload_len, request_text, reply_text, IsRequest}
+use Rattle.oram_nbd.specs.declared.faults.NbdError.{NbdError}
+use Rattle.oram_nbd.specs.declared.faults.NbdError.TheVariants.{Io, NoMemory, Invalid, NoSpace}
+use Rattle.oram_nbd.specs.declared.requests.Command.{Command}
+use Rattle.oram_nbd.specs.declared.requests.Command.TheVariants.{Read, Write, Disconnect, Flush, Trim, WriteZeroes, Other}
+use Rattle.oram_nbd.specs.declared.requests.Request.{Request}
+use Rattle.oram_nbd.specs.declared.replies.SimpleReply.{SimpleReply}
+use Rattle.oram_nbd.specs.declared.replies.SimpleReply.TheVariants.{Done, Refused}
+
+-- the greatest flags of a command: FUA at each, and NO_HOLE where zeroes are written
+abbrev pub greatest_flags : Command → ℕ
+greatest_flags WriteZeroes = 3
+greatest_flags _ = 1
+
+-- an error where the range doesn't lie within so many bytes
+abbrev pub outside : NbdError → ℕ → ℕ → ℕ → Option NbdError
+outside e size at n = if nat_lt size (at + n) then Some e else None
+
+-- the most bytes of one request
+abbrev pub short : Option NbdError → ℕ → Option NbdError
+short error n = if nat_lt 33554432 n then Some Invalid else error
+
+-- why a command on a range of a device of so many bytes is refused
+abbrev pub misfit : Command → ℕ → ℕ → ℕ → Option NbdError
+misfit Read size at n = short (outside Invalid size at n) n
+misfit Write size at n = short (outside NoSpace size at n) n
+misfit Disconnect size at n = None
+misfit Flush size at n = None
+misfit Trim size at n = outside Invalid size at n
+misfit WriteZeroes size at n = outside NoSpace size at n
+misfit (Other code) size at n = Some Invalid
+
+-- why a request is refused, before the device is asked
+abbrev pub refusal_of : ℕ → Request → Option NbdError
+refusal_of size r = if nat_lt (greatest_flags r.command) r.flags then Some Invalid else misfit r.command size r.offset r.length
+
+-- what an array of bytes gives to a command
+abbrev pub given : Command → List ℕ → ℕ → ℕ → List ℕ
+given Read bytes at n = bytes_at bytes at n
+given _ bytes at n = []
+
+-- what it is after the command, where a trim goes by blocks of len bytes
+abbrev pub after : Command → ℕ → List ℕ → ℕ → ℕ → List ℕ → List ℕ
+after Write len bytes at n payload = written bytes at payload
+after Trim len bytes at n payload = trimmed len bytes at n
+after WriteZeroes len bytes at n payload = written bytes at (zeroes n)
+after _ len bytes at n payload = bytes
+
+-- what it is where the device failed in the middle: the command came as far as some byte of its range
+abbrev pub IsPartly : Command → ℕ → List ℕ → ℕ → ℕ → List ℕ → List ℕ → Type 0
+IsPartly Write len old at n payload new = IsBegun old at payload new
+IsPartly Trim len old at n payload new = IsBegun old (len * first_block len at) (zeroes (trim_len len at n)) new
+IsPartly WriteZeroes len old at n payload new = IsBegun old at (zeroes n) new
+IsPartly _ len old at n payload new = new ≡ old
+
+-- the reply is that of the array of bytes, or an error
+abbrev pub IsAnswer : ℕ → List ℕ → Request → List ℕ → SimpleReply → List ℕ → Type 0
+IsAnswer len old r payload (Done bytes) new =
+    (refusal_of (length old) r ≡ None) × (bytes ≡ given r.command old r.offset r.length) × (new ≡ after r.command len old r.offset r.length payload)
+IsAnswer len old r payload (Refused e) new =
+    ((refusal_of (length old) r ≡ Some e) × (new ≡ old))
+    ⊎ ((refusal_of (length old) r ≡ None) × ((e ≡ Io) ⊎ (e ≡ NoMemory)) × IsPartly r.command len old r.offset r.length payload new)
+
+-- a request, the bytes behind it, and the reply
+pub record Turn : Type 0 where
+  pub request : Request
+  pub payload : List ℕ
+  pub reply : SimpleReply
+
+pub record IsTurn (len : ℕ) (old : List ℕ) (turn : Turn) (new : List ℕ) : Type 0 where
+  pub request : IsRequest turn.request
+  pub payload : length turn.payload ≡ payload_len turn.request.command turn.request.length
+  pub answer : IsAnswer len old turn.request turn.payload turn.reply new
+
+-- the turns, one after another, on an array of bytes
+abbrev pub IsService : ℕ → List ℕ → List Turn → List ℕ → Type 0
+IsService len old [] new = new ≡ old
+IsService len old (turn ∷ turns) new = (mid : List ℕ) × IsTurn len old turn mid × IsService len mid turns new
+
+-- what the client said at a turn, and what it was told
+abbrev pub asking : Turn → List ℕ
+asking turn = request_text turn.request ++ turn.payload
+
+abbrev pub replying : Turn → List ℕ
+replying turn = reply_text turn.request.cookie turn.reply
+
+abbrev pub said : List Turn → List ℕ
+said turns = flat_map asking turns
+
+abbrev pub told : List Turn → List ℕ
+told turns = flat_map replying turns
+
+-- no reply says that the device failed
+abbrev pub NeverFails : List Turn → Type 0
+NeverFails [] = Unit {0}
+NeverFails (turn ∷ turns) = (turn.reply ≡ Refused Io → ⊥) × NeverFails turns

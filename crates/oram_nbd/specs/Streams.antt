@@ -1,0 +1,35 @@
+-- What is read and written where a message is cut off.
+use Rattle.std.specs.Prelude.{◌≡◌, ℕ, ◌<◌, ◌≤◌, List, length, take, Option, Bool, true, false}
+use Rattle.std.specs.Io.KnownBytes.{Appends, Consumes, IsAtEnd}
+use Rattle.oram_nbd.specs.declared.faults.NbdFault.{NbdFault}
+use Rattle.oram_nbd.specs.declared.faults.NbdFault.TheVariants.{Read, Truncated, Magic, Write, OldClient, UnknownExport, TooManyOptions, OutOfMemory}
+
+-- so many bytes were read, whatever they are
+abbrev pub IsSkip : Option (List ℕ) → Option (List ℕ) → ℕ → Type 0
+IsSkip old new n = (bytes : List ℕ) × (length bytes ≡ n) × Consumes old new bytes
+
+-- Of so many bytes a part was read: the reader failed behind it, or the input ended there, with so many bytes at least.
+abbrev pub ComesShort : ℕ → ℕ → NbdFault → Option (List ℕ) → Option (List ℕ) → Type 0
+ComesShort least n Read old new = (part : List ℕ) × (length part < n) × Consumes old new part
+ComesShort least n Truncated old new = (part : List ℕ) × (length part < n) × Consumes old new part × (least ≤ length part) × IsAtEnd new
+ComesShort least n Magic old new = ⊥
+ComesShort least n Write old new = ⊥
+ComesShort least n OldClient old new = ⊥
+ComesShort least n UnknownExport old new = ⊥
+ComesShort least n TooManyOptions old new = ⊥
+ComesShort least n OutOfMemory old new = ⊥
+
+-- a beginning of the text was written, or all of it
+abbrev pub IsBegunText : Option (List ℕ) → Option (List ℕ) → List ℕ → Type 0
+IsBegunText old new text = (count : ℕ) × Appends old new (take count text)
+
+-- Where a message is due that has a head, less than it came, or what is no such message.
+abbrev pub Misses : (List ℕ → Type 0) → (List ℕ → Type 0) → NbdFault → Option (List ℕ) → Option (List ℕ) → Type 0
+Misses unfinished none Read old new = (part : List ℕ) × unfinished part × Consumes old new part
+Misses unfinished none Truncated old new = (part : List ℕ) × unfinished part × Consumes old new part × (0 < length part) × IsAtEnd new
+Misses unfinished none Magic old new = (part : List ℕ) × none part × Consumes old new part
+Misses unfinished none Write old new = ⊥
+Misses unfinished none OldClient old new = ⊥
+Misses unfinished none UnknownExport old new = ⊥
+Misses unfinished none TooManyOptions old new = ⊥
+Misses unfinished none OutOfMemory old new = ⊥

@@ -1,0 +1,54 @@
+//! A whole connection.
+
+ghost use Rattle.std.specs.Prelude.{◌≡◌, ◌≤◌, length, IfOk, IfErr};
+ghost use Rattle.oram_nbd.specs.Connection.{preferred_of, HasConnected, StopsConnection};
+
+use crate::LONGEST_PAYLOAD;
+use crate::disk::Disk;
+use crate::faults::NbdFault;
+use crate::handshake::{Agreement, Export};
+use crate::negotiating::negotiate;
+use crate::transmitting::transmit;
+use std::alloc::Global;
+use std::io::{Read, Write};
+
+/// How many bytes a request has at best: as many as a block, where clients take such a number.
+fn preferred(block_bytes: u32) -> u32
+    ensures { result ≡ preferred_of block_bytes }
+{
+    if block_bytes.is_power_of_two() && 512 <= block_bytes && block_bytes <= LONGEST_PAYLOAD {
+        block_bytes
+    } else {
+        4096
+    }
+}
+
+/// Serves one connection, from its greeting until its client goes, and tells how many requests were answered.
+///
+/// The device is the one export, under this name and under none.
+pub fn serve<R: Read, W: Write, D: Disk>(
+    alloc: Global,
+    reader: &mut R,
+    writer: &mut W,
+    disk: &mut D,
+    name: &[u8],
+) -> Result<u64, NbdFault>
+    requires { length name.now ≤ 4096 }
+    ensures ok { IfOk result (λ count. HasConnected (D.is_sound disk.old) (D.block_len disk.old) name.now (D.bytes disk.old) count (D.bytes disk.new)
+        (R.remaining reader.old) (R.remaining reader.new) (W.contents writer.old) (W.contents writer.new)) }
+    ensures err { IfErr result (λ fault. StopsConnection (D.is_sound disk.old) (D.block_len disk.old) name.now (D.bytes disk.old) fault (D.bytes disk.new)
+        (R.remaining reader.old) (R.remaining reader.new) (W.contents writer.old) (W.contents writer.new)) }
+    ensures keeps { D.is_sound disk.old → D.is_sound disk.new }
+    ensures block { D.block_len disk.new ≡ D.block_len disk.old }
+{
+    let block_bytes = disk.block_bytes();
+    let export = Export {
+        name,
+        size: u64::from(block_bytes) * disk.blocks(),
+        preferred: preferred(block_bytes),
+    };
+    match negotiate(alloc, reader, writer, &export)? {
+        Agreement::Gone => Ok(0),
+        Agreement::Transmission => transmit(alloc, reader, writer, disk),
+    }
+}

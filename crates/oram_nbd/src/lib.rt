@@ -1,0 +1,49 @@
+//! The NBD protocol over a device of whole blocks: its handshake, its requests and replies, and the service of one connection.
+//!
+//! The protocol is the public one (NetworkBlockDevice/nbd, doc/proto.md): the fixed newstyle handshake, simple replies, and the
+//! commands READ, WRITE, FLUSH, TRIM, WRITE_ZEROES and DISC. A [`Disk`] is what is served: an array of bytes that is read and
+//! written by whole blocks. [`read_range`], [`write_range`], [`zero_range`] and [`trim_range`] carry out a byte range on it.
+//! [`negotiate`] is the handshake, [`transmit`] the requests behind it, and [`serve`] a whole connection.
+#![tactic(auto)]
+
+mod connecting;
+mod disk;
+mod faults;
+mod handshake;
+mod mem_disk;
+mod negotiating;
+mod numbers;
+mod options;
+mod ranges;
+mod replies;
+mod requests;
+mod serving;
+mod streams;
+mod transmitting;
+
+pub use connecting::serve;
+pub use disk::Disk;
+pub use faults::{DiskFault, NbdError, NbdFault};
+pub use handshake::{Agreement, Export};
+pub use mem_disk::MemDisk;
+pub use negotiating::negotiate;
+pub use options::{HandshakeOption, OptionHead, ReplyKind, wanted_name};
+pub use ranges::{read_range, trim_range, write_range, zero_range};
+pub use replies::SimpleReply;
+pub use requests::{Command, Request};
+pub use transmitting::transmit;
+
+/// The most bytes that one READ or WRITE may have.
+pub const LONGEST_PAYLOAD: u32 = 33_554_432;
+
+/// The most bytes that an option of the handshake may carry: what is longer is refused.
+pub const LONGEST_OPTION: u32 = 65_536;
+
+/// How many options a handshake may take.
+pub const MOST_OPTIONS: u32 = 1_000;
+
+/// The longest name of an export, in bytes.
+pub const LONGEST_NAME: usize = 4_096;
+
+#[cfg(test)]
+mod tests;

@@ -1,0 +1,127 @@
+//! The fixed newstyle handshake.
+
+ghost use Rattle.std.specs.Prelude.{◌≡◌, ◌⊎◌, ℕ, List, [], ◌++◌, ◌≤◌, Option, length, IfOk, IfErr, MatchOption, None};
+ghost use Rattle.std.specs.Int.{w32, to_be_bytes};
+ghost use Rattle.std.specs.Io.KnownBytes.{Appends, Consumes};
+ghost use Rattle.oram_wire.specs.Streaming.{GivesEnd};
+ghost use Rattle.oram_nbd.specs.Streams.{Misses};
+ghost use Rattle.oram_nbd.specs.Options.{option_head, IsHead};
+ghost use Rattle.oram_nbd.specs.Handshake.{greeting, IsFixed};
+ghost use Rattle.oram_nbd.specs.Negotiation.{Exchange, HasAgreed, IsExchange, IsNoOption, IsUnfinishedOption, StopsAt, StopsGreeting, StopsNegotiating};
+
+use crate::faults::NbdFault;
+use crate::handshake::{Agreement, Export, bare_reply};
+use crate::numbers::number_u32;
+use crate::options::{OptionHead, ReplyKind};
+use crate::streams::{next_head, send, skip};
+use crate::{LONGEST_OPTION, MOST_OPTIONS};
+use oram_wire::{fill, read_body};
+use std::alloc::Global;
+use std::io::{Read, Write};
+
+/// The letters that a server begins with, those before its options and the client's, and its flags: the fixed newstyle, and that
+/// it knows of clients that want no zeroes.
+const GREETING: [u8; 18] = *b"NBDMAGICIHAVEOPT\0\x03";
+
+/// The flags of a client of the fixed newstyle: zeroes are to follow the answer to EXPORT_NAME.
+const FIXED_NEWSTYLE: u32 = 1;
+
+/// The flags of a client of the fixed newstyle: no zeroes are to follow it.
+const FIXED_NEWSTYLE_NO_ZEROES: u32 = 3;
+
+/// Greets a client, and reads whether zeroes are to follow the answer to EXPORT_NAME.
+fn greet<R: Read, W: Write>(reader: &mut R, writer: &mut W) -> Result<bool, NbdFault>
+    ensures ok { IfOk result (λ zeroes. (flags : ℕ) × IsFixed flags zeroes
+        × Consumes (R.remaining reader.old) (R.remaining reader.new) (to_be_bytes w32 flags)
+        × Appends (W.contents writer.old) (W.contents writer.new) greeting) }
+    ensures err { IfErr result (λ fault. StopsGreeting fault (R.remaining reader.old) (R.remaining reader.new)
+        (W.contents writer.old) (W.contents writer.new)) }
+{
+    send(writer, &GREETING, &[])?;
+    let mut flags = [0; 4];
+    if fill(reader, &mut flags)? < flags.len() {
+        return Err(NbdFault::Truncated);
+    }
+    match number_u32(flags) {
+        FIXED_NEWSTYLE => Ok(true),
+        FIXED_NEWSTYLE_NO_ZEROES => Ok(false),
+        _ => Err(NbdFault::OldClient),
+    }
+}
+
+/// The head of the next option, or none at the end of the input.
+fn next_option<R: Read>(reader: &mut R) -> Result<Option<OptionHead>, NbdFault>
+    ensures ok { IfOk result (λ next. MatchOption next
+        (GivesEnd (R.remaining reader.old) (R.remaining reader.new))
+        (λ h. IsHead h × Consumes (R.remaining reader.old) (R.remaining reader.new) (option_head h.option h.length))) }
+    ensures err { IfErr result (λ fault. Misses IsUnfinishedOption IsNoOption fault (R.remaining reader.old) (R.remaining reader.new)) }
+{
+    let mut head = [0u8; OptionHead::BYTES];
+    if !next_head(reader, &mut head)? {
+        return Ok(None);
+    }
+    match OptionHead::decode(&head) {
+        Some(option) => Ok(Some(option)),
+        None => Err(NbdFault::Magic),
+    }
+}
+
+/// Reads what an option carries, and answers it. It tells what the handshake comes to, if it doesn't go on.
+fn take_option<R: Read, W: Write>(
+    alloc: Global,
+    reader: &mut R,
+    writer: &mut W,
+    export: &Export<'_>,
+    zeroes: bool,
+    head: OptionHead,
+) -> Result<Option<Agreement>, NbdFault>
+    requires head { IsHead head }
+    requires name { length export.now.name.now ≤ 4096 }
+    ensures ok { IfOk result (λ ends. (x : Exchange) × (x.option ≡ head.option) × (length x.content ≡ head.length)
+        × IsExchange export.now.name.now export.now.size export.now.preferred zeroes x ends
+        × Consumes (R.remaining reader.old) (R.remaining reader.new) x.content
+        × Appends (W.contents writer.old) (W.contents writer.new) x.answer) }
+    ensures err { IfErr result (λ fault. StopsAt export.now.name.now export.now.size export.now.preferred zeroes head fault
+        (R.remaining reader.old) (R.remaining reader.new) (W.contents writer.old) (W.contents writer.new)) }
+{
+    if head.length > LONGEST_OPTION {
+        skip(reader, u64::from(head.length))?;
+        let answer = bare_reply(alloc, head.option, ReplyKind::TooBig)?;
+        send(writer, &answer, &[])?;
+        return Ok(None);
+    }
+    let content = read_body(alloc, reader, head.length as usize)?;
+    let Some(answer) = export.answer(alloc, head.option, &content, zeroes)? else {
+        return Err(NbdFault::UnknownExport);
+    };
+    send(writer, &answer.text, &[])?;
+    Ok(answer.ends)
+}
+
+/// Agrees with a client on the export.
+///
+/// An option that carries more than `LONGEST_OPTION` bytes is refused, and its bytes are passed over. A client that takes
+/// `MOST_OPTIONS` options without an end is let go.
+pub fn negotiate<R: Read, W: Write>(
+    alloc: Global,
+    reader: &mut R,
+    writer: &mut W,
+    export: &Export<'_>,
+) -> Result<Agreement, NbdFault>
+    requires { length export.now.name.now ≤ 4096 }
+    ensures ok { IfOk result (λ agreement. HasAgreed export.now.name.now export.now.size export.now.preferred agreement
+        (R.remaining reader.old) (R.remaining reader.new) (W.contents writer.old) (W.contents writer.new)) }
+    ensures err { IfErr result (λ fault. StopsNegotiating export.now.name.now export.now.size export.now.preferred fault
+        (R.remaining reader.old) (R.remaining reader.new) (W.contents writer.old) (W.contents writer.new)) }
+{
+    let zeroes = greet(reader, writer)?;
+    for _ in 0..MOST_OPTIONS {
+        let Some(head) = next_option(reader)? else {
+            return Ok(Agreement::Gone);
+        };
+        if let Some(agreement) = take_option(alloc, reader, writer, export, zeroes, head)? {
+            return Ok(agreement);
+        }
+    }
+    Err(NbdFault::TooManyOptions)
+}

@@ -1,0 +1,240 @@
+//! Byte ranges as calls of whole blocks.
+
+ghost use Rattle.std.specs.Prelude.{◌≡◌, ◌⊎◌, ℕ, List, ◌+◌, ◌-◌, ◌*◌, ◌<◌, ◌≤◌, ◌^◌, ◌++◌, length, take, IfOk, OnOk, OnErr, IsErrOf};
+ghost use Rattle.oram_nbd.specs.Bytes.{bytes_at, written, zeroes, IsBegun};
+ghost use Rattle.oram_nbd.specs.Trimming.{trimmed, first_block, trim_len};
+
+use crate::disk::Disk;
+use crate::faults::DiskFault;
+use std::alloc::{AllocError, Global};
+
+/// The part of a range that lies in the block where the range begins.
+#[derive(Clone, Copy, Debug)]
+struct Part {
+    block: u64,
+    start: usize,
+    count: usize,
+}
+
+impl Part {
+    fn at(at: u64, most: u64, block_bytes: u32) -> Part
+        requires block { 0 < block_bytes }
+        requires some { 0 < most }
+        ensures place { block_bytes * result.block + result.start ≡ at }
+        ensures fits { result.start + result.count ≤ block_bytes }
+        ensures most { result.count ≤ most }
+        ensures some { 0 < result.count }
+    {
+        let len = u64::from(block_bytes);
+        let start = at % len;
+        let count = most.min(len - start);
+        Part {
+            block: at / len,
+            start: start as usize,
+            count: count as usize,
+        }
+    }
+}
+
+/// Adds the bytes from a place on, as far as its block goes, and tells how many.
+fn read_part<D: Disk>(
+    alloc: Global,
+    disk: &mut D,
+    at: u64,
+    most: u64,
+    out: &mut Vec<u8>,
+) -> Result<u64, DiskFault>
+    requires within { at + most ≤ length (D.bytes disk.old) }
+    requires some { 0 < most }
+    ensures some { IfOk result (λ n. 0 < n) }
+    ensures most { IfOk result (λ n. n ≤ most) }
+    ensures ok { IfOk result (λ n. out.new.items ≡ out.old.items ++ bytes_at (D.bytes disk.old) at n) }
+    ensures same { D.bytes disk.new ≡ D.bytes disk.old }
+    ensures sound { IsErrOf result DiskFault.Failed → D.is_sound disk.old → ⊥ }
+    ensures keeps { D.is_sound disk.old → D.is_sound disk.new }
+    ensures block { D.block_len disk.new ≡ D.block_len disk.old }
+{
+    let _blocks = disk.blocks();
+    let part = Part::at(at, most, disk.block_bytes());
+    let block = disk.read(alloc, part.block)?;
+    out.extend_from_slice(&block[part.start..part.start + part.count])?;
+    Ok(part.count as u64)
+}
+
+/// The bytes of a range. The device holds what it held.
+pub fn read_range<D: Disk>(
+    alloc: Global,
+    disk: &mut D,
+    offset: u64,
+    count: u32,
+) -> Result<Vec<u8>, DiskFault>
+    requires { offset + count ≤ length (D.bytes disk.old) }
+    ensures ok { IfOk result (λ v. v.items ≡ bytes_at (D.bytes disk.old) offset count) }
+    ensures same { D.bytes disk.new ≡ D.bytes disk.old }
+    ensures sound { IsErrOf result DiskFault.Failed → D.is_sound disk.old → ⊥ }
+    ensures keeps { D.is_sound disk.old → D.is_sound disk.new }
+    ensures block { D.block_len disk.new ≡ D.block_len disk.old }
+{
+    let _blocks = disk.blocks();
+    let mut out = Vec::with_capacity(alloc, count as usize)?;
+    let count = u64::from(count);
+    let mut done = 0;
+    while done < count {
+        done += read_part(alloc, disk, offset + done, count - done, &mut out)?;
+    }
+    Ok(out)
+}
+
+/// A block with other bytes from a place in it on.
+fn spliced(alloc: Global, block: &[u8], start: usize, payload: &[u8]) -> Result<Vec<u8>, AllocError>
+    requires { start + length payload.now ≤ length block.now }
+    ensures { IfOk result (λ v. v.items ≡ written block.now start payload.now) }
+{
+    let mut whole = Vec::with_capacity(alloc, block.len())?;
+    whole.extend_from_slice(&block[..start])?;
+    whole.extend_from_slice(payload)?;
+    whole.extend_from_slice(&block[start + payload.len()..])?;
+    Ok(whole)
+}
+
+/// Writes bytes that lie in one block. A block that is written in part is read first.
+fn write_in_block<D: Disk>(
+    alloc: Global,
+    disk: &mut D,
+    block: u64,
+    start: usize,
+    payload: &[u8],
+) -> Result<(), DiskFault>
+    requires within { D.block_len disk.old * block + D.block_len disk.old ≤ length (D.bytes disk.old) }
+    requires fits { start + length payload.now ≤ D.block_len disk.old }
+    ensures ok { OnOk result (D.bytes disk.new ≡ written (D.bytes disk.old) (D.block_len disk.old * block + start) payload.now) }
+    ensures err { OnErr result ((D.bytes disk.new ≡ D.bytes disk.old) ⊎ (D.bytes disk.new ≡ written (D.bytes disk.old) (D.block_len disk.old * block + start) payload.now)) }
+    ensures sound { IsErrOf result DiskFault.Failed → D.is_sound disk.old → ⊥ }
+    ensures keeps { D.is_sound disk.old → D.is_sound disk.new }
+    ensures block { D.block_len disk.new ≡ D.block_len disk.old }
+{
+    if payload.len() == disk.block_bytes() as usize {
+        return disk.write(alloc, block, payload);
+    }
+    let old = disk.read(alloc, block)?;
+    let whole = spliced(alloc, &old, start, payload)?;
+    disk.write(alloc, block, &whole)
+}
+
+/// Writes the bytes at the front of the payload that lie in the block of a place, and tells how many.
+fn write_part<D: Disk>(
+    alloc: Global,
+    disk: &mut D,
+    at: u64,
+    payload: &[u8],
+) -> Result<usize, DiskFault>
+    requires within { at + length payload.now ≤ length (D.bytes disk.old) }
+    requires some { 0 < length payload.now }
+    ensures some { IfOk result (λ n. 0 < n) }
+    ensures most { IfOk result (λ n. n ≤ length payload.now) }
+    ensures ok { IfOk result (λ n. D.bytes disk.new ≡ written (D.bytes disk.old) at (take n payload.now)) }
+    ensures err { OnErr result (IsBegun (D.bytes disk.old) at payload.now (D.bytes disk.new)) }
+    ensures sound { IsErrOf result DiskFault.Failed → D.is_sound disk.old → ⊥ }
+    ensures keeps { D.is_sound disk.old → D.is_sound disk.new }
+    ensures block { D.block_len disk.new ≡ D.block_len disk.old }
+{
+    let _blocks = disk.blocks();
+    let part = Part::at(at, payload.len() as u64, disk.block_bytes());
+    write_in_block(alloc, disk, part.block, part.start, &payload[..part.count])?;
+    Ok(part.count)
+}
+
+/// Writes a range. No byte outside of it changes.
+pub fn write_range<D: Disk>(
+    alloc: Global,
+    disk: &mut D,
+    offset: u64,
+    payload: &[u8],
+) -> Result<(), DiskFault>
+    requires { offset + length payload.now ≤ length (D.bytes disk.old) }
+    ensures ok { OnOk result (D.bytes disk.new ≡ written (D.bytes disk.old) offset payload.now) }
+    // As far as it came.
+    ensures err { OnErr result (IsBegun (D.bytes disk.old) offset payload.now (D.bytes disk.new)) }
+    ensures sound { IsErrOf result DiskFault.Failed → D.is_sound disk.old → ⊥ }
+    ensures keeps { D.is_sound disk.old → D.is_sound disk.new }
+    ensures block { D.block_len disk.new ≡ D.block_len disk.old }
+{
+    let _blocks = disk.blocks();
+    let mut done = 0;
+    while done < payload.len() {
+        done += write_part(alloc, disk, offset + done as u64, &payload[done..])?;
+    }
+    Ok(())
+}
+
+/// Makes the bytes from a place on zeroes, as far as its block goes, and tells how many. A whole
+/// block is discarded.
+fn zero_part<D: Disk>(alloc: Global, disk: &mut D, at: u64, most: u64) -> Result<u64, DiskFault>
+    requires within { at + most ≤ length (D.bytes disk.old) }
+    requires some { 0 < most }
+    ensures some { IfOk result (λ n. 0 < n) }
+    ensures most { IfOk result (λ n. n ≤ most) }
+    ensures ok { IfOk result (λ n. D.bytes disk.new ≡ written (D.bytes disk.old) at (zeroes n)) }
+    ensures err { OnErr result (IsBegun (D.bytes disk.old) at (zeroes most) (D.bytes disk.new)) }
+    ensures sound { IsErrOf result DiskFault.Failed → D.is_sound disk.old → ⊥ }
+    ensures keeps { D.is_sound disk.old → D.is_sound disk.new }
+    ensures block { D.block_len disk.new ≡ D.block_len disk.old }
+{
+    let _blocks = disk.blocks();
+    let block_bytes = disk.block_bytes();
+    let part = Part::at(at, most, block_bytes);
+    if part.count == block_bytes as usize {
+        disk.discard(alloc, part.block)?;
+    } else {
+        let none = vec![in alloc; 0u8; part.count]?;
+        write_in_block(alloc, disk, part.block, part.start, &none)?;
+    }
+    Ok(part.count as u64)
+}
+
+/// Makes a range zeroes.
+pub fn zero_range<D: Disk>(
+    alloc: Global,
+    disk: &mut D,
+    offset: u64,
+    count: u64,
+) -> Result<(), DiskFault>
+    requires { offset + count ≤ length (D.bytes disk.old) }
+    ensures ok { OnOk result (D.bytes disk.new ≡ written (D.bytes disk.old) offset (zeroes count)) }
+    ensures err { OnErr result (IsBegun (D.bytes disk.old) offset (zeroes count) (D.bytes disk.new)) }
+    ensures sound { IsErrOf result DiskFault.Failed → D.is_sound disk.old → ⊥ }
+    ensures keeps { D.is_sound disk.old → D.is_sound disk.new }
+    ensures block { D.block_len disk.new ≡ D.block_len disk.old }
+{
+    let _blocks = disk.blocks();
+    let mut done = 0;
+    while done < count {
+        done += zero_part(alloc, disk, offset + done, count - done)?;
+    }
+    Ok(())
+}
+
+/// Discards the whole blocks of a range, and leaves the rest of it.
+pub fn trim_range<D: Disk>(
+    alloc: Global,
+    disk: &mut D,
+    offset: u64,
+    count: u32,
+) -> Result<(), DiskFault>
+    requires { offset + count ≤ length (D.bytes disk.old) }
+    ensures ok { OnOk result (D.bytes disk.new ≡ trimmed (D.block_len disk.old) (D.bytes disk.old) offset count) }
+    ensures err { OnErr result (IsBegun (D.bytes disk.old) (D.block_len disk.old * first_block (D.block_len disk.old) offset)
+        (zeroes (trim_len (D.block_len disk.old) offset count)) (D.bytes disk.new)) }
+    ensures sound { IsErrOf result DiskFault.Failed → D.is_sound disk.old → ⊥ }
+    ensures keeps { D.is_sound disk.old → D.is_sound disk.new }
+    ensures block { D.block_len disk.new ≡ D.block_len disk.old }
+{
+    let _blocks = disk.blocks();
+    let len = u64::from(disk.block_bytes());
+    let first = (offset + (len - 1)) / len;
+    let end = (offset + u64::from(count)) / len;
+    if end <= first {
+        return Ok(());
+    }
+    zero_range(alloc, disk, len * first, len * (end - first))
+}

@@ -1,0 +1,110 @@
+//! The answer to one request.
+
+ghost use Rattle.std.specs.Prelude.{◌≡◌, ℕ, List, ◌+◌, ◌≤◌, length, IfOk, IfSome, OnOk, OnErr, IsErrOf, None, nat_le};
+ghost use Rattle.oram_nbd.specs.Messages.{payload_len};
+ghost use Rattle.oram_nbd.specs.Serving.{after, given, refusal_of, IsAnswer, IsPartly};
+
+use crate::LONGEST_PAYLOAD;
+use crate::disk::Disk;
+use crate::faults::{DiskFault, NbdError};
+use crate::ranges::{read_range, trim_range, write_range, zero_range};
+use crate::replies::SimpleReply;
+use crate::requests::{Command, Request};
+use oram_bytes::Bytes;
+use std::alloc::Global;
+
+/// Why a request is refused before a device of so many bytes is asked. The flags that are known are
+/// the lowest ones.
+fn refusal(request: &Request, size: u64) -> Option<NbdError>
+    ensures { result ≡ refusal_of size request.now }
+{
+    let greatest_flags = match request.command {
+        Command::WriteZeroes => Request::FUA | Request::NO_HOLE,
+        _ => Request::FUA,
+    };
+    if request.flags > greatest_flags {
+        return Some(NbdError::Invalid);
+    }
+    let is_long = request.length > LONGEST_PAYLOAD;
+    let is_outside = !is_within(size, request.offset, request.length);
+    match request.command {
+        Command::Flush | Command::Disconnect => None,
+        Command::Other(_) => Some(NbdError::Invalid),
+        Command::Read | Command::Write if is_long => Some(NbdError::Invalid),
+        Command::Read | Command::Trim if is_outside => Some(NbdError::Invalid),
+        Command::Write | Command::WriteZeroes if is_outside => Some(NbdError::NoSpace),
+        _ => None,
+    }
+}
+
+/// Tells whether a range lies within so many bytes.
+fn is_within(size: u64, offset: u64, count: u32) -> bool
+    ensures { result ≡ nat_le (offset + count) size }
+{
+    offset <= size && u64::from(count) <= size - offset
+}
+
+/// Carries a request out, and gives the bytes of its reply.
+fn carry_out<D: Disk>(
+    alloc: Global,
+    disk: &mut D,
+    request: &Request,
+    payload: &[u8],
+) -> Result<Vec<u8>, DiskFault>
+    requires fits { refusal_of (length (D.bytes disk.old)) request.now ≡ None }
+    requires payload { length payload.now ≡ payload_len request.now.command request.now.length }
+    ensures given { IfOk result (λ v. v.items ≡ given request.now.command (D.bytes disk.old) request.now.offset request.now.length) }
+    ensures ok { OnOk result (D.bytes disk.new ≡ after request.now.command (D.block_len disk.old) (D.bytes disk.old) request.now.offset request.now.length payload.now) }
+    ensures err { OnErr result (IsPartly request.now.command (D.block_len disk.old) (D.bytes disk.old) request.now.offset request.now.length payload.now (D.bytes disk.new)) }
+    ensures sound { IsErrOf result DiskFault.Failed → D.is_sound disk.old → ⊥ }
+    ensures keeps { D.is_sound disk.old → D.is_sound disk.new }
+    ensures block { D.block_len disk.new ≡ D.block_len disk.old }
+{
+    let offset = request.offset;
+    let length = request.length;
+    let none = Vec::new(alloc);
+    match request.command {
+        Command::Read => read_range(alloc, disk, offset, length),
+        Command::Write => {
+            write_range(alloc, disk, offset, payload)?;
+            Ok(none)
+        }
+        Command::Trim => {
+            trim_range(alloc, disk, offset, length)?;
+            Ok(none)
+        }
+        Command::WriteZeroes => {
+            zero_range(alloc, disk, offset, u64::from(length))?;
+            Ok(none)
+        }
+        Command::Flush | Command::Disconnect | Command::Other(_) => Ok(none),
+    }
+}
+
+/// The reply to a request. The bytes that it writes are missing where there was no memory for them, or where they are too many.
+pub(crate) fn answer<D: Disk>(
+    alloc: Global,
+    disk: &mut D,
+    request: &Request,
+    payload: Option<Vec<u8>>,
+) -> SimpleReply
+    requires { IfSome payload (λ p. length p.items ≡ payload_len request.now.command request.now.length) }
+    ensures answer { (bytes : List ℕ) → IfSome payload (λ p. p.items ≡ bytes)
+        → IsAnswer (D.block_len disk.old) (D.bytes disk.old) request.now bytes result (D.bytes disk.new) }
+    ensures sound { result ≡ SimpleReply.Refused NbdError.Io → D.is_sound disk.old → ⊥ }
+    ensures keeps { D.is_sound disk.old → D.is_sound disk.new }
+    ensures block { D.block_len disk.new ≡ D.block_len disk.old }
+{
+    let size = u64::from(disk.block_bytes()) * disk.blocks();
+    if let Some(error) = refusal(request, size) {
+        return SimpleReply::Refused(error);
+    }
+    let Some(payload) = payload else {
+        return SimpleReply::Refused(NbdError::NoMemory);
+    };
+    match carry_out(alloc, disk, request, &payload) {
+        Ok(bytes) => SimpleReply::Done(Bytes::from_vec(bytes)),
+        Err(DiskFault::Failed) => SimpleReply::Refused(NbdError::Io),
+        Err(DiskFault::OutOfMemory) => SimpleReply::Refused(NbdError::NoMemory),
+    }
+}

@@ -1,0 +1,108 @@
+//! Requests from a reader, replies to a writer, and a device in between.
+
+ghost use Rattle.std.specs.Prelude.{◌≡◌, ℕ, List, ◌++◌, length, IfOk, IfErr, OnOk, IfSome, MatchOption};
+ghost use Rattle.std.specs.Io.KnownBytes.{Appends, Consumes};
+ghost use Rattle.oram_wire.specs.Streaming.{GivesEnd};
+ghost use Rattle.oram_nbd.specs.Messages.{reply_text, request_text, IsRequest};
+ghost use Rattle.oram_nbd.specs.Streams.{ComesShort, IsBegunText, Misses};
+ghost use Rattle.oram_nbd.specs.Transmission.{HasTransmitted, IsNoRequest, IsUnfinished, StopsServing};
+
+use crate::LONGEST_PAYLOAD;
+use crate::disk::Disk;
+use crate::faults::NbdFault;
+use crate::replies::SimpleReply;
+use crate::requests::{Command, Request};
+use crate::serving::answer;
+use crate::streams::{next_head, send, skip};
+use oram_wire::{FrameFault, read_body};
+use std::alloc::Global;
+use std::io::{Read, Write};
+
+/// The next request, without the bytes that it writes, or none at the end of the input.
+fn next_request<R: Read>(reader: &mut R) -> Result<Option<Request>, NbdFault>
+    ensures ok { IfOk result (λ next. MatchOption next
+        (GivesEnd (R.remaining reader.old) (R.remaining reader.new))
+        (λ r. IsRequest r × Consumes (R.remaining reader.old) (R.remaining reader.new) (request_text r))) }
+    ensures err { IfErr result (λ fault. Misses IsUnfinished IsNoRequest fault (R.remaining reader.old) (R.remaining reader.new)) }
+{
+    let mut head = [0u8; Request::BYTES];
+    if !next_head(reader, &mut head)? {
+        return Ok(None);
+    }
+    match Request::decode(&head) {
+        Some(request) => Ok(Some(request)),
+        None => Err(NbdFault::Magic),
+    }
+}
+
+/// Passes over so many bytes, and holds none of them.
+fn pass_over<R: Read>(reader: &mut R, count: u32) -> Result<Option<Vec<u8>>, NbdFault>
+    ensures ok { IfOk result (λ payload. (bytes : List ℕ) × (length bytes ≡ count)
+        × Consumes (R.remaining reader.old) (R.remaining reader.new) bytes × IfSome payload (λ p. p.items ≡ bytes)) }
+    ensures err { IfErr result (λ fault. ComesShort 0 count fault (R.remaining reader.old) (R.remaining reader.new)) }
+{
+    skip(reader, u64::from(count))?;
+    Ok(None)
+}
+
+/// The bytes that a request writes, or none where they are too many or there is no memory for them: then they are passed over.
+fn read_payload<R: Read>(
+    alloc: Global,
+    reader: &mut R,
+    count: u32,
+) -> Result<Option<Vec<u8>>, NbdFault>
+    ensures ok { IfOk result (λ payload. (bytes : List ℕ) × (length bytes ≡ count)
+        × Consumes (R.remaining reader.old) (R.remaining reader.new) bytes × IfSome payload (λ p. p.items ≡ bytes)) }
+    ensures err { IfErr result (λ fault. ComesShort 0 count fault (R.remaining reader.old) (R.remaining reader.new)) }
+{
+    if count > LONGEST_PAYLOAD {
+        return pass_over(reader, count);
+    }
+    match read_body(alloc, reader, count as usize) {
+        Ok(payload) => Ok(Some(payload)),
+        Err(FrameFault::OutOfMemory) => pass_over(reader, count),
+        Err(fault) => Err(NbdFault::from(fault)),
+    }
+}
+
+/// Writes a reply to the request of this cookie.
+fn put_reply<W: Write>(writer: &mut W, cookie: u64, reply: &SimpleReply) -> Result<(), NbdFault>
+    ensures ok { OnOk result (Appends (W.contents writer.old) (W.contents writer.new) (reply_text cookie reply.now)) }
+    ensures err { IfErr result (λ fault. (fault ≡ NbdFault.Write)
+        × IsBegunText (W.contents writer.old) (W.contents writer.new) (reply_text cookie reply.now)) }
+{
+    let head = reply.head(cookie);
+    send(writer, &head, reply.bytes())
+}
+
+/// Answers each request in turn, until the client goes, and tells how many there were.
+///
+/// A reply is written and flushed before the next request is read, so a client that reads none holds back its own requests
+/// once the buffers between the two are full. A reader with a buffer, as a `BufReader`, takes requests ahead of their replies.
+/// No want of memory ends it: a request without memory is refused with `NoMemory`, and the bytes that it writes are passed over.
+pub fn transmit<R: Read, W: Write, D: Disk>(
+    alloc: Global,
+    reader: &mut R,
+    writer: &mut W,
+    disk: &mut D,
+) -> Result<u64, NbdFault>
+    ensures ok { IfOk result (λ count. HasTransmitted (D.is_sound disk.old) (D.block_len disk.old) (D.bytes disk.old) count (D.bytes disk.new)
+        (R.remaining reader.old) (R.remaining reader.new) (W.contents writer.old) (W.contents writer.new)) }
+    ensures err { IfErr result (λ fault. StopsServing (D.is_sound disk.old) (D.block_len disk.old) (D.bytes disk.old) fault (D.bytes disk.new)
+        (R.remaining reader.old) (R.remaining reader.new) (W.contents writer.old) (W.contents writer.new)) }
+    ensures keeps { D.is_sound disk.old → D.is_sound disk.new }
+    ensures block { D.block_len disk.new ≡ D.block_len disk.old }
+{
+    for served in 0..u64::MAX {
+        let Some(request) = next_request(reader)? else {
+            return Ok(served);
+        };
+        if request.command == Command::Disconnect {
+            return Ok(served);
+        }
+        let payload = read_payload(alloc, reader, request.payload_len())?;
+        let reply = answer(alloc, disk, &request, payload);
+        put_reply(writer, request.cookie, &reply)?;
+    }
+    Err(NbdFault::Read)
+}
