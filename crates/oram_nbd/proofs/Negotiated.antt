@@ -158,12 +158,12 @@ module _ (name : List ℕ) (size preferred : ℕ) (zeroes : Bool) where
   stopped_behind from held count to holds mid later hold h fault.UnknownExport s is head (content, which, long, other, came, wrote) =
       let x : Exchange = record { option = ExportName; content = content; answer = [] } in
       (zeroes, s.all, content, negotiated_then from held count to holds later hold (option_text ExportName content) [] s (asked_whole to mid later h x (sym which) long head came) wrote, other)
-  stopped_behind from held count to holds mid later hold h fault.OutOfMemory s is head (content, came, wrote) = (
+  stopped_behind from held count to holds mid later hold h fault.OutOfMemory s is head (content, which, came, wrote) = (
     zeroes,
     s.all,
     option_head h.option h.length ++ content,
     negotiated_then from held count to holds later hold (option_head h.option h.length ++ content) [] s (Consumes-trans to mid later (option_head h.option h.length) content head came) wrote,
-    (h, content, is, refl),
+    (h, content, is, which, refl),
   )
   stopped_behind from held count to holds mid later hold h fault.Magic s is head p = absurd p
   stopped_behind from held count to holds mid later hold h fault.OldClient s is head p = absurd p

@@ -42,10 +42,14 @@ IsUnfinishedOption part =
 abbrev pub IsNoOption : List ℕ → Type 0
 IsNoOption part = (length part ≡ 16) × ((h : OptionHead) → IsHead h → part ≡ option_head h.option h.length → ⊥)
 
+-- none of the bytes that an option carries, or all of them
+abbrev pub IsNoneOrAll : ℕ → List ℕ → Type 0
+IsNoneOrAll n content = (content ≡ []) ⊎ (length content ≡ n)
+
 -- an option that there was no memory for: its 16 bytes alone, or all of it
 abbrev pub IsUnanswered : List ℕ → Type 0
 IsUnanswered part =
-    (h : OptionHead) × (content : List ℕ) × IsHead h × (part ≡ option_head h.option h.length ++ content)
+    (h : OptionHead) × (content : List ℕ) × IsHead h × IsNoneOrAll h.length content × (part ≡ option_head h.option h.length ++ content)
 
 -- What is known where the handshake stops before the client's flags are known to be good.
 abbrev pub StopsGreeting : NbdFault → Option (List ℕ) → Option (List ℕ) → Option (List ℕ) → Option (List ℕ) → Type 0
@@ -86,7 +90,7 @@ module _ (name : List ℕ) (size preferred : ℕ) where
       (content : List ℕ) × (h.option ≡ ExportName) × (length content ≡ h.length) × (IsNamed name content → ⊥)
       × Consumes unread unread' content × Appends written written' []
   StopsAt zeroes h OutOfMemory unread unread' written written' =
-      (content : List ℕ) × Consumes unread unread' content × Appends written written' []
+      (content : List ℕ) × IsNoneOrAll h.length content × Consumes unread unread' content × Appends written written' []
   StopsAt zeroes h Magic unread unread' written written' = ⊥
   StopsAt zeroes h OldClient unread unread' written written' = ⊥
   StopsAt zeroes h TooManyOptions unread unread' written written' = ⊥

@@ -1,6 +1,6 @@
 //! What a server tells of its export, option by option.
 
-ghost use Rattle.std.specs.Prelude.{◌≡◌, ◌⊎◌, ◌<◌, ◌≤◌, ◌^◌, ◌++◌, List, ℕ, [], length, IfOk, OnOk, IsTrue, ◌↔◌, MatchOption};
+ghost use Rattle.std.specs.Prelude.{◌≡◌, ◌<◌, ◌≤◌, ◌^◌, ◌++◌, List, [], length, IfOk, OnOk, IsTrue, ◌↔◌, MatchOption};
 ghost use Rattle.oram_nbd.specs.Handshake.{block_text, described, export_text, list_text, name_text, refused, size_text, Answers, Describes, IsNamed};
 ghost use Rattle.oram_nbd.specs.Options.{option_reply, option_reply_head};
 

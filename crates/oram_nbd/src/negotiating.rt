@@ -1,6 +1,6 @@
 //! The fixed newstyle handshake.
 
-ghost use Rattle.std.specs.Prelude.{◌≡◌, ◌⊎◌, ℕ, List, [], ◌++◌, ◌≤◌, Option, length, IfOk, IfErr, MatchOption, None};
+ghost use Rattle.std.specs.Prelude.{◌≡◌, ℕ, [], ◌≤◌, Option, length, IfOk, IfErr, MatchOption, None};
 ghost use Rattle.std.specs.Int.{w32, to_be_bytes};
 ghost use Rattle.std.specs.Io.KnownBytes.{Appends, Consumes};
 ghost use Rattle.oram_wire.specs.Streaming.{GivesEnd};

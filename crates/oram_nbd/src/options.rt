@@ -1,6 +1,6 @@
 //! Options of the handshake, and the kinds of replies to them.
 
-ghost use Rattle.std.specs.Prelude.{◌≡◌, ℕ, List, ◌++◌, IfSome, IfNone, IfOk, Some};
+ghost use Rattle.std.specs.Prelude.{◌≡◌, List, IfSome, IfNone, IfOk, Some};
 ghost use Rattle.oram_nbd.specs.Options.{kind_code, option_code, option_head, IsHead, IsMalformed, IsOption, Wants};
 
 use crate::numbers::{front_u16, front_u32, front_u64};

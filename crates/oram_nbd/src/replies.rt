@@ -1,6 +1,6 @@
 //! Simple replies.
 
-ghost use Rattle.std.specs.Prelude.{◌≡◌, ◌++◌};
+ghost use Rattle.std.specs.Prelude.{◌≡◌};
 ghost use Rattle.oram_nbd.specs.Messages.{reply_bytes, reply_head};
 
 use crate::faults::NbdError;

@@ -1,6 +1,6 @@
 //! Requests.
 
-ghost use Rattle.std.specs.Prelude.{◌≡◌, ℕ, List, ◌++◌, IfSome, IfOk, Some};
+ghost use Rattle.std.specs.Prelude.{◌≡◌, IfSome, IfOk, Some};
 ghost use Rattle.oram_nbd.specs.Messages.{command_code, payload_len, request_text, IsRequest, IsTold};
 
 use crate::numbers::{front_u16, front_u32, front_u64};

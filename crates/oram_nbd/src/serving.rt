@@ -1,6 +1,6 @@
 //! The answer to one request.
 
-ghost use Rattle.std.specs.Prelude.{◌≡◌, ℕ, List, ◌+◌, ◌≤◌, length, IfOk, IfSome, OnOk, OnErr, IsErrOf, None, nat_le};
+ghost use Rattle.std.specs.Prelude.{◌≡◌, ℕ, List, ◌+◌, length, IfOk, IfSome, OnOk, OnErr, IsErrOf, None, nat_le};
 ghost use Rattle.oram_nbd.specs.Messages.{payload_len};
 ghost use Rattle.oram_nbd.specs.Serving.{after, given, refusal_of, IsAnswer, IsPartly};
 

@@ -107,16 +107,24 @@ fn a_client_is_served(rt: HostRuntime) -> Result<(), Fail> {
     Ok(())
 }
 
+/// The same over a reader that reads ahead.
+fn talked_ahead(
+    alloc: Global,
+    said: &[u8],
+    page: &mut [u8],
+) -> io::Result<(Result<u64, NbdFault>, u64)> {
+    let mut reader = BufReader::new(alloc, said)?;
+    Ok(talked(alloc, &mut reader, page))
+}
+
 #[test]
 fn requests_are_read_ahead(rt: HostRuntime) -> Result<(), Fail> {
     let said = retried!(joined(rt.alloc(), &CLIENT));
     let told = retried!(joined(rt.alloc(), &SERVER));
     let mut page = [0; 1024];
-    let mut reader = retried!(BufReader::new(rt.alloc(), said.as_slice()));
-    let (mut ended, mut count) = talked(rt.alloc(), &mut reader, &mut page);
+    let (mut ended, mut count) = retried!(talked_ahead(rt.alloc(), &said, &mut page));
     if ended != Ok(7) || page.get(..count as usize) != Some(told.as_slice()) {
-        reader = retried!(BufReader::new(rt.alloc(), said.as_slice()));
-        (ended, count) = talked(rt.alloc(), &mut reader, &mut page);
+        (ended, count) = talked_ahead(rt.alloc(), &said, &mut page)?;
     }
     assert!(rt; ended == Ok(7));
     assert_eq!(rt; page.get(..count as usize).unwrap_or(&[]), told.as_slice());
@@ -125,9 +133,9 @@ fn requests_are_read_ahead(rt: HostRuntime) -> Result<(), Fail> {
 
 /// Where the messages of a client end; a client may go where an option or a request is due.
 fn is_between(said: usize) -> bool {
-    let mut at = 0;
+    let mut at = 0usize;
     for piece in CLIENT {
-        at += piece.len();
+        at = at.saturating_add(piece.len());
         if at == said {
             return true;
         }

@@ -1,6 +1,6 @@
 //! Requests from a reader, replies to a writer, and a device in between.
 
-ghost use Rattle.std.specs.Prelude.{◌≡◌, ℕ, List, ◌++◌, length, IfOk, IfErr, OnOk, IfSome, MatchOption};
+ghost use Rattle.std.specs.Prelude.{◌≡◌, ℕ, List, length, IfOk, IfErr, OnOk, IfSome, MatchOption};
 ghost use Rattle.std.specs.Io.KnownBytes.{Appends, Consumes};
 ghost use Rattle.oram_wire.specs.Streaming.{GivesEnd};
 ghost use Rattle.oram_nbd.specs.Messages.{reply_text, request_text, IsRequest};
