@@ -1,16 +1,15 @@
 -- Options that were answered, one after another.
 use Rattle.std.proofs.Common.{◌≡◌, inl, inr, ℕ, ◌+◌, ◌<◌, ◌≤◌, ◌^◌, List, [], ◌∷◌, ◌++◌, length, Bool, Option, Some, None, All, refl, sym, ap, ◌∙◌, subst, arith, length-append, take, append_assoc}
 use Rattle.std.specs.Int.{w32, to_be_bytes}
-use Rattle.std.specs.List.{flat_map}
 use Rattle.std.proofs.lemmas.List.{append-nil}
 use Rattle.std.proofs.lemmas.List.Elements.{All-push, All-nil}
 use Rattle.std.proofs.lemmas.Grind.{flat_map-append}
 use Rattle.std.specs.Io.KnownBytes.{Appends, Consumes, IsAtEnd}
 use Rattle.std.proofs.KnownBytes.{Appends-nil, Appends-trans, Consumes-nil, Consumes-trans}
 use Rattle.oram_nbd.specs.declared.TheConstants.{LONGEST_OPTION, MOST_OPTIONS}
-use Rattle.oram_nbd.specs.Streams.{ComesShort, IsBegunText, Misses}
-use Rattle.oram_nbd.specs.Options.{option_code, option_head, option_text, IsHead}
-use Rattle.oram_nbd.specs.Handshake.{greeting, refused, Answers, IsFixed, IsNamed}
+use Rattle.oram_nbd.specs.Streams.{Misses}
+use Rattle.oram_nbd.specs.Options.{option_head, option_text, IsHead}
+use Rattle.oram_nbd.specs.Handshake.{greeting, refused, Answers, IsFixed}
 use Rattle.oram_nbd.specs.Negotiation.{answered, asked, asking, Exchange, HasAgreed, HasNegotiated, IsExchange, IsNoOption, IsUnfinishedOption, StopsAt, StopsChoosing}
 use Rattle.oram_nbd.specs.declared.faults.NbdFault.{NbdFault}
 use Rattle.oram_nbd.specs.declared.faults.NbdFault.TheVariants as fault

@@ -1,5 +1,5 @@
 -- Messages that come or go piece by piece.
-use Rattle.std.proofs.Common.{◌≡◌, ℕ, ◌+◌, ◌<◌, ◌≤◌, List, [], ◌∷◌, ◌++◌, length, Option, Result, Ok, Err, IfErr, sym, ap, ◌∙◌, subst, arith, length-append, take, take_all, le_refl, append-nil}
+use Rattle.std.proofs.Common.{◌≡◌, ℕ, ◌+◌, ◌<◌, List, [], ◌++◌, length, Option, Result, Ok, Err, IfErr, sym, ap, ◌∙◌, subst, arith, length-append, take, take_all, le_refl, append-nil}
 use Rattle.std.specs.Io.KnownBytes.{Appends, Consumes, IsAtEnd}
 use Rattle.std.proofs.KnownBytes.{Appends-trans, Consumes-trans}
 use Rattle.std.proofs.Math.Seq.{take-append-add}
@@ -9,7 +9,6 @@ use Rattle.oram_wire.specs.declared.streaming.FrameFault.{FrameFault}
 use Rattle.oram_wire.specs.declared.streaming.FrameFault.TheVariants as frames
 use Rattle.oram_nbd.specs.Errors.{reading_fault}
 use Rattle.oram_nbd.specs.Streams.{ComesShort, IsBegunText, IsSkip}
-use Rattle.oram_nbd.specs.declared.faults.NbdFault.{NbdFault}
 use Rattle.oram_nbd.specs.declared.faults.NbdFault.TheVariants as fault
 
 -- what is known of the error that a `?` passed on

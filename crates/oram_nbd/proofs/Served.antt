@@ -1,15 +1,14 @@
 -- Requests that were answered, one after another.
-use Rattle.std.proofs.Common.{◌≡◌, inl, inr, ℕ, ◌+◌, ◌*◌, ◌<◌, ◌≤◌, List, [], ◌∷◌, ◌++◌, length, Option, Some, None, refl, sym, ap, ◌∙◌, subst, arith, length-append, take}
-use Rattle.std.specs.List.{flat_map}
+use Rattle.std.proofs.Common.{◌≡◌, inr, ℕ, ◌+◌, ◌*◌, ◌<◌, List, [], ◌∷◌, ◌++◌, length, Option, refl, sym, ap, ◌∙◌, subst, arith, length-append, take}
 use Rattle.std.proofs.lemmas.List.{append-nil}
 use Rattle.std.proofs.lemmas.Grind.{flat_map-append}
-use Rattle.std.specs.Io.KnownBytes.{Appends, Consumes, IsAtEnd}
+use Rattle.std.specs.Io.KnownBytes.{Appends, Consumes}
 use Rattle.std.proofs.KnownBytes.{Appends-nil, Appends-trans, Consumes-nil, Consumes-trans}
 use Rattle.oram_nbd.specs.Bytes.{zeroes}
 use Rattle.oram_nbd.specs.Trimming.{first_block, trim_len}
-use Rattle.oram_nbd.specs.Messages.{payload_len, request_text, reply_text, IsRequest}
+use Rattle.oram_nbd.specs.Messages.{payload_len, request_text, IsRequest}
 use Rattle.oram_nbd.specs.Streams.{ComesShort, IsBegunText, Misses}
-use Rattle.oram_nbd.specs.Serving.{asking, replying, said, told, IsAnswer, IsPartly, IsService, IsTurn, NeverFails, Turn}
+use Rattle.oram_nbd.specs.Serving.{asking, replying, said, told, IsPartly, IsService, IsTurn, NeverFails, Turn}
 use Rattle.oram_nbd.specs.Transmission.{HasServed, IsNoRequest, IsUnfinished, StopsServing}
 use Rattle.oram_nbd.specs.declared.faults.NbdError.TheVariants.{Io}
 use Rattle.oram_nbd.specs.declared.faults.NbdFault.{NbdFault}

@@ -1,6 +1,6 @@
 -- Messages are read in one way.
-use Rattle.std.proofs.Common.{◌≡◌, ◌≢◌, ℕ, zero, suc, ◌<◌, ◌^◌, List, take, drop, refl, sym, ap, ◌∙◌}
-use Rattle.std.specs.Int.{w16, w32, w64, to_be_bytes, from_be_bytes}
+use Rattle.std.proofs.Common.{◌≡◌, ℕ, zero, suc, List, take, drop, refl, sym, ap, ◌∙◌}
+use Rattle.std.specs.Int.{w16, w32, w64, from_be_bytes}
 use Rattle.std.proofs.lemmas.Nat.{from_be_bytes-to_be_bytes_2, from_be_bytes-to_be_bytes_4, from_be_bytes-to_be_bytes_8}
 use Rattle.oram_nbd.specs.Messages.{command_code, request_text, IsRequest, IsTold}
 use Rattle.oram_nbd.specs.Options.{option_code, option_head, IsHead, IsOption}

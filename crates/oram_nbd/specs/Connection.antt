@@ -1,5 +1,5 @@
 -- A whole connection: its handshake, and then its requests.
-use Rattle.std.specs.Prelude.{◌≡◌, ◌⊎◌, ℕ, ◌≤◌, List, Option, nat_le, Bool, ◌&&◌, if◌then◌else◌, length}
+use Rattle.std.specs.Prelude.{◌≡◌, ◌⊎◌, ℕ, List, Option, nat_le, ◌&&◌, if◌then◌else◌, length}
 use Rattle.std.specs.Int.{is_power_of_two}
 use Rattle.oram_nbd.specs.Negotiation.{HasAgreed, StopsNegotiating}
 use Rattle.oram_nbd.specs.Transmission.{HasTransmitted, StopsServing}

@@ -1,5 +1,5 @@
 -- Requests and replies as bytes. All numbers are big-endian.
-use Rattle.std.specs.Prelude.{◌≡◌, ◌≢◌, ℕ, ◌<◌, ◌^◌, List, [], ◌∷◌, ◌++◌}
+use Rattle.std.specs.Prelude.{◌≢◌, ℕ, ◌<◌, ◌^◌, List, [], ◌++◌}
 use Rattle.std.specs.Int.{w16, w32, w64, to_be_bytes}
 use Rattle.oram_nbd.specs.Errors.{error_number}
 use Rattle.oram_nbd.specs.declared.requests.Command.{Command}

@@ -1,5 +1,5 @@
 -- Options of the handshake and replies to them, as bytes.
-use Rattle.std.specs.Prelude.{◌≡◌, ◌≢◌, ◌⊎◌, ℕ, ◌*◌, ◌<◌, ◌^◌, List, [], ◌∷◌, ◌++◌, length}
+use Rattle.std.specs.Prelude.{◌≡◌, ◌≢◌, ℕ, ◌*◌, ◌<◌, ◌^◌, List, ◌++◌, length}
 use Rattle.std.specs.Int.{w16, w32, w64, to_be_bytes}
 use Rattle.oram_nbd.specs.declared.options.HandshakeOption.{HandshakeOption}
 use Rattle.oram_nbd.specs.declared.options.HandshakeOption.TheVariants as option

@@ -1,5 +1,5 @@
 -- What the service of requests is: each is answered as an array of bytes answers it.
-use Rattle.std.specs.Prelude.{◌≡◌, ◌⊎◌, ℕ, ◌+◌, ◌*◌, ◌<◌, ◌≤◌, List, [], ◌∷◌, ◌++◌, length, Option, Some, None, nat_lt, if◌then◌else◌}
+use Rattle.std.specs.Prelude.{◌≡◌, ◌⊎◌, ℕ, ◌+◌, ◌*◌, List, [], ◌∷◌, ◌++◌, length, Option, Some, None, nat_lt, if◌then◌else◌}
 use Rattle.std.specs.List.{flat_map}
 use Rattle.oram_nbd.specs.Bytes.{bytes_at, written, zeroes, IsBegun}
 use Rattle.oram_nbd.specs.Trimming.{first_block, trim_len, trimmed}

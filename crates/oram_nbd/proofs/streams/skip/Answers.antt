@@ -1,8 +1,7 @@
-use Rattle.std.proofs.Common.{◌≡◌, ◌+◌, ◌-◌, ◌≤◌, ◌<◌, ap, ◌∙◌, arith, length, length-take-le, length-take, take}
+use Rattle.std.proofs.Common.{ap, ◌∙◌, arith, length-take-le, length-take}
 use Rattle.std.proofs.lemmas.Result.{err_from_is_err_and}
 use Rattle.oram_nbd.specs.Errors.{reading_fault}
-use Rattle.oram_nbd.specs.Streams.{ComesShort}
-use Rattle.oram_nbd.proofs.Pieces.{if_err, skip_ended, skip_more, skip_short}
+use Rattle.oram_nbd.proofs.Pieces.{if_err, skip_more, skip_short}
 use Rattle.oram_nbd.proofs.streams.skip.Goals as goal
 
 pub loop-left-preserved : goal.loop-left-preserved

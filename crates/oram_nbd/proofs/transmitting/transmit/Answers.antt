@@ -1,4 +1,4 @@
-use Rattle.std.proofs.Common.{◌≡◌, List, ℕ, [], inl, inr, refl, rules, ◌∙◌, subst}
+use Rattle.std.proofs.Common.{◌≡◌, ℕ, [], inl, inr, refl, rules, ◌∙◌, subst}
 use Rattle.std.proofs.KnownBytes.{Appends-nil, Consumes-trans}
 use Rattle.std.proofs.lemmas.Result.{err_from_is_err_and}
 use Rattle.oram_nbd.specs.Messages.{request_text}
@@ -6,7 +6,7 @@ use Rattle.oram_nbd.specs.Serving.{IsAnswer, IsTurn}
 use Rattle.oram_nbd.specs.Streams.{ComesShort}
 use Rattle.oram_nbd.specs.declared.requests.Command.TheVariants.{Disconnect}
 use Rattle.oram_nbd.proofs.Pieces.{if_err}
-use Rattle.oram_nbd.proofs.Served.{served_next, served_none, served_then, stopped_at_head, stopped_at_payload, stopped_at_reply, turn_of}
+use Rattle.oram_nbd.proofs.Served.{served_next, served_none, served_then, stopped_at_payload, stopped_at_reply, turn_of}
 use Rattle.oram_nbd.proofs.transmitting.transmit.Goals as goal
 
 pub loop-served-init : goal.loop-served-init
