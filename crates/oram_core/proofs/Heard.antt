@@ -32,7 +32,7 @@ pub fetch_heard : {E : Type 0} (v : Shape) (s : State) (r : Result Reaction E) (
     ((x : Submission) (rest : List Submission) → s.queue ≡ x ∷ rest → IfOk r (λ y. done y t ≡ fetched_by v s x)) → IfOk r (λ y. Heard v s (done y t))
 fetch_heard v s r t h now more does =
     let o : HasOldest v.device s = has_oldest v.device v.overhead s h now in
-    if_ok _ _ r (λ y e. subst (Heard v s) (sym e) (inr (inl (record { note = refl; replies = refl; sends = refl; queue = refl; waits = now; next = refl; stage = refl; within = more })))) (does o.oldest o.rest o.queue)
+    if_ok _ _ r (λ y e. subst (Heard v s) (sym e) (inr (inl (record { note = refl; replies = refl; sends = refl; queue = refl; waits = now; next = refl; stage = refl; within = more; fetched = λ odd. record { oldest = o.oldest; rest = o.rest; queue = o.queue; does = refl } })))) (does o.oldest o.rest o.queue)
 
 -- the device fails, whatever the trees are by then
 pub failed_heard : (v : Shape) (s t : State) (e : Reason) → t.queue ≡ s.queue → t.next ≡ s.next → t.nonce ≡ s.nonce → Heard v s (failed_by t e)
@@ -41,7 +41,7 @@ failed_heard v s t e same next nonce = inl (record { reason = e; note = refl; re
 -- the path of an access goes back
 pub stored_heard : (v : Shape) (s : State) (trees : List Tree) (x : Submission) (before records : List ℕ) → status_in s ≡ Waiting → s.stage % 2 ≡ 0 → s.stage < 2 * trees_of v.device → Heard v s (stored_by v (record s { trees = trees }) x before records)
 stored_heard v s trees x before records now even within =
-    inr (inl (record { note = refl; replies = refl; sends = refl; queue = refl; waits = now; next = refl; stage = refl; within = omega arith }))
+    inr (inl (record { note = refl; replies = refl; sends = refl; queue = refl; waits = now; next = refl; stage = refl; within = omega arith; fetched = λ odd. absurd (let both = sym even ∙ odd in cc) }))
 
 pub taken_heard : (v : Shape) (s : State) (trees : List Tree) (x : Submission) (found : Bool) (before records : List ℕ) (e : Reason) → status_in s ≡ Waiting → s.stage % 2 ≡ 0 → s.stage < 2 * trees_of v.device →
     (let t : State = record s { trees = trees } in Heard v s (if is_misled v t x found before then failed_by t e else stored_by v t x before records))

@@ -1,5 +1,5 @@
 -- The whole promise of a step.
-use Rattle.std.specs.Prelude.{◌≡◌, ◌≢◌, ℕ, ◌+◌, ◌*◌, ◌<◌, ◌⊎◌, false, List, [], ◌∷◌, length, Some, map}
+use Rattle.std.specs.Prelude.{◌≡◌, ◌≢◌, ℕ, ◌+◌, ◌*◌, ◌%◌, ◌<◌, ◌⊎◌, false, List, [], ◌∷◌, length, Some, map}
 use Rattle.oram_geometry.specs.Sizes.{trees_of}
 use Rattle.oram_run.specs.Events.{failed_reply}
 use Rattle.oram_run.specs.Moves.{Fits, Moves, shows_in}
@@ -12,7 +12,7 @@ use Rattle.oram_run.specs.declared.events.Event.TheVariants.{Answer}
 use Rattle.oram_run.specs.declared.events.Note.TheVariants.{Taken, FailedNow}
 use Rattle.oram_run.specs.declared.events.Reason.{Reason}
 use Rattle.oram_run.specs.declared.events.Submission.{Submission}
-use Rattle.oram_core.specs.Doing.{Done, plain_step, finished_by}
+use Rattle.oram_core.specs.Doing.{Done, plain_step, fetched_by, finished_by}
 use Rattle.oram_core.specs.Judging.{IsVerdict}
 
 abbrev pub did : Shown → State → Done
@@ -26,6 +26,13 @@ pub record Fails (s : State) (d : Done) : Type 0 where
   pub sends : d.sends ≡ []
   pub state : d.state ≡ failed_state s.next s.nonce reason
 
+-- the path that was named for the oldest command's block is fetched, and nothing else changes
+pub record IsNextFetched (v : Shape) (s : State) (d : Done) : Type 0 where
+  pub oldest : Submission
+  pub rest : List Submission
+  pub queue : s.queue ≡ oldest ∷ rest
+  pub does : d ≡ fetched_by v s oldest
+
 -- the oldest command's next message goes out
 pub record GoesOn (v : Shape) (s : State) (d : Done) : Type 0 where
   pub note : d.note ≡ Taken
@@ -36,6 +43,8 @@ pub record GoesOn (v : Shape) (s : State) (d : Done) : Type 0 where
   pub next : d.state.next ≡ s.next
   pub stage : d.state.stage ≡ s.stage + 1
   pub within : d.state.stage < 2 * trees_of v.device
+  -- behind a STORE it is the FETCH of the path that was named
+  pub fetched : s.stage % 2 ≡ 1 → IsNextFetched v s d
 
 -- the oldest command has its reply, a block as long as blocks are, and the next one begins
 pub record Replies (v : Shape) (s : State) (d : Done) : Type 0 where

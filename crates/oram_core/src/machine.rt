@@ -1,5 +1,5 @@
 //! The core.
-ghost use Rattle.std.specs.Prelude.{◌≡◌, ◌+◌, ◌*◌, ◌<◌, ◌≤◌, ◌^◌, ℕ, true, false, List, [], ◌∷◌, ◌++◌, length, IsOk, IfOk, OnOk, OnErr, Option, Some, None, slice_index, slice_index_or};
+ghost use Rattle.std.specs.Prelude.{◌≡◌, ◌==◌, ◌+◌, ◌*◌, ◌%◌, ◌<◌, ◌≤◌, ◌^◌, ℕ, true, false, List, [], ◌∷◌, ◌++◌, length, IsOk, IfOk, OnOk, OnErr, Option, Some, None, slice_index, slice_index_or};
 ghost use Rattle.oram_geometry.specs.Sizes.{trees_of, depth_of};
 ghost use Rattle.oram_wire.specs.HostMessages.{fetch_body};
 ghost use Rattle.oram_run.specs.Run.{refusal_of, is_over, is_waiting, shown};
@@ -121,6 +121,13 @@ impl<S: Sealer> Core<S> {
         ensures { result ≡ is_idle (status_in self.now.state) }
     {
         self.queue.is_empty() && self.failure.is_none()
+    }
+
+    /// Whether a STORE is outstanding.
+    pub fn is_storing(&self) -> bool
+        ensures { result ≡ (self.now.state.stage % 2 == 1) }
+    {
+        self.stage % 2 == 1
     }
 
     /// How many blocks of a tree lie in no bucket; none once the device has failed, which forgets its trees.

@@ -28,3 +28,10 @@ returns-in-Path-clause-moves g c = λ w fits apart.
     let s = c.args.self.now.state in
     let m = subst (Means v s w c.args.bytes.now) c.in-Path.is (c.verdict.ensures.means w fits apart) in
     moves_by v s w c.args.bytes.now Good c.store.result c.store.new.self.state m.0 (c.store.ensures.moves w fits m.1)
+
+pub returns-in-Stored-clause-moves : goal.returns-in-Stored-clause-moves
+returns-in-Stored-clause-moves g c = λ w fits apart.
+    let v = shape_of g.S.Sealer.overhead g.S.Sealer.sealing g.S.Sealer.opening c.args.self.now in
+    let s = c.args.self.now.state in
+    let m = subst (Means v s w c.args.bytes.now) c.in-Stored.is (c.verdict.ensures.means w fits apart) in
+    moves_by v s w c.args.bytes.now Good c.go_on.result c.go_on.new.self.state m (c.go_on.ensures.moves w fits)
