@@ -37,7 +37,7 @@ use Rattle.oram_honest.proofs.Honest.{honest_hosts_serve, new_hosts_serve}
 use Rattle.oram_honest.proofs.Meeting.{met, met_hosts}
 use Rattle.oram_session.specs.Exchanges.{Runs, Sending, IsSent, IsAnswered, AllSent, event_of, is_stall, retried}
 use Rattle.oram_session.specs.Formatting.{TakesMessage}
-use Rattle.oram_session.specs.Honesty.{IsHonestCall, IsHonestLink, IsArrayTurn, IsHeld, NewDevicesHoldZeros, SessionsAreTheArrays}
+use Rattle.oram_session.specs.Honesty.{IsHonestCall, IsHonestLink, IsArrayTurn, IsBusy, IsHeld, NewDevicesHoldZeros, SessionsAreTheArrays}
 use Rattle.oram_session.specs.Links.{AnswersOf, DirectCall, Faulty, FaultyCall, ToServer, is_due}
 use Rattle.oram_session.specs.Outcome.{Outcome}
 use Rattle.oram_session.specs.Requests.{command_of, told}
@@ -47,7 +47,7 @@ use Rattle.oram_session.specs.declared.link.LinkFault.TheVariants.{Io}
 use Rattle.oram_session.proofs.Steppings.{heard_is, retried_is, stalled}
 
 -- the first of a list, or else this
-abbrev first_or : {X : Type 0} → List X → X → X
+abbrev pub first_or : {X : Type 0} → List X → X → X
 first_or [] x = x
 first_or (y ∷ ys) x = y
 
@@ -66,18 +66,18 @@ resting_by [] l h = refl
 resting_by (x ∷ q) true h = absurd cc
 resting_by (x ∷ q) false h = absurd cc
 
-resting : (s : State) → IsSettled s → s.failure ≡ None → s.queue ≡ []
+pub resting : (s : State) → IsSettled s → s.failure ≡ None → s.queue ≡ []
 resting s settled alive =
     resting_by s.queue s.lost (sym (ap (λ f. is_settled_by (status_by f s.queue s.lost)) alive) ∙ settled)
 
-waits_by : (s : State) (now : Status) (m : List ℕ) → status_in s ≡ now → (if is_waiting now then Some s.last else None) ≡ Some m
+pub waits_by : (s : State) (now : Status) (m : List ℕ) → status_in s ≡ now → (if is_waiting now then Some s.last else None) ≡ Some m
     → (status_in s ≡ Waiting) × (m ≡ s.last)
 waits_by s Waiting m is e = (is, ap (λ (o : Option (List ℕ)). unwrap_or o []) (sym e))
 waits_by s Idle m is e = absurd cc
 waits_by s Stalling m is e = absurd cc
 waits_by s Over m is e = absurd cc
 
-unsettled : (now : Status) → now ≡ Waiting → is_settled_by now ≡ false
+pub unsettled : (now : Status) → now ≡ Waiting → is_settled_by now ≡ false
 unsettled now e = ap is_settled_by e
 
 -- a refusal of a core that has not failed is for what the command asks
@@ -122,7 +122,7 @@ submit_honest Stalling last session c words host = refl
 submit_honest Over last session c words host = refl
 
 module _ {L : Type 0} (calls : L → List ℕ → Outcome → L → Type 0) (host_of : L → Host) (honest : IsHonestLink calls host_of) (v : Shape) (device : IsDevice v.device) where
-  call_keeps : (s : State) (w : World) (host after : Host) (o : Outcome) → HostsWork v s w host → IsHonestCall host s.last o after
+  pub call_keeps : (s : State) (w : World) (host after : Host) (o : Outcome) → HostsWork v s w host → IsHonestCall host s.last o after
       → HostsWork v s w after
   call_keeps s w host after (Ok bytes) b h = met_hosts v s w host after h.0 b (met v s w host after h.0 b h.3)
   call_keeps s w host after (Err fault) b (inl same) = subst (HostsWork v s w) (sym same) b
@@ -162,16 +162,11 @@ module _ {L : Type 0} (calls : L → List ℕ → Outcome → L → Type 0) (hos
       (All-tail (λ (y : Outcome). is_stall y ≡ true) o stalls all) link.2
       (subst (λ (u : State). Runs v u (retried stalls ++ event_of last ∷ []) again.2 t) back.1 again.4))
 
-  -- one command is at work, and the array is as it was before it
-  record Working (p : State × L) (x : Submission) (array : ℕ → List ℕ) : Type 0 where
-    alive : p.0.failure ≡ None
-    queue : p.0.queue ≡ x ∷ []
-    world : World
-    serving : IsServing v p.0 world array
-    hosts : Hosts v p.0 world (host_of p.1)
+  abbrev pub Working : State × L → Submission → (ℕ → List ℕ) → Type 0
+  Working p x array = IsBusy v host_of p x array
 
   -- a message is answered: the command goes on, or has the array's reply
-  abbrev Next : State × L → Submission → (ℕ → List ℕ) → List Reply → Type 0
+  abbrev pub Next : State × L → Submission → (ℕ → List ℕ) → List Reply → Type 0
   Next q x array replies =
       (Working q x array × (replies ≡ []))
       ⊎ (IsHeld v host_of q (array_after v.device x.command array) × (replies ≡ reply_by array x ∷ []))
@@ -209,7 +204,7 @@ module _ {L : Type 0} (calls : L → List ℕ → Outcome → L → Type 0) (hos
           )
     ]
 
-  sent_on : (p q : State × L) (x : Submission) (array : ℕ → List ℕ) (y : Sending) → Working p x array
+  pub sent_on : (p q : State × L) (x : Submission) (array : ℕ → List ℕ) (y : Sending) → Working p x array
       → IsSent v calls most_retries p y q → IsAnswered y → Next q x array y.replies
   sent_on p q x array y w sent answered =
       let k = waits_by p.0 (status_in p.0) y.message refl sent.message in
@@ -247,6 +242,31 @@ module _ {L : Type 0} (calls : L → List ℕ → Outcome → L → Type 0) (hos
         (ap (λ (rs : List Reply). first_or rs reply) (sym all), ended ys sent.0 q (array_after v.device x.command array) done.0 sent.2)
   ]
 
+  -- a command that an idle device accepts is at work
+  pub accepted : (p : State × L) (session : ℕ) (c : Command) (words : List ℕ) (shown : Shown) (begun : State) (array : ℕ → List ℕ)
+      → IsHeld v host_of p array → Steps v p.0 (Submit session c words) shown begun
+      → (let x : Submission = record { session = session; ticket = p.0.next; command = c; words = words } in
+      did shown begun ≡ submitted_by v p.0 x None → Working (begun, p.1) x array)
+  accepted p session c words shown begun array held step is =
+      let x : Submission = record { session = session; ticket = p.0.next; command = c; words = words } in
+      let event : Event = Submit session c words in
+      let rests : p.0.queue ≡ [] = resting p.0 held.settled held.alive in
+      let on : GoesOnHosted v p.0 begun held.world array event shown (host_of p.1) =
+      honest_hosts_serve v p.0 begun held.world array event shown (host_of p.1) (host_of p.1) device held.alive held.serving held.hosts step.moves
+      (submit_honest (status_in p.0) p.0.last session c words (host_of p.1)) in
+      let serves : ServesArray v begun (world_after v held.world (moved v p.0 held.world event) shown.sends) array =
+      elim on.goes_on.served [
+        | inl quiet ↦ quiet.1
+        | inr replied ↦ absurd (let both = sym rests ∙ replied.2 in cc)
+      ] in
+      record {
+        alive = on.alive;
+        queue = ap (λ (d : Did). d.state.queue) is ∙ ap (λ (z : List Submission). z ++ x ∷ []) rests;
+        world = world_after v held.world (moved v p.0 held.world event) shown.sends;
+        serving = record { orderly = on.goes_on.orderly; holds = on.goes_on.holds; agrees = on.goes_on.agrees; serves = serves };
+        hosts = on.hosts;
+      }
+
   module _ (words : ℕ → ℕ → List ℕ) (session : ℕ) where
     abbrev After : State × L → (ℕ → List ℕ) → Turn → State × L → Type 0
     After p array turn q = (after : ℕ → List ℕ) × IsArrayTurn v.device array turn after × IsHeld v host_of q after
@@ -270,25 +290,9 @@ module _ {L : Type 0} (calls : L → List ℕ → Outcome → L → Type 0) (hos
         )
     asked None p q array turn h held is =
         let x : Submission = record { session = session; ticket = p.0.next; command = command_of h.asked.message; words = words p.0.next (2 * trees_of v.device) } in
-        let event : Event = Submit session x.command x.words in
         let note : h.shown.note ≡ _ = ap (λ (d : Did). d.note) is.0 in
         let reply = subst (λ (n : Note). IsReply v calls words session n (h.begun, p.1) turn q) note h.replied in
-        let rests : p.0.queue ≡ [] = resting p.0 held.settled held.alive in
-        let on : GoesOnHosted v p.0 h.begun held.world array event h.shown (host_of p.1) =
-        honest_hosts_serve v p.0 h.begun held.world array event h.shown (host_of p.1) (host_of p.1) device held.alive held.serving held.hosts h.asked.step.moves
-        (submit_honest (status_in p.0) p.0.last session x.command x.words (host_of p.1)) in
-        let serves : ServesArray v h.begun (world_after v held.world (moved v p.0 held.world event) h.shown.sends) array =
-        elim on.goes_on.served [
-          | inl quiet ↦ quiet.1
-          | inr replied ↦ absurd (let both = sym rests ∙ replied.2 in cc)
-        ] in
-        let w : Working (h.begun, p.1) x array = record {
-          alive = on.alive;
-          queue = ap (λ (d : Did). d.state.queue) is.0 ∙ ap (λ (z : List Submission). z ++ x ∷ []) rests;
-          world = world_after v held.world (moved v p.0 held.world event) h.shown.sends;
-          serving = record { orderly = on.goes_on.orderly; holds = on.goes_on.holds; agrees = on.goes_on.agrees; serves = serves };
-          hosts = on.hosts;
-        } in
+        let w : Working (h.begun, p.1) x array = accepted p session x.command x.words h.shown h.begun array held h.asked.step is.0 in
         let done = all_sent turn.sendings (h.begun, p.1) q x array reply.2 w reply.0 reply.3 in (
           array_after v.device x.command array,
           inr (h.asked.message, h.asked.request, inl (reply.4 ∙ ap (λ (z : Reply). told z.body) done.0, refl)),

@@ -1,5 +1,5 @@
 -- A session over a link to an honest host: a plain array answers it.
-use Rattle.std.specs.Prelude.{◌≡◌, ◌≢◌, ◌⊎◌, ℕ, ◌≤◌, List, [], replicate, None, Ok, Err}
+use Rattle.std.specs.Prelude.{◌≡◌, ◌≢◌, ◌⊎◌, ℕ, ◌≤◌, List, [], ◌∷◌, replicate, None, Ok, Err}
 use Rattle.std.specs.List.{FoldsTo}
 use Rattle.oram_geometry.specs.declared.Sizes.{Sizes}
 use Rattle.oram_geometry.specs.Sizes.{IsDevice}
@@ -20,6 +20,7 @@ use Rattle.oram_run.specs.State.{State, World}
 use Rattle.oram_run.specs.declared.events.Command.{Command}
 use Rattle.oram_run.specs.declared.events.Refusal.{Refusal}
 use Rattle.oram_run.specs.declared.events.Refusal.TheVariants.{Failed}
+use Rattle.oram_run.specs.declared.events.Submission.{Submission}
 use Rattle.oram_core.specs.Formatting.{IsNew}
 use Rattle.oram_honest.specs.Honest.{HeardOrNot}
 use Rattle.oram_honest.specs.Hosting.{Hosts}
@@ -56,6 +57,14 @@ IsArrayTurn d array turn after =
 pub record IsHeld (v : Shape) {L : Type 0} (host_of : L → Host) (p : State × L) (array : ℕ → List ℕ) : Type 0 where
   pub settled : IsSettled p.0
   pub alive : p.0.failure ≡ None
+  pub world : World
+  pub serving : IsServing v p.0 world array
+  pub hosts : Hosts v p.0 world (host_of p.1)
+
+-- One command is at work on a device that held the array before it, and the host behind the link keeps the world's records.
+pub record IsBusy (v : Shape) {L : Type 0} (host_of : L → Host) (p : State × L) (x : Submission) (array : ℕ → List ℕ) : Type 0 where
+  pub alive : p.0.failure ≡ None
+  pub queue : p.0.queue ≡ x ∷ []
   pub world : World
   pub serving : IsServing v p.0 world array
   pub hosts : Hosts v p.0 world (host_of p.1)

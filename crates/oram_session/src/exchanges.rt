@@ -21,7 +21,7 @@ use oram_core::{Core, Event, Note, Reaction, Reply};
 use std::alloc::{AllocError, Global};
 
 /// How often a message is sent again.
-pub(crate) const MOST_RETRIES: u32 = 3;
+pub const MOST_RETRIES: u32 = 3;
 
 /// Calls the link once, and tells the core what came of it.
 fn attempt<S: Sealer, L: Link>(

@@ -35,6 +35,7 @@ mod tapes;
 mod testing;
 
 pub use answering::host_serve;
+pub use exchanges::{MOST_RETRIES, exchange};
 pub use faults::ServeFault;
 pub use formatting::format_device;
 pub use law::{
@@ -43,7 +44,7 @@ pub use law::{
 };
 pub use link::{Link, LinkFault};
 pub use links::{Direct, FaultLink, LoopLink, StreamLink};
-pub use resuming::resume;
-pub use serving::serve;
+pub use resuming::{is_settled, reopen, resume};
+pub use serving::{serve, submit};
 pub use tape::Tape;
 pub use tapes::{ChaChaTape, ListTape};

@@ -18,14 +18,14 @@ use oram_core::{Core, Event, Reaction};
 use std::alloc::{AllocError, Global};
 
 /// Whether the core is idle or has failed.
-fn is_settled<S: Sealer>(core: &Core<S>) -> bool
+pub fn is_settled<S: Sealer>(core: &Core<S>) -> bool
     ensures { result ≡ is_settled_by (status_in core.now.state) }
 {
     core.is_idle() || core.failure().is_some()
 }
 
 /// Tells a core at work that it was reopened, and has it send its message again.
-fn reopen<S: Sealer>(alloc: Global, core: &mut Core<S>) -> Result<Reaction, AllocError>
+pub fn reopen<S: Sealer>(alloc: Global, core: &mut Core<S>) -> Result<Reaction, AllocError>
     requires { ¬ IsSettled core.old.state }
     ensures kept { IsSameDevice core.old core.new }
     ensures ok { let v = shape_of S.overhead S.sealing S.opening core.old in

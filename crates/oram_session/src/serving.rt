@@ -29,7 +29,7 @@ use std::alloc::{AllocError, Global};
 use std::io::{Read, Write};
 
 /// Submits a command with the words of the next ticket.
-fn submit<S: Sealer, T: Tape>(
+pub fn submit<S: Sealer, T: Tape>(
     alloc: Global,
     core: &mut Core<S>,
     tape: &mut T,

@@ -1,0 +1,342 @@
+-- Over an honest host what is read back holds the array, whenever the process ends.
+use Rattle.std.proofs.Common.{◌≡◌, ◌⊎◌, ℕ, ◌+◌, ◌*◌, ◌^◌, ◌<◌, ◌≤◌, if◌then◌else◌, Bool, true, List, [], ◌∷◌, ◌++◌, length, Option, Some, None, Ok, Err, refl, sym, ap, ◌∙◌, subst, arith, inl, inr}
+use Rattle.std.proofs.Math.Pow.{pow_mono}
+use Rattle.std.specs.List.{FoldsTo}
+use Rattle.oram_geometry.specs.Sizes.{IsDevice, trees_of, depth_of}
+use Rattle.oram_wire.specs.HostMessages.{fetch_body, store_body}
+use Rattle.oram_wire.specs.HostReading.{HasNumbers}
+use Rattle.oram_wire.specs.declared.host_messages.HostAnswer.{HostAnswer}
+use Rattle.oram_wire.specs.declared.host_messages.HostAnswer.TheVariants as answer
+use Rattle.oram_wire.specs.declared.host_messages.HostRequest.TheVariants.{Fetch}
+use Rattle.oram_host.specs.Answers.{Answers}
+use Rattle.oram_host.specs.Host.{Host}
+use Rattle.oram_host.specs.Serving.{Serves}
+use Rattle.oram_run.specs.Content.{stage_tree}
+use Rattle.oram_run.specs.Messages.{asked}
+use Rattle.oram_run.specs.Moves.{fetch_at}
+use Rattle.oram_run.specs.Moves.{moved, world_after}
+use Rattle.oram_run.specs.Progress.{Status}
+use Rattle.oram_run.specs.Progress.Status.{Idle, Waiting, Stalling, Over}
+use Rattle.oram_run.specs.Run.{Shown, is_over, refusal_of}
+use Rattle.oram_run.specs.Serving.{ServesArray, array_after, reply_by}
+use Rattle.oram_run.specs.Shape.{Shape}
+use Rattle.oram_run.specs.State.{State, World, status_in}
+use Rattle.oram_run.specs.declared.events.Command.{Command}
+use Rattle.oram_run.specs.declared.events.Event.{Event}
+use Rattle.oram_run.specs.declared.events.Event.TheVariants.{Reopen, Retry}
+use Rattle.oram_run.specs.declared.events.Refusal.{Refusal}
+use Rattle.oram_run.specs.declared.events.Reply.{Reply}
+use Rattle.oram_run.specs.declared.events.Submission.{Submission}
+use Rattle.oram_run.proofs.Bounds.{depth_small}
+use Rattle.oram_core.specs.Doing.{Done as Did, submitted_by}
+use Rattle.oram_core.specs.Steps.{Steps, did}
+use Rattle.oram_honest.specs.Honest.{IsHonest}
+use Rattle.oram_honest.specs.Hosting.{GoesOnHosted, Hosts, HostsBy, HostsWork}
+use Rattle.oram_honest.proofs.Honest.{honest_hosts_serve}
+use Rattle.oram_session.specs.Exchanges.{Sending, outcomes_of}
+use Rattle.oram_session.specs.Honesty.{IsBusy, IsHeld, IsHonestCall, IsHonestLink}
+use Rattle.oram_session.specs.Outcome.{Outcome}
+use Rattle.oram_session.specs.Settled.{IsSettled, outstanding}
+use Rattle.oram_session.proofs.Resumed.{reopened, resent}
+use Rattle.oram_session.proofs.Honesty.{Next, accepted, call_keeps, first_or, resting, sent_on, unsettled, waits_by}
+use Rattle.oram_keep.specs.Keeping.{Deed, Does, DoesAll, IsCovered, Moment, at, replies_of}
+use Rattle.oram_keep.specs.Keeping.Deed.{Keeps, Sends}
+use Rattle.oram_keep.specs.Asking.{IsAccepted, IsReopened}
+use Rattle.oram_keep.specs.Surviving.{CommandsLast, EndsAmid, IsLasting, IsResuming, KeptCoresGoOn, Recovers}
+
+-- a FETCH is read as one
+asks_fetch : (tree leaf : ℕ) → (asked (fetch_body tree leaf)).fetch ≡ true
+unfolding asked
+asks_fetch tree leaf = refl
+
+leaf_small : (leaf depth : ℕ) → depth ≤ 24 → leaf < 2 ^ depth → leaf < 2 ^ 32
+leaf_small leaf depth small fits = let grows : 2 ^ depth ≤ 2 ^ 32 = pow_mono {i = depth} {j = 32} (omega arith) in omega (arith, grows, fits)
+
+-- a fetched path leaves the host as it was
+
+fetch_answered : (host after : Host) (tree leaf : ℕ) (a : HostAnswer) → Answers host (Fetch tree leaf) a after → after ≡ host
+fetch_answered host after tree leaf (answer.Payload bytes) h = h.1
+fetch_answered host after tree leaf answer.Done h = absurd h
+fetch_answered host after tree leaf (answer.Refused code) h = h.3
+
+fetch_served : (host after : Host) (tree leaf : ℕ) (a : HostAnswer) → HasNumbers (Fetch tree leaf) → Serves host (fetch_body tree leaf) a after → after ≡ host
+fetch_served host after tree leaf a numbers s = fetch_answered host after tree leaf a (s.request (Fetch tree leaf) numbers refl)
+
+fetch_called : (host after : Host) (tree leaf : ℕ) (o : Outcome) → HasNumbers (Fetch tree leaf) → IsHonestCall host (fetch_body tree leaf) o after → after ≡ host
+fetch_called host after tree leaf (Ok bytes) numbers h = fetch_served host after tree leaf h.0 numbers h.3
+fetch_called host after tree leaf (Err fault) numbers (inl same) = same
+fetch_called host after tree leaf (Err fault) numbers (inr late) = fetch_served host after tree leaf late.0 numbers late.1
+
+reopen_honest : (now : Status) (last : List ℕ) (host : Host) → IsHonest now last Reopen host host
+reopen_honest Idle last host = refl
+reopen_honest Waiting last host = inl refl
+reopen_honest Stalling last host = refl
+reopen_honest Over last host = refl
+
+retry_honest : (now : Status) (last : List ℕ) (host : Host) → IsHonest now last Retry host host
+retry_honest Idle last host = refl
+retry_honest Waiting last host = refl
+retry_honest Stalling last host = refl
+retry_honest Over last host = refl
+
+module _ {L : Type 0} (calls : L → List ℕ → Outcome → L → Type 0) (host_of : L → Host) (honest : IsHonestLink calls host_of) where
+  fetches_leave : (tree leaf : ℕ) (message : List ℕ) → HasNumbers (Fetch tree leaf) → message ≡ fetch_body tree leaf → (outcomes : List Outcome) (l m : L)
+      → FoldsTo (λ a o b. calls a message o b) l outcomes m → host_of m ≡ host_of l
+  fetches_leave tree leaf message numbers is [] l m called = ap host_of (sym called)
+  fetches_leave tree leaf message numbers is (o ∷ outcomes) l m called =
+      let one : IsHonestCall (host_of l) (fetch_body tree leaf) o (host_of called.0) =
+      subst (λ (b : List ℕ). IsHonestCall (host_of l) b o (host_of called.0)) is (honest l called.0 message o called.1) in
+      fetches_leave tree leaf message numbers is outcomes called.0 m called.2 ∙ fetch_called (host_of l) (host_of called.0) tree leaf o numbers one
+
+  module _ (v : Shape) (device : IsDevice v.device) where
+    -- the message that waits in a busy core may be sent any number of times
+    calls_keep : (s : State) (w : World) (message : List ℕ) → message ≡ s.last → (outcomes : List Outcome) (l m : L)
+        → FoldsTo (λ a o b. calls a message o b) l outcomes m → HostsWork v s w (host_of l) → HostsWork v s w (host_of m)
+    calls_keep s w message is [] l m called b = subst (λ (k : L). HostsWork v s w (host_of k)) called b
+    calls_keep s w message is (o ∷ outcomes) l m called b =
+        let one : IsHonestCall (host_of l) s.last o (host_of called.0) =
+        subst (λ (k : List ℕ). IsHonestCall (host_of l) k o (host_of called.0)) is (honest l called.0 message o called.1) in
+        calls_keep s w message is outcomes called.0 m called.2 (call_keeps calls host_of honest v device s w (host_of l) (host_of called.0) o b one)
+
+    busy_called : (s : State) (x : Submission) (array : ℕ → List ℕ) (message : List ℕ) → message ≡ s.last → (outcomes : List Outcome) (l m : L)
+        → FoldsTo (λ a o b. calls a message o b) l outcomes m → IsBusy v host_of (s, l) x array → IsBusy v host_of (s, m) x array
+    busy_called s x array message is outcomes l m called b =
+        let work : HostsWork v s b.world (host_of l) = subst (HostsBy v s b.world (host_of l)) b.queue b.hosts in
+        let kept : HostsWork v s b.world (host_of m) = calls_keep s b.world message is outcomes l m called work in
+        record { alive = b.alive; queue = b.queue; world = b.world; serving = b.serving; hosts = subst (HostsBy v s b.world (host_of m)) (sym b.queue) kept }
+
+    -- so may a FETCH that a busy core waits for, which leaves the host as it was
+    host_left : (s : State) (x : Submission) (array : ℕ → List ℕ) (tree leaf : ℕ) (message : List ℕ) → message ≡ s.last → message ≡ fetch_body tree leaf
+        → (outcomes : List Outcome) (l m : L) → FoldsTo (λ a o b. calls a message o b) l outcomes m → IsBusy v host_of (s, l) x array → host_of m ≡ host_of l
+    host_left s x array tree leaf message is fetch outcomes l m called b =
+        let work : HostsWork v s b.world (host_of l) = subst (HostsBy v s b.world (host_of l)) b.queue b.hosts in
+        let asks : (asked s.last).fetch ≡ true = ap (λ (k : List ℕ). (asked k).fetch) (sym is ∙ fetch) ∙ asks_fetch tree leaf in
+        let same : s.last ≡ fetch_body (asked s.last).tree (asked s.last).leaf =
+        work.posted.whole.body ∙ ap (λ (f : Bool). if f then fetch_body (asked s.last).tree (asked s.last).leaf else store_body (asked s.last).tree (asked s.last).leaf work.posted.whole.records) asks in
+        let small : (asked s.last).leaf < 2 ^ 32 = leaf_small (asked s.last).leaf (depth_of v.device (stage_tree v.device s.stage)) (depth_small v.device (stage_tree v.device s.stage)) work.posted.leaf in
+        fetches_leave (asked s.last).tree (asked s.last).leaf message small (is ∙ same) outcomes l m called
+
+    -- what is kept recovers the same array, whatever is sent under it
+    recovers_called : (kept s : State) (x : Submission) (array before : ℕ → List ℕ) (message : List ℕ) → message ≡ s.last → IsCovered v kept message
+        → (outcomes : List Outcome) (l m : L) → FoldsTo (λ a o b. calls a message o b) l outcomes m → IsBusy v host_of (s, l) x before
+        → Recovers v host_of kept l array → Recovers v host_of kept m array
+    recovers_called kept s x array before message is covered outcomes l m called b (inl held) =
+        absurd (let both = sym (resting kept held.settled held.alive) ∙ covered.queue in cc)
+    recovers_called kept s x array before message is covered outcomes l m called b (inr r) = elim covered.either [
+      | inl own ↦ inr (r.0, r.1, busy_called kept r.0 r.1 message own outcomes l m called r.2, r.3)
+      | inr following ↦
+          let same : host_of m ≡ host_of l = host_left s x before (fetch_at v.device (kept.stage + 1) kept.named covered.oldest).tree (fetch_at v.device (kept.stage + 1) kept.named covered.oldest).leaf message is following.fetch outcomes l m called b in
+          inr (
+            r.0,
+            r.1,
+            record {
+              alive = r.2.alive;
+              queue = r.2.queue;
+              world = r.2.world;
+              serving = r.2.serving;
+              hosts = subst (λ (h : Host). Hosts v kept r.2.world h) (sym same) r.2.hosts;
+            },
+            r.3,
+          )
+    ]
+
+    module _ {K : Type 0} (keeps : K → List ℕ → Bool → K → Type 0) where
+      after_of : Submission → (ℕ → List ℕ) → ℕ → List ℕ
+      after_of x array = array_after v.device x.command array
+
+      kept_now : (m : Moment L K) (x : Submission) (array : ℕ → List ℕ) → IsBusy v host_of (m.core, m.link) x array
+          → Recovers v host_of m.core m.link (array_after v.device x.command array)
+      kept_now m x array b = inr (x, array, b, refl)
+
+      -- the core is kept, and nothing else changes
+      after_keeping : (m n : Moment L K) (P : State → L → Type 0) → Does v calls keeps m Keeps n → P m.core m.link → P n.core n.link × P n.kept n.link
+      after_keeping m n P d p =
+          let here : P m.core n.link = subst (P m.core) (sym d.3) p in
+          (subst (λ (s : State). P s n.link) (sym d.1) here, subst (λ (s : State). P s n.link) (sym d.2) here)
+
+      -- no message waits in a settled core
+      none_waits : (s : State) (message : List ℕ) → IsSettled s → outstanding s ≡ Some message → ⊥
+      none_waits s message settled e =
+          let k = waits_by s (status_in s) message refl e in
+          let both = sym settled ∙ unsettled (status_in s) k.0 in
+          cc
+
+      sends_on : (m n : Moment L K) (y : Sending) (x : Submission) (array lasting : ℕ → List ℕ) → IsBusy v host_of (m.core, m.link) x array
+          → Recovers v host_of m.kept m.link lasting → Does v calls keeps m (Sends y) n
+          → Next calls host_of honest v device (n.core, n.link) x array y.replies × Recovers v host_of n.kept n.link lasting
+      sends_on m n y x array lasting b r d =
+          let k = waits_by m.core (status_in m.core) y.message refl d.1.message in
+          let reached = recovers_called m.kept m.core x lasting array y.message k.1 d.0 (outcomes_of y) m.link n.link d.1.link b r in (
+            sent_on calls host_of honest v device (m.core, m.link) (n.core, n.link) x array y b d.1 d.2,
+            subst (λ (s : State). Recovers v host_of s n.link lasting) (sym d.3) reached,
+          )
+
+      -- once the command has its reply
+
+      held_does : (deeds : List Deed) (m n : Moment L K) (array : ℕ → List ℕ) → IsHeld v host_of (m.core, m.link) array
+          → Recovers v host_of m.kept m.link array → DoesAll v calls keeps m deeds n
+          → IsHeld v host_of (n.core, n.link) array × Recovers v host_of n.kept n.link array × (replies_of deeds ≡ [])
+      held_does [] m n array held r all =
+          let both = subst (λ (z : Moment L K). IsHeld v host_of (z.core, z.link) array × Recovers v host_of z.kept z.link array) all (held, r) in
+          (both.0, both.1, refl)
+      held_does (Keeps ∷ deeds) m n array held r all =
+          let now = after_keeping m all.0 (λ s l. IsHeld v host_of (s, l) array) all.1 held in
+          held_does deeds all.0 n array now.0 (inl now.1) all.2
+      held_does (Sends y ∷ deeds) m n array held r all = absurd (none_waits m.core y.message held.settled all.1.1.message)
+
+      held_ends : (deeds : List Deed) (m : Moment L K) (array lasting : ℕ → List ℕ) (kept : State) (link : L) → IsHeld v host_of (m.core, m.link) array
+          → Recovers v host_of m.kept m.link lasting → EndsAmid v calls keeps m deeds kept link
+          → Recovers v host_of kept link lasting ⊎ Recovers v host_of kept link array
+      held_ends [] m array lasting kept link held r e =
+          inl (subst (λ (s : State). Recovers v host_of s link lasting) (sym e.0) (subst (λ (l : L). Recovers v host_of m.kept l lasting) (sym e.1) r))
+      held_ends (Keeps ∷ deeds) m array lasting kept link held r (inl e) = elim e.0 [
+        | inl old ↦ inl (subst (λ (s : State). Recovers v host_of s link lasting) (sym old) (subst (λ (l : L). Recovers v host_of m.kept l lasting) (sym e.1) r))
+        | inr new ↦ inr (inl (subst (λ (s : State). IsHeld v host_of (s, link) array) (sym new) (subst (λ (l : L). IsHeld v host_of (m.core, l) array) (sym e.1) held)))
+      ]
+      held_ends (Sends y ∷ deeds) m array lasting kept link held r (inl e) = absurd (none_waits m.core y.message held.settled e.2)
+      held_ends (Keeps ∷ deeds) m array lasting kept link held r (inr e) =
+          let now = after_keeping m e.0 (λ s l. IsHeld v host_of (s, l) array) e.1 held in
+          inr (elim (held_ends deeds e.0 array array kept link now.0 (inl now.1) e.2) [ inl a ↦ a | inr a ↦ a ])
+      held_ends (Sends y ∷ deeds) m array lasting kept link held r (inr e) = absurd (none_waits m.core y.message held.settled e.1.1.message)
+
+      -- while it is at work
+
+      abbrev Done : Moment L K → Submission → (ℕ → List ℕ) → List Reply → Type 0
+      Done n x array replies =
+          (IsBusy v host_of (n.core, n.link) x array × (replies ≡ []))
+          ⊎ (IsHeld v host_of (n.core, n.link) (array_after v.device x.command array) × (replies ≡ reply_by array x ∷ []))
+
+      busy_does : (deeds : List Deed) (m n : Moment L K) (x : Submission) (array : ℕ → List ℕ) → IsBusy v host_of (m.core, m.link) x array
+          → Recovers v host_of m.kept m.link (array_after v.device x.command array) → DoesAll v calls keeps m deeds n
+          → Done n x array (replies_of deeds) × Recovers v host_of n.kept n.link (array_after v.device x.command array)
+      busy_does [] m n x array b r all =
+          subst (λ (z : Moment L K). Done z x array [] × Recovers v host_of z.kept z.link (array_after v.device x.command array)) all (inl (b, refl), r)
+      busy_does (Keeps ∷ deeds) m n x array b r all =
+          let now = after_keeping m all.0 (λ s l. IsBusy v host_of (s, l) x array) all.1 b in
+          busy_does deeds all.0 n x array now.0 (inr (x, array, now.1, refl)) all.2
+      busy_does (Sends y ∷ deeds) m n x array b r all =
+          let after : ℕ → List ℕ = array_after v.device x.command array in
+          let on = sends_on m all.0 y x array after b r all.1 in
+          elim on.0 [
+            | inl more ↦
+                let rest = busy_does deeds all.0 n x array more.0 on.1 all.2 in
+                (subst (λ (rs : List Reply). Done n x array (rs ++ replies_of deeds)) (sym more.1) rest.0, rest.1)
+            | inr done ↦
+                let rest = held_does deeds all.0 n after done.0 on.1 all.2 in
+                (inr (rest.0, ap (λ (rs : List Reply). rs ++ replies_of deeds) done.1 ∙ ap (λ (rs : List Reply). reply_by array x ∷ rs) rest.2), rest.1)
+          ]
+
+      busy_ends : (deeds : List Deed) (m : Moment L K) (x : Submission) (array lasting : ℕ → List ℕ) (kept : State) (link : L)
+          → IsBusy v host_of (m.core, m.link) x array → Recovers v host_of m.kept m.link lasting → EndsAmid v calls keeps m deeds kept link
+          → Recovers v host_of kept link lasting ⊎ Recovers v host_of kept link (array_after v.device x.command array)
+      busy_ends [] m x array lasting kept link b r e =
+          inl (subst (λ (s : State). Recovers v host_of s link lasting) (sym e.0) (subst (λ (l : L). Recovers v host_of m.kept l lasting) (sym e.1) r))
+      busy_ends (Keeps ∷ deeds) m x array lasting kept link b r (inl e) = elim e.0 [
+        | inl old ↦ inl (subst (λ (s : State). Recovers v host_of s link lasting) (sym old) (subst (λ (l : L). Recovers v host_of m.kept l lasting) (sym e.1) r))
+        | inr new ↦
+            let after : ℕ → List ℕ = array_after v.device x.command array in
+            inr (subst (λ (s : State). Recovers v host_of s link after) (sym new) (subst (λ (l : L). Recovers v host_of m.core l after) (sym e.1) (kept_now m x array b)))
+      ]
+      busy_ends (Sends y ∷ deeds) m x array lasting kept link b r (inl e) =
+          let k = waits_by m.core (status_in m.core) y.message refl e.2 in
+          let reached = recovers_called m.kept m.core x lasting array y.message k.1 e.1 e.3 m.link link e.4 b r in
+          inl (subst (λ (s : State). Recovers v host_of s link lasting) (sym e.0) reached)
+      busy_ends (Keeps ∷ deeds) m x array lasting kept link b r (inr e) =
+          let now = after_keeping m e.0 (λ s l. IsBusy v host_of (s, l) x array) e.1 b in
+          inr (elim (busy_ends deeds e.0 x array (array_after v.device x.command array) kept link now.0 (inr (x, array, now.1, refl)) e.2) [ inl a ↦ a | inr a ↦ a ])
+      busy_ends (Sends y ∷ deeds) m x array lasting kept link b r (inr e) =
+          let on = sends_on m e.0 y x array lasting b r e.1 in
+          elim on.0 [
+            | inl more ↦ busy_ends deeds e.0 x array lasting kept link more.0 on.1 e.2
+            | inr done ↦ held_ends deeds e.0 (array_after v.device x.command array) lasting kept link done.0 on.1 e.2
+          ]
+
+      -- an event that an honest host has no part in, and that brings no reply
+      quiet_step : (s t : State) (l : L) (x : Submission) (array : ℕ → List ℕ) (event : Event) (shown : Shown) → IsBusy v host_of (s, l) x array
+          → Steps v s event shown t → IsHonest (status_in s) s.last event (host_of l) (host_of l) → shown.replies ≡ [] → t.queue ≡ s.queue
+          → IsBusy v host_of (t, l) x array
+      quiet_step s t l x array event shown b step host none queue =
+          let on : GoesOnHosted v s t b.world array event shown (host_of l) =
+          honest_hosts_serve v s t b.world array event shown (host_of l) (host_of l) device b.alive b.serving b.hosts step.moves host in
+          let next : World = world_after v b.world (moved v s b.world event) shown.sends in
+          let serves : ServesArray v t next array = elim on.goes_on.served [
+            | inl quiet ↦ quiet.1
+            | inr replied ↦ absurd (let both = sym none ∙ replied.3 in cc)
+          ] in
+          record {
+            alive = on.alive;
+            queue = queue ∙ b.queue;
+            world = next;
+            serving = record { orderly = on.goes_on.orderly; holds = on.goes_on.holds; agrees = on.goes_on.agrees; serves = serves };
+            hosts = on.hosts;
+          }
+
+      reopened_busy : (s t : State) (l : L) (x : Submission) (array : ℕ → List ℕ) → ¬ IsSettled s → IsBusy v host_of (s, l) x array
+          → IsReopened v s t → IsBusy v host_of (t, l) x array
+      reopened_busy s t l x array going b told =
+          let mid : State = told.1 in
+          let first = reopened v s mid told.0 going told.3 in
+          let last = told.4 in
+          let again = resent v s mid last.1 last.0 going first.1 last.3 in
+          let stalled : IsBusy v host_of (mid, l) x array =
+          quiet_step s mid l x array Reopen told.0 b told.3 (reopen_honest (status_in s) s.last (host_of l)) first.0 (ap (λ (u : State). u.queue) first.1) in
+          let queue : last.1.queue ≡ mid.queue = ap (λ (d : Did). d.state.queue) again ∙ sym (ap (λ (u : State). u.queue) first.1) in
+          subst (λ (u : State). IsBusy v host_of (u, l) x array) last.4.1
+          (quiet_step mid last.1 l x array Retry last.0 stalled last.3 (retry_honest (status_in mid) mid.last (host_of l)) (ap (λ (d : Did). d.replies) again) queue)
+
+      accepted_busy : (words : ℕ → ℕ → List ℕ) (s t : State) (l : L) (c : Command) (array : ℕ → List ℕ) (o : Option Refusal) (k : IsAccepted v words s c t)
+          → IsHeld v host_of (s, l) array
+          → (let x : Submission = record { session = 0; ticket = s.next; command = c; words = words s.next (2 * trees_of v.device) } in
+          did k.shown t ≡ submitted_by v s x o → IsBusy v host_of (t, l) x array)
+      accepted_busy words s t l c array (Some e) k held is = absurd (let both = sym k.note ∙ ap (λ (d : Did). d.note) is in cc)
+      accepted_busy words s t l c array None k held is =
+          accepted calls host_of honest v device (s, l) 0 c (words s.next (2 * trees_of v.device)) k.shown t array held k.told is
+
+      lasting : (words : ℕ → ℕ → List ℕ) (m : Moment L K) (c : Command) (t : State) (array : ℕ → List ℕ) → IsHeld v host_of (m.core, m.link) array
+          → Recovers v host_of m.kept m.link array → IsAccepted v words m.core c t → IsLasting v calls keeps host_of words m c t array
+      lasting words m c t array held r k =
+          let x : Submission = record { session = 0; ticket = m.core.next; command = c; words = words m.core.next (2 * trees_of v.device) } in
+          let why : Option Refusal = refusal_of v.device (is_over (status_in m.core)) (length m.core.queue) m.core.next c x.words in
+          let busy : IsBusy v host_of (t, m.link) x array = accepted_busy words m.core t m.link c array why k held (k.told.plain (submitted_by v m.core x why) refl) in
+          let from : Moment L K = at t m.kept m.link m.keeper in
+          record {
+            done = λ deeds n reply all one.
+            let now = after_keeping from all.0 (λ s l. IsBusy v host_of (s, l) x array) all.1 busy in
+            let reached = busy_does deeds all.0 n x array now.0 (inr (x, array, now.1, refl)) all.2 in
+            elim reached.0 [
+              | inl more ↦ absurd (let both = sym more.1 ∙ one in cc)
+              | inr given ↦
+                  let same : reply_by array x ≡ reply = ap (λ (rs : List Reply). first_or rs reply) (sym given.1 ∙ one) in
+                  (ap (λ (z : Reply). z.body) (sym same), given.0, reached.1)
+            ];
+            ended = λ deeds kept link e. busy_ends deeds from x array array kept link busy r e;
+          }
+
+      going_on : (kept : State) (link : L) (keeper : K) (t : State) (array : ℕ → List ℕ) → Recovers v host_of kept link array → ¬ IsSettled kept
+          → IsReopened v kept t → IsResuming v calls keeps host_of kept link keeper t array
+      going_on kept link keeper t array (inl held) going told = absurd (going held.settled)
+      going_on kept link keeper t array (inr r) going told =
+          let x : Submission = r.0 in
+          let before : ℕ → List ℕ = r.1 in
+          let after : ℕ → List ℕ = array_after v.device x.command before in
+          let busy : IsBusy v host_of (t, link) x before = reopened_busy kept t link x before going r.2 told in
+          let from : Moment L K = at t kept link keeper in
+          let lasts : Recovers v host_of kept link after = inr (x, before, r.2, refl) in
+          record {
+            done = λ deeds n all settled.
+            let reached = busy_does (Keeps ∷ deeds) from n x before busy lasts all in
+            elim reached.0 [
+              | inl more ↦ absurd (let both = sym (resting n.core settled more.0.alive) ∙ more.0.queue in cc)
+              | inr given ↦
+                  subst (λ (a : ℕ → List ℕ). IsHeld v host_of (n.core, n.link) a × Recovers v host_of n.kept n.link a) (sym r.3) (given.0, reached.1)
+            ];
+            ended = λ deeds later link' e.
+            subst (λ (a : ℕ → List ℕ). Recovers v host_of later link' a) (sym r.3)
+            (elim (busy_ends deeds from x before after later link' busy lasts e) [ inl a ↦ a | inr a ↦ a ]);
+          }
+
+pub commands_last : {L K : Type 0} (calls : L → List ℕ → Outcome → L → Type 0) (keeps : K → List ℕ → Bool → K → Type 0) → CommandsLast calls keeps
+commands_last calls keeps host_of honest v words m c t array device held r k = lasting calls host_of honest v device keeps words m c t array held r k
+
+pub kept_cores_go_on : {L K : Type 0} (calls : L → List ℕ → Outcome → L → Type 0) (keeps : K → List ℕ → Bool → K → Type 0) → KeptCoresGoOn calls keeps
+kept_cores_go_on calls keeps host_of honest v kept link keeper t array device r going told = going_on calls host_of honest v device keeps kept link keeper t array r going told

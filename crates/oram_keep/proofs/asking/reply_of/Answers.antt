@@ -1,0 +1,16 @@
+use Rattle.std.proofs.Common.{◌≡◌, ◌∷◌, [], ◌++◌, List, ◌∙◌, ap, subst}
+use Rattle.oram_run.specs.declared.events.Reply.{Reply}
+use Rattle.oram_core.specs.Core.{shape_of}
+use Rattle.oram_session.proofs.Resumed.{only_one}
+use Rattle.oram_keep.specs.Asking.{HasGivenAll, IsSame}
+use Rattle.oram_keep.proofs.asking.reply_of.Goals as goal
+
+pub returns-clause-ok : goal.returns-clause-ok
+returns-clause-ok g c = λ kept.
+    let w = c.in_ok-last.ensures.ok kept in
+    let v = shape_of g.S.Sealer.overhead g.S.Sealer.sealing g.S.Sealer.opening c.args.core.now in
+    let one = w.2 ∙ c.requires.alone in
+    let only : w.0 ≡ c.in-Some.reply ∷ [] =
+    only_one w.0 w.3.0 c.pop.new.self.items c.in-Some.reply one (w.3.1 ∙ ap (λ (l : List Reply). w.3.0 ++ l) c.in-Some.ensures.items) in
+    subst (λ (rs : List Reply). HasGivenAll v g.L.Link.calls g.K.Keeper.keeps IsSame c.args.core.now.state c.args.link.now c.args.keeper.now
+    c.exchange_all.new.core.state c.exchange_all.new.link c.exchange_all.new.keeper kept rs) only w.1

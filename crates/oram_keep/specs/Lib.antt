@@ -1,0 +1,4 @@
+pub mod Keeping
+pub mod Ends
+pub mod Asking
+pub mod Surviving
