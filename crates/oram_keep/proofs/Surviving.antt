@@ -301,14 +301,14 @@ module _ {L : Type 0} (calls : L → List ℕ → Outcome → L → Type 0) (hos
           let from : Moment L K = at t m.kept m.link m.keeper in
           record {
             done = λ deeds n reply all one.
-            let now = after_keeping from all.0 (λ s l. IsBusy v host_of (s, l) x array) all.1 busy in
-            let reached = busy_does deeds all.0 n x array now.0 (inr (x, array, now.1, refl)) all.2 in
-            elim reached.0 [
-              | inl more ↦ absurd (let both = sym more.1 ∙ one in cc)
-              | inr given ↦
-                  let same : reply_by array x ≡ reply = ap (λ (rs : List Reply). first_or rs reply) (sym given.1 ∙ one) in
-                  (ap (λ (z : Reply). z.body) (sym same), given.0, reached.1)
-            ];
+                let now = after_keeping from all.0 (λ s l. IsBusy v host_of (s, l) x array) all.1 busy in
+                let reached = busy_does deeds all.0 n x array now.0 (inr (x, array, now.1, refl)) all.2 in
+                elim reached.0 [
+                  | inl more ↦ absurd (let both = sym more.1 ∙ one in cc)
+                  | inr given ↦
+                      let same : reply_by array x ≡ reply = ap (λ (rs : List Reply). first_or rs reply) (sym given.1 ∙ one) in
+                      (ap (λ (z : Reply). z.body) (sym same), given.0, reached.1)
+                ];
             ended = λ deeds kept link e. busy_ends deeds from x array array kept link busy r e;
           }
 
@@ -324,15 +324,15 @@ module _ {L : Type 0} (calls : L → List ℕ → Outcome → L → Type 0) (hos
           let lasts : Recovers v host_of kept link after = inr (x, before, r.2, refl) in
           record {
             done = λ deeds n all settled.
-            let reached = busy_does (Keeps ∷ deeds) from n x before busy lasts all in
-            elim reached.0 [
-              | inl more ↦ absurd (let both = sym (resting n.core settled more.0.alive) ∙ more.0.queue in cc)
-              | inr given ↦
-                  subst (λ (a : ℕ → List ℕ). IsHeld v host_of (n.core, n.link) a × Recovers v host_of n.kept n.link a) (sym r.3) (given.0, reached.1)
-            ];
+                let reached = busy_does (Keeps ∷ deeds) from n x before busy lasts all in
+                elim reached.0 [
+                  | inl more ↦ absurd (let both = sym (resting n.core settled more.0.alive) ∙ more.0.queue in cc)
+                  | inr given ↦
+                      subst (λ (a : ℕ → List ℕ). IsHeld v host_of (n.core, n.link) a × Recovers v host_of n.kept n.link a) (sym r.3) (given.0, reached.1)
+                ];
             ended = λ deeds later link' e.
-            subst (λ (a : ℕ → List ℕ). Recovers v host_of later link' a) (sym r.3)
-            (elim (busy_ends deeds from x before after later link' busy lasts e) [ inl a ↦ a | inr a ↦ a ]);
+                subst (λ (a : ℕ → List ℕ). Recovers v host_of later link' a) (sym r.3)
+                (elim (busy_ends deeds from x before after later link' busy lasts e) [ inl a ↦ a | inr a ↦ a ]);
           }
 
 pub commands_last : {L K : Type 0} (calls : L → List ℕ → Outcome → L → Type 0) (keeps : K → List ℕ → Bool → K → Type 0) → CommandsLast calls keeps

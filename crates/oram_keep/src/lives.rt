@@ -17,7 +17,7 @@ use std::test::Fail;
 const WRITES: u8 = 3;
 
 /// What came of a life that ended, and of the one after it.
-#[derive(Debug, PartialEq, Eq)]
+#[derive(Debug, PartialEq, Eq, Drop)]
 struct Lives {
     /// How many writes had their reply, and why the next one had none.
     acknowledged: u8,
@@ -73,7 +73,14 @@ fn read<L: Link>(
     if !is_settled(core) {
         return Err(KeepFault::Stalled);
     }
-    let asked = ask(alloc, core, link, shelf, &mut tape(), Command::Read(address))?;
+    let asked = ask(
+        alloc,
+        core,
+        link,
+        shelf,
+        &mut tape(),
+        Command::Read(address),
+    )?;
     let Asked::Replied(ReplyBody::Data(bytes)) = asked else {
         return Err(KeepFault::Stalled);
     };
@@ -107,14 +114,26 @@ fn found<L: Link>(
 }
 
 /// A life whose keeper fails after so many files, and whose link fails four times from a call on; and the next one, with what was kept.
-fn lives(alloc: Global, room: u64, late: bool, at: u64, after: bool) -> Result<Lives, KeepFault> {
+fn two_lives(
+    alloc: Global,
+    room: u64,
+    late: bool,
+    at: u64,
+    after: bool,
+) -> Result<Lives, KeepFault> {
     let (mut core, direct) = formatted(alloc)?;
     let mut link = FaultLink::new(direct, at, 4, after);
     let mut shelf = Shelf::new(alloc, room, late);
     let (acknowledged, fault) = write_all(alloc, &mut core, &mut link, &mut shelf);
     let (kept, calls) = (shelf.kept, link.calls());
     if shelf.newest.is_empty() {
-        return Ok(Lives { acknowledged, fault, kept, calls, found: 0 });
+        return Ok(Lives {
+            acknowledged,
+            fault,
+            kept,
+            calls,
+            found: 0,
+        });
     }
     let Ok(mut next) = decode_state(alloc, PlainSeal, &shelf.newest) else {
         return Err(KeepFault::OutOfMemory);
@@ -122,13 +141,31 @@ fn lives(alloc: Global, room: u64, late: bool, at: u64, after: bool) -> Result<L
     shelf.room = u64::MAX;
     resume(alloc, &mut next, &mut link, &mut shelf)?;
     let found = found(alloc, &mut next, &mut link, &mut shelf)?;
-    Ok(Lives { acknowledged, fault, kept, calls, found })
+    Ok(Lives {
+        acknowledged,
+        fault,
+        kept,
+        calls,
+        found,
+    })
 }
 
 /// The same, once more where memory was refused.
-fn lives_again(alloc: Global, room: u64, late: bool, at: u64, after: bool) -> Result<Lives, KeepFault> {
-    match lives(alloc, room, late, at, after) {
-        Ok(Lives { fault: Some(KeepFault::OutOfMemory), .. }) | Err(_) => lives(alloc, room, late, at, after),
+fn tried_again(
+    alloc: Global,
+    room: u64,
+    late: bool,
+    at: u64,
+    after: bool,
+) -> Result<Lives, KeepFault> {
+    match two_lives(alloc, room, late, at, after) {
+        Ok(
+            Lives {
+                fault: Some(KeepFault::OutOfMemory),
+                ..
+            },
+        )
+        | Err(_) => two_lives(alloc, room, late, at, after),
         ended => ended,
     }
 }
@@ -136,15 +173,24 @@ fn lives_again(alloc: Global, room: u64, late: bool, at: u64, after: bool) -> Re
 // A command over three trees is kept four times, and has six messages: the FETCH behind a STORE isn't kept.
 #[test]
 fn a_whole_life(rt: HostRuntime) -> Result<(), Fail> {
-    let whole = lives_again(rt.alloc(), u64::MAX, false, u64::MAX, false)?;
-    assert!(rt; whole == Lives { acknowledged: 3, fault: None, kept: 12, calls: 18, found: 3 });
+    let whole = tried_again(rt.alloc(), u64::MAX, false, u64::MAX, false)?;
+    assert!(rt;
+        whole
+            == Lives {
+                acknowledged: 3,
+                fault: None,
+                kept: 12,
+                calls: 18,
+                found: 3
+            }
+    );
     Ok(())
 }
 
 #[test]
 fn the_keeper_fails_at_each_file(rt: HostRuntime) -> Result<(), Fail> {
     for room in 0..12 {
-        let lives = lives_again(rt.alloc(), room, false, u64::MAX, false)?;
+        let lives = tried_again(rt.alloc(), room, false, u64::MAX, false)?;
         assert!(rt; lives.fault == Some(KeepFault::Unkept));
         assert_eq!(rt; u64::from(lives.acknowledged), room / 4);
         // The one at work is carried out where it was kept once.
@@ -156,7 +202,7 @@ fn the_keeper_fails_at_each_file(rt: HostRuntime) -> Result<(), Fail> {
 #[test]
 fn or_keeps_it_all_the_same(rt: HostRuntime) -> Result<(), Fail> {
     for room in 0..12 {
-        let lives = lives_again(rt.alloc(), room, true, u64::MAX, false)?;
+        let lives = tried_again(rt.alloc(), room, true, u64::MAX, false)?;
         assert!(rt; lives.fault == Some(KeepFault::Unkept));
         assert_eq!(rt; u64::from(lives.acknowledged), room / 4);
         assert_eq!(rt; u64::from(lives.found), room / 4 + 1);
@@ -168,7 +214,7 @@ fn or_keeps_it_all_the_same(rt: HostRuntime) -> Result<(), Fail> {
 fn the_link_fails_at_each_message(rt: HostRuntime) -> Result<(), Fail> {
     for at in 0..18 {
         for after in [false, true] {
-            let lives = lives_again(rt.alloc(), u64::MAX, false, at, after)?;
+            let lives = tried_again(rt.alloc(), u64::MAX, false, at, after)?;
             assert!(rt; lives.fault == Some(KeepFault::Stalled));
             assert_eq!(rt; u64::from(lives.acknowledged), at / 6);
             assert_eq!(rt; u64::from(lives.found), at / 6 + 1);

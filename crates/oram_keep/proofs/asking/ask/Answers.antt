@@ -55,5 +55,5 @@ returns-in_ok-reply-in-Accepted-clause-ok g c = λ kept.
       reply,
       refl,
       given_from v _ same g.L.Link.calls g.K.Keeper.keeps (λ s t. IsAccepted v words s c.args.command t) c.args.core.now.state c.submit.new.core.state begun
-      c.args.link.now c.args.keeper.now c.reply_of.new.core.state c.reply_of.new.link c.reply_of.new.keeper kept (reply ∷ []) (c.in_ok-reply-in-Accepted.ensures.ok kept),
+          c.args.link.now c.args.keeper.now c.reply_of.new.core.state c.reply_of.new.link c.reply_of.new.keeper kept (reply ∷ []) (c.in_ok-reply-in-Accepted.ensures.ok kept),
     )

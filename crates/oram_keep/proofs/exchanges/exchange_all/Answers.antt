@@ -174,14 +174,14 @@ loop-message-preserved g c =
             | then-is_to_be_kept+in_ok-keep-2 w ↦
                 let k = w.in_ok-keep-2.ensures.ok in
                 subst (λ (j : g.row.K.Denot). SoFar v g.L.Link.calls g.K.Keeper.keeps c.args.core.now.state c.args.link.now c.args.keeper.now before (length c.args.core.now.state.queue) c.in_ok-reaction.reaction.replies.items after.state c.send.new.link j)
-                    (sym w.keeper-is)
-                    (kept_then v g.L.Link.calls g.K.Keeper.keeps _ _ _ before _ _ now.state c.loop-message.link c.loop-message.keeper so waits a.0 d c.send.new.link sent a.2 heard a.3
-                    w.keep-then-is_to_be_kept.new.keeper (k.0, saved_under g.S.Sealer.overhead c.args.core.now after k.0 kept k.1, k.2))
+                (sym w.keeper-is)
+                (kept_then v g.L.Link.calls g.K.Keeper.keeps _ _ _ before _ _ now.state c.loop-message.link c.loop-message.keeper so waits a.0 d c.send.new.link sent a.2 heard a.3
+                w.keep-then-is_to_be_kept.new.keeper (k.0, saved_under g.S.Sealer.overhead c.args.core.now after k.0 kept k.1, k.2))
             | else-is_to_be_kept w ↦
                 subst (λ (j : g.row.K.Denot). SoFar v g.L.Link.calls g.K.Keeper.keeps c.args.core.now.state c.args.link.now c.args.keeper.now before (length c.args.core.now.state.queue) c.in_ok-reaction.reaction.replies.items after.state c.send.new.link j)
-                    (sym w.keeper-is)
-                    (went_on v g.L.Link.calls g.K.Keeper.keeps _ _ _ before _ _ now.state c.loop-message.link c.loop-message.keeper so waits a.0 d c.send.new.link sent a.2 heard a.3
-                    (sym c.is_to_be_kept.ensures ∙ w.if-is_to_be_kept.false))
+                (sym w.keeper-is)
+                (went_on v g.L.Link.calls g.K.Keeper.keeps _ _ _ before _ _ now.state c.loop-message.link c.loop-message.keeper so waits a.0 d c.send.new.link sent a.2 heard a.3
+                (sym c.is_to_be_kept.ensures ∙ w.if-is_to_be_kept.false))
           ];
     }
 

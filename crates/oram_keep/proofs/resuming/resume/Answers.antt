@@ -42,5 +42,5 @@ returns-clause-ok g c = λ going kept.
       w.0,
       w.2 ∙ ap length c.in_ok-reaction.ensures.queue ∙ sym c.waiting-waiting.ensures,
       given_from v _ same g.L.Link.calls g.K.Keeper.keeps (IsReopened v) c.args.core.now.state c.reopen.new.core.state c.in_ok-reaction.ensures.ok
-      c.args.link.now c.args.keeper.now c.exchange_all.new.core.state c.exchange_all.new.link c.exchange_all.new.keeper kept w.0 w.1,
+          c.args.link.now c.args.keeper.now c.exchange_all.new.core.state c.exchange_all.new.link c.exchange_all.new.keeper kept w.0 w.1,
     )
