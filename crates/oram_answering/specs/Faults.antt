@@ -1,0 +1,11 @@
+-- What an end for a fault of the frames is told as.
+use Rattle.oram_wire.specs.declared.streaming.FrameFault.{FrameFault}
+use Rattle.oram_wire.specs.declared.streaming.FrameFault.TheVariants as frames
+use Rattle.oram_answering.specs.declared.faults.ServeFault.{ServeFault}
+use Rattle.oram_answering.specs.declared.faults.ServeFault.TheVariants.{Read, Frame, Truncated, OutOfMemory}
+
+abbrev pub frame_fault : FrameFault → ServeFault
+frame_fault frames.Read = Read
+frame_fault frames.Frame = Frame
+frame_fault frames.Truncated = Truncated
+frame_fault frames.OutOfMemory = OutOfMemory
