@@ -1,0 +1,5 @@
+mod Named
+mod Numbers
+mod Ports
+mod Rows
+mod TableKeys

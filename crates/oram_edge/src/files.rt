@@ -1,0 +1,128 @@
+//! The files that programs read and keep.
+
+ghost use Rattle.std.specs.Prelude.{◌≡◌, ◌++◌, codes, string_bytes, IfOk};
+ghost use Rattle.oram_edge.specs.declared.files.FileFault.TheVariants.{OutOfMemory};
+
+use std::alloc::{AllocError, Global};
+use std::fs::OpenFile;
+use std::io::{ErrorKind, Write};
+use std::rt::Files;
+use std::{fs, io};
+use thiserror::Error;
+
+/// Why a file was not read or written.
+#[derive(Debug, PartialEq, Eq, Drop, Error)]
+pub enum FileFault {
+    /// The file of this name can't be read or written, or is there already.
+    #[error("file {0}")]
+    File(String),
+    #[error("out of memory")]
+    OutOfMemory,
+}
+
+impl From<AllocError> for FileFault {
+    ghost from_gives = { λ _ fault. fault ≡ OutOfMemory };
+
+    fn from(_error: AllocError) -> FileFault {
+        FileFault::OutOfMemory
+    }
+}
+
+/// The fault of the file of this name.
+fn file_fault(alloc: Global, name: &str) -> FileFault {
+    match String::from_str(alloc, name) {
+        Ok(name) => FileFault::File(name),
+        Err(_) => FileFault::OutOfMemory,
+    }
+}
+
+/// What a failed call on the file of this name is.
+pub fn call_fault(alloc: Global, name: &str, error: &io::Error) -> FileFault {
+    if error.kind() == ErrorKind::OutOfMemory {
+        FileFault::OutOfMemory
+    } else {
+        file_fault(alloc, name)
+    }
+}
+
+/// All bytes of a file.
+pub fn bytes_in<R: Files + AllocGlobal>(rt: &R, name: &str) -> Result<Vec<u8>, FileFault> {
+    match fs::read(rt, name) {
+        Ok(bytes) => Ok(bytes),
+        Err(error) => Err(call_fault(rt.alloc(), name, &error)),
+    }
+}
+
+/// The name under which a file is written before it is renamed.
+fn new_name(alloc: Global, name: &str) -> Result<String, AllocError>
+    ensures { IfOk result (λ new. string_bytes new ≡ name.now ++ codes ".new") }
+{
+    let mut new = String::from_str(alloc, name)?;
+    new.push_str(".new")?;
+    Ok(new)
+}
+
+/// A file that is written as a whole, under another name first. Both names are there before there is anything to write, so that a
+/// want of memory later keeps nothing from being saved.
+#[derive(Debug, Drop)]
+pub struct KeptFile {
+    name: String,
+    new_name: String,
+}
+
+impl KeptFile {
+    pub fn new(alloc: Global, name: String) -> Result<KeptFile, AllocError> {
+        let new_name = new_name(alloc, name.as_str())?;
+        Ok(KeptFile { name, new_name })
+    }
+
+    pub fn name(&self) -> &str {
+        self.name.as_str()
+    }
+
+    /// What a failed call on the file is.
+    pub fn fault(&self, alloc: Global, error: &io::Error) -> FileFault {
+        call_fault(alloc, self.name.as_str(), error)
+    }
+
+    /// That there is such a file is the fault of this name.
+    pub fn check_absent<R: Files + AllocGlobal>(&self, rt: &R) -> Result<(), FileFault> {
+        match fs::exists(rt, self.name.as_str()) {
+            Ok(false) => Ok(()),
+            Ok(true) => Err(file_fault(rt.alloc(), self.name.as_str())),
+            Err(error) => Err(self.fault(rt.alloc(), &error)),
+        }
+    }
+
+    /// A file under the other name, to be written.
+    pub fn begin<R: Files>(&self, rt: &R) -> io::Result<R::File> {
+        fs::create(rt, self.new_name.as_str())
+    }
+
+    /// Gives a file that was begun and written its own name, once it is on its disk.
+    pub fn settle<R: Files>(&self, rt: &R, file: &R::File) -> io::Result<()> {
+        file.sync_all()?;
+        fs::rename(rt, self.new_name.as_str(), self.name.as_str())
+    }
+
+    fn write_bytes<R: Files>(&self, rt: &R, bytes: &[u8]) -> io::Result<()> {
+        let mut file = self.begin(rt)?;
+        file.write_all(bytes)?;
+        self.settle(rt, &file)
+    }
+
+    /// Writes all of the file.
+    pub fn save_bytes<R: Files + AllocGlobal>(
+        &self,
+        rt: &R,
+        bytes: &[u8],
+    ) -> Result<(), FileFault> {
+        match self.write_bytes(rt, bytes) {
+            Ok(()) => Ok(()),
+            Err(error) => Err(self.fault(rt.alloc(), &error)),
+        }
+    }
+}
+
+#[cfg(test)]
+mod tests;

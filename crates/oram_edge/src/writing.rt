@@ -1,0 +1,73 @@
+//! Texts are written, and a beginning of them where the writer fails.
+
+ghost use Rattle.std.specs.Prelude.{◌++◌, decimal, OnOk};
+ghost use Rattle.std.specs.Io.KnownBytes.{Appends};
+ghost use Rattle.oram_host.specs.Transfers.{Begins};
+
+use oram_wire::WriteFault;
+use std::io::{ErrorKind, Write};
+
+/// Writes all of the text, or a beginning of it.
+pub fn put<W: Write>(writer: &mut W, text: &[u8]) -> Result<(), WriteFault>
+    ensures ok { OnOk result (Appends (W.contents writer.old) (W.contents writer.new) text.now) }
+    ensures begun { Begins (W.contents writer.old) (W.contents writer.new) text.now }
+{
+    let mut written = 0;
+    for _ in 0..u64::MAX {
+        if written >= text.len() {
+            return Ok(());
+        }
+        match writer.write(&text[written..]) {
+            Ok(0) => return Err(WriteFault),
+            Ok(count) => written += count,
+            Err(error) => {
+                if error.kind() != ErrorKind::Interrupted {
+                    return Err(WriteFault);
+                }
+            }
+        }
+    }
+    Err(WriteFault)
+}
+
+/// Writes one text behind the other.
+pub fn put_both<W: Write>(writer: &mut W, front: &[u8], rest: &[u8]) -> Result<(), WriteFault>
+    ensures ok { OnOk result (Appends (W.contents writer.old) (W.contents writer.new) (front.now ++ rest.now)) }
+    ensures begun { Begins (W.contents writer.old) (W.contents writer.new) (front.now ++ rest.now) }
+{
+    put(writer, front)?;
+    put(writer, rest)
+}
+
+/// Writes a text between two others.
+pub fn put_between<W: Write>(
+    writer: &mut W,
+    front: &[u8],
+    text: &[u8],
+    rest: &[u8],
+) -> Result<(), WriteFault>
+    ensures ok { OnOk result (Appends (W.contents writer.old) (W.contents writer.new) (front.now ++ text.now ++ rest.now)) }
+    ensures begun { Begins (W.contents writer.old) (W.contents writer.new) (front.now ++ text.now ++ rest.now) }
+{
+    put_both(writer, front, text)?;
+    put(writer, rest)
+}
+
+/// Writes a text, and a number behind it in decimal.
+pub fn put_number<W: Write>(writer: &mut W, front: &[u8], number: u8) -> Result<(), WriteFault>
+    ensures ok { OnOk result (Appends (W.contents writer.old) (W.contents writer.new) (front.now ++ decimal number)) }
+    ensures begun { Begins (W.contents writer.old) (W.contents writer.new) (front.now ++ decimal number) }
+{
+    let ones = b'0' + number % 10;
+    let tens = b'0' + number / 10 % 10;
+    if number < 10 {
+        put_both(writer, front, &[ones])
+    } else if number < 100 {
+        put_both(writer, front, &[tens, ones])
+    } else {
+        put_both(writer, front, &[b'0' + number / 100, tens, ones])
+    }
+}
+
+#[cfg(test)]
+mod tests;
