@@ -1,0 +1,52 @@
+-- How the program ends where it can't go on: a line, and its exit status.
+use Rattle.std.specs.Prelude.{◌≡◌, ◌⊎◌, ℕ, List, ◌++◌, codes, string_bytes}
+use Rattle.oram_edge.specs.declared.files.FileFault.{FileFault}
+use Rattle.oram_edge.specs.declared.files.FileFault.TheVariants as file
+use Rattle.oram_store.specs.declared.faults.StoreFault.{StoreFault}
+use Rattle.oram_store.specs.declared.faults.StoreFault.TheVariants as store
+use Rattle.oramdisk.specs.declared.faults.Fault.{Fault}
+use Rattle.oramdisk.specs.declared.faults.Fault.TheVariants.{CommandLine, Settings, OutOfMemory, File, Address, Accept, NotOurs, Damaged, Busy, Exists}
+
+-- what happened and to what, and what to do
+abbrev pub line_of : Fault → List ℕ
+line_of CommandLine = codes "oramdisk: " ++ codes "bad command line" ++ codes ": say host HOST.toml, or new FOLDER\n"
+line_of (Settings name) = codes "oramdisk: bad settings in " ++ string_bytes name ++ codes ": they have to be listen = \"127.0.0.1:PORT\" and file = \"NAME\", and nothing else\n"
+line_of OutOfMemory = codes "oramdisk: " ++ codes "out of memory" ++ codes "\n"
+line_of (File name) = codes "oramdisk: can't open, read or write " ++ string_bytes name ++ codes ": see that it is there and may be written, and that its disk has room\n"
+line_of (Address name) = codes "oramdisk: can't listen at " ++ string_bytes name ++ codes ": end the program that listens there, or name another port\n"
+line_of Accept = codes "oramdisk: " ++ codes "can't accept connections" ++ codes ": start it again\n"
+line_of (NotOurs name) = codes "oramdisk: " ++ string_bytes name ++ codes " isn't a file of buckets, and is left as it is: name another file\n"
+line_of (Damaged name) = codes "oramdisk: " ++ string_bytes name ++ codes " is damaged, and is left as it is: name another file, and format anew\n"
+line_of (Busy name) = codes "oramdisk: " ++ string_bytes name ++ codes " is held by another process: end that one first\n"
+line_of (Exists name) = codes "oramdisk: " ++ string_bytes name ++ codes " is there already, and is left as it is: name another folder\n"
+
+-- 2: words or settings; 3: memory; 4: a file; 5: a socket; 6 to 8: a file that is no host's, damaged, or held; 9: what is there already
+abbrev pub status_of : Fault → ℕ
+status_of CommandLine = 2
+status_of (Settings name) = 2
+status_of OutOfMemory = 3
+status_of (File name) = 4
+status_of (Address name) = 5
+status_of Accept = 5
+status_of (NotOurs name) = 6
+status_of (Damaged name) = 7
+status_of (Busy name) = 8
+status_of (Exists name) = 9
+
+abbrev pub file_fault : FileFault → Fault
+file_fault (file.File name) = File name
+file_fault file.OutOfMemory = OutOfMemory
+
+-- of the file of this name, it is told so
+abbrev pub Tells : List ℕ → StoreFault → Fault → Type 0
+Tells name store.Busy (Busy told) = string_bytes told ≡ name
+Tells name store.NotOurs (NotOurs told) = string_bytes told ≡ name
+Tells name store.Damaged (Damaged told) = string_bytes told ≡ name
+Tells name store.NoRoom (File told) = string_bytes told ≡ name
+Tells name store.Io (File told) = string_bytes told ≡ name
+Tells name store.Closed (File told) = string_bytes told ≡ name
+Tells name why told = ⊥
+
+-- or that there is no memory
+abbrev pub IsStoreFault : List ℕ → StoreFault → Fault → Type 0
+IsStoreFault name why told = Tells name why told ⊎ (told ≡ OutOfMemory)

@@ -1,0 +1,5 @@
+pub mod CommandLine
+pub mod Settings
+pub mod Faults
+pub mod Tallies
+pub mod Visits

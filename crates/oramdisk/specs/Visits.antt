@@ -1,0 +1,34 @@
+-- The line of a connection.
+use Rattle.std.specs.Prelude.{ℕ, List, [], ◌++◌, Option, Some, None, codes, decimal, string_bytes}
+use Rattle.oram_answering.specs.declared.faults.ServeFault.{ServeFault}
+use Rattle.oram_answering.specs.declared.faults.ServeFault.TheVariants as serve
+use Rattle.oram_store.specs.declared.faults.StoreFault.{StoreFault}
+use Rattle.oram_store.specs.declared.faults.StoreFault.TheVariants as store
+use Rattle.oramdisk.specs.declared.visits.Visit.{Visit}
+
+-- what is told of an early end
+abbrev pub ending : Option ServeFault → List ℕ
+ending None = []
+ending (Some serve.Read) = codes ", reading failed"
+ending (Some serve.Write) = codes ", writing failed"
+ending (Some serve.Frame) = codes ", a frame was too long"
+ending (Some serve.Truncated) = codes ", a frame was cut short"
+ending (Some serve.Stalled) = codes ", it stalled"
+ending (Some serve.OutOfMemory) = codes ", out of memory"
+
+-- what is told of a file that had no room
+abbrev pub failing : Option StoreFault → List ℕ
+failing None = []
+failing (Some store.Busy) = codes ", the file was held by another process"
+failing (Some store.NotOurs) = codes ", the file was no file of buckets"
+failing (Some store.Damaged) = codes ", the file was damaged"
+failing (Some store.NoRoom) = codes ", the disk was full"
+failing (Some store.Io) = codes ", the disk failed"
+failing (Some store.Closed) = codes ", the disk had failed"
+failing (Some store.OutOfMemory) = codes ", there was no memory"
+
+-- who, from when until when, what was asked and answered, and how it ended
+abbrev pub line_of : Visit → List ℕ
+line_of v = codes "oramdisk: " ++ string_bytes v.peer ++ codes " from " ++ string_bytes v.from ++ codes " until " ++ string_bytes v.until
+    ++ codes ", " ++ decimal v.tally.messages ++ codes " messages, " ++ decimal v.tally.received ++ codes " bytes in, "
+    ++ decimal v.tally.sent ++ codes " bytes out" ++ ending v.ended ++ failing v.tally.failure ++ codes "\n"

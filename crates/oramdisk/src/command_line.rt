@@ -1,0 +1,56 @@
+//! The command line.
+
+ghost use Rattle.std.specs.Prelude.{◌≡◌, None, Some, IfOk, IsErrOf};
+ghost use Rattle.clap.specs.Walk.{texts};
+ghost use Rattle.clap.specs.Words.{app_of};
+ghost use Rattle.oramdisk.specs.CommandLine.{program, request_in, request_of, shown};
+
+use clap::Command;
+use oram_edge::{InputFault, read_named, word_taker};
+use std::alloc::{AllocError, Global};
+
+/// What the words of a command line ask for.
+#[derive(Debug, Drop)]
+pub enum Words {
+    /// A bucket host, with the settings in the file of this name.
+    Host(String),
+    /// A folder of this name, with settings to begin with.
+    New(String),
+}
+
+/// The command line as clap is told of it.
+fn command<'a>(alloc: Global) -> Result<Command<'a>, AllocError>
+    ensures { IfOk result (λ c. app_of c ≡ program) }
+{
+    Command::new(alloc, "oramdisk")
+        .subcommand_required(true)
+        .subcommand(word_taker(alloc, "host")?)?
+        .subcommand(word_taker(alloc, "new")?)
+}
+
+/// What a subcommand asks for, with its word.
+fn asked(alloc: Global, name: &str, word: &str) -> Result<Words, InputFault>
+    ensures ok { IfOk result (λ w. request_of name.now word.now ≡ Some (shown w)) }
+    ensures bad { IsErrOf result InputFault.Bad → request_of name.now word.now ≡ None }
+{
+    let word = String::from_str(alloc, word)?;
+    match name {
+        "host" => Ok(Words::Host(word)),
+        "new" => Ok(Words::New(word)),
+        _ => Err(InputFault::Bad),
+    }
+}
+
+/// Reads the words of a command line, of which the first is the program's name. Help isn't among what can be asked for.
+pub fn read_words(alloc: Global, words: &[&str]) -> Result<Words, InputFault>
+    // It is what clap's matches of the words ask for.
+    ensures ok { IfOk result (λ w. request_in (texts words.now) ≡ Some (shown w)) }
+    // Bad comes only where they ask for nothing.
+    ensures bad { IsErrOf result InputFault.Bad → request_in (texts words.now) ≡ None }
+{
+    let (name, word) = read_named(command(alloc)?, words)?;
+    asked(alloc, name, word)
+}
+
+#[cfg(test)]
+mod tests;

@@ -1,0 +1,164 @@
+//! The host: connections that are served one after the other, out of a store in a file.
+
+use crate::faults::{Fault, store_fault};
+use crate::hosted::Hosted;
+use crate::settings_file::{HostSettings, read_host_settings};
+use crate::visits::{Visit, line};
+use jiff::Timestamp;
+use oram_answering::{ServeFault, host_serve};
+use oram_edge::{InputFault, SocketFault, buffered, bytes_in, listen};
+use oram_store::open_store;
+use sqlite::Alter;
+use std::alloc::{AllocError, Global};
+use std::io::{Error, ErrorKind, Read, Write};
+use std::net::{Net, OpenListener, OpenStream, SocketAddr};
+use std::rt::{Clock, Files};
+use std::str;
+
+/// The settings in the file of this name.
+fn settings_in<R: Files + AllocGlobal>(rt: &R, name: String) -> Result<HostSettings, Fault> {
+    let bytes = bytes_in(rt, name.as_str())?;
+    let read = match str::from_utf8(bytes.as_slice()) {
+        Ok(text) => read_host_settings(rt.alloc(), text),
+        Err(_) => Err(InputFault::Bad),
+    };
+    match read {
+        Ok(settings) => Ok(settings),
+        Err(InputFault::Bad) => Err(Fault::Settings(name)),
+        Err(InputFault::OutOfMemory) => Err(Fault::OutOfMemory),
+    }
+}
+
+/// Listens at an address.
+fn listen_at<R: Net>(rt: &R, address: String) -> Result<R::Listener, Fault> {
+    match listen(rt, address.as_str()) {
+        Ok(listener) => Ok(listener),
+        Err(SocketFault::Failed) => Err(Fault::Address(address)),
+        Err(SocketFault::OutOfMemory) => Err(Fault::OutOfMemory),
+    }
+}
+
+/// The clock's time in whole seconds of UTC, as RFC 3339 writes it.
+fn time<R: Clock + AllocGlobal>(rt: &R) -> Result<String, AllocError> {
+    let alloc = rt.alloc();
+    match Timestamp::now(rt) {
+        Ok(now) => format!(in alloc; "{now:.0}"),
+        Err(_) => String::from_str(alloc, "an unknown time"),
+    }
+}
+
+/// Serves a connection to its end, and tells why that came early.
+fn serve<T: Read + Write + OpenStream + Drop, S: Alter>(
+    alloc: Global,
+    stream: T,
+    hosted: &mut Hosted<S>,
+) -> Option<ServeFault> {
+    hosted.begin();
+    let (mut reader, mut writer) = match buffered(alloc, stream) {
+        Ok(halves) => halves,
+        Err(error) if error.kind() == ErrorKind::OutOfMemory => {
+            return Some(ServeFault::OutOfMemory);
+        }
+        Err(_) => return Some(ServeFault::Read),
+    };
+    let ended = host_serve(alloc, &mut reader, &mut writer, hosted);
+    hosted.settle();
+    ended.err()
+}
+
+/// Serves a connection, and writes its line.
+fn receive<R: Clock + Eprint + AllocGlobal, T: Read + Write + OpenStream + Drop, S: Alter>(
+    rt: &R,
+    stream: T,
+    peer: SocketAddr,
+    hosted: &mut Hosted<S>,
+) -> Result<(), AllocError> {
+    let alloc = rt.alloc();
+    let peer = format!(in alloc; "{peer}")?;
+    let from = time(rt)?;
+    let ended = serve(alloc, stream, hosted);
+    let visit = Visit {
+        peer,
+        from,
+        until: time(rt)?,
+        tally: hosted.tally(),
+        ended,
+    };
+    let line = line(alloc, &visit)?;
+    let _passed_over = rt.eprint(line.as_str());
+    Ok(())
+}
+
+/// What keeps one connection from being accepted, and not the next.
+fn passes(kind: ErrorKind) -> bool {
+    matches!(
+        kind,
+        ErrorKind::Interrupted
+            | ErrorKind::ConnectionAborted
+            | ErrorKind::ConnectionReset
+            | ErrorKind::HostUnreachable
+            | ErrorKind::NetworkUnreachable
+            | ErrorKind::NetworkDown
+            | ErrorKind::TimedOut
+    )
+}
+
+/// What it is to the program that a connection wasn't accepted.
+fn not_accepted(error: &Error) -> Result<(), Fault> {
+    match error.kind() {
+        ErrorKind::OutOfMemory => Err(Fault::OutOfMemory),
+        kind if passes(kind) => Ok(()),
+        _ => Err(Fault::Accept),
+    }
+}
+
+/// Serves connections, one after the other, until the store has to be opened again.
+fn serve_all<R: Clock + Eprint + AllocGlobal, L: OpenListener, S: Alter>(
+    rt: &R,
+    listener: &L,
+    hosted: &mut Hosted<S>,
+) -> Result<(), Fault>
+where
+    L::Stream: Read + Write + OpenStream,
+{
+    for _ in 0..u64::MAX {
+        match listener.accept() {
+            Ok((stream, peer)) => {
+                if receive(rt, stream, peer, hosted).is_err() {
+                    let _passed_over = rt.eprint(
+                        "oramdisk: no memory for a connection, or for its line\n",
+                    );
+                }
+            }
+            Err(error) => not_accepted(&error)?,
+        }
+        if hosted.has_failed() {
+            return Ok(());
+        }
+    }
+    Ok(())
+}
+
+/// Opens the file and serves it, until it has to be opened again.
+fn serve_file<L: OpenListener>(rt: &HostRuntime, listener: &L, file: &str) -> Result<(), Fault>
+where
+    L::Stream: Read + Write + OpenStream,
+{
+    match open_store(rt, rt.alloc(), file) {
+        Ok(store) => serve_all(rt, listener, &mut Hosted::new(store)),
+        Err(why) => Err(store_fault(rt.alloc(), file, why)),
+    }
+}
+
+/// Keeps buckets for others, until it is ended. It listens before it opens the file, so a port that is taken leaves the file alone.
+pub(crate) fn host(rt: &HostRuntime, name: String) -> Result<(), Fault> {
+    let HostSettings {
+        listen: address,
+        file,
+    } = settings_in(rt, name)?;
+    let listener = listen_at(rt, address)?;
+    for _ in 0..u64::MAX {
+        serve_file(rt, &listener, file.as_str())?;
+    }
+    Ok(())
+}

@@ -1,0 +1,56 @@
+//! A disk on a rented machine: the host that keeps its buckets in a file, and the folder of settings to begin with.
+#![tactic(auto)]
+
+// Calls once more where one allocation was refused, so that the tests hold whichever it is.
+#[cfg(test)]
+macro_rules! retried {
+    ($call:expr) => {
+        match $call {
+            Ok(value) => value,
+            Err(_) => $call?,
+        }
+    };
+}
+
+mod command_line;
+mod creating;
+mod faults;
+mod hosted;
+mod hosting;
+mod settings_file;
+mod tallies;
+mod visits;
+
+pub use command_line::{Words, read_words};
+pub use faults::{Fault, report, store_fault};
+pub use hosted::Hosted;
+use oram_edge::{InputFault, arguments, texts_of};
+pub use settings_file::{HostSettings, read_host_settings};
+use std::process::ExitCode;
+use std::rt::Env;
+pub use tallies::Tally;
+pub use visits::{Visit, line};
+
+/// What the words of the command line ask for.
+fn asked<R: Env + AllocGlobal>(rt: &R) -> Result<Words, InputFault> {
+    let words = arguments(rt)?;
+    let texts = texts_of(rt.alloc(), &words)?;
+    read_words(rt.alloc(), &texts)
+}
+
+/// Does what the words of the command line ask for.
+fn run(rt: &HostRuntime) -> Result<(), Fault> {
+    match asked(rt) {
+        Ok(Words::Host(name)) => hosting::host(rt, name),
+        Ok(Words::New(folder)) => creating::make_folder(rt, folder),
+        Err(InputFault::Bad) => Err(Fault::CommandLine),
+        Err(InputFault::OutOfMemory) => Err(Fault::OutOfMemory),
+    }
+}
+
+fn main(rt: HostRuntime) -> ExitCode {
+    match run(&rt) {
+        Ok(()) => ExitCode::SUCCESS,
+        Err(fault) => ExitCode::from(report(&mut rt.stderr(), &fault)),
+    }
+}

@@ -1,0 +1,73 @@
+//! The line of a connection.
+
+ghost use Rattle.std.specs.Prelude.{◌≡◌, string_bytes, IfOk};
+ghost use Rattle.oramdisk.specs.Visits as spec;
+
+use crate::tallies::Tally;
+use oram_answering::ServeFault;
+use oram_store::StoreFault;
+use std::alloc::{AllocError, Global};
+
+/// A connection that has ended.
+#[derive(Debug, Drop)]
+pub struct Visit {
+    /// The other side's address.
+    pub peer: String,
+    /// When it began, and when it ended.
+    pub from: String,
+    pub until: String,
+    pub tally: Tally,
+    /// Why it ended before its input did.
+    pub ended: Option<ServeFault>,
+}
+
+/// What is told of an early end.
+fn ending(ended: Option<ServeFault>) -> &'static str
+    ensures { result.now ≡ spec.ending ended }
+{
+    match ended {
+        None => "",
+        Some(ServeFault::Read) => ", reading failed",
+        Some(ServeFault::Write) => ", writing failed",
+        Some(ServeFault::Frame) => ", a frame was too long",
+        Some(ServeFault::Truncated) => ", a frame was cut short",
+        Some(ServeFault::Stalled) => ", it stalled",
+        Some(ServeFault::OutOfMemory) => ", out of memory",
+    }
+}
+
+/// What is told of a file that had no room.
+fn failing(failure: Option<StoreFault>) -> &'static str
+    ensures { result.now ≡ spec.failing failure }
+{
+    match failure {
+        None => "",
+        Some(StoreFault::Busy) => ", the file was held by another process",
+        Some(StoreFault::NotOurs) => ", the file was no file of buckets",
+        Some(StoreFault::Damaged) => ", the file was damaged",
+        Some(StoreFault::NoRoom) => ", the disk was full",
+        Some(StoreFault::Io) => ", the disk failed",
+        Some(StoreFault::Closed) => ", the disk had failed",
+        Some(StoreFault::OutOfMemory) => ", there was no memory",
+    }
+}
+
+/// The line of a connection.
+pub fn line(alloc: Global, visit: &Visit) -> Result<String, AllocError>
+    ensures { IfOk result (λ text. string_bytes text ≡ spec.line_of visit.now) }
+{
+    let peer = visit.peer.as_str();
+    let from = visit.from.as_str();
+    let until = visit.until.as_str();
+    let messages = visit.tally.messages;
+    let received = visit.tally.received;
+    let sent = visit.tally.sent;
+    let ended = ending(visit.ended);
+    let failed = failing(visit.tally.failure);
+    format!(in alloc;
+        "oramdisk: {peer} from {from} until {until}, {messages} messages, {received} bytes in, {sent} bytes out{ended}{failed}\n"
+    )
+}
+
+#[cfg(test)]
+mod tests;
