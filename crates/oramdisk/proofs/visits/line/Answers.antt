@@ -12,6 +12,6 @@ returns c =
     let v = c.args.visit.now in
     written string_bytes c.format.result _ _ c.format.ensures.ok
     (rw (c.as_str-peer.ensures.value, c.as_str-from.ensures.value, c.as_str-until.ensures.value, c.ending-ended.ensures, c.failing-failed.ensures)
-        (grouped (codes "oramdisk: ") (string_bytes v.peer) (codes " from ") (string_bytes v.from) (codes " until ") (string_bytes v.until) (codes ", ")
-        (decimal v.tally.messages) (codes " messages, ") (decimal v.tally.received) (codes " bytes in, ") (decimal v.tally.sent) (codes " bytes out")
-        (ending v.ended) (failing v.tally.failure) (codes "\n")))
+    (grouped (codes "oramdisk: ") (string_bytes v.peer) (codes " from ") (string_bytes v.from) (codes " until ") (string_bytes v.until) (codes ", ")
+    (decimal v.tally.messages) (codes " messages, ") (decimal v.tally.received) (codes " bytes in, ") (decimal v.tally.sent) (codes " bytes out")
+    (ending v.ended) (failing v.tally.failure) (codes "\n")))
