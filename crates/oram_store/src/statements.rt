@@ -38,7 +38,7 @@ pub(crate) fn texts<S: Alter>(conn: &mut Connection<S>) -> Result<Vec<Row>, Erro
     conn.query_all("SELECT sql FROM sqlite_schema", &[])
 }
 
-/// Replaces one record.
+/// Puts one record, in place of another where there is one.
 pub(crate) fn write_record<S: Alter>(
     alloc: Global,
     conn: &mut Connection<S>,
@@ -51,6 +51,32 @@ pub(crate) fn write_record<S: Alter>(
     )?;
     let _count = conn.execute(sql.as_str(), params![place.key(), bytes])?;
     Ok(())
+}
+
+/// Overwrites one record where it lies. Tells whether it was there.
+fn overwrite_record<S: Alter>(
+    alloc: Global,
+    conn: &mut Connection<S>,
+    place: Place,
+    bytes: &[u8],
+) -> Result<bool, StoreFault> {
+    let part = place.node % RECORD_TABLES;
+    let sql = format!(in alloc; "UPDATE record_{part} SET bytes = ?2 WHERE place = ?1")?;
+    let count = conn.execute(sql.as_str(), params![place.key(), bytes])?;
+    Ok(count > 0)
+}
+
+/// Replaces one record, in its place where there is one: that is faster than to take it out and put another in.
+fn store_record<S: Alter>(
+    alloc: Global,
+    conn: &mut Connection<S>,
+    place: Place,
+    bytes: &[u8],
+) -> Result<(), StoreFault> {
+    if overwrite_record(alloc, conn, place, bytes)? {
+        return Ok(());
+    }
+    write_record(alloc, conn, place, bytes)
 }
 
 /// The row of one record, if it is there.
@@ -124,7 +150,7 @@ fn write_levels<S: Alter>(
         let node = shape.node_at(leaf, level);
         let start = level as usize * record_len;
         let record = &records[start..start + record_len];
-        write_record(alloc, conn, Place { tree, node }, record)?;
+        store_record(alloc, conn, Place { tree, node }, record)?;
     }
     Ok(())
 }
