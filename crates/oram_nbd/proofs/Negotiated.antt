@@ -129,6 +129,7 @@ module _ (name : List ℕ) (size preferred : ℕ) (zeroes : Bool) where
   stopped_at_head from held count to holds later fault.UnknownExport s h = absurd h
   stopped_at_head from held count to holds later fault.TooManyOptions s h = absurd h
   stopped_at_head from held count to holds later fault.OutOfMemory s h = absurd h
+  stopped_at_head from held count to holds later fault.Stopped s h = absurd h
 
   some_bytes : (h : OptionHead) (bytes : List ℕ) → 0 < length (option_head h.option h.length ++ bytes)
   some_bytes h bytes = omega (arith, length-append (option_head h.option h.length) bytes)
@@ -167,6 +168,7 @@ module _ (name : List ℕ) (size preferred : ℕ) (zeroes : Bool) where
   stopped_behind from held count to holds mid later hold h fault.Magic s is head p = absurd p
   stopped_behind from held count to holds mid later hold h fault.OldClient s is head p = absurd p
   stopped_behind from held count to holds mid later hold h fault.TooManyOptions s is head p = absurd p
+  stopped_behind from held count to holds mid later hold h fault.Stopped s is head p = absurd p
 
   pub stopped_at_last : (from held : Option (List ℕ)) (count : ℕ) (to holds : Option (List ℕ)) → Negotiated from held count to holds → count ≡ MOST_OPTIONS → StopsChoosing name size preferred fault.TooManyOptions from to held holds
   stopped_at_last from held count to holds s most =

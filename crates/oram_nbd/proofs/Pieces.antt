@@ -5,9 +5,6 @@ use Rattle.std.proofs.KnownBytes.{Appends-trans, Consumes-trans}
 use Rattle.std.proofs.Math.Seq.{take-append-add}
 use Rattle.std.proofs.lemmas.List.{take-append-le}
 use Rattle.oram_wire.specs.Streaming.{TakesPart}
-use Rattle.oram_wire.specs.declared.streaming.FrameFault.{FrameFault}
-use Rattle.oram_wire.specs.declared.streaming.FrameFault.TheVariants as frames
-use Rattle.oram_nbd.specs.Errors.{reading_fault}
 use Rattle.oram_nbd.specs.Streams.{ComesShort, IsBegunText, IsSkip}
 use Rattle.oram_nbd.specs.declared.faults.NbdFault.TheVariants as fault
 
@@ -30,10 +27,6 @@ skip_short old mid new n k part (front, long, came) more few =
 pub skip_ended : (old mid new : Option (List ℕ)) (n k : ℕ) (part : List ℕ) → IsSkip old mid n → Consumes mid new part → n + length part < k → IsAtEnd new → ComesShort 0 k fault.Truncated old new
 skip_ended old mid new n k part (front, long, came) more few ended =
     (front ++ part, (let h : length (front ++ part) < k = omega (arith, length-append front part) in h), Consumes-trans old mid new front part came more, omega arith, ended)
-
--- which fault of the frames it was
-pub was_read : (f : FrameFault) → f ≡ frames.Read → reading_fault f ≡ fault.Read
-was_read f e = ap reading_fault e
 
 -- ---- writing
 

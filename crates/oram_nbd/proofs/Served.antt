@@ -1,16 +1,17 @@
 -- Requests that were answered, one after another.
-use Rattle.std.proofs.Common.{◌≡◌, inr, ℕ, ◌+◌, ◌*◌, ◌<◌, List, [], ◌∷◌, ◌++◌, length, Option, refl, sym, ap, ◌∙◌, subst, arith, length-append, take}
+use Rattle.std.proofs.Common.{◌≡◌, inr, ℕ, ◌+◌, ◌*◌, ◌<◌, List, [], ◌∷◌, ◌++◌, length, Option, None, refl, sym, ap, ◌∙◌, subst, arith, length-append, take}
 use Rattle.std.proofs.lemmas.List.{append-nil}
+use Rattle.std.proofs.lemmas.List.Elements.{All-push, All-nil}
 use Rattle.std.proofs.lemmas.Grind.{flat_map-append}
 use Rattle.std.specs.Io.KnownBytes.{Appends, Consumes}
 use Rattle.std.proofs.KnownBytes.{Appends-nil, Appends-trans, Consumes-nil, Consumes-trans}
-use Rattle.oram_nbd.specs.Bytes.{zeroes}
-use Rattle.oram_nbd.specs.Trimming.{first_block, trim_len}
+use Rattle.oram_nbd.specs.Holding.{Leads}
+use Rattle.oram_nbd.specs.Trimming.{first_block}
 use Rattle.oram_nbd.specs.Messages.{payload_len, request_text, IsRequest}
 use Rattle.oram_nbd.specs.Streams.{ComesShort, IsBegunText, Misses}
-use Rattle.oram_nbd.specs.Serving.{asking, replying, said, told, IsPartly, IsService, IsTurn, NeverFails, Turn}
-use Rattle.oram_nbd.specs.Transmission.{HasServed, IsNoRequest, IsUnfinished, StopsServing}
-use Rattle.oram_nbd.specs.declared.faults.NbdError.TheVariants.{Io}
+use Rattle.oram_nbd.specs.Serving.{asking, refusal_of, replying, said, told, IsAnswer, IsPartly, IsReplied, IsService, IsTurn, NeverFails, Turn}
+use Rattle.oram_nbd.specs.Transmission.{HasExchanged, HasServed, IsNoRequest, IsUnfinished, StopsServing}
+use Rattle.oram_nbd.specs.declared.faults.NbdError.TheVariants.{Io, NoMemory}
 use Rattle.oram_nbd.specs.declared.faults.NbdFault.{NbdFault}
 use Rattle.oram_nbd.specs.declared.faults.NbdFault.TheVariants as fault
 use Rattle.oram_nbd.specs.declared.requests.Command.{Command}
@@ -18,17 +19,17 @@ use Rattle.oram_nbd.specs.declared.requests.Command.TheVariants.{Read, Write, Di
 use Rattle.oram_nbd.specs.declared.requests.Request.{Request}
 use Rattle.oram_nbd.specs.declared.replies.SimpleReply.{SimpleReply}
 use Rattle.oram_nbd.specs.declared.replies.SimpleReply.TheVariants.{Refused}
-use Rattle.oram_nbd.proofs.Splices.{begun_none}
+use Rattle.oram_nbd.proofs.Splices.{written_none}
 
 -- nothing of a command was done
-pub partly_none : (c : Command) (len : ℕ) (old : List ℕ) (at n : ℕ) (payload new : List ℕ) → new ≡ old → IsPartly c len old at n payload new
-partly_none Read len old at n payload new same = same
-partly_none Write len old at n payload new same = begun_none old new at payload same
-partly_none Disconnect len old at n payload new same = same
-partly_none Flush len old at n payload new same = same
-partly_none Trim len old at n payload new same = begun_none old new (len * first_block len at) (zeroes (trim_len len at n)) same
-partly_none WriteZeroes len old at n payload new same = begun_none old new at (zeroes n) same
-partly_none (Other code) len old at n payload new same = same
+pub partly_none : (c : Command) (len : ℕ) (bytes : List ℕ) (at n : ℕ) (payload : List ℕ) → IsPartly c len bytes at n payload bytes
+partly_none Read len bytes at n payload = refl
+partly_none Write len bytes at n payload = (0, omega arith, sym (written_none bytes at))
+partly_none Disconnect len bytes at n payload = refl
+partly_none Flush len bytes at n payload = refl
+partly_none Trim len bytes at n payload = (0, omega arith, sym (written_none bytes (len * first_block len at)))
+partly_none WriteZeroes len bytes at n payload = (0, omega arith, sym (written_none bytes at))
+partly_none (Other code) len bytes at n payload = refl
 
 service_more : (len : ℕ) (old mid : List ℕ) (turns : List Turn) (turn : Turn) (new : List ℕ) → IsService len old turns mid → IsTurn len mid turn new → IsService len old (turns ++ turn ∷ []) new
 service_more len old mid [] turn new is more = (new, subst (λ (l : List ℕ). IsTurn len l turn new) is more, refl)
@@ -38,79 +39,133 @@ never_more : (turns : List Turn) (turn : Turn) → NeverFails turns → (turn.re
 never_more [] turn h last = (last, tt)
 never_more (t ∷ turns) turn (first, rest) last = (first, never_more turns turn rest last)
 
--- as far as the loop has come
-pub record Served (sound : Type 0) (len : ℕ) (old : List ℕ) (from held : Option (List ℕ)) (count : ℕ) (new : List ℕ) (to holds : Option (List ℕ)) : Type 0 where
-  pub turns : List Turn
-  pub many : length turns ≡ count
-  pub service : IsService len old turns new
-  pub never : sound → NeverFails turns
-  pub read : Consumes from to (said turns)
-  pub wrote : Appends held holds (told turns)
-
-pub served_none : (sound : Type 0) (len : ℕ) (old : List ℕ) (from held : Option (List ℕ)) → Served sound len old from held 0 old from held
-served_none sound len old from held =
-    record { turns = []; many = refl; service = refl; never = λ _. tt; read = Consumes-nil from; wrote = Appends-nil held }
-
 abbrev pub turn_of : Request → List ℕ → SimpleReply → Turn
 turn_of r bytes reply = record { request = r; payload = bytes; reply = reply }
 
-pub served_next : (sound : Type 0) (len : ℕ) (old : List ℕ) (from held : Option (List ℕ)) (count : ℕ) (mid new : List ℕ) (to holds later hold : Option (List ℕ)) (turn : Turn) →
-    Served sound len old from held count mid to holds → (sound → turn.reply ≡ Refused Io → ⊥) → IsTurn len mid turn new → Consumes to later (asking turn) → Appends holds hold (replying turn) →
-    Served sound len old from held (count + 1) new later hold
-served_next sound len old from held count mid new to holds later hold turn s works is came wrote = record {
-  turns = s.turns ++ turn ∷ [];
-  many = length-append s.turns (turn ∷ []) ∙ ap (λ (n : ℕ). n + 1) s.many;
-  service = service_more len old mid s.turns turn new s.service is;
-  never = λ h. never_more s.turns turn (s.never h) (works h);
-  read = subst (Consumes from later) (ap (λ (l : List ℕ). said s.turns ++ l) (sym (append-nil (asking turn))) ∙ sym (flat_map-append asking s.turns (turn ∷ []))) (Consumes-trans from to later (said s.turns) (asking turn) s.read came);
-  wrote = subst (Appends held hold) (ap (λ (l : List ℕ). told s.turns ++ l) (sym (append-nil (replying turn))) ∙ sym (flat_map-append replying s.turns (turn ∷ []))) (Appends-trans held holds hold (told s.turns) (replying turn) s.wrote wrote);
-}
+module _ (sound : Type 0) (len size : ℕ) (held : List ℕ → Type 0) where
+  served_none : HasServed sound len size held held []
+  served_none = record { fits = All-nil (λ turn. IsReplied size turn); never = λ _. tt; service = λ bytes h. (bytes, refl, h) }
 
--- and then so many bytes more were read and written
-pub served_then : (sound : Type 0) (len : ℕ) (old : List ℕ) (from held : Option (List ℕ)) (count : ℕ) (new : List ℕ) (to holds later hold : Option (List ℕ)) (part more : List ℕ) →
-    (s : Served sound len old from held count new to holds) → Consumes to later part → Appends holds hold more → HasServed sound len old s.turns new part from later more held hold
-served_then sound len old from held count new to holds later hold part more s came wrote = record {
-  service = s.service;
-  never = s.never;
-  read = Consumes-trans from to later (said s.turns) part s.read came;
-  wrote = Appends-trans held holds hold (told s.turns) more s.wrote wrote;
-}
+  -- one turn more
+  pub served_more : (held' held'' : List ℕ → Type 0) (turns : List Turn) (turn : Turn) → HasServed sound len size held held' turns → IsReplied size turn → (sound → turn.reply ≡ Refused Io → ⊥) →
+      Leads held' (λ old new. IsAnswer len old turn.request turn.payload turn.reply new) held'' → HasServed sound len size held held'' (turns ++ turn ∷ [])
+  served_more held' held'' turns turn s is works answer = record {
+    fits = All-push (λ t. IsReplied size t) turns turn s.fits is;
+    never = λ h. never_more turns turn (s.never h) (works h);
+    service = λ bytes h.
+        let so_far = s.service bytes h in
+        let more = answer so_far.0 so_far.2 in
+        (more.0, service_more len bytes so_far.0 turns turn more.0 so_far.1 (record { request = is.request; payload = is.payload; answer = more.1 }), more.2);
+  }
 
--- no whole request came
-pub stopped_at_head : (sound : Type 0) (len : ℕ) (old : List ℕ) (from held : Option (List ℕ)) (count : ℕ) (new : List ℕ) (to holds later : Option (List ℕ)) (f : NbdFault) →
-    Served sound len old from held count new to holds → Misses IsUnfinished IsNoRequest f to later → StopsServing sound len old f new from later held holds
-stopped_at_head sound len old from held count new to holds later fault.Read s (part, cut, came) =
-    (s.turns, part, served_then sound len old from held count new to holds later holds part [] s came (Appends-nil holds), cut)
-stopped_at_head sound len old from held count new to holds later fault.Truncated s (part, cut, came, some, ended) =
-    (s.turns, part, served_then sound len old from held count new to holds later holds part [] s came (Appends-nil holds), cut, some, ended)
-stopped_at_head sound len old from held count new to holds later fault.Magic s (part, none, came) =
-    (s.turns, part, served_then sound len old from held count new to holds later holds part [] s came (Appends-nil holds), none)
-stopped_at_head sound len old from held count new to holds later fault.Write s h = absurd h
-stopped_at_head sound len old from held count new to holds later fault.OldClient s h = absurd h
-stopped_at_head sound len old from held count new to holds later fault.UnknownExport s h = absurd h
-stopped_at_head sound len old from held count new to holds later fault.TooManyOptions s h = absurd h
-stopped_at_head sound len old from held count new to holds later fault.OutOfMemory s h = absurd h
+  -- as far as the loop has come
+  pub record Served (from text : Option (List ℕ)) (count : ℕ) (held' : List ℕ → Type 0) (to told' : Option (List ℕ)) : Type 0 where
+    pub turns : List Turn
+    pub many : length turns ≡ count
+    pub served : HasServed sound len size held held' turns
+    pub read : Consumes from to (said turns)
+    pub wrote : Appends text told' (told turns)
 
-some_bytes : (r : Request) (bytes : List ℕ) → 0 < length (request_text r ++ bytes)
-some_bytes r bytes = omega (arith, length-append (request_text r) bytes)
+  pub begin : (from text : Option (List ℕ)) → Served from text 0 held from text
+  begin from text = record { turns = []; many = refl; served = served_none; read = Consumes-nil from; wrote = Appends-nil text }
 
--- not all came that a request writes
-pub stopped_at_payload : (sound : Type 0) (len : ℕ) (old : List ℕ) (from held : Option (List ℕ)) (count : ℕ) (new : List ℕ) (to holds mid later : Option (List ℕ)) (r : Request) (f : NbdFault) →
-    Served sound len old from held count new to holds → IsRequest r → Consumes to mid (request_text r) → ComesShort 0 (payload_len r.command r.length) f mid later → StopsServing sound len old f new from later held holds
-stopped_at_payload sound len old from held count new to holds mid later r fault.Read s is head (part, few, came) =
-    (s.turns, request_text r ++ part, served_then sound len old from held count new to holds later holds (request_text r ++ part) [] s (Consumes-trans to mid later (request_text r) part head came) (Appends-nil holds), inr (r, part, is, few, refl))
-stopped_at_payload sound len old from held count new to holds mid later r fault.Truncated s is head (part, few, came, least, ended) =
-    (s.turns, request_text r ++ part, served_then sound len old from held count new to holds later holds (request_text r ++ part) [] s (Consumes-trans to mid later (request_text r) part head came) (Appends-nil holds), inr (r, part, is, few, refl), some_bytes r part, ended)
-stopped_at_payload sound len old from held count new to holds mid later r fault.Magic s is head h = absurd h
-stopped_at_payload sound len old from held count new to holds mid later r fault.Write s is head h = absurd h
-stopped_at_payload sound len old from held count new to holds mid later r fault.OldClient s is head h = absurd h
-stopped_at_payload sound len old from held count new to holds mid later r fault.UnknownExport s is head h = absurd h
-stopped_at_payload sound len old from held count new to holds mid later r fault.TooManyOptions s is head h = absurd h
-stopped_at_payload sound len old from held count new to holds mid later r fault.OutOfMemory s is head h = absurd h
+  pub next : (from text : Option (List ℕ)) (count : ℕ) (held' held'' : List ℕ → Type 0) (to told' later told'' : Option (List ℕ)) (turn : Turn) →
+      (s : Served from text count held' to told') → HasServed sound len size held held'' (s.turns ++ turn ∷ []) → Consumes to later (asking turn) → Appends told' told'' (replying turn) →
+      Served from text (count + 1) held'' later told''
+  next from text count held' held'' to told' later told'' turn s served came wrote = record {
+    turns = s.turns ++ turn ∷ [];
+    many = length-append s.turns (turn ∷ []) ∙ ap (λ (n : ℕ). n + 1) s.many;
+    served = served;
+    read = subst (Consumes from later) (ap (λ (l : List ℕ). said s.turns ++ l) (sym (append-nil (asking turn))) ∙ sym (flat_map-append asking s.turns (turn ∷ []))) (Consumes-trans from to later (said s.turns) (asking turn) s.read came);
+    wrote = subst (Appends text told'') (ap (λ (l : List ℕ). told s.turns ++ l) (sym (append-nil (replying turn))) ∙ sym (flat_map-append replying s.turns (turn ∷ []))) (Appends-trans text told' told'' (told s.turns) (replying turn) s.wrote wrote);
+  }
 
--- not all of a reply was written
-pub stopped_at_reply : (sound : Type 0) (len : ℕ) (old : List ℕ) (from held : Option (List ℕ)) (count : ℕ) (mid new : List ℕ) (to holds later hold : Option (List ℕ)) (turn : Turn) →
-    Served sound len old from held count mid to holds → (sound → turn.reply ≡ Refused Io → ⊥) → IsTurn len mid turn new → Consumes to later (asking turn) → IsBegunText holds hold (replying turn) →
-    StopsServing sound len old fault.Write new from later held hold
-stopped_at_reply sound len old from held count mid new to holds later hold turn s works is came (n, wrote) =
-    (s.turns, mid, turn, n, served_then sound len old from held count mid to holds later hold (asking turn) (take n (replying turn)) s came wrote, is, works)
+  -- and then so many bytes more were read and written
+  pub exchanged : (from text : Option (List ℕ)) (count : ℕ) (held' : List ℕ → Type 0) (to told' later told'' : Option (List ℕ)) (part more : List ℕ) →
+      (s : Served from text count held' to told') → Consumes to later part → Appends told' told'' more → HasExchanged s.turns from later part text told'' more
+  exchanged from text count held' to told' later told'' part more s came wrote = record {
+    read = Consumes-trans from to later (said s.turns) part s.read came;
+    wrote = Appends-trans text told' told'' (told s.turns) more s.wrote wrote;
+  }
+
+  -- no whole request came
+  pub stopped_at_head : (from text : Option (List ℕ)) (count : ℕ) (held' : List ℕ → Type 0) (to told' later : Option (List ℕ)) (f : NbdFault) →
+      Served from text count held' to told' → Misses IsUnfinished IsNoRequest f to later → StopsServing sound len size held held' f from later text told'
+  stopped_at_head from text count held' to told' later fault.Read s (part, cut, came) =
+      (s.turns, part, s.served, exchanged from text count held' to told' later told' part [] s came (Appends-nil told'), cut)
+  stopped_at_head from text count held' to told' later fault.Truncated s (part, cut, came, some, ended) =
+      (s.turns, part, s.served, exchanged from text count held' to told' later told' part [] s came (Appends-nil told'), cut, some, ended)
+  stopped_at_head from text count held' to told' later fault.Magic s (part, none, came) =
+      (s.turns, part, s.served, exchanged from text count held' to told' later told' part [] s came (Appends-nil told'), none)
+  stopped_at_head from text count held' to told' later fault.Write s h = absurd h
+  stopped_at_head from text count held' to told' later fault.OldClient s h = absurd h
+  stopped_at_head from text count held' to told' later fault.UnknownExport s h = absurd h
+  stopped_at_head from text count held' to told' later fault.TooManyOptions s h = absurd h
+  stopped_at_head from text count held' to told' later fault.OutOfMemory s h = absurd h
+  stopped_at_head from text count held' to told' later fault.Stopped s h = absurd h
+
+  some_bytes : (r : Request) (bytes : List ℕ) → 0 < length (request_text r ++ bytes)
+  some_bytes r bytes = omega (arith, length-append (request_text r) bytes)
+
+  -- not all came that a request writes
+  pub stopped_at_payload : (from text : Option (List ℕ)) (count : ℕ) (held' : List ℕ → Type 0) (to told' mid later : Option (List ℕ)) (r : Request) (f : NbdFault) →
+      Served from text count held' to told' → IsRequest r → Consumes to mid (request_text r) → ComesShort 0 (payload_len r.command r.length) f mid later → StopsServing sound len size held held' f from later text told'
+  stopped_at_payload from text count held' to told' mid later r fault.Read s is head (part, few, came) = (
+    s.turns,
+    request_text r ++ part,
+    s.served,
+    exchanged from text count held' to told' later told' (request_text r ++ part) [] s (Consumes-trans to mid later (request_text r) part head came) (Appends-nil told'),
+    inr (r, part, is, few, refl),
+  )
+  stopped_at_payload from text count held' to told' mid later r fault.Truncated s is head (part, few, came, least, ended) = (
+    s.turns,
+    request_text r ++ part,
+    s.served,
+    exchanged from text count held' to told' later told' (request_text r ++ part) [] s (Consumes-trans to mid later (request_text r) part head came) (Appends-nil told'),
+    inr (r, part, is, few, refl),
+    some_bytes r part,
+    ended,
+  )
+  stopped_at_payload from text count held' to told' mid later r fault.Magic s is head h = absurd h
+  stopped_at_payload from text count held' to told' mid later r fault.Write s is head h = absurd h
+  stopped_at_payload from text count held' to told' mid later r fault.OldClient s is head h = absurd h
+  stopped_at_payload from text count held' to told' mid later r fault.UnknownExport s is head h = absurd h
+  stopped_at_payload from text count held' to told' mid later r fault.TooManyOptions s is head h = absurd h
+  stopped_at_payload from text count held' to told' mid later r fault.OutOfMemory s is head h = absurd h
+  stopped_at_payload from text count held' to told' mid later r fault.Stopped s is head h = absurd h
+
+  -- not all of a reply was written
+  pub stopped_at_reply : (from text : Option (List ℕ)) (count : ℕ) (held' held'' : List ℕ → Type 0) (to told' later told'' : Option (List ℕ)) (turn : Turn) →
+      (s : Served from text count held' to told') → HasServed sound len size held held'' (s.turns ++ turn ∷ []) → Consumes to later (asking turn) → IsBegunText told' told'' (replying turn) →
+      StopsServing sound len size held held'' fault.Write from later text told''
+  stopped_at_reply from text count held' held'' to told' later told'' turn s served came (n, wrote) =
+      (s.turns, turn, n, served, exchanged from text count held' to told' later told'' (asking turn) (take n (replying turn)) s came wrote)
+
+  -- the device stopped at a request
+  pub stopped_at_request : (from text : Option (List ℕ)) (count : ℕ) (held' held'' : List ℕ → Type 0) (to told' later : Option (List ℕ)) (r : Request) (payload : List ℕ) →
+      Served from text count held' to told' → IsRequest r → length payload ≡ payload_len r.command r.length → refusal_of size r ≡ None →
+      Leads held' (λ old new. IsPartly r.command len old r.offset r.length payload new) held'' → Consumes to later (request_text r ++ payload) →
+      StopsServing sound len size held held'' fault.Stopped from later text told'
+  stopped_at_request from text count held' held'' to told' later r payload s is whole fits partly came = (
+    s.turns,
+    r,
+    payload,
+    record {
+      fits = s.served.fits;
+      never = s.served.never;
+      request = is;
+      whole = whole;
+      accepted = fits;
+      service = λ bytes h.
+          let so_far = s.served.service bytes h in
+          let last = partly so_far.0 so_far.2 in
+          (last.0, (so_far.0, so_far.1, last.1), last.2);
+    },
+    exchanged from text count held' to told' later told' (request_text r ++ payload) [] s came (Appends-nil told'),
+  )
+
+-- a request whose bytes there was no memory for
+pub refused_later : (held : List ℕ → Type 0) (len size : ℕ) → ((bytes : List ℕ) → held bytes → length bytes ≡ size) → (r : Request) (text : List ℕ) → refusal_of size r ≡ None →
+    Leads held (λ old new. IsAnswer len old r text (Refused NoMemory) new) held
+refused_later held len size sized r text fits = λ bytes h.
+    (bytes, inr (subst (λ (n : ℕ). refusal_of n r ≡ None) (sym (sized bytes h)) fits, inr refl, partly_none r.command len bytes r.offset r.length text), h)

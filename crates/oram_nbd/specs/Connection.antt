@@ -1,6 +1,7 @@
 -- A whole connection: its handshake, and then its requests.
-use Rattle.std.specs.Prelude.{◌≡◌, ◌⊎◌, ℕ, List, Option, nat_le, ◌&&◌, if◌then◌else◌, length}
+use Rattle.std.specs.Prelude.{◌≡◌, ◌⊎◌, ℕ, List, Option, nat_le, ◌&&◌, if◌then◌else◌}
 use Rattle.std.specs.Int.{is_power_of_two}
+use Rattle.oram_nbd.specs.Holding.{StillHolds}
 use Rattle.oram_nbd.specs.Negotiation.{HasAgreed, StopsNegotiating}
 use Rattle.oram_nbd.specs.Transmission.{HasTransmitted, StopsServing}
 use Rattle.oram_nbd.specs.declared.faults.NbdFault.{NbdFault}
@@ -10,18 +11,19 @@ use Rattle.oram_nbd.specs.declared.handshake.Agreement.TheVariants.{Transmission
 abbrev pub preferred_of : ℕ → ℕ
 preferred_of len = if is_power_of_two len && nat_le 512 len && nat_le len 33554432 then len else 4096
 
--- over a device of blocks of len bytes, which may be sound, told of by this name
-module _ (sound : Type 0) (len : ℕ) (name : List ℕ) where
+-- over a device of so many bytes, in blocks of len bytes, which may be sound, told of by this name; by the arrays that it held before, and
+-- those that it holds
+module _ (sound : Type 0) (len size : ℕ) (held held' : List ℕ → Type 0) (name : List ℕ) where
   -- The client went in the handshake; or requests followed, and so many were answered.
-  abbrev pub HasConnected : List ℕ → ℕ → List ℕ → Option (List ℕ) → Option (List ℕ) → Option (List ℕ) → Option (List ℕ) → Type 0
-  HasConnected old count new unread unread' written written' =
-      (HasAgreed name (length old) (preferred_of len) Gone unread unread' written written' × (count ≡ 0) × (new ≡ old))
-      ⊎ ((midread midwritten : Option (List ℕ)) × HasAgreed name (length old) (preferred_of len) Transmission unread midread written midwritten
-      × HasTransmitted sound len old count new midread unread' midwritten written')
+  abbrev pub HasConnected : ℕ → Option (List ℕ) → Option (List ℕ) → Option (List ℕ) → Option (List ℕ) → Type 0
+  HasConnected count unread unread' written written' =
+      (HasAgreed name size (preferred_of len) Gone unread unread' written written' × (count ≡ 0) × StillHolds held held')
+      ⊎ ((midread midwritten : Option (List ℕ)) × HasAgreed name size (preferred_of len) Transmission unread midread written midwritten
+      × HasTransmitted sound len size held held' count midread unread' midwritten written')
 
   -- It stopped in the handshake, and the device was left alone; or behind it.
-  abbrev pub StopsConnection : List ℕ → NbdFault → List ℕ → Option (List ℕ) → Option (List ℕ) → Option (List ℕ) → Option (List ℕ) → Type 0
-  StopsConnection old fault new unread unread' written written' =
-      (StopsNegotiating name (length old) (preferred_of len) fault unread unread' written written' × (new ≡ old))
-      ⊎ ((midread midwritten : Option (List ℕ)) × HasAgreed name (length old) (preferred_of len) Transmission unread midread written midwritten
-      × StopsServing sound len old fault new midread unread' midwritten written')
+  abbrev pub StopsConnection : NbdFault → Option (List ℕ) → Option (List ℕ) → Option (List ℕ) → Option (List ℕ) → Type 0
+  StopsConnection fault unread unread' written written' =
+      (StopsNegotiating name size (preferred_of len) fault unread unread' written written' × StillHolds held held')
+      ⊎ ((midread midwritten : Option (List ℕ)) × HasAgreed name size (preferred_of len) Transmission unread midread written midwritten
+      × StopsServing sound len size held held' fault midread unread' midwritten written')

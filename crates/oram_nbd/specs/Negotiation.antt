@@ -8,7 +8,7 @@ use Rattle.oram_nbd.specs.Options.{option_code, option_head, option_text, IsHead
 use Rattle.oram_nbd.specs.Handshake.{greeting, refused, Answers, IsFixed, IsNamed}
 use Rattle.oram_nbd.specs.declared.TheConstants.{LONGEST_OPTION, MOST_OPTIONS}
 use Rattle.oram_nbd.specs.declared.faults.NbdFault.{NbdFault}
-use Rattle.oram_nbd.specs.declared.faults.NbdFault.TheVariants.{Read, Truncated, Magic, Write, OldClient, UnknownExport, TooManyOptions, OutOfMemory}
+use Rattle.oram_nbd.specs.declared.faults.NbdFault.TheVariants.{Read, Truncated, Magic, Write, OldClient, UnknownExport, TooManyOptions, OutOfMemory, Stopped}
 use Rattle.oram_nbd.specs.declared.handshake.Agreement.{Agreement}
 use Rattle.oram_nbd.specs.declared.handshake.Agreement.TheVariants.{Gone}
 use Rattle.oram_nbd.specs.declared.options.HandshakeOption.{HandshakeOption}
@@ -63,6 +63,7 @@ StopsGreeting Magic unread unread' written written' = ⊥
 StopsGreeting UnknownExport unread unread' written written' = ⊥
 StopsGreeting TooManyOptions unread unread' written written' = ⊥
 StopsGreeting OutOfMemory unread unread' written written' = ⊥
+StopsGreeting Stopped unread unread' written written' = ⊥
 
 -- of an export of this name, of so many bytes, with requests of so many at best
 module _ (name : List ℕ) (size preferred : ℕ) where
@@ -94,6 +95,7 @@ module _ (name : List ℕ) (size preferred : ℕ) where
   StopsAt zeroes h Magic unread unread' written written' = ⊥
   StopsAt zeroes h OldClient unread unread' written written' = ⊥
   StopsAt zeroes h TooManyOptions unread unread' written written' = ⊥
+  StopsAt zeroes h Stopped unread unread' written written' = ⊥
 
   -- The client's flags were read, and exchanges made that all go on; and then so many bytes more were read and written.
   pub record HasNegotiated (zeroes : Bool) (xs : List Exchange) (part : List ℕ) (unread unread' : Option (List ℕ)) (more : List ℕ) (written written' : Option (List ℕ)) : Type 0 where
@@ -130,6 +132,7 @@ module _ (name : List ℕ) (size preferred : ℕ) where
   StopsChoosing OutOfMemory unread unread' written written' =
       (zeroes : Bool) × (xs : List Exchange) × (part : List ℕ) × HasNegotiated zeroes xs part unread unread' [] written written' × IsUnanswered part
   StopsChoosing OldClient unread unread' written written' = ⊥
+  StopsChoosing Stopped unread unread' written written' = ⊥
 
   abbrev pub StopsNegotiating : NbdFault → Option (List ℕ) → Option (List ℕ) → Option (List ℕ) → Option (List ℕ) → Type 0
   StopsNegotiating fault unread unread' written written' =

@@ -44,6 +44,11 @@ abbrev pub given : Command → List ℕ → ℕ → ℕ → List ℕ
 given Read bytes at n = bytes_at bytes at n
 given _ bytes at n = []
 
+-- how many bytes that is
+abbrev pub given_len : Command → ℕ → ℕ
+given_len Read n = n
+given_len _ n = 0
+
 -- what it is after the command, where a trim goes by blocks of len bytes
 abbrev pub after : Command → ℕ → List ℕ → ℕ → ℕ → List ℕ → List ℕ
 after Write len bytes at n payload = written bytes at payload
@@ -66,12 +71,24 @@ IsAnswer len old r payload (Refused e) new =
     ((refusal_of (length old) r ≡ Some e) × (new ≡ old))
     ⊎ ((refusal_of (length old) r ≡ None) × ((e ≡ Io) ⊎ (e ≡ NoMemory)) × IsPartly r.command len old r.offset r.length payload new)
 
+-- a reply that fits the request, whatever a device of so many bytes holds
+abbrev pub IsReply : ℕ → Request → SimpleReply → Type 0
+IsReply size r (Done bytes) = (refusal_of size r ≡ None) × (length bytes ≡ given_len r.command r.length)
+IsReply size r (Refused e) = (refusal_of size r ≡ Some e) ⊎ ((refusal_of size r ≡ None) × ((e ≡ Io) ⊎ (e ≡ NoMemory)))
+
 -- a request, the bytes behind it, and the reply
 pub record Turn : Type 0 where
   pub request : Request
   pub payload : List ℕ
   pub reply : SimpleReply
 
+-- the turn by itself
+pub record IsReplied (size : ℕ) (turn : Turn) : Type 0 where
+  pub request : IsRequest turn.request
+  pub payload : length turn.payload ≡ payload_len turn.request.command turn.request.length
+  pub reply : IsReply size turn.request turn.reply
+
+-- the turn on an array of bytes
 pub record IsTurn (len : ℕ) (old : List ℕ) (turn : Turn) (new : List ℕ) : Type 0 where
   pub request : IsRequest turn.request
   pub payload : length turn.payload ≡ payload_len turn.request.command turn.request.length

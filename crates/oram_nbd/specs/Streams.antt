@@ -2,7 +2,7 @@
 use Rattle.std.specs.Prelude.{◌≡◌, ℕ, ◌<◌, ◌≤◌, List, length, take, Option}
 use Rattle.std.specs.Io.KnownBytes.{Appends, Consumes, IsAtEnd}
 use Rattle.oram_nbd.specs.declared.faults.NbdFault.{NbdFault}
-use Rattle.oram_nbd.specs.declared.faults.NbdFault.TheVariants.{Read, Truncated, Magic, Write, OldClient, UnknownExport, TooManyOptions, OutOfMemory}
+use Rattle.oram_nbd.specs.declared.faults.NbdFault.TheVariants.{Read, Truncated, Magic, Write, OldClient, UnknownExport, TooManyOptions, OutOfMemory, Stopped}
 
 -- so many bytes were read, whatever they are
 abbrev pub IsSkip : Option (List ℕ) → Option (List ℕ) → ℕ → Type 0
@@ -18,6 +18,7 @@ ComesShort least n OldClient old new = ⊥
 ComesShort least n UnknownExport old new = ⊥
 ComesShort least n TooManyOptions old new = ⊥
 ComesShort least n OutOfMemory old new = ⊥
+ComesShort least n Stopped old new = ⊥
 
 -- a beginning of the text was written, or all of it
 abbrev pub IsBegunText : Option (List ℕ) → Option (List ℕ) → List ℕ → Type 0
@@ -33,3 +34,4 @@ Misses unfinished none OldClient old new = ⊥
 Misses unfinished none UnknownExport old new = ⊥
 Misses unfinished none TooManyOptions old new = ⊥
 Misses unfinished none OutOfMemory old new = ⊥
+Misses unfinished none Stopped old new = ⊥

@@ -1,14 +1,13 @@
 -- What is read and written while requests are served, up to its end or a fault.
-use Rattle.std.specs.Prelude.{◌≡◌, ◌⊎◌, ℕ, ◌<◌, List, [], ◌++◌, length, take, Option}
+use Rattle.std.specs.Prelude.{◌≡◌, ◌⊎◌, ℕ, ◌<◌, List, [], ◌∷◌, ◌++◌, length, take, Option, None, All}
 use Rattle.std.specs.Io.KnownBytes.{Appends, Consumes, IsAtEnd}
 use Rattle.oram_nbd.specs.Messages.{payload_len, request_text, IsRequest}
-use Rattle.oram_nbd.specs.Serving.{asking, replying, said, told, IsService, IsTurn, NeverFails, Turn}
-use Rattle.oram_nbd.specs.declared.faults.NbdError.TheVariants.{Io}
+use Rattle.oram_nbd.specs.Holding.{Leads}
+use Rattle.oram_nbd.specs.Serving.{asking, refusal_of, replying, said, told, IsPartly, IsReplied, IsService, NeverFails, Turn}
 use Rattle.oram_nbd.specs.declared.faults.NbdFault.{NbdFault}
-use Rattle.oram_nbd.specs.declared.faults.NbdFault.TheVariants.{Read, Truncated, Magic, Write, OldClient, UnknownExport, TooManyOptions, OutOfMemory}
+use Rattle.oram_nbd.specs.declared.faults.NbdFault.TheVariants.{Read, Truncated, Magic, Write, OldClient, UnknownExport, TooManyOptions, OutOfMemory, Stopped}
 use Rattle.oram_nbd.specs.declared.requests.Command.TheVariants.{Disconnect}
 use Rattle.oram_nbd.specs.declared.requests.Request.{Request}
-use Rattle.oram_nbd.specs.declared.replies.SimpleReply.TheVariants.{Refused}
 
 -- less than a request: of its 28 bytes, or of the bytes that it writes
 abbrev pub IsUnfinished : List ℕ → Type 0
@@ -25,36 +24,54 @@ abbrev pub IsLast : Option (List ℕ) → List ℕ → Type 0
 IsLast new last =
     ((last ≡ []) × IsAtEnd new) ⊎ ((r : Request) × IsRequest r × (r.command ≡ Disconnect) × (last ≡ request_text r))
 
--- of a device of blocks of len bytes, which may be sound
-module _ (sound : Type 0) (len : ℕ) where
-  -- The turns lead the device from one array to another, with what was read and written, and then so many bytes more.
-  pub record HasServed (old : List ℕ) (turns : List Turn) (new part : List ℕ) (unread unread' : Option (List ℕ)) (more : List ℕ) (written written' : Option (List ℕ)) : Type 0 where
-    pub service : IsService len old turns new
+-- The turns were read and told, and then so many bytes more were read and written.
+pub record HasExchanged (turns : List Turn) (unread unread' : Option (List ℕ)) (part : List ℕ) (written written' : Option (List ℕ)) (more : List ℕ) : Type 0 where
+  pub read : Consumes unread unread' (said turns ++ part)
+  pub wrote : Appends written written' (told turns ++ more)
+
+-- of a device of so many bytes, in blocks of len bytes, which may be sound; by the arrays that it held before, and those that it holds
+module _ (sound : Type 0) (len size : ℕ) (held held' : List ℕ → Type 0) where
+  -- The turns were made. Whichever array was held, they lead from it to one that is held.
+  pub record HasServed (turns : List Turn) : Type 0 where
+    pub fits : All (λ turn. IsReplied size turn) turns
     pub never : sound → NeverFails turns
-    pub read : Consumes unread unread' (said turns ++ part)
-    pub wrote : Appends written written' (told turns ++ more)
+    pub service : Leads held (λ old new. IsService len old turns new) held'
+
+  -- The turns were made, and then a request came that the device stopped at, with these bytes.
+  pub record HasStopped (turns : List Turn) (r : Request) (payload : List ℕ) : Type 0 where
+    pub fits : All (λ turn. IsReplied size turn) turns
+    pub never : sound → NeverFails turns
+    pub request : IsRequest r
+    pub whole : length payload ≡ payload_len r.command r.length
+    pub accepted : refusal_of size r ≡ None
+    pub service : Leads held (λ old new. (mid : List ℕ) × IsService len old turns mid × IsPartly r.command len mid r.offset r.length payload new) held'
 
   -- so many requests were answered, and then they ended
-  pub record HasTransmitted (old : List ℕ) (count : ℕ) (new : List ℕ) (unread unread' written written' : Option (List ℕ)) : Type 0 where
+  pub record HasTransmitted (count : ℕ) (unread unread' written written' : Option (List ℕ)) : Type 0 where
     pub turns : List Turn
     pub last : List ℕ
     pub all : length turns ≡ count
-    pub served : HasServed old turns new last unread unread' [] written written'
+    pub served : HasServed turns
+    pub exchanged : HasExchanged turns unread unread' last written written' []
     pub ended : IsLast unread' last
 
-  -- What is known at a fault. After a failed write the last turn was made, and its reply came as far as some byte.
-  abbrev pub StopsServing : List ℕ → NbdFault → List ℕ → Option (List ℕ) → Option (List ℕ) → Option (List ℕ) → Option (List ℕ) → Type 0
-  StopsServing old Read new unread unread' written written' =
-      (turns : List Turn) × (part : List ℕ) × HasServed old turns new part unread unread' [] written written' × IsUnfinished part
-  StopsServing old Truncated new unread unread' written written' =
-      (turns : List Turn) × (part : List ℕ) × HasServed old turns new part unread unread' [] written written' × IsUnfinished part × (0 < length part) × IsAtEnd unread'
-  StopsServing old Magic new unread unread' written written' =
-      (turns : List Turn) × (part : List ℕ) × HasServed old turns new part unread unread' [] written written' × IsNoRequest part
-  StopsServing old Write new unread unread' written written' =
-      (turns : List Turn) × (mid : List ℕ) × (last : Turn) × (count : ℕ)
-      × HasServed old turns mid (asking last) unread unread' (take count (replying last)) written written'
-      × IsTurn len mid last new × (sound → last.reply ≡ Refused Io → ⊥)
-  StopsServing old OldClient new unread unread' written written' = ⊥
-  StopsServing old UnknownExport new unread unread' written written' = ⊥
-  StopsServing old TooManyOptions new unread unread' written written' = ⊥
-  StopsServing old OutOfMemory new unread unread' written written' = ⊥
+  -- What is known at a fault. After a failed write the last turn was made, and its reply came as far as some byte. Where the device
+  -- stopped, nothing was told of the last request.
+  abbrev pub StopsServing : NbdFault → Option (List ℕ) → Option (List ℕ) → Option (List ℕ) → Option (List ℕ) → Type 0
+  StopsServing Read unread unread' written written' =
+      (turns : List Turn) × (part : List ℕ) × HasServed turns × HasExchanged turns unread unread' part written written' [] × IsUnfinished part
+  StopsServing Truncated unread unread' written written' =
+      (turns : List Turn) × (part : List ℕ) × HasServed turns × HasExchanged turns unread unread' part written written' [] × IsUnfinished part
+      × (0 < length part) × IsAtEnd unread'
+  StopsServing Magic unread unread' written written' =
+      (turns : List Turn) × (part : List ℕ) × HasServed turns × HasExchanged turns unread unread' part written written' [] × IsNoRequest part
+  StopsServing Write unread unread' written written' =
+      (turns : List Turn) × (last : Turn) × (count : ℕ) × HasServed (turns ++ last ∷ [])
+      × HasExchanged turns unread unread' (asking last) written written' (take count (replying last))
+  StopsServing Stopped unread unread' written written' =
+      (turns : List Turn) × (r : Request) × (payload : List ℕ) × HasStopped turns r payload
+      × HasExchanged turns unread unread' (request_text r ++ payload) written written' []
+  StopsServing OldClient unread unread' written written' = ⊥
+  StopsServing UnknownExport unread unread' written written' = ⊥
+  StopsServing TooManyOptions unread unread' written written' = ⊥
+  StopsServing OutOfMemory unread unread' written written' = ⊥

@@ -7,14 +7,19 @@ use crate::faults::DiskFault;
 use std::alloc::Global;
 
 /// A device of whole blocks, all of one length. It holds the array of its blocks' bytes.
+///
+/// After [`DiskFault::Stopped`] a connection asks nothing more of it.
 pub trait Disk {
-    /// The bytes, block after block.
-    ghost bytes: { Self → List ℕ };
-
     /// How many bytes a block has.
     ghost block_len: { Self → ℕ };
 
-    /// It does not fail, unless memory is refused.
+    /// How many bytes there are.
+    ghost size: { Self → ℕ };
+
+    /// It holds these bytes, block after block.
+    ghost holds: { Self → List ℕ → Type 0 };
+
+    /// It does not fail, unless memory is refused. It may stop.
     ghost is_sound: { Self → Type 0 };
 
     fn block_bytes(&self) -> u32
@@ -22,35 +27,42 @@ pub trait Disk {
         ensures some { 0 < result };
 
     fn blocks(&self) -> u64
-        ensures whole { block_len self.now * result ≡ length (bytes self.now) }
-        ensures bound { length (bytes self.now) < 2 ^ 63 };
+        ensures whole { block_len self.now * result ≡ size self.now }
+        ensures bound { size self.now < 2 ^ 63 }
+        ensures held { (bytes : List ℕ) → holds self.now bytes → length bytes ≡ size self.now };
 
     /// The bytes of a block.
     fn read(&mut self, alloc: Global, block: u64) -> Result<Vec<u8>, DiskFault>
-        requires { block_len self.old * block + block_len self.old ≤ length (bytes self.old) }
-        ensures ok { IfOk result (λ v. v.items ≡ bytes_at (bytes self.old) (block_len self.old * block) (block_len self.old)) }
-        ensures same { bytes self.new ≡ bytes self.old }
+        requires { block_len self.old * block + block_len self.old ≤ size self.old }
+        ensures len { IfOk result (λ v. length v.items ≡ block_len self.old) }
+        ensures ok { IfOk result (λ v. (bytes : List ℕ) → holds self.old bytes
+            → v.items ≡ bytes_at bytes (block_len self.old * block) (block_len self.old)) }
+        ensures same { (bytes : List ℕ) → holds self.old bytes → holds self.new bytes }
         ensures sound { IsErrOf result DiskFault.Failed → is_sound self.old → ⊥ }
         ensures keeps { is_sound self.old → is_sound self.new }
-        ensures block { block_len self.new ≡ block_len self.old };
+        ensures shape { (block_len self.new ≡ block_len self.old) × (size self.new ≡ size self.old) };
 
     /// Replaces a block. After an `Err` it is as before, or replaced.
     fn write(&mut self, alloc: Global, block: u64, payload: &[u8]) -> Result<(), DiskFault>
-        requires within { block_len self.old * block + block_len self.old ≤ length (bytes self.old) }
+        requires within { block_len self.old * block + block_len self.old ≤ size self.old }
         requires whole { length payload.now ≡ block_len self.old }
-        ensures ok { OnOk result (bytes self.new ≡ written (bytes self.old) (block_len self.old * block) payload.now) }
-        ensures err { OnErr result ((bytes self.new ≡ bytes self.old) ⊎ (bytes self.new ≡ written (bytes self.old) (block_len self.old * block) payload.now)) }
+        ensures ok { OnOk result ((bytes : List ℕ) → holds self.old bytes
+            → holds self.new (written bytes (block_len self.old * block) payload.now)) }
+        ensures err { OnErr result ((bytes : List ℕ) → holds self.old bytes
+            → holds self.new bytes ⊎ holds self.new (written bytes (block_len self.old * block) payload.now)) }
         ensures sound { IsErrOf result DiskFault.Failed → is_sound self.old → ⊥ }
         ensures keeps { is_sound self.old → is_sound self.new }
-        ensures block { block_len self.new ≡ block_len self.old };
+        ensures shape { (block_len self.new ≡ block_len self.old) × (size self.new ≡ size self.old) };
 
     /// Lets a block's bytes go: they are zeroes from then on. After an `Err` they are, or are as
     /// before.
     fn discard(&mut self, alloc: Global, block: u64) -> Result<(), DiskFault>
-        requires { block_len self.old * block + block_len self.old ≤ length (bytes self.old) }
-        ensures ok { OnOk result (bytes self.new ≡ written (bytes self.old) (block_len self.old * block) (zeroes (block_len self.old))) }
-        ensures err { OnErr result ((bytes self.new ≡ bytes self.old) ⊎ (bytes self.new ≡ written (bytes self.old) (block_len self.old * block) (zeroes (block_len self.old)))) }
+        requires { block_len self.old * block + block_len self.old ≤ size self.old }
+        ensures ok { OnOk result ((bytes : List ℕ) → holds self.old bytes
+            → holds self.new (written bytes (block_len self.old * block) (zeroes (block_len self.old)))) }
+        ensures err { OnErr result ((bytes : List ℕ) → holds self.old bytes
+            → holds self.new bytes ⊎ holds self.new (written bytes (block_len self.old * block) (zeroes (block_len self.old)))) }
         ensures sound { IsErrOf result DiskFault.Failed → is_sound self.old → ⊥ }
         ensures keeps { is_sound self.old → is_sound self.new }
-        ensures block { block_len self.new ≡ block_len self.old };
+        ensures shape { (block_len self.new ≡ block_len self.old) × (size self.new ≡ size self.old) };
 }

@@ -13,6 +13,8 @@ pub enum DiskFault {
     Failed,
     /// Memory was refused.
     OutOfMemory,
+    /// The device can't go on: the connection ends, and the command that was at work is done, or isn't.
+    Stopped,
 }
 
 impl From<AllocError> for DiskFault {
@@ -73,6 +75,8 @@ pub enum NbdFault {
     TooManyOptions,
     #[error("out of memory")]
     OutOfMemory,
+    #[error("the disk has stopped")]
+    Stopped,
 }
 
 impl From<AllocError> for NbdFault {

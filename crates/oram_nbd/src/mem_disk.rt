@@ -1,6 +1,6 @@
 //! A device in memory.
 
-ghost use Rattle.std.specs.Prelude.{◌≡◌, ◌*◌, ◌<◌, ◌^◌, IfOk};
+ghost use Rattle.std.specs.Prelude.{◌≡◌, ◌*◌, ◌<◌, ◌^◌, length, IfOk};
 
 use crate::disk::Disk;
 use crate::faults::DiskFault;
@@ -45,9 +45,11 @@ impl MemDisk {
 }
 
 impl Disk for MemDisk {
-    ghost bytes = { λ d. d.bytes };
-
     ghost block_len = { λ d. d.block_len };
+
+    ghost size = { λ d. length d.bytes };
+
+    ghost holds = { λ d bytes. bytes ≡ d.bytes };
 
     ghost is_sound = { λ _. Unit {0} };
 

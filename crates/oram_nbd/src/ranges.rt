@@ -1,7 +1,8 @@
 //! Byte ranges as calls of whole blocks.
 
-ghost use Rattle.std.specs.Prelude.{◌≡◌, ◌⊎◌, ◌+◌, ◌-◌, ◌*◌, ◌<◌, ◌≤◌, ◌++◌, length, take, IfOk, OnOk, OnErr, IsErrOf};
+ghost use Rattle.std.specs.Prelude.{◌≡◌, ◌⊎◌, ℕ, List, ◌+◌, ◌-◌, ◌*◌, ◌<◌, ◌≤◌, ◌++◌, length, take, IfOk, OnOk, OnErr, IsErrOf};
 ghost use Rattle.oram_nbd.specs.Bytes.{bytes_at, written, zeroes, IsBegun};
+ghost use Rattle.oram_nbd.specs.Holding.{Leads, StillHolds};
 ghost use Rattle.oram_nbd.specs.Trimming.{trimmed, first_block, trim_len};
 
 use crate::disk::Disk;
@@ -44,15 +45,16 @@ fn read_part<D: Disk>(
     most: u64,
     out: &mut Vec<u8>,
 ) -> Result<u64, DiskFault>
-    requires within { at + most ≤ length (D.bytes disk.old) }
+    requires within { at + most ≤ D.size disk.old }
     requires some { 0 < most }
     ensures some { IfOk result (λ n. 0 < n) }
     ensures most { IfOk result (λ n. n ≤ most) }
-    ensures ok { IfOk result (λ n. out.new.items ≡ out.old.items ++ bytes_at (D.bytes disk.old) at n) }
-    ensures same { D.bytes disk.new ≡ D.bytes disk.old }
+    ensures len { IfOk result (λ n. length out.new.items ≡ length out.old.items + n) }
+    ensures ok { IfOk result (λ n. (bytes : List ℕ) → D.holds disk.old bytes → out.new.items ≡ out.old.items ++ bytes_at bytes at n) }
+    ensures same { StillHolds (D.holds disk.old) (D.holds disk.new) }
     ensures sound { IsErrOf result DiskFault.Failed → D.is_sound disk.old → ⊥ }
     ensures keeps { D.is_sound disk.old → D.is_sound disk.new }
-    ensures block { D.block_len disk.new ≡ D.block_len disk.old }
+    ensures shape { (D.block_len disk.new ≡ D.block_len disk.old) × (D.size disk.new ≡ D.size disk.old) }
 {
     let _blocks = disk.blocks();
     let part = Part::at(at, most, disk.block_bytes());
@@ -68,12 +70,13 @@ pub fn read_range<D: Disk>(
     offset: u64,
     count: u32,
 ) -> Result<Vec<u8>, DiskFault>
-    requires { offset + count ≤ length (D.bytes disk.old) }
-    ensures ok { IfOk result (λ v. v.items ≡ bytes_at (D.bytes disk.old) offset count) }
-    ensures same { D.bytes disk.new ≡ D.bytes disk.old }
+    requires { offset + count ≤ D.size disk.old }
+    ensures len { IfOk result (λ v. length v.items ≡ count) }
+    ensures ok { IfOk result (λ v. (bytes : List ℕ) → D.holds disk.old bytes → v.items ≡ bytes_at bytes offset count) }
+    ensures same { StillHolds (D.holds disk.old) (D.holds disk.new) }
     ensures sound { IsErrOf result DiskFault.Failed → D.is_sound disk.old → ⊥ }
     ensures keeps { D.is_sound disk.old → D.is_sound disk.new }
-    ensures block { D.block_len disk.new ≡ D.block_len disk.old }
+    ensures shape { (D.block_len disk.new ≡ D.block_len disk.old) × (D.size disk.new ≡ D.size disk.old) }
 {
     let _blocks = disk.blocks();
     let mut out = Vec::with_capacity(alloc, count as usize)?;
@@ -105,14 +108,17 @@ fn write_in_block<D: Disk>(
     start: usize,
     payload: &[u8],
 ) -> Result<(), DiskFault>
-    requires within { D.block_len disk.old * block + D.block_len disk.old ≤ length (D.bytes disk.old) }
+    requires within { D.block_len disk.old * block + D.block_len disk.old ≤ D.size disk.old }
     requires fits { start + length payload.now ≤ D.block_len disk.old }
-    ensures ok { OnOk result (D.bytes disk.new ≡ written (D.bytes disk.old) (D.block_len disk.old * block + start) payload.now) }
-    ensures err { OnErr result ((D.bytes disk.new ≡ D.bytes disk.old) ⊎ (D.bytes disk.new ≡ written (D.bytes disk.old) (D.block_len disk.old * block + start) payload.now)) }
+    ensures ok { OnOk result ((bytes : List ℕ) → D.holds disk.old bytes
+        → D.holds disk.new (written bytes (D.block_len disk.old * block + start) payload.now)) }
+    ensures err { OnErr result ((bytes : List ℕ) → D.holds disk.old bytes
+        → D.holds disk.new bytes ⊎ D.holds disk.new (written bytes (D.block_len disk.old * block + start) payload.now)) }
     ensures sound { IsErrOf result DiskFault.Failed → D.is_sound disk.old → ⊥ }
     ensures keeps { D.is_sound disk.old → D.is_sound disk.new }
-    ensures block { D.block_len disk.new ≡ D.block_len disk.old }
+    ensures shape { (D.block_len disk.new ≡ D.block_len disk.old) × (D.size disk.new ≡ D.size disk.old) }
 {
+    let _blocks = disk.blocks();
     if payload.len() == disk.block_bytes() as usize {
         return disk.write(alloc, block, payload);
     }
@@ -128,15 +134,15 @@ fn write_part<D: Disk>(
     at: u64,
     payload: &[u8],
 ) -> Result<usize, DiskFault>
-    requires within { at + length payload.now ≤ length (D.bytes disk.old) }
+    requires within { at + length payload.now ≤ D.size disk.old }
     requires some { 0 < length payload.now }
     ensures some { IfOk result (λ n. 0 < n) }
     ensures most { IfOk result (λ n. n ≤ length payload.now) }
-    ensures ok { IfOk result (λ n. D.bytes disk.new ≡ written (D.bytes disk.old) at (take n payload.now)) }
-    ensures err { OnErr result (IsBegun (D.bytes disk.old) at payload.now (D.bytes disk.new)) }
+    ensures ok { IfOk result (λ n. (bytes : List ℕ) → D.holds disk.old bytes → D.holds disk.new (written bytes at (take n payload.now))) }
+    ensures err { OnErr result (Leads (D.holds disk.old) (λ old new. IsBegun old at payload.now new) (D.holds disk.new)) }
     ensures sound { IsErrOf result DiskFault.Failed → D.is_sound disk.old → ⊥ }
     ensures keeps { D.is_sound disk.old → D.is_sound disk.new }
-    ensures block { D.block_len disk.new ≡ D.block_len disk.old }
+    ensures shape { (D.block_len disk.new ≡ D.block_len disk.old) × (D.size disk.new ≡ D.size disk.old) }
 {
     let _blocks = disk.blocks();
     let part = Part::at(at, payload.len() as u64, disk.block_bytes());
@@ -151,13 +157,13 @@ pub fn write_range<D: Disk>(
     offset: u64,
     payload: &[u8],
 ) -> Result<(), DiskFault>
-    requires { offset + length payload.now ≤ length (D.bytes disk.old) }
-    ensures ok { OnOk result (D.bytes disk.new ≡ written (D.bytes disk.old) offset payload.now) }
+    requires { offset + length payload.now ≤ D.size disk.old }
+    ensures ok { OnOk result ((bytes : List ℕ) → D.holds disk.old bytes → D.holds disk.new (written bytes offset payload.now)) }
     // As far as it came.
-    ensures err { OnErr result (IsBegun (D.bytes disk.old) offset payload.now (D.bytes disk.new)) }
+    ensures err { OnErr result (Leads (D.holds disk.old) (λ old new. IsBegun old offset payload.now new) (D.holds disk.new)) }
     ensures sound { IsErrOf result DiskFault.Failed → D.is_sound disk.old → ⊥ }
     ensures keeps { D.is_sound disk.old → D.is_sound disk.new }
-    ensures block { D.block_len disk.new ≡ D.block_len disk.old }
+    ensures shape { (D.block_len disk.new ≡ D.block_len disk.old) × (D.size disk.new ≡ D.size disk.old) }
 {
     let _blocks = disk.blocks();
     let mut done = 0;
@@ -170,15 +176,15 @@ pub fn write_range<D: Disk>(
 /// Makes the bytes from a place on zeroes, as far as its block goes, and tells how many. A whole
 /// block is discarded.
 fn zero_part<D: Disk>(alloc: Global, disk: &mut D, at: u64, most: u64) -> Result<u64, DiskFault>
-    requires within { at + most ≤ length (D.bytes disk.old) }
+    requires within { at + most ≤ D.size disk.old }
     requires some { 0 < most }
     ensures some { IfOk result (λ n. 0 < n) }
     ensures most { IfOk result (λ n. n ≤ most) }
-    ensures ok { IfOk result (λ n. D.bytes disk.new ≡ written (D.bytes disk.old) at (zeroes n)) }
-    ensures err { OnErr result (IsBegun (D.bytes disk.old) at (zeroes most) (D.bytes disk.new)) }
+    ensures ok { IfOk result (λ n. (bytes : List ℕ) → D.holds disk.old bytes → D.holds disk.new (written bytes at (zeroes n))) }
+    ensures err { OnErr result (Leads (D.holds disk.old) (λ old new. IsBegun old at (zeroes most) new) (D.holds disk.new)) }
     ensures sound { IsErrOf result DiskFault.Failed → D.is_sound disk.old → ⊥ }
     ensures keeps { D.is_sound disk.old → D.is_sound disk.new }
-    ensures block { D.block_len disk.new ≡ D.block_len disk.old }
+    ensures shape { (D.block_len disk.new ≡ D.block_len disk.old) × (D.size disk.new ≡ D.size disk.old) }
 {
     let _blocks = disk.blocks();
     let block_bytes = disk.block_bytes();
@@ -199,12 +205,12 @@ pub fn zero_range<D: Disk>(
     offset: u64,
     count: u64,
 ) -> Result<(), DiskFault>
-    requires { offset + count ≤ length (D.bytes disk.old) }
-    ensures ok { OnOk result (D.bytes disk.new ≡ written (D.bytes disk.old) offset (zeroes count)) }
-    ensures err { OnErr result (IsBegun (D.bytes disk.old) offset (zeroes count) (D.bytes disk.new)) }
+    requires { offset + count ≤ D.size disk.old }
+    ensures ok { OnOk result ((bytes : List ℕ) → D.holds disk.old bytes → D.holds disk.new (written bytes offset (zeroes count))) }
+    ensures err { OnErr result (Leads (D.holds disk.old) (λ old new. IsBegun old offset (zeroes count) new) (D.holds disk.new)) }
     ensures sound { IsErrOf result DiskFault.Failed → D.is_sound disk.old → ⊥ }
     ensures keeps { D.is_sound disk.old → D.is_sound disk.new }
-    ensures block { D.block_len disk.new ≡ D.block_len disk.old }
+    ensures shape { (D.block_len disk.new ≡ D.block_len disk.old) × (D.size disk.new ≡ D.size disk.old) }
 {
     let _blocks = disk.blocks();
     let mut done = 0;
@@ -221,13 +227,14 @@ pub fn trim_range<D: Disk>(
     offset: u64,
     count: u32,
 ) -> Result<(), DiskFault>
-    requires { offset + count ≤ length (D.bytes disk.old) }
-    ensures ok { OnOk result (D.bytes disk.new ≡ trimmed (D.block_len disk.old) (D.bytes disk.old) offset count) }
-    ensures err { OnErr result (IsBegun (D.bytes disk.old) (D.block_len disk.old * first_block (D.block_len disk.old) offset)
-        (zeroes (trim_len (D.block_len disk.old) offset count)) (D.bytes disk.new)) }
+    requires { offset + count ≤ D.size disk.old }
+    ensures ok { OnOk result ((bytes : List ℕ) → D.holds disk.old bytes → D.holds disk.new (trimmed (D.block_len disk.old) bytes offset count)) }
+    ensures err { OnErr result (Leads (D.holds disk.old)
+        (λ old new. IsBegun old (D.block_len disk.old * first_block (D.block_len disk.old) offset) (zeroes (trim_len (D.block_len disk.old) offset count)) new)
+        (D.holds disk.new)) }
     ensures sound { IsErrOf result DiskFault.Failed → D.is_sound disk.old → ⊥ }
     ensures keeps { D.is_sound disk.old → D.is_sound disk.new }
-    ensures block { D.block_len disk.new ≡ D.block_len disk.old }
+    ensures shape { (D.block_len disk.new ≡ D.block_len disk.old) × (D.size disk.new ≡ D.size disk.old) }
 {
     let _blocks = disk.blocks();
     let len = u64::from(disk.block_bytes());

@@ -1,8 +1,9 @@
 //! The answer to one request.
 
-ghost use Rattle.std.specs.Prelude.{◌≡◌, ℕ, List, ◌+◌, length, IfOk, IfSome, OnOk, OnErr, IsErrOf, None, nat_le};
+ghost use Rattle.std.specs.Prelude.{◌≡◌, ℕ, List, ◌+◌, length, IfOk, IfSome, IfNone, OnOk, OnErr, IsErrOf, None, nat_le};
+ghost use Rattle.oram_nbd.specs.Holding.{Leads};
 ghost use Rattle.oram_nbd.specs.Messages.{payload_len};
-ghost use Rattle.oram_nbd.specs.Serving.{after, given, refusal_of, IsAnswer, IsPartly};
+ghost use Rattle.oram_nbd.specs.Serving.{after, given, given_len, refusal_of, IsAnswer, IsPartly, IsReply};
 
 use crate::LONGEST_PAYLOAD;
 use crate::disk::Disk;
@@ -51,14 +52,18 @@ fn carry_out<D: Disk>(
     request: &Request,
     payload: &[u8],
 ) -> Result<Vec<u8>, DiskFault>
-    requires fits { refusal_of (length (D.bytes disk.old)) request.now ≡ None }
+    requires fits { refusal_of (D.size disk.old) request.now ≡ None }
     requires payload { length payload.now ≡ payload_len request.now.command request.now.length }
-    ensures given { IfOk result (λ v. v.items ≡ given request.now.command (D.bytes disk.old) request.now.offset request.now.length) }
-    ensures ok { OnOk result (D.bytes disk.new ≡ after request.now.command (D.block_len disk.old) (D.bytes disk.old) request.now.offset request.now.length payload.now) }
-    ensures err { OnErr result (IsPartly request.now.command (D.block_len disk.old) (D.bytes disk.old) request.now.offset request.now.length payload.now (D.bytes disk.new)) }
+    ensures len { IfOk result (λ v. length v.items ≡ given_len request.now.command request.now.length) }
+    ensures given { IfOk result (λ v. (bytes : List ℕ) → D.holds disk.old bytes
+        → v.items ≡ given request.now.command bytes request.now.offset request.now.length) }
+    ensures ok { OnOk result ((bytes : List ℕ) → D.holds disk.old bytes
+        → D.holds disk.new (after request.now.command (D.block_len disk.old) bytes request.now.offset request.now.length payload.now)) }
+    ensures err { OnErr result (Leads (D.holds disk.old)
+        (λ old new. IsPartly request.now.command (D.block_len disk.old) old request.now.offset request.now.length payload.now new) (D.holds disk.new)) }
     ensures sound { IsErrOf result DiskFault.Failed → D.is_sound disk.old → ⊥ }
     ensures keeps { D.is_sound disk.old → D.is_sound disk.new }
-    ensures block { D.block_len disk.new ≡ D.block_len disk.old }
+    ensures shape { (D.block_len disk.new ≡ D.block_len disk.old) × (D.size disk.new ≡ D.size disk.old) }
 {
     let offset = request.offset;
     let length = request.length;
@@ -81,30 +86,36 @@ fn carry_out<D: Disk>(
     }
 }
 
-/// The reply to a request. The bytes that it writes are missing where there was no memory for them, or where they are too many.
+/// The reply to a request, or none where the device has stopped. The bytes that it writes are missing where there was no memory for
+/// them, or where they are too many.
 pub(crate) fn answer<D: Disk>(
     alloc: Global,
     disk: &mut D,
     request: &Request,
     payload: Option<Vec<u8>>,
-) -> SimpleReply
+) -> Option<SimpleReply>
     requires { IfSome payload (λ p. length p.items ≡ payload_len request.now.command request.now.length) }
-    ensures answer { (bytes : List ℕ) → IfSome payload (λ p. p.items ≡ bytes)
-        → IsAnswer (D.block_len disk.old) (D.bytes disk.old) request.now bytes result (D.bytes disk.new) }
-    ensures sound { result ≡ SimpleReply.Refused NbdError.Io → D.is_sound disk.old → ⊥ }
+    ensures reply { IfSome result (λ reply. IsReply (D.size disk.old) request.now reply) }
+    ensures answer { (text : List ℕ) → IfSome payload (λ p. p.items ≡ text) → IfSome result (λ reply. Leads (D.holds disk.old)
+        (λ old new. IsAnswer (D.block_len disk.old) old request.now text reply new) (D.holds disk.new)) }
+    ensures refusal { IfNone result (refusal_of (D.size disk.old) request.now ≡ None) }
+    ensures stopped { (text : List ℕ) → IfSome payload (λ p. p.items ≡ text) → IfNone result (Leads (D.holds disk.old)
+        (λ old new. IsPartly request.now.command (D.block_len disk.old) old request.now.offset request.now.length text new) (D.holds disk.new)) }
+    ensures sound { IfSome result (λ reply. reply ≡ SimpleReply.Refused NbdError.Io → D.is_sound disk.old → ⊥) }
     ensures keeps { D.is_sound disk.old → D.is_sound disk.new }
-    ensures block { D.block_len disk.new ≡ D.block_len disk.old }
+    ensures shape { (D.block_len disk.new ≡ D.block_len disk.old) × (D.size disk.new ≡ D.size disk.old) }
 {
     let size = u64::from(disk.block_bytes()) * disk.blocks();
     if let Some(error) = refusal(request, size) {
-        return SimpleReply::Refused(error);
+        return Some(SimpleReply::Refused(error));
     }
     let Some(payload) = payload else {
-        return SimpleReply::Refused(NbdError::NoMemory);
+        return Some(SimpleReply::Refused(NbdError::NoMemory));
     };
     match carry_out(alloc, disk, request, &payload) {
-        Ok(bytes) => SimpleReply::Done(Bytes::from_vec(bytes)),
-        Err(DiskFault::Failed) => SimpleReply::Refused(NbdError::Io),
-        Err(DiskFault::OutOfMemory) => SimpleReply::Refused(NbdError::NoMemory),
+        Ok(bytes) => Some(SimpleReply::Done(Bytes::from_vec(bytes))),
+        Err(DiskFault::Failed) => Some(SimpleReply::Refused(NbdError::Io)),
+        Err(DiskFault::OutOfMemory) => Some(SimpleReply::Refused(NbdError::NoMemory)),
+        Err(DiskFault::Stopped) => None,
     }
 }

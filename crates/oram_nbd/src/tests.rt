@@ -1,6 +1,6 @@
 use crate::{
-    Command, HandshakeOption, LONGEST_OPTION, LONGEST_PAYLOAD, MOST_OPTIONS, MemDisk, NbdFault,
-    OptionHead, Request, serve, transmit,
+    Command, Disk, DiskFault, HandshakeOption, LONGEST_OPTION, LONGEST_PAYLOAD, MOST_OPTIONS,
+    MemDisk, NbdFault, OptionHead, Request, serve, transmit,
 };
 use std::alloc::{AllocError, Global};
 use std::io;
@@ -365,6 +365,124 @@ fn heads_are_read_again(rt: HostRuntime) -> Result<(), Fail> {
         };
         let text = retried!(head.encode(alloc));
         assert_eq!(rt; OptionHead::decode(&text), Some(head));
+    }
+    Ok(())
+}
+
+/// A device in memory that stops once it was called so often.
+#[derive(Drop)]
+struct StoppingDisk {
+    disk: MemDisk,
+    calls_left: u64,
+}
+
+impl StoppingDisk {
+    ghost use Rattle.std.specs.Prelude.{◌≡◌, IsErrOf};
+
+    fn count_call(&mut self) -> Result<(), DiskFault>
+        ensures same { self.new.disk ≡ self.old.disk }
+        ensures works { IsErrOf result DiskFault.Failed → ⊥ }
+    {
+        if self.calls_left == 0 {
+            return Err(DiskFault::Stopped);
+        }
+        self.calls_left -= 1;
+        Ok(())
+    }
+}
+
+impl Disk for StoppingDisk {
+    ghost block_len = { λ d. ⟦<MemDisk as Disk>⟧.block_len d.disk };
+
+    ghost size = { λ d. ⟦<MemDisk as Disk>⟧.size d.disk };
+
+    ghost holds = { λ d. ⟦<MemDisk as Disk>⟧.holds d.disk };
+
+    ghost is_sound = { λ d. ⟦<MemDisk as Disk>⟧.is_sound d.disk };
+
+    fn block_bytes(&self) -> u32 {
+        self.disk.block_bytes()
+    }
+
+    fn blocks(&self) -> u64 {
+        self.disk.blocks()
+    }
+
+    fn read(&mut self, alloc: Global, block: u64) -> Result<Vec<u8>, DiskFault> {
+        self.count_call()?;
+        self.disk.read(alloc, block)
+    }
+
+    fn write(&mut self, alloc: Global, block: u64, payload: &[u8]) -> Result<(), DiskFault> {
+        self.count_call()?;
+        self.disk.write(alloc, block, payload)
+    }
+
+    fn discard(&mut self, alloc: Global, block: u64) -> Result<(), DiskFault> {
+        self.count_call()?;
+        self.disk.discard(alloc, block)
+    }
+}
+
+/// How many calls of blocks each of the client's requests takes.
+const CALLS: [u64; 7] = [4, 2, 1, 2, 0, 2, 1];
+
+/// What comes of the client's requests at a device that stops behind so many calls, and how many bytes were told.
+fn talked_until(
+    alloc: Global,
+    calls: u64,
+    said: &[u8],
+    page: &mut [u8],
+) -> (Result<u64, NbdFault>, u64) {
+    let Ok(disk) = MemDisk::new(alloc, 4, 4) else {
+        return (Err(NbdFault::OutOfMemory), 0);
+    };
+    let mut disk = StoppingDisk {
+        disk,
+        calls_left: calls,
+    };
+    let mut reader = said;
+    let mut writer = Cursor::new(page);
+    let ended = transmit(alloc, &mut reader, &mut writer, &mut disk);
+    (ended, writer.position())
+}
+
+/// The replies of a device that stops behind so many calls.
+fn told_until(alloc: Global, calls: u64) -> Result<Vec<u8>, AllocError> {
+    let mut told = Vec::new(alloc);
+    let mut needed = 0u64;
+    for (count, reply) in CALLS.iter().zip(&SERVER[4..]) {
+        needed = needed.saturating_add(*count);
+        if calls < needed {
+            break;
+        }
+        told.extend_from_slice(reply)?;
+    }
+    Ok(told)
+}
+
+/// Each request before the call that stops the device has its reply, and nothing is told of the one at work.
+#[test]
+fn the_disk_stops_anywhere(rt: HostRuntime) -> Result<(), Fail> {
+    let alloc = rt.alloc();
+    let said = retried!(joined(alloc, &CLIENT[4..]));
+    for calls in 0..13 {
+        let told = retried!(told_until(alloc, calls));
+        let wanted = if calls < 12 {
+            Err(NbdFault::Stopped)
+        } else {
+            Ok(7)
+        };
+        let mut page = [0; 256];
+        let (mut ended, mut count) = talked_until(alloc, calls, &said, &mut page);
+        if ended != wanted || page.get(..count as usize) != Some(told.as_slice()) {
+            (ended, count) = talked_until(alloc, calls, &said, &mut page);
+        }
+        assert!(rt; ended == wanted, "stopped behind {calls}");
+        assert!(rt;
+            page.get(..count as usize) == Some(told.as_slice()),
+            "told until {calls}"
+        );
     }
     Ok(())
 }

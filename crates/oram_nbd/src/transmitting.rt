@@ -80,18 +80,19 @@ fn put_reply<W: Write>(writer: &mut W, cookie: u64, reply: &SimpleReply) -> Resu
 /// A reply is written and flushed before the next request is read, so a client that reads none holds back its own requests
 /// once the buffers between the two are full. A reader with a buffer, as a `BufReader`, takes requests ahead of their replies.
 /// No want of memory ends it: a request without memory is refused with `NoMemory`, and the bytes that it writes are passed over.
+/// A device that stops ends it, and the request that it stopped at has no reply.
 pub fn transmit<R: Read, W: Write, D: Disk>(
     alloc: Global,
     reader: &mut R,
     writer: &mut W,
     disk: &mut D,
 ) -> Result<u64, NbdFault>
-    ensures ok { IfOk result (λ count. HasTransmitted (D.is_sound disk.old) (D.block_len disk.old) (D.bytes disk.old) count (D.bytes disk.new)
+    ensures ok { IfOk result (λ count. HasTransmitted (D.is_sound disk.old) (D.block_len disk.old) (D.size disk.old) (D.holds disk.old) (D.holds disk.new) count
         (R.remaining reader.old) (R.remaining reader.new) (W.contents writer.old) (W.contents writer.new)) }
-    ensures err { IfErr result (λ fault. StopsServing (D.is_sound disk.old) (D.block_len disk.old) (D.bytes disk.old) fault (D.bytes disk.new)
+    ensures err { IfErr result (λ fault. StopsServing (D.is_sound disk.old) (D.block_len disk.old) (D.size disk.old) (D.holds disk.old) (D.holds disk.new) fault
         (R.remaining reader.old) (R.remaining reader.new) (W.contents writer.old) (W.contents writer.new)) }
     ensures keeps { D.is_sound disk.old → D.is_sound disk.new }
-    ensures block { D.block_len disk.new ≡ D.block_len disk.old }
+    ensures shape { (D.block_len disk.new ≡ D.block_len disk.old) × (D.size disk.new ≡ D.size disk.old) }
 {
     for served in 0..u64::MAX {
         let Some(request) = next_request(reader)? else {
@@ -101,7 +102,9 @@ pub fn transmit<R: Read, W: Write, D: Disk>(
             return Ok(served);
         }
         let payload = read_payload(alloc, reader, request.payload_len())?;
-        let reply = answer(alloc, disk, &request, payload);
+        let Some(reply) = answer(alloc, disk, &request, payload) else {
+            return Err(NbdFault::Stopped);
+        };
         put_reply(writer, request.cookie, &reply)?;
     }
     Err(NbdFault::Read)

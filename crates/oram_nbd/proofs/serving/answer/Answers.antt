@@ -1,10 +1,9 @@
-use Rattle.std.proofs.Common.{◌≡◌, inr, length, None, refl, rules}
+use Rattle.std.proofs.Common.{◌≡◌, None, rules}
 use Rattle.oram_nbd.specs.Serving.{refusal_of}
-use Rattle.oram_nbd.proofs.Served.{partly_none}
+use Rattle.oram_nbd.proofs.Served.{refused_later}
 use Rattle.oram_nbd.proofs.serving.answer.Goals as goal
 
 pub returns-in_default-payload-clause-answer : goal.returns-in_default-payload-clause-answer
-returns-in_default-payload-clause-answer g c = λ bytes h.
-    let r = c.args.request.now in
-    let served : refusal_of (length (g.D.Disk.bytes c.args.disk.now)) r ≡ None = search rules in
-    inr (served, inr refl, partly_none r.command _ _ r.offset r.length bytes _ refl)
+returns-in_default-payload-clause-answer g c = λ text h.
+    let fits : refusal_of (g.D.Disk.size c.args.disk.now) c.args.request.now ≡ None = search rules in
+    refused_later _ _ _ c.blocks-2.ensures.held c.args.request.now text fits
