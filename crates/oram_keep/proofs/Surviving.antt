@@ -1,7 +1,8 @@
 -- Over an honest host what is read back holds the array, whenever the process ends.
-use Rattle.std.proofs.Common.{◌≡◌, ◌⊎◌, ℕ, ◌+◌, ◌*◌, ◌^◌, ◌<◌, ◌≤◌, if◌then◌else◌, Bool, true, List, [], ◌∷◌, ◌++◌, length, Option, Some, None, Ok, Err, refl, sym, ap, ◌∙◌, subst, arith, inl, inr}
+use Rattle.std.proofs.Common.{◌≡◌, ◌⊎◌, ℕ, ◌+◌, ◌*◌, ◌^◌, ◌<◌, ◌≤◌, if◌then◌else◌, Bool, true, false, List, [], ◌∷◌, ◌++◌, length, Option, Some, None, Ok, Err, refl, sym, ap, ◌∙◌, subst, arith, inl, inr}
 use Rattle.std.proofs.Math.Pow.{pow_mono}
-use Rattle.std.specs.List.{FoldsTo}
+use Rattle.std.specs.List.{All, FoldsTo}
+use Rattle.std.proofs.lemmas.List.Elements.{All-head, All-tail}
 use Rattle.oram_geometry.specs.Sizes.{IsDevice, trees_of, depth_of}
 use Rattle.oram_wire.specs.HostMessages.{fetch_body, store_body}
 use Rattle.oram_wire.specs.HostReading.{HasNumbers}
@@ -33,16 +34,19 @@ use Rattle.oram_core.specs.Steps.{Steps, did}
 use Rattle.oram_honest.specs.Honest.{IsHonest}
 use Rattle.oram_honest.specs.Hosting.{GoesOnHosted, Hosts, HostsBy, HostsWork}
 use Rattle.oram_honest.proofs.Honest.{honest_hosts_serve}
-use Rattle.oram_session.specs.Exchanges.{Sending, outcomes_of}
+use Rattle.oram_session.specs.Exchanges.{Runs, Sending, IsSent, event_of, is_stall, outcomes_of, retried}
 use Rattle.oram_session.specs.Honesty.{IsBusy, IsHeld, IsHonestCall, IsHonestLink}
 use Rattle.oram_session.specs.Outcome.{Outcome}
 use Rattle.oram_session.specs.Settled.{IsSettled, outstanding}
+use Rattle.oram_session.specs.Turns.{most_retries}
 use Rattle.oram_session.proofs.Resumed.{reopened, resent}
+use Rattle.oram_session.proofs.Steppings.{retried_is, stalled}
 use Rattle.oram_session.proofs.Honesty.{Next, accepted, call_keeps, first_or, resting, sent_on, unsettled, waits_by}
 use Rattle.oram_keep.specs.Keeping.{Deed, Does, DoesAll, IsCovered, Moment, at, replies_of}
 use Rattle.oram_keep.specs.Keeping.Deed.{Keeps, Sends}
 use Rattle.oram_keep.specs.Asking.{IsAccepted, IsReopened}
-use Rattle.oram_keep.specs.Surviving.{CommandsLast, EndsAmid, IsLasting, IsResuming, KeptCoresGoOn, Recovers}
+use Rattle.oram_keep.specs.Ends.{IsCutMessage}
+use Rattle.oram_keep.specs.Surviving.{CommandsLast, EndsAmid, IsLasting, IsLeft, IsResuming, KeptCoresGoOn, Recovers, ReopenedCoresRecover}
 
 -- a FETCH is read as one
 asks_fetch : (tree leaf : ℕ) → (asked (fetch_body tree leaf)).fetch ≡ true
@@ -78,6 +82,10 @@ retry_honest Idle last host = refl
 retry_honest Waiting last host = refl
 retry_honest Stalling last host = refl
 retry_honest Over last host = refl
+
+call_honest : (o : Outcome) (last : List ℕ) (host after : Host) → IsHonestCall host last o after → IsHonest Waiting last (event_of o) host after
+call_honest (Ok bytes) last host after h = (h.0, h.2, h.3)
+call_honest (Err fault) last host after h = h
 
 module _ {L : Type 0} (calls : L → List ℕ → Outcome → L → Type 0) (host_of : L → Host) (honest : IsHonestLink calls host_of) where
   fetches_leave : (tree leaf : ℕ) (message : List ℕ) → HasNumbers (Fetch tree leaf) → message ≡ fetch_body tree leaf → (outcomes : List Outcome) (l m : L)
@@ -252,12 +260,12 @@ module _ {L : Type 0} (calls : L → List ℕ → Outcome → L → Type 0) (hos
           ]
 
       -- an event that an honest host has no part in, and that brings no reply
-      quiet_step : (s t : State) (l : L) (x : Submission) (array : ℕ → List ℕ) (event : Event) (shown : Shown) → IsBusy v host_of (s, l) x array
-          → Steps v s event shown t → IsHonest (status_in s) s.last event (host_of l) (host_of l) → shown.replies ≡ [] → t.queue ≡ s.queue
-          → IsBusy v host_of (t, l) x array
-      quiet_step s t l x array event shown b step host none queue =
-          let on : GoesOnHosted v s t b.world array event shown (host_of l) =
-          honest_hosts_serve v s t b.world array event shown (host_of l) (host_of l) device b.alive b.serving b.hosts step.moves host in
+      quiet_step : (s t : State) (l m : L) (x : Submission) (array : ℕ → List ℕ) (event : Event) (shown : Shown) → IsBusy v host_of (s, l) x array
+          → Steps v s event shown t → IsHonest (status_in s) s.last event (host_of l) (host_of m) → shown.replies ≡ [] → t.queue ≡ s.queue
+          → IsBusy v host_of (t, m) x array
+      quiet_step s t l m x array event shown b step host none queue =
+          let on : GoesOnHosted v s t b.world array event shown (host_of m) =
+          honest_hosts_serve v s t b.world array event shown (host_of l) (host_of m) device b.alive b.serving b.hosts step.moves host in
           let next : World = world_after v b.world (moved v s b.world event) shown.sends in
           let serves : ServesArray v t next array = elim on.goes_on.served [
             | inl quiet ↦ quiet.1
@@ -271,6 +279,13 @@ module _ {L : Type 0} (calls : L → List ℕ → Outcome → L → Type 0) (hos
             hosts = on.hosts;
           }
 
+      reopened_once : (s t : State) (l : L) (x : Submission) (array : ℕ → List ℕ) → ¬ IsSettled s → IsBusy v host_of (s, l) x array
+          → Runs v s (Reopen ∷ []) [] t → IsBusy v host_of (t, l) x array
+      reopened_once s t l x array going b told =
+          let first = reopened v s told.1 told.0 going told.3 in
+          subst (λ (u : State). IsBusy v host_of (u, l) x array) told.4.1
+          (quiet_step s told.1 l l x array Reopen told.0 b told.3 (reopen_honest (status_in s) s.last (host_of l)) first.0 (ap (λ (u : State). u.queue) first.1))
+
       reopened_busy : (s t : State) (l : L) (x : Submission) (array : ℕ → List ℕ) → ¬ IsSettled s → IsBusy v host_of (s, l) x array
           → IsReopened v s t → IsBusy v host_of (t, l) x array
       reopened_busy s t l x array going b told =
@@ -279,10 +294,95 @@ module _ {L : Type 0} (calls : L → List ℕ → Outcome → L → Type 0) (hos
           let last = told.4 in
           let again = resent v s mid last.1 last.0 going first.1 last.3 in
           let stalled : IsBusy v host_of (mid, l) x array =
-          quiet_step s mid l x array Reopen told.0 b told.3 (reopen_honest (status_in s) s.last (host_of l)) first.0 (ap (λ (u : State). u.queue) first.1) in
+          quiet_step s mid l l x array Reopen told.0 b told.3 (reopen_honest (status_in s) s.last (host_of l)) first.0 (ap (λ (u : State). u.queue) first.1) in
           let queue : last.1.queue ≡ mid.queue = ap (λ (d : Did). d.state.queue) again ∙ sym (ap (λ (u : State). u.queue) first.1) in
           subst (λ (u : State). IsBusy v host_of (u, l) x array) last.4.1
-          (quiet_step mid last.1 l x array Retry last.0 stalled last.3 (retry_honest (status_in mid) mid.last (host_of l)) (ap (λ (d : Did). d.replies) again) queue)
+          (quiet_step mid last.1 l l x array Retry last.0 stalled last.3 (retry_honest (status_in mid) mid.last (host_of l)) (ap (λ (d : Did). d.replies) again) queue)
+
+      -- a message that stalls leaves its command at work
+
+      stall_on : (stalls : List Outcome) (last : Outcome) (message : List ℕ) (s t : State) (l m : L) (replies : List Reply) (x : Submission) (array : ℕ → List ℕ)
+          → status_in s ≡ Waiting → message ≡ s.last → is_stall last ≡ true → All (λ o. is_stall o ≡ true) stalls
+          → FoldsTo (λ a o b. calls a message o b) l (stalls ++ last ∷ []) m → Runs v s (retried stalls ++ event_of last ∷ []) replies t
+          → IsBusy v host_of (s, l) x array → IsBusy v host_of (t, m) x array
+      stall_on [] last message s t l m replies x array waits named stuck all link core b =
+          let is : did core.0 core.1 ≡ _ = stalled v s core.1 last core.0 waits stuck core.3 in
+          let call : calls l s.last last m = subst (λ (k : List ℕ). calls l k last m) named (subst (λ (j : L). calls l message last j) link.2 link.1) in
+          let heard : IsHonest (status_in s) s.last (event_of last) (host_of l) (host_of m) =
+          subst (λ (now : Status). IsHonest now s.last (event_of last) (host_of l) (host_of m)) (sym waits)
+          (call_honest last s.last (host_of l) (host_of m) (honest l m s.last last call)) in
+          subst (λ (u : State). IsBusy v host_of (u, m) x array) core.4.1
+          (quiet_step s core.1 l m x array (event_of last) core.0 b core.3 heard (ap (λ (d : Did). d.replies) is) (ap (λ (d : Did). d.state.queue) is))
+      stall_on (o ∷ stalls) last message s t l m replies x array waits named stuck all link core b =
+          let again = core.4 in
+          let first : did core.0 core.1 ≡ _ = stalled v s core.1 o core.0 waits (All-head (λ (y : Outcome). is_stall y ≡ true) o stalls all) core.3 in
+          let back = retried_is v s core.1 again.1 again.0 waits (ap (λ (d : Did). d.state) first) again.3 in
+          stall_on stalls last message s t link.0 m again.2 x array waits named stuck (All-tail (λ (y : Outcome). is_stall y ≡ true) o stalls all) link.2
+          (subst (λ (u : State). Runs v u (retried stalls ++ event_of last ∷ []) again.2 t) back.1 again.4)
+          (busy_called s x array message named (o ∷ []) l link.0 (link.0, link.1, refl) b)
+
+      -- stalls that were followed by a Retry leave the core as it was
+      retried_same : (stalls : List Outcome) (s t : State) (replies : List Reply) → status_in s ≡ Waiting → All (λ o. is_stall o ≡ true) stalls
+          → Runs v s (retried stalls) replies t → t ≡ s
+      retried_same [] s t replies waits all core = sym core.1
+      retried_same (o ∷ stalls) s t replies waits all core =
+          let again = core.4 in
+          let first : did core.0 core.1 ≡ _ = stalled v s core.1 o core.0 waits (All-head (λ (y : Outcome). is_stall y ≡ true) o stalls all) core.3 in
+          let back = retried_is v s core.1 again.1 again.0 waits (ap (λ (d : Did). d.state) first) again.3 in
+          retried_same stalls s t again.2 waits (All-tail (λ (y : Outcome). is_stall y ≡ true) o stalls all)
+          (subst (λ (u : State). Runs v u (retried stalls) again.2 t) back.1 again.4)
+
+      -- a core lives on: it holds the array, or will
+
+      recovers_by : (s : State) (l : L) (x : Submission) (before array : ℕ → List ℕ) (replies : List Reply) → array ≡ array_after v.device x.command before
+          → Next calls host_of honest v device (s, l) x before replies → Recovers v host_of s l array
+      recovers_by s l x before array replies is (inl more) = inr (x, before, more.0, is)
+      recovers_by s l x before array replies is (inr done) = inl (subst (λ (a : ℕ → List ℕ). IsHeld v host_of (s, l) a) (sym is) done.0)
+
+      lives_told : (s t : State) (l m : L) (y : Sending) (array : ℕ → List ℕ) → IsSent v calls most_retries (s, l) y (t, m)
+          → Recovers v host_of s l array → Recovers v host_of t m array
+      lives_told s t l m y array sent (inl held) = absurd (none_waits s y.message held.settled sent.message)
+      lives_told s t l m y array sent (inr r) = by (is_stall y.last) refl
+        where
+          by : (b : Bool) → is_stall y.last ≡ b → Recovers v host_of t m array
+          by false answered = recovers_by t m r.0 r.1 array y.replies r.3 (sent_on calls host_of honest v device (s, l) (t, m) r.0 r.1 y r.2 sent answered)
+          by true stuck =
+              let k = waits_by s (status_in s) y.message refl sent.message in
+              inr (r.0, r.1, stall_on y.stalls y.last y.message s t l m y.replies r.0 r.1 k.0 k.1 stuck sent.stalls sent.link sent.core r.2, r.3)
+
+      lives : (deeds : List Deed) (m n : Moment L K) (array : ℕ → List ℕ) → DoesAll v calls keeps m deeds n
+          → Recovers v host_of m.core m.link array → Recovers v host_of n.core n.link array
+      lives [] m n array all r = subst (λ (z : Moment L K). Recovers v host_of z.core z.link array) all r
+      lives (Keeps ∷ deeds) m n array all r = lives deeds all.0 n array all.2 (after_keeping m all.0 (λ s l. Recovers v host_of s l array) all.1 r).0
+      lives (Sends y ∷ deeds) m n array all r = lives deeds all.0 n array all.2 (lives_told m.core all.0.core m.link all.0.link y array all.1.1 r)
+
+      lives_cut : (m n : Moment L K) (array : ℕ → List ℕ) → IsCutMessage v calls keeps m n
+          → Recovers v host_of m.core m.link array → Recovers v host_of n.core n.link array
+      lives_cut m n array cut (inl held) = absurd (none_waits m.core cut.last.message held.settled cut.cut.message)
+      lives_cut m n array cut (inr r) = elim cut.cut.core [
+        | inl before ↦
+            let k = waits_by m.core (status_in m.core) cut.last.message refl cut.cut.message in
+            let same : n.core ≡ m.core = retried_same cut.last.stalls m.core n.core [] k.0 cut.cut.stalls before in
+            let busy : IsBusy v host_of (m.core, n.link) r.0 r.1 = busy_called m.core r.0 r.1 cut.last.message k.1 (outcomes_of cut.last) m.link n.link cut.cut.link r.2 in
+            inr (r.0, r.1, subst (λ (s : State). IsBusy v host_of (s, n.link) r.0 r.1) (sym same) busy, r.3)
+        | inr behind ↦
+            let sent : IsSent v calls most_retries (m.core, m.link) cut.last (n.core, n.link) =
+            record { message = cut.cut.message; stalls = cut.cut.stalls; few = cut.cut.few; link = cut.cut.link; core = behind } in
+            lives_told m.core n.core m.link n.link cut.last array sent (inr r)
+      ]
+
+      left_by : (m n : Moment L K) (array : ℕ → List ℕ) → IsLeft v calls keeps m n → Recovers v host_of m.core m.link array
+          → Recovers v host_of n.core n.link array
+      left_by m n array (inl h) r = lives_told h.mid.core n.core h.mid.link n.link h.last array h.tried (lives h.deeds m h.mid array h.done r)
+      left_by m n array (inr (inl h)) r =
+          let on : Recovers v host_of h.mid.core h.mid.link array = lives h.deeds m h.mid array h.done r in
+          subst (λ (l : L). Recovers v host_of n.core l array) (sym h.unmoved) (subst (λ (s : State). Recovers v host_of s h.mid.link array) (sym h.same) on)
+      left_by m n array (inr (inr h)) r =
+          let on : Recovers v host_of h.mid.core h.mid.link array = lives h.deeds m h.mid array h.done r in
+          elim h.left [
+            | inl same ↦ subst (λ (z : Moment L K). Recovers v host_of z.core z.link array) (sym same) on
+            | inr cut ↦ lives_cut h.mid n array cut on
+          ]
 
       accepted_busy : (words : ℕ → ℕ → List ℕ) (s t : State) (l : L) (c : Command) (array : ℕ → List ℕ) (o : Option Refusal) (k : IsAccepted v words s c t)
           → IsHeld v host_of (s, l) array
@@ -310,6 +410,7 @@ module _ {L : Type 0} (calls : L → List ℕ → Outcome → L → Type 0) (hos
                       (ap (λ (z : Reply). z.body) (sym same), given.0, reached.1)
                 ];
             ended = λ deeds kept link e. busy_ends deeds from x array array kept link busy r e;
+            left = λ n h. left_by from n (array_after v.device c array) h (inr (x, array, busy, refl));
           }
 
       going_on : (kept : State) (link : L) (keeper : K) (t : State) (array : ℕ → List ℕ) → Recovers v host_of kept link array → ¬ IsSettled kept
@@ -333,6 +434,7 @@ module _ {L : Type 0} (calls : L → List ℕ → Outcome → L → Type 0) (hos
             ended = λ deeds later link' e.
                 subst (λ (a : ℕ → List ℕ). Recovers v host_of later link' a) (sym r.3)
                 (elim (busy_ends deeds from x before after later link' busy lasts e) [ inl a ↦ a | inr a ↦ a ]);
+            left = λ n h. left_by from n array h (inr (x, before, busy, r.3));
           }
 
 pub commands_last : {L K : Type 0} (calls : L → List ℕ → Outcome → L → Type 0) (keeps : K → List ℕ → Bool → K → Type 0) → CommandsLast calls keeps
@@ -340,3 +442,8 @@ commands_last calls keeps host_of honest v words m c t array device held r k = l
 
 pub kept_cores_go_on : {L K : Type 0} (calls : L → List ℕ → Outcome → L → Type 0) (keeps : K → List ℕ → Bool → K → Type 0) → KeptCoresGoOn calls keeps
 kept_cores_go_on calls keeps host_of honest v kept link keeper t array device r going told = going_on calls host_of honest v device keeps kept link keeper t array r going told
+
+pub reopened_cores_recover : {L : Type 0} (calls : L → List ℕ → Outcome → L → Type 0) → ReopenedCoresRecover calls
+reopened_cores_recover calls host_of honest v kept link t array device (inl held) going told = absurd (going held.settled)
+reopened_cores_recover {L} calls host_of honest v kept link t array device (inr r) going told =
+    inr (r.0, r.1, reopened_once calls host_of honest v device {K = L} (λ _ _ _ _. Unit {0}) kept t link r.0 r.1 going r.2 told, r.3)

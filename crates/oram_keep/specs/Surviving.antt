@@ -9,12 +9,15 @@ use Rattle.oram_run.specs.Serving.{array_after}
 use Rattle.oram_run.specs.Shape.{Shape}
 use Rattle.oram_run.specs.State.{State}
 use Rattle.oram_run.specs.declared.events.Command.{Command}
+use Rattle.oram_run.specs.declared.events.Event.TheVariants.{Reopen}
 use Rattle.oram_run.specs.declared.events.Reply.{Reply}
 use Rattle.oram_run.specs.declared.events.Submission.{Submission}
 use Rattle.oram_session.specs.Honesty.{IsBusy, IsHeld, IsHonestLink}
 use Rattle.oram_session.specs.Outcome.{Outcome}
 use Rattle.oram_session.specs.Settled.{IsSettled, outstanding}
+use Rattle.oram_session.specs.Exchanges.{Runs}
 use Rattle.oram_keep.specs.Asking.{IsAccepted, IsReopened}
+use Rattle.oram_keep.specs.Ends.{HasRunOut, HasStalled, IsUnkept}
 use Rattle.oram_keep.specs.Keeping.{Deed, Does, DoesAll, IsCovered, Moment, at, replies_of}
 use Rattle.oram_keep.specs.Keeping.Deed.{Keeps, Sends}
 
@@ -39,8 +42,13 @@ module _ (v : Shape) {L K : Type 0} (calls : L → List ℕ → Outcome → L �
   EndsAmid m (deed ∷ deeds) kept link =
       EndsIn m deed kept link ⊎ ((n : Moment L K) × Does v calls keeps m deed n × EndsAmid n deeds kept link)
 
+  -- The process goes on, but its work ended before the reply: a message stalled, the keeper failed, or memory was refused.
+  abbrev pub IsLeft : Moment L K → Moment L K → Type 0
+  IsLeft m n = HasStalled v calls keeps m n ⊎ (IsUnkept v calls keeps m n.core n.link n.keeper ⊎ HasRunOut v calls keeps m n)
+
   -- A command that is accepted while the device holds an array: once it has its reply, that is the array's, and the device holds
-  -- the array after it, and so does what is read back. Where the process ends before, what is read back holds the array before it or after it.
+  -- the array after it, and so does what is read back. Where the process ends before, what is read back holds the array before it or after
+  -- it. Where it goes on without the reply, the device holds the array after it once what waits is carried out.
   pub record IsLasting (host_of : L → Host) (words : ℕ → ℕ → List ℕ) (m : Moment L K) (c : Command) (t : State) (array : ℕ → List ℕ) : Type 0 where
     pub done : (deeds : List Deed) (n : Moment L K) (reply : Reply)
         → DoesAll v calls keeps (at t m.kept m.link m.keeper) (Keeps ∷ deeds) n → replies_of deeds ≡ reply ∷ []
@@ -48,14 +56,16 @@ module _ (v : Shape) {L K : Type 0} (calls : L → List ℕ → Outcome → L �
         × IsHeld v host_of (n.core, n.link) (array_after v.device c array) × Recovers v host_of n.kept n.link (array_after v.device c array)
     pub ended : (deeds : List Deed) (kept : State) (link : L) → EndsAmid (at t m.kept m.link m.keeper) deeds kept link
         → Recovers v host_of kept link array ⊎ Recovers v host_of kept link (array_after v.device c array)
+    pub left : (n : Moment L K) → IsLeft (at t m.kept m.link m.keeper) n → Recovers v host_of n.core n.link (array_after v.device c array)
 
   -- A core that was read back and has a command at work: once that is carried out, the device holds the array, and so does what is
-  -- read back, then and wherever the process ends before.
+  -- read back, then and wherever the process ends before; and so will the device where the process goes on without.
   pub record IsResuming (host_of : L → Host) (kept : State) (link : L) (keeper : K) (t : State) (array : ℕ → List ℕ) : Type 0 where
     pub done : (deeds : List Deed) (n : Moment L K) → DoesAll v calls keeps (at t kept link keeper) (Keeps ∷ deeds) n → IsSettled n.core
         → IsHeld v host_of (n.core, n.link) array × Recovers v host_of n.kept n.link array
     pub ended : (deeds : List Deed) (later : State) (link' : L) → EndsAmid (at t kept link keeper) deeds later link'
         → Recovers v host_of later link' array
+    pub left : (n : Moment L K) → IsLeft (at t kept link keeper) n → Recovers v host_of n.core n.link array
 
 -- over an honest link
 
@@ -70,3 +80,9 @@ KeptCoresGoOn {L} {K} calls keeps = (host_of : L → Host) → IsHonestLink call
     → (v : Shape) (kept : State) (link : L) (keeper : K) (t : State) (array : ℕ → List ℕ) → IsDevice v.device
     → Recovers v host_of kept link array → ¬ IsSettled kept → IsReopened v kept t
     → IsResuming v calls keeps host_of kept link keeper t array
+
+-- A core that knows of the reopening alone still recovers the array.
+abbrev pub ReopenedCoresRecover : {L : Type 0} → (L → List ℕ → Outcome → L → Type 0) → Type 0
+ReopenedCoresRecover {L} calls = (host_of : L → Host) → IsHonestLink calls host_of
+    → (v : Shape) (kept : State) (link : L) (t : State) (array : ℕ → List ℕ) → IsDevice v.device
+    → Recovers v host_of kept link array → ¬ IsSettled kept → Runs v kept (Reopen ∷ []) [] t → Recovers v host_of t link array

@@ -68,6 +68,7 @@ pub(crate) fn exchange_all<S: Sealer, L: Link, K: Keeper>(
         × (length all ≡ length core.old.state.queue) × ((early : List Reply) × (all ≡ early ++ r.replies.items))) }
     ensures settled { OnOk result (IsSettled core.new.state) }
     ensures replied { IfOk result (λ r. 0 < length r.replies.items) }
+    ensures block { IfOk result (λ r. All (λ reply. IsBodyOf core.old.device reply.body) r.replies.items) }
     ensures stalled { let v = shape_of S.overhead S.sealing S.opening core.old in
         IsErrOf result KeepFault.Stalled → (kept : State) → HasStalledAt v L.calls K.keeps IsSame
         core.old.state link.old keeper.old core.new.state link.new keeper.new kept }

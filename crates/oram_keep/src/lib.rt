@@ -21,5 +21,5 @@ mod testing;
 pub use asking::{Asked, ask};
 pub use faults::KeepFault;
 pub use keeper::{Keeper, Unkept};
-pub use law::{commands_last, kept_cores_go_on};
+pub use law::{commands_last, kept_cores_go_on, reopened_cores_recover};
 pub use resuming::resume;

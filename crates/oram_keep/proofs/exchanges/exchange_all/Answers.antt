@@ -1,5 +1,7 @@
 use Rattle.std.proofs.Common.{◌≡◌, ℕ, ◌<◌, ◌+◌, ◌-◌, [], ◌∷◌, length, take, append-nil, length-append, Err, refl, sym, ap, ◌∙◌, subst, arith, inl, inr}
+use Rattle.std.proofs.lemmas.List.Elements.{All-nil}
 use Rattle.std.proofs.lemmas.Result.{err_from_is_err_and}
+use Rattle.std.specs.List.{All}
 use Rattle.oram_geometry.specs.declared.Sizes.{Sizes}
 use Rattle.oram_run.specs.Progress.Status.{Waiting}
 use Rattle.oram_run.specs.Shape.{Shape}
@@ -10,7 +12,7 @@ use Rattle.oram_core.specs.Steps.{Heard}
 use Rattle.oram_session.specs.Exchanges.{IsCutOff, IsSent}
 use Rattle.oram_session.specs.Settled.{answers_left}
 use Rattle.oram_session.specs.Turns.{most_retries}
-use Rattle.oram_session.proofs.Resumed.{heard_going, some_at_work}
+use Rattle.oram_session.proofs.Resumed.{HasBody, heard_bodies, heard_going, some_at_work}
 use Rattle.oram_session.proofs.Steppings.{left_heard, same_shape, same_trans}
 use Rattle.oram_keep.specs.Ends.{HasRunOut}
 use Rattle.oram_keep.specs.Keeping.{at, replies_of}
@@ -57,6 +59,7 @@ loop-message-init g c =
     record {
       kept = (refl, refl);
       going = inl (c.requires.waits, c.requires.sends);
+      block = subst (All (HasBody c.args.core.now.device)) (sym c.requires.none) (All-nil (HasBody c.args.core.now.device));
       so_far = λ kept. begun v g.L.Link.calls g.K.Keeper.keeps c.args.core.now.state c.args.link.now c.args.keeper.now kept c.args.reaction.replies.items c.keep.new.keeper c.requires.none (w.0, w.1, w.2);
     }
 
@@ -168,6 +171,7 @@ loop-message-preserved g c =
     record {
       kept = kept;
       going = heard_going u now.state d waits c.in_ok-reaction.ensures.heard;
+      block = subst (λ (e : Sizes). All (HasBody e) d.replies) c.loop-message.invariant.kept.0 (heard_bodies u now.state d c.in_ok-reaction.ensures.heard);
       so_far = λ before.
           let so = c.loop-message.invariant.so_far before in
           elim c.if-is_to_be_kept.branch [
