@@ -1,8 +1,7 @@
 //! The host's end of a link: request frames from a reader, answer frames to a writer, and a bucket server in between.
 //!
 //! A [`BucketServer`] answers one request after the other, as `oram_host`'s `Server` does in memory. [`host_serve`] reads its
-//! requests and writes its answers, to the end of the input. [`put_body`] and [`ServeFault`] are made to serve a client's sessions too, which
-//! have texts of their own as yet.
+//! requests and writes its answers, to the end of the input. [`put_body`] and [`ServeFault`] serve a client's sessions too.
 #![tactic(auto)]
 
 // Calls once more where one allocation was refused, so that the tests hold whichever it is.

@@ -5,8 +5,6 @@ pub mod Steppings
 pub mod Exchanged
 pub mod Resumed
 pub mod Turned
-pub mod Answered
-pub mod Hosted
 pub mod Served
 pub mod Honesty
 mod Rows

@@ -9,7 +9,7 @@ use Rattle.oram_session.specs.Exchanges.{Sending, is_stall, events_of}
 use Rattle.oram_session.specs.Links.{Faulty, is_due}
 use Rattle.oram_session.specs.Outcome.{faults_after}
 use Rattle.oram_session.specs.Requests.{told}
-use Rattle.oram_session.specs.Answered.{frames_of}
+use Rattle.oram_answering.specs.Answered.{frames_of}
 use Rattle.oram_session.specs.Sessions.{reply_body}
 use Rattle.oram_session.specs.Tapes.{list_words, chacha_words}
 use Rattle.oram_session.specs.Turns.{Turn}

@@ -7,7 +7,7 @@ use Rattle.oram_run.specs.State.{State}
 use Rattle.oram_session.specs.Outcome.{Outcome}
 use Rattle.oram_session.specs.Sessions.{reply_body, reply_frame, HasServed}
 use Rattle.oram_session.specs.Turns.{Turn, IsTurn}
-use Rattle.oram_session.proofs.Answered.{Answered, answered_more, answered_then}
+use Rattle.oram_answering.proofs.Answered.{Answered, answered_more, answered_then}
 
 module _ (v : Shape) {L : Type 0} (calls : L → List ℕ → Outcome → L → Type 0) (words : ℕ → ℕ → List ℕ) (session : ℕ) where
   -- so many turns, and nothing more

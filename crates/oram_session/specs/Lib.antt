@@ -1,5 +1,4 @@
 pub mod Outcome
-pub mod Faults
 pub mod Links
 pub mod Streams
 pub mod Loopback
@@ -10,7 +9,5 @@ pub mod Settled
 pub mod Exchanges
 pub mod Turns
 pub mod Resuming
-pub mod Answered
 pub mod Sessions
-pub mod Answering
 pub mod Honesty

@@ -5,12 +5,12 @@ use Rattle.oram_wire.specs.SessionMessages.{session_reply_body}
 use Rattle.oram_wire.specs.declared.TheConstants.{LONGEST_BODY}
 use Rattle.oram_run.specs.Shape.{Shape}
 use Rattle.oram_run.specs.State.{State}
-use Rattle.oram_session.specs.Answered.{HasAnswered}
+use Rattle.oram_answering.specs.Answered.{HasAnswered}
 use Rattle.oram_session.specs.Outcome.{Outcome}
 use Rattle.oram_session.specs.Settled.{IsSettled}
 use Rattle.oram_session.specs.Turns.{Turn, IsTurn, IsCutTurn}
-use Rattle.oram_session.specs.declared.faults.ServeFault.{ServeFault}
-use Rattle.oram_session.specs.declared.faults.ServeFault.TheVariants.{Read, Write, Frame, Truncated, Stalled, OutOfMemory}
+use Rattle.oram_answering.specs.declared.faults.ServeFault.{ServeFault}
+use Rattle.oram_answering.specs.declared.faults.ServeFault.TheVariants.{Read, Write, Frame, Truncated, Stalled, OutOfMemory}
 
 -- a turn's reply as bytes, and as a frame
 abbrev pub reply_body : Turn → List ℕ

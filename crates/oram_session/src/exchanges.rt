@@ -13,8 +13,8 @@ ghost use Rattle.oram_session.specs.Settled.{IsSettled, IsUnderWay, IsBodyOf};
 ghost use Rattle.oram_session.specs.Exchanges.{Sending, IsSent, IsCutOff, IsAnswered, IsGivenUp, AllSent, AllSentFrom, event_of, retries_after};
 ghost use Rattle.oram_session.specs.Turns.{most_retries};
 
-use crate::faults::ServeFault;
 use crate::link::Link;
+use oram_answering::ServeFault;
 use oram_bucket::Sealer;
 use oram_bytes::Bytes;
 use oram_core::{Core, Event, Note, Reaction, Reply};

@@ -19,9 +19,7 @@ macro_rules! retried {
     };
 }
 
-mod answering;
 mod exchanges;
-mod faults;
 mod formatting;
 mod law;
 mod link;
@@ -34,9 +32,7 @@ mod tapes;
 #[cfg(test)]
 mod testing;
 
-pub use answering::host_serve;
 pub use exchanges::{MOST_RETRIES, exchange};
-pub use faults::ServeFault;
 pub use formatting::format_device;
 pub use law::{
     direct_links_are_honest, faulty_links_are_honest, new_devices_hold_zeros,
@@ -44,6 +40,7 @@ pub use law::{
 };
 pub use link::{Link, LinkFault};
 pub use links::{Direct, FaultLink, LoopLink, StreamLink};
+pub use oram_answering::{ServeFault, host_serve};
 pub use resuming::{is_settled, reopen, resume};
 pub use serving::{serve, submit};
 pub use tape::Tape;

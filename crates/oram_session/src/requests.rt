@@ -4,7 +4,7 @@ ghost use Rattle.oram_session.specs.Requests.{IsRequest, IsNoRequest, command_of
 ghost use Rattle.oram_wire.specs.declared.session_messages.SessionRequest.{SessionRequest};
 ghost use Rattle.oram_wire.specs.SessionReading.{HasAddress};
 
-use crate::faults::ServeFault;
+use oram_answering::ServeFault;
 use oram_core::{Command, ReplyBody};
 use oram_wire::{DEVICE_FAILED, SessionReply, SessionRequest, WireFault};
 use std::alloc::Global;

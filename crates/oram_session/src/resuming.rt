@@ -11,8 +11,8 @@ ghost use Rattle.oram_session.specs.Settled.{IsSettled, IsUnderWay, is_settled_b
 ghost use Rattle.oram_session.specs.Resuming.{HasGoneOn, HasStalled, IsCutShort};
 
 use crate::exchanges::{MOST_RETRIES, exchange_all};
-use crate::faults::ServeFault;
 use crate::link::Link;
+use oram_answering::ServeFault;
 use oram_bucket::Sealer;
 use oram_core::{Core, Event, Reaction};
 use std::alloc::{AllocError, Global};

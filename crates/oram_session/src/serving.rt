@@ -15,12 +15,11 @@ ghost use Rattle.oram_session.specs.Settled.{IsSettled, IsBegun};
 ghost use Rattle.oram_session.specs.Turns.{Turn, IsTurn, IsStuck, IsCutTurn};
 ghost use Rattle.oram_session.specs.Sessions.{HasServed, IsLeft, LeavesCore, reply_frame};
 
-use crate::answering::put_body;
 use crate::exchanges::carry_out;
-use crate::faults::ServeFault;
 use crate::link::Link;
 use crate::requests::{command_in, told};
 use crate::tape::Tape;
+use oram_answering::{ServeFault, put_body};
 use oram_bucket::Sealer;
 use oram_bytes::Words;
 use oram_core::{Command, Core, Event, Note, Reaction};

@@ -1,15 +1,14 @@
 //! A body sent as one frame, and the body of a frame that is read.
-ghost use Rattle.std.specs.Prelude.{◌≡◌, ◌<◌, ℕ, length, take, IfOk, IfErr, OnOk, OnErr};
+ghost use Rattle.std.specs.Prelude.{◌≡◌, IfOk, IfErr, OnOk};
 ghost use Rattle.std.specs.Io.KnownBytes.{Appends};
 ghost use Rattle.oram_wire.specs.FrameStream.{IsBody, frame};
-ghost use Rattle.oram_wire.specs.Streaming.{TakesPart};
 ghost use Rattle.oram_session.specs.Outcome.{outcome_of};
 ghost use Rattle.oram_session.specs.Streams.{FailsToSend, Receives};
 
 use crate::link::LinkFault;
-use oram_wire::{FrameFault, LONGEST_BODY, WriteFault, next_frame};
+use oram_wire::{FrameFault, LONGEST_BODY, WriteFault, next_frame, write};
 use std::alloc::{AllocError, Global};
-use std::io::{ErrorKind, Read, Write};
+use std::io::{Read, Write};
 
 /// A body as a frame, in one piece.
 fn framed(alloc: Global, body: &[u8]) -> Result<Vec<u8>, AllocError>
@@ -21,32 +20,6 @@ fn framed(alloc: Global, body: &[u8]) -> Result<Vec<u8>, AllocError>
     whole.extend_from_slice(&head)?;
     whole.extend_from_slice(body)?;
     Ok(whole)
-}
-
-/// Writes all of the bytes, at once where the writer takes them so; or a beginning of them.
-fn write<W: Write>(writer: &mut W, bytes: &[u8]) -> Result<(), WriteFault>
-    requires { 0 < length bytes.now }
-    ensures ok { OnOk result (Appends (W.contents writer.old) (W.contents writer.new) bytes.now) }
-    ensures err { OnErr result (TakesPart (W.contents writer.old) (W.contents writer.new) bytes.now) }
-{
-    let mut written = 0;
-    for _ in 0..u64::MAX {
-        match writer.write(&bytes[written..]) {
-            Ok(0) => return Err(WriteFault),
-            Ok(count) => {
-                written += count;
-                if written == bytes.len() {
-                    return Ok(());
-                }
-            }
-            Err(error) => {
-                if error.kind() != ErrorKind::Interrupted {
-                    return Err(WriteFault);
-                }
-            }
-        }
-    }
-    Err(WriteFault)
 }
 
 /// Sends a body as one frame, written at once, and lets nothing of it wait in a buffer.

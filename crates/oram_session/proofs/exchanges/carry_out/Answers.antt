@@ -4,7 +4,7 @@ use Rattle.std.proofs.lemmas.Result.{err_from_is_err_and}
 use Rattle.oram_core.specs.Core.{shape_of}
 use Rattle.oram_session.specs.Exchanges.{IsSent, IsCutOff, IsGivenUp}
 use Rattle.oram_session.specs.Turns.{most_retries}
-use Rattle.oram_session.specs.declared.faults.ServeFault.TheVariants.{Stalled, OutOfMemory}
+use Rattle.oram_answering.specs.declared.faults.ServeFault.TheVariants.{Stalled, OutOfMemory}
 use Rattle.oram_session.proofs.Resumed.{HasBody, all_alike, only_one, retries_same}
 use Rattle.oram_session.proofs.exchanges.carry_out.Goals as goal
 

@@ -11,7 +11,7 @@ use Rattle.oram_core.specs.Doing.{done}
 use Rattle.oram_session.specs.Exchanges.{IsSent, IsCutOff, IsGivenUp}
 use Rattle.oram_session.specs.Settled.{answers_left}
 use Rattle.oram_session.specs.Turns.{most_retries}
-use Rattle.oram_session.specs.declared.faults.ServeFault.TheVariants.{Stalled, OutOfMemory}
+use Rattle.oram_answering.specs.declared.faults.ServeFault.TheVariants.{Stalled, OutOfMemory}
 use Rattle.oram_session.proofs.Resumed.{HasBody, heard_bodies, heard_going, replied_last, replied_more, replies_of, retries_later, sent_more, some_at_work}
 use Rattle.oram_session.proofs.Steppings.{left_heard, same_shape, same_trans}
 use Rattle.oram_session.proofs.exchanges.exchange_all.Goals as goal

@@ -4,7 +4,7 @@ use Rattle.oram_run.specs.Shape.{Shape}
 use Rattle.oram_session.specs.Exchanges.{IsSent, IsCutOff, AllSentFrom}
 use Rattle.oram_session.specs.Resuming.{first_retries, retries_now}
 use Rattle.oram_session.specs.Turns.{most_retries}
-use Rattle.oram_session.specs.declared.faults.ServeFault.TheVariants.{Stalled, OutOfMemory}
+use Rattle.oram_answering.specs.declared.faults.ServeFault.TheVariants.{Stalled, OutOfMemory}
 use Rattle.oram_session.proofs.Steppings.{same_shape}
 use Rattle.oram_session.proofs.Turned.{err_is}
 use Rattle.oram_session.proofs.resuming.resume.Goals as goal

@@ -9,8 +9,8 @@ use Rattle.oram_run.specs.Shape.{Shape}
 use Rattle.oram_core.specs.Core.{shape_of}
 use Rattle.oram_session.specs.Sessions.{reply_frame}
 use Rattle.oram_session.specs.Turns.{IsTurn, IsStuck, IsCutTurn}
-use Rattle.oram_session.specs.declared.faults.ServeFault.TheVariants.{Write, Stalled, OutOfMemory}
-use Rattle.oram_session.proofs.Answered.{was_read, was_frame, was_memory}
+use Rattle.oram_answering.specs.declared.faults.ServeFault.TheVariants.{Write, Stalled, OutOfMemory}
+use Rattle.oram_answering.proofs.Answered.{was_read, was_frame, was_memory}
 use Rattle.oram_session.proofs.Served.{served_more, served_then, under, same_pair}
 use Rattle.oram_session.proofs.Steppings.{same_shape, same_trans}
 use Rattle.oram_session.proofs.Turned.{err_is}

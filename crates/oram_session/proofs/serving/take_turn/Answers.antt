@@ -8,7 +8,7 @@ use Rattle.oram_run.specs.Events.{refusal_number}
 use Rattle.oram_session.specs.Exchanges.{AllSent, IsSent, IsCutOff}
 use Rattle.oram_session.specs.Requests.{told}
 use Rattle.oram_session.specs.Turns.{most_retries}
-use Rattle.oram_session.specs.declared.faults.ServeFault.TheVariants.{Stalled, OutOfMemory}
+use Rattle.oram_answering.specs.declared.faults.ServeFault.TheVariants.{Stalled, OutOfMemory}
 use Rattle.oram_session.proofs.Steppings.{same_shape}
 use Rattle.oram_session.proofs.Turned.{err_is, bad_turn, asked_so, refused_turn, accepted_turn, at_work}
 use Rattle.oram_session.proofs.serving.take_turn.Goals as goal

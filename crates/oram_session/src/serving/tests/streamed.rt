@@ -1,7 +1,7 @@
 //! A session over a link of a reader and a writer, with a host that is served at its other end.
 use super::*;
-use crate::answering::host_serve;
 use crate::links::StreamLink;
+use oram_answering::host_serve;
 
 /// Serves the requests over a link that is answered so, and puts what it asks behind what is there.
 fn asks(
