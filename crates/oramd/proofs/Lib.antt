@@ -1,6 +1,4 @@
 mod Looped
-mod Matches
-mod Numbers
-mod Ports
+mod Program
+mod Proxies
 mod Rows
-mod TableKeys

@@ -1,5 +1,5 @@
 -- What is answered of frames, by how the serving of them ended.
-use Rattle.std.proofs.Common.{◌≡◌, ◌∙◌, ◌<◌, ◌⊎◌, ℕ, List, [], length, Option, Some, Result, Ok, Err, refl, sym, ap, ap₂, subst, inl, inr}
+use Rattle.std.proofs.Common.{◌≡◌, ◌∙◌, ◌<◌, ◌⊎◌, ℕ, List, [], length, Some, Result, Ok, Err, refl, sym, ap, ap₂, subst, inl, inr}
 use Rattle.std.specs.Prelude.{IfOk, IsErrOf, OnOk, replicate}
 use Rattle.std.specs.Io.KnownBytes.{IsAtEnd}
 use Rattle.oram_geometry.specs.declared.Sizes.{Sizes}
@@ -11,8 +11,8 @@ use Rattle.oram_session.specs.Outcome.{Outcome}
 use Rattle.oram_session.specs.Sessions.{HasServed}
 use Rattle.oram_session.specs.Tapes.{chacha_words}
 use Rattle.oram_session.specs.Turns.{Turn}
-use Rattle.oram_session.specs.declared.faults.ServeFault.{ServeFault}
-use Rattle.oram_session.specs.declared.faults.ServeFault.TheVariants as serve
+use Rattle.oram_answering.specs.declared.faults.ServeFault.{ServeFault}
+use Rattle.oram_answering.specs.declared.faults.ServeFault.TheVariants as serve
 use Rattle.oramd.specs.Formatting.{IsFormatted}
 use Rattle.oramd.specs.Looping.{HasAnswered, after_frames, loop_shape, loop_sizes, loop_words}
 use Rattle.oramd.specs.declared.faults.Fault.{Fault}

@@ -1,10 +1,9 @@
 -- The command line, by clap's own account of it.
 use Rattle.std.specs.Prelude.{ℕ, List, [], ◌∷◌, map, true, false, Option, Some, None, codes, if◌then◌else◌, option_and_then, string_bytes}
 use Rattle.std.specs.Str.{bytes_eq}
-use Rattle.clap.specs.Walk.{Row, Text, first_of}
-use Rattle.clap.specs.Simple.{App, Shape, new_rule, new_shape, subcommand_of}
-use Rattle.clap.specs.Kinds.{Kinds}
-use Rattle.clap.specs.Faults.{fault_of}
+use Rattle.clap.specs.Walk.{Text}
+use Rattle.clap.specs.Simple.{App, new_shape}
+use Rattle.oram_edge.specs.Words.{named_in, word_taker}
 use Rattle.oramd.specs.declared.command_line.Role.{Role}
 use Rattle.oramd.specs.declared.command_line.Role.TheVariants.{Host, Format, Proxy}
 use Rattle.oramd.specs.declared.command_line.Words.{Words}
@@ -19,10 +18,6 @@ pub data Request : Type 0 where
 abbrev pub shown : Words → Request
 shown (words.Run role file) = run role (string_bytes file)
 shown (words.Loop digits) = loop (string_bytes digits)
-
--- a subcommand that takes one word
-abbrev pub word_taker : Text → Shape
-word_taker name = record (new_shape name) { rules = record (new_rule (codes "word")) { required = true } ∷ [] }
 
 -- the command line as clap is told of it: one of four subcommands, with its word
 abbrev pub program : App
@@ -40,15 +35,6 @@ request_of name word =
     else if bytes_eq name (codes "loop") then Some (loop word)
     else None
 
--- what the matches of a subcommand ask for
-abbrev pub request_by : Text × List Row → Option Request
-request_by matches = option_and_then (request_of matches.0) (first_of (codes "word") matches.1)
-
--- nothing where clap finds a fault
-abbrev pub unless_faulty : Kinds → Option Request → Option Request
-unless_faulty [] request = request
-unless_faulty (fault ∷ more) request = None
-
 -- what clap's matches of the words ask for
 abbrev pub request_in : List Text → Option Request
-request_in words = unless_faulty (fault_of program words) (option_and_then request_by (subcommand_of program words))
+request_in words = option_and_then (λ (named : Text × Text). request_of named.0 named.1) (named_in program words)

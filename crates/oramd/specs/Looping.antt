@@ -1,6 +1,5 @@
 -- Session frames that are answered by a device of their own.
-use Rattle.std.specs.Prelude.{◌≡◌, ◌⊎◌, ℕ, List, [], length, Option, Some, Result, Ok, Err, replicate}
-use Rattle.std.specs.Io.KnownBytes.{IsAtEnd}
+use Rattle.std.specs.Prelude.{◌≡◌, ◌⊎◌, ℕ, List, [], Some, Result, Ok, Err, replicate}
 use Rattle.oram_geometry.specs.declared.Sizes.{Sizes}
 use Rattle.oram_geometry.specs.Sizes.{trees_of}
 use Rattle.oram_run.specs.Shape.{Shape}
@@ -9,8 +8,8 @@ use Rattle.oram_session.specs.Outcome.{Outcome}
 use Rattle.oram_session.specs.Sessions.{HasServed}
 use Rattle.oram_session.specs.Tapes.{chacha_words}
 use Rattle.oram_session.specs.Turns.{Turn}
-use Rattle.oram_session.specs.declared.faults.ServeFault.{ServeFault}
-use Rattle.oram_session.specs.declared.faults.ServeFault.TheVariants as serve
+use Rattle.oram_answering.specs.declared.faults.ServeFault.{ServeFault}
+use Rattle.oram_answering.specs.declared.faults.ServeFault.TheVariants as serve
 use Rattle.oram_tree.specs.declared.faults.FormatFault.{FormatFault}
 use Rattle.oramd.specs.Formatting.{IsFormatted}
 use Rattle.oramd.specs.Telling.{format_fault}

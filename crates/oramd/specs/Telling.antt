@@ -1,6 +1,10 @@
 -- What faults of the libraries are to the program.
-use Rattle.std.specs.Prelude.{◌≡◌, ℕ, Result, Ok, Err}
+use Rattle.std.specs.Prelude.{Result, Ok, Err}
 use Rattle.std.specs.Option.{option_map_or}
+use Rattle.oram_edge.specs.declared.files.FileFault.{FileFault}
+use Rattle.oram_edge.specs.declared.files.FileFault.TheVariants as file
+use Rattle.oram_edge.specs.declared.sockets.SocketFault.{SocketFault}
+use Rattle.oram_edge.specs.declared.sockets.SocketFault.TheVariants as socket
 use Rattle.oram_geometry.specs.declared.Sizes.{Sizes}
 use Rattle.oram_geometry.specs.declared.ShapeFault.{ShapeFault}
 use Rattle.oram_geometry.specs.Sizes as sizes
@@ -10,7 +14,15 @@ use Rattle.oram_tree.specs.declared.faults.FormatFault.TheVariants as format
 use Rattle.oram_state.specs.Reading as state
 use Rattle.oram_state.specs.declared.fault.StateFault.{StateFault}
 use Rattle.oramd.specs.declared.faults.Fault.{Fault}
-use Rattle.oramd.specs.declared.faults.Fault.TheVariants.{HostRefused, OutOfMemory, Shape, Socket, State}
+use Rattle.oramd.specs.declared.faults.Fault.TheVariants.{File, HostRefused, OutOfMemory, Shape, Socket, State}
+
+abbrev pub file_fault : FileFault → Fault
+file_fault (file.File name) = File name
+file_fault file.OutOfMemory = OutOfMemory
+
+abbrev pub socket_fault : SocketFault → Fault
+socket_fault socket.Failed = Socket
+socket_fault socket.OutOfMemory = OutOfMemory
 
 -- numbers that make no device are told by the number of their fault
 abbrev pub shape_fault : ShapeFault → Fault

@@ -1,15 +1,12 @@
 //! The command line.
 
-ghost use Rattle.std.specs.Prelude.{◌≡◌, ◌≢◌, None, Some, false, IfOk, IsErrOf};
+ghost use Rattle.std.specs.Prelude.{◌≡◌, None, Some, IfOk, IsErrOf};
 ghost use Rattle.clap.specs.Walk.{texts};
-ghost use Rattle.clap.specs.Words.{app_of, kind_of, shape_of};
-ghost use Rattle.clap.specs.declared.builder.command.Command.TheViews.{out-Command as fields_of};
+ghost use Rattle.clap.specs.Words.{app_of};
 ghost use Rattle.oramd.specs.CommandLine.{program, request_in, request_of, shown};
-ghost use Rattle.oramd.specs.CommandLine as spec;
 
-use crate::input::InputFault;
-use clap::error::ErrorKind;
-use clap::{Arg, Command, Error};
+use clap::Command;
+use oram_edge::{InputFault, read_named, word_taker};
 use std::alloc::{AllocError, Global};
 
 /// What the program does with its settings.
@@ -32,14 +29,6 @@ pub enum Words {
     Loop(String),
 }
 
-/// A subcommand that takes one word.
-fn word_taker<'a>(alloc: Global, name: &'a str) -> Result<Command<'a>, AllocError>
-    ensures local { IfOk result (λ c. (fields_of c).has_globals ≡ false) }
-    ensures shape { IfOk result (λ c. shape_of c ≡ spec.word_taker name.entry.now) }
-{
-    Command::new(alloc, name).arg(Arg::new(alloc, "word").required(true))
-}
-
 /// The command line as clap is told of it.
 fn command<'a>(alloc: Global) -> Result<Command<'a>, AllocError>
     ensures { IfOk result (λ c. app_of c ≡ program) }
@@ -50,17 +39,6 @@ fn command<'a>(alloc: Global) -> Result<Command<'a>, AllocError>
         .subcommand(word_taker(alloc, "format")?)?
         .subcommand(word_taker(alloc, "proxy")?)?
         .subcommand(word_taker(alloc, "loop")?)
-}
-
-/// What an error of clap's is to the program.
-fn input_fault(error: &Error) -> InputFault
-    ensures { result ≡ InputFault.Bad → kind_of error.now ≢ ErrorKind.OutOfMemory }
-{
-    if error.kind() == ErrorKind::OutOfMemory {
-        InputFault::OutOfMemory
-    } else {
-        InputFault::Bad
-    }
 }
 
 /// What a subcommand asks for, with its word.
@@ -85,16 +63,7 @@ pub fn read_words(alloc: Global, words: &[&str]) -> Result<Words, InputFault>
     // Bad comes only where they ask for nothing.
     ensures bad { IsErrOf result InputFault.Bad → request_in (texts words.now) ≡ None }
 {
-    let matches = match command(alloc)?.try_get_matches_from(words) {
-        Ok(matches) => matches,
-        Err(error) => return Err(input_fault(&error)),
-    };
-    let Some((name, inner)) = matches.subcommand() else {
-        return Err(InputFault::Bad);
-    };
-    let Some(word) = inner.get_str("word") else {
-        return Err(InputFault::Bad);
-    };
+    let (name, word) = read_named(command(alloc)?, words)?;
     asked(alloc, name, word)
 }
 

@@ -6,7 +6,7 @@ ghost use Rattle.oram_host.specs.Transfers.{Begins};
 ghost use Rattle.oramd.specs.Faults.{IsFileFault, line_of, message_of, status_of};
 ghost use Rattle.oramd.specs.declared.faults.Fault.TheVariants.{OutOfMemory};
 
-use crate::writing::{put, put_both, put_number};
+use oram_edge::{FileFault, SocketFault, put, put_both, put_number};
 use oram_geometry::ShapeFault;
 use oram_state::StateFault;
 use oram_tree::FormatFault;
@@ -47,6 +47,32 @@ impl From<AllocError> for Fault {
 
     fn from(_error: AllocError) -> Fault {
         Fault::OutOfMemory
+    }
+}
+
+impl From<FileFault> for Fault {
+    ghost use Rattle.oramd.specs.Telling.{file_fault};
+
+    ghost from_gives = { λ why fault. fault ≡ file_fault why };
+
+    fn from(why: FileFault) -> Fault {
+        match why {
+            FileFault::File(name) => Fault::File(name),
+            FileFault::OutOfMemory => Fault::OutOfMemory,
+        }
+    }
+}
+
+impl From<SocketFault> for Fault {
+    ghost use Rattle.oramd.specs.Telling.{socket_fault};
+
+    ghost from_gives = { λ why fault. fault ≡ socket_fault why };
+
+    fn from(why: SocketFault) -> Fault {
+        match why {
+            SocketFault::Failed => Fault::Socket,
+            SocketFault::OutOfMemory => Fault::OutOfMemory,
+        }
     }
 }
 

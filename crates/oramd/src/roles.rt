@@ -5,15 +5,16 @@ ghost use Rattle.oram_core.specs.Core.{IsSameDevice};
 use crate::command_line::Role;
 use crate::endings::{after_serving, ending};
 use crate::faults::Fault;
-use crate::files::{KeptFile, bytes_in, call_fault};
+use crate::files::{load_image, save_image};
 use crate::formatting::{format_state, made_device};
-use crate::input::InputFault;
 use crate::loading::load_core;
 use crate::looping::{answer_frames, bytes_of};
 use crate::settings_file::{Settings, read_settings};
-use crate::sockets::{connect, listen, next_connection};
 use oram_bucket::{ChaChaSeal, PlainSeal, Sealer};
 use oram_core::Core;
+use oram_edge::{
+    InputFault, KeptFile, SocketFault, buffered, bytes_in, call_fault, connect, listen,
+};
 use oram_geometry::Device;
 use oram_host::Server;
 use oram_session::{
@@ -21,10 +22,22 @@ use oram_session::{
 };
 use oram_state::encode_state;
 use std::alloc::Global;
-use std::io::{Read, Write};
+use std::io::{BufReader, BufWriter, Read, Write};
 use std::net::{Net, OpenListener, OpenStream};
 use std::rt::Files;
 use std::str;
+
+/// Waits for the next connection, and gives what reads from it and what writes to it, each by way of a buffer.
+fn next_connection<L: OpenListener>(
+    alloc: Global,
+    listener: &L,
+) -> Result<(BufReader<L::Stream>, BufWriter<L::Stream>), SocketFault>
+where
+    L::Stream: Read + Write + OpenStream,
+{
+    let (stream, _) = listener.accept()?;
+    Ok(buffered(alloc, stream)?)
+}
 
 /// Carries out the requests of so many connections, one after the other.
 fn host_connections<L: OpenListener>(
@@ -51,10 +64,10 @@ fn host<R: Files + Net + AllocGlobal>(
     image: String,
 ) -> Result<(), Fault> {
     let file = KeptFile::new(rt.alloc(), image)?;
-    let mut server = file.load(rt)?;
+    let mut server = load_image(rt, &file)?;
     let listener = listen(rt, address)?;
     let served = host_connections(rt.alloc(), &listener, connections, &mut server);
-    file.save_image(rt, &server)?;
+    save_image(rt, &file, &server)?;
     served
 }
 
@@ -71,7 +84,7 @@ fn format<R: Files + Net + AllocGlobal, S: Sealer>(
     let (reader, writer) = connect(rt, host)?;
     let mut link = StreamLink::new(rt.alloc(), reader, writer);
     let bytes = format_state(rt.alloc(), device, sealer, &mut link)?;
-    file.save_bytes(rt, &bytes)
+    Ok(file.save_bytes(rt, &bytes)?)
 }
 
 /// The same, sealed under a key, if there is one.
@@ -232,7 +245,7 @@ fn print_digits<R: Print + AllocGlobal>(rt: &R, bytes: &[u8]) -> Result<(), Faul
     let digits = hex::encode(rt.alloc(), bytes)?;
     match println!(rt; "{digits}") {
         Ok(()) => Ok(()),
-        Err(error) => Err(call_fault(rt.alloc(), "standard output", &error)),
+        Err(error) => Err(Fault::from(call_fault(rt.alloc(), "standard output", &error))),
     }
 }
 

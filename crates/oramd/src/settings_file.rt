@@ -1,13 +1,14 @@
 //! The settings file.
 
-ghost use Rattle.std.specs.Prelude.{◌≡◌, Some, IfOk, IsErrOf};
-ghost use Rattle.toml.specs.Parse.{parse_document};
+ghost use Rattle.std.specs.Prelude.{◌≡◌, IfOk, IsErrOf};
 ghost use Rattle.toml.specs.View.{table_view};
-ghost use Rattle.oramd.specs.Settings.{Finds, IsDocumentOf, IsSettings, shown};
+ghost use Rattle.oram_edge.specs.Tables.{Finds};
+ghost use Rattle.oramd.specs.Settings.{IsDocumentOf, IsSettings, shown};
 
 use crate::command_line::Role;
-use crate::input::InputFault;
-use crate::tables::{address_at, count_at, has_only, key_at, name_at, number_at, sealer_in};
+use oram_edge::{
+    InputFault, address_at, count_at, has_only, key_at, name_at, number_at, sealer_in, table_of,
+};
 use std::alloc::Global;
 use std::fmt;
 use toml::Table;
@@ -142,20 +143,6 @@ fn proxy_in(alloc: Global, table: &Table) -> Result<Settings, InputFault>
         key,
         tape_key,
     })
-}
-
-/// The table that a text is.
-fn table_of(alloc: Global, text: &str) -> Result<Table, InputFault>
-    ensures { Finds table_view (λ t. parse_document text.now ≡ Some t) result }
-{
-    match toml::table_from_str(alloc, text) {
-        Ok(table) => Ok(table),
-        Err(error) => Err(if error.is_memory() {
-            InputFault::OutOfMemory
-        } else {
-            InputFault::Bad
-        }),
-    }
 }
 
 /// Reads the settings of a role from a TOML document.

@@ -1,5 +1,5 @@
 use Rattle.std.proofs.lemmas.Result.{err_from_is_err_and}
-use Rattle.oramd.proofs.TableKeys.{no_proxy}
+use Rattle.oramd.proofs.Proxies.{no_proxy}
 use Rattle.oramd.proofs.settings_file.proxy_in.Goals as goal
 
 pub returns-in_err-tape_key : goal.returns-in_err-tape_key
