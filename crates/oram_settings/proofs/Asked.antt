@@ -1,0 +1,67 @@
+-- From clap's answer to what its matches ask for.
+use Rattle.std.proofs.Common.{◌≡◌, ◌∙◌, sym, ap, ap₂, refl, List, [], ◌∷◌, Option, Some, None, true, inl, inr, option_map, codes}
+use Rattle.std.specs.Prelude.{◌≢◌, Box, option_and_then}
+use Rattle.std.specs.Box.{box_value}
+use Rattle.std.proofs.lemmas.Option.{same_Some}
+use Rattle.std.proofs.lemmas.Bool.{and_parts}
+use Rattle.clap.specs.Walk.{Row, Text, first_of}
+use Rattle.clap.specs.Matches.{subcommand_name_of}
+use Rattle.clap.specs.Simple.{App, HasMatchesOf, built, is_simple, subcommand_of, subcommand_rows, subcommand_rows_of}
+use Rattle.clap.specs.declared.parser.matches.ArgMatches.{ArgMatches}
+use Rattle.clap.specs.Kinds.{Kinds, HasKind}
+use Rattle.clap.specs.Faults.{fault_of, is_free_app, is_simple_and_free}
+use Rattle.clap.specs.Values.{kind_of}
+use Rattle.clap.specs.declared.parser.matches.SubCommand.{SubCommand}
+use Rattle.clap.specs.declared.parser.matches.ArgMatches.TheViews.{out-SubCommand}
+use Rattle.clap.specs.declared.error.Error.{Error}
+use Rattle.clap.specs.declared.error.kind.ErrorKind.TheVariants.{OutOfMemory}
+use Rattle.oram_settings.specs.CommandLine.{Request, program, request_by, request_in, request_of, unless_faulty}
+use Rattle.oram_settings.proofs.Program.{is_free}
+
+-- a subcommand of this name, with these rows
+entered_is : {Z : Type 0} (s : Option (Box SubCommand Z)) (name : Text) (rows : List Row)
+    → option_map (λ b. (out-SubCommand (box_value b)).name.now) s ≡ Some name
+    → option_map (λ (p : Text × List Row). p.1) (subcommand_rows s) ≡ Some rows
+    → subcommand_rows s ≡ Some (name, rows)
+entered_is None name rows named found = search
+entered_is (Some b) name rows named found = ap₂ (λ n r. Some (n, r)) (same_Some _ _ named) (same_Some _ _ found)
+
+-- an error that memory has no part in is a fault that clap finds, and then the words ask for nothing
+refused : (kinds : Kinds) (e : Error) (asked : Option Request) → HasKind kinds e → kind_of e ≢ OutOfMemory → unless_faulty kinds asked ≡ None
+refused [] e asked (inl memory) other = absurd (other memory)
+refused [] e asked (inr h) other = absurd h
+refused (kind ∷ kinds) e asked h other = refl
+
+module _ (a : App) (same : a ≡ program) (words : List Text) where
+  free : is_simple_and_free a ≡ true
+  free = ap is_simple_and_free same ∙ is_free
+
+  pub asked_refused : (e : Error) → (is_simple_and_free a ≡ true → HasKind (fault_of a words) e) → kind_of e ≢ OutOfMemory → request_in words ≡ None
+  asked_refused e kinds other =
+      sym (ap (λ (b : App). unless_faulty (fault_of b words) (option_and_then request_by (subcommand_of b words))) same)
+      ∙ refused (fault_of a words) e _ (kinds free) other
+
+  module _ (m : ArgMatches) (sound : is_simple_and_free a ≡ true → fault_of a words ≡ []) (matches : HasMatchesOf a words m) where
+    simple : is_simple a ≡ true
+    simple = (and_parts (is_simple a) (is_free_app (built a)) free).0
+
+    -- what the words ask for, by the subcommand that a parse of them entered
+    by_entered : (s : Option (Text × List Row)) → subcommand_of a words ≡ s → request_in words ≡ option_and_then request_by s
+    by_entered s entered =
+        sym (ap (λ (b : App). unless_faulty (fault_of b words) (option_and_then request_by (subcommand_of b words))) same)
+        ∙ ap₂ (λ kinds t. unless_faulty kinds (option_and_then request_by t)) (sound free) entered
+
+    pub asked_is : (name : Text) (rows : List Row) (word size : Option Text) → Some name ≡ subcommand_name_of m
+        → Some rows ≡ option_map (λ (p : Text × List Row). p.1) (subcommand_rows_of m) → word ≡ first_of (codes "word") rows → size ≡ first_of (codes "size") rows
+        → request_in words ≡ option_and_then (λ (w : Text). request_of name w size) word
+    asked_is name rows word size named found read sized =
+        by_entered (Some (name, rows)) (sym (matches simple).1 ∙ entered_is _ name rows (sym named) (sym found))
+        ∙ ap₂ (λ (s : Option Text) (w : Option Text). option_and_then (λ (x : Text). request_of name x s) w) (sym sized) (sym read)
+
+    no_rows : (s : Option (Text × List Row)) → None ≡ option_map (λ (p : Text × List Row). p.1) s → s ≡ None
+    no_rows None e = refl
+    no_rows (Some p) e = cc
+
+    -- where it entered none, they ask for nothing
+    pub asked_none : None ≡ option_map (λ (p : Text × List Row). p.1) (subcommand_rows_of m) → request_in words ≡ None
+    asked_none none = by_entered None (sym (matches simple).1 ∙ no_rows _ none)

@@ -1,0 +1,3 @@
+mod Tables
+pub mod Program
+pub mod Asked

@@ -1,0 +1,62 @@
+-- The command line of oramdisk, by clap's own account of it.
+use Rattle.std.specs.Prelude.{ℕ, List, [], ◌∷◌, map, true, false, Option, Some, None, codes, if◌then◌else◌, option_and_then, string_bytes}
+use Rattle.std.specs.Str.{bytes_eq}
+use Rattle.clap.specs.Walk.{Row, Text, first_of}
+use Rattle.clap.specs.Simple.{App, Shape, new_rule, new_shape, subcommand_of}
+use Rattle.clap.specs.Kinds.{Kinds}
+use Rattle.clap.specs.Faults.{fault_of}
+use Rattle.oram_edge.specs.Words.{word_taker}
+use Rattle.oram_settings.specs.declared.command_line.Words.{Words}
+use Rattle.oram_settings.specs.declared.command_line.Words.TheVariants.{Format, Host, New, Serve, Status}
+
+-- what a command line asks for: a host, a folder for a disk of a size, or something of a disk, with the file of its settings
+pub data Request : Type 0 where
+  host : List ℕ → Request
+  folder : List ℕ → List ℕ → Request
+  format : List ℕ → Request
+  serve : List ℕ → Request
+  status : List ℕ → Request
+
+-- without where texts lie in memory
+abbrev pub shown : Words → Request
+shown (Host name) = host (string_bytes name)
+shown (New name size) = folder (string_bytes name) (string_bytes size)
+shown (Format name) = format (string_bytes name)
+shown (Serve name) = serve (string_bytes name)
+shown (Status name) = status (string_bytes name)
+
+-- the subcommand that takes a word, and a size by its name
+abbrev pub folder_maker : Shape
+folder_maker = record (new_shape (codes "new")) {
+  rules = record (new_rule (codes "word")) { required = true } ∷ record (new_rule (codes "size")) { long = Some (codes "size"); required = true } ∷ [];
+}
+
+-- the command line as clap is told of it: one of five subcommands, with its word
+abbrev pub program : App
+program = record {
+  top = record (new_shape (codes "oramdisk")) { is_leaf = false; subcommand_required = true };
+  subs = word_taker (codes "host") ∷ folder_maker ∷ map word_taker (codes "format" ∷ codes "serve" ∷ codes "status" ∷ []);
+}
+
+-- what a subcommand asks for, with its word and perhaps a size
+abbrev pub request_of : Text → Text → Option Text → Option Request
+request_of name word None =
+    if bytes_eq name (codes "host") then Some (host word)
+    else if bytes_eq name (codes "format") then Some (format word)
+    else if bytes_eq name (codes "serve") then Some (serve word)
+    else if bytes_eq name (codes "status") then Some (status word)
+    else None
+request_of name word (Some size) = if bytes_eq name (codes "new") then Some (folder word size) else None
+
+-- what the matches of a subcommand ask for
+abbrev pub request_by : Text × List Row → Option Request
+request_by matches = option_and_then (λ word. request_of matches.0 word (first_of (codes "size") matches.1)) (first_of (codes "word") matches.1)
+
+-- nothing where clap finds a fault
+abbrev pub unless_faulty : Kinds → Option Request → Option Request
+unless_faulty [] asked = asked
+unless_faulty (fault ∷ more) asked = None
+
+-- what clap's matches of the words ask for
+abbrev pub request_in : List Text → Option Request
+request_in words = unless_faulty (fault_of program words) (option_and_then request_by (subcommand_of program words))

@@ -1,0 +1,4 @@
+pub mod Settings
+pub mod Status
+pub mod Progress
+pub mod CommandLine

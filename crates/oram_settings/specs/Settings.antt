@@ -1,0 +1,66 @@
+-- What a disk's settings file says, and when a text says it.
+use Rattle.std.specs.Prelude.{◌≡◌, ◌∷◌, ℕ, Bool, List, [], codes, string_bytes, Some}
+use Rattle.toml.specs.Data.{Members, boolean, get_member}
+use Rattle.toml.specs.Parse.{parse_document}
+use Rattle.oram_edge.specs.Tables.{HasHex, HasNumber, HasOnly, HasText, IsAddress, IsCount, IsName}
+use Rattle.oram_settings.specs.declared.disk_file.Sealing.{Sealing}
+use Rattle.oram_settings.specs.declared.disk_file.Sealing.TheVariants.{Plain, ChaCha}
+use Rattle.oram_settings.specs.declared.disk_file.DiskSettings.{DiskSettings}
+
+-- settings, without where texts lie in memory
+pub record DiskValue : Type 0 where
+  pub size : ℕ
+  pub block : ℕ
+  pub slots : ℕ
+  pub entries : ℕ  -- of the client's table
+  pub sealer : Sealing
+  pub key : List ℕ
+  pub host : List ℕ
+  pub listen : List ℕ
+  pub state : List ℕ
+  pub sync : Bool
+  pub patience : ℕ
+
+abbrev pub shown : DiskSettings → DiskValue
+shown s = record {
+  size = s.size;
+  block = s.block;
+  slots = s.slots;
+  entries = s.table;
+  sealer = s.sealer;
+  key = s.key;
+  host = string_bytes s.host;
+  listen = string_bytes s.listen;
+  state = string_bytes s.state;
+  sync = s.sync;
+  patience = s.patience;
+}
+
+abbrev pub HasFlag : Members → List ℕ → Bool → Type 0
+HasFlag table key flag = get_member key table ≡ Some (boolean flag)
+
+abbrev pub sealing_name : Sealing → List ℕ
+sealing_name Plain = codes "plain"
+sealing_name ChaCha = codes "chacha"
+
+abbrev pub HasSealing : Members → List ℕ → Sealing → Type 0
+HasSealing table key sealing = HasText table key (sealing_name sealing)
+
+-- the table is that of these settings
+pub record IsDisk (table : Members) (s : DiskValue) : Type 0 where
+  pub only : HasOnly (codes "size" ∷ codes "block" ∷ codes "slots" ∷ codes "table" ∷ codes "sealer" ∷ codes "key" ∷ codes "host" ∷ codes "listen" ∷ codes "state" ∷ codes "sync" ∷ codes "patience" ∷ []) table
+  pub size : HasNumber table (codes "size") s.size
+  pub block : HasNumber table (codes "block") s.block
+  pub slots : HasNumber table (codes "slots") s.slots
+  pub entries : HasNumber table (codes "table") s.entries
+  pub sealer : HasSealing table (codes "sealer") s.sealer
+  pub key : HasHex table (codes "key") s.key
+  pub host : HasText table (codes "host") s.host × IsAddress s.host
+  pub listen : HasText table (codes "listen") s.listen × IsAddress s.listen
+  pub state : HasText table (codes "state") s.state × IsName s.state
+  pub sync : HasFlag table (codes "sync") s.sync
+  pub patience : HasNumber table (codes "patience") s.patience × IsCount s.patience
+
+-- the text is a TOML document, and its table that of these settings
+abbrev pub IsDocumentOf : List ℕ → DiskValue → Type 0
+IsDocumentOf text s = (table : Members) × (parse_document text ≡ Some table) × IsDisk table s

@@ -1,0 +1,66 @@
+//! How far a formatting is.
+
+ghost use Rattle.std.specs.Prelude.{◌≡◌, ◌≤◌, ◌↔◌, IsTrue};
+ghost use Rattle.oram_settings.specs.Progress as spec;
+
+use std::alloc::{AllocError, Global};
+
+/// How many of a hundred are done; all, where there is nothing to do.
+pub fn percent(done: u64, of: u64) -> u64
+    ensures { result ≡ spec.percent done of }
+{
+    if of <= done {
+        return 100;
+    }
+    (u128::from(done) * 100 / u128::from(of)) as u64
+}
+
+/// In how many whole seconds the rest is done, if it goes on as it did for so many milliseconds.
+fn seconds_left(done: u64, of: u64, milliseconds: u64) -> u64
+    ensures { result ≡ spec.seconds_left done of milliseconds }
+{
+    let rest = of.saturating_sub(done);
+    let left = u128::from(milliseconds) * u128::from(rest) / u128::from(done.max(1)) / 1_000;
+    u64::try_from(left).unwrap_or(u64::MAX)
+}
+
+/// A text that tells how far a formatting is.
+pub fn progress_text(
+    alloc: Global,
+    done: u64,
+    of: u64,
+    milliseconds: u64,
+) -> Result<String, AllocError> {
+    let percent = percent(done, of);
+    let left = seconds_left(done, of, milliseconds);
+    format!(in alloc; "formatting: {percent} % ({done} of {of} messages), {left} s left")
+}
+
+/// Tells when a text is due again: each time that so many of a hundred more are done.
+#[derive(Clone, Copy, Debug, PartialEq, Eq)]
+pub struct Meter {
+    /// So many of a hundred.
+    pub step: u64,
+    /// At how many of a hundred it is due next.
+    pub next: u64,
+}
+
+impl Meter {
+    pub fn new(step: u64) -> Meter {
+        Meter { step, next: 0 }
+    }
+
+    /// A text is due, now that so many of a hundred are done.
+    pub fn is_due(&mut self, percent: u64) -> bool
+        ensures { IsTrue result ↔ (self.old.next ≤ percent) }
+    {
+        if percent < self.next {
+            return false;
+        }
+        self.next = percent.saturating_add(self.step);
+        true
+    }
+}
+
+#[cfg(test)]
+mod tests;

@@ -1,0 +1,50 @@
+//! Sizes as people write them.
+
+ghost use Rattle.std.specs.Prelude.{◌≤◌, ◌↔◌, IsTrue, slice_index};
+
+/// The units of a size, each with its bytes. The last has no name.
+const UNITS: [(&str, u64); 9] = [
+    ("KiB", 1 << 10),
+    ("MiB", 1 << 20),
+    ("GiB", 1 << 30),
+    ("TiB", 1 << 40),
+    ("kB", 1_000),
+    ("MB", 1_000_000),
+    ("GB", 1_000_000_000),
+    ("TB", 1_000_000_000_000),
+    ("", 1),
+];
+
+/// A digit other than 0 comes first.
+fn begins_number(text: &str) -> bool
+    ensures { IsTrue result ↔ ((49 ≤ slice_index text.now 0) × (slice_index text.now 0 ≤ 57)) }
+{
+    matches!(text.as_bytes(), [b'1'..=b'9', ..])
+}
+
+/// A number in decimal, which 0 doesn't begin.
+fn read_number(text: &str) -> Option<u64> {
+    if !begins_number(text) {
+        return None;
+    }
+    text.parse().ok()
+}
+
+/// A size in a unit of this name.
+fn read_in(text: &str, unit: &str, bytes: u64) -> Option<u64> {
+    let digits = text.strip_suffix(unit)?;
+    read_number(digits)?.checked_mul(bytes)
+}
+
+/// Reads a size, as `1GiB`, `512MiB`, `100MB` or `4096`: a number of units, from 1 on. None where it is no size, or 2^64 bytes or more.
+pub fn read_size(text: &str) -> Option<u64> {
+    for (unit, bytes) in UNITS {
+        if let Some(size) = read_in(text, unit, bytes) {
+            return Some(size);
+        }
+    }
+    None
+}
+
+#[cfg(test)]
+mod tests;

@@ -1,0 +1,76 @@
+//! How a disk stands.
+
+ghost use Rattle.std.specs.Prelude.{◌≡◌};
+ghost use Rattle.oram_settings.specs.Status.{stands_as};
+
+use oram_bucket::Sealer;
+use oram_core::{Core, Reason};
+use std::alloc::{AllocError, Global};
+
+/// How a disk stands, as its kept state tells.
+#[derive(Clone, Copy, Debug, PartialEq, Eq)]
+pub struct Status {
+    pub blocks: u64,
+    pub block_bytes: u64,
+    /// How many trees its blocks and their places lie in.
+    pub trees: u8,
+    /// How many accesses were made, of at most so many.
+    pub accesses: u64,
+    pub lifetime: u64,
+    /// How many commands have no reply yet.
+    pub waiting: u64,
+    pub failure: Option<Reason>,
+}
+
+/// How the disk of a core stands.
+pub fn status_of<S: Sealer>(core: &Core<S>) -> Status
+    ensures { result ≡ stands_as core.now.device core.now.state }
+{
+    let device = core.device();
+    let trees = device.trees();
+    prove!(0 < trees);
+    Status {
+        blocks: u64::from(device.blocks_in(0)),
+        block_bytes: device.block_bytes() as u64,
+        trees,
+        accesses: core.next_ticket(),
+        lifetime: device.lifetime(),
+        waiting: core.waiting() as u64,
+        failure: core.failure(),
+    }
+}
+
+/// What is told of a failure.
+fn failing(alloc: Global, failure: Option<Reason>) -> Result<String, AllocError> {
+    match failure {
+        None => String::from_str(alloc, "it is sound"),
+        Some(Reason::Malformed) => {
+            String::from_str(alloc, "it has failed: what the host answered is no answer")
+        }
+        Some(Reason::Tampered(tree, level)) => format!(in alloc;
+            "it has failed: in tree {tree} the record at level {level} of a path wasn't the one that was stored last"
+        ),
+        Some(Reason::HostRefused(code)) => format!(in alloc;
+            "it has failed: the host refused a message, by the code {code}"
+        ),
+    }
+}
+
+/// The lines that tell how a disk stands.
+pub fn report(alloc: Global, status: &Status) -> Result<String, AllocError> {
+    let size = status.blocks.saturating_mul(status.block_bytes);
+    let blocks = status.blocks;
+    let block_bytes = status.block_bytes;
+    let trees = status.trees;
+    let accesses = status.accesses;
+    let left = status.lifetime.saturating_sub(accesses);
+    let waiting = status.waiting;
+    let failing = failing(alloc, status.failure)?;
+    let failing = failing.as_str();
+    format!(in alloc;
+        "size: {size} bytes, {blocks} blocks of {block_bytes}\ntrees: {trees}\naccesses: {accesses} made, {left} left\nwaiting: {waiting}\nstate: {failing}\n"
+    )
+}
+
+#[cfg(test)]
+mod tests;
