@@ -1,0 +1,56 @@
+//! A volume as a disk of bytes.
+
+ghost use Rattle.std.specs.Prelude.{◌≡◌, ◌*◌, ℕ, List};
+
+use crate::volume::Volume;
+use oram_bucket::Sealer;
+use oram_bytes::Bytes;
+use oram_core::{Command, ReplyBody};
+use oram_keep::Keeper;
+use oram_nbd::{Disk, DiskFault};
+use oram_session::{Link, Tape};
+use std::alloc::Global;
+
+impl<S: Sealer, L: Link, K: Keeper, T: Tape> Disk for Volume<S, L, K, T> {
+    ghost use Rattle.oram_core.specs.Core.{shape_of};
+    ghost use Rattle.oram_volume.specs.Holding.{HoldsBytes};
+
+    ghost block_len = { λ d. d.core.device.block_bytes };
+
+    ghost size = { λ d. d.core.device.block_bytes * d.core.device.blocks };
+
+    ghost holds = { λ d bytes. HoldsBytes (shape_of S.overhead S.sealing S.opening d.core) L.calls d.core.state d.link bytes };
+
+    ghost is_sound = { λ d. (bytes : List ℕ) × HoldsBytes (shape_of S.overhead S.sealing S.opening d.core) L.calls d.core.state d.link bytes };
+
+    fn block_bytes(&self) -> u32 {
+        self.core.device().block_bytes() as u32
+    }
+
+    fn blocks(&self) -> u64 {
+        let device = self.core.device();
+        let _trees = device.trees();
+        u64::from(device.blocks_in(0))
+    }
+
+    fn read(&mut self, alloc: Global, block: u64) -> Result<Vec<u8>, DiskFault> {
+        let address = self.address_of(block);
+        match self.carry_out(alloc, Command::Read(address))? {
+            ReplyBody::Data(bytes) => Ok(bytes.into_vec()),
+            ReplyBody::Done | ReplyBody::Failed => Err(DiskFault::Failed),
+        }
+    }
+
+    fn write(&mut self, alloc: Global, block: u64, payload: &[u8]) -> Result<(), DiskFault> {
+        let address = self.address_of(block);
+        let bytes = Bytes::copy(alloc, payload)?;
+        self.carry_out(alloc, Command::Write(address, bytes))?;
+        Ok(())
+    }
+
+    fn discard(&mut self, alloc: Global, block: u64) -> Result<(), DiskFault> {
+        let address = self.address_of(block);
+        self.carry_out(alloc, Command::Discard(address))?;
+        Ok(())
+    }
+}

@@ -1,0 +1,23 @@
+//! A kept core as a disk.
+//!
+//! A [`Volume`] is a core with the link to its host, the keeper of its state and the tape of its words. It answers block commands one
+//! after the other, as `oram_nbd` asks them of a disk. What waits in it from before is carried out first.
+#![tactic(auto)]
+
+// Calls once more where one allocation was refused, so that the tests hold whichever it is.
+#[cfg(test)]
+macro_rules! retried {
+    ($call:expr) => {
+        match $call {
+            Ok(value) => value,
+            Err(_) => $call?,
+        }
+    };
+}
+
+mod disk;
+#[cfg(test)]
+mod tests;
+mod volume;
+
+pub use volume::Volume;
