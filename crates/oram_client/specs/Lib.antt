@@ -1,0 +1,6 @@
+pub mod KeptFile
+pub mod Keys
+pub mod FileKeeping
+pub mod Patience
+pub mod Ahead
+pub mod Formatting

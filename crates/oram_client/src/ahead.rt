@@ -1,0 +1,201 @@
+//! Messages that go to a host ahead of its answers.
+ghost use Rattle.std.specs.Prelude.{◌≡◌, ◌+◌, ◌<◌, ◌≤◌, ℕ, [], ◌∷◌, IfOk, MatchBool, OnOk};
+ghost use Rattle.std.specs.Io.KnownBytes.{Appends, Consumes, Keeps};
+ghost use Rattle.oram_wire.specs.FrameStream.{frame};
+ghost use Rattle.oram_wire.specs.HostMessages.{fetch_body};
+ghost use Rattle.oram_client.specs.Ahead.{IsAsked, IsDrained};
+
+use oram_geometry::Device;
+use oram_wire::{
+    FrameFault, GOOD, LONGEST_BODY, Sink, SinkFault, WriteFault, fetch_header, next_frame,
+    put_frame,
+};
+use std::alloc::Global;
+use std::io::{Read, Write};
+use std::marker::Model;
+
+/// The most messages that may be without an answer. A host that answers each of them by a frame of 6 bytes at most, as hosts do, has
+/// room for these in the buffers of any socket: so it never waits with an answer for a client that waits with a message.
+const MOST_DUE: u64 = 256;
+
+/// Hears how far a formatting is.
+pub trait Progress {
+    /// The host has answered so many messages of so many.
+    fn answered(&mut self, messages: u64, of: u64);
+}
+
+/// A connection to a host over which the messages of a formatting go ahead of their answers. What it writes and reads is to be
+/// buffered.
+#[derive(Debug, Drop)]
+pub struct Ahead<R, W, P> {
+    alloc: Global,
+    reader: R,
+    writer: W,
+    progress: P,
+    due: u64,
+    answered: u64,
+    of: u64,
+}
+
+impl<R, W, P> Model for Ahead<R, W, P> {
+    ghost use Rattle.std.specs.Prelude.{◌≤◌};
+    ghost use Rattle.oram_client.specs.Ahead.{ToHost};
+
+    ghost Value = { ToHost R W };
+
+    ghost view = { λ a. record { reader = a.reader; writer = a.writer; due = a.due } };
+
+    ghost invariant = { λ a. a.due ≤ 256 };
+}
+
+/// How many messages make a device: for each tree a SHAPE, and a PUT for each of its nodes.
+fn messages_of(device: &Device) -> u64 {
+    let mut messages = 0u64;
+    for tree in 0..device.trees() {
+        messages = messages.saturating_add(2 << device.depth(tree));
+    }
+    messages
+}
+
+impl<R, W, P> Ahead<R, W, P> {
+    /// For the formatting of this device. It takes no memory.
+    pub fn new(alloc: Global, device: &Device, reader: R, writer: W, progress: P) -> Ahead<R, W, P>
+        ensures { result ≡ record { reader = reader; writer = writer; due = 0 } }
+    {
+        Ahead {
+            alloc,
+            reader,
+            writer,
+            progress,
+            due: 0,
+            answered: 0,
+            of: messages_of(device),
+        }
+    }
+
+    #[cfg(test)]
+    pub(crate) fn progress(&self) -> &P {
+        &self.progress
+    }
+
+    /// Whether as many messages are without an answer as may be.
+    fn is_full(&self) -> bool
+        ensures most { self.now.due ≤ 256 }
+        ensures value { MatchBool result (self.now.due ≡ 256) (self.now.due < 256) }
+    {
+        self.due == MOST_DUE
+    }
+}
+
+impl<R: Read, W: Write, P> Ahead<R, W, P> {
+    /// Writes a message, which may wait in a buffer.
+    fn send(&mut self, body: &[u8]) -> Result<(), SinkFault>
+        ensures ok { OnOk result (Appends (W.contents self.old.writer) (W.contents self.new.writer) (frame body.now)) }
+        ensures same { (self.new.reader ≡ self.old.reader) × (self.new.due ≡ self.old.due) }
+    {
+        if body.len() > LONGEST_BODY {
+            return Err(SinkFault::Link);
+        }
+        match put_frame(&mut self.writer, body) {
+            Ok(()) => Ok(()),
+            Err(WriteFault) => Err(SinkFault::Link),
+        }
+    }
+
+    /// Lets nothing that was written wait in a buffer.
+    fn flush(&mut self) -> Result<(), SinkFault>
+        ensures wrote { Keeps (W.contents self.old.writer) (W.contents self.new.writer) }
+        ensures same { (self.new.reader ≡ self.old.reader) × (self.new.due ≡ self.old.due) }
+    {
+        match self.writer.flush() {
+            Ok(()) => Ok(()),
+            Err(_) => Err(SinkFault::Link),
+        }
+    }
+
+    /// The next answer.
+    fn receive(&mut self) -> Result<Vec<u8>, SinkFault>
+        ensures ok { IfOk result (λ v. Consumes (R.remaining self.old.reader) (R.remaining self.new.reader) (frame v.items)) }
+        ensures same { (self.new.writer ≡ self.old.writer) × (self.new.due ≡ self.old.due) }
+    {
+        match next_frame(self.alloc, &mut self.reader) {
+            Ok(Some(body)) => Ok(body),
+            Err(FrameFault::OutOfMemory) => Err(SinkFault::OutOfMemory),
+            Ok(None) | Err(_) => Err(SinkFault::Link),
+        }
+    }
+
+    /// What is answered to a FETCH of the path to leaf 0 of a tree, where no other answer is due.
+    pub(crate) fn fetch(&mut self, tree: u8) -> Result<Vec<u8>, SinkFault>
+        ensures { IfOk result (λ v. IsAsked R.remaining W.contents self.old (fetch_body tree 0) v.items self.new) }
+    {
+        self.send(&fetch_header(tree, 0))?;
+        self.flush()?;
+        self.receive()
+    }
+}
+
+impl<R: Read, W: Write, P: Progress> Ahead<R, W, P> {
+    /// Reads the next answer, which is to be that the host is done.
+    fn take_answer(&mut self) -> Result<(), SinkFault>
+        requires { 0 < self.old.due }
+        ensures ok { OnOk result (Consumes (R.remaining self.old.reader) (R.remaining self.new.reader) (frame (128 ∷ []))) }
+        ensures due { OnOk result (self.new.due + 1 ≡ self.old.due) }
+        ensures same { self.new.writer ≡ self.old.writer }
+    {
+        let answer = self.receive()?;
+        if answer.as_slice() != [GOOD].as_slice() {
+            return Err(SinkFault::Refused);
+        }
+        self.due -= 1;
+        self.answered = self.answered.saturating_add(1);
+        self.progress.answered(self.answered, self.of);
+        Ok(())
+    }
+
+    /// Reads so many answers.
+    fn take_answers(&mut self, count: u64) -> Result<(), SinkFault>
+        requires { count ≤ self.old.due }
+        ensures { OnOk result (IsDrained R.remaining W.contents self.old count self.new) }
+    {
+        self.flush()?;
+        for _ in 0..count {
+            self.take_answer()?;
+        }
+        Ok(())
+    }
+
+    /// Makes room for one more message without an answer: reads half of the answers where all of them are due, so that the host has
+    /// always some of the messages to go on with.
+    fn make_room(&mut self) -> Result<(), SinkFault>
+        ensures { OnOk result ((count : ℕ) × IsDrained R.remaining W.contents self.old count self.new × (self.new.due < 256)) }
+    {
+        if self.is_full() {
+            self.take_answers(MOST_DUE / 2)?;
+        }
+        Ok(())
+    }
+
+    /// Reads the answers that are due.
+    pub(crate) fn settle(&mut self) -> Result<(), SinkFault>
+        ensures { OnOk result (IsDrained R.remaining W.contents self.old self.old.due self.new) }
+    {
+        self.take_answers(self.due)
+    }
+}
+
+impl<R: Read, W: Write, P: Progress> Sink for Ahead<R, W, P> {
+    ghost use Rattle.std.specs.Prelude.{⊤};
+    ghost use Rattle.oram_client.specs.Ahead.{IsPut};
+
+    ghost putting = { λ a body b. IsPut R.remaining W.contents a body b };
+
+    ghost refusing = { λ _ _ _ _. ⊤ };
+
+    fn put(&mut self, body: &[u8]) -> Result<(), SinkFault> {
+        self.make_room()?;
+        self.send(body)?;
+        self.due += 1;
+        Ok(())
+    }
+}

@@ -1,0 +1,69 @@
+//! The keys of a formatting.
+ghost use Rattle.std.specs.Prelude.{◌≡◌, codes};
+ghost use Rattle.oram_client.specs.Keys.{derived_key};
+
+use crate::kept_file::Salt;
+use sha2::{Digest, Sha256};
+use std::fmt;
+
+/// The key of a disk, from its settings.
+#[derive(Clone, Copy)]
+pub struct DiskKey(pub [u8; 32]);
+
+// The key is not shown.
+impl fmt::Debug for DiskKey {
+    fn fmt<W: fmt::Write>(&self, f: &mut fmt::Formatter<W>) -> fmt::Result {
+        f.write_str("DiskKey(..)")
+    }
+}
+
+/// The key that seals a formatting's buckets.
+#[derive(Clone, Copy)]
+pub struct SealerKey(pub [u8; 32]);
+
+// The key is not shown.
+impl fmt::Debug for SealerKey {
+    fn fmt<W: fmt::Write>(&self, f: &mut fmt::Formatter<W>) -> fmt::Result {
+        f.write_str("SealerKey(..)")
+    }
+}
+
+/// The key of a formatting's tape.
+#[derive(Clone, Copy)]
+pub struct TapeKey(pub [u8; 32]);
+
+// The key is not shown.
+impl fmt::Debug for TapeKey {
+    fn fmt<W: fmt::Write>(&self, f: &mut fmt::Formatter<W>) -> fmt::Result {
+        f.write_str("TapeKey(..)")
+    }
+}
+
+/// The key for a purpose: one step of SHA-256 (NIST SP 800-56C rev. 2, 4.1, option 1).
+fn derived(key: &DiskKey, purpose: &[u8], salt: &Salt) -> [u8; 32]
+    ensures { result ≡ derived_key key.now.0 purpose.now salt.now.0 }
+{
+    let mut hasher = Sha256::new();
+    hasher.update(1u32.to_be_bytes());
+    hasher.update(key.0);
+    hasher.update(purpose);
+    hasher.update(salt.0);
+    hasher.finalize()
+}
+
+/// The key that seals the buckets of the formatting with this salt.
+pub fn sealer_key(key: &DiskKey, salt: &Salt) -> SealerKey
+    ensures { result.0 ≡ derived_key key.now.0 (codes "vidlaqe bucket key") salt.now.0 }
+{
+    SealerKey(derived(key, b"vidlaqe bucket key", salt))
+}
+
+/// The key of the tape of the formatting with this salt.
+pub fn tape_key(key: &DiskKey, salt: &Salt) -> TapeKey
+    ensures { result.0 ≡ derived_key key.now.0 (codes "vidlaqe tape key") salt.now.0 }
+{
+    TapeKey(derived(key, b"vidlaqe tape key", salt))
+}
+
+#[cfg(test)]
+mod tests;

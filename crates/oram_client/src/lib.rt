@@ -1,0 +1,36 @@
+//! What a client of a disk keeps, and how it reaches its host.
+//!
+//! [`put_kept_file`] and [`read_kept_file`] are for the file that is kept of a disk: a salt and the core's state. [`sealer_key`] and
+//! [`tape_key`] give the keys of one formatting, of the disk's key and that salt. A [`FileKeeper`] keeps a core's state in such a file.
+//! A [`PatientLink`] opens its way to the host again when it was lost, by a [`TcpDialer`].
+//! [`format_ahead`] formats a disk over an [`Ahead`], a connection on which messages go ahead of their answers.
+#![tactic(auto)]
+
+// Calls once more where one allocation was refused, so that the tests hold whichever it is.
+#[cfg(test)]
+macro_rules! retried {
+    ($call:expr) => {
+        match $call {
+            Ok(value) => value,
+            Err(_) => $call?,
+        }
+    };
+}
+
+mod ahead;
+mod dialing;
+mod file_keeper;
+mod formatting;
+mod kept_file;
+mod keys;
+mod patient_link;
+mod tcp_dialer;
+
+pub use ahead::{Ahead, Progress};
+pub use dialing::{Dial, Watch};
+pub use file_keeper::{FileFailure, FileKeeper, FileReason, FileStep};
+pub use formatting::{FormattingFault, format_ahead};
+pub use kept_file::{KeptFile, NotOurs, Salt, put_kept_file, read_kept_file};
+pub use keys::{DiskKey, SealerKey, TapeKey, sealer_key, tape_key};
+pub use patient_link::PatientLink;
+pub use tcp_dialer::TcpDialer;
