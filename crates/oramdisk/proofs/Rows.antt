@@ -1,31 +1,13 @@
 -- The definitions on words, settings, a fault and a connection that are written out.
 use Rattle.std.proofs.Common.{◌≡◌, refl, [], ◌∷◌, Some, None, codes}
-use Rattle.clap.proofs.OnLiterals.{clap_on_literals}
 use Rattle.toml.specs.Data.{member, no_members, string}
 use Rattle.toml.specs.Parse.{parse_document}
 use Rattle.toml.proofs.OnLiterals.{toml_on_literals}
 use Rattle.oram_answering.specs.declared.faults.ServeFault.TheVariants.{Frame}
-use Rattle.oramdisk.specs.CommandLine.{request_in, host, folder}
 use Rattle.oramdisk.specs.Faults.{line_of}
 use Rattle.oramdisk.specs.Tallies.{frame_len}
 use Rattle.oramdisk.specs.Visits.{ending}
 use Rattle.oramdisk.specs.declared.faults.Fault.TheVariants.{OutOfMemory}
-
-a_host : request_in (codes "oramdisk" ∷ codes "host" ∷ codes "h.toml" ∷ []) ≡ Some (host (codes "h.toml"))
-unfolding clap_on_literals
-a_host = refl
-
-a_folder : request_in (codes "x" ∷ codes "new" ∷ codes "mydisk" ∷ []) ≡ Some (folder (codes "mydisk"))
-unfolding clap_on_literals
-a_folder = refl
-
-no_word : request_in (codes "oramdisk" ∷ codes "new" ∷ []) ≡ None
-unfolding clap_on_literals
-no_word = refl
-
-help : request_in (codes "oramdisk" ∷ codes "help" ∷ []) ≡ None
-unfolding clap_on_literals
-help = refl
 
 -- what a new folder's settings say
 the_first_settings : parse_document (codes "listen = \"127.0.0.1:7001\"\nfile = \"buckets.sqlite\"\n") ≡ Some (member (codes "file") (string (codes "buckets.sqlite")) (member (codes "listen") (string (codes "127.0.0.1:7001")) no_members))

@@ -5,12 +5,15 @@ use Rattle.oram_edge.specs.declared.files.FileFault.TheVariants as file
 use Rattle.oram_store.specs.declared.faults.StoreFault.{StoreFault}
 use Rattle.oram_store.specs.declared.faults.StoreFault.TheVariants as store
 use Rattle.oramdisk.specs.declared.faults.Fault.{Fault}
-use Rattle.oramdisk.specs.declared.faults.Fault.TheVariants.{CommandLine, Settings, OutOfMemory, File, Address, Accept, NotOurs, Damaged, Busy, Exists}
+use Rattle.oramdisk.specs.declared.faults.Fault.TheVariants.{CommandLine, Settings, DiskSettings, Device, Size, OutOfMemory, File, Address, Accept, NotOurs, Damaged, Busy, Exists, Formatted, NotADisk, OutOfReach, HostRefused, Unkept, UsedUp, Random}
 
 -- what happened and to what, and what to do
 abbrev pub line_of : Fault → List ℕ
-line_of CommandLine = codes "oramdisk: " ++ codes "bad command line" ++ codes ": say host HOST.toml, or new FOLDER\n"
+line_of CommandLine = codes "oramdisk: " ++ codes "bad command line" ++ codes ": say new FOLDER --size 1GiB, or host, format, serve or status and the name of a settings file\n"
 line_of (Settings name) = codes "oramdisk: bad settings in " ++ string_bytes name ++ codes ": they have to be listen = \"127.0.0.1:PORT\" and file = \"NAME\", and nothing else\n"
+line_of (DiskSettings name) = codes "oramdisk: bad settings in " ++ string_bytes name ++ codes ": its keys have to be those that oramdisk new writes, with values like those\n"
+line_of (Device name) = codes "oramdisk: bad numbers in " ++ string_bytes name ++ codes ": size has to be from 1 to 16777216 blocks, block from 16 to 4096 and a multiple of 4, slots from 1 to 8, and table from 1 to 16777216\n"
+line_of Size = codes "oramdisk: " ++ codes "no disk has this size" ++ codes ": name one up to 64GiB, as 1GiB or 512MiB\n"
 line_of OutOfMemory = codes "oramdisk: " ++ codes "out of memory" ++ codes "\n"
 line_of (File name) = codes "oramdisk: can't open, read or write " ++ string_bytes name ++ codes ": see that it is there and may be written, and that its disk has room\n"
 line_of (Address name) = codes "oramdisk: can't listen at " ++ string_bytes name ++ codes ": end the program that listens there, or name another port\n"
@@ -19,11 +22,22 @@ line_of (NotOurs name) = codes "oramdisk: " ++ string_bytes name ++ codes " isn'
 line_of (Damaged name) = codes "oramdisk: " ++ string_bytes name ++ codes " is damaged, and is left as it is: name another file, and format anew\n"
 line_of (Busy name) = codes "oramdisk: " ++ string_bytes name ++ codes " is held by another process: end that one first\n"
 line_of (Exists name) = codes "oramdisk: " ++ string_bytes name ++ codes " is there already, and is left as it is: name another folder\n"
+line_of (Formatted name) = codes "oramdisk: " ++ string_bytes name ++ codes " is there already, and is left as it is: to format anew, take it away, and name a new file at the host\n"
+line_of (NotADisk name) = codes "oramdisk: " ++ string_bytes name ++ codes " isn't the state of a disk with these settings, and is left as it is\n"
+line_of (OutOfReach address) = codes "oramdisk: can't reach the host at " ++ string_bytes address ++ codes ": see that it runs and that the way to it is open, and start again\n"
+line_of (HostRefused address) = codes "oramdisk: the host at " ++ string_bytes address ++ codes " doesn't take this disk: name a new file at the host\n"
+line_of (Unkept name) = codes "oramdisk: can't keep the state in " ++ string_bytes name ++ codes ": see that its folder may be written and has room, and start again\n"
+line_of (UsedUp name) = codes "oramdisk: the disk of " ++ string_bytes name ++ codes " has made all its accesses: move what is in it to a new one\n"
+line_of Random = codes "oramdisk: " ++ codes "the system gives no random bytes" ++ codes ": start it again\n"
 
--- 2: words or settings; 3: memory; 4: a file; 5: a socket; 6 to 8: a file that is no host's, damaged, or held; 9: what is there already
+-- 2: words or settings; 3: memory; 4: a file; 5: a socket; 6 to 8: a host's file that is none, damaged, or held; 9: what is there already;
+-- 10: a state that is none; 11, 12: a host out of reach, or that refuses; 13: a state that can't be kept; 14: no access left; 15: no random bytes
 abbrev pub status_of : Fault → ℕ
 status_of CommandLine = 2
 status_of (Settings name) = 2
+status_of (DiskSettings name) = 2
+status_of (Device name) = 2
+status_of Size = 2
 status_of OutOfMemory = 3
 status_of (File name) = 4
 status_of (Address name) = 5
@@ -32,6 +46,13 @@ status_of (NotOurs name) = 6
 status_of (Damaged name) = 7
 status_of (Busy name) = 8
 status_of (Exists name) = 9
+status_of (Formatted name) = 9
+status_of (NotADisk name) = 10
+status_of (OutOfReach address) = 11
+status_of (HostRefused address) = 12
+status_of (Unkept name) = 13
+status_of (UsedUp name) = 14
+status_of Random = 15
 
 abbrev pub file_fault : FileFault → Fault
 file_fault (file.File name) = File name

@@ -1,4 +1,3 @@
-pub mod CommandLine
 pub mod Settings
 pub mod Faults
 pub mod Tallies

@@ -16,6 +16,12 @@ pub enum Fault {
     CommandLine,
     /// The file of this name isn't a host's settings.
     Settings(String),
+    /// The file of this name isn't a disk's settings.
+    DiskSettings(String),
+    /// The numbers in the file of this name are no disk's.
+    Device(String),
+    /// No disk has so many bytes as are asked for.
+    Size,
     OutOfMemory,
     /// The file or folder of this name can't be opened, read or written.
     File(String),
@@ -31,6 +37,20 @@ pub enum Fault {
     Busy(String),
     /// There is something of this name already.
     Exists(String),
+    /// The file of this name holds the state of a disk, or something else.
+    Formatted(String),
+    /// The file of this name isn't a disk's state.
+    NotADisk(String),
+    /// The host at this address can't be reached.
+    OutOfReach(String),
+    /// The host at this address answered something else than that it is done, as where it keeps a disk already.
+    HostRefused(String),
+    /// The state can't be kept in the file of this name.
+    Unkept(String),
+    /// The disk whose state is in the file of this name has made all the accesses that it may.
+    UsedUp(String),
+    /// The system gives no random bytes.
+    Random,
 }
 
 impl From<AllocError> for Fault {
@@ -81,12 +101,27 @@ impl Fault {
             Fault::CommandLine => (
                 "oramdisk: ",
                 "bad command line",
-                ": say host HOST.toml, or new FOLDER\n",
+                ": say new FOLDER --size 1GiB, or host, format, serve or status and the name of a settings file\n",
             ),
             Fault::Settings(name) => (
                 "oramdisk: bad settings in ",
                 name.as_str(),
                 ": they have to be listen = \"127.0.0.1:PORT\" and file = \"NAME\", and nothing else\n",
+            ),
+            Fault::DiskSettings(name) => (
+                "oramdisk: bad settings in ",
+                name.as_str(),
+                ": its keys have to be those that oramdisk new writes, with values like those\n",
+            ),
+            Fault::Device(name) => (
+                "oramdisk: bad numbers in ",
+                name.as_str(),
+                ": size has to be from 1 to 16777216 blocks, block from 16 to 4096 and a multiple of 4, slots from 1 to 8, and table from 1 to 16777216\n",
+            ),
+            Fault::Size => (
+                "oramdisk: ",
+                "no disk has this size",
+                ": name one up to 64GiB, as 1GiB or 512MiB\n",
             ),
             Fault::OutOfMemory => ("oramdisk: ", "out of memory", "\n"),
             Fault::File(name) => (
@@ -124,6 +159,41 @@ impl Fault {
                 name.as_str(),
                 " is there already, and is left as it is: name another folder\n",
             ),
+            Fault::Formatted(name) => (
+                "oramdisk: ",
+                name.as_str(),
+                " is there already, and is left as it is: to format anew, take it away, and name a new file at the host\n",
+            ),
+            Fault::NotADisk(name) => (
+                "oramdisk: ",
+                name.as_str(),
+                " isn't the state of a disk with these settings, and is left as it is\n",
+            ),
+            Fault::OutOfReach(address) => (
+                "oramdisk: can't reach the host at ",
+                address.as_str(),
+                ": see that it runs and that the way to it is open, and start again\n",
+            ),
+            Fault::HostRefused(address) => (
+                "oramdisk: the host at ",
+                address.as_str(),
+                " doesn't take this disk: name a new file at the host\n",
+            ),
+            Fault::Unkept(name) => (
+                "oramdisk: can't keep the state in ",
+                name.as_str(),
+                ": see that its folder may be written and has room, and start again\n",
+            ),
+            Fault::UsedUp(name) => (
+                "oramdisk: the disk of ",
+                name.as_str(),
+                " has made all its accesses: move what is in it to a new one\n",
+            ),
+            Fault::Random => (
+                "oramdisk: ",
+                "the system gives no random bytes",
+                ": start it again\n",
+            ),
         }
     }
 
@@ -132,14 +202,24 @@ impl Fault {
         ensures { result ≡ status_of self.now }
     {
         match self {
-            Fault::CommandLine | Fault::Settings(_) => 2,
+            Fault::CommandLine
+            | Fault::Settings(_)
+            | Fault::DiskSettings(_)
+            | Fault::Device(_)
+            | Fault::Size => 2,
             Fault::OutOfMemory => 3,
             Fault::File(_) => 4,
             Fault::Address(_) | Fault::Accept => 5,
             Fault::NotOurs(_) => 6,
             Fault::Damaged(_) => 7,
             Fault::Busy(_) => 8,
-            Fault::Exists(_) => 9,
+            Fault::Exists(_) | Fault::Formatted(_) => 9,
+            Fault::NotADisk(_) => 10,
+            Fault::OutOfReach(_) => 11,
+            Fault::HostRefused(_) => 12,
+            Fault::Unkept(_) => 13,
+            Fault::UsedUp(_) => 14,
+            Fault::Random => 15,
         }
     }
 }

@@ -30,7 +30,7 @@ fn settings_in<R: Files + AllocGlobal>(rt: &R, name: String) -> Result<HostSetti
 }
 
 /// Listens at an address.
-fn listen_at<R: Net>(rt: &R, address: String) -> Result<R::Listener, Fault> {
+pub(crate) fn listen_at<R: Net>(rt: &R, address: String) -> Result<R::Listener, Fault> {
     match listen(rt, address.as_str()) {
         Ok(listener) => Ok(listener),
         Err(SocketFault::Failed) => Err(Fault::Address(address)),
@@ -39,7 +39,7 @@ fn listen_at<R: Net>(rt: &R, address: String) -> Result<R::Listener, Fault> {
 }
 
 /// The clock's time in whole seconds of UTC, as RFC 3339 writes it.
-fn time<R: Clock + AllocGlobal>(rt: &R) -> Result<String, AllocError> {
+pub(crate) fn time<R: Clock + AllocGlobal>(rt: &R) -> Result<String, AllocError> {
     let alloc = rt.alloc();
     match Timestamp::now(rt) {
         Ok(now) => format!(in alloc; "{now:.0}"),
@@ -104,7 +104,7 @@ fn passes(kind: ErrorKind) -> bool {
 }
 
 /// What it is to the program that a connection wasn't accepted.
-fn not_accepted(error: &Error) -> Result<(), Fault> {
+pub(crate) fn not_accepted(error: &Error) -> Result<(), Fault> {
     match error.kind() {
         ErrorKind::OutOfMemory => Err(Fault::OutOfMemory),
         kind if passes(kind) => Ok(()),

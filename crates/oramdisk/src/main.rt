@@ -1,4 +1,4 @@
-//! A disk on a rented machine: the host that keeps its buckets in a file, and the folder of settings to begin with.
+//! A disk on a rented machine: the host that keeps its buckets in a file, and its client, which formats and serves it.
 #![tactic(auto)]
 
 // Calls once more where one allocation was refused, so that the tests hold whichever it is.
@@ -12,19 +12,22 @@ macro_rules! retried {
     };
 }
 
-mod command_line;
 mod creating;
+mod disk_files;
 mod faults;
+mod formatting;
 mod hosted;
 mod hosting;
+mod serving;
 mod settings_file;
+mod standing;
 mod tallies;
 mod visits;
 
-pub use command_line::{Words, read_words};
 pub use faults::{Fault, report, store_fault};
 pub use hosted::Hosted;
 use oram_edge::{InputFault, arguments, texts_of};
+use oram_settings::{Words, read_words};
 pub use settings_file::{HostSettings, read_host_settings};
 use std::process::ExitCode;
 use std::rt::Env;
@@ -42,7 +45,10 @@ fn asked<R: Env + AllocGlobal>(rt: &R) -> Result<Words, InputFault> {
 fn run(rt: &HostRuntime) -> Result<(), Fault> {
     match asked(rt) {
         Ok(Words::Host(name)) => hosting::host(rt, name),
-        Ok(Words::New(folder)) => creating::make_folder(rt, folder),
+        Ok(Words::New { folder, size }) => creating::make_folder(rt, folder, size.as_str()),
+        Ok(Words::Format(name)) => formatting::format_disk(rt, name),
+        Ok(Words::Serve(name)) => serving::serve_disk(rt, name),
+        Ok(Words::Status(name)) => standing::tell(rt, name),
         Err(InputFault::Bad) => Err(Fault::CommandLine),
         Err(InputFault::OutOfMemory) => Err(Fault::OutOfMemory),
     }

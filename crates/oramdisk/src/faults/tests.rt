@@ -5,8 +5,8 @@ use std::test::Fail;
 /// The line and the status of a fault; and where the writer fails, a beginning of the line and the same status.
 fn tells(rt: &impl Abort, fault: &Fault, line: &str, status: u8) {
     let line = line.as_bytes();
-    let mut page = [0; 128];
-    for room in 0..line.len().min(128) {
+    let mut page = [0; 256];
+    for room in 0..line.len().min(256) {
         let mut rest = &mut page[..room];
         assert_eq!(rt; report(&mut rest, fault), status);
         assert!(rt; rest.is_empty());
@@ -15,7 +15,7 @@ fn tells(rt: &impl Abort, fault: &Fault, line: &str, status: u8) {
     let mut rest = page.as_mut_slice();
     assert_eq!(rt; report(&mut rest, fault), status);
     let left = rest.len();
-    assert_eq!(rt; page.get(..128usize.saturating_sub(left)), Some(line));
+    assert_eq!(rt; page.get(..256usize.saturating_sub(left)), Some(line));
 }
 
 #[test]
@@ -23,7 +23,7 @@ fn faults_without_a_name(rt: HostRuntime) {
     tells(
         &rt,
         &Fault::CommandLine,
-        "oramdisk: bad command line: say host HOST.toml, or new FOLDER\n",
+        "oramdisk: bad command line: say new FOLDER --size 1GiB, or host, format, serve or status and the name of a settings file\n",
         2,
     );
     tells(&rt, &Fault::OutOfMemory, "oramdisk: out of memory\n", 3);

@@ -1,9 +1,0 @@
--- The program's command line, of which clap says what it takes.
-use Rattle.std.proofs.Common.{◌≡◌, refl, true}
-use Rattle.clap.specs.Faults.{is_simple_and_free}
-use Rattle.clap.proofs.OnLiterals.{clap_on_literals}
-use Rattle.oramdisk.specs.CommandLine.{program}
-
-pub is_free : is_simple_and_free program ≡ true
-unfolding clap_on_literals
-is_free = refl

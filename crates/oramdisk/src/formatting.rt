@@ -1,0 +1,165 @@
+//! A disk is formatted on its host.
+
+use crate::disk_files::disk_settings_in;
+use crate::faults::Fault;
+use oram_bucket::{ChaChaSeal, PlainSeal, Sealer};
+use oram_client::{
+    Ahead, DiskKey, FileKeeper, FormattingFault, Progress, Salt, format_ahead, sealer_key,
+};
+use oram_core::Core;
+use oram_edge::buffered;
+use oram_geometry::Device;
+use oram_keep::Keeper;
+use oram_settings::{DiskSettings, Meter, Sealing, device_of, percent, progress_text};
+use oram_state::encode_state;
+use std::alloc::{AllocError, Global};
+use std::io::{ErrorKind, IsTerminal};
+use std::net::TcpStream;
+use std::random::RandomSource;
+use std::rt::{Clock, Files};
+use std::time::Instant;
+use std::{fs, io};
+
+/// Tells on standard error how far a formatting is: on a terminal in one line that is written over, else in a line for each tenth.
+#[derive(Drop)]
+struct Teller<'a, R> {
+    rt: &'a R,
+    begun: Instant,
+    on_terminal: bool,
+    meter: Meter,
+}
+
+impl<'a, R: Clock> Teller<'a, R> {
+    fn new(rt: &'a R, on_terminal: bool) -> io::Result<Teller<'a, R>> {
+        Ok(Teller {
+            rt,
+            begun: Instant::now(rt)?,
+            on_terminal,
+            meter: Meter::new(if on_terminal { 1 } else { 10 }),
+        })
+    }
+}
+
+impl<'a, R: Clock + Eprint + AllocGlobal> Teller<'a, R> {
+    fn tell(&self, messages: u64, of: u64) -> io::Result<()> {
+        let alloc = self.rt.alloc();
+        let elapsed = self.begun.elapsed(self.rt)?.as_millis();
+        let milliseconds = u64::try_from(elapsed).unwrap_or(u64::MAX);
+        let text = progress_text(alloc, messages, of, milliseconds)?;
+        let text = text.as_str();
+        let line = if !self.on_terminal {
+            format!(in alloc; "oramdisk: {text}\n")?
+        } else if messages < of {
+            format!(in alloc; "\r{text}\x1b[K")?
+        } else {
+            format!(in alloc; "\r{text}\x1b[K\n")?
+        };
+        self.rt.eprint(line.as_str())
+    }
+}
+
+impl<'a, R: Clock + Eprint + AllocGlobal> Progress for Teller<'a, R> {
+    fn answered(&mut self, messages: u64, of: u64) {
+        if self.meter.is_due(percent(messages, of)) {
+            let _passed_over = self.tell(messages, of);
+        }
+    }
+}
+
+/// What a formatting's fault is to the program, where its host is at this address.
+fn formatting_fault(fault: FormattingFault, host: String) -> Fault {
+    match fault {
+        FormattingFault::Link => Fault::OutOfReach(host),
+        FormattingFault::Refused | FormattingFault::Unheld => Fault::HostRefused(host),
+        FormattingFault::OutOfMemory => Fault::OutOfMemory,
+    }
+}
+
+/// What a connection that isn't made is to the program.
+fn unreached(error: &io::Error, host: String) -> Fault {
+    if error.kind() == ErrorKind::OutOfMemory {
+        Fault::OutOfMemory
+    } else {
+        Fault::OutOfReach(host)
+    }
+}
+
+/// A device on the host at this address.
+fn formatted<S: Sealer>(
+    rt: &HostRuntime,
+    device: Device,
+    sealer: S,
+    host: String,
+) -> Result<Core<S>, Fault> {
+    let alloc = rt.alloc();
+    let halves = match TcpStream::connect(rt, host.as_str()) {
+        Ok(stream) => buffered(alloc, stream),
+        Err(error) => Err(error),
+    };
+    let (reader, writer) = match halves {
+        Ok(halves) => halves,
+        Err(error) => return Err(unreached(&error, host)),
+    };
+    let teller = match Teller::new(rt, rt.stderr().is_terminal()) {
+        Ok(teller) => teller,
+        Err(error) => return Err(unreached(&error, host)),
+    };
+    let mut ahead = Ahead::new(alloc, &device, reader, writer, teller);
+    match format_ahead(alloc, device, sealer, &mut ahead) {
+        Ok(core) => Ok(core),
+        Err(fault) => Err(formatting_fault(fault, host)),
+    }
+}
+
+/// A device is formatted, and its state kept for the first time.
+fn format_with<S: Sealer>(
+    rt: &HostRuntime,
+    device: Device,
+    sealer: S,
+    salt: Salt,
+    settings: DiskSettings,
+) -> Result<(), Fault> {
+    let alloc = rt.alloc();
+    let name = settings.state.as_str();
+    let mut keeper = FileKeeper::new(rt, alloc, name, salt, settings.sync)?;
+    let core = formatted(rt, device, sealer, settings.host)?;
+    let state = encode_state(alloc, &core)?;
+    match keeper.keep(state.as_slice()) {
+        Ok(()) => Ok(()),
+        Err(_) => Err(Fault::Unkept(settings.state)),
+    }
+}
+
+/// A salt that was never used.
+fn new_salt<R: RandomSource>(rt: &R) -> Result<Salt, Fault> {
+    let mut salt = [0; 32];
+    match rt.fill_bytes(&mut salt) {
+        Ok(()) => Ok(Salt(salt)),
+        Err(_) => Err(Fault::Random),
+    }
+}
+
+/// Formats the disk whose settings are in the file of this name. A state that is there already is left as it is.
+pub(crate) fn format_disk(rt: &HostRuntime, name: String) -> Result<(), Fault> {
+    let alloc = rt.alloc();
+    let settings = disk_settings_in(rt, String::from_str(alloc, name.as_str())?)?;
+    let Some(device) = device_of(
+        settings.size,
+        settings.block,
+        settings.slots,
+        settings.table,
+    ) else {
+        return Err(Fault::Device(name));
+    };
+    if fs::symlink_metadata(rt, settings.state.as_str()).is_ok() {
+        return Err(Fault::Formatted(settings.state));
+    }
+    let salt = new_salt(rt)?;
+    match settings.sealer {
+        Sealing::Plain => format_with(rt, device, PlainSeal, salt, settings),
+        Sealing::ChaCha => {
+            let key = sealer_key(&DiskKey(settings.key), &salt).0;
+            format_with(rt, device, ChaChaSeal { key }, salt, settings)
+        }
+    }
+}
