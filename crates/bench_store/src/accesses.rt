@@ -7,7 +7,7 @@ use oram_bytes::Bytes;
 use oram_geometry::Device;
 use oram_host::Server;
 use oram_store::Store;
-use oram_wire::HostRequest;
+use oram_wire::{GOOD, HostRequest};
 use rand_chacha::ChaCha20Rng;
 use rand_core::{Rng, SeedableRng};
 use sqlite::Alter;
@@ -29,7 +29,7 @@ pub(crate) struct Shape {
 }
 
 /// What takes the bodies of requests.
-trait Takes {
+pub(crate) trait Takes {
     fn take(&mut self, alloc: Global, body: &[u8]) -> io::Result<Vec<u8>>;
 }
 
@@ -83,7 +83,7 @@ fn timed<T: Takes>(
     Ok(answer)
 }
 
-pub(crate) fn shape_body(alloc: Global, shape: Shape) -> Result<Vec<u8>, AllocError> {
+fn shape_body(alloc: Global, shape: Shape) -> Result<Vec<u8>, AllocError> {
     HostRequest::Shape {
         tree: 0,
         depth: shape.depth,
@@ -93,7 +93,7 @@ pub(crate) fn shape_body(alloc: Global, shape: Shape) -> Result<Vec<u8>, AllocEr
 }
 
 /// The body of a PUT of bytes that are all alike.
-pub(crate) fn put_body(alloc: Global, shape: Shape, node: u32) -> Result<Vec<u8>, AllocError> {
+fn put_body(alloc: Global, shape: Shape, node: u32) -> Result<Vec<u8>, AllocError> {
     let record_len = shape.record_len as usize;
     HostRequest::Put {
         tree: 0,
@@ -103,13 +103,17 @@ pub(crate) fn put_body(alloc: Global, shape: Shape, node: u32) -> Result<Vec<u8>
     .encode(alloc)
 }
 
-/// Gives a tree its shape and all its records.
-fn format<T: Takes>(alloc: Global, taker: &mut T, shape: Shape) -> io::Result<()> {
+/// Gives a tree its shape and all its records. Tells how many records were taken.
+pub(crate) fn format<T: Takes>(alloc: Global, taker: &mut T, shape: Shape) -> io::Result<u32> {
     let _ = taker.take(alloc, shape_body(alloc, shape)?.as_slice())?;
+    let mut taken = 0u32;
     for node in 0..(2u32 << shape.depth).saturating_sub(1) {
-        let _ = taker.take(alloc, put_body(alloc, shape, node)?.as_slice())?;
+        let answer = taker.take(alloc, put_body(alloc, shape, node)?.as_slice())?;
+        if answer.as_slice() == [GOOD].as_slice() {
+            taken = taken.saturating_add(1);
+        }
     }
-    Ok(())
+    Ok(taken)
 }
 
 /// A FETCH of a leaf, and a STORE of bytes drawn at random to it.
@@ -199,18 +203,18 @@ where
 {
     let mut server = Server::new(rt.alloc());
     let start = Instant::now(rt)?;
-    format(rt.alloc(), store, shape)?;
+    let taken = format(rt.alloc(), store, shape)?;
     if store.settle().is_err() {
         return Err(io::ErrorKind::Other.into());
     }
     let formatting = start.elapsed(rt)?;
     println!(rt;
-        "a tree of depth {}, records of {} bytes, put in {} ms",
+        "a tree of depth {}, {taken} records of {} bytes, put in {} ms",
         shape.depth,
         shape.record_len,
         formatting.as_millis()
     )?;
-    format(rt.alloc(), &mut server, shape)?;
+    let _ = format(rt.alloc(), &mut server, shape)?;
     let plain_name = format!(in rt.alloc(); "{file}-plain")?;
     let mut plain = Plain(fs::create(rt, plain_name.as_str())?);
     let mut times = [NONE; 3];

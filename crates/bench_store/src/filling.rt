@@ -1,9 +1,9 @@
 //! A file of some size, filled and opened again.
 
-use crate::accesses::{Shape, first_shape, put_body, shape_body};
+use crate::accesses::{Shape, first_shape, format};
 use crate::system::{new_store, opened, report_memory};
 use oram_store::Store;
-use oram_wire::{GOOD, fetch_header};
+use oram_wire::fetch_header;
 use sqlite::Alter;
 use std::alloc::{AllocError, Global};
 use std::io;
@@ -12,43 +12,26 @@ use std::time::Instant;
 /// How many paths are fetched from a file that was filled.
 const FETCHES: u32 = 1_000;
 
-/// The depth of the tree that is filled.
-const DEPTH: u8 = 20;
-
-/// Puts records at the first nodes of a tree. Tells how many were taken.
-fn put_records<S: Alter>(
-    alloc: Global,
-    store: &mut Store<S>,
-    shape: Shape,
-    count: u32,
-) -> Result<u32, AllocError> {
-    let mut taken = 0u32;
-    let _ = store.answer(alloc, shape_body(alloc, shape)?.as_slice())?;
-    for node in 0..count {
-        let body = put_body(alloc, shape, node)?;
-        if store.answer(alloc, body.as_slice())?.as_slice() == [GOOD].as_slice() {
-            taken = taken.saturating_add(1);
-        }
+/// A tree of this depth, with the records of the first device.
+fn shape_of(depth: &str) -> Option<Shape> {
+    let depth: u8 = depth.parse().ok()?;
+    let first = first_shape()?;
+    if depth > 24 {
+        return None;
     }
-    Ok(taken)
+    Some(Shape {
+        depth,
+        record_len: first.record_len,
+    })
 }
 
-pub(crate) fn fill(rt: &HostRuntime, file: &str, size: &str) -> io::Result<()> {
-    let megabytes: u32 = match size.parse() {
-        Ok(megabytes) => megabytes,
-        Err(_) => return Err(io::ErrorKind::InvalidInput.into()),
+pub(crate) fn fill(rt: &HostRuntime, file: &str, depth: &str) -> io::Result<()> {
+    let Some(shape) = shape_of(depth) else {
+        return Err(io::ErrorKind::InvalidInput.into());
     };
-    let Some(first) = first_shape() else {
-        return Ok(());
-    };
-    let shape = Shape {
-        depth: DEPTH,
-        record_len: first.record_len,
-    };
-    let count = megabytes.saturating_mul(1 << 10) / (shape.record_len >> 10).max(1);
     let mut store = new_store(rt, file)?;
     let start = Instant::now(rt)?;
-    let taken = put_records(rt.alloc(), &mut store, shape, count)?;
+    let taken = format(rt.alloc(), &mut store, shape)?;
     let settled = store.close();
     println!(rt;
         "{taken} records of {} bytes put and closed in {} ms: {}",

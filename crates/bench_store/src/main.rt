@@ -2,8 +2,8 @@
 //!
 //! `run FILE` makes the first device of `bench_core` in a new file, one tree of blocks of 4,096 bytes, and tells how many FETCHes
 //! and STOREs a second the store answers, how many the server in memory, and how many writes of the same bytes are synced a second,
-//! in one run. `fill FILE MEGABYTES` makes a deep tree of the same records in a new file and puts as many bytes; `open FILE` opens
-//! what `fill` left, and fetches. Each tells the most memory that the process had.
+//! in one run. `fill FILE DEPTH` makes a whole tree of that depth of the same records in a new file (depth 16: 2.2 GB); `open FILE`
+//! opens what `fill` left, and fetches the paths of its first 1,000 leaves. Each tells the most memory that the process had.
 #![tactic(auto)]
 
 mod accesses;
@@ -18,11 +18,11 @@ fn main(rt: HostRuntime) -> io::Result<()> {
     let mut words = env::args(&rt)?.skip(1);
     let mode = words.next();
     let file = words.next();
-    let size = words.next();
-    match (mode.as_deref(), file.as_deref(), size.as_deref()) {
+    let depth = words.next();
+    match (mode.as_deref(), file.as_deref(), depth.as_deref()) {
         (Some("run"), Some(file), None) => measure(&rt, file),
         (Some("open"), Some(file), None) => reopen(&rt, file),
-        (Some("fill"), Some(file), Some(size)) => fill(&rt, file, size),
-        _ => println!(rt; "bench_store run FILE | open FILE | fill FILE MEGABYTES"),
+        (Some("fill"), Some(file), Some(depth)) => fill(&rt, file, depth),
+        _ => println!(rt; "bench_store run FILE | open FILE | fill FILE DEPTH"),
     }
 }
