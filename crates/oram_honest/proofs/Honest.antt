@@ -2,6 +2,7 @@
 use Rattle.std.proofs.Common.{◌≡◌, ℕ, ◌&&◌, false, List, [], ◌∷◌, length, Option, None, refl, ap, sym, ◌∙◌, subst, inl, inr}
 use Rattle.oram_wire.specs.HostMessages.{answer_body}
 use Rattle.oram_wire.specs.declared.host_messages.HostAnswer.{HostAnswer}
+use Rattle.oram_geometry.specs.Sizes.{IsDevice}
 use Rattle.oram_host.specs.Host.{Host}
 use Rattle.oram_run.specs.Agree.{IsOrderly}
 use Rattle.oram_run.specs.Answers.{Outcome, outcome_of, pair_in}
@@ -9,7 +10,8 @@ use Rattle.oram_run.specs.Messages.{asked}
 use Rattle.oram_run.specs.Moves.{Moves, moved, goes_on, on_answer, on_loss, on_retry, shows_in}
 use Rattle.oram_run.specs.Progress.{Status}
 use Rattle.oram_run.specs.Progress.Status.{Idle, Waiting, Stalling, Over}
-use Rattle.oram_run.specs.Run.{fails_now, is_over, is_waiting, refusal_of}
+use Rattle.oram_run.specs.Law.{IsServing, StepsByRule}
+use Rattle.oram_run.specs.Run.{Shown, fails_now, is_over, is_waiting, refusal_of}
 use Rattle.oram_run.specs.Shape.{Shape}
 use Rattle.oram_run.specs.State.{State, World, status_by, status_in}
 use Rattle.oram_run.specs.declared.events.Event.{Event}
@@ -21,7 +23,7 @@ use Rattle.oram_run.proofs.AgreeSteps.{agreeing_fits}
 use Rattle.oram_run.proofs.Bounds.{IsFit, fit_device}
 use Rattle.oram_run.proofs.Serving.{cores_serve, new_cores_serve}
 use Rattle.oram_honest.specs.Honest.{HeardOrNot, IsHonest}
-use Rattle.oram_honest.specs.Hosting.{Hosts, HostsBy, HostsWork}
+use Rattle.oram_honest.specs.Hosting.{GoesOnHosted, Hosts, HostsBy, HostsWork}
 use Rattle.oram_honest.specs.Law.{HonestHostsServe, NewHostsServe}
 use Rattle.oram_honest.proofs.FormattedHosts.{formatted_kept}
 use Rattle.oram_honest.proofs.Going.{Goes, goes_again, goes_good, goes_stalled, goes_submitted, goes_unchanged}
@@ -29,13 +31,13 @@ use Rattle.oram_honest.proofs.Handed.{full_apart, full_outcome}
 use Rattle.oram_honest.proofs.Meeting.{Met, met, met_hosts}
 
 -- a command is at work in a core that waits
-record IsBusy (v : Shape) (s : State) (w : World) (host : Host) : Type 0 where
-  oldest : Submission
-  rest : List Submission
-  queue : s.queue ≡ oldest ∷ rest
-  work : HostsWork v s w host
+pub record IsBusy (v : Shape) (s : State) (w : World) (host : Host) : Type 0 where
+  pub oldest : Submission
+  pub rest : List Submission
+  pub queue : s.queue ≡ oldest ∷ rest
+  pub work : HostsWork v s w host
 
-busy_by : (v : Shape) (s : State) (w : World) (host : Host) (queue : List Submission) → s.queue ≡ queue → s.failure ≡ None
+pub busy_by : (v : Shape) (s : State) (w : World) (host : Host) (queue : List Submission) → s.queue ≡ queue → s.failure ≡ None
     → status_in s ≡ Waiting → HostsBy v s w host queue → IsBusy v s w host
 busy_by v s w host [] qu alive waits h =
     let idle : status_in s ≡ Idle = ap (λ (f : Option Reason). status_by f s.queue s.lost) alive ∙ ap (λ (q : List Submission). status_by None q s.lost) qu in
@@ -146,15 +148,15 @@ module _ (v : Shape) (s : State) (w : World) (fit : IsFit v.device) (alive : s.f
   apart host after Reopen h honest = refl
   apart host after Retry h honest = refl
 
-pub honest_hosts_serve : HonestHostsServe
-honest_hosts_serve v s t w array event x host after device alive serving hosts steps honest =
+-- what is done to the core doesn't fail it, and shows no two records of one digest
+pub served_on : (v : Shape) (s t : State) (w : World) (array : ℕ → List ℕ) (event : Event) (x : Shown) (after : Host) → IsDevice v.device
+    → IsServing v s w array → shows_in v s w event ≡ false → Goes v s w after (moved v s w event) → StepsByRule v s event x t
+    → GoesOnHosted v s t w array event x after
+served_on v s t w array event x after device serving off one steps =
     let fit : IsFit v.device = fit_device v.device device in
-    let o : IsOrderly v s = serving.orderly in
-    let off : shows_in v s w event ≡ false = apart v s w fit alive o host after event hosts honest in
-    let one : Goes v s w after (moved v s w event) = goes v s w fit alive o host after event hosts honest in
-    let mv : Moves v s w event x t = steps w (agreeing_fits v s w fit o serving.agrees serving.holds) off in
+    let mv : Moves v s w event x t = steps w (agreeing_fits v s w fit serving.orderly serving.agrees serving.holds) off in
     let healthy : t.failure ≡ None = ap (λ (u : State). u.failure) mv.state ∙ one.alive in
-    let on = cores_serve v s t w array event x device o serving.holds serving.agrees serving.serves off steps healthy in
+    let on = cores_serve v s t w array event x device serving.orderly serving.holds serving.agrees serving.serves off steps healthy in
     record {
       apart = off;
       calm = ap fails_now mv.note ∙ one.calm;
@@ -162,6 +164,12 @@ honest_hosts_serve v s t w array event x host after device alive serving hosts s
       goes_on = on;
       hosts = one.hosts x t mv (record { alive = healthy; orderly = on.orderly; holds = on.holds; agrees = on.agrees });
     }
+
+pub honest_hosts_serve : HonestHostsServe
+honest_hosts_serve v s t w array event x host after device alive serving hosts steps honest =
+    let fit : IsFit v.device = fit_device v.device device in
+    let off : shows_in v s w event ≡ false = apart v s w fit alive serving.orderly host after event hosts honest in
+    served_on v s t w array event x after device serving off (goes v s w fit alive serving.orderly host after event hosts honest) steps
 
 pub new_hosts_serve : NewHostsServe
 new_hosts_serve v trees host device light made puts =

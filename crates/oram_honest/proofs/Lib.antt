@@ -3,3 +3,4 @@ pub mod FormattedHosts
 pub mod Meeting
 pub mod Going
 pub mod Honest
+pub mod Lying

@@ -1,3 +1,4 @@
 pub mod Honest
 pub mod Hosting
+pub mod Lying
 pub mod Law

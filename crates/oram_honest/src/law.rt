@@ -1,5 +1,6 @@
 //! Laws about honest hosts.
 ghost use Rattle.oram_honest.specs.Law.{HonestHostsServe, NewHostsServe};
+ghost use Rattle.oram_honest.specs.Lying.{LyingHostsFail};
 
 /// A law about definitions: over an honest host a core that serves an array goes on so at any event, and never fails.
 pub fn honest_hosts_serve()
@@ -9,4 +10,10 @@ pub fn honest_hosts_serve()
 /// A law about definitions: over a host that kept nothing and took each message of the formatting, a new core serves zeros.
 pub fn new_hosts_serve()
     ensures { NewHostsServe }
+{}
+
+/// A law about definitions: whatever a host answers, a core that serves an array goes on so or fails, unless two records of one digest
+/// are shown. What there is to serve from is told by an honest host that hears the same messages.
+pub fn lying_hosts_fail()
+    ensures { LyingHostsFail }
 {}

@@ -6,4 +6,4 @@
 
 mod law;
 
-pub use law::{honest_hosts_serve, new_hosts_serve};
+pub use law::{honest_hosts_serve, lying_hosts_fail, new_hosts_serve};

@@ -1,25 +1,27 @@
-//! Laws about kept cores over honest hosts.
+//! Laws about kept cores, over a host that is honest and over one that may lie.
+//!
+//! Of a host that may lie it is known what an honest one would keep that hears the same messages. Such a host may answer anything; it
+//! can't find two records of one digest.
 ghost use Rattle.oram_keep.specs.Surviving.{CommandsLast, KeptCoresGoOn, ReopenedCoresRecover};
 
 use crate::keeper::Keeper;
 use oram_session::Link;
 
-/// A law about definitions: over a link to an honest host a command has the array's reply, and then what is read back holds the array
+/// A law about definitions: a command has the array's reply, or fails where the host lies, and then what is read back holds the array
 /// after it; where the process ends before, what is read back holds the array before it or after it. Where a fault leaves the command at
 /// work, the core recovers the array after it.
 pub fn commands_last<L: Link, K: Keeper>()
     ensures { CommandsLast L.calls K.keeps }
 {}
 
-/// A law about definitions: over a link to an honest host a core that was read back carries out what waits in it, and then holds the
-/// array that it was to hold; so does what is read back, then and wherever the process ends before. Where a fault leaves it at work, the
-/// core still recovers that array.
+/// A law about definitions: a core that was read back carries out what waits in it, and then holds the array that it was to hold, or has
+/// failed where the host lies; so does what is read back, then and wherever the process ends before. Where a fault leaves it at work,
+/// the core still recovers that array.
 pub fn kept_cores_go_on<L: Link, K: Keeper>()
     ensures { KeptCoresGoOn L.calls K.keeps }
 {}
 
-/// A law about definitions: over a link to an honest host a core that was told that it was reopened, and no more, recovers the array that it
-/// was to hold.
+/// A law about definitions: a core that was told that it was reopened, and no more, recovers the array that it was to hold.
 pub fn reopened_cores_recover<L: Link>()
     ensures { ReopenedCoresRecover L.calls }
 {}

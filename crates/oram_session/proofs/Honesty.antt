@@ -1,5 +1,5 @@
 -- Over a link to an honest host a plain array answers a session.
-use Rattle.std.proofs.Common.{◌≡◌, ◌≢◌, ◌⊎◌, ℕ, ◌*◌, ◌<◌, arith, Bool, true, false, if◌then◌else◌, List, [], ◌∷◌, ◌++◌, length, drop, Option, Some, None, unwrap_or, Ok, Err, refl, sym, ap, ◌∙◌, subst, inl, inr, append-nil}
+use Rattle.std.proofs.Common.{◌≡◌, ◌≢◌, ◌⊎◌, ℕ, ◌*◌, ◌<◌, arith, Bool, true, false, if◌then◌else◌, List, [], ◌∷◌, ◌++◌, length, drop, map, Option, Some, None, unwrap_or, Ok, Err, refl, sym, ap, ◌∙◌, subst, inl, inr, append-nil}
 use Rattle.std.specs.Prelude.{MatchBool}
 use Rattle.std.specs.List.{All, FoldsTo, flat_map}
 use Rattle.std.proofs.lemmas.List.Elements.{All-head, All-tail}
@@ -12,7 +12,8 @@ use Rattle.oram_wire.specs.declared.host_messages.HostAnswer.TheVariants.{Done, 
 use Rattle.oram_host.specs.Host.{Host}
 use Rattle.oram_host.specs.Serving.{Serves}
 use Rattle.oram_tree.specs.Format.{PutsAll}
-use Rattle.oram_run.specs.Law.{IsServing, new_state, world_of}
+use Rattle.oram_run.specs.Events.{failed_reply}
+use Rattle.oram_run.specs.Law.{new_state, world_of}
 use Rattle.oram_run.specs.Moves.{moved, world_after}
 use Rattle.oram_run.specs.Progress.{Setting, Status}
 use Rattle.oram_run.specs.Progress.Status.{Idle, Waiting, Stalling, Over}
@@ -22,7 +23,7 @@ use Rattle.oram_run.specs.Shape.{Shape}
 use Rattle.oram_run.specs.State.{State, World, status_by, status_in}
 use Rattle.oram_run.specs.declared.events.Command.{Command}
 use Rattle.oram_run.specs.declared.events.Event.{Event}
-use Rattle.oram_run.specs.declared.events.Event.TheVariants.{Submit}
+use Rattle.oram_run.specs.declared.events.Event.TheVariants.{Answer, Submit}
 use Rattle.oram_run.specs.declared.events.Note.{Note}
 use Rattle.oram_run.specs.declared.events.Refusal.{Refusal}
 use Rattle.oram_run.specs.declared.events.Refusal.TheVariants.{BadAddress, BadLength, BadWords, Busy, Exhausted, Failed}
@@ -33,11 +34,13 @@ use Rattle.oram_core.specs.Steps.{Steps, Heard, did}
 use Rattle.oram_honest.specs.Honest.{IsHonest, Takes}
 use Rattle.oram_honest.specs.Hosting.{GoesOnHosted, Hosts, HostsBy, HostsWork}
 use Rattle.oram_honest.specs.Law.{IsNewHosted}
+use Rattle.oram_honest.specs.Lying.{IsLie}
 use Rattle.oram_honest.proofs.Honest.{honest_hosts_serve, new_hosts_serve}
+use Rattle.oram_honest.proofs.Lying.{lying_hosts_fail}
 use Rattle.oram_honest.proofs.Meeting.{met, met_hosts}
 use Rattle.oram_session.specs.Exchanges.{Runs, Sending, IsSent, IsAnswered, AllSent, event_of, is_stall, retried}
 use Rattle.oram_session.specs.Formatting.{TakesMessage}
-use Rattle.oram_session.specs.Honesty.{IsHonestCall, IsHonestLink, IsArrayTurn, IsBusy, IsHeld, NewDevicesHoldZeros, SessionsAreTheArrays}
+use Rattle.oram_session.specs.Honesty.{HasFailed, IsHeardCall, IsHeardLink, IsHonestCall, IsHonestLink, IsArrayTurn, IsBusy, IsHeld, NewDevicesHoldZeros, SessionsAreTheArrays}
 use Rattle.oram_session.specs.Links.{AnswersOf, DirectCall, Faulty, FaultyCall, ToServer, is_due}
 use Rattle.oram_session.specs.Outcome.{Outcome}
 use Rattle.oram_session.specs.Requests.{command_of, told}
@@ -121,13 +124,19 @@ submit_honest Waiting last session c words host = refl
 submit_honest Stalling last session c words host = refl
 submit_honest Over last session c words host = refl
 
-module _ {L : Type 0} (calls : L → List ℕ → Outcome → L → Type 0) (host_of : L → Host) (honest : IsHonestLink calls host_of) (v : Shape) (device : IsDevice v.device) where
-  pub call_keeps : (s : State) (w : World) (host after : Host) (o : Outcome) → HostsWork v s w host → IsHonestCall host s.last o after
-      → HostsWork v s w after
-  call_keeps s w host after (Ok bytes) b h = met_hosts v s w host after h.0 b (met v s w host after h.0 b h.3)
-  call_keeps s w host after (Err fault) b (inl same) = subst (HostsWork v s w) (sym same) b
-  call_keeps s w host after (Err fault) b (inr late) = met_hosts v s w host after late.0 b (met v s w host after late.0 b late.1)
+honest_keeps : (v : Shape) (s : State) (w : World) (host after : Host) (o : Outcome) → HostsWork v s w host → IsHonestCall host s.last o after
+    → HostsWork v s w after
+honest_keeps v s w host after (Ok bytes) b h = met_hosts v s w host after h.0 b (met v s w host after h.0 b h.3)
+honest_keeps v s w host after (Err fault) b (inl same) = subst (HostsWork v s w) (sym same) b
+honest_keeps v s w host after (Err fault) b (inr late) = met_hosts v s w host after late.0 b (met v s w host after late.0 b late.1)
 
+-- each message is heard, whatever is answered
+pub call_keeps : (may_lie : Bool) (v : Shape) (s : State) (w : World) (host after : Host) (o : Outcome) → HostsWork v s w host
+    → IsHeardCall may_lie v host s.last o after → HostsWork v s w after
+call_keeps may_lie v s w host after o b (inl honest) = honest_keeps v s w host after o b honest
+call_keeps may_lie v s w host after o b (inr lie) = met_hosts v s w host after lie.3.answer b (met v s w host after lie.3.answer b lie.3.heard)
+
+module _ (may_lie : Bool) {L : Type 0} (calls : L → List ℕ → Outcome → L → Type 0) (host_of : L → Host) (v : Shape) (heard_by : IsHeardLink may_lie v calls host_of) (device : IsDevice v.device) where
   -- The last call with a message, after those that stalled: the core is as it was at the first one.
   record Reached (s : State) (w : World) (m : L) (last : Outcome) (replies : List Reply) (t : State) : Type 0 where
     at : L
@@ -155,21 +164,25 @@ module _ {L : Type 0} (calls : L → List ℕ → Outcome → L → Type 0) (hos
       let back = retried_is v s core.1 again.1 again.0 waits (ap (λ (d : Did). d.state) first) again.3 in
       let same : replies ≡ again.2 =
       core.5 ∙ ap (λ (xs : List Reply). xs ++ core.2) (ap (λ (d : Did). d.replies) first) ∙ again.5 ∙ ap (λ (xs : List Reply). xs ++ again.2) back.0 in
-      let heard : IsHonestCall (host_of l) s.last o (host_of link.0) =
-      subst (λ (k : List ℕ). IsHonestCall (host_of l) k o (host_of link.0)) named (honest l link.0 message o link.1) in
+      let heard : IsHeardCall may_lie v (host_of l) s.last o (host_of link.0) =
+      subst (λ (k : List ℕ). IsHeardCall may_lie v (host_of l) k o (host_of link.0)) named (heard_by l link.0 message o link.1) in
       subst (λ (rs : List Reply). Reached s w m last rs t) (sym same)
-      (reached stalls last message s t w link.0 m again.2 waits named (call_keeps s w (host_of l) (host_of link.0) o work heard)
+      (reached stalls last message s t w link.0 m again.2 waits named (call_keeps may_lie v s w (host_of l) (host_of link.0) o work heard)
       (All-tail (λ (y : Outcome). is_stall y ≡ true) o stalls all) link.2
       (subst (λ (u : State). Runs v u (retried stalls ++ event_of last ∷ []) again.2 t) back.1 again.4))
 
   abbrev pub Working : State × L → Submission → (ℕ → List ℕ) → Type 0
   Working p x array = IsBusy v host_of p x array
 
-  -- a message is answered: the command goes on, or has the array's reply
+  -- a lie failed the device
+  abbrev pub Failing : State × L → Submission → List Reply → Type 0
+  Failing q x replies = (may_lie ≡ true) × HasFailed q.0 × (replies ≡ failed_reply x ∷ [])
+
+  -- a message is answered: the command goes on, or has the array's reply, or the device has failed
   abbrev pub Next : State × L → Submission → (ℕ → List ℕ) → List Reply → Type 0
   Next q x array replies =
       (Working q x array × (replies ≡ []))
-      ⊎ (IsHeld v host_of q (array_after v.device x.command array) × (replies ≡ reply_by array x ∷ []))
+      ⊎ ((IsHeld v host_of q (array_after v.device x.command array) × (replies ≡ reply_by array x ∷ [])) ⊎ Failing q x replies)
 
   module _ (s t : State) (m : L) (x : Submission) (array : ℕ → List ℕ) (w : World) (o : Outcome) (shown : Shown) (queue : s.queue ≡ x ∷ []) (heard : Heard v s (did shown t)) (on : GoesOnHosted v s t w array (event_of o) shown (host_of m)) where
     next : Next (t, m) x array shown.replies
@@ -187,7 +200,7 @@ module _ {L : Type 0} (calls : L → List ℕ → Outcome → L → Type 0) (hos
       | inr replied ↦
           let same : replied.0 ≡ x = ap (λ (q : List Submission). first_or q x) (sym replied.2 ∙ queue) in
           let empty : t.queue ≡ [] = unqueued v s t shown on.alive x (reply_by array replied.0) heard queue replied.3 in
-          inr (
+          inr (inl (
             record {
               settled = rw (on.alive, empty) refl;
               alive = on.alive;
@@ -201,8 +214,33 @@ module _ {L : Type 0} (calls : L → List ℕ → Outcome → L → Type 0) (hos
               hosts = on.hosts;
             },
             replied.3 ∙ ap (λ (y : Submission). reply_by array y ∷ []) same,
-          )
+          ))
     ]
+
+  module _ (p q : State × L) (x : Submission) (array : ℕ → List ℕ) (b : Working p x array) (waits : status_in p.0 ≡ Waiting) (at : L) (work : HostsWork v p.0 b.world (host_of at)) (shown : Shown) where
+    hosts_at : Hosts v p.0 b.world (host_of at)
+    hosts_at = subst (HostsBy v p.0 b.world (host_of at)) (sym b.queue) work
+
+    lied_to : (bytes : List ℕ) → Steps v p.0 (Answer bytes) shown q.0 → is_stall (Ok bytes) ≡ false → may_lie ≡ true
+        → IsLie v (host_of at) p.0.last bytes (host_of q.1) → Next q x array shown.replies
+    lied_to bytes step answered may lie =
+        elim (lying_hosts_fail v p.0 q.0 b.world array bytes shown (host_of at) (host_of q.1) device b.alive waits b.serving hosts_at step.moves lie) [
+          | inl on ↦ next p.0 q.0 q.1 x array b.world (Ok bytes) shown b.queue (heard_is v p.0 q.0 (Ok bytes) shown waits answered step) on
+          | inr failed ↦ inr (inr (may, (failed.reason, failed.failure), failed.replies ∙ ap (λ (ys : List Submission). map failed_reply ys) b.queue))
+        ]
+
+    answered_by : (o : Outcome) → Steps v p.0 (event_of o) shown q.0 → is_stall o ≡ false
+        → IsHeardCall may_lie v (host_of at) p.0.last o (host_of q.1) → Next q x array shown.replies
+    answered_by o step answered (inl honest) =
+        let called : IsHonest (status_in p.0) p.0.last (event_of o) (host_of at) (host_of q.1) =
+        subst (λ (now : Status). IsHonest now p.0.last (event_of o) (host_of at) (host_of q.1)) (sym waits)
+        (as_honest o p.0.last (host_of at) (host_of q.1) honest) in
+        let on : GoesOnHosted v p.0 q.0 b.world array (event_of o) shown (host_of q.1) =
+        honest_hosts_serve v p.0 q.0 b.world array (event_of o) shown (host_of at) (host_of q.1) device b.alive b.serving hosts_at step.moves called in
+        next p.0 q.0 q.1 x array b.world o shown b.queue (heard_is v p.0 q.0 o shown waits answered step) on
+    answered_by o step answered (inr lie) =
+        lied_to lie.1 (subst (λ (k : Outcome). Steps v p.0 (event_of k) shown q.0) lie.2 step)
+        (sym (ap is_stall lie.2) ∙ answered) lie.0 lie.3
 
   pub sent_on : (p q : State × L) (x : Submission) (array : ℕ → List ℕ) (y : Sending) → Working p x array
       → IsSent v calls most_retries p y q → IsAnswered y → Next q x array y.replies
@@ -211,36 +249,8 @@ module _ {L : Type 0} (calls : L → List ℕ → Outcome → L → Type 0) (hos
       let work : HostsWork v p.0 w.world (host_of p.1) = subst (HostsBy v p.0 w.world (host_of p.1)) w.queue w.hosts in
       let r : Reached p.0 w.world q.1 y.last y.replies q.0 =
       reached y.stalls y.last y.message p.0 q.0 w.world p.1 q.1 y.replies k.0 k.1 work sent.stalls sent.link sent.core in
-      let called : IsHonest (status_in p.0) p.0.last (event_of y.last) (host_of r.at) (host_of q.1) =
-      subst (λ (now : Status). IsHonest now p.0.last (event_of y.last) (host_of r.at) (host_of q.1)) (sym k.0)
-      (as_honest y.last p.0.last (host_of r.at) (host_of q.1) (honest r.at q.1 p.0.last y.last r.call)) in
-      let on : GoesOnHosted v p.0 q.0 w.world array (event_of y.last) r.shown (host_of q.1) =
-      honest_hosts_serve v p.0 q.0 w.world array (event_of y.last) r.shown (host_of r.at) (host_of q.1) device w.alive w.serving
-      (subst (HostsBy v p.0 w.world (host_of r.at)) (sym w.queue) r.work) r.step.moves called in
       subst (Next q x array) (sym r.replied)
-      (next p.0 q.0 q.1 x array w.world y.last r.shown w.queue (heard_is v p.0 q.0 y.last r.shown k.0 answered r.step) on)
-
-  -- nothing is sent once the reply was given
-  ended : (ys : List Sending) (p q : State × L) (array : ℕ → List ℕ) → IsHeld v host_of p array → AllSent v calls most_retries p ys q
-      → IsHeld v host_of q array
-  ended [] p q array held sent = subst (λ (z : State × L). IsHeld v host_of z array) sent held
-  ended (y ∷ ys) p q array held sent =
-      let k = waits_by p.0 (status_in p.0) y.message refl sent.1.0.message in
-      absurd (let both = sym held.settled ∙ unsettled (status_in p.0) k.0 in cc)
-
-  all_sent : (ys : List Sending) (p q : State × L) (x : Submission) (array : ℕ → List ℕ) (reply : Reply) → Working p x array
-      → AllSent v calls most_retries p ys q → flat_map (λ (y : Sending). y.replies) ys ≡ reply ∷ []
-      → (reply ≡ reply_by array x) × IsHeld v host_of q (array_after v.device x.command array)
-  all_sent [] p q x array reply w sent one = absurd cc
-  all_sent (y ∷ ys) p q x array reply w sent one = elim (sent_on p sent.0 x array y w sent.1.0 sent.1.1) [
-    | inl more ↦
-        all_sent ys sent.0 q x array reply more.0 sent.2
-        (sym (ap (λ (rs : List Reply). rs ++ flat_map (λ (z : Sending). z.replies) ys) more.1) ∙ one)
-    | inr done ↦
-        let all : reply_by array x ∷ flat_map (λ (z : Sending). z.replies) ys ≡ reply ∷ [] =
-        sym (ap (λ (rs : List Reply). rs ++ flat_map (λ (z : Sending). z.replies) ys) done.1) ∙ one in
-        (ap (λ (rs : List Reply). first_or rs reply) (sym all), ended ys sent.0 q (array_after v.device x.command array) done.0 sent.2)
-  ]
+      (answered_by p q x array w k.0 r.at r.work r.shown y.last r.step answered (heard_by r.at q.1 p.0.last y.last r.call))
 
   -- a command that an idle device accepts is at work
   pub accepted : (p : State × L) (session : ℕ) (c : Command) (words : List ℕ) (shown : Shown) (begun : State) (array : ℕ → List ℕ)
@@ -267,6 +277,33 @@ module _ {L : Type 0} (calls : L → List ℕ → Outcome → L → Type 0) (hos
         hosts = on.hosts;
       }
 
+module _ {L : Type 0} (calls : L → List ℕ → Outcome → L → Type 0) (host_of : L → Host) (honest : IsHonestLink calls host_of) (v : Shape) (device : IsDevice v.device) where
+  heard_by : IsHeardLink false v calls host_of
+  heard_by l m body o call = inl (honest l m body o call)
+
+  -- nothing is sent once the reply was given
+  ended : (ys : List Sending) (p q : State × L) (array : ℕ → List ℕ) → IsHeld v host_of p array → AllSent v calls most_retries p ys q
+      → IsHeld v host_of q array
+  ended [] p q array held sent = subst (λ (z : State × L). IsHeld v host_of z array) sent held
+  ended (y ∷ ys) p q array held sent =
+      let k = waits_by p.0 (status_in p.0) y.message refl sent.1.0.message in
+      absurd (let both = sym held.settled ∙ unsettled (status_in p.0) k.0 in cc)
+
+  all_sent : (ys : List Sending) (p q : State × L) (x : Submission) (array : ℕ → List ℕ) (reply : Reply) → IsBusy v host_of p x array
+      → AllSent v calls most_retries p ys q → flat_map (λ (y : Sending). y.replies) ys ≡ reply ∷ []
+      → (reply ≡ reply_by array x) × IsHeld v host_of q (array_after v.device x.command array)
+  all_sent [] p q x array reply w sent one = absurd cc
+  all_sent (y ∷ ys) p q x array reply w sent one = elim (sent_on false calls host_of v heard_by device p sent.0 x array y w sent.1.0 sent.1.1) [
+    | inl more ↦
+        all_sent ys sent.0 q x array reply more.0 sent.2
+        (sym (ap (λ (rs : List Reply). rs ++ flat_map (λ (z : Sending). z.replies) ys) more.1) ∙ one)
+    | inr (inr failed) ↦ absurd (let lies = failed.0 in cc)
+    | inr (inl done) ↦
+        let all : reply_by array x ∷ flat_map (λ (z : Sending). z.replies) ys ≡ reply ∷ [] =
+        sym (ap (λ (rs : List Reply). rs ++ flat_map (λ (z : Sending). z.replies) ys) done.1) ∙ one in
+        (ap (λ (rs : List Reply). first_or rs reply) (sym all), ended ys sent.0 q (array_after v.device x.command array) done.0 sent.2)
+  ]
+
   module _ (words : ℕ → ℕ → List ℕ) (session : ℕ) where
     abbrev After : State × L → (ℕ → List ℕ) → Turn → State × L → Type 0
     After p array turn q = (after : ℕ → List ℕ) × IsArrayTurn v.device array turn after × IsHeld v host_of q after
@@ -292,7 +329,7 @@ module _ {L : Type 0} (calls : L → List ℕ → Outcome → L → Type 0) (hos
         let x : Submission = record { session = session; ticket = p.0.next; command = command_of h.asked.message; words = words p.0.next (2 * trees_of v.device) } in
         let note : h.shown.note ≡ _ = ap (λ (d : Did). d.note) is.0 in
         let reply = subst (λ (n : Note). IsReply v calls words session n (h.begun, p.1) turn q) note h.replied in
-        let w : Working (h.begun, p.1) x array = accepted p session x.command x.words h.shown h.begun array held h.asked.step is.0 in
+        let w : IsBusy v host_of (h.begun, p.1) x array = accepted false calls host_of v heard_by device p session x.command x.words h.shown h.begun array held h.asked.step is.0 in
         let done = all_sent turn.sendings (h.begun, p.1) q x array reply.2 w reply.0 reply.3 in (
           array_after v.device x.command array,
           inr (h.asked.message, h.asked.request, inl (reply.4 ∙ ap (λ (z : Reply). told z.body) done.0, refl)),

@@ -1,5 +1,5 @@
--- A session over a link to an honest host: a plain array answers it.
-use Rattle.std.specs.Prelude.{◌≡◌, ◌≢◌, ◌⊎◌, ℕ, ◌≤◌, List, [], ◌∷◌, replicate, None, Ok, Err}
+-- A link to an honest host, and to one that may lie. Over the first a plain array answers a session.
+use Rattle.std.specs.Prelude.{◌≡◌, ◌≢◌, ◌⊎◌, ℕ, ◌≤◌, Bool, true, List, [], ◌∷◌, replicate, Some, None, Ok, Err}
 use Rattle.std.specs.List.{FoldsTo}
 use Rattle.oram_geometry.specs.declared.Sizes.{Sizes}
 use Rattle.oram_geometry.specs.Sizes.{IsDevice}
@@ -18,12 +18,14 @@ use Rattle.oram_run.specs.Serving.{array_after}
 use Rattle.oram_run.specs.Shape.{Shape}
 use Rattle.oram_run.specs.State.{State, World}
 use Rattle.oram_run.specs.declared.events.Command.{Command}
+use Rattle.oram_run.specs.declared.events.Reason.{Reason}
 use Rattle.oram_run.specs.declared.events.Refusal.{Refusal}
 use Rattle.oram_run.specs.declared.events.Refusal.TheVariants.{Failed}
 use Rattle.oram_run.specs.declared.events.Submission.{Submission}
 use Rattle.oram_core.specs.Formatting.{IsNew}
 use Rattle.oram_honest.specs.Honest.{HeardOrNot}
 use Rattle.oram_honest.specs.Hosting.{Hosts}
+use Rattle.oram_honest.specs.Lying.{IsLie}
 use Rattle.oram_session.specs.Formatting.{TakesMessage}
 use Rattle.oram_session.specs.Outcome.{Outcome}
 use Rattle.oram_session.specs.Requests.{IsRequest, IsNoRequest, command_of, told}
@@ -39,6 +41,14 @@ IsHonestCall host body (Err fault) after = HeardOrNot body host after
 -- each call of the link, where this is the host behind it
 abbrev pub IsHonestLink : {L : Type 0} → (L → List ℕ → Outcome → L → Type 0) → (L → Host) → Type 0
 IsHonestLink {L} calls host_of = (l m : L) (body : List ℕ) (o : Outcome) → calls l body o m → IsHonestCall (host_of l) body o (host_of m)
+
+-- Of a host that may lie: an honest one hears each message too, and what a call answers is its answer, or a lie.
+abbrev pub IsHeardCall : Bool → Shape → Host → List ℕ → Outcome → Host → Type 0
+IsHeardCall may_lie v host body o after =
+    IsHonestCall host body o after ⊎ ((may_lie ≡ true) × (bytes : List ℕ) × (o ≡ Ok bytes) × IsLie v host body bytes after)
+
+abbrev pub IsHeardLink : Bool → Shape → {L : Type 0} → (L → List ℕ → Outcome → L → Type 0) → (L → Host) → Type 0
+IsHeardLink may_lie v {L} calls host_of = (l m : L) (body : List ℕ) (o : Outcome) → calls l body o m → IsHeardCall may_lie v (host_of l) body o (host_of m)
 
 -- the array's reply to a command, or a refusal for what the command asks; never one for the device's failure
 abbrev pub IsArrayReply : Sizes → Command → (ℕ → List ℕ) → SessionReply → (ℕ → List ℕ) → Type 0
@@ -68,6 +78,10 @@ pub record IsBusy (v : Shape) {L : Type 0} (host_of : L → Host) (p : State × 
   pub world : World
   pub serving : IsServing v p.0 world array
   pub hosts : Hosts v p.0 world (host_of p.1)
+
+-- The device has failed, for whatever reason.
+abbrev pub HasFailed : State → Type 0
+HasFailed s = (reason : Reason) × (s.failure ≡ Some reason)
 
 -- A device that was formatted over an honest link to a host that kept nothing is held so, and its array is zeros.
 abbrev pub NewDevicesHoldZeros : {L : Type 0} → (L → List ℕ → Outcome → L → Type 0) → Type 0

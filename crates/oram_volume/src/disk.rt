@@ -13,15 +13,15 @@ use std::alloc::Global;
 
 impl<S: Sealer, L: Link, K: Keeper, T: Tape> Disk for Volume<S, L, K, T> {
     ghost use Rattle.oram_core.specs.Core.{shape_of};
-    ghost use Rattle.oram_volume.specs.Holding.{HoldsBytes};
+    ghost use Rattle.oram_volume.specs.Holding.{IsSound, Keeps};
 
     ghost block_len = { λ d. d.core.device.block_bytes };
 
     ghost size = { λ d. d.core.device.block_bytes * d.core.device.blocks };
 
-    ghost holds = { λ d bytes. HoldsBytes (shape_of S.overhead S.sealing S.opening d.core) L.calls d.core.state d.link bytes };
+    ghost holds = { λ d bytes. Keeps (shape_of S.overhead S.sealing S.opening d.core) L.calls d.core.state d.link bytes };
 
-    ghost is_sound = { λ d. (bytes : List ℕ) × HoldsBytes (shape_of S.overhead S.sealing S.opening d.core) L.calls d.core.state d.link bytes };
+    ghost is_sound = { λ d. IsSound (shape_of S.overhead S.sealing S.opening d.core) L.calls d.core.state d.link };
 
     fn block_bytes(&self) -> u32 {
         self.core.device().block_bytes() as u32

@@ -1,6 +1,6 @@
 //! A kept core with its link, its keeper and its tape.
 
-ghost use Rattle.std.specs.Prelude.{◌≡◌, ◌≢◌, ◌⊎◌, ◌+◌, ◌*◌, ◌<◌, ◌≤◌, ℕ, List, IfOk, IfErr, IsErrOf, OnOk, OnErr};
+ghost use Rattle.std.specs.Prelude.{◌≡◌, ◌≢◌, ◌⊎◌, ◌+◌, ◌*◌, ◌<◌, ◌≤◌, ℕ, Bool, false, List, IfOk, IfErr, IsErrOf, OnOk, OnErr};
 ghost use Rattle.oram_run.specs.Blocks.{body_from};
 ghost use Rattle.oram_run.specs.Events.{address_of as address_in};
 ghost use Rattle.oram_run.specs.Serving.{array_after};
@@ -43,8 +43,8 @@ impl<S: Sealer, L: Link, K: Keeper, T: Tape> Volume<S, L, K, T> {
         ensures kept { IsSameDevice self.old.core self.new.core }
         ensures settled { OnOk result (IsSettled self.new.core.state) }
         ensures holds { let v = shape_of S.overhead S.sealing S.opening self.old.core in
-            (array : ℕ → List ℕ) → HoldsArray v L.calls self.old.core.state self.old.link array
-            → HoldsArray v L.calls self.new.core.state self.new.link array }
+            (may_lie : Bool) (array : ℕ → List ℕ) → HoldsArray may_lie v L.calls self.old.core.state self.old.link array
+            → HoldsArray may_lie v L.calls self.new.core.state self.new.link array }
         ensures fault { IfErr result (λ e. e ≢ DiskFault.Failed) }
     {
         match resume(alloc, &mut self.core, &mut self.link, &mut self.keeper) {
@@ -72,15 +72,15 @@ impl<S: Sealer, L: Link, K: Keeper, T: Tape> Volume<S, L, K, T> {
         ensures kept { IsSameDevice self.old.core self.new.core }
         ensures block { IfOk result (λ body. IsBodyOf self.old.core.device body) }
         ensures ok { let v = shape_of S.overhead S.sealing S.opening self.old.core in
-            IfOk result (λ body. (array : ℕ → List ℕ) → HoldsArray v L.calls self.old.core.state self.old.link array
+            IfOk result (λ body. (may_lie : Bool) (array : ℕ → List ℕ) → HoldsArray may_lie v L.calls self.old.core.state self.old.link array
             → (body ≡ body_from (array (address_in command)) command)
-            × HoldsArray v L.calls self.new.core.state self.new.link (array_after v.device command array)) }
+            × HoldsArray may_lie v L.calls self.new.core.state self.new.link (array_after v.device command array)) }
         ensures err { let v = shape_of S.overhead S.sealing S.opening self.old.core in
-            OnErr result ((array : ℕ → List ℕ) → HoldsArray v L.calls self.old.core.state self.old.link array
-            → HoldsArray v L.calls self.new.core.state self.new.link array
-            ⊎ HoldsArray v L.calls self.new.core.state self.new.link (array_after v.device command array)) }
+            OnErr result ((may_lie : Bool) (array : ℕ → List ℕ) → HoldsArray may_lie v L.calls self.old.core.state self.old.link array
+            → HoldsArray may_lie v L.calls self.new.core.state self.new.link array
+            ⊎ HoldsArray may_lie v L.calls self.new.core.state self.new.link (array_after v.device command array)) }
         ensures sound { let v = shape_of S.overhead S.sealing S.opening self.old.core in
-            IsErrOf result DiskFault.Failed → (array : ℕ → List ℕ) → HoldsArray v L.calls self.old.core.state self.old.link array → ⊥ }
+            IsErrOf result DiskFault.Failed → (array : ℕ → List ℕ) → HoldsArray false v L.calls self.old.core.state self.old.link array → ⊥ }
     {
         self.settle(alloc)?;
         if self.core.failure().is_some() {
@@ -94,8 +94,9 @@ impl<S: Sealer, L: Link, K: Keeper, T: Tape> Volume<S, L, K, T> {
             &mut self.tape,
             command,
         ) {
+            Ok(Asked::Replied(ReplyBody::Data(bytes))) => Ok(ReplyBody::Data(bytes)),
+            Ok(Asked::Replied(ReplyBody::Done)) => Ok(ReplyBody::Done),
             Ok(Asked::Replied(ReplyBody::Failed)) => Err(DiskFault::Failed),
-            Ok(Asked::Replied(body)) => Ok(body),
             Ok(Asked::Refused(_)) => Err(DiskFault::Stopped),
             Err(fault) => Err(told(fault)),
         }

@@ -68,7 +68,7 @@ returns-clause-ok g c =
     let command : Command = Discard k in
     let laid : (array : ℕ → List ℕ) (bytes : List ℕ) → IsLaidOut d array bytes → IsLaidOut d (array_after d command array) (made bytes) =
     λ array bytes is. subst (λ (n : ℕ). IsLaidOut d (array_after d command array) (written bytes (d.block_bytes * n) (zeroes d.block_bytes))) place (laid_after_discard d array bytes k is low) in
-    bytes_made v w same g.L.Link.calls now.core.state now.link new.core.state new.link command made laid (λ array hold. (c.in_ok-carry_out.ensures.ok array hold).1)
+    bytes_made v w same g.L.Link.calls now.core.state now.link new.core.state new.link command made laid (λ lie array hold. (c.in_ok-carry_out.ensures.ok lie array hold).1)
 
 pub returns-clause-keeps : goal.returns-clause-keeps
 returns-clause-keeps g c =
@@ -85,4 +85,4 @@ returns-clause-keeps g c =
     let command : Command = Discard k in
     let laid : (array : ℕ → List ℕ) (bytes : List ℕ) → IsLaidOut d array bytes → IsLaidOut d (array_after d command array) (made bytes) =
     λ array bytes is. subst (λ (n : ℕ). IsLaidOut d (array_after d command array) (written bytes (d.block_bytes * n) (zeroes d.block_bytes))) place (laid_after_discard d array bytes k is low) in
-    sound_made v w same g.L.Link.calls now.core.state now.link new.core.state new.link command made laid (λ array hold. (c.in_ok-carry_out.ensures.ok array hold).1)
+    sound_made v w same g.L.Link.calls now.core.state now.link new.core.state new.link command made laid (λ lie array hold. (c.in_ok-carry_out.ensures.ok lie array hold).1)

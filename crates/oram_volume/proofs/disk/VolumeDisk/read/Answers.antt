@@ -1,4 +1,4 @@
-use Rattle.std.proofs.Common.{◌≡◌, ◌*◌, ℕ, List, Err, sym, ap, ◌∙◌, inl, inr}
+use Rattle.std.proofs.Common.{◌≡◌, ◌*◌, ℕ, false, List, Err, sym, ap, ◌∙◌, inl, inr}
 use Rattle.std.proofs.lemmas.Result.{err_from_is_err_and}
 use Rattle.oram_geometry.specs.declared.Sizes.{Sizes}
 use Rattle.oram_run.specs.Serving.{array_after}
@@ -57,8 +57,8 @@ pub returns-in-Data-clause-ok : goal.returns-in-Data-clause-ok
 returns-in-Data-clause-ok g c = λ bytes h.
     let d = c.args.self.now.core.device in
     let k = c.address_of-address.result in
-    let body = (c.in_ok-bytes.ensures.ok h.array h.holds).0 in
-    c.into_vec.ensures ∙ ap data_of (sym c.in-Data.is ∙ body) ∙ sym (read_laid d h.array bytes k h.laid c.address_of-address.ensures.within)
+    let body = (c.in_ok-bytes.ensures.ok h.0 h.1.array h.1.holds).0 in
+    c.into_vec.ensures ∙ ap data_of (sym c.in-Data.is ∙ body) ∙ sym (read_laid d h.1.array bytes k h.1.laid c.address_of-address.ensures.within)
     ∙ ap (λ (n : ℕ). bytes_at bytes (d.block_bytes * n) d.block_bytes) c.address_of-address.ensures.value
 
 pub returns-in-Data-clause-same : goal.returns-in-Data-clause-same
@@ -76,7 +76,7 @@ returns-in-Data-clause-same g c =
     let command : Command = Read k in
     let laid : (array : ℕ → List ℕ) (bytes : List ℕ) → IsLaidOut d array bytes → IsLaidOut d (array_after d command array) (made bytes) =
     λ array bytes is. laid_after_read d array bytes k is in
-    bytes_made v w same g.L.Link.calls now.core.state now.link new.core.state new.link command made laid (λ array hold. (c.in_ok-bytes.ensures.ok array hold).1)
+    bytes_made v w same g.L.Link.calls now.core.state now.link new.core.state new.link command made laid (λ lie array hold. (c.in_ok-bytes.ensures.ok lie array hold).1)
 
 pub returns-in-Data-clause-keeps : goal.returns-in-Data-clause-keeps
 returns-in-Data-clause-keeps g c =
@@ -93,7 +93,7 @@ returns-in-Data-clause-keeps g c =
     let command : Command = Read k in
     let laid : (array : ℕ → List ℕ) (bytes : List ℕ) → IsLaidOut d array bytes → IsLaidOut d (array_after d command array) (made bytes) =
     λ array bytes is. laid_after_read d array bytes k is in
-    sound_made v w same g.L.Link.calls now.core.state now.link new.core.state new.link command made laid (λ array hold. (c.in_ok-bytes.ensures.ok array hold).1)
+    sound_made v w same g.L.Link.calls now.core.state now.link new.core.state new.link command made laid (λ lie array hold. (c.in_ok-bytes.ensures.ok lie array hold).1)
 
 pub returns-in-Done : goal.returns-in-Done
 returns-in-Done g c =
@@ -113,8 +113,8 @@ returns-in-Done g c =
     record {
       len = tt;
       ok = tt;
-      same = bytes_made v w same g.L.Link.calls now.core.state now.link new.core.state new.link command made laid (λ array hold. (c.in_ok-bytes.ensures.ok array hold).1);
-      sound = λ e h. let body = (c.in_ok-bytes.ensures.ok h.1.array h.1.holds).0 in elim c.in-Done.is [ inl done ↦ absurd (let both = sym done ∙ body in cc) | inr failed ↦ absurd (let both = sym failed ∙ body in cc) ];
-      keeps = sound_made v w same g.L.Link.calls now.core.state now.link new.core.state new.link command made laid (λ array hold. (c.in_ok-bytes.ensures.ok array hold).1);
+      same = bytes_made v w same g.L.Link.calls now.core.state now.link new.core.state new.link command made laid (λ lie array hold. (c.in_ok-bytes.ensures.ok lie array hold).1);
+      sound = λ e h. let body = (c.in_ok-bytes.ensures.ok false h.1.array h.1.holds).0 in elim c.in-Done.is [ inl done ↦ absurd (let both = sym done ∙ body in cc) | inr failed ↦ absurd (let both = sym failed ∙ body in cc) ];
+      keeps = sound_made v w same g.L.Link.calls now.core.state now.link new.core.state new.link command made laid (λ lie array hold. (c.in_ok-bytes.ensures.ok lie array hold).1);
       shape = (ap (λ (e : Sizes). e.block_bytes) c.carry_out.ensures.kept.0, ap (λ (e : Sizes). e.block_bytes * e.blocks) c.carry_out.ensures.kept.0);
     }

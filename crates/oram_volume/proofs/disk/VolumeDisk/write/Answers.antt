@@ -77,7 +77,7 @@ returns-clause-ok g c =
     let laid : (array : ℕ → List ℕ) (bytes : List ℕ) → IsLaidOut d array bytes → IsLaidOut d (array_after d command array) (made bytes) =
     λ array bytes is. subst (λ (n : ℕ). IsLaidOut d (array_after d command array) (written bytes (d.block_bytes * n) c.args.payload.now)) place
     (subst (λ (p : List ℕ). IsLaidOut d (array_after d command array) (written bytes (d.block_bytes * k) p)) copied (laid_after_write d array bytes k c.in_ok-bytes.bytes is low long)) in
-    bytes_made v w same g.L.Link.calls now.core.state now.link new.core.state new.link command made laid (λ array hold. (c.in_ok-carry_out.ensures.ok array hold).1)
+    bytes_made v w same g.L.Link.calls now.core.state now.link new.core.state new.link command made laid (λ lie array hold. (c.in_ok-carry_out.ensures.ok lie array hold).1)
 
 pub returns-clause-keeps : goal.returns-clause-keeps
 returns-clause-keeps g c =
@@ -97,4 +97,4 @@ returns-clause-keeps g c =
     let laid : (array : ℕ → List ℕ) (bytes : List ℕ) → IsLaidOut d array bytes → IsLaidOut d (array_after d command array) (made bytes) =
     λ array bytes is. subst (λ (n : ℕ). IsLaidOut d (array_after d command array) (written bytes (d.block_bytes * n) c.args.payload.now)) place
     (subst (λ (p : List ℕ). IsLaidOut d (array_after d command array) (written bytes (d.block_bytes * k) p)) copied (laid_after_write d array bytes k c.in_ok-bytes.bytes is low long)) in
-    sound_made v w same g.L.Link.calls now.core.state now.link new.core.state new.link command made laid (λ array hold. (c.in_ok-carry_out.ensures.ok array hold).1)
+    sound_made v w same g.L.Link.calls now.core.state now.link new.core.state new.link command made laid (λ lie array hold. (c.in_ok-carry_out.ensures.ok lie array hold).1)
