@@ -1,3 +1,4 @@
 pub mod Deeds
 pub mod Begun
 pub mod Surviving
+pub mod Lives

@@ -2,6 +2,7 @@
 //!
 //! Of a host that may lie it is known what an honest one would keep that hears the same messages. Such a host may answer anything; it
 //! can't find two records of one digest.
+ghost use Rattle.oram_keep.specs.Lives.{DeedsAreActs, KeptCoresSendAgain, LivesAreOneRun};
 ghost use Rattle.oram_keep.specs.Surviving.{CommandsLast, KeptCoresGoOn, ReopenedCoresRecover};
 
 use crate::keeper::Keeper;
@@ -24,4 +25,21 @@ pub fn kept_cores_go_on<L: Link, K: Keeper>()
 /// A law about definitions: a core that was told that it was reopened, and no more, recovers the array that it was to hold.
 pub fn reopened_cores_recover<L: Link>()
     ensures { ReopenedCoresRecover L.calls }
+{}
+
+/// A law about definitions: whatever processes there are, each begun with what the one before has kept, and wherever each ends, one run
+/// leads from the formatted core to what is kept, and all that it shows is right.
+pub fn lives_are_one_run()
+    ensures { LivesAreOneRun }
+{}
+
+/// A law about definitions: what a kept core does, up to any point, are acts of a process as that run counts them.
+pub fn deeds_are_acts<L: Link, K: Keeper>()
+    ensures { DeedsAreActs L.calls K.keeps }
+{}
+
+/// A law about definitions: a message that left under what is kept is the one that the core that is read back sends first, or the one
+/// behind it.
+pub fn kept_cores_send_again()
+    ensures { KeptCoresSendAgain }
 {}

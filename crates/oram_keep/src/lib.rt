@@ -21,5 +21,8 @@ mod testing;
 pub use asking::{Asked, ask};
 pub use faults::KeepFault;
 pub use keeper::{Keeper, Unkept};
-pub use law::{commands_last, kept_cores_go_on, reopened_cores_recover};
+pub use law::{
+    commands_last, deeds_are_acts, kept_cores_go_on, kept_cores_send_again, lives_are_one_run,
+    reopened_cores_recover,
+};
 pub use resuming::resume;

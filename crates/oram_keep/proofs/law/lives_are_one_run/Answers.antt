@@ -1,0 +1,5 @@
+use Rattle.oram_keep.proofs.Lives.{lives_are_one_run}
+use Rattle.oram_keep.proofs.law.lives_are_one_run.Goals as goal
+
+pub returns : goal.returns
+returns c = lives_are_one_run
