@@ -1,6 +1,6 @@
 //! A kept core with its link, its keeper and its tape.
 
-ghost use Rattle.std.specs.Prelude.{◌≡◌, ◌≢◌, ◌⊎◌, ◌+◌, ◌*◌, ◌<◌, ◌≤◌, ℕ, Bool, false, List, IfOk, IfErr, IsErrOf, OnOk, OnErr};
+ghost use Rattle.std.specs.Prelude.{◌≡◌, ◌≢◌, ◌⊎◌, ◌+◌, ◌*◌, ◌<◌, ◌≤◌, ℕ, Bool, false, List, IsOk, IfOk, IfErr, IsErrOf, OnOk, OnErr};
 ghost use Rattle.oram_run.specs.Blocks.{body_from};
 ghost use Rattle.oram_run.specs.Events.{address_of as address_in};
 ghost use Rattle.oram_run.specs.Serving.{array_after};
@@ -42,6 +42,7 @@ impl<S: Sealer, L: Link, K: Keeper, T: Tape> Volume<S, L, K, T> {
     pub fn settle(&mut self, alloc: Global) -> Result<(), DiskFault>
         ensures kept { IsSameDevice self.old.core self.new.core }
         ensures settled { OnOk result (IsSettled self.new.core.state) }
+        ensures calm { IsSettled self.old.core.state → IsOk result }
         ensures holds { let v = shape_of S.overhead S.sealing S.opening self.old.core in
             (may_lie : Bool) (array : ℕ → List ℕ) → HoldsArray may_lie v L.calls self.old.core.state self.old.link array
             → HoldsArray may_lie v L.calls self.new.core.state self.new.link array }

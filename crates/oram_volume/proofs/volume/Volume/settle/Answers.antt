@@ -1,4 +1,4 @@
-use Rattle.std.proofs.Common.{ap, inl, inr}
+use Rattle.std.proofs.Common.{ap, inl, inr, sym, ◌∙◌}
 use Rattle.oram_core.specs.Core.{shape_of}
 use Rattle.oram_volume.proofs.Holding.{after_resuming}
 use Rattle.oram_volume.proofs.volume.Volume.settle.Goals as goal
@@ -20,3 +20,6 @@ returns-in-Err-clause-holds g c = λ lie array h.
     c.resume.new.core.state c.resume.new.link c.resume.new.keeper array h c.resume.result
     (λ rests. let same = r.none rests in (same.0, ap (λ d. d.state) same.1, same.2)) r.settled r.ok r.stalled r.unkept
     (λ e. elim (r.memory e) [ inl told ↦ inl (told.0, told.1) | inr out ↦ inr out ])
+
+pub returns-in-Err-clause-calm : goal.returns-in-Err-clause-calm
+returns-in-Err-clause-calm g c = λ rests. let same = c.resume.ensures.none rests in absurd (let both = sym c.in-Err.is ∙ same.0 in cc)
