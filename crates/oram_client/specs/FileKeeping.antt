@@ -1,6 +1,6 @@
 -- A keeper whose states go into a file.
 use Rattle.std.specs.Prelude.{◌≡◌, ℕ, Bool, false, List, Option, None, IsSome, MatchBool, MatchOption}
-use Rattle.oram_client.specs.declared.file_keeper.FileFailure.{FileFailure}
+use Rattle.oram_client.specs.declared.file_step.FileFailure.{FileFailure}
 
 pub record FileKeeping : Type 0 where
   pub salt : List ℕ  -- stands in each file, in front of the state

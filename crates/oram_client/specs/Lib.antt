@@ -4,3 +4,4 @@ pub mod FileKeeping
 pub mod Patience
 pub mod Ahead
 pub mod Formatting
+pub mod Placing

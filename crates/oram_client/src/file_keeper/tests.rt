@@ -1,5 +1,8 @@
 use super::*;
+use crate::file_place::{kept_bytes, kept_name};
+use crate::file_step::{FileReason, FileStep};
 use crate::kept_file::read_kept_file;
+use std::fs;
 use std::test::Fail;
 
 const SALT: Salt = Salt([7; 32]);
@@ -12,23 +15,55 @@ fn keeper<'a>(
     FileKeeper::new(rt, rt.alloc(), name, SALT, sync)
 }
 
+/// Whether this state is read back, tried once more where memory was refused.
+fn is_found(rt: &HostRuntime, name: &str, state: &[u8]) -> bool {
+    let Ok(file) = kept_bytes(rt, name).or_else(|_| kept_bytes(rt, name)) else {
+        return false;
+    };
+    matches!(read_kept_file(&file), Ok(kept) if kept.salt == SALT && kept.state == state)
+}
+
 #[test]
 fn states_are_kept(rt: HostRuntime) -> Result<(), Fail> {
     let files = &rt;
     for sync in [false, true] {
         let mut keeper = retried!(keeper(files, "client_kept_file", sync));
-        for state in [b"first".as_slice(), b"last".as_slice()] {
+        for state in [
+            b"first".as_slice(),
+            b"longer".as_slice(),
+            b"last".as_slice(),
+        ] {
             assert!(rt; keeper.keep(state).is_ok());
-            let file = retried!(fs::read(&rt, "client_kept_file"));
-            let Ok(kept) = read_kept_file(&file) else {
-                return Err(Fail::from("it is a disk's"));
-            };
-            assert!(rt; kept.salt == SALT);
-            assert_eq!(rt; kept.state, state);
+            assert!(rt; is_found(&rt, "client_kept_file", state));
+            assert!(rt; !fs::exists(&rt, "client_kept_file.new")?);
+            assert!(rt; !fs::exists(&rt, "client_kept_file.old")?);
         }
         assert!(rt; keeper.failure().is_none());
     }
     fs::remove_file(&rt, "client_kept_file")?;
+    Ok(())
+}
+
+#[test]
+fn a_process_ends_on_the_way(rt: HostRuntime) -> Result<(), Fail> {
+    let files = &rt;
+    assert!(rt; retried!(kept_name(files, rt.alloc(), "client_ended")).is_none());
+    assert!(rt; kept_bytes(files, "client_ended").is_err());
+    for sync in [false, true] {
+        let mut before = retried!(keeper(files, "client_ended", sync));
+        assert!(rt; before.keep(b"before").is_ok());
+        fs::write(&rt, "client_ended.new", b"torn")?;
+        assert!(rt; is_found(&rt, "client_ended", b"before"));
+        fs::rename(&rt, "client_ended", "client_ended.old")?;
+        let found = retried!(kept_name(files, rt.alloc(), "client_ended"));
+        assert!(rt; found.as_deref() == Some("client_ended.old"));
+        assert!(rt; is_found(&rt, "client_ended", b"before"));
+        let mut after = retried!(keeper(files, "client_ended", sync));
+        assert!(rt; after.keep(b"after").is_ok());
+        assert!(rt; is_found(&rt, "client_ended", b"after"));
+        assert!(rt; !fs::exists(&rt, "client_ended.old")?);
+    }
+    fs::remove_file(&rt, "client_ended")?;
     Ok(())
 }
 

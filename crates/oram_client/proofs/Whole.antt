@@ -1,0 +1,67 @@
+-- What is found of a file that is put in its place.
+use Rattle.std.proofs.Common.{◌≡◌, ◌⊎◌, inl, inr, ℕ, Bool, true, false, List, [], ◌∷◌, Option, None, Some, sym, ◌∙◌, ap}
+use Rattle.oram_client.specs.Placing.{Deed, Writes, SetsAside, Settles, SyncsFolder, Clears, deeds_of, DoesAll, Names, first_of, found, Makes, Leaves, EndsIn, FilesStayWhole, FilesAreKept}
+
+-- The new file is whole, and what is found is what was.
+record IsReady (n : Names) (file : List ℕ) (m : Names) : Type 0 where
+  same : found m ≡ found n
+  fresh : m.fresh ≡ Some file
+
+abbrev IsPlaced : List ℕ → Names → Type 0
+IsPlaced file m = m.kept ≡ Some file
+
+found_placed : (file : List ℕ) (m : Names) → IsPlaced file m → found m ≡ Some file
+found_placed file m placed = ap (λ (kept : Option (List ℕ)). first_of kept m.aside) placed
+
+written : (sync : Bool) (file : List ℕ) (n m : Names) → Makes n (Writes sync file) m → IsReady n file m
+written sync file n m made = record { same = ap found made; fresh = ap (λ (k : Names). k.fresh) made }
+
+set_aside : (file : List ℕ) (n k m : Names) → IsReady n file k → Makes k SetsAside m → IsReady n file m
+set_aside file n k m ready made = record { same = ap found made ∙ ready.same; fresh = ap (λ (k : Names). k.fresh) made ∙ ready.fresh }
+
+settled : (file : List ℕ) (n k m : Names) → IsReady n file k → Makes k Settles m → IsPlaced file m
+settled file n k m ready made = ap (λ (k : Names). k.kept) made.2 ∙ sym made.1 ∙ ready.fresh
+
+cleared : (file : List ℕ) (k m : Names) → IsPlaced file k → Makes k Clears m → IsPlaced file m
+cleared file k m placed made = ap (λ (k : Names). k.kept) made ∙ placed
+
+stays : (file : List ℕ) (k m : Names) → IsPlaced file k → m ≡ k → IsPlaced file m
+stays file k m placed same = ap (λ (k : Names). k.kept) same ∙ placed
+
+ends_clearing : (file : List ℕ) (k m : Names) → IsPlaced file k → EndsIn k (Clears ∷ []) m → IsPlaced file m
+ends_clearing file k m placed (inl (inl same)) = stays file k m placed same
+ends_clearing file k m placed (inl (inr made)) = cleared file k m placed made
+ends_clearing file k m placed (inr more) = stays file more.0 m (cleared file k more.0 placed more.1) more.2
+
+ends_syncing : (file : List ℕ) (k m : Names) → IsPlaced file k → EndsIn k (SyncsFolder ∷ Clears ∷ []) m → IsPlaced file m
+ends_syncing file k m placed (inl same) = stays file k m placed same
+ends_syncing file k m placed (inr more) = ends_clearing file more.0 m (stays file k more.0 placed more.1) more.2
+
+ends_settling : (file : List ℕ) (n k m : Names) → IsReady n file k → Leaves k Settles m → (found m ≡ found n) ⊎ (found m ≡ Some file)
+ends_settling file n k m ready (inl same) = inl (ap found same ∙ ready.same)
+ends_settling file n k m ready (inr made) = inr (found_placed file m (settled file n k m ready made))
+
+ends_replacing : (file : List ℕ) (n k m : Names) → IsReady n file k → EndsIn k (Settles ∷ SyncsFolder ∷ Clears ∷ []) m → (found m ≡ found n) ⊎ (found m ≡ Some file)
+ends_replacing file n k m ready (inl left) = ends_settling file n k m ready left
+ends_replacing file n k m ready (inr more) = inr (found_placed file m (ends_syncing file more.0 m (settled file n k more.0 ready more.1) more.2))
+
+ends_renaming : (file : List ℕ) (n k m : Names) → IsReady n file k → EndsIn k (Settles ∷ Clears ∷ []) m → (found m ≡ found n) ⊎ (found m ≡ Some file)
+ends_renaming file n k m ready (inl left) = ends_settling file n k m ready left
+ends_renaming file n k m ready (inr more) = inr (found_placed file m (ends_clearing file more.0 m (settled file n k more.0 ready more.1) more.2))
+
+ends_moving : (file : List ℕ) (n k m : Names) → IsReady n file k → EndsIn k (SetsAside ∷ Settles ∷ Clears ∷ []) m → (found m ≡ found n) ⊎ (found m ≡ Some file)
+ends_moving file n k m ready (inl (inl same)) = inl (ap found same ∙ ready.same)
+ends_moving file n k m ready (inl (inr made)) = inl ((set_aside file n k m ready made).same)
+ends_moving file n k m ready (inr more) = ends_renaming file n more.0 m (set_aside file n k more.0 ready more.1) more.2
+
+pub files_stay_whole : FilesStayWhole
+files_stay_whole true file n m (inl torn) = inl (ap found torn.1)
+files_stay_whole true file n m (inr more) = ends_replacing file n more.0 m (written true file n more.0 more.1) more.2
+files_stay_whole false file n m (inl torn) = inl (ap found torn.1)
+files_stay_whole false file n m (inr more) = ends_moving file n more.0 m (written false file n more.0 more.1) more.2
+
+pub files_are_kept : FilesAreKept
+files_are_kept true file n m (a, wrote, (b, moved, (c, synced, (d, clears, last)))) =
+    found_placed file m (stays file d m (cleared file c d (stays file b c (settled file n a b (written true file n a wrote) moved) synced) clears) last)
+files_are_kept false file n m (a, wrote, (b, aside, (c, moved, (d, clears, last)))) =
+    found_placed file m (stays file d m (cleared file c d (settled file n b c (set_aside file n a b (written false file n a wrote) aside) moved) clears) last)

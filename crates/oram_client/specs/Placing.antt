@@ -1,0 +1,71 @@
+-- How a file is put in its place, step after step, and what is found where a process ends on the way.
+use Rattle.std.specs.Prelude.{◌≡◌, ◌⊎◌, ℕ, Bool, true, false, List, [], ◌∷◌, Option, None, Some}
+
+-- what is done to a file, to the new one beside it and to the one that was set aside
+pub data Deed : Type 0 where
+  Writes : Bool → List ℕ → Deed  -- the new one; true where it is synced too
+  SetsAside : Deed  -- the file, if there is one
+  Settles : Deed  -- the new one takes the file's place
+  SyncsFolder : Deed
+  Clears : Deed  -- the one that was set aside goes
+
+-- Where nothing is synced, the old file is never replaced by a rename: a file system that then puts the new one on its disk first would
+-- make each file wait for that.
+abbrev pub deeds_of : Bool → List ℕ → List Deed
+deeds_of true file = Writes true file ∷ Settles ∷ SyncsFolder ∷ Clears ∷ []
+deeds_of false file = Writes false file ∷ SetsAside ∷ Settles ∷ Clears ∷ []
+
+-- over places where deeds are done so, or fail so
+module _ {P : Type 0} (does : P → Deed → Bool → P → Type 0) where
+  -- one after the other
+  abbrev pub DoesAll : P → List Deed → P → Type 0
+  DoesAll p [] q = q ≡ p
+  DoesAll p (deed ∷ deeds) q = (between : P) × does p deed true between × DoesAll between deeds q
+
+  -- One fails, and none behind it is done.
+  abbrev pub IsBrokenOff : P → List Deed → P → Type 0
+  IsBrokenOff p [] q = ⊥
+  IsBrokenOff p (deed ∷ deeds) q = does p deed false q ⊎ ((between : P) × does p deed true between × IsBrokenOff between deeds q)
+
+-- what the names hold
+pub record Names : Type 0 where
+  pub kept : Option (List ℕ)
+  pub fresh : Option (List ℕ)
+  pub aside : Option (List ℕ)
+
+abbrev pub first_of : Option (List ℕ) → Option (List ℕ) → Option (List ℕ)
+first_of None aside = aside
+first_of (Some file) aside = Some file
+
+-- what is read back
+abbrev pub found : Names → Option (List ℕ)
+found n = first_of n.kept n.aside
+
+-- what a deed makes of them
+abbrev pub Makes : Names → Deed → Names → Type 0
+Makes n (Writes sync file) m = m ≡ record n { fresh = Some file }
+Makes n SetsAside m = m ≡ record n { kept = None; aside = first_of n.kept n.aside }
+Makes n Settles m = (file : List ℕ) × (n.fresh ≡ Some file) × (m ≡ record n { kept = Some file; fresh = None })
+Makes n SyncsFolder m = m ≡ n
+Makes n Clears m = m ≡ record n { aside = None }
+
+-- What is left where a process ends in a deed: a new file that is torn. Each other deed is done at once, or not at all.
+abbrev pub Leaves : Names → Deed → Names → Type 0
+Leaves n (Writes sync file) m = (torn : Option (List ℕ)) × (m ≡ record n { fresh = torn })
+Leaves n SetsAside m = (m ≡ n) ⊎ Makes n SetsAside m
+Leaves n Settles m = (m ≡ n) ⊎ Makes n Settles m
+Leaves n SyncsFolder m = m ≡ n
+Leaves n Clears m = (m ≡ n) ⊎ Makes n Clears m
+
+-- A process that is to do these ends in one of them, or behind them.
+abbrev pub EndsIn : Names → List Deed → Names → Type 0
+EndsIn n [] m = m ≡ n
+EndsIn n (deed ∷ deeds) m = Leaves n deed m ⊎ ((between : Names) × Makes n deed between × EndsIn between deeds m)
+
+-- Wherever a process ends, what is found is what was there or the new file.
+abbrev pub FilesStayWhole : Type 0
+FilesStayWhole = (sync : Bool) (file : List ℕ) (n m : Names) → EndsIn n (deeds_of sync file) m → (found m ≡ found n) ⊎ (found m ≡ Some file)
+
+-- Behind the last deed it is the new file.
+abbrev pub FilesAreKept : Type 0
+FilesAreKept = (sync : Bool) (file : List ℕ) (n m : Names) → DoesAll (λ k deed _. Makes k deed) n (deeds_of sync file) m → found m ≡ Some file

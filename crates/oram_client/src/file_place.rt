@@ -1,0 +1,167 @@
+//! A place for a file in a folder.
+ghost use Rattle.std.specs.Prelude.{◌≡◌, ◌++◌, codes, string_bytes, IfOk};
+
+use crate::file_step::{FileFailure, FileStep, stepped};
+use crate::kept_file::{Salt, put_kept_file};
+use crate::placing::Place;
+use oram_edge::{FileFault, call_fault};
+use std::alloc::{AllocError, Global};
+use std::fs::{File, OpenFile, OpenOptions};
+use std::io::ErrorKind;
+use std::os::unix::fs::OpenOptionsExt;
+use std::path::Path;
+use std::rt::Files;
+use std::{fs, io};
+
+/// For the owner alone, since a state tells where each block lies.
+const OWNERS_ALONE: u32 = 0o600;
+
+/// How often the two names are looked at in turn. A file that is kept meanwhile has always one of them, but may change it between two looks.
+const LOOKS: u32 = 4;
+
+/// The name of the file that is set aside.
+fn old_name(alloc: Global, name: &str) -> Result<String, AllocError>
+    ensures { IfOk result (λ old. string_bytes old ≡ name.now ++ codes ".old") }
+{
+    let mut old = String::from_str(alloc, name)?;
+    old.push_str(".old")?;
+    Ok(old)
+}
+
+/// The name of the new file.
+fn new_name(alloc: Global, name: &str) -> Result<String, AllocError>
+    ensures { IfOk result (λ new. string_bytes new ≡ name.now ++ codes ".new") }
+{
+    let mut new = String::from_str(alloc, name)?;
+    new.push_str(".new")?;
+    Ok(new)
+}
+
+/// The folder of the file of this name.
+fn folder_of(name: &str) -> &str {
+    match Path::new(name).parent() {
+        Some(folder) if folder.as_str() != "" => folder.as_str(),
+        _ => ".",
+    }
+}
+
+/// That there was no such file is fine.
+fn if_there(done: io::Result<()>) -> io::Result<()> {
+    match done {
+        Err(error) if error.kind() == ErrorKind::NotFound => Ok(()),
+        done => done,
+    }
+}
+
+/// The file of this name, with `.new` behind the name of the new one and `.old` behind that of the one that is set aside.
+#[derive(Debug, Drop)]
+pub(crate) struct FilePlace<R> {
+    rt: R,
+    name: String,
+    new_name: String,
+    old_name: String,
+    folder: String,
+}
+
+impl<R> FilePlace<R> {
+    /// Nothing is made or opened yet.
+    pub(crate) fn new(rt: R, alloc: Global, name: &str) -> Result<FilePlace<R>, AllocError>
+    where
+        R: Drop,
+    {
+        Ok(FilePlace {
+            rt,
+            name: String::from_str(alloc, name)?,
+            new_name: new_name(alloc, name)?,
+            old_name: old_name(alloc, name)?,
+            folder: String::from_str(alloc, folder_of(name))?,
+        })
+    }
+}
+
+impl<R: Files> FilePlace<R> {
+    /// A new file, for the owner alone.
+    fn create(&self) -> io::Result<R::File> {
+        let mut options = OpenOptions::new();
+        options
+            .write(true)
+            .create(true)
+            .truncate(true)
+            .mode(OWNERS_ALONE);
+        options.open(&self.rt, self.new_name.as_str())
+    }
+
+    fn rename(&self, from: &str, to: &str) -> io::Result<()> {
+        fs::rename(&self.rt, from, to)
+    }
+
+    fn sync_all(&self) -> io::Result<()> {
+        File::open(&self.rt, self.folder.as_str())?.sync_all()
+    }
+}
+
+impl<R: Files> Place for FilePlace<R> {
+    ghost use Rattle.std.specs.Prelude.{⊤};
+
+    ghost does = { λ _ _ _ _. ⊤ };
+
+    fn write(&mut self, salt: &Salt, state: &[u8], sync: bool) -> Result<(), FileFailure> {
+        let mut file = stepped(FileStep::Create, self.create())?;
+        let written = put_kept_file(&mut file, salt, state);
+        stepped(FileStep::Write, written)?;
+        if sync {
+            stepped(FileStep::Sync, file.sync_all())?;
+        }
+        Ok(())
+    }
+
+    fn set_aside(&mut self) -> Result<(), FileFailure> {
+        let moved = self.rename(self.name.as_str(), self.old_name.as_str());
+        stepped(FileStep::SetAside, if_there(moved))
+    }
+
+    fn settle(&mut self) -> Result<(), FileFailure> {
+        let moved = self.rename(self.new_name.as_str(), self.name.as_str());
+        stepped(FileStep::Rename, moved)
+    }
+
+    fn sync_folder(&mut self) -> Result<(), FileFailure> {
+        stepped(FileStep::SyncFolder, self.sync_all())
+    }
+
+    fn clear(&mut self) -> Result<(), FileFailure> {
+        let removed = fs::remove_file(&self.rt, self.old_name.as_str());
+        stepped(FileStep::Clear, if_there(removed))
+    }
+}
+
+/// The name under which a file is found that is kept under this name: this one, or that of the file that was set aside.
+pub fn kept_name<R: Files>(
+    rt: &R,
+    alloc: Global,
+    name: &str,
+) -> Result<Option<String>, AllocError> {
+    for found in [String::from_str(alloc, name)?, old_name(alloc, name)?] {
+        if fs::symlink_metadata(rt, found.as_str()).is_ok() {
+            return Ok(Some(found));
+        }
+    }
+    Ok(None)
+}
+
+/// All bytes of the file that is kept under this name. Where there is none, those of the one that was set aside: a process that ended before
+/// the new one had its place left it so.
+pub fn kept_bytes<R: Files + AllocGlobal>(rt: &R, name: &str) -> Result<Vec<u8>, FileFault> {
+    let old_name = old_name(rt.alloc(), name)?;
+    for _ in 0..LOOKS {
+        for found in [name, old_name.as_str()] {
+            match fs::read(rt, found) {
+                Ok(bytes) => return Ok(bytes),
+                Err(error) if error.kind() == ErrorKind::NotFound => {}
+                Err(error) => return Err(call_fault(rt.alloc(), found, &error)),
+            }
+        }
+    }
+    let missing = io::Error::from(ErrorKind::NotFound);
+    Err(call_fault(rt.alloc(), name, &missing))
+}

@@ -1,0 +1,83 @@
+//! The steps by which a file is kept, and why one failed.
+
+use std::io::ErrorKind;
+use std::{fmt, io};
+
+/// What is done to keep a file, step after step.
+#[derive(Clone, Copy, Debug, PartialEq, Eq)]
+pub enum FileStep {
+    Create,
+    Write,
+    Sync,
+    SetAside,
+    Rename,
+    SyncFolder,
+    Clear,
+}
+
+impl fmt::Display for FileStep {
+    fn fmt<W: fmt::Write>(&self, f: &mut fmt::Formatter<W>) -> fmt::Result {
+        f.write_str(match self {
+            FileStep::Create => "the new file can't be made",
+            FileStep::Write => "the new file can't be written",
+            FileStep::Sync => "the new file can't be put on its disk",
+            FileStep::SetAside => "the old file can't be set aside",
+            FileStep::Rename => "the new file can't take the old one's place",
+            FileStep::SyncFolder => "the folder can't be put on its disk",
+            FileStep::Clear => "the old file can't be taken away",
+        })
+    }
+}
+
+/// Why a step failed.
+#[derive(Clone, Copy, Debug, PartialEq, Eq)]
+pub enum FileReason {
+    NoRoom,
+    Forbidden,
+    Missing,
+    /// Another one, as that the disk fails.
+    Failed,
+}
+
+impl From<io::Error> for FileReason {
+    fn from(error: io::Error) -> FileReason {
+        match error.kind() {
+            ErrorKind::StorageFull | ErrorKind::QuotaExceeded => FileReason::NoRoom,
+            ErrorKind::PermissionDenied | ErrorKind::ReadOnlyFilesystem => FileReason::Forbidden,
+            ErrorKind::NotFound => FileReason::Missing,
+            _ => FileReason::Failed,
+        }
+    }
+}
+
+impl fmt::Display for FileReason {
+    fn fmt<W: fmt::Write>(&self, f: &mut fmt::Formatter<W>) -> fmt::Result {
+        f.write_str(match self {
+            FileReason::NoRoom => "there is no room",
+            FileReason::Forbidden => "it is not allowed",
+            FileReason::Missing => "there is no such folder",
+            FileReason::Failed => "the system failed",
+        })
+    }
+}
+
+/// Why a file was not kept.
+#[derive(Clone, Copy, Debug, PartialEq, Eq)]
+pub struct FileFailure {
+    pub step: FileStep,
+    pub reason: FileReason,
+}
+
+impl fmt::Display for FileFailure {
+    fn fmt<W: fmt::Write>(&self, f: &mut fmt::Formatter<W>) -> fmt::Result {
+        write!(f, "{}: {}", self.step, self.reason)
+    }
+}
+
+/// What a step gave, or that it failed.
+pub(crate) fn stepped<T>(step: FileStep, given: io::Result<T>) -> Result<T, FileFailure> {
+    given.map_err(|error| FileFailure {
+        step,
+        reason: FileReason::from(error),
+    })
+}
