@@ -4,7 +4,8 @@ use crate::disk_files::disk_settings_in;
 use crate::faults::Fault;
 use oram_bucket::{ChaChaSeal, PlainSeal, Sealer};
 use oram_client::{
-    Ahead, DiskKey, FileKeeper, FormattingFault, Progress, Salt, format_ahead, sealer_key,
+    Ahead, DiskKey, FileKeeper, FormattingFault, Progress, Salt, format_ahead, kept_name,
+    sealer_key,
 };
 use oram_core::Core;
 use oram_edge::buffered;
@@ -13,12 +14,12 @@ use oram_keep::Keeper;
 use oram_settings::{DiskSettings, Meter, Sealing, device_of, percent, progress_text};
 use oram_state::encode_state;
 use std::alloc::{AllocError, Global};
+use std::io;
 use std::io::{ErrorKind, IsTerminal};
 use std::net::TcpStream;
 use std::random::RandomSource;
-use std::rt::{Clock, Files};
+use std::rt::Clock;
 use std::time::Instant;
-use std::{fs, io};
 
 /// Tells on standard error how far a formatting is: on a terminal in one line that is written over, else in a line for each tenth.
 #[derive(Drop)]
@@ -151,8 +152,8 @@ pub(crate) fn format_disk(rt: &HostRuntime, name: String) -> Result<(), Fault> {
     ) else {
         return Err(Fault::Device(name));
     };
-    if fs::symlink_metadata(rt, settings.state.as_str()).is_ok() {
-        return Err(Fault::Formatted(settings.state));
+    if let Some(found) = kept_name(rt, alloc, settings.state.as_str())? {
+        return Err(Fault::Formatted(found));
     }
     let salt = new_salt(rt)?;
     match settings.sealer {

@@ -5,10 +5,11 @@ use crate::faults::Fault;
 use crate::hosting::{listen_at, not_accepted, time};
 use oram_bucket::{ChaChaSeal, PlainSeal, Sealer};
 use oram_client::{
-    DiskKey, FileKeeper, PatientLink, Salt, TcpDialer, Watch, read_kept_file, sealer_key, tape_key,
+    DiskKey, FileKeeper, PatientLink, Salt, TcpDialer, Watch, kept_bytes, read_kept_file,
+    sealer_key, tape_key,
 };
 use oram_core::Core;
-use oram_edge::{buffered, bytes_in};
+use oram_edge::buffered;
 use oram_keep::Keeper;
 use oram_nbd::{Disk, DiskFault, NbdFault, serve};
 use oram_session::{ChaChaTape, Link, Tape};
@@ -220,7 +221,7 @@ fn serve_core<S: Sealer>(
 pub(crate) fn serve_disk(rt: &HostRuntime, name: String) -> Result<(), Fault> {
     let alloc = rt.alloc();
     let settings = disk_settings_in(rt, name)?;
-    let file = bytes_in(rt, settings.state.as_str())?;
+    let file = kept_bytes(rt, settings.state.as_str())?;
     let Ok(kept) = read_kept_file(file.as_slice()) else {
         return Err(Fault::NotADisk(settings.state));
     };

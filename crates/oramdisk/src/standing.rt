@@ -3,8 +3,7 @@
 use crate::disk_files::{core_in, disk_settings_in};
 use crate::faults::Fault;
 use oram_bucket::{ChaChaSeal, PlainSeal};
-use oram_client::read_kept_file;
-use oram_edge::bytes_in;
+use oram_client::{kept_bytes, read_kept_file};
 use oram_settings::{Sealing, report, status_of};
 
 /// Tells how the disk stands whose settings are in the file of this name, as its kept state has it. It asks no host.
@@ -13,7 +12,7 @@ pub(crate) fn tell(rt: &HostRuntime, name: String) -> Result<(), Fault> {
     let settings = disk_settings_in(rt, name)?;
     let sealing = settings.sealer;
     let name = settings.state.as_str();
-    let file = bytes_in(rt, name)?;
+    let file = kept_bytes(rt, name)?;
     let Ok(kept) = read_kept_file(file.as_slice()) else {
         return Err(Fault::NotADisk(settings.state));
     };
