@@ -20,12 +20,12 @@ const OWNERS_ALONE: u32 = 0o600;
 const LOOKS: u32 = 4;
 
 /// The name of the file that is set aside.
-fn old_name(alloc: Global, name: &str) -> Result<String, AllocError>
-    ensures { IfOk result (λ old. string_bytes old ≡ name.now ++ codes ".old") }
+fn aside_name(alloc: Global, name: &str) -> Result<String, AllocError>
+    ensures { IfOk result (λ aside. string_bytes aside ≡ name.now ++ codes ".aside") }
 {
-    let mut old = String::from_str(alloc, name)?;
-    old.push_str(".old")?;
-    Ok(old)
+    let mut aside = String::from_str(alloc, name)?;
+    aside.push_str(".aside")?;
+    Ok(aside)
 }
 
 /// The name of the new file.
@@ -53,13 +53,13 @@ fn if_there(done: io::Result<()>) -> io::Result<()> {
     }
 }
 
-/// The file of this name, with `.new` behind the name of the new one and `.old` behind that of the one that is set aside.
+/// The file of this name, with `.new` behind the name of the new one and `.aside` behind that of the one that is set aside.
 #[derive(Debug, Drop)]
 pub(crate) struct FilePlace<R> {
     rt: R,
     name: String,
     new_name: String,
-    old_name: String,
+    aside_name: String,
     folder: String,
 }
 
@@ -73,7 +73,7 @@ impl<R> FilePlace<R> {
             rt,
             name: String::from_str(alloc, name)?,
             new_name: new_name(alloc, name)?,
-            old_name: old_name(alloc, name)?,
+            aside_name: aside_name(alloc, name)?,
             folder: String::from_str(alloc, folder_of(name))?,
         })
     }
@@ -116,7 +116,7 @@ impl<R: Files> Place for FilePlace<R> {
     }
 
     fn set_aside(&mut self) -> Result<(), FileFailure> {
-        let moved = self.rename(self.name.as_str(), self.old_name.as_str());
+        let moved = self.rename(self.name.as_str(), self.aside_name.as_str());
         stepped(FileStep::SetAside, if_there(moved))
     }
 
@@ -130,7 +130,7 @@ impl<R: Files> Place for FilePlace<R> {
     }
 
     fn clear(&mut self) -> Result<(), FileFailure> {
-        let removed = fs::remove_file(&self.rt, self.old_name.as_str());
+        let removed = fs::remove_file(&self.rt, self.aside_name.as_str());
         stepped(FileStep::Clear, if_there(removed))
     }
 }
@@ -141,7 +141,7 @@ pub fn kept_name<R: Files>(
     alloc: Global,
     name: &str,
 ) -> Result<Option<String>, AllocError> {
-    for found in [String::from_str(alloc, name)?, old_name(alloc, name)?] {
+    for found in [String::from_str(alloc, name)?, aside_name(alloc, name)?] {
         if fs::symlink_metadata(rt, found.as_str()).is_ok() {
             return Ok(Some(found));
         }
@@ -152,9 +152,9 @@ pub fn kept_name<R: Files>(
 /// All bytes of the file that is kept under this name. Where there is none, those of the one that was set aside: a process that ended before
 /// the new one had its place left it so.
 pub fn kept_bytes<R: Files + AllocGlobal>(rt: &R, name: &str) -> Result<Vec<u8>, FileFault> {
-    let old_name = old_name(rt.alloc(), name)?;
+    let aside_name = aside_name(rt.alloc(), name)?;
     for _ in 0..LOOKS {
-        for found in [name, old_name.as_str()] {
+        for found in [name, aside_name.as_str()] {
             match fs::read(rt, found) {
                 Ok(bytes) => return Ok(bytes),
                 Err(error) if error.kind() == ErrorKind::NotFound => {}

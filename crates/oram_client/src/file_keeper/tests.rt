@@ -36,7 +36,7 @@ fn states_are_kept(rt: HostRuntime) -> Result<(), Fail> {
             assert!(rt; keeper.keep(state).is_ok());
             assert!(rt; is_found(&rt, "client_kept_file", state));
             assert!(rt; !fs::exists(&rt, "client_kept_file.new")?);
-            assert!(rt; !fs::exists(&rt, "client_kept_file.old")?);
+            assert!(rt; !fs::exists(&rt, "client_kept_file.aside")?);
         }
         assert!(rt; keeper.failure().is_none());
     }
@@ -54,14 +54,14 @@ fn a_process_ends_on_the_way(rt: HostRuntime) -> Result<(), Fail> {
         assert!(rt; before.keep(b"before").is_ok());
         fs::write(&rt, "client_ended.new", b"torn")?;
         assert!(rt; is_found(&rt, "client_ended", b"before"));
-        fs::rename(&rt, "client_ended", "client_ended.old")?;
+        fs::rename(&rt, "client_ended", "client_ended.aside")?;
         let found = retried!(kept_name(files, rt.alloc(), "client_ended"));
-        assert!(rt; found.as_deref() == Some("client_ended.old"));
+        assert!(rt; found.as_deref() == Some("client_ended.aside"));
         assert!(rt; is_found(&rt, "client_ended", b"before"));
         let mut after = retried!(keeper(files, "client_ended", sync));
         assert!(rt; after.keep(b"after").is_ok());
         assert!(rt; is_found(&rt, "client_ended", b"after"));
-        assert!(rt; !fs::exists(&rt, "client_ended.old")?);
+        assert!(rt; !fs::exists(&rt, "client_ended.aside")?);
     }
     fs::remove_file(&rt, "client_ended")?;
     Ok(())
