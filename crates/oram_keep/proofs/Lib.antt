@@ -1,4 +1,4 @@
 pub mod Deeds
 pub mod Begun
 pub mod Surviving
-pub mod Lives
+pub mod Processes

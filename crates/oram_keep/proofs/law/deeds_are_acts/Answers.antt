@@ -1,4 +1,4 @@
-use Rattle.oram_keep.proofs.Lives.{deeds_are_acts}
+use Rattle.oram_keep.proofs.Processes.{deeds_are_acts}
 use Rattle.oram_keep.proofs.law.deeds_are_acts.Goals as goal
 
 pub returns : goal.returns

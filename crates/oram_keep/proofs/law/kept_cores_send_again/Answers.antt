@@ -1,4 +1,4 @@
-use Rattle.oram_keep.proofs.Lives.{kept_cores_send_again}
+use Rattle.oram_keep.proofs.Processes.{kept_cores_send_again}
 use Rattle.oram_keep.proofs.law.kept_cores_send_again.Goals as goal
 
 pub returns : goal.returns
