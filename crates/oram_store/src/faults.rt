@@ -1,6 +1,8 @@
 //! Why a store can't be opened, or has no room.
 
 use sqlite::{Error, ErrorCode};
+use sqlite_std_file::OpenError;
+use sqlite_trees::error::StoreError;
 use std::alloc::{AllocError, AllocFailed};
 use std::io;
 use thiserror::Error as Fault;
@@ -63,6 +65,29 @@ impl From<Error> for StoreFault {
                 StoreFault::Io
             }
             _ => StoreFault::Damaged,
+        }
+    }
+}
+
+impl From<StoreError> for StoreFault {
+    fn from(error: StoreError) -> StoreFault {
+        match error {
+            StoreError::OutOfMemory => StoreFault::OutOfMemory,
+            StoreError::Io => StoreFault::Io,
+            StoreError::Full => StoreFault::NoRoom,
+            StoreError::Broken => StoreFault::Closed,
+            StoreError::Corrupt | StoreError::Unstorable => StoreFault::Damaged,
+        }
+    }
+}
+
+impl From<OpenError> for StoreFault {
+    fn from(error: OpenError) -> StoreFault {
+        match error {
+            OpenError::OutOfMemory => StoreFault::OutOfMemory,
+            OpenError::Busy => StoreFault::Busy,
+            OpenError::Io(error) => error.into(),
+            OpenError::HotJournal => StoreFault::Io,
         }
     }
 }

@@ -7,6 +7,7 @@
 mod faults;
 mod looking;
 mod opening;
+mod records;
 mod shapes;
 mod sinks;
 mod statements;

@@ -8,16 +8,16 @@ ghost use Rattle.oram_wire.specs.HostMessages.{answer_body};
 ghost use Rattle.oram_wire.specs.HostReading.{IsAnswer, IsMisfit, names_request};
 
 use crate::faults::StoreFault;
+use crate::records::{commit, read_path, write_path, write_record, write_shape};
 use crate::shapes::{Place, Shape};
-use crate::statements::{
-    begin, commit, read_path, read_shapes, roll_back, write_path, write_record, write_shape,
-};
-use crate::tables::prepare;
+use crate::statements::{read_shapes, roll_back};
+use crate::tables::{Tables, prepare};
 use oram_bytes::Bytes;
 use oram_host::HostRefusal;
 use oram_wire::{GOOD, HostAnswer, HostView, REFUSED, WireFault};
 use sqlite::{Alter, Connection, FileStore};
 use sqlite_disk::Disk;
+use sqlite_value::row::Row;
 use std::alloc::{AllocError, Global};
 
 /// How many records of a formatting are committed together.
@@ -27,10 +27,11 @@ const GROUP: u32 = 1_000;
 #[derive(Drop)]
 pub struct Store<S: Alter> {
     alloc: Global,
-    conn: Connection<S>,
+    database: S,
+    tables: Tables,
     /// By tree, as the table of shapes has them.
     shapes: Vec<Option<Shape>>,
-    /// How many records of a formatting the open transaction has, where one is open.
+    /// How many records of a formatting aren't committed yet.
     taken: u32,
     /// Why there was no room, the last time that there was none.
     failure: Option<StoreFault>,
@@ -51,9 +52,11 @@ impl<S: Alter + Drop> Store<S> {
         roll_back(&mut conn);
         prepared?;
         let shapes = read_shapes(alloc, &mut conn)?;
+        let tables = Tables::of(alloc, &conn)?;
         Ok(Store {
             alloc,
-            conn,
+            database: conn.into_store(),
+            tables,
             shapes,
             taken: 0,
             failure: None,
@@ -83,17 +86,15 @@ impl<S: Alter> Store<S> {
 
     /// Commits what a formatting has put so far. Where that fails, these records are lost.
     pub fn settle(&mut self) -> Result<(), StoreFault> {
-        if self.conn.is_autocommit() {
+        if self.taken == 0 {
             return Ok(());
         }
-        let done = commit(&mut self.conn);
-        roll_back(&mut self.conn);
-        if let Err(error) = done {
-            let fault = StoreFault::from(error);
+        self.taken = 0;
+        let done = commit(&mut self.database);
+        if let Err(fault) = done {
             self.failure = Some(fault);
-            return Err(fault);
         }
-        Ok(())
+        done
     }
 
     fn settled(&mut self) -> Result<(), HostRefusal> {
@@ -115,7 +116,8 @@ impl<S: Alter> Store<S> {
             return Err(HostRefusal::BadLeaf);
         }
         self.settled()?;
-        match read_path(self.alloc, &mut self.conn, tree, shape, leaf, front) {
+        let (database, tables) = (&mut self.database, &self.tables);
+        match read_path(self.alloc, database, tables, tree, shape, leaf, front) {
             Ok(Some(bytes)) => Ok(bytes),
             Ok(None) => Err(HostRefusal::Missing),
             Err(fault) => Err(self.refuse(fault)),
@@ -133,21 +135,27 @@ impl<S: Alter> Store<S> {
             return Err(HostRefusal::BadLength);
         }
         self.settled()?;
-        let done = write_path(self.alloc, &mut self.conn, tree, shape, leaf, records);
-        roll_back(&mut self.conn);
-        match done {
-            Ok(()) => Ok(()),
-            Err(fault) => Err(self.refuse(fault)),
-        }
+        let (database, tables) = (&mut self.database, &self.tables);
+        let done = write_path(self.alloc, database, tables, tree, shape, leaf, records);
+        self.undone(done)
     }
 
-    /// Takes a record into the group that is open, or begins one.
-    fn take(&mut self, place: Place, bytes: &[u8]) -> Result<(), StoreFault> {
-        if self.conn.is_autocommit() {
-            begin(&mut self.conn)?;
-            self.taken = 0;
-        }
-        write_record(self.alloc, &mut self.conn, place, bytes)?;
+    /// Rolls back what a write left that failed.
+    fn undone(&mut self, done: Result<(), StoreFault>) -> Result<(), HostRefusal> {
+        let Err(fault) = done else {
+            return Ok(());
+        };
+        self.database.rollback();
+        self.taken = 0;
+        Err(self.refuse(fault))
+    }
+
+    /// Takes a record into the group that isn't committed yet.
+    fn take(&mut self, place: Place, bytes: &[u8]) -> Result<(), HostRefusal> {
+        let mut row = Row::new(self.alloc);
+        let (database, tables) = (&mut self.database, &self.tables);
+        let done = write_record(database, tables, place, bytes, &mut row);
+        self.undone(done)?;
         self.taken = self.taken.saturating_add(1);
         Ok(())
     }
@@ -162,9 +170,7 @@ impl<S: Alter> Store<S> {
         if bytes.len() != shape.record_len as usize {
             return Err(HostRefusal::BadLength);
         }
-        if let Err(fault) = self.take(Place { tree, node }, bytes) {
-            return Err(self.refuse(fault));
-        }
+        self.take(Place { tree, node }, bytes)?;
         if self.taken >= GROUP {
             self.settled()?;
         }
@@ -179,11 +185,9 @@ impl<S: Alter> Store<S> {
             return Err(HostRefusal::ShapeTaken);
         }
         self.settled()?;
-        let done = write_shape(&mut self.conn, tree, shape);
-        roll_back(&mut self.conn);
-        if let Err(error) = done {
-            return Err(self.refuse(error.into()));
-        }
+        let (database, tables) = (&mut self.database, &self.tables);
+        let done = write_shape(self.alloc, database, tables, tree, shape);
+        self.undone(done)?;
         if let Some(cell) = self.shapes.get_mut(usize::from(tree)) {
             *cell = Some(shape);
         }
@@ -272,14 +276,7 @@ impl<D: Disk + Drop> Store<FileStore<D>> {
     /// Commits, copies the log into the file and closes both.
     pub fn close(mut self) -> Result<(), StoreFault> {
         let settled = self.settle();
-        let Store {
-            alloc: _,
-            conn,
-            shapes: _,
-            taken: _,
-            failure: _,
-        } = self;
-        conn.close()?;
+        self.database.checkpoint()?;
         settled
     }
 }

@@ -73,3 +73,45 @@ pub(crate) fn prepare<S: Alter>(alloc: Global, conn: &mut Connection<S>) -> Resu
     }
     Ok(())
 }
+
+/// The numbers of the tables, by which their rows are read and written.
+#[derive(Drop)]
+pub(crate) struct Tables {
+    shapes: u32,
+    records: Vec<u32>,
+}
+
+impl Tables {
+    /// The numbers of the tables of a database that has all.
+    pub(crate) fn of<S: Alter>(alloc: Global, conn: &Connection<S>) -> Result<Tables, StoreFault> {
+        let shapes = number_of(conn, "tree")?;
+        let mut records = Vec::with_capacity(alloc, RECORD_TABLES as usize)?;
+        for part in 0..RECORD_TABLES {
+            let name = format!(in alloc; "record_{part}")?;
+            records.push(number_of(conn, name.as_str())?)?;
+        }
+        Ok(Tables { shapes, records })
+    }
+
+    /// The table of the trees' shapes.
+    pub(crate) fn shapes(&self) -> u32 {
+        self.shapes
+    }
+
+    /// The table that has the records of a node.
+    pub(crate) fn records_of(&self, node: u32) -> Result<u32, StoreFault> {
+        match self.records.get((node % RECORD_TABLES) as usize) {
+            Some(table) => Ok(*table),
+            None => Err(StoreFault::Damaged),
+        }
+    }
+}
+
+fn number_of<S: Alter>(conn: &Connection<S>, name: &str) -> Result<u32, StoreFault> {
+    for table in conn.schema().tables.as_slice() {
+        if table.name.as_slice() == name.as_bytes() {
+            return Ok(table.tree);
+        }
+    }
+    Err(StoreFault::NotOurs)
+}
