@@ -1,5 +1,6 @@
 -- How far a formatting is.
-use Rattle.std.specs.Prelude.{ℕ, ◌*◌, ◌/◌, ◌-◌, ◌^◌, min, max, if◌then◌else◌, nat_le}
+use Rattle.std.specs.Prelude.{ℕ, ◌*◌, ◌+◌, ◌/◌, ◌-◌, ◌^◌, min, max, if◌then◌else◌, nat_le}
+use Rattle.oram_settings.specs.declared.progress.Meter.{Meter}
 
 -- how many of a hundred are done
 abbrev pub percent : ℕ → ℕ → ℕ
@@ -8,3 +9,7 @@ percent done of = if nat_le of done then 100 else done * 100 / of
 -- in how many seconds the rest is done, if it goes on as it did for so many milliseconds
 abbrev pub seconds_left : ℕ → ℕ → ℕ → ℕ
 seconds_left done of milliseconds = min (milliseconds * (of - done) / max done 1 / 1000) (2 ^ 64 - 1)
+
+-- a meter once it was asked at so many of a hundred: where it was due, it is due next a step later
+abbrev pub asked_at : Meter → ℕ → Meter
+asked_at meter percent = if nat_le meter.next percent then record meter { next = min (percent + meter.step) (2 ^ 64 - 1) } else meter

@@ -46,13 +46,18 @@ pub struct Meter {
 }
 
 impl Meter {
-    pub fn new(step: u64) -> Meter {
+    /// One that is due at once, and then after each step.
+    pub fn new(step: u64) -> Meter
+        ensures { result ≡ record { step = step; next = 0 } }
+    {
         Meter { step, next: 0 }
     }
 
     /// A text is due, now that so many of a hundred are done.
     pub fn is_due(&mut self, percent: u64) -> bool
-        ensures { IsTrue result ↔ (self.old.next ≤ percent) }
+        ensures due { IsTrue result ↔ (self.old.next ≤ percent) }
+        // It is due next a step later; until it is due nothing changes.
+        ensures next { self.new ≡ spec.asked_at self.old percent }
     {
         if percent < self.next {
             return false;
