@@ -1,7 +1,9 @@
 -- What a disk's settings file says, and when a text says it.
-use Rattle.std.specs.Prelude.{◌≡◌, ◌∷◌, ℕ, Bool, List, [], codes, string_bytes, Some}
+use Rattle.std.specs.Prelude.{◌≡◌, ◌∷◌, ◌*◌, ◌^◌, ℕ, Bool, List, [], codes, string_bytes, Some, Ok}
 use Rattle.toml.specs.Data.{Members, boolean, get_member}
 use Rattle.toml.specs.Parse.{parse_document}
+use Rattle.oram_geometry.specs.Sizes.{device_of}
+use Rattle.oram_geometry.specs.declared.Sizes.{Sizes}
 use Rattle.oram_edge.specs.Tables.{HasHex, HasNumber, HasOnly, HasText, IsAddress, IsCount, IsName}
 use Rattle.oram_settings.specs.declared.disk_file.Sealing.{Sealing}
 use Rattle.oram_settings.specs.declared.disk_file.Sealing.TheVariants.{Plain, ChaCha}
@@ -64,3 +66,8 @@ pub record IsDisk (table : Members) (s : DiskValue) : Type 0 where
 -- the text is a TOML document, and its table that of these settings
 abbrev pub IsDocumentOf : List ℕ → DiskValue → Type 0
 IsDocumentOf text s = (table : Members) × (parse_document text ≡ Some table) × IsDisk table s
+
+-- the device of so many bytes, which are whole blocks
+abbrev pub IsDeviceOf : ℕ → ℕ → ℕ → ℕ → Sizes → Type 0
+IsDeviceOf size block slots table device = (blocks : ℕ) × (blocks * block ≡ size)
+    × (device_of (record { blocks = blocks; block_bytes = block; slots = slots; top = table; lifetime = 2 ^ 40 }) ≡ Ok device)

@@ -1,10 +1,10 @@
 //! The settings file of a disk.
 
-ghost use Rattle.std.specs.Prelude.{◌≡◌, option_and_then, IfOk, IsErrOf};
+ghost use Rattle.std.specs.Prelude.{◌≡◌, None, option_and_then, IfOk, IfSome, IsErrOf};
 ghost use Rattle.toml.specs.Data.{as_bool, get_member};
 ghost use Rattle.toml.specs.View.{table_view};
 ghost use Rattle.oram_edge.specs.Tables.{Finds};
-ghost use Rattle.oram_settings.specs.Settings.{HasFlag, HasSealing, IsDisk, IsDocumentOf, shown};
+ghost use Rattle.oram_settings.specs.Settings.{HasFlag, HasSealing, IsDeviceOf, IsDisk, IsDocumentOf, shown};
 
 use hex::encode_to_slice;
 use oram_edge::{InputFault, address_at, count_at, has_only, key_at, name_at, number_at, table_of};
@@ -144,7 +144,10 @@ pub fn read_disk_settings(alloc: Global, text: &str) -> Result<DiskSettings, Inp
 }
 
 /// The device of so many bytes, or none where they aren't whole blocks, or the numbers are no device's.
-pub fn device_of(size: u64, block: u64, slots: u64, table: u64) -> Option<Device> {
+pub fn device_of(size: u64, block: u64, slots: u64, table: u64) -> Option<Device>
+    ensures some { IfSome result (λ d. IsDeviceOf size block slots table d) }
+    ensures none { result ≡ None → (d : _) → IsDeviceOf size block slots table d → ⊥ }
+{
     let blocks = size.checked_div(block)?;
     if size % block != 0 {
         return None;
