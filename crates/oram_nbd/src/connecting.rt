@@ -2,6 +2,7 @@
 
 ghost use Rattle.std.specs.Prelude.{◌≡◌, ◌≤◌, length, IfOk, IfErr};
 ghost use Rattle.oram_nbd.specs.Connection.{preferred_of, HasConnected, StopsConnection};
+ghost use Rattle.oram_nbd.specs.Holding.{IsStopped};
 
 use crate::LONGEST_PAYLOAD;
 use crate::disk::Disk;
@@ -38,6 +39,7 @@ pub fn serve<R: Read, W: Write, D: Disk>(
         (R.remaining reader.old) (R.remaining reader.new) (W.contents writer.old) (W.contents writer.new)) }
     ensures err { IfErr result (λ fault. StopsConnection (D.is_sound disk.old) (D.block_len disk.old) (D.size disk.old) (D.holds disk.old) (D.holds disk.new) name.now fault
         (R.remaining reader.old) (R.remaining reader.new) (W.contents writer.old) (W.contents writer.new)) }
+    ensures stopped { IfErr result (λ fault. fault ≡ NbdFault.Stopped → IsStopped D.stops disk.new) }
     ensures keeps { D.is_sound disk.old → D.is_sound disk.new }
     ensures shape { (D.block_len disk.new ≡ D.block_len disk.old) × (D.size disk.new ≡ D.size disk.old) }
 {

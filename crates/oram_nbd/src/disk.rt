@@ -22,6 +22,9 @@ pub trait Disk {
     /// It does not fail, unless memory is refused. It may stop.
     ghost is_sound: { Self → Type 0 };
 
+    /// A call that found the first and left the second met what stops the device.
+    ghost stops: { Self → Self → Type 0 };
+
     fn block_bytes(&self) -> u32
         ensures value { result ≡ block_len self.now }
         ensures some { 0 < result };
@@ -39,6 +42,7 @@ pub trait Disk {
             → v.items ≡ bytes_at bytes (block_len self.old * block) (block_len self.old)) }
         ensures same { (bytes : List ℕ) → holds self.old bytes → holds self.new bytes }
         ensures sound { IsErrOf result DiskFault.Failed → is_sound self.old → ⊥ }
+        ensures stopped { IsErrOf result DiskFault.Stopped → stops self.old self.new }
         ensures keeps { is_sound self.old → is_sound self.new }
         ensures shape { (block_len self.new ≡ block_len self.old) × (size self.new ≡ size self.old) };
 
@@ -51,6 +55,7 @@ pub trait Disk {
         ensures err { OnErr result ((bytes : List ℕ) → holds self.old bytes
             → holds self.new bytes ⊎ holds self.new (written bytes (block_len self.old * block) payload.now)) }
         ensures sound { IsErrOf result DiskFault.Failed → is_sound self.old → ⊥ }
+        ensures stopped { IsErrOf result DiskFault.Stopped → stops self.old self.new }
         ensures keeps { is_sound self.old → is_sound self.new }
         ensures shape { (block_len self.new ≡ block_len self.old) × (size self.new ≡ size self.old) };
 
@@ -63,6 +68,7 @@ pub trait Disk {
         ensures err { OnErr result ((bytes : List ℕ) → holds self.old bytes
             → holds self.new bytes ⊎ holds self.new (written bytes (block_len self.old * block) (zeroes (block_len self.old)))) }
         ensures sound { IsErrOf result DiskFault.Failed → is_sound self.old → ⊥ }
+        ensures stopped { IsErrOf result DiskFault.Stopped → stops self.old self.new }
         ensures keeps { is_sound self.old → is_sound self.new }
         ensures shape { (block_len self.new ≡ block_len self.old) × (size self.new ≡ size self.old) };
 }

@@ -53,6 +53,8 @@ impl Disk for MemDisk {
 
     ghost is_sound = { λ _. Unit {0} };
 
+    ghost stops = { λ _ _. ⊥ };
+
     fn block_bytes(&self) -> u32 {
         self.block_bytes
     }

@@ -2,7 +2,7 @@
 
 ghost use Rattle.std.specs.Prelude.{◌≡◌, ◌⊎◌, ℕ, List, ◌+◌, ◌-◌, ◌*◌, ◌<◌, ◌≤◌, ◌++◌, length, take, IfOk, OnOk, OnErr, IsErrOf};
 ghost use Rattle.oram_nbd.specs.Bytes.{bytes_at, written, zeroes, IsBegun};
-ghost use Rattle.oram_nbd.specs.Holding.{Leads, StillHolds};
+ghost use Rattle.oram_nbd.specs.Holding.{IsStopped, Leads, StillHolds};
 ghost use Rattle.oram_nbd.specs.Trimming.{trimmed, first_block, trim_len};
 
 use crate::disk::Disk;
@@ -53,6 +53,7 @@ fn read_part<D: Disk>(
     ensures ok { IfOk result (λ n. (bytes : List ℕ) → D.holds disk.old bytes → out.new.items ≡ out.old.items ++ bytes_at bytes at n) }
     ensures same { StillHolds (D.holds disk.old) (D.holds disk.new) }
     ensures sound { IsErrOf result DiskFault.Failed → D.is_sound disk.old → ⊥ }
+    ensures stopped { IsErrOf result DiskFault.Stopped → IsStopped D.stops disk.new }
     ensures keeps { D.is_sound disk.old → D.is_sound disk.new }
     ensures shape { (D.block_len disk.new ≡ D.block_len disk.old) × (D.size disk.new ≡ D.size disk.old) }
 {
@@ -75,6 +76,7 @@ pub fn read_range<D: Disk>(
     ensures ok { IfOk result (λ v. (bytes : List ℕ) → D.holds disk.old bytes → v.items ≡ bytes_at bytes offset count) }
     ensures same { StillHolds (D.holds disk.old) (D.holds disk.new) }
     ensures sound { IsErrOf result DiskFault.Failed → D.is_sound disk.old → ⊥ }
+    ensures stopped { IsErrOf result DiskFault.Stopped → IsStopped D.stops disk.new }
     ensures keeps { D.is_sound disk.old → D.is_sound disk.new }
     ensures shape { (D.block_len disk.new ≡ D.block_len disk.old) × (D.size disk.new ≡ D.size disk.old) }
 {
@@ -115,6 +117,7 @@ fn write_in_block<D: Disk>(
     ensures err { OnErr result ((bytes : List ℕ) → D.holds disk.old bytes
         → D.holds disk.new bytes ⊎ D.holds disk.new (written bytes (D.block_len disk.old * block + start) payload.now)) }
     ensures sound { IsErrOf result DiskFault.Failed → D.is_sound disk.old → ⊥ }
+    ensures stopped { IsErrOf result DiskFault.Stopped → IsStopped D.stops disk.new }
     ensures keeps { D.is_sound disk.old → D.is_sound disk.new }
     ensures shape { (D.block_len disk.new ≡ D.block_len disk.old) × (D.size disk.new ≡ D.size disk.old) }
 {
@@ -141,6 +144,7 @@ fn write_part<D: Disk>(
     ensures ok { IfOk result (λ n. (bytes : List ℕ) → D.holds disk.old bytes → D.holds disk.new (written bytes at (take n payload.now))) }
     ensures err { OnErr result (Leads (D.holds disk.old) (λ old new. IsBegun old at payload.now new) (D.holds disk.new)) }
     ensures sound { IsErrOf result DiskFault.Failed → D.is_sound disk.old → ⊥ }
+    ensures stopped { IsErrOf result DiskFault.Stopped → IsStopped D.stops disk.new }
     ensures keeps { D.is_sound disk.old → D.is_sound disk.new }
     ensures shape { (D.block_len disk.new ≡ D.block_len disk.old) × (D.size disk.new ≡ D.size disk.old) }
 {
@@ -162,6 +166,7 @@ pub fn write_range<D: Disk>(
     // As far as it came.
     ensures err { OnErr result (Leads (D.holds disk.old) (λ old new. IsBegun old offset payload.now new) (D.holds disk.new)) }
     ensures sound { IsErrOf result DiskFault.Failed → D.is_sound disk.old → ⊥ }
+    ensures stopped { IsErrOf result DiskFault.Stopped → IsStopped D.stops disk.new }
     ensures keeps { D.is_sound disk.old → D.is_sound disk.new }
     ensures shape { (D.block_len disk.new ≡ D.block_len disk.old) × (D.size disk.new ≡ D.size disk.old) }
 {
@@ -183,6 +188,7 @@ fn zero_part<D: Disk>(alloc: Global, disk: &mut D, at: u64, most: u64) -> Result
     ensures ok { IfOk result (λ n. (bytes : List ℕ) → D.holds disk.old bytes → D.holds disk.new (written bytes at (zeroes n))) }
     ensures err { OnErr result (Leads (D.holds disk.old) (λ old new. IsBegun old at (zeroes most) new) (D.holds disk.new)) }
     ensures sound { IsErrOf result DiskFault.Failed → D.is_sound disk.old → ⊥ }
+    ensures stopped { IsErrOf result DiskFault.Stopped → IsStopped D.stops disk.new }
     ensures keeps { D.is_sound disk.old → D.is_sound disk.new }
     ensures shape { (D.block_len disk.new ≡ D.block_len disk.old) × (D.size disk.new ≡ D.size disk.old) }
 {
@@ -209,6 +215,7 @@ pub fn zero_range<D: Disk>(
     ensures ok { OnOk result ((bytes : List ℕ) → D.holds disk.old bytes → D.holds disk.new (written bytes offset (zeroes count))) }
     ensures err { OnErr result (Leads (D.holds disk.old) (λ old new. IsBegun old offset (zeroes count) new) (D.holds disk.new)) }
     ensures sound { IsErrOf result DiskFault.Failed → D.is_sound disk.old → ⊥ }
+    ensures stopped { IsErrOf result DiskFault.Stopped → IsStopped D.stops disk.new }
     ensures keeps { D.is_sound disk.old → D.is_sound disk.new }
     ensures shape { (D.block_len disk.new ≡ D.block_len disk.old) × (D.size disk.new ≡ D.size disk.old) }
 {
@@ -233,6 +240,7 @@ pub fn trim_range<D: Disk>(
         (λ old new. IsBegun old (D.block_len disk.old * first_block (D.block_len disk.old) offset) (zeroes (trim_len (D.block_len disk.old) offset count)) new)
         (D.holds disk.new)) }
     ensures sound { IsErrOf result DiskFault.Failed → D.is_sound disk.old → ⊥ }
+    ensures stopped { IsErrOf result DiskFault.Stopped → IsStopped D.stops disk.new }
     ensures keeps { D.is_sound disk.old → D.is_sound disk.new }
     ensures shape { (D.block_len disk.new ≡ D.block_len disk.old) × (D.size disk.new ≡ D.size disk.old) }
 {

@@ -1,7 +1,7 @@
 //! The answer to one request.
 
 ghost use Rattle.std.specs.Prelude.{◌≡◌, ℕ, List, ◌+◌, length, IfOk, IfSome, IfNone, OnOk, OnErr, IsErrOf, None, nat_le};
-ghost use Rattle.oram_nbd.specs.Holding.{Leads};
+ghost use Rattle.oram_nbd.specs.Holding.{IsStopped, Leads};
 ghost use Rattle.oram_nbd.specs.Messages.{payload_len};
 ghost use Rattle.oram_nbd.specs.Serving.{after, given, given_len, refusal_of, IsAnswer, IsPartly, IsReply};
 
@@ -62,6 +62,7 @@ fn carry_out<D: Disk>(
     ensures err { OnErr result (Leads (D.holds disk.old)
         (λ old new. IsPartly request.now.command (D.block_len disk.old) old request.now.offset request.now.length payload.now new) (D.holds disk.new)) }
     ensures sound { IsErrOf result DiskFault.Failed → D.is_sound disk.old → ⊥ }
+    ensures stopped { IsErrOf result DiskFault.Stopped → IsStopped D.stops disk.new }
     ensures keeps { D.is_sound disk.old → D.is_sound disk.new }
     ensures shape { (D.block_len disk.new ≡ D.block_len disk.old) × (D.size disk.new ≡ D.size disk.old) }
 {
@@ -101,6 +102,7 @@ pub(crate) fn answer<D: Disk>(
     ensures refusal { IfNone result (refusal_of (D.size disk.old) request.now ≡ None) }
     ensures stopped { (text : List ℕ) → IfSome payload (λ p. p.items ≡ text) → IfNone result (Leads (D.holds disk.old)
         (λ old new. IsPartly request.now.command (D.block_len disk.old) old request.now.offset request.now.length text new) (D.holds disk.new)) }
+    ensures met { IfNone result (IsStopped D.stops disk.new) }
     ensures sound { IfSome result (λ reply. reply ≡ SimpleReply.Refused NbdError.Io → D.is_sound disk.old → ⊥) }
     ensures keeps { D.is_sound disk.old → D.is_sound disk.new }
     ensures shape { (D.block_len disk.new ≡ D.block_len disk.old) × (D.size disk.new ≡ D.size disk.old) }

@@ -377,11 +377,12 @@ struct StoppingDisk {
 }
 
 impl StoppingDisk {
-    ghost use Rattle.std.specs.Prelude.{◌≡◌, IsErrOf};
+    ghost use Rattle.std.specs.Prelude.{◌≡◌, IsErrOf, OnErr};
 
     fn count_call(&mut self) -> Result<(), DiskFault>
         ensures same { self.new.disk ≡ self.old.disk }
         ensures works { IsErrOf result DiskFault.Failed → ⊥ }
+        ensures stopped { OnErr result ((self.old.calls_left ≡ 0) × (self.new.calls_left ≡ 0)) }
     {
         if self.calls_left == 0 {
             return Err(DiskFault::Stopped);
@@ -392,6 +393,8 @@ impl StoppingDisk {
 }
 
 impl Disk for StoppingDisk {
+    ghost use Rattle.std.specs.Prelude.{◌≡◌};
+
     ghost block_len = { λ d. ⟦<MemDisk as Disk>⟧.block_len d.disk };
 
     ghost size = { λ d. ⟦<MemDisk as Disk>⟧.size d.disk };
@@ -399,6 +402,8 @@ impl Disk for StoppingDisk {
     ghost holds = { λ d. ⟦<MemDisk as Disk>⟧.holds d.disk };
 
     ghost is_sound = { λ d. ⟦<MemDisk as Disk>⟧.is_sound d.disk };
+
+    ghost stops = { λ d e. (d.calls_left ≡ 0) × (e.calls_left ≡ 0) };
 
     fn block_bytes(&self) -> u32 {
         self.disk.block_bytes()

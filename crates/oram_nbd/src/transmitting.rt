@@ -3,6 +3,7 @@
 ghost use Rattle.std.specs.Prelude.{◌≡◌, ℕ, List, length, IfOk, IfErr, OnOk, IfSome, MatchOption};
 ghost use Rattle.std.specs.Io.KnownBytes.{Appends, Consumes};
 ghost use Rattle.oram_wire.specs.Streaming.{GivesEnd};
+ghost use Rattle.oram_nbd.specs.Holding.{IsStopped};
 ghost use Rattle.oram_nbd.specs.Messages.{reply_text, request_text, IsRequest};
 ghost use Rattle.oram_nbd.specs.Streams.{ComesShort, IsBegunText, Misses};
 ghost use Rattle.oram_nbd.specs.Transmission.{HasTransmitted, IsNoRequest, IsUnfinished, StopsServing};
@@ -91,6 +92,7 @@ pub fn transmit<R: Read, W: Write, D: Disk>(
         (R.remaining reader.old) (R.remaining reader.new) (W.contents writer.old) (W.contents writer.new)) }
     ensures err { IfErr result (λ fault. StopsServing (D.is_sound disk.old) (D.block_len disk.old) (D.size disk.old) (D.holds disk.old) (D.holds disk.new) fault
         (R.remaining reader.old) (R.remaining reader.new) (W.contents writer.old) (W.contents writer.new)) }
+    ensures stopped { IfErr result (λ fault. fault ≡ NbdFault.Stopped → IsStopped D.stops disk.new) }
     ensures keeps { D.is_sound disk.old → D.is_sound disk.new }
     ensures shape { (D.block_len disk.new ≡ D.block_len disk.old) × (D.size disk.new ≡ D.size disk.old) }
 {
