@@ -14,12 +14,14 @@ use Rattle.oram_run.specs.declared.events.Reply.{Reply}
 use Rattle.oram_run.specs.declared.events.ReplyBody.{ReplyBody}
 use Rattle.oram_run.specs.declared.events.ReplyBody.TheVariants.{Failed}
 use Rattle.oram_run.specs.declared.events.Refusal.{Refusal}
+use Rattle.oram_core.specs.Core.{CoreValue, IsSameDevice, shape_of}
 use Rattle.oram_session.specs.Exchanges.{Runs}
 use Rattle.oram_session.specs.Honesty.{IsHeld}
 use Rattle.oram_session.specs.Outcome.{Outcome}
 use Rattle.oram_session.specs.Settled.{IsSettled, is_settled_by}
 use Rattle.oram_session.proofs.Honesty.{resting}
-use Rattle.oram_keep.specs.Asking.{HasGivenAll, HasRunOutAt, HasStalledAt, IsAccepted, IsCarriedOut, IsReopened, IsUnkeptAt}
+use Rattle.oram_session.proofs.Steppings.{same_shape}
+use Rattle.oram_keep.specs.Asking.{HasGivenAll, HasRunOutAt, HasStalledAt, IsAccepted, IsCarriedOut, IsRefused, IsReopened, IsUnkeptAt}
 use Rattle.oram_keep.specs.Keeping.{at}
 use Rattle.oram_keep.specs.Surviving.{Holds, IsLasting, IsResuming, Recovers}
 use Rattle.oram_keep.specs.declared.asking.Asked.{Asked}
@@ -28,6 +30,7 @@ use Rattle.oram_keep.specs.declared.faults.KeepFault.{KeepFault}
 use Rattle.oram_keep.specs.declared.faults.KeepFault.TheVariants.{OutOfMemory, Stalled, Unkept}
 use Rattle.oram_keep.proofs.Surviving.{commands_last, kept_cores_go_on, reopened_cores_recover}
 use Rattle.oram_volume.specs.Holding.{HoldsArray}
+use Rattle.oram_volume.specs.Stopping.{IsLeftUndone, IsThrough, StopsAt}
 
 -- no command's reply of an array is that the device failed
 pub never_failed : (bytes : List ℕ) (c : Command) → body_from bytes c ≢ Failed
@@ -171,24 +174,59 @@ module _ (may_lie : Bool) (v : Shape) {L : Type 0} (calls : L → List ℕ → O
       ]
 
 -- what waited is settled, and then a command carried out
-module _ (v w : Shape) (same : w ≡ v) {L K : Type 0} (calls : L → List ℕ → Outcome → L → Type 0) (keeps : K → List ℕ → Bool → K → Type 0) (s0 : State) (l0 : L) (s : State) (l : L) (k : K) (t : State) (m : L) (j : K) (words : ℕ → ℕ → List ℕ) (c : Command) (settled : IsSettled s) (well : is_some s.failure ≡ false) (holds : (may_lie : Bool) (array : ℕ → List ℕ) → HoldsArray may_lie v calls s0 l0 array → HoldsArray may_lie v calls s l array) where
-  begun_by : (may_lie : Bool) (array : ℕ → List ℕ) → HoldsArray may_lie v calls s0 l0 array → HoldsArray may_lie w calls s l array
-  begun_by may_lie array h = subst (λ (u : Shape). HoldsArray may_lie u calls s l array) (sym same) (holds may_lie array h)
+module _ {S : Type 0} (overhead : S → ℕ) (sealing : S → ℕ → List ℕ → List ℕ) (opening : S → List ℕ → Option (List ℕ)) (first mid : CoreValue S) (kept : IsSameDevice first mid) {L K : Type 0} (calls : L → List ℕ → Outcome → L → Type 0) (keeps : K → List ℕ → Bool → K → Type 0) (first_link link : L) (keeper : K) (t : State) (m : L) (j : K) (words : ℕ → ℕ → List ℕ) (c : Command) (settled : IsSettled mid.state) where
+  abbrev v : Shape
+  v = shape_of overhead sealing opening first
+
+  abbrev w : Shape
+  w = shape_of overhead sealing opening mid
+
+  same : w ≡ v
+  same = same_shape overhead sealing opening first mid kept
+
+  abbrev StillHolds : Type 0
+  StillHolds = (may_lie : Bool) (array : ℕ → List ℕ) → HoldsArray may_lie v calls first.state first_link array → HoldsArray may_lie v calls mid.state link array
+
+  begun_by : StillHolds → (may_lie : Bool) (array : ℕ → List ℕ) → HoldsArray may_lie v calls first.state first_link array → HoldsArray may_lie w calls mid.state link array
+  begun_by holds may_lie array h = subst (λ (u : Shape). HoldsArray may_lie u calls mid.state link array) (sym same) (holds may_lie array h)
 
   -- the reply is right, or a lie failed the device
-  pub told_right : (asked : Asked) (body : ReplyBody) → asked ≡ Replied body → IsCarriedOut w calls keeps words c s l k asked t m j
-      → (may_lie : Bool) (array : ℕ → List ℕ) → HoldsArray may_lie v calls s0 l0 array
+  pub told_right : is_some mid.state.failure ≡ false → StillHolds → (asked : Asked) (body : ReplyBody) → asked ≡ Replied body
+      → IsCarriedOut w calls keeps words c mid.state link keeper asked t m j
+      → (may_lie : Bool) (array : ℕ → List ℕ) → HoldsArray may_lie v calls first.state first_link array
       → ((body ≡ body_from (array (address_of c)) c) ⊎ ((may_lie ≡ true) × (body ≡ Failed))) × HoldsArray may_lie v calls t m (array_after v.device c array)
-  told_right asked body is done may_lie array h =
-      let d : IsCarriedOut w calls keeps words c s l k (Replied body) t m j = subst (λ (a : Asked). IsCarriedOut w calls keeps words c s l k a t m j) is done in
-      let r = replied may_lie w calls keeps s l k t m j array (begun_by may_lie array h) words c settled (none_by s.failure well) body d in
+  told_right well holds asked body is done may_lie array h =
+      let d : IsCarriedOut w calls keeps words c mid.state link keeper (Replied body) t m j = subst (λ (a : Asked). IsCarriedOut w calls keeps words c mid.state link keeper a t m j) is done in
+      let r = replied may_lie w calls keeps mid.state link keeper t m j array (begun_by holds may_lie array h) words c settled (none_by mid.state.failure well) body d in
       (r.0, subst (λ (u : Shape). HoldsArray may_lie u calls t m (array_after u.device c array)) same r.1)
 
-  pub told_fault : (e : KeepFault) → (e ≡ Stalled → (kept : State) → HasStalledAt w calls keeps (λ a b. IsAccepted w words a c b) s l k t m j kept)
-      → (e ≡ Unkept → (kept : State) → IsUnkeptAt w calls keeps (λ a b. IsAccepted w words a c b) s l k t m j kept)
-      → (e ≡ OutOfMemory → ((t ≡ s) × (m ≡ l)) ⊎ ((kept : State) → HasRunOutAt w calls keeps (λ a b. IsAccepted w words a c b) s l k t m j kept))
-      → (may_lie : Bool) (array : ℕ → List ℕ) → HoldsArray may_lie v calls s0 l0 array
+  pub told_fault : is_some mid.state.failure ≡ false → StillHolds → (e : KeepFault)
+      → (e ≡ Stalled → (kept : State) → HasStalledAt w calls keeps (λ a b. IsAccepted w words a c b) mid.state link keeper t m j kept)
+      → (e ≡ Unkept → (kept : State) → IsUnkeptAt w calls keeps (λ a b. IsAccepted w words a c b) mid.state link keeper t m j kept)
+      → (e ≡ OutOfMemory → ((t ≡ mid.state) × (m ≡ link)) ⊎ ((kept : State) → HasRunOutAt w calls keeps (λ a b. IsAccepted w words a c b) mid.state link keeper t m j kept))
+      → (may_lie : Bool) (array : ℕ → List ℕ) → HoldsArray may_lie v calls first.state first_link array
       → HoldsArray may_lie v calls t m array ⊎ HoldsArray may_lie v calls t m (array_after v.device c array)
-  told_fault e stalled unkept memory may_lie array h =
+  told_fault well holds e stalled unkept memory may_lie array h =
       subst (λ (u : Shape). HoldsArray may_lie u calls t m array ⊎ HoldsArray may_lie u calls t m (array_after u.device c array)) same
-      (faulted may_lie w calls keeps s l k t m j array (begun_by may_lie array h) words c settled (none_by s.failure well) e stalled unkept memory)
+      (faulted may_lie w calls keeps mid.state link keeper t m j array (begun_by holds may_lie array h) words c settled (none_by mid.state.failure well) e stalled unkept memory)
+
+  -- the command is left or refused, behind what waited
+  module _ (first_words : ℕ → ℕ → List ℕ) (same_words : words ≡ first_words) (first_keeper : K) (through : IsThrough v calls keeps first.state first_link first_keeper mid.state link keeper) where
+    pub held_up : IsLeftUndone w calls keeps (λ a b. IsAccepted w words a c b) mid.state link keeper t m j
+        ⊎ ((why : Refusal) × IsRefused w words mid.state c why t × (t ≡ mid.state) × (m ≡ link) × (j ≡ keeper))
+        → StopsAt v calls keeps first_words c first.state first_link first_keeper t m j
+    held_up held = subst (λ (tape : ℕ → ℕ → List ℕ). StopsAt v calls keeps tape c first.state first_link first_keeper t m j) same_words (inr (record {
+      core = mid.state;
+      link = link;
+      keeper = keeper;
+      through = through;
+      settled = settled;
+      held = subst (λ (u : Shape). IsLeftUndone u calls keeps (λ a b. IsAccepted u words a c b) mid.state link keeper t m j
+          ⊎ ((why : Refusal) × IsRefused u words mid.state c why t × (t ≡ mid.state) × (m ≡ link) × (j ≡ keeper))) same held;
+    }))
+
+    pub turned_away : (asked : Asked) (why : Refusal) → asked ≡ Refused why → IsCarriedOut w calls keeps words c mid.state link keeper asked t m j
+        → StopsAt v calls keeps first_words c first.state first_link first_keeper t m j
+    turned_away asked why is done =
+        let d : IsCarriedOut w calls keeps words c mid.state link keeper (Refused why) t m j = subst (λ (a : Asked). IsCarriedOut w calls keeps words c mid.state link keeper a t m j) is done in
+        held_up (inr (why, d.0, d.1, d.2, d.3))

@@ -1,5 +1,5 @@
 -- Blocks of an array, one after the other.
-use Rattle.std.proofs.Common.{◌≡◌, ◌≢◌, ℕ, zero, suc, ◌+◌, ◌-◌, ◌*◌, ◌==◌, ◌<◌, ◌≤◌, if◌then◌else◌, Bool, true, false, List, ◌++◌, length, take, drop, replicate, refl, sym, ap, ◌∙◌, arith, append_assoc, length-append, drop_at}
+use Rattle.std.proofs.Common.{◌≡◌, ◌≢◌, ℕ, zero, suc, ◌+◌, ◌-◌, ◌*◌, ◌==◌, ◌<◌, ◌≤◌, if◌then◌else◌, Bool, true, false, List, ◌++◌, length, take, drop, replicate, refl, sym, ap, ◌∙◌, subst, arith, append_assoc, length-append, drop_at}
 use Rattle.std.proofs.lemmas.Bool.Decides.{nat_tests}
 use Rattle.std.proofs.lemmas.List.{take_at, drop-drop, length-replicate}
 use Rattle.std.proofs.Math.Nat.{lt_of_mul-lt-mul_left, mul-suc}
@@ -122,21 +122,26 @@ pub read_laid : (d : Sizes) (array : ℕ → List ℕ) (bytes : List ℕ) (k : �
     → bytes_at bytes (d.block_bytes * k) d.block_bytes ≡ array k
 read_laid d array bytes k laid low = one_block d array bytes k (behind_it d k) laid (count_behind d k low)
 
-pub laid_after_read : (d : Sizes) (array : ℕ → List ℕ) (bytes : List ℕ) (k : ℕ) → IsLaidOut d array bytes → IsLaidOut d (array_after d (Read k) array) bytes
-laid_after_read d array bytes k laid = record {
+-- The bytes are laid out after a command on block k of the disk, whose address is as great.
+
+pub laid_after_read : (d : Sizes) (k : ℕ) (array : ℕ → List ℕ) (bytes : List ℕ) → IsLaidOut d array bytes → IsLaidOut d (array_after d (Read k) array) bytes
+laid_after_read d k array bytes laid = record {
   long = λ a low. laid.long a low;
   all = laid.all ∙ sym (blocks_alike (array_after d (Read k) array) array 0 d.blocks (λ a low high. refl));
 }
 
-pub laid_after_write : (d : Sizes) (array : ℕ → List ℕ) (bytes : List ℕ) (k : ℕ) (new : List ℕ) → IsLaidOut d array bytes → k < d.blocks
-    → length new ≡ d.block_bytes → IsLaidOut d (array_after d (Write k new) array) (written bytes (d.block_bytes * k) new)
-laid_after_write d array bytes k new laid low long =
-    replaced d array bytes k (behind_it d k) laid (count_behind d k low) (array_after d (Write k new) array) new long
-    (chosen (k == k) new (array k) (grind (arith, nat_tests))) (λ a other. passed (a == k) new (array a) (grind (arith, nat_tests, other)))
+pub laid_after_write : (d : Sizes) (k block : ℕ) (new payload : List ℕ) → k ≡ block → k < d.blocks → new ≡ payload → length payload ≡ d.block_bytes
+    → (array : ℕ → List ℕ) (bytes : List ℕ) → IsLaidOut d array bytes → IsLaidOut d (array_after d (Write k new) array) (written bytes (d.block_bytes * block) payload)
+laid_after_write d k block new payload place low copied long array bytes laid =
+    subst (λ (n : ℕ). IsLaidOut d (array_after d (Write k new) array) (written bytes (d.block_bytes * n) payload)) place
+    (subst (λ (p : List ℕ). IsLaidOut d (array_after d (Write k new) array) (written bytes (d.block_bytes * k) p)) copied
+    (replaced d array bytes k (behind_it d k) laid (count_behind d k low) (array_after d (Write k new) array) new (ap length copied ∙ long)
+    (chosen (k == k) new (array k) (grind (arith, nat_tests))) (λ a other. passed (a == k) new (array a) (grind (arith, nat_tests, other)))))
 
-pub laid_after_discard : (d : Sizes) (array : ℕ → List ℕ) (bytes : List ℕ) (k : ℕ) → IsLaidOut d array bytes → k < d.blocks
-    → IsLaidOut d (array_after d (Discard k) array) (written bytes (d.block_bytes * k) (zeroes d.block_bytes))
-laid_after_discard d array bytes k laid low =
+pub laid_after_discard : (d : Sizes) (k block : ℕ) → k ≡ block → k < d.blocks
+    → (array : ℕ → List ℕ) (bytes : List ℕ) → IsLaidOut d array bytes → IsLaidOut d (array_after d (Discard k) array) (written bytes (d.block_bytes * block) (zeroes d.block_bytes))
+laid_after_discard d k block place low array bytes laid =
     let new : List ℕ = replicate d.block_bytes 0 in
-    replaced d array bytes k (behind_it d k) laid (count_behind d k low) (array_after d (Discard k) array) new (length-replicate d.block_bytes 0)
-    (chosen (k == k) new (array k) (grind (arith, nat_tests))) (λ a other. passed (a == k) new (array a) (grind (arith, nat_tests, other)))
+    subst (λ (n : ℕ). IsLaidOut d (array_after d (Discard k) array) (written bytes (d.block_bytes * n) (zeroes d.block_bytes))) place
+    (replaced d array bytes k (behind_it d k) laid (count_behind d k low) (array_after d (Discard k) array) new (length-replicate d.block_bytes 0)
+    (chosen (k == k) new (array k) (grind (arith, nat_tests))) (λ a other. passed (a == k) new (array a) (grind (arith, nat_tests, other))))

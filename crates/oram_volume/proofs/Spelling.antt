@@ -1,12 +1,13 @@
 -- What a volume holds of bytes, after a command.
-use Rattle.std.proofs.Common.{◌≡◌, ◌⊎◌, ℕ, Bool, false, List, [], Result, Ok, Err, OnErr, sym, subst, inl, inr}
+use Rattle.std.proofs.Common.{◌⊎◌, ℕ, Bool, false, List, [], Option, Result, Ok, Err, OnErr, sym, subst, inl, inr}
 use Rattle.oram_run.specs.Serving.{array_after}
 use Rattle.oram_run.specs.Shape.{Shape}
-use Rattle.oram_run.specs.State.{State}
 use Rattle.oram_run.specs.declared.events.Command.{Command}
 use Rattle.oram_run.specs.declared.events.ReplyBody.{ReplyBody}
 use Rattle.oram_run.specs.declared.events.ReplyBody.TheVariants.{Data, Done, Failed}
+use Rattle.oram_core.specs.Core.{CoreValue, IsSameDevice, shape_of}
 use Rattle.oram_session.specs.Outcome.{Outcome}
+use Rattle.oram_session.proofs.Steppings.{same_shape}
 use Rattle.oram_volume.specs.Blocks.{IsLaidOut}
 use Rattle.oram_volume.specs.Holding.{HoldsArray, HoldsBytes, IsSound, Keeps}
 
@@ -20,38 +21,44 @@ data_of (Data bytes) = bytes
 data_of Done = []
 data_of Failed = []
 
--- of a command that makes these bytes of the bytes; its volume keeps its shape
-module _ (v w : Shape) (same : w ≡ v) {L : Type 0} (calls : L → List ℕ → Outcome → L → Type 0) (s : State) (l : L) (t : State) (m : L) (c : Command) (made : List ℕ → List ℕ) (laid : (array : ℕ → List ℕ) (bytes : List ℕ) → IsLaidOut v.device array bytes → IsLaidOut v.device (array_after v.device c array) (made bytes)) where
-  as_spelled : (may_lie : Bool) (array : ℕ → List ℕ) (bytes : List ℕ) → HoldsArray may_lie v calls t m array → IsLaidOut v.device array bytes
-      → HoldsBytes may_lie w calls t m bytes
-  as_spelled may_lie array bytes h is = subst (λ (u : Shape). HoldsBytes may_lie u calls t m bytes) (sym same) (record { array = array; holds = h; laid = is })
+-- over a core before and after a command, and its link: a command that makes these bytes of the bytes
+module _ {S : Type 0} (overhead : S → ℕ) (sealing : S → ℕ → List ℕ → List ℕ) (opening : S → List ℕ → Option (List ℕ)) (old new : CoreValue S) (kept : IsSameDevice old new) {L : Type 0} (calls : L → List ℕ → Outcome → L → Type 0) (l m : L) (c : Command) (made : List ℕ → List ℕ) (laid : (array : ℕ → List ℕ) (bytes : List ℕ) → IsLaidOut old.device array bytes → IsLaidOut old.device (array_after old.device c array) (made bytes)) where
+  abbrev v : Shape
+  v = shape_of overhead sealing opening old
+
+  abbrev w : Shape
+  w = shape_of overhead sealing opening new
+
+  as_spelled : (may_lie : Bool) (array : ℕ → List ℕ) (bytes : List ℕ) → HoldsArray may_lie v calls new.state m array → IsLaidOut v.device array bytes
+      → HoldsBytes may_lie w calls new.state m bytes
+  as_spelled may_lie array bytes h is = subst (λ (u : Shape). HoldsBytes may_lie u calls new.state m bytes) (sym (same_shape overhead sealing opening old new kept)) (record { array = array; holds = h; laid = is })
 
   -- the array becomes the one after the command, or it may also stay
   abbrev Becomes : Type 0
-  Becomes = (may_lie : Bool) (array : ℕ → List ℕ) → HoldsArray may_lie v calls s l array → HoldsArray may_lie v calls t m (array_after v.device c array)
+  Becomes = (may_lie : Bool) (array : ℕ → List ℕ) → HoldsArray may_lie v calls old.state l array → HoldsArray may_lie v calls new.state m (array_after v.device c array)
 
   abbrev MayBecome : Type 0
-  MayBecome = (may_lie : Bool) (array : ℕ → List ℕ) → HoldsArray may_lie v calls s l array
-      → HoldsArray may_lie v calls t m array ⊎ HoldsArray may_lie v calls t m (array_after v.device c array)
+  MayBecome = (may_lie : Bool) (array : ℕ → List ℕ) → HoldsArray may_lie v calls old.state l array
+      → HoldsArray may_lie v calls new.state m array ⊎ HoldsArray may_lie v calls new.state m (array_after v.device c array)
 
-  made_by : Becomes → (may_lie : Bool) (bytes : List ℕ) → HoldsBytes may_lie v calls s l bytes → HoldsBytes may_lie w calls t m (made bytes)
+  made_by : Becomes → (may_lie : Bool) (bytes : List ℕ) → HoldsBytes may_lie v calls old.state l bytes → HoldsBytes may_lie w calls new.state m (made bytes)
   made_by leads may_lie bytes h = as_spelled may_lie (array_after v.device c h.array) (made bytes) (leads may_lie h.array h.holds) (laid h.array bytes h.laid)
 
-  left_by : MayBecome → (may_lie : Bool) (bytes : List ℕ) → HoldsBytes may_lie v calls s l bytes
-      → HoldsBytes may_lie w calls t m bytes ⊎ HoldsBytes may_lie w calls t m (made bytes)
+  left_by : MayBecome → (may_lie : Bool) (bytes : List ℕ) → HoldsBytes may_lie v calls old.state l bytes
+      → HoldsBytes may_lie w calls new.state m bytes ⊎ HoldsBytes may_lie w calls new.state m (made bytes)
   left_by leads may_lie bytes h = elim (leads may_lie h.array h.holds) [
     | inl before ↦ inl (as_spelled may_lie h.array bytes before h.laid)
     | inr behind ↦ inr (as_spelled may_lie (array_after v.device c h.array) (made bytes) behind (laid h.array bytes h.laid))
   ]
 
-  pub bytes_made : Becomes → (bytes : List ℕ) → Keeps v calls s l bytes → Keeps w calls t m (made bytes)
+  pub bytes_made : Becomes → (bytes : List ℕ) → Keeps v calls old.state l bytes → Keeps w calls new.state m (made bytes)
   bytes_made leads bytes h = (h.0, made_by leads h.0 bytes h.1)
 
-  pub bytes_left : MayBecome → (bytes : List ℕ) → Keeps v calls s l bytes → Keeps w calls t m bytes ⊎ Keeps w calls t m (made bytes)
+  pub bytes_left : MayBecome → (bytes : List ℕ) → Keeps v calls old.state l bytes → Keeps w calls new.state m bytes ⊎ Keeps w calls new.state m (made bytes)
   bytes_left leads bytes h = elim (left_by leads h.0 bytes h.1) [ inl before ↦ inl (h.0, before) | inr behind ↦ inr (h.0, behind) ]
 
-  pub sound_made : Becomes → IsSound v calls s l → IsSound w calls t m
+  pub sound_made : Becomes → IsSound v calls old.state l → IsSound w calls new.state m
   sound_made leads h = (made h.0, made_by leads false h.0 h.1)
 
-  pub sound_left : MayBecome → IsSound v calls s l → IsSound w calls t m
+  pub sound_left : MayBecome → IsSound v calls old.state l → IsSound w calls new.state m
   sound_left leads h = elim (left_by leads false h.0 h.1) [ inl before ↦ (h.0, before) | inr behind ↦ (made h.0, behind) ]

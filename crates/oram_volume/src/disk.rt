@@ -13,7 +13,9 @@ use std::alloc::Global;
 
 impl<S: Sealer, L: Link, K: Keeper, T: Tape> Disk for Volume<S, L, K, T> {
     ghost use Rattle.oram_core.specs.Core.{shape_of};
+    ghost use Rattle.oram_run.specs.declared.events.Command.{Command};
     ghost use Rattle.oram_volume.specs.Holding.{IsSound, Keeps};
+    ghost use Rattle.oram_volume.specs.Stopping.{StopsAt};
 
     ghost block_len = { λ d. d.core.device.block_bytes };
 
@@ -22,6 +24,9 @@ impl<S: Sealer, L: Link, K: Keeper, T: Tape> Disk for Volume<S, L, K, T> {
     ghost holds = { λ d bytes. Keeps (shape_of S.overhead S.sealing S.opening d.core) L.calls d.core.state d.link bytes };
 
     ghost is_sound = { λ d. IsSound (shape_of S.overhead S.sealing S.opening d.core) L.calls d.core.state d.link };
+
+    ghost stops = { λ d e. (command : Command) × StopsAt (shape_of S.overhead S.sealing S.opening d.core) L.calls K.keeps (T.words d.tape) command
+        d.core.state d.link d.keeper e.core.state e.link e.keeper };
 
     fn block_bytes(&self) -> u32 {
         self.core.device().block_bytes() as u32

@@ -6,7 +6,9 @@ ghost use Rattle.oram_run.specs.Events.{address_of as address_in};
 ghost use Rattle.oram_run.specs.Serving.{array_after};
 ghost use Rattle.oram_core.specs.Core.{IsSameDevice, shape_of};
 ghost use Rattle.oram_session.specs.Settled.{IsBodyOf, IsSettled};
+ghost use Rattle.oram_keep.specs.Asking.{IsReopened};
 ghost use Rattle.oram_volume.specs.Holding.{HoldsArray};
+ghost use Rattle.oram_volume.specs.Stopping.{IsLeftUndone, IsThrough, StopsAt};
 
 use oram_bucket::Sealer;
 use oram_core::{Command, Core, ReplyBody};
@@ -29,7 +31,8 @@ pub struct Volume<S: Sealer, L: Link, K: Keeper, T: Tape> {
 
 /// What a fault of keeping is to who asks a disk.
 fn told(fault: KeepFault) -> DiskFault
-    ensures { result ≢ DiskFault.Failed }
+    ensures failed { result ≢ DiskFault.Failed }
+    ensures stopped { result ≡ DiskFault.Stopped → (fault ≡ KeepFault.Stalled) ⊎ (fault ≡ KeepFault.Unkept) }
 {
     match fault {
         KeepFault::Stalled | KeepFault::Unkept => DiskFault::Stopped,
@@ -47,6 +50,14 @@ impl<S: Sealer, L: Link, K: Keeper, T: Tape> Volume<S, L, K, T> {
             (may_lie : Bool) (array : ℕ → List ℕ) → HoldsArray may_lie v L.calls self.old.core.state self.old.link array
             → HoldsArray may_lie v L.calls self.new.core.state self.new.link array }
         ensures fault { IfErr result (λ e. e ≢ DiskFault.Failed) }
+
+        // It stops where a message stalls four times or the state can't be kept, and nowhere else.
+        ensures through { let v = shape_of S.overhead S.sealing S.opening self.old.core in
+            OnOk result (IsThrough v L.calls K.keeps self.old.core.state self.old.link self.old.keeper self.new.core.state self.new.link self.new.keeper) }
+        ensures stopped { let v = shape_of S.overhead S.sealing S.opening self.old.core in
+            IsErrOf result DiskFault.Stopped → IsLeftUndone v L.calls K.keeps (IsReopened v)
+            self.old.core.state self.old.link self.old.keeper self.new.core.state self.new.link self.new.keeper }
+        ensures tape { self.new.tape ≡ self.old.tape }
     {
         match resume(alloc, &mut self.core, &mut self.link, &mut self.keeper) {
             Ok(_) => Ok(()),
@@ -82,6 +93,9 @@ impl<S: Sealer, L: Link, K: Keeper, T: Tape> Volume<S, L, K, T> {
             ⊎ HoldsArray may_lie v L.calls self.new.core.state self.new.link (array_after v.device command array)) }
         ensures sound { let v = shape_of S.overhead S.sealing S.opening self.old.core in
             IsErrOf result DiskFault.Failed → (array : ℕ → List ℕ) → HoldsArray false v L.calls self.old.core.state self.old.link array → ⊥ }
+        ensures stopped { let v = shape_of S.overhead S.sealing S.opening self.old.core in
+            IsErrOf result DiskFault.Stopped → StopsAt v L.calls K.keeps (T.words self.old.tape) command
+            self.old.core.state self.old.link self.old.keeper self.new.core.state self.new.link self.new.keeper }
     {
         self.settle(alloc)?;
         if self.core.failure().is_some() {

@@ -1,14 +1,9 @@
-use Rattle.std.proofs.Common.{◌≡◌, ◌*◌, ℕ, false, List, Err, sym, ap, ◌∙◌, inl, inr}
+use Rattle.std.proofs.Common.{◌≡◌, ◌*◌, ℕ, false, Err, sym, ap, ◌∙◌, inl, inr}
 use Rattle.std.proofs.lemmas.Result.{err_from_is_err_and}
 use Rattle.oram_geometry.specs.declared.Sizes.{Sizes}
-use Rattle.oram_run.specs.Serving.{array_after}
-use Rattle.oram_run.specs.declared.events.Command.{Command}
 use Rattle.oram_run.specs.declared.events.Command.TheVariants.{Read}
-use Rattle.oram_core.specs.Core.{shape_of}
-use Rattle.oram_session.proofs.Steppings.{same_shape}
 use Rattle.oram_nbd.specs.Bytes.{bytes_at}
-use Rattle.oram_nbd.specs.declared.faults.DiskFault.TheVariants.{Failed}
-use Rattle.oram_volume.specs.Blocks.{IsLaidOut}
+use Rattle.oram_nbd.specs.declared.faults.DiskFault.TheVariants.{Failed, Stopped}
 use Rattle.oram_volume.proofs.Laying.{laid_after_read, read_laid}
 use Rattle.oram_volume.proofs.Spelling.{bytes_left, bytes_made, data_of, sound_left, sound_made}
 use Rattle.oram_volume.proofs.disk.VolumeDisk.read.Goals as goal
@@ -17,18 +12,8 @@ pub returns-in_err-bytes-clause-same : goal.returns-in_err-bytes-clause-same
 returns-in_err-bytes-clause-same g c =
     let now = c.args.self.now in
     let new = c.carry_out.new.self in
-    let v = shape_of g.S.Sealer.overhead g.S.Sealer.sealing g.S.Sealer.opening now.core in
-    let w = shape_of g.S.Sealer.overhead g.S.Sealer.sealing g.S.Sealer.opening new.core in
-    let same = same_shape g.S.Sealer.overhead g.S.Sealer.sealing g.S.Sealer.opening now.core new.core c.carry_out.ensures.kept in
-    let d : Sizes = now.core.device in
-    let k : ℕ = c.address_of-address.result in
-    let low = c.address_of-address.ensures.within in
-    let place = c.address_of-address.ensures.value in
-    let made : List ℕ → List ℕ = λ bytes. bytes in
-    let command : Command = Read k in
-    let laid : (array : ℕ → List ℕ) (bytes : List ℕ) → IsLaidOut d array bytes → IsLaidOut d (array_after d command array) (made bytes) =
-    λ array bytes is. laid_after_read d array bytes k is in
-    λ bytes h. elim (bytes_left v w same g.L.Link.calls now.core.state now.link new.core.state new.link command made laid c.in_err-bytes.ensures.err bytes h) [ inl before ↦ before | inr behind ↦ behind ]
+    λ bytes h. elim (bytes_left g.S.Sealer.overhead g.S.Sealer.sealing g.S.Sealer.opening now.core new.core c.carry_out.ensures.kept g.L.Link.calls now.link new.link
+    (Read c.address_of-address.result) (λ bytes. bytes) (laid_after_read now.core.device c.address_of-address.result) c.in_err-bytes.ensures.err bytes h) [ inl before ↦ before | inr behind ↦ behind ]
 
 pub returns-in_err-bytes-clause-sound : goal.returns-in_err-bytes-clause-sound
 returns-in_err-bytes-clause-sound g c = λ e h.
@@ -36,22 +21,18 @@ returns-in_err-bytes-clause-sound g c = λ e h.
     let f : c.in_err-bytes.field-0.0 ≡ Failed = cc in
     c.in_err-bytes.ensures.sound (ap Err f) h.1.array h.1.holds
 
+pub returns-in_err-bytes-clause-stopped : goal.returns-in_err-bytes-clause-stopped
+returns-in_err-bytes-clause-stopped g c = λ e.
+    let p = err_from_is_err_and c.from_residual.result c.from_residual.ensures.1 in
+    let f : c.in_err-bytes.field-0.0 ≡ Stopped = cc in
+    (Read c.address_of-address.result, c.in_err-bytes.ensures.stopped (ap Err f))
+
 pub returns-in_err-bytes-clause-keeps : goal.returns-in_err-bytes-clause-keeps
 returns-in_err-bytes-clause-keeps g c =
     let now = c.args.self.now in
     let new = c.carry_out.new.self in
-    let v = shape_of g.S.Sealer.overhead g.S.Sealer.sealing g.S.Sealer.opening now.core in
-    let w = shape_of g.S.Sealer.overhead g.S.Sealer.sealing g.S.Sealer.opening new.core in
-    let same = same_shape g.S.Sealer.overhead g.S.Sealer.sealing g.S.Sealer.opening now.core new.core c.carry_out.ensures.kept in
-    let d : Sizes = now.core.device in
-    let k : ℕ = c.address_of-address.result in
-    let low = c.address_of-address.ensures.within in
-    let place = c.address_of-address.ensures.value in
-    let made : List ℕ → List ℕ = λ bytes. bytes in
-    let command : Command = Read k in
-    let laid : (array : ℕ → List ℕ) (bytes : List ℕ) → IsLaidOut d array bytes → IsLaidOut d (array_after d command array) (made bytes) =
-    λ array bytes is. laid_after_read d array bytes k is in
-    sound_left v w same g.L.Link.calls now.core.state now.link new.core.state new.link command made laid c.in_err-bytes.ensures.err
+    sound_left g.S.Sealer.overhead g.S.Sealer.sealing g.S.Sealer.opening now.core new.core c.carry_out.ensures.kept g.L.Link.calls now.link new.link
+    (Read c.address_of-address.result) (λ bytes. bytes) (laid_after_read now.core.device c.address_of-address.result) c.in_err-bytes.ensures.err
 
 pub returns-in-Data-clause-ok : goal.returns-in-Data-clause-ok
 returns-in-Data-clause-ok g c = λ bytes h.
@@ -65,56 +46,28 @@ pub returns-in-Data-clause-same : goal.returns-in-Data-clause-same
 returns-in-Data-clause-same g c =
     let now = c.args.self.now in
     let new = c.carry_out.new.self in
-    let v = shape_of g.S.Sealer.overhead g.S.Sealer.sealing g.S.Sealer.opening now.core in
-    let w = shape_of g.S.Sealer.overhead g.S.Sealer.sealing g.S.Sealer.opening new.core in
-    let same = same_shape g.S.Sealer.overhead g.S.Sealer.sealing g.S.Sealer.opening now.core new.core c.carry_out.ensures.kept in
-    let d : Sizes = now.core.device in
-    let k : ℕ = c.address_of-address.result in
-    let low = c.address_of-address.ensures.within in
-    let place = c.address_of-address.ensures.value in
-    let made : List ℕ → List ℕ = λ bytes. bytes in
-    let command : Command = Read k in
-    let laid : (array : ℕ → List ℕ) (bytes : List ℕ) → IsLaidOut d array bytes → IsLaidOut d (array_after d command array) (made bytes) =
-    λ array bytes is. laid_after_read d array bytes k is in
-    bytes_made v w same g.L.Link.calls now.core.state now.link new.core.state new.link command made laid (λ lie array hold. (c.in_ok-bytes.ensures.ok lie array hold).1)
+    bytes_made g.S.Sealer.overhead g.S.Sealer.sealing g.S.Sealer.opening now.core new.core c.carry_out.ensures.kept g.L.Link.calls now.link new.link
+    (Read c.address_of-address.result) (λ bytes. bytes) (laid_after_read now.core.device c.address_of-address.result) (λ lie array hold. (c.in_ok-bytes.ensures.ok lie array hold).1)
 
 pub returns-in-Data-clause-keeps : goal.returns-in-Data-clause-keeps
 returns-in-Data-clause-keeps g c =
     let now = c.args.self.now in
     let new = c.carry_out.new.self in
-    let v = shape_of g.S.Sealer.overhead g.S.Sealer.sealing g.S.Sealer.opening now.core in
-    let w = shape_of g.S.Sealer.overhead g.S.Sealer.sealing g.S.Sealer.opening new.core in
-    let same = same_shape g.S.Sealer.overhead g.S.Sealer.sealing g.S.Sealer.opening now.core new.core c.carry_out.ensures.kept in
-    let d : Sizes = now.core.device in
-    let k : ℕ = c.address_of-address.result in
-    let low = c.address_of-address.ensures.within in
-    let place = c.address_of-address.ensures.value in
-    let made : List ℕ → List ℕ = λ bytes. bytes in
-    let command : Command = Read k in
-    let laid : (array : ℕ → List ℕ) (bytes : List ℕ) → IsLaidOut d array bytes → IsLaidOut d (array_after d command array) (made bytes) =
-    λ array bytes is. laid_after_read d array bytes k is in
-    sound_made v w same g.L.Link.calls now.core.state now.link new.core.state new.link command made laid (λ lie array hold. (c.in_ok-bytes.ensures.ok lie array hold).1)
+    sound_made g.S.Sealer.overhead g.S.Sealer.sealing g.S.Sealer.opening now.core new.core c.carry_out.ensures.kept g.L.Link.calls now.link new.link
+    (Read c.address_of-address.result) (λ bytes. bytes) (laid_after_read now.core.device c.address_of-address.result) (λ lie array hold. (c.in_ok-bytes.ensures.ok lie array hold).1)
 
 pub returns-in-Done : goal.returns-in-Done
 returns-in-Done g c =
     let now = c.args.self.now in
     let new = c.carry_out.new.self in
-    let v = shape_of g.S.Sealer.overhead g.S.Sealer.sealing g.S.Sealer.opening now.core in
-    let w = shape_of g.S.Sealer.overhead g.S.Sealer.sealing g.S.Sealer.opening new.core in
-    let same = same_shape g.S.Sealer.overhead g.S.Sealer.sealing g.S.Sealer.opening now.core new.core c.carry_out.ensures.kept in
-    let d : Sizes = now.core.device in
-    let k : ℕ = c.address_of-address.result in
-    let low = c.address_of-address.ensures.within in
-    let place = c.address_of-address.ensures.value in
-    let made : List ℕ → List ℕ = λ bytes. bytes in
-    let command : Command = Read k in
-    let laid : (array : ℕ → List ℕ) (bytes : List ℕ) → IsLaidOut d array bytes → IsLaidOut d (array_after d command array) (made bytes) =
-    λ array bytes is. laid_after_read d array bytes k is in
     record {
       len = tt;
       ok = tt;
-      same = bytes_made v w same g.L.Link.calls now.core.state now.link new.core.state new.link command made laid (λ lie array hold. (c.in_ok-bytes.ensures.ok lie array hold).1);
+      same = bytes_made g.S.Sealer.overhead g.S.Sealer.sealing g.S.Sealer.opening now.core new.core c.carry_out.ensures.kept g.L.Link.calls now.link new.link
+          (Read c.address_of-address.result) (λ bytes. bytes) (laid_after_read now.core.device c.address_of-address.result) (λ lie array hold. (c.in_ok-bytes.ensures.ok lie array hold).1);
       sound = λ e h. let body = (c.in_ok-bytes.ensures.ok false h.1.array h.1.holds).0 in elim c.in-Done.is [ inl done ↦ absurd (let both = sym done ∙ body in cc) | inr failed ↦ absurd (let both = sym failed ∙ body in cc) ];
-      keeps = sound_made v w same g.L.Link.calls now.core.state now.link new.core.state new.link command made laid (λ lie array hold. (c.in_ok-bytes.ensures.ok lie array hold).1);
+      stopped = λ e. cc;
+      keeps = sound_made g.S.Sealer.overhead g.S.Sealer.sealing g.S.Sealer.opening now.core new.core c.carry_out.ensures.kept g.L.Link.calls now.link new.link
+          (Read c.address_of-address.result) (λ bytes. bytes) (laid_after_read now.core.device c.address_of-address.result) (λ lie array hold. (c.in_ok-bytes.ensures.ok lie array hold).1);
       shape = (ap (λ (e : Sizes). e.block_bytes) c.carry_out.ensures.kept.0, ap (λ (e : Sizes). e.block_bytes * e.blocks) c.carry_out.ensures.kept.0);
     }

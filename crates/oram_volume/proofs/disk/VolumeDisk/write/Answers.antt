@@ -1,14 +1,8 @@
-use Rattle.std.proofs.Common.{◌≡◌, ◌*◌, ℕ, List, Err, length, ap, ◌∙◌, subst}
+use Rattle.std.proofs.Common.{◌≡◌, ◌*◌, Err, ap}
 use Rattle.std.proofs.lemmas.Result.{err_from_is_err_and}
-use Rattle.oram_geometry.specs.declared.Sizes.{Sizes}
-use Rattle.oram_run.specs.Serving.{array_after}
-use Rattle.oram_run.specs.declared.events.Command.{Command}
 use Rattle.oram_run.specs.declared.events.Command.TheVariants.{Write}
-use Rattle.oram_core.specs.Core.{shape_of}
-use Rattle.oram_session.proofs.Steppings.{same_shape}
 use Rattle.oram_nbd.specs.Bytes.{written}
-use Rattle.oram_nbd.specs.declared.faults.DiskFault.TheVariants.{Failed}
-use Rattle.oram_volume.specs.Blocks.{IsLaidOut}
+use Rattle.oram_nbd.specs.declared.faults.DiskFault.TheVariants.{Failed, Stopped}
 use Rattle.oram_volume.proofs.Laying.{laid_after_write}
 use Rattle.oram_volume.proofs.Spelling.{OnErr_of, bytes_left, bytes_made, sound_left, sound_made}
 use Rattle.oram_volume.proofs.disk.VolumeDisk.write.Goals as goal
@@ -17,21 +11,10 @@ pub returns-in_err-carry_out-clause-err : goal.returns-in_err-carry_out-clause-e
 returns-in_err-carry_out-clause-err g c =
     let now = c.args.self.now in
     let new = c.carry_out.new.self in
-    let v = shape_of g.S.Sealer.overhead g.S.Sealer.sealing g.S.Sealer.opening now.core in
-    let w = shape_of g.S.Sealer.overhead g.S.Sealer.sealing g.S.Sealer.opening new.core in
-    let same = same_shape g.S.Sealer.overhead g.S.Sealer.sealing g.S.Sealer.opening now.core new.core c.carry_out.ensures.kept in
-    let d : Sizes = now.core.device in
-    let k : ℕ = c.address_of-address.result in
-    let low = c.address_of-address.ensures.within in
-    let place = c.address_of-address.ensures.value in
-    let copied : c.in_ok-bytes.bytes ≡ c.args.payload.now = c.in_ok-bytes.ensures in
-    let long : length c.in_ok-bytes.bytes ≡ d.block_bytes = ap length copied ∙ c.requires.whole in
-    let made : List ℕ → List ℕ = λ bytes. written bytes (d.block_bytes * c.args.block) c.args.payload.now in
-    let command : Command = Write k c.in_ok-bytes.bytes in
-    let laid : (array : ℕ → List ℕ) (bytes : List ℕ) → IsLaidOut d array bytes → IsLaidOut d (array_after d command array) (made bytes) =
-    λ array bytes is. subst (λ (n : ℕ). IsLaidOut d (array_after d command array) (written bytes (d.block_bytes * n) c.args.payload.now)) place
-    (subst (λ (p : List ℕ). IsLaidOut d (array_after d command array) (written bytes (d.block_bytes * k) p)) copied (laid_after_write d array bytes k c.in_ok-bytes.bytes is low long)) in
-    OnErr_of c.from_residual-in_err-carry_out.result (bytes_left v w same g.L.Link.calls now.core.state now.link new.core.state new.link command made laid c.in_err-carry_out.ensures.err)
+    OnErr_of c.from_residual-in_err-carry_out.result (bytes_left g.S.Sealer.overhead g.S.Sealer.sealing g.S.Sealer.opening now.core new.core c.carry_out.ensures.kept g.L.Link.calls now.link new.link
+    (Write c.address_of-address.result c.in_ok-bytes.bytes) (λ bytes. written bytes (now.core.device.block_bytes * c.args.block) c.args.payload.now)
+    (laid_after_write now.core.device c.address_of-address.result c.args.block c.in_ok-bytes.bytes c.args.payload.now c.address_of-address.ensures.value c.address_of-address.ensures.within
+    c.in_ok-bytes.ensures c.requires.whole) c.in_err-carry_out.ensures.err)
 
 pub returns-in_err-carry_out-clause-sound : goal.returns-in_err-carry_out-clause-sound
 returns-in_err-carry_out-clause-sound g c = λ e h.
@@ -39,62 +22,35 @@ returns-in_err-carry_out-clause-sound g c = λ e h.
     let f : c.in_err-carry_out.field-0.0 ≡ Failed = cc in
     c.in_err-carry_out.ensures.sound (ap Err f) h.1.array h.1.holds
 
+pub returns-in_err-carry_out-clause-stopped : goal.returns-in_err-carry_out-clause-stopped
+returns-in_err-carry_out-clause-stopped g c = λ e.
+    let p = err_from_is_err_and c.from_residual-in_err-carry_out.result c.from_residual-in_err-carry_out.ensures.1 in
+    let f : c.in_err-carry_out.field-0.0 ≡ Stopped = cc in
+    (Write c.address_of-address.result c.in_ok-bytes.bytes, c.in_err-carry_out.ensures.stopped (ap Err f))
+
 pub returns-in_err-carry_out-clause-keeps : goal.returns-in_err-carry_out-clause-keeps
 returns-in_err-carry_out-clause-keeps g c =
     let now = c.args.self.now in
     let new = c.carry_out.new.self in
-    let v = shape_of g.S.Sealer.overhead g.S.Sealer.sealing g.S.Sealer.opening now.core in
-    let w = shape_of g.S.Sealer.overhead g.S.Sealer.sealing g.S.Sealer.opening new.core in
-    let same = same_shape g.S.Sealer.overhead g.S.Sealer.sealing g.S.Sealer.opening now.core new.core c.carry_out.ensures.kept in
-    let d : Sizes = now.core.device in
-    let k : ℕ = c.address_of-address.result in
-    let low = c.address_of-address.ensures.within in
-    let place = c.address_of-address.ensures.value in
-    let copied : c.in_ok-bytes.bytes ≡ c.args.payload.now = c.in_ok-bytes.ensures in
-    let long : length c.in_ok-bytes.bytes ≡ d.block_bytes = ap length copied ∙ c.requires.whole in
-    let made : List ℕ → List ℕ = λ bytes. written bytes (d.block_bytes * c.args.block) c.args.payload.now in
-    let command : Command = Write k c.in_ok-bytes.bytes in
-    let laid : (array : ℕ → List ℕ) (bytes : List ℕ) → IsLaidOut d array bytes → IsLaidOut d (array_after d command array) (made bytes) =
-    λ array bytes is. subst (λ (n : ℕ). IsLaidOut d (array_after d command array) (written bytes (d.block_bytes * n) c.args.payload.now)) place
-    (subst (λ (p : List ℕ). IsLaidOut d (array_after d command array) (written bytes (d.block_bytes * k) p)) copied (laid_after_write d array bytes k c.in_ok-bytes.bytes is low long)) in
-    sound_left v w same g.L.Link.calls now.core.state now.link new.core.state new.link command made laid c.in_err-carry_out.ensures.err
+    sound_left g.S.Sealer.overhead g.S.Sealer.sealing g.S.Sealer.opening now.core new.core c.carry_out.ensures.kept g.L.Link.calls now.link new.link
+    (Write c.address_of-address.result c.in_ok-bytes.bytes) (λ bytes. written bytes (now.core.device.block_bytes * c.args.block) c.args.payload.now)
+    (laid_after_write now.core.device c.address_of-address.result c.args.block c.in_ok-bytes.bytes c.args.payload.now c.address_of-address.ensures.value c.address_of-address.ensures.within
+    c.in_ok-bytes.ensures c.requires.whole) c.in_err-carry_out.ensures.err
 
 pub returns-clause-ok : goal.returns-clause-ok
 returns-clause-ok g c =
     let now = c.args.self.now in
     let new = c.carry_out.new.self in
-    let v = shape_of g.S.Sealer.overhead g.S.Sealer.sealing g.S.Sealer.opening now.core in
-    let w = shape_of g.S.Sealer.overhead g.S.Sealer.sealing g.S.Sealer.opening new.core in
-    let same = same_shape g.S.Sealer.overhead g.S.Sealer.sealing g.S.Sealer.opening now.core new.core c.carry_out.ensures.kept in
-    let d : Sizes = now.core.device in
-    let k : ℕ = c.address_of-address.result in
-    let low = c.address_of-address.ensures.within in
-    let place = c.address_of-address.ensures.value in
-    let copied : c.in_ok-bytes.bytes ≡ c.args.payload.now = c.in_ok-bytes.ensures in
-    let long : length c.in_ok-bytes.bytes ≡ d.block_bytes = ap length copied ∙ c.requires.whole in
-    let made : List ℕ → List ℕ = λ bytes. written bytes (d.block_bytes * c.args.block) c.args.payload.now in
-    let command : Command = Write k c.in_ok-bytes.bytes in
-    let laid : (array : ℕ → List ℕ) (bytes : List ℕ) → IsLaidOut d array bytes → IsLaidOut d (array_after d command array) (made bytes) =
-    λ array bytes is. subst (λ (n : ℕ). IsLaidOut d (array_after d command array) (written bytes (d.block_bytes * n) c.args.payload.now)) place
-    (subst (λ (p : List ℕ). IsLaidOut d (array_after d command array) (written bytes (d.block_bytes * k) p)) copied (laid_after_write d array bytes k c.in_ok-bytes.bytes is low long)) in
-    bytes_made v w same g.L.Link.calls now.core.state now.link new.core.state new.link command made laid (λ lie array hold. (c.in_ok-carry_out.ensures.ok lie array hold).1)
+    bytes_made g.S.Sealer.overhead g.S.Sealer.sealing g.S.Sealer.opening now.core new.core c.carry_out.ensures.kept g.L.Link.calls now.link new.link
+    (Write c.address_of-address.result c.in_ok-bytes.bytes) (λ bytes. written bytes (now.core.device.block_bytes * c.args.block) c.args.payload.now)
+    (laid_after_write now.core.device c.address_of-address.result c.args.block c.in_ok-bytes.bytes c.args.payload.now c.address_of-address.ensures.value c.address_of-address.ensures.within
+    c.in_ok-bytes.ensures c.requires.whole) (λ lie array hold. (c.in_ok-carry_out.ensures.ok lie array hold).1)
 
 pub returns-clause-keeps : goal.returns-clause-keeps
 returns-clause-keeps g c =
     let now = c.args.self.now in
     let new = c.carry_out.new.self in
-    let v = shape_of g.S.Sealer.overhead g.S.Sealer.sealing g.S.Sealer.opening now.core in
-    let w = shape_of g.S.Sealer.overhead g.S.Sealer.sealing g.S.Sealer.opening new.core in
-    let same = same_shape g.S.Sealer.overhead g.S.Sealer.sealing g.S.Sealer.opening now.core new.core c.carry_out.ensures.kept in
-    let d : Sizes = now.core.device in
-    let k : ℕ = c.address_of-address.result in
-    let low = c.address_of-address.ensures.within in
-    let place = c.address_of-address.ensures.value in
-    let copied : c.in_ok-bytes.bytes ≡ c.args.payload.now = c.in_ok-bytes.ensures in
-    let long : length c.in_ok-bytes.bytes ≡ d.block_bytes = ap length copied ∙ c.requires.whole in
-    let made : List ℕ → List ℕ = λ bytes. written bytes (d.block_bytes * c.args.block) c.args.payload.now in
-    let command : Command = Write k c.in_ok-bytes.bytes in
-    let laid : (array : ℕ → List ℕ) (bytes : List ℕ) → IsLaidOut d array bytes → IsLaidOut d (array_after d command array) (made bytes) =
-    λ array bytes is. subst (λ (n : ℕ). IsLaidOut d (array_after d command array) (written bytes (d.block_bytes * n) c.args.payload.now)) place
-    (subst (λ (p : List ℕ). IsLaidOut d (array_after d command array) (written bytes (d.block_bytes * k) p)) copied (laid_after_write d array bytes k c.in_ok-bytes.bytes is low long)) in
-    sound_made v w same g.L.Link.calls now.core.state now.link new.core.state new.link command made laid (λ lie array hold. (c.in_ok-carry_out.ensures.ok lie array hold).1)
+    sound_made g.S.Sealer.overhead g.S.Sealer.sealing g.S.Sealer.opening now.core new.core c.carry_out.ensures.kept g.L.Link.calls now.link new.link
+    (Write c.address_of-address.result c.in_ok-bytes.bytes) (λ bytes. written bytes (now.core.device.block_bytes * c.args.block) c.args.payload.now)
+    (laid_after_write now.core.device c.address_of-address.result c.args.block c.in_ok-bytes.bytes c.args.payload.now c.address_of-address.ensures.value c.address_of-address.ensures.within
+    c.in_ok-bytes.ensures c.requires.whole) (λ lie array hold. (c.in_ok-carry_out.ensures.ok lie array hold).1)
