@@ -1,10 +1,21 @@
 -- What came of a request, as the bytes of its answer.
-use Rattle.std.specs.Prelude.{ℕ, List}
+use Rattle.std.specs.Prelude.{◌≡◌, ℕ, List}
+use Rattle.oram_wire.specs.declared.host_messages.HostAnswer.{HostAnswer}
+use Rattle.oram_wire.specs.declared.host_messages.HostAnswer.TheVariants.{Done, Payload}
+use Rattle.oram_wire.specs.declared.host_messages.HostRequest.{HostRequest}
+use Rattle.oram_wire.specs.declared.host_messages.HostRequest.TheVariants as request
 use Rattle.oram_host.specs.Path.{FitsAnswer, IsBehind}
 use Rattle.oram_store.specs.declared.storing.Served.{Served}
 use Rattle.oram_store.specs.declared.storing.Served.TheVariants as served
 
--- records that were asked for stand behind these bytes, and an answer has room for them
-abbrev pub StandsBehind : List ℕ → Served → Type 0
-StandsBehind front (served.Records bytes) = IsBehind front FitsAnswer bytes.items
-StandsBehind front served.Done = Unit {0}
+-- records that a FETCH asks for stand behind these bytes, and an answer has room for them; any other request is done
+abbrev pub StandsBehind : List ℕ → HostRequest → Served → Type 0
+StandsBehind front (request.Fetch tree leaf) (served.Records bytes) = IsBehind front FitsAnswer bytes.items
+StandsBehind front (request.Fetch tree leaf) served.Done = ⊥
+StandsBehind front message (served.Records bytes) = ⊥
+StandsBehind front message served.Done = Unit {0}
+
+-- what came of a request stands for this answer: its records are behind these bytes
+abbrev pub StandsFor : List ℕ → Served → HostAnswer → Type 0
+StandsFor front (served.Records bytes) answer = IsBehind front (λ records. answer ≡ Payload records) bytes.items
+StandsFor front served.Done answer = answer ≡ Done

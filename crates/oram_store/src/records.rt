@@ -6,8 +6,15 @@
 //! Each call of the database stands in a function of its own with no clause on it, since a proof carries what is said of
 //! each call.
 
-ghost use Rattle.std.specs.Prelude.{◌≡◌, ◌<◌, ◌≤◌, ◌^◌, ◌+◌, ◌*◌, ◌++◌, List, ℕ, length, IfOk, IfSome, OnOk};
+ghost use Rattle.std.specs.Prelude.{◌≡◌, ◌<◌, ◌≤◌, ◌^◌, ◌+◌, ◌*◌, ◌++◌, pos, List, ℕ, Some, length, IfOk, IfSome, MatchOption, OnOk};
 ghost use Rattle.oram_host.specs.Path.{FitsAnswer, IsBehind};
+ghost use Rattle.oram_store.specs.Keeping.{IsCommitted, StaysSame};
+ghost use Rattle.oram_store.specs.Limits.{key_of};
+ghost use Rattle.oram_store.specs.Records.{IsPathOf, LacksOn, Puts, PutsLevels, PutsNone, blob_of, records_in};
+ghost use Rattle.oram_store.specs.Shapes.{sizes_of};
+ghost use Rattle.oram_store.specs.TableNumbers.{table_of};
+ghost use Rattle.sqlite_trees.specs.View.{Finds, IsClean};
+ghost use Rattle.sqlite_value.specs.Order.{column};
 
 use crate::faults::StoreFault;
 use crate::shapes::{Place, Shape};
@@ -19,7 +26,10 @@ use sqlite_value::value::ValueRef;
 use std::alloc::Global;
 
 /// Commits what was written. Where that fails, it is rolled back.
-pub(crate) fn commit<S: Alter>(database: &mut S) -> Result<(), StoreFault> {
+pub(crate) fn commit<S: Alter>(database: &mut S) -> Result<(), StoreFault>
+    ensures committed { OnOk result (IsCommitted (S.Store.view database.new)) }
+    ensures same { OnOk result (StaysSame (S.Store.view database.old) (S.Store.view database.new)) }
+{
     Ok(database.commit()?)
 }
 
@@ -30,8 +40,11 @@ pub(crate) fn write_record<S: Alter>(
     place: Place,
     bytes: &[u8],
     row: &mut Row,
-) -> Result<(), StoreFault> {
-    let table = tables.records_of(place.node)?;
+) -> Result<(), StoreFault>
+    ensures { OnOk result (IsClean (S.Store.view database.new)
+        → Puts (S.Store.view database.old) (S.Store.view database.new) tables.now.records.items place.tree place.node bytes.now) }
+{
+    let table = tables.records_of(place.node);
     let Kind::Table = database.shape(table) else {
         return Err(StoreFault::Damaged);
     };
@@ -49,8 +62,12 @@ fn read_record<S: Alter>(
     tables: &Tables,
     place: Place,
     row: &mut Row,
-) -> Result<bool, StoreFault> {
-    let table = tables.records_of(place.node)?;
+) -> Result<bool, StoreFault>
+    ensures same { OnOk result (StaysSame (S.Store.view database.old) (S.Store.view database.new)) }
+    ensures found { IfOk result (λ found. IsClean (S.Store.view database.new)
+        → Finds ((S.Store.view database.old).trees (table_of tables.now.records.items place.node)) (pos (key_of place.tree place.node)) row.new found) }
+{
+    let table = tables.records_of(place.node);
     let Kind::Table = database.shape(table) else {
         return Err(StoreFault::Damaged);
     };
@@ -59,7 +76,8 @@ fn read_record<S: Alter>(
 
 /// Appends what a row holds. A record of another length is damage.
 fn append(row: &Row, record_len: usize, bytes: &mut Vec<u8>) -> Result<(), StoreFault>
-    ensures { OnOk result ((more : List ℕ) × (bytes.new.items ≡ bytes.old.items ++ more) × (length more ≡ record_len)) }
+    ensures { OnOk result ((more : List ℕ) × (bytes.new.items ≡ bytes.old.items ++ more) × (length more ≡ record_len)
+        × (blob_of (column row.now 2) ≡ Some more)) }
 {
     let ValueRef::Blob(record) = row.get(2) else {
         return Err(StoreFault::Damaged);
@@ -83,7 +101,12 @@ pub(crate) fn read_path<S: Alter>(
 ) -> Result<Option<Vec<u8>>, StoreFault>
     requires leaf { leaf < 2 ^ shape.depth }
     requires short { length front.now ≤ 1 }
-    ensures { IfOk result (λ found. IfSome found (λ v. IsBehind front.now FitsAnswer v.items)) }
+    ensures fits { IfOk result (λ found. IfSome found (λ v. IsBehind front.now FitsAnswer v.items)) }
+    ensures same { OnOk result (StaysSame (S.Store.view database.old) (S.Store.view database.new)) }
+    ensures path { let records = records_in (S.Store.view database.old).trees tables.now.records.items in
+        IfOk result (λ found. IsClean (S.Store.view database.new) → MatchOption found
+        (LacksOn records tree (sizes_of shape) leaf)
+        (λ v. IsBehind front.now (IsPathOf records tree (sizes_of shape) leaf) v.items)) }
 {
     let mut bytes = Vec::with_capacity(alloc, front.len() + shape.path_len())?;
     bytes.extend_from_slice(front)?;
@@ -110,6 +133,8 @@ fn write_levels<S: Alter>(
 ) -> Result<(), StoreFault>
     requires leaf { leaf < 2 ^ shape.depth }
     requires whole { length records.now ≡ (shape.depth + 1) * shape.record_len }
+    ensures { OnOk result (IsClean (S.Store.view database.new)
+        → PutsLevels (S.Store.view database.old) (S.Store.view database.new) tables.now.records.items tree (sizes_of shape) leaf records.now (shape.depth + 1)) }
 {
     let record_len = shape.record_len as usize;
     let mut row = Row::new(alloc);
@@ -134,6 +159,9 @@ pub(crate) fn write_path<S: Alter>(
 ) -> Result<(), StoreFault>
     requires leaf { leaf < 2 ^ shape.depth }
     requires whole { length records.now ≡ (shape.depth + 1) * shape.record_len }
+    ensures committed { OnOk result (IsCommitted (S.Store.view database.new)) }
+    ensures path { OnOk result (IsClean (S.Store.view database.new)
+        → PutsLevels (S.Store.view database.old) (S.Store.view database.new) tables.now.records.items tree (sizes_of shape) leaf records.now (shape.depth + 1)) }
 {
     write_levels(alloc, database, tables, tree, shape, leaf, records)?;
     commit(database)
@@ -143,10 +171,14 @@ pub(crate) fn write_path<S: Alter>(
 fn put_shape<S: Alter>(
     alloc: Global,
     database: &mut S,
-    table: u32,
+    tables: &Tables,
     tree: u8,
     shape: Shape,
-) -> Result<(), StoreFault> {
+) -> Result<(), StoreFault>
+    ensures { OnOk result (IsClean (S.Store.view database.new)
+        → PutsNone (S.Store.view database.old) (S.Store.view database.new) tables.now.records.items) }
+{
+    let table = tables.shapes();
     let Kind::Table = database.shape(table) else {
         return Err(StoreFault::Damaged);
     };
@@ -165,7 +197,11 @@ pub(crate) fn write_shape<S: Alter>(
     tables: &Tables,
     tree: u8,
     shape: Shape,
-) -> Result<(), StoreFault> {
-    put_shape(alloc, database, tables.shapes(), tree, shape)?;
+) -> Result<(), StoreFault>
+    ensures committed { OnOk result (IsCommitted (S.Store.view database.new)) }
+    ensures none { OnOk result (IsClean (S.Store.view database.new)
+        → PutsNone (S.Store.view database.old) (S.Store.view database.new) tables.now.records.items) }
+{
+    put_shape(alloc, database, tables, tree, shape)?;
     commit(database)
 }

@@ -1,6 +1,8 @@
 //! The shape of a tree, and where its records lie.
 
-ghost use Rattle.std.specs.Prelude.{◌≤◌, ◌<◌, ◌+◌, ◌-◌, ◌*◌, ◌^◌, ◌≡◌};
+ghost use Rattle.std.specs.Prelude.{◌≤◌, ◌<◌, ◌+◌, ◌-◌, ◌*◌, ◌^◌, ◌≡◌, pos, true, false, MatchOption};
+ghost use Rattle.oram_host.specs.Path.{node_on};
+ghost use Rattle.oram_store.specs.Limits.{is_shape, key_of};
 
 use oram_wire::{HEADER_LEN, LONGEST_BODY};
 
@@ -26,14 +28,18 @@ pub(crate) struct Place {
 
 impl Place {
     /// The key of its row: the tree above the node's 32 bits.
-    pub(crate) fn key(self) -> i64 {
-        i64::from(self.tree) << 32 | i64::from(self.node)
+    pub(crate) fn key(self) -> i64
+        ensures { result ≡ pos (key_of self.tree self.node) }
+    {
+        i64::from(self.tree) * (1 << 32) + i64::from(self.node)
     }
 }
 
 impl Shape {
     /// A tree may have this shape: a STORE of one of its paths fits a frame.
-    pub(crate) fn new(depth: u8, record_len: u32) -> Option<Shape> {
+    pub(crate) fn new(depth: u8, record_len: u32) -> Option<Shape>
+        ensures { MatchOption result (is_shape depth record_len ≡ false) (λ s. (is_shape depth record_len ≡ true) × (s.depth ≡ depth) × (s.record_len ≡ record_len)) }
+    {
         if depth > DEEPEST || record_len == 0 {
             return None;
         }
@@ -51,7 +57,9 @@ impl Shape {
     }
 
     /// How many nodes a tree has.
-    pub(crate) fn nodes(&self) -> u32 {
+    pub(crate) fn nodes(&self) -> u32
+        ensures { result ≡ 2 ^ (self.now.depth + 1) - 1 }
+    {
         (1 << (self.depth + 1)) - 1
     }
 
@@ -66,6 +74,8 @@ impl Shape {
     pub(crate) fn node_at(&self, leaf: u32, level: u8) -> u32
         requires leaf { leaf < 2 ^ self.now.depth }
         requires level { level ≤ self.now.depth }
+        ensures place { result ≡ node_on self.now.depth leaf level }
+        ensures within { result < 2 ^ (self.now.depth + 1) - 1 }
     {
         (1 << level) - 1 + (leaf >> (self.depth - level))
     }

@@ -3,6 +3,8 @@
 //! Each stands in a function of its own with no clause on the connection, since a proof carries what is said of each
 //! statement.
 
+ghost use Rattle.std.specs.Prelude.{◌≡◌, length, IfOk};
+
 use crate::faults::StoreFault;
 use crate::shapes::Shape;
 use sqlite::{Alter, Connection, Error, Row};
@@ -50,7 +52,9 @@ fn shape_in(row: &Row) -> Option<(u8, Shape)> {
 pub(crate) fn read_shapes<S: Alter>(
     alloc: Global,
     conn: &mut Connection<S>,
-) -> Result<Vec<Option<Shape>>, StoreFault> {
+) -> Result<Vec<Option<Shape>>, StoreFault>
+    ensures { IfOk result (λ shapes. length shapes.items ≡ 256) }
+{
     let mut shapes = vec![in alloc; None; 256]?;
     for row in shape_rows(conn)?.iter() {
         let Some((tree, shape)) = shape_in(row) else {

@@ -1,11 +1,17 @@
 //! The store.
 
-ghost use Rattle.std.specs.Prelude.{◌≡◌, ◌≤◌, length, false, IfOk, OnErr};
+ghost use Rattle.std.specs.Prelude.{◌≡◌, ◌≤◌, length, false, None, Some, IfErr, IfOk, IsOk, IsSome, MatchResult, OnErr, OnOk};
 ghost use Rattle.oram_host.specs.Path.{FitsAnswer, IsBehind};
-ghost use Rattle.oram_store.specs.Serving.{StandsBehind};
+ghost use Rattle.oram_host.specs.Refusals.{code_of};
+ghost use Rattle.oram_store.specs.Keeping.{IsCommitted, IsKeptAtOnce, StaysSame};
+ghost use Rattle.oram_store.specs.Limits.{TreeShape};
+ghost use Rattle.oram_store.specs.Records.{Answers, AreKept, IsPathOf, KeepsOffPath, KeepsOthers, LacksOn, Puts, records_in};
+ghost use Rattle.oram_store.specs.Serving.{StandsBehind, StandsFor};
+ghost use Rattle.oram_store.specs.Shapes.{IsRefused, IsTold, Leads, refusal_by, seen, shape_at};
+ghost use Rattle.sqlite_trees.specs.View.{IsClean};
 ghost use Rattle.oram_wire.specs.FrameStream.{IsBody};
-ghost use Rattle.oram_wire.specs.HostMessages.{answer_body};
-ghost use Rattle.oram_wire.specs.HostReading.{IsAnswer, IsMisfit, names_request};
+ghost use Rattle.oram_wire.specs.HostMessages.{answer_body, request_body};
+ghost use Rattle.oram_wire.specs.HostReading.{HasNumbers, IsAnswer, IsMisfit, names_request, request_of};
 
 use crate::faults::StoreFault;
 use crate::records::{commit, read_path, write_path, write_record, write_shape};
@@ -19,6 +25,7 @@ use sqlite::{Alter, Connection, FileStore};
 use sqlite_disk::Disk;
 use sqlite_value::row::Row;
 use std::alloc::{AllocError, Global};
+use std::marker::Model;
 
 /// How many records of a formatting are committed together.
 const GROUP: u32 = 1_000;
@@ -35,6 +42,17 @@ pub struct Store<S: Alter> {
     taken: u32,
     /// Why there was no room, the last time that there was none.
     failure: Option<StoreFault>,
+}
+
+impl<S: Alter> Model for Store<S> {
+    ghost use Rattle.oram_store.specs.Keeping.{StoreValue};
+    ghost use Rattle.std.specs.Prelude.{◌≡◌, length};
+
+    ghost Value = { StoreValue S };
+
+    ghost view = { λ s. record { database = s.database; tables = s.tables.records.items; shapes = s.shapes.items; taken = s.taken; failure = s.failure } };
+
+    ghost invariant = { λ s. length s.shapes.items ≡ 256 };
 }
 
 /// What came of a request that was carried out.
@@ -65,27 +83,42 @@ impl<S: Alter + Drop> Store<S> {
 }
 
 impl<S: Alter> Store<S> {
-    fn shape_of(&self, tree: u8) -> Option<Shape> {
-        match self.shapes.get(usize::from(tree)) {
-            Some(shape) => *shape,
-            None => None,
-        }
+    ghost use Rattle.oram_wire.specs.declared.host_messages.HostRequest.{HostRequest};
+
+    fn shape_of(&self, tree: u8) -> Option<Shape>
+        ensures { seen result ≡ shape_at self.now.shapes tree }
+    {
+        self.shapes[usize::from(tree)]
     }
 
     /// Why there was no room, the last time that a request was refused by the code 8 or `settle` failed. After `Closed` the
     /// file has to be opened again.
-    pub fn failure(&self) -> Option<StoreFault> {
+    pub fn failure(&self) -> Option<StoreFault>
+        ensures { result ≡ self.now.failure }
+    {
         self.failure
     }
 
     /// Keeps why there is no room.
-    fn refuse(&mut self, fault: StoreFault) -> HostRefusal {
+    fn refuse(&mut self, fault: StoreFault) -> HostRefusal
+        ensures value { result ≡ HostRefusal.OutOfMemory }
+        ensures shapes { self.new.shapes ≡ self.old.shapes }
+        ensures why { self.new.failure ≡ Some fault }
+        ensures database { (self.new.database ≡ self.old.database) × (self.new.tables ≡ self.old.tables) }
+    {
         self.failure = Some(fault);
         HostRefusal::OutOfMemory
     }
 
     /// Commits what a formatting has put so far. Where that fails, these records are lost.
-    pub fn settle(&mut self) -> Result<(), StoreFault> {
+    pub fn settle(&mut self) -> Result<(), StoreFault>
+        ensures none { self.old.taken ≡ 0 → IsOk result × (self.new ≡ self.old) }
+        ensures ok { OnOk result (self.new.failure ≡ self.old.failure) }
+        ensures err { IfErr result (λ fault. self.new.failure ≡ Some fault) }
+        ensures taken { self.new.taken ≡ 0 }
+        ensures shapes { (self.new.shapes ≡ self.old.shapes) × (self.new.tables ≡ self.old.tables) }
+        ensures same { OnOk result (StaysSame (S.Store.view self.old.database) (S.Store.view self.new.database)) }
+    {
         if self.taken == 0 {
             return Ok(());
         }
@@ -97,7 +130,11 @@ impl<S: Alter> Store<S> {
         done
     }
 
-    fn settled(&mut self) -> Result<(), HostRefusal> {
+    fn settled(&mut self) -> Result<(), HostRefusal>
+        ensures err { IfErr result (λ why. why ≡ HostRefusal.OutOfMemory) }
+        ensures shapes { (self.new.shapes ≡ self.old.shapes) × (self.new.tables ≡ self.old.tables) }
+        ensures same { OnOk result (StaysSame (S.Store.view self.old.database) (S.Store.view self.new.database)) }
+    {
         match self.settle() {
             Ok(()) => Ok(()),
             Err(_) => Err(HostRefusal::OutOfMemory),
@@ -107,7 +144,16 @@ impl<S: Alter> Store<S> {
     /// The records of a path, behind other bytes.
     fn fetch(&mut self, tree: u8, leaf: u32, front: &[u8]) -> Result<Vec<u8>, HostRefusal>
         requires { length front.now ≤ 1 }
-        ensures { IfOk result (λ v. IsBehind front.now FitsAnswer v.items) }
+        ensures ok { IfOk result (λ v. IsBehind front.now FitsAnswer v.items) }
+        ensures allowed { OnOk result (refusal_by self.old.shapes (HostRequest.Fetch tree leaf) ≡ None) }
+        ensures refused { IfErr result (IsRefused self.old.shapes (HostRequest.Fetch tree leaf)) }
+        ensures untouched { IsSome (refusal_by self.old.shapes (HostRequest.Fetch tree leaf)) → self.new ≡ self.old }
+        ensures shapes { self.new.shapes ≡ self.old.shapes }
+        ensures path { IfOk result (λ v. IsClean (S.Store.view self.new.database) → (s : TreeShape) × (shape_at self.old.shapes tree ≡ Some s)
+            × IsBehind front.now (IsPathOf (records_in (S.Store.view self.old.database).trees self.old.tables) tree s leaf) v.items) }
+        ensures kept { OnOk result (IsClean (S.Store.view self.new.database) → AreKept (records_in (S.Store.view self.old.database).trees self.old.tables) (records_in (S.Store.view self.new.database).trees self.new.tables)) }
+        ensures lacks { result ≡ Err HostRefusal.Missing → IsClean (S.Store.view self.new.database)
+            → (s : TreeShape) × (shape_at self.old.shapes tree ≡ Some s) × LacksOn (records_in (S.Store.view self.old.database).trees self.old.tables) tree s leaf }
     {
         let Some(shape) = self.shape_of(tree) else {
             return Err(HostRefusal::NoShape);
@@ -124,7 +170,15 @@ impl<S: Alter> Store<S> {
         }
     }
 
-    fn store(&mut self, tree: u8, leaf: u32, records: &[u8]) -> Result<(), HostRefusal> {
+    fn store(&mut self, tree: u8, leaf: u32, records: &[u8]) -> Result<(), HostRefusal>
+        ensures allowed { OnOk result (refusal_by self.old.shapes (HostRequest.Store tree leaf records.now) ≡ None) }
+        ensures refused { IfErr result (IsRefused self.old.shapes (HostRequest.Store tree leaf records.now)) }
+        ensures untouched { IsSome (refusal_by self.old.shapes (HostRequest.Store tree leaf records.now)) → self.new ≡ self.old }
+        ensures shapes { self.new.shapes ≡ self.old.shapes }
+        ensures committed { OnOk result (IsCommitted (S.Store.view self.new.database)) }
+        ensures path { OnOk result (IsClean (S.Store.view self.new.database) → (s : TreeShape) × (shape_at self.old.shapes tree ≡ Some s)
+            × IsPathOf (records_in (S.Store.view self.new.database).trees self.new.tables) tree s leaf records.now × KeepsOffPath (records_in (S.Store.view self.old.database).trees self.old.tables) tree s leaf (records_in (S.Store.view self.new.database).trees self.new.tables)) }
+    {
         let Some(shape) = self.shape_of(tree) else {
             return Err(HostRefusal::NoShape);
         };
@@ -141,7 +195,12 @@ impl<S: Alter> Store<S> {
     }
 
     /// Rolls back what a write left that failed.
-    fn undone(&mut self, done: Result<(), StoreFault>) -> Result<(), HostRefusal> {
+    fn undone(&mut self, done: Result<(), StoreFault>) -> Result<(), HostRefusal>
+        ensures ok { OnOk done (IsOk result) }
+        ensures none { OnOk result (IsOk done × (self.new ≡ self.old)) }
+        ensures err { IfErr result (λ why. why ≡ HostRefusal.OutOfMemory) }
+        ensures shapes { (self.new.shapes ≡ self.old.shapes) × (self.new.tables ≡ self.old.tables) }
+    {
         let Err(fault) = done else {
             return Ok(());
         };
@@ -151,7 +210,12 @@ impl<S: Alter> Store<S> {
     }
 
     /// Takes a record into the group that isn't committed yet.
-    fn take(&mut self, place: Place, bytes: &[u8]) -> Result<(), HostRefusal> {
+    fn take(&mut self, place: Place, bytes: &[u8]) -> Result<(), HostRefusal>
+        ensures err { IfErr result (λ why. why ≡ HostRefusal.OutOfMemory) }
+        ensures shapes { (self.new.shapes ≡ self.old.shapes) × (self.new.tables ≡ self.old.tables) }
+        ensures puts { OnOk result (IsClean (S.Store.view self.new.database)
+            → Puts (S.Store.view self.old.database) (S.Store.view self.new.database) self.old.tables place.tree place.node bytes.now) }
+    {
         let mut row = Row::new(self.alloc);
         let (database, tables) = (&mut self.database, &self.tables);
         let done = write_record(database, tables, place, bytes, &mut row);
@@ -160,7 +224,14 @@ impl<S: Alter> Store<S> {
         Ok(())
     }
 
-    fn put(&mut self, tree: u8, node: u32, bytes: &[u8]) -> Result<(), HostRefusal> {
+    fn put(&mut self, tree: u8, node: u32, bytes: &[u8]) -> Result<(), HostRefusal>
+        ensures allowed { OnOk result (refusal_by self.old.shapes (HostRequest.Put tree node bytes.now) ≡ None) }
+        ensures refused { IfErr result (IsRefused self.old.shapes (HostRequest.Put tree node bytes.now)) }
+        ensures untouched { IsSome (refusal_by self.old.shapes (HostRequest.Put tree node bytes.now)) → self.new ≡ self.old }
+        ensures shapes { self.new.shapes ≡ self.old.shapes }
+        ensures puts { OnOk result (IsClean (S.Store.view self.new.database) → ((records_in (S.Store.view self.new.database).trees self.new.tables) tree node ≡ Some bytes.now)
+            × KeepsOthers (records_in (S.Store.view self.old.database).trees self.old.tables) tree node (records_in (S.Store.view self.new.database).trees self.new.tables)) }
+    {
         let Some(shape) = self.shape_of(tree) else {
             return Err(HostRefusal::NoShape);
         };
@@ -177,7 +248,15 @@ impl<S: Alter> Store<S> {
         Ok(())
     }
 
-    fn shape(&mut self, tree: u8, depth: u8, record_len: u32) -> Result<(), HostRefusal> {
+    fn shape(&mut self, tree: u8, depth: u8, record_len: u32) -> Result<(), HostRefusal>
+        ensures allowed { OnOk result (refusal_by self.old.shapes (HostRequest.Shape tree depth record_len) ≡ None) }
+        ensures refused { IfErr result (IsRefused self.old.shapes (HostRequest.Shape tree depth record_len)) }
+        ensures untouched { IsSome (refusal_by self.old.shapes (HostRequest.Shape tree depth record_len)) → self.new ≡ self.old }
+        ensures after { OnOk result (Leads self.old.shapes (HostRequest.Shape tree depth record_len) self.new.shapes) }
+        ensures same { OnErr result (self.new.shapes ≡ self.old.shapes) }
+        ensures committed { OnOk result (IsCommitted (S.Store.view self.new.database)) }
+        ensures kept { OnOk result (IsClean (S.Store.view self.new.database) → AreKept (records_in (S.Store.view self.old.database).trees self.old.tables) (records_in (S.Store.view self.new.database).trees self.new.tables)) }
+    {
         let Some(shape) = Shape::new(depth, record_len) else {
             return Err(HostRefusal::BadLength);
         };
@@ -188,16 +267,24 @@ impl<S: Alter> Store<S> {
         let (database, tables) = (&mut self.database, &self.tables);
         let done = write_shape(self.alloc, database, tables, tree, shape);
         self.undone(done)?;
-        if let Some(cell) = self.shapes.get_mut(usize::from(tree)) {
-            *cell = Some(shape);
-        }
+        self.shapes[usize::from(tree)] = Some(shape);
         Ok(())
     }
 
     /// Carries out a request, and puts records that it asks for behind other bytes.
     fn serve(&mut self, request: HostView<'_>, front: &[u8]) -> Result<Served, HostRefusal>
         requires { length front.now ≤ 1 }
-        ensures { IfOk result (StandsBehind front.now) }
+        ensures served { IfOk result (StandsBehind front.now (request_of request.entry)) }
+        ensures allowed { OnOk result (refusal_by self.old.shapes (request_of request.entry) ≡ None) }
+        ensures refused { IfErr result (IsRefused self.old.shapes (request_of request.entry)) }
+        ensures untouched { IsSome (refusal_by self.old.shapes (request_of request.entry)) → self.new ≡ self.old }
+        ensures after { OnOk result (Leads self.old.shapes (request_of request.entry) self.new.shapes) }
+        ensures same { OnErr result (self.new.shapes ≡ self.old.shapes) }
+        ensures committed { OnOk result (IsKeptAtOnce (request_of request.entry) → IsCommitted (S.Store.view self.new.database)) }
+        ensures records { IfOk result (λ served. IsClean (S.Store.view self.new.database) → (answer : HostAnswer) × StandsFor front.now served answer
+            × Answers self.old.shapes (records_in (S.Store.view self.old.database).trees self.old.tables) (request_of request.entry) answer (records_in (S.Store.view self.new.database).trees self.new.tables)) }
+        ensures missing { result ≡ Err HostRefusal.Missing → IsClean (S.Store.view self.new.database)
+            → Answers self.old.shapes (records_in (S.Store.view self.old.database).trees self.old.tables) (request_of request.entry) (HostAnswer.Refused 6) (records_in (S.Store.view self.new.database).trees self.new.tables) }
     {
         match request {
             HostView::Fetch { tree, leaf } => {
@@ -222,9 +309,21 @@ impl<S: Alter> Store<S> {
     /// Carries out the request that a body is, and puts records that it asks for behind other bytes.
     fn serve_body(&mut self, body: &[u8], front: &[u8]) -> Result<Served, HostRefusal>
         requires { length front.now ≤ 1 }
-        ensures op { names_request body.now ≡ false → result ≡ Err HostRefusal.BadOp }
-        ensures misfit { IsMisfit body.now → result ≡ Err HostRefusal.BadLength }
-        ensures served { IfOk result (StandsBehind front.now) }
+        ensures op { names_request body.now ≡ false → (result ≡ Err HostRefusal.BadOp) × (self.new ≡ self.old) }
+        ensures misfit { IsMisfit body.now → (result ≡ Err HostRefusal.BadLength) × (self.new ≡ self.old) }
+        ensures untouched { (message : HostRequest) → HasNumbers message → body.now ≡ request_body message
+            → IsSome (refusal_by self.old.shapes message) → self.new ≡ self.old }
+        ensures served { IfOk result (λ served. (message : HostRequest) × StandsBehind front.now message served) }
+        ensures told { (message : HostRequest) → HasNumbers message → body.now ≡ request_body message
+            → MatchResult result
+            (λ served. StandsBehind front.now message served × (refusal_by self.old.shapes message ≡ None)
+            × Leads self.old.shapes message self.new.shapes
+            × (IsKeptAtOnce message → IsCommitted (S.Store.view self.new.database)))
+            (λ why. IsRefused self.old.shapes message why × (self.new.shapes ≡ self.old.shapes)) }
+        ensures records { (message : HostRequest) → HasNumbers message → body.now ≡ request_body message → IsClean (S.Store.view self.new.database)
+            → MatchResult result
+            (λ served. (answer : HostAnswer) × StandsFor front.now served answer × Answers self.old.shapes (records_in (S.Store.view self.old.database).trees self.old.tables) message answer (records_in (S.Store.view self.new.database).trees self.new.tables))
+            (λ why. Answers self.old.shapes (records_in (S.Store.view self.old.database).trees self.old.tables) message (HostAnswer.Refused (code_of why)) (records_in (S.Store.view self.new.database).trees self.new.tables)) }
     {
         match HostView::read(body) {
             Ok(request) => self.serve(request, front),
@@ -237,8 +336,23 @@ impl<S: Alter> Store<S> {
     /// nothing, but where the database failed: then the records of a formatting that weren't committed are lost.
     pub fn handle(&mut self, body: &[u8]) -> HostAnswer
         // A body that is no request's is refused.
-        ensures op { names_request body.now ≡ false → result ≡ HostAnswer.Refused 7 }
-        ensures misfit { IsMisfit body.now → result ≡ HostAnswer.Refused 4 }
+        ensures op { names_request body.now ≡ false → (result ≡ HostAnswer.Refused 7) × (self.new ≡ self.old) }
+        ensures misfit { IsMisfit body.now → (result ≡ HostAnswer.Refused 4) × (self.new ≡ self.old) }
+
+        // One that the trees' shapes refuse is refused for that reason, and any other is carried out, unless a record is missing or there
+        // is no room.
+        ensures request { (message : HostRequest) → HasNumbers message → body.now ≡ request_body message
+            → IsTold self.old.shapes message result self.new.shapes }
+        ensures untouched { (message : HostRequest) → HasNumbers message → body.now ≡ request_body message
+            → IsSome (refusal_by self.old.shapes message) → self.new ≡ self.old }
+
+        // The answer and what it leaves are those of the records by tree and node, as long as the disk is as it should be.
+        ensures records { (message : HostRequest) → HasNumbers message → body.now ≡ request_body message → IsClean (S.Store.view self.new.database)
+            → Answers self.old.shapes (records_in (S.Store.view self.old.database).trees self.old.tables) message result (records_in (S.Store.view self.new.database).trees self.new.tables) }
+
+        // What is answered as done is on the disk, but for a PUT, which is one of a group.
+        ensures committed { (message : HostRequest) → HasNumbers message → body.now ≡ request_body message → IsKeptAtOnce message
+            → result ≡ HostAnswer.Done → IsCommitted (S.Store.view self.new.database) }
 
         // The answer has a body.
         ensures spelled { IsAnswer result }
@@ -255,7 +369,11 @@ impl<S: Alter> Store<S> {
     ///
     /// Room for an answer without records is taken first: where there is none, nothing is served.
     pub fn answer(&mut self, alloc: Global, body: &[u8]) -> Result<Vec<u8>, AllocError>
-        ensures ok { IfOk result (λ v. (answer : HostAnswer) × IsAnswer answer × (v.items ≡ answer_body answer)) }
+        ensures ok { IfOk result (λ v. (answer : HostAnswer) × IsAnswer answer × (v.items ≡ answer_body answer)
+            × ((message : HostRequest) → HasNumbers message → body.now ≡ request_body message → IsTold self.old.shapes message answer self.new.shapes
+            × (IsClean (S.Store.view self.new.database) → Answers self.old.shapes (records_in (S.Store.view self.old.database).trees self.old.tables) message answer (records_in (S.Store.view self.new.database).trees self.new.tables)))) }
+        ensures committed { (message : HostRequest) → HasNumbers message → body.now ≡ request_body message → IsKeptAtOnce message
+            → IfOk result (λ v. v.items ≡ answer_body HostAnswer.Done → IsCommitted (S.Store.view self.new.database)) }
         ensures op { names_request body.now ≡ false → IfOk result (λ v. v.items ≡ answer_body (HostAnswer.Refused 7)) }
         ensures misfit { IsMisfit body.now → IfOk result (λ v. v.items ≡ answer_body (HostAnswer.Refused 4)) }
         // A frame has room for it.

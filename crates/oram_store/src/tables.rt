@@ -3,6 +3,9 @@
 //! Opening a database reads each table whole into memory, one after the other. So the records are spread over many tables,
 //! by node, and what an opening takes is about the part of one table.
 
+ghost use Rattle.std.specs.Prelude.{◌≡◌, ◌≢◌, length, All};
+ghost use Rattle.oram_store.specs.TableNumbers.{table_of};
+
 use crate::faults::StoreFault;
 use crate::statements::{begin, commit, run, texts};
 use sqlite::types::ValueRef;
@@ -79,6 +82,8 @@ pub(crate) fn prepare<S: Alter>(alloc: Global, conn: &mut Connection<S>) -> Resu
 pub(crate) struct Tables {
     shapes: u32,
     records: Vec<u32>,
+    ghost full: { length records.items ≡ 256 },
+    ghost apart: { All (λ table. table ≢ shapes) records.items },
 }
 
 impl Tables {
@@ -88,22 +93,27 @@ impl Tables {
         let mut records = Vec::with_capacity(alloc, RECORD_TABLES as usize)?;
         for part in 0..RECORD_TABLES {
             let name = format!(in alloc; "record_{part}")?;
-            records.push(number_of(conn, name.as_str())?)?;
+            let table = number_of(conn, name.as_str())?;
+            if table == shapes {
+                return Err(StoreFault::Damaged);
+            }
+            records.push(table)?;
         }
         Ok(Tables { shapes, records })
     }
 
     /// The table of the trees' shapes.
-    pub(crate) fn shapes(&self) -> u32 {
+    pub(crate) fn shapes(&self) -> u32
+        ensures { result ≡ self.now.shapes }
+    {
         self.shapes
     }
 
     /// The table that has the records of a node.
-    pub(crate) fn records_of(&self, node: u32) -> Result<u32, StoreFault> {
-        match self.records.get((node % RECORD_TABLES) as usize) {
-            Some(table) => Ok(*table),
-            None => Err(StoreFault::Damaged),
-        }
+    pub(crate) fn records_of(&self, node: u32) -> u32
+        ensures { result ≡ table_of self.now.records.items node }
+    {
+        self.records[(node % RECORD_TABLES) as usize]
     }
 }
 

@@ -1,0 +1,35 @@
+-- What came of a request, as what is told of it.
+use Rattle.std.proofs.Common.{◌≡◌, List, [], ◌∷◌, ℕ, None, drop, sym, ap, ◌∙◌}
+use Rattle.oram_wire.specs.declared.host_messages.HostAnswer.{HostAnswer}
+use Rattle.oram_wire.specs.declared.host_messages.HostAnswer.TheVariants.{Done, Payload}
+use Rattle.oram_wire.specs.declared.host_messages.HostRequest.{HostRequest}
+use Rattle.oram_wire.specs.declared.host_messages.HostRequest.TheVariants as request
+use Rattle.oram_host.specs.Path.{FitsAnswer, IsBehind}
+use Rattle.oram_store.specs.Serving.{StandsBehind, StandsFor}
+use Rattle.oram_store.specs.Shapes.{IsTold, Leads, Shapes, refusal_by}
+use Rattle.oram_store.specs.declared.storing.Served.TheVariants as served
+
+pub records_behind : (front : List ℕ) (message : HostRequest) (bytes : _) → StandsBehind front message (served.Records bytes) → IsBehind front FitsAnswer bytes.items
+records_behind front (request.Fetch tree leaf) bytes h = h
+records_behind front (request.Store tree leaf records) bytes h = absurd h
+records_behind front (request.Put tree node sent) bytes h = absurd h
+records_behind front (request.Shape tree depth record_len) bytes h = absurd h
+
+module _ (old new : Shapes) (front : List ℕ) where
+  pub told_records : (message : HostRequest) (bytes : _) (records : List ℕ) → StandsBehind front message (served.Records bytes) → refusal_by old message ≡ None
+      → Leads old message new → IsTold old message (Payload records) new
+  told_records (request.Fetch tree leaf) bytes records h allowed leads = (allowed, leads)
+  told_records (request.Store tree leaf sent) bytes records h allowed leads = absurd h
+  told_records (request.Put tree node sent) bytes records h allowed leads = absurd h
+  told_records (request.Shape tree depth record_len) bytes records h allowed leads = absurd h
+
+  pub told_done : (message : HostRequest) → StandsBehind front message served.Done → refusal_by old message ≡ None → Leads old message new → IsTold old message Done new
+  told_done (request.Fetch tree leaf) h allowed leads = absurd h
+  told_done (request.Store tree leaf sent) h allowed leads = (allowed, leads)
+  told_done (request.Put tree node sent) h allowed leads = (allowed, leads)
+  told_done (request.Shape tree depth record_len) h allowed leads = (allowed, leads)
+
+-- the payload is what stands behind one byte
+pub payload_is : (first : ℕ) (bytes : _) (records : List ℕ) (answer : HostAnswer) → StandsFor (first ∷ []) (served.Records bytes) answer → bytes.items ≡ first ∷ records
+    → answer ≡ Payload records
+payload_is first bytes records answer h e = h.2 ∙ ap Payload (ap (drop 1) (sym h.1 ∙ e))
