@@ -2,7 +2,7 @@
 
 use crate::requests::{Access, BLOCK_BYTES, BLOCKS, REQUESTS, said, some_accesses};
 use oram_bucket::ChaChaSeal;
-use oram_client::{FileKeeper, Salt};
+use oram_client::{FileKeeper, FilePlace, Salt};
 use oram_core::Core;
 use oram_geometry::Device;
 use oram_host::Server;
@@ -137,7 +137,8 @@ pub(crate) fn measure<R: Files + Clock + Print + Alloc<A = Global>>(
         ("requests, kept without sync", false),
         ("requests, kept and synced", true),
     ] {
-        let keeper = FileKeeper::new(rt, alloc, name.as_str(), Salt([4; 32]), sync)?;
+        let place = FilePlace::new(rt, alloc, name.as_str())?;
+        let keeper = FileKeeper::new(place, Salt([4; 32]), sync);
         report(rt, line, by_requests(rt, keeper, &said)?, core)?;
     }
     fs::remove_file(rt, name.as_str())

@@ -1,5 +1,5 @@
 pub mod Answered
+pub mod Formatted
 pub mod Patient
 pub mod Letters
 pub mod Whole
-pub mod Failing

@@ -1,6 +1,7 @@
 -- What is found of a file that is put in its place.
-use Rattle.std.proofs.Common.{◌≡◌, ◌⊎◌, inl, inr, ℕ, Bool, true, false, List, [], ◌∷◌, Option, None, Some, sym, ◌∙◌, ap}
-use Rattle.oram_client.specs.Placing.{Deed, Writes, SetsAside, Settles, SyncsFolder, Clears, deeds_of, DoesAll, Names, first_of, found, Makes, Leaves, EndsIn, FilesStayWhole, FilesAreKept}
+use Rattle.std.proofs.Common.{◌≡◌, ◌⊎◌, inl, inr, ℕ, Bool, true, false, List, [], ◌∷◌, Option, Some, sym, ◌∙◌, ap}
+use Rattle.oram_client.specs.declared.file_step.FileStep.{FileStep}
+use Rattle.oram_client.specs.Placing.{Deed, Writes, SetsAside, Settles, SyncsFolder, Clears, deeds_of, IsBrokenOff, Names, first_of, found, Makes, Leaves, EndsIn, DoesToNames, FilesStayWhole, FilesOutlastFailures, FilesAreKept}
 
 -- The new file is whole, and what is found is what was.
 record IsReady (n : Names) (file : List ℕ) (m : Names) : Type 0 where
@@ -59,6 +60,15 @@ files_stay_whole true file n m (inl torn) = inl (ap found torn.1)
 files_stay_whole true file n m (inr more) = ends_replacing file n more.0 m (written true file n more.0 more.1) more.2
 files_stay_whole false file n m (inl torn) = inl (ap found torn.1)
 files_stay_whole false file n m (inr more) = ends_moving file n more.0 m (written false file n more.0 more.1) more.2
+
+-- a process might as well have ended in the step that fails
+ends_there : (deeds : List Deed) (n m : Names) (at : FileStep) → IsBrokenOff DoesToNames n deeds at m → EndsIn n deeds m
+ends_there [] n m at broken = absurd broken
+ends_there (deed ∷ deeds) n m at (inl failed) = inl failed.0
+ends_there (deed ∷ deeds) n m at (inr more) = inr (more.0, more.1, ends_there deeds more.0 m at more.2)
+
+pub files_outlast_failures : FilesOutlastFailures
+files_outlast_failures sync file n m at broken = files_stay_whole sync file n m (ends_there (deeds_of sync file) n m at broken)
 
 pub files_are_kept : FilesAreKept
 files_are_kept true file n m (a, wrote, (b, moved, (c, synced, (d, clears, last)))) =

@@ -1,8 +1,12 @@
 -- Messages that go to a host ahead of its answers.
-use Rattle.std.specs.Prelude.{◌≡◌, ℕ, ◌+◌, List, [], ◌∷◌, Option, replicate}
+use Rattle.std.specs.Prelude.{◌≡◌, ◌≢◌, ℕ, ◌+◌, ◌<◌, ◌≤◌, List, [], ◌∷◌, Option, ◌⊎◌, length, replicate}
 use Rattle.std.specs.Io.KnownBytes.{Appends, Consumes}
 use Rattle.std.specs.List.{flat_map}
 use Rattle.oram_wire.specs.FrameStream.{frame}
+use Rattle.oram_wire.specs.Streaming.{GivesBrokenHead, GivesHead, GivesPart, TakesPart}
+use Rattle.oram_wire.specs.declared.TheConstants.{LONGEST_BODY}
+use Rattle.oram_wire.specs.declared.sinks.SinkFault.{SinkFault}
+use Rattle.oram_wire.specs.declared.sinks.SinkFault.TheVariants.{Refused, Link, OutOfMemory}
 
 -- a connection to a host
 pub record ToHost (R W : Type 0) : Type 0 where
@@ -10,9 +14,26 @@ pub record ToHost (R W : Type 0) : Type 0 where
   pub writer : W
   pub due : ℕ  -- how many messages have no answer yet
 
+-- the most that may have none
+abbrev pub most_due : ℕ
+most_due = 256
+
 -- so many answers that the host is done
 abbrev pub dones : ℕ → List ℕ
 dones count = flat_map frame (replicate count (128 ∷ []))
+
+-- no frame is read where an answer is due, and what is told of that
+abbrev pub GivesNone : Option (List ℕ) → Option (List ℕ) → SinkFault → Type 0
+GivesNone old new Refused = ⊥
+GivesNone old new Link = GivesPart old new ⊎ GivesBrokenHead old new
+GivesNone old new OutOfMemory = GivesHead old new
+
+-- an answer is read, and it isn't that the host is done
+pub record GivesOther (old new : Option (List ℕ)) (fault : SinkFault) : Type 0 where
+  pub answer : List ℕ
+  pub other : answer ≢ 128 ∷ []
+  pub read : Consumes old new (frame answer)
+  pub told : fault ≡ Refused
 
 -- over readers and writers that tell their bytes so
 module _ {R W : Type 0} (remaining : R → Option (List ℕ)) (contents : W → Option (List ℕ)) where
@@ -22,15 +43,57 @@ module _ {R W : Type 0} (remaining : R → Option (List ℕ)) (contents : W → 
     pub wrote : Appends (contents a.writer) (contents b.writer) []
     pub read : Consumes (remaining a.reader) (remaining b.reader) (dones count)
 
+  -- The next answer isn't that the host is done, and nothing was written.
+  pub record IsUndone (a : ToHost R W) (fault : SinkFault) (b : ToHost R W) : Type 0 where
+    pub due : b.due ≡ a.due
+    pub wrote : b.writer ≡ a.writer
+    pub read : GivesNone (remaining a.reader) (remaining b.reader) fault ⊎ GivesOther (remaining a.reader) (remaining b.reader) fault
+
+  -- So many answers were to be read. Fewer were, each that the host is done; the next one isn't. Or what was written before couldn't be
+  -- flushed, and nothing was read.
+  abbrev pub IsStopped : ToHost R W → ℕ → SinkFault → ToHost R W → Type 0
+  IsStopped a count fault b =
+      ((done : ℕ) × (mid : ToHost R W) × (done < count) × IsDrained a done mid × IsUndone mid fault b) ⊎ (IsDrained a 0 b × (b.reader ≡ a.reader) × (fault ≡ Link))
+
   -- A message was written behind so many answers that were read, and its own is due.
   pub record IsPut (a : ToHost R W) (body : List ℕ) (b : ToHost R W) : Type 0 where
     pub count : ℕ
     pub due : b.due + count ≡ a.due + 1
+    pub most : b.due ≤ most_due
     pub wrote : Appends (contents a.writer) (contents b.writer) (frame body)
     pub read : Consumes (remaining a.reader) (remaining b.reader) (dones count)
+
+  -- A message wasn't written, or a part of it was, and nothing was read.
+  pub record IsUnsent (a : ToHost R W) (body : List ℕ) (fault : SinkFault) (b : ToHost R W) : Type 0 where
+    pub due : b.due ≡ a.due
+    pub wrote : ((LONGEST_BODY < length body) × (b.writer ≡ a.writer)) ⊎ TakesPart (contents a.writer) (contents b.writer) (frame body)
+    pub unread : b.reader ≡ a.reader
+    pub told : fault ≡ Link
+
+  -- A message wasn't taken: as many answers were due as may be, and half of them were to be read; or, perhaps behind these, it wasn't written.
+  abbrev pub IsUnput : ToHost R W → List ℕ → SinkFault → ToHost R W → Type 0
+  IsUnput a body fault b =
+      ((a.due ≡ most_due) × IsStopped a 128 fault b) ⊎ ((count : ℕ) × (mid : ToHost R W) × IsDrained a count mid × IsUnsent mid body fault b)
 
   -- A message was written, and this answer to it was read.
   pub record IsAsked (a : ToHost R W) (body answer : List ℕ) (b : ToHost R W) : Type 0 where
     pub due : b.due ≡ a.due
     pub wrote : Appends (contents a.writer) (contents b.writer) (frame body)
     pub read : Consumes (remaining a.reader) (remaining b.reader) (frame answer)
+
+  -- A message was written, and no answer to it was read.
+  pub record IsUnanswered (a : ToHost R W) (body : List ℕ) (fault : SinkFault) (b : ToHost R W) : Type 0 where
+    pub due : b.due ≡ a.due
+    pub wrote : Appends (contents a.writer) (contents b.writer) (frame body)
+    pub read : GivesNone (remaining a.reader) (remaining b.reader) fault
+
+  -- It wasn't written, or not answered.
+  abbrev pub IsUnasked : ToHost R W → List ℕ → SinkFault → ToHost R W → Type 0
+  IsUnasked a body fault b = IsUnsent a body fault b ⊎ IsUnanswered a body fault b
+
+  -- Messages were written behind one another, and so many answers were read meanwhile, each that the host is done.
+  pub record ArePut (a : ToHost R W) (bodies : List (List ℕ)) (b : ToHost R W) : Type 0 where
+    pub count : ℕ
+    pub due : b.due + count ≡ a.due + length bodies
+    pub wrote : Appends (contents a.writer) (contents b.writer) (flat_map frame bodies)
+    pub read : Consumes (remaining a.reader) (remaining b.reader) (dones count)

@@ -1,15 +1,33 @@
 -- A disk that is formatted by messages that go ahead of their answers.
-use Rattle.std.specs.Prelude.{◌≡◌, ℕ, ◌+◌, ◌<◌, List, [], ◌∷◌, ◌++◌, Option, length, map, slice_index_or}
+use Rattle.std.specs.Prelude.{◌≡◌, ℕ, ◌+◌, ◌<◌, ◌⊎◌, List, [], ◌∷◌, ◌++◌, Option, length, map, slice_index_or}
 use Rattle.std.specs.Io.KnownBytes.{Appends, Consumes}
 use Rattle.std.specs.List.{flat_map, range_with_len}
+use Rattle.oram_geometry.specs.declared.Sizes.{Sizes}
 use Rattle.oram_geometry.specs.Sizes.{trees_of}
 use Rattle.oram_wire.specs.FrameStream.{frame}
 use Rattle.oram_wire.specs.HostMessages.{fetch_body}
+use Rattle.oram_wire.specs.declared.sinks.SinkFault.{SinkFault}
+use Rattle.oram_wire.specs.declared.sinks.SinkFault.TheVariants as sink
 use Rattle.oram_hash.specs.Path.{IsAccepted, path_of}
+use Rattle.oram_tree.specs.declared.faults.FormatFault.{FormatFault}
+use Rattle.oram_tree.specs.declared.faults.FormatFault.TheVariants as making
+use Rattle.oram_run.specs.Formatting.{IsFormatBegun}
 use Rattle.oram_run.specs.Shape.{Shape}
 use Rattle.oram_run.specs.State.{State, no_tree}
 use Rattle.oram_core.specs.Formatting.{IsNew}
-use Rattle.oram_client.specs.Ahead.{ToHost, dones}
+use Rattle.oram_client.specs.declared.formatting.FormattingFault.{FormattingFault}
+use Rattle.oram_client.specs.declared.formatting.FormattingFault.TheVariants.{Refused, Link, Unheld, OutOfMemory}
+use Rattle.oram_client.specs.Ahead.{ToHost, ArePut, IsAsked, IsDrained, IsStopped, IsUnasked, IsUnput, dones}
+
+-- a fault of the connection, as a formatting tells it
+abbrev pub sink_told : SinkFault → FormattingFault
+sink_told sink.Refused = Refused
+sink_told sink.Link = Link
+sink_told sink.OutOfMemory = OutOfMemory
+
+abbrev pub format_told : FormatFault → FormattingFault
+format_told (making.Sink why) = sink_told why
+format_told making.OutOfMemory = OutOfMemory
 
 -- one more message
 abbrev pub Collects : List (List ℕ) → List ℕ → List (List ℕ) → Type 0
@@ -28,6 +46,11 @@ abbrev pub AreGenuine : Shape → State → ℕ → List (List ℕ) → Type 0
 AreGenuine v s count answers =
     (i : ℕ) → i < count → IsAccepted (path_of v.device i 0 v.overhead (slice_index_or answers i [])) (slice_index_or s.trees i no_tree).root
 
+-- the answer isn't a genuine path of this tree to leaf 0, under this root digest
+abbrev pub IsFalse : Sizes → ℕ → List ℕ → ℕ → List ℕ → Type 0
+IsFalse d overhead root tree answer =
+    (records : List ℕ) → answer ≡ 128 ∷ records → ¬ IsAccepted (path_of d tree 0 overhead records) root
+
 -- over readers and writers that tell their bytes so
 module _ {R W : Type 0} (remaining : R → Option (List ℕ)) (contents : W → Option (List ℕ)) where
   -- A path of each of the first trees was fetched.
@@ -38,6 +61,20 @@ module _ {R W : Type 0} (remaining : R → Option (List ℕ)) (contents : W → 
     pub wrote : Appends (contents a.writer) (contents b.writer) (fetches count)
     pub read : Consumes (remaining a.reader) (remaining b.reader) (paths answers)
     pub genuine : AreGenuine v s count answers
+
+  -- The path of a tree was asked for and not had: there was no answer, or one that isn't genuine.
+  abbrev pub IsUnheld : Sizes → ℕ → List ℕ → ℕ → ToHost R W → FormattingFault → ToHost R W → Type 0
+  IsUnheld d overhead root tree a fault b =
+      ((why : SinkFault) × IsUnasked remaining contents a (fetch_body tree 0) why b × (fault ≡ sink_told why))
+      ⊎ ((answer : List ℕ) × IsAsked remaining contents a (fetch_body tree 0) answer b × IsFalse d overhead root tree answer × (fault ≡ Unheld))
+
+  -- A path of each of the first trees was fetched. Then memory was refused elsewhere, or the path of the next one wasn't had.
+  pub record IsUnseen (v : Shape) (s : State) (a : ToHost R W) (fault : FormattingFault) (b : ToHost R W) : Type 0 where
+    pub count : ℕ
+    pub mid : ToHost R W
+    pub seen : AreSeen v s count a mid
+    pub ended : ((fault ≡ OutOfMemory) × (b ≡ mid))
+        ⊎ ((count < trees_of v.device) × IsUnheld v.device v.overhead (slice_index_or s.trees count no_tree).root count mid fault b)
 
   -- The messages that make the device's trees were written, and those that fetch a path of each. Each of the former was answered as
   -- done, and the paths are genuine.
@@ -50,3 +87,24 @@ module _ {R W : Type 0} (remaining : R → Option (List ℕ)) (contents : W → 
     pub wrote : Appends (contents a.writer) (contents b.writer) (flat_map frame messages ++ fetches (trees_of v.device))
     pub read : Consumes (remaining a.reader) (remaining b.reader) (dones (a.due + length messages) ++ paths answers)
     pub genuine : AreGenuine v s (trees_of v.device) answers
+
+  -- These messages are a beginning of those that make the device's trees. Then memory was refused elsewhere, or the next one wasn't taken.
+  abbrev pub IsUnmade : Shape → List (List ℕ) → ToHost R W → FormattingFault → ToHost R W → Type 0
+  IsUnmade v messages a fault b =
+      IsFormatBegun v messages
+      × (((fault ≡ OutOfMemory) × (b ≡ a))
+      ⊎ ((body : List ℕ) × (why : SinkFault) × IsFormatBegun v (messages ++ body ∷ []) × IsUnput remaining contents a body why b
+      × (fault ≡ sink_told why)))
+
+  -- All of them were written. Then one of the answers that were due isn't that the host is done; or all are, and a path wasn't had.
+  abbrev pub IsUnchecked : Shape → State → ToHost R W → FormattingFault → ToHost R W → Type 0
+  IsUnchecked v s a fault b =
+      ((why : SinkFault) × IsStopped remaining contents a a.due why b × (fault ≡ sink_told why))
+      ⊎ ((mid : ToHost R W) × IsDrained remaining contents a a.due mid × IsUnseen v s mid fault b)
+
+  -- A formatting was broken off, while its messages were put or behind them.
+  pub record IsFormattedInPart (v : Shape) (a : ToHost R W) (fault : FormattingFault) (b : ToHost R W) : Type 0 where
+    pub messages : List (List ℕ)
+    pub mid : ToHost R W
+    pub put : ArePut remaining contents a messages mid
+    pub ended : IsUnmade v messages mid fault b ⊎ ((s : State) × IsNew v Collects [] s messages × IsUnchecked v s mid fault b)

@@ -1,5 +1,7 @@
 -- How a file is put in its place, step after step, and what is found where a process ends on the way.
-use Rattle.std.specs.Prelude.{◌≡◌, ◌⊎◌, ℕ, Bool, true, false, List, [], ◌∷◌, Option, None, Some}
+use Rattle.std.specs.Prelude.{◌≡◌, ◌⊎◌, ℕ, Bool, true, false, List, [], ◌∷◌, Option, None, Some, MatchBool}
+use Rattle.oram_client.specs.declared.file_step.FileStep.{FileStep}
+use Rattle.oram_client.specs.declared.file_step.FileStep.TheVariants as step
 
 -- what is done to a file, to the new one beside it and to the one that was set aside
 pub data Deed : Type 0 where
@@ -15,6 +17,14 @@ abbrev pub deeds_of : Bool → List ℕ → List Deed
 deeds_of true file = Writes true file ∷ Settles ∷ SyncsFolder ∷ Clears ∷ []
 deeds_of false file = Writes false file ∷ SetsAside ∷ Settles ∷ Clears ∷ []
 
+-- the steps in which a deed may fail
+abbrev pub IsStepOf : Deed → FileStep → Type 0
+IsStepOf (Writes sync file) at = (at ≡ step.Create) ⊎ (at ≡ step.Write) ⊎ ((sync ≡ true) × (at ≡ step.Sync))
+IsStepOf SetsAside at = at ≡ step.SetAside
+IsStepOf Settles at = at ≡ step.Rename
+IsStepOf SyncsFolder at = at ≡ step.SyncFolder
+IsStepOf Clears at = at ≡ step.Clear
+
 -- over places where deeds are done so, or fail so
 module _ {P : Type 0} (does : P → Deed → Bool → P → Type 0) where
   -- one after the other
@@ -22,10 +32,11 @@ module _ {P : Type 0} (does : P → Deed → Bool → P → Type 0) where
   DoesAll p [] q = q ≡ p
   DoesAll p (deed ∷ deeds) q = (between : P) × does p deed true between × DoesAll between deeds q
 
-  -- One fails, and none behind it is done.
-  abbrev pub IsBrokenOff : P → List Deed → P → Type 0
-  IsBrokenOff p [] q = ⊥
-  IsBrokenOff p (deed ∷ deeds) q = does p deed false q ⊎ ((between : P) × does p deed true between × IsBrokenOff between deeds q)
+  -- One fails in this step, and none behind it is done.
+  abbrev pub IsBrokenOff : P → List Deed → FileStep → P → Type 0
+  IsBrokenOff p [] at q = ⊥
+  IsBrokenOff p (deed ∷ deeds) at q =
+      (does p deed false q × IsStepOf deed at) ⊎ ((between : P) × does p deed true between × IsBrokenOff between deeds at q)
 
 -- what the names hold
 pub record Names : Type 0 where
@@ -69,3 +80,13 @@ FilesStayWhole = (sync : Bool) (file : List ℕ) (n m : Names) → EndsIn n (dee
 -- Behind the last deed it is the new file.
 abbrev pub FilesAreKept : Type 0
 FilesAreKept = (sync : Bool) (file : List ℕ) (n m : Names) → DoesAll (λ k deed _. Makes k deed) n (deeds_of sync file) m → found m ≡ Some file
+
+-- a deed is done, or fails and leaves what it leaves where a process ends in it
+abbrev pub DoesToNames : Names → Deed → Bool → Names → Type 0
+DoesToNames n deed done m = MatchBool done (Makes n deed m) (Leaves n deed m)
+
+-- Whichever step fails, what is found is what was there or the new file.
+abbrev pub FilesOutlastFailures : Type 0
+FilesOutlastFailures =
+    (sync : Bool) (file : List ℕ) (n m : Names) (at : FileStep) → IsBrokenOff DoesToNames n (deeds_of sync file) at m
+    → (found m ≡ found n) ⊎ (found m ≡ Some file)

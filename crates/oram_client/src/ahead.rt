@@ -1,9 +1,9 @@
 //! Messages that go to a host ahead of its answers.
-ghost use Rattle.std.specs.Prelude.{◌≡◌, ◌+◌, ◌<◌, ◌≤◌, ℕ, [], ◌∷◌, IfOk, MatchBool, OnOk};
+ghost use Rattle.std.specs.Prelude.{◌≡◌, ◌↔◌, ◌+◌, ◌<◌, ◌≤◌, ℕ, [], ◌∷◌, IfErr, IfOk, IsTrue, MatchBool, OnOk};
 ghost use Rattle.std.specs.Io.KnownBytes.{Appends, Consumes, Keeps};
 ghost use Rattle.oram_wire.specs.FrameStream.{frame};
 ghost use Rattle.oram_wire.specs.HostMessages.{fetch_body};
-ghost use Rattle.oram_client.specs.Ahead.{IsAsked, IsDrained};
+ghost use Rattle.oram_client.specs.Ahead.{GivesNone, IsAsked, IsDrained, IsStopped, IsUnasked, IsUndone, IsUnsent, most_due};
 
 use oram_geometry::Device;
 use oram_wire::{
@@ -39,13 +39,13 @@ pub struct Ahead<R, W, P> {
 
 impl<R, W, P> Model for Ahead<R, W, P> {
     ghost use Rattle.std.specs.Prelude.{◌≤◌};
-    ghost use Rattle.oram_client.specs.Ahead.{ToHost};
+    ghost use Rattle.oram_client.specs.Ahead.{ToHost, most_due};
 
     ghost Value = { ToHost R W };
 
     ghost view = { λ a. record { reader = a.reader; writer = a.writer; due = a.due } };
 
-    ghost invariant = { λ a. a.due ≤ 256 };
+    ghost invariant = { λ a. a.due ≤ most_due };
 }
 
 /// How many messages make a device: for each tree a SHAPE, and a PUT for each of its nodes.
@@ -55,6 +55,13 @@ fn messages_of(device: &Device) -> u64 {
         messages = messages.saturating_add(2 << device.depth(tree));
     }
     messages
+}
+
+/// Whether an answer is the one byte that tells that the host is done.
+fn is_done(answer: &[u8]) -> bool
+    ensures { IsTrue result ↔ (answer.now ≡ 128 ∷ []) }
+{
+    answer == [GOOD].as_slice()
 }
 
 impl<R, W, P> Ahead<R, W, P> {
@@ -80,8 +87,8 @@ impl<R, W, P> Ahead<R, W, P> {
 
     /// Whether as many messages are without an answer as may be.
     fn is_full(&self) -> bool
-        ensures most { self.now.due ≤ 256 }
-        ensures value { MatchBool result (self.now.due ≡ 256) (self.now.due < 256) }
+        ensures most { self.now.due ≤ most_due }
+        ensures value { MatchBool result (self.now.due ≡ most_due) (self.now.due < most_due) }
     {
         self.due == MOST_DUE
     }
@@ -91,6 +98,7 @@ impl<R: Read, W: Write, P> Ahead<R, W, P> {
     /// Writes a message, which may wait in a buffer.
     fn send(&mut self, body: &[u8]) -> Result<(), SinkFault>
         ensures ok { OnOk result (Appends (W.contents self.old.writer) (W.contents self.new.writer) (frame body.now)) }
+        ensures err { IfErr result (λ fault. IsUnsent R.remaining W.contents self.old body.now fault self.new) }
         ensures same { (self.new.reader ≡ self.old.reader) × (self.new.due ≡ self.old.due) }
     {
         if body.len() > LONGEST_BODY {
@@ -105,6 +113,7 @@ impl<R: Read, W: Write, P> Ahead<R, W, P> {
     /// Lets nothing that was written wait in a buffer.
     fn flush(&mut self) -> Result<(), SinkFault>
         ensures wrote { Keeps (W.contents self.old.writer) (W.contents self.new.writer) }
+        ensures fault { IfErr result (λ fault. fault ≡ SinkFault.Link) }
         ensures same { (self.new.reader ≡ self.old.reader) × (self.new.due ≡ self.old.due) }
     {
         match self.writer.flush() {
@@ -116,18 +125,23 @@ impl<R: Read, W: Write, P> Ahead<R, W, P> {
     /// The next answer.
     fn receive(&mut self) -> Result<Vec<u8>, SinkFault>
         ensures ok { IfOk result (λ v. Consumes (R.remaining self.old.reader) (R.remaining self.new.reader) (frame v.items)) }
+        ensures err { IfErr result (λ fault. GivesNone (R.remaining self.old.reader) (R.remaining self.new.reader) fault) }
         ensures same { (self.new.writer ≡ self.old.writer) × (self.new.due ≡ self.old.due) }
     {
         match next_frame(self.alloc, &mut self.reader) {
             Ok(Some(body)) => Ok(body),
+            Ok(None) => Err(SinkFault::Link),
+            Err(FrameFault::Read) => Err(SinkFault::Link),
+            Err(FrameFault::Frame) => Err(SinkFault::Link),
+            Err(FrameFault::Truncated) => Err(SinkFault::Link),
             Err(FrameFault::OutOfMemory) => Err(SinkFault::OutOfMemory),
-            Ok(None) | Err(_) => Err(SinkFault::Link),
         }
     }
 
     /// What is answered to a FETCH of the path to leaf 0 of a tree, where no other answer is due.
     pub(crate) fn fetch(&mut self, tree: u8) -> Result<Vec<u8>, SinkFault>
-        ensures { IfOk result (λ v. IsAsked R.remaining W.contents self.old (fetch_body tree 0) v.items self.new) }
+        ensures ok { IfOk result (λ v. IsAsked R.remaining W.contents self.old (fetch_body tree 0) v.items self.new) }
+        ensures err { IfErr result (λ fault. IsUnasked R.remaining W.contents self.old (fetch_body tree 0) fault self.new) }
     {
         self.send(&fetch_header(tree, 0))?;
         self.flush()?;
@@ -142,9 +156,10 @@ impl<R: Read, W: Write, P: Progress> Ahead<R, W, P> {
         ensures ok { OnOk result (Consumes (R.remaining self.old.reader) (R.remaining self.new.reader) (frame (128 ∷ []))) }
         ensures due { OnOk result (self.new.due + 1 ≡ self.old.due) }
         ensures same { self.new.writer ≡ self.old.writer }
+        ensures err { IfErr result (λ fault. IsUndone R.remaining W.contents self.old fault self.new) }
     {
         let answer = self.receive()?;
-        if answer.as_slice() != [GOOD].as_slice() {
+        if !is_done(&answer) {
             return Err(SinkFault::Refused);
         }
         self.due -= 1;
@@ -156,7 +171,8 @@ impl<R: Read, W: Write, P: Progress> Ahead<R, W, P> {
     /// Reads so many answers.
     fn take_answers(&mut self, count: u64) -> Result<(), SinkFault>
         requires { count ≤ self.old.due }
-        ensures { OnOk result (IsDrained R.remaining W.contents self.old count self.new) }
+        ensures ok { OnOk result (IsDrained R.remaining W.contents self.old count self.new) }
+        ensures err { IfErr result (λ fault. IsStopped R.remaining W.contents self.old count fault self.new) }
     {
         self.flush()?;
         for _ in 0..count {
@@ -168,7 +184,8 @@ impl<R: Read, W: Write, P: Progress> Ahead<R, W, P> {
     /// Makes room for one more message without an answer: reads half of the answers where all of them are due, so that the host has
     /// always some of the messages to go on with.
     fn make_room(&mut self) -> Result<(), SinkFault>
-        ensures { OnOk result ((count : ℕ) × IsDrained R.remaining W.contents self.old count self.new × (self.new.due < 256)) }
+        ensures ok { OnOk result ((count : ℕ) × IsDrained R.remaining W.contents self.old count self.new × (self.new.due < most_due)) }
+        ensures err { IfErr result (λ fault. (self.old.due ≡ most_due) × IsStopped R.remaining W.contents self.old 128 fault self.new) }
     {
         if self.is_full() {
             self.take_answers(MOST_DUE / 2)?;
@@ -178,19 +195,19 @@ impl<R: Read, W: Write, P: Progress> Ahead<R, W, P> {
 
     /// Reads the answers that are due.
     pub(crate) fn settle(&mut self) -> Result<(), SinkFault>
-        ensures { OnOk result (IsDrained R.remaining W.contents self.old self.old.due self.new) }
+        ensures ok { OnOk result (IsDrained R.remaining W.contents self.old self.old.due self.new) }
+        ensures err { IfErr result (λ fault. IsStopped R.remaining W.contents self.old self.old.due fault self.new) }
     {
         self.take_answers(self.due)
     }
 }
 
 impl<R: Read, W: Write, P: Progress> Sink for Ahead<R, W, P> {
-    ghost use Rattle.std.specs.Prelude.{⊤};
-    ghost use Rattle.oram_client.specs.Ahead.{IsPut};
+    ghost use Rattle.oram_client.specs.Ahead.{IsPut, IsUnput};
 
     ghost putting = { λ a body b. IsPut R.remaining W.contents a body b };
 
-    ghost refusing = { λ _ _ _ _. ⊤ };
+    ghost refusing = { λ a body fault b. IsUnput R.remaining W.contents a body fault b };
 
     fn put(&mut self, body: &[u8]) -> Result<(), SinkFault> {
         self.make_room()?;

@@ -1,54 +1,43 @@
 //! A core's states are kept in a file.
-ghost use Rattle.std.specs.Prelude.{◌≡◌, None, IfOk};
+ghost use Rattle.std.specs.Prelude.{◌≡◌, None};
 
-use crate::file_place::FilePlace;
 use crate::file_step::FileFailure;
 use crate::kept_file::Salt;
-use crate::placing::put_file;
+use crate::placing::{Place, put_file};
 use oram_keep::{Keeper, Unkept};
-use std::alloc::{AllocError, Global};
 use std::marker::Model;
-use std::rt::Files;
 
-/// Keeps states in a file of this name, each behind the salt: in a new file beside it, which takes its place once it is whole.
+/// Keeps states in a file's place, each behind the salt: in a new file beside it, which takes its place once it is whole.
 ///
 /// With `sync`, a state that is kept is on the disk, so that it outlives the machine and not only the process. Once a state was not
 /// kept, none is, since what the file then holds may be that state or the one before it.
 #[derive(Debug, Drop)]
-pub struct FileKeeper<R> {
-    place: FilePlace<R>,
+pub struct FileKeeper<P> {
+    place: P,
     salt: Salt,
     sync: bool,
     failure: Option<FileFailure>,
 }
 
-impl<R> Model for FileKeeper<R> {
+impl<P> Model for FileKeeper<P> {
     ghost use Rattle.oram_client.specs.FileKeeping.{FileKeeping};
 
-    ghost Value = { FileKeeping };
+    ghost Value = { FileKeeping P };
 
-    ghost view = { λ k. record { salt = k.salt.0; failure = k.failure } };
+    ghost view = { λ k. record { place = k.place; salt = k.salt.0; sync = k.sync; failure = k.failure } };
 }
 
-impl<R> FileKeeper<R> {
+impl<P> FileKeeper<P> {
     /// Nothing is made or opened yet.
-    pub fn new(
-        rt: R,
-        alloc: Global,
-        name: &str,
-        salt: Salt,
-        sync: bool,
-    ) -> Result<FileKeeper<R>, AllocError>
-    where
-        R: Drop,
-        ensures { IfOk result (λ k. (k.salt ≡ salt.0) × (k.failure ≡ None)) }
+    pub fn new(place: P, salt: Salt, sync: bool) -> FileKeeper<P>
+        ensures { result ≡ record { place = place; salt = salt.0; sync = sync; failure = None } }
     {
-        Ok(FileKeeper {
-            place: FilePlace::new(rt, alloc, name)?,
+        FileKeeper {
+            place,
             salt,
             sync,
             failure: None,
-        })
+        }
     }
 
     /// Why a state was not kept, once one wasn't.
@@ -59,10 +48,10 @@ impl<R> FileKeeper<R> {
     }
 }
 
-impl<R: Files> Keeper for FileKeeper<R> {
+impl<P: Place> Keeper for FileKeeper<P> {
     ghost use Rattle.oram_client.specs.FileKeeping.{KeepsFile};
 
-    ghost keeps = { KeepsFile };
+    ghost keeps = { λ k state done m. KeepsFile P.does k state done m };
 
     fn keep(&mut self, file: &[u8]) -> Result<(), Unkept> {
         if self.failure.is_some() {

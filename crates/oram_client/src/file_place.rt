@@ -1,5 +1,5 @@
 //! A place for a file in a folder.
-ghost use Rattle.std.specs.Prelude.{◌≡◌, ◌++◌, codes, string_bytes, IfOk};
+ghost use Rattle.std.specs.Prelude.{◌≡◌, ◌⊎◌, ◌++◌, codes, string_bytes, IfOk, IfSome};
 
 use crate::file_step::{FileFailure, FileStep, stepped};
 use crate::kept_file::{Salt, put_kept_file};
@@ -8,6 +8,7 @@ use oram_edge::{FileFault, call_fault};
 use std::alloc::{AllocError, Global};
 use std::fs::{File, OpenFile, OpenOptions};
 use std::io::ErrorKind;
+use std::marker::Model;
 use std::os::unix::fs::OpenOptionsExt;
 use std::path::Path;
 use std::rt::Files;
@@ -53,9 +54,9 @@ fn if_there(done: io::Result<()>) -> io::Result<()> {
     }
 }
 
-/// The file of this name, with `.new` behind the name of the new one and `.aside` behind that of the one that is set aside.
+/// The file of a name, with `.new` behind the name of the new one and `.aside` behind that of the one that is set aside.
 #[derive(Debug, Drop)]
-pub(crate) struct FilePlace<R> {
+pub struct FilePlace<R> {
     rt: R,
     name: String,
     new_name: String,
@@ -63,11 +64,24 @@ pub(crate) struct FilePlace<R> {
     folder: String,
 }
 
+impl<R> Model for FilePlace<R> {
+    ghost use Rattle.std.specs.Prelude.{◌≡◌, ◌++◌, List, ℕ, codes, string_bytes};
+
+    /// The name.
+    ghost Value = { List ℕ };
+
+    ghost view = { λ p. string_bytes p.name };
+
+    ghost invariant = { λ p. (string_bytes p.new_name ≡ string_bytes p.name ++ codes ".new")
+        × (string_bytes p.aside_name ≡ string_bytes p.name ++ codes ".aside") };
+}
+
 impl<R> FilePlace<R> {
     /// Nothing is made or opened yet.
-    pub(crate) fn new(rt: R, alloc: Global, name: &str) -> Result<FilePlace<R>, AllocError>
+    pub fn new(rt: R, alloc: Global, name: &str) -> Result<FilePlace<R>, AllocError>
     where
         R: Drop,
+        ensures { IfOk result (λ place. place ≡ name.now) }
     {
         Ok(FilePlace {
             rt,
@@ -101,9 +115,10 @@ impl<R: Files> FilePlace<R> {
 }
 
 impl<R: Files> Place for FilePlace<R> {
-    ghost use Rattle.std.specs.Prelude.{⊤};
+    ghost use Rattle.std.specs.Prelude.{◌≡◌};
 
-    ghost does = { λ _ _ _ _. ⊤ };
+    // What the system does to its files can't be said.
+    ghost does = { λ p _ _ q. q ≡ p };
 
     fn write(&mut self, salt: &Salt, state: &[u8], sync: bool) -> Result<(), FileFailure> {
         let mut file = stepped(FileStep::Create, self.create())?;
@@ -136,11 +151,9 @@ impl<R: Files> Place for FilePlace<R> {
 }
 
 /// The name under which a file is found that is kept under this name: this one, or that of the file that was set aside.
-pub fn kept_name<R: Files>(
-    rt: &R,
-    alloc: Global,
-    name: &str,
-) -> Result<Option<String>, AllocError> {
+pub fn kept_name<R: Files>(rt: &R, alloc: Global, name: &str) -> Result<Option<String>, AllocError>
+    ensures { IfOk result (λ found. IfSome found (λ it. (string_bytes it ≡ name.now) ⊎ (string_bytes it ≡ name.now ++ codes ".aside"))) }
+{
     for found in [String::from_str(alloc, name)?, aside_name(alloc, name)?] {
         if fs::symlink_metadata(rt, found.as_str()).is_ok() {
             return Ok(Some(found));

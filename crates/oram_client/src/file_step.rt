@@ -1,4 +1,5 @@
 //! The steps by which a file is kept, and why one failed.
+ghost use Rattle.std.specs.Prelude.{◌≡◌, IfErr, IfOk, Ok};
 
 use std::io::ErrorKind;
 use std::{fmt, io};
@@ -75,9 +76,15 @@ impl fmt::Display for FileFailure {
 }
 
 /// What a step gave, or that it failed.
-pub(crate) fn stepped<T>(step: FileStep, given: io::Result<T>) -> Result<T, FileFailure> {
-    given.map_err(|error| FileFailure {
-        step,
-        reason: FileReason::from(error),
-    })
+pub(crate) fn stepped<T>(step: FileStep, given: io::Result<T>) -> Result<T, FileFailure>
+    ensures ok { IfOk result (λ value. given ≡ Ok value) }
+    ensures err { IfErr result (λ failure. failure.step ≡ step) }
+{
+    match given {
+        Ok(value) => Ok(value),
+        Err(error) => Err(FileFailure {
+            step,
+            reason: FileReason::from(error),
+        }),
+    }
 }

@@ -1,11 +1,11 @@
 //! The formatting of a disk over a connection.
-ghost use Rattle.std.specs.Prelude.{◌≡◌, ◌<◌, ◌≤◌, ◌∷◌, List, ℕ, length, OnOk, IfOk};
+ghost use Rattle.std.specs.Prelude.{◌≡◌, ◌<◌, ◌≤◌, ◌∷◌, List, ℕ, length, OnOk, IfOk, IfErr};
 ghost use Rattle.oram_geometry.specs.Sizes.{trees_of};
 ghost use Rattle.oram_wire.specs.HostMessages.{fetch_body};
 ghost use Rattle.oram_hash.specs.Path.{IsAccepted, path_of};
 ghost use Rattle.oram_core.specs.Core.{shape_of, shape_with};
 ghost use Rattle.oram_client.specs.Ahead.{IsAsked};
-ghost use Rattle.oram_client.specs.Formatting.{AreSeen, IsFormattedAhead};
+ghost use Rattle.oram_client.specs.Formatting.{AreSeen, IsFormattedAhead, IsFormattedInPart, IsUnheld, IsUnseen};
 
 use crate::ahead::{Ahead, Progress};
 use oram_bucket::Sealer;
@@ -34,12 +34,20 @@ pub enum FormattingFault {
 }
 
 impl From<AllocError> for FormattingFault {
+    ghost use Rattle.oram_client.specs.declared.formatting.FormattingFault.TheVariants.{OutOfMemory};
+
+    ghost from_gives = { λ _ fault. fault ≡ OutOfMemory };
+
     fn from(_error: AllocError) -> FormattingFault {
         FormattingFault::OutOfMemory
     }
 }
 
 impl From<SinkFault> for FormattingFault {
+    ghost use Rattle.oram_client.specs.Formatting.{sink_told};
+
+    ghost from_gives = { λ why fault. fault ≡ sink_told why };
+
     fn from(fault: SinkFault) -> FormattingFault {
         match fault {
             SinkFault::Refused => FormattingFault::Refused,
@@ -50,6 +58,10 @@ impl From<SinkFault> for FormattingFault {
 }
 
 impl From<FormatFault> for FormattingFault {
+    ghost use Rattle.oram_client.specs.Formatting.{format_told};
+
+    ghost from_gives = { λ why fault. fault ≡ format_told why };
+
     fn from(fault: FormatFault) -> FormattingFault {
         match fault {
             FormatFault::Sink(fault) => FormattingFault::from(fault),
@@ -68,8 +80,9 @@ fn check_tree<R: Read, W: Write, P>(
 ) -> Result<(), FormattingFault>
     requires tree { tree < trees_of device.now }
     requires overhead { overhead ≤ 64 }
-    ensures { OnOk result ((records : List ℕ) × IsAsked R.remaining W.contents ahead.old (fetch_body tree 0) (128 ∷ records) ahead.new
+    ensures ok { OnOk result ((records : List ℕ) × IsAsked R.remaining W.contents ahead.old (fetch_body tree 0) (128 ∷ records) ahead.new
         × IsAccepted (path_of device.now tree 0 overhead records) root.now) }
+    ensures err { IfErr result (λ fault. IsUnheld R.remaining W.contents device.now overhead root.now tree ahead.old fault ahead.new) }
 {
     let answer = ahead.fetch(tree)?;
     let Some((&GOOD, records)) = answer.split_first() else {
@@ -88,8 +101,10 @@ fn check_trees<S: Sealer, R: Read, W: Write, P>(
     ahead: &mut Ahead<R, W, P>,
 ) -> Result<(), FormattingFault>
     requires { length core.now.state.trees ≡ trees_of core.now.device }
-    ensures { let v = shape_of S.overhead S.sealing S.opening core.now in
+    ensures ok { let v = shape_of S.overhead S.sealing S.opening core.now in
         OnOk result (AreSeen R.remaining W.contents v core.now.state (trees_of core.now.device) ahead.old ahead.new) }
+    ensures err { let v = shape_of S.overhead S.sealing S.opening core.now in
+        IfErr result (λ fault. IsUnseen R.remaining W.contents v core.now.state ahead.old fault ahead.new) }
 {
     let parts = core.parts(alloc)?;
     for tree in 0..core.device().trees() {
@@ -112,9 +127,12 @@ pub fn format_ahead<S: Sealer, R: Read, W: Write, P: Progress>(
 ) -> Result<Core<S>, FormattingFault>
     ensures device { IfOk result (λ c. c.device ≡ device) }
     ensures sealer { IfOk result (λ c. c.sealer ≡ sealer) }
-    // Where it isn't Ok, nothing is known of the connection.
     ensures made { let v = shape_with S.overhead S.sealing S.opening device sealer in
         IfOk result (λ c. IsFormattedAhead R.remaining W.contents v ahead.old c.state ahead.new) }
+
+    // What was written and read up to a fault, and which fault it is.
+    ensures broken_off { let v = shape_with S.overhead S.sealing S.opening device sealer in
+        IfErr result (λ fault. IsFormattedInPart R.remaining W.contents v ahead.old fault ahead.new) }
 {
     let core = Core::format(alloc, device, sealer, ahead)?;
     ahead.settle()?;

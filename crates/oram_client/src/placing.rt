@@ -1,16 +1,16 @@
 //! How a file is put in its place, so that whenever the process ends the file is found whole, as it was or as it is to be.
-ghost use Rattle.std.specs.Prelude.{true, false, OnOk, OnErr};
+ghost use Rattle.std.specs.Prelude.{true, false, OnOk, IfErr};
 ghost use Rattle.oram_client.specs.KeptFile.{kept_file};
-ghost use Rattle.oram_client.specs.Placing.{DoesAll, FilesAreKept, FilesStayWhole, IsBrokenOff, deeds_of};
+ghost use Rattle.oram_client.specs.Placing.{DoesAll, FilesAreKept, FilesOutlastFailures, FilesStayWhole, IsBrokenOff, deeds_of};
 
 use crate::file_step::FileFailure;
 use crate::kept_file::Salt;
 
 /// A file, with a place for a new one beside it and one for that which was set aside.
 pub trait Place {
-    ghost use Rattle.std.specs.Prelude.{Bool, true, false, OnOk, OnErr};
+    ghost use Rattle.std.specs.Prelude.{Bool, true, false, OnOk, IfErr};
     ghost use Rattle.oram_client.specs.KeptFile.{kept_file};
-    ghost use Rattle.oram_client.specs.Placing.{Deed, Writes, SetsAside, Settles, SyncsFolder, Clears};
+    ghost use Rattle.oram_client.specs.Placing.{Deed, IsStepOf, Writes, SetsAside, Settles, SyncsFolder, Clears};
 
     /// From the first value a deed may be done, or fail, and leave the second.
     ghost does: { Self → Deed → Bool → Self → Type 0 };
@@ -18,33 +18,33 @@ pub trait Place {
     /// Writes the new file, of this salt and state, and syncs it where that is asked for.
     fn write(&mut self, salt: &Salt, state: &[u8], sync: bool) -> Result<(), FileFailure>
         ensures ok { OnOk result (does self.old (Writes sync (kept_file salt.now.0 state.now)) true self.new) }
-        ensures err { OnErr result (does self.old (Writes sync (kept_file salt.now.0 state.now)) false self.new) };
+        ensures err { IfErr result (λ why. does self.old (Writes sync (kept_file salt.now.0 state.now)) false self.new × IsStepOf (Writes sync (kept_file salt.now.0 state.now)) why.step) };
 
     /// Sets the file aside, if there is one.
     fn set_aside(&mut self) -> Result<(), FileFailure>
         ensures ok { OnOk result (does self.old SetsAside true self.new) }
-        ensures err { OnErr result (does self.old SetsAside false self.new) };
+        ensures err { IfErr result (λ why. does self.old SetsAside false self.new × IsStepOf SetsAside why.step) };
 
     /// Gives the new file its place.
     fn settle(&mut self) -> Result<(), FileFailure>
         ensures ok { OnOk result (does self.old Settles true self.new) }
-        ensures err { OnErr result (does self.old Settles false self.new) };
+        ensures err { IfErr result (λ why. does self.old Settles false self.new × IsStepOf Settles why.step) };
 
     /// Syncs the folder, so that the new file's place is on the disk too.
     fn sync_folder(&mut self) -> Result<(), FileFailure>
         ensures ok { OnOk result (does self.old SyncsFolder true self.new) }
-        ensures err { OnErr result (does self.old SyncsFolder false self.new) };
+        ensures err { IfErr result (λ why. does self.old SyncsFolder false self.new × IsStepOf SyncsFolder why.step) };
 
     /// Takes away what was set aside, if there is such a file.
     fn clear(&mut self) -> Result<(), FileFailure>
         ensures ok { OnOk result (does self.old Clears true self.new) }
-        ensures err { OnErr result (does self.old Clears false self.new) };
+        ensures err { IfErr result (λ why. does self.old Clears false self.new × IsStepOf Clears why.step) };
 }
 
 /// The new file takes the old one's place at once, and is on the disk then.
 fn put_synced<P: Place>(place: &mut P, salt: &Salt, state: &[u8]) -> Result<(), FileFailure>
     ensures ok { OnOk result (DoesAll P.does place.old (deeds_of true (kept_file salt.now.0 state.now)) place.new) }
-    ensures err { OnErr result (IsBrokenOff P.does place.old (deeds_of true (kept_file salt.now.0 state.now)) place.new) }
+    ensures err { IfErr result (λ why. IsBrokenOff P.does place.old (deeds_of true (kept_file salt.now.0 state.now)) why.step place.new) }
 {
     place.write(salt, state, true)?;
     place.settle()?;
@@ -56,7 +56,7 @@ fn put_synced<P: Place>(place: &mut P, salt: &Salt, state: &[u8]) -> Result<(), 
 /// keeping waited for that.
 fn put_unsynced<P: Place>(place: &mut P, salt: &Salt, state: &[u8]) -> Result<(), FileFailure>
     ensures ok { OnOk result (DoesAll P.does place.old (deeds_of false (kept_file salt.now.0 state.now)) place.new) }
-    ensures err { OnErr result (IsBrokenOff P.does place.old (deeds_of false (kept_file salt.now.0 state.now)) place.new) }
+    ensures err { IfErr result (λ why. IsBrokenOff P.does place.old (deeds_of false (kept_file salt.now.0 state.now)) why.step place.new) }
 {
     place.write(salt, state, false)?;
     place.set_aside()?;
@@ -73,7 +73,7 @@ pub fn put_file<P: Place>(
     sync: bool,
 ) -> Result<(), FileFailure>
     ensures ok { OnOk result (DoesAll P.does place.old (deeds_of sync (kept_file salt.now.0 state.now)) place.new) }
-    ensures err { OnErr result (IsBrokenOff P.does place.old (deeds_of sync (kept_file salt.now.0 state.now)) place.new) }
+    ensures err { IfErr result (λ why. IsBrokenOff P.does place.old (deeds_of sync (kept_file salt.now.0 state.now)) why.step place.new) }
 {
     if sync {
         put_synced(place, salt, state)
@@ -82,9 +82,10 @@ pub fn put_file<P: Place>(
     }
 }
 
-/// A law about definitions: wherever a process ends that puts a file in its place, what is found is what was there or that file, and behind
-/// the last step it is that file.
+/// A law about definitions: wherever a process ends that puts a file in its place, and whichever step fails, what is found is what was there
+/// or that file, and behind the last step it is that file.
 pub fn files_stay_whole()
     ensures ended { FilesStayWhole }
+    ensures failed { FilesOutlastFailures }
     ensures done { FilesAreKept }
 {}

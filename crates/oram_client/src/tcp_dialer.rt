@@ -1,9 +1,11 @@
 //! Ways to a host over TCP.
+ghost use Rattle.std.specs.Prelude.{◌≡◌, string_bytes};
 
 use crate::dialing::Dial;
 use oram_edge::connect;
 use oram_session::{Link, LinkFault, StreamLink};
 use std::alloc::Global;
+use std::marker::Model;
 use std::net::{Net, OpenStream};
 use std::rt::Clock;
 use std::time::Duration;
@@ -22,8 +24,19 @@ pub struct TcpDialer<R> {
     address: String,
 }
 
+impl<R> Model for TcpDialer<R> {
+    ghost use Rattle.std.specs.Prelude.{List, ℕ, string_bytes};
+
+    /// The address.
+    ghost Value = { List ℕ };
+
+    ghost view = { λ d. string_bytes d.address };
+}
+
 impl<R> TcpDialer<R> {
-    pub fn new(rt: R, address: String) -> TcpDialer<R> {
+    pub fn new(rt: R, address: String) -> TcpDialer<R>
+        ensures { result ≡ string_bytes address }
+    {
         TcpDialer { rt, address }
     }
 }
@@ -36,15 +49,17 @@ fn limit_silence<S: OpenStream>(stream: &S) -> io::Result<()> {
 }
 
 impl<R: Net + Clock> Dial for TcpDialer<R> {
-    ghost use Rattle.std.specs.Prelude.{⊤};
+    ghost use Rattle.std.specs.Prelude.{◌≡◌};
+    ghost use Rattle.oram_client.specs.Dialing.{IsGreeted};
 
     type Line = StreamLink<R::Stream, R::Stream>;
 
-    ghost opens = { λ _ _ _. ⊤ };
+    ghost opens = { λ d line e. IsGreeted R.Stream.remaining R.Stream.contents line × (e ≡ d) };
 
-    ghost fails = { λ _ _ _. ⊤ };
+    ghost fails = { λ d _ e. e ≡ d };
 
-    ghost pauses = { λ _ _ _. ⊤ };
+    // How long it was can't be said.
+    ghost pauses = { λ d _ e. e ≡ d };
 
     fn dial(&mut self, alloc: Global) -> Result<StreamLink<R::Stream, R::Stream>, LinkFault> {
         let Ok((reader, writer)) = connect(&self.rt, self.address.as_str()) else {

@@ -1,7 +1,8 @@
 use super::*;
-use crate::file_place::{kept_bytes, kept_name};
+use crate::file_place::{FilePlace, kept_bytes, kept_name};
 use crate::file_step::{FileReason, FileStep};
 use crate::kept_file::read_kept_file;
+use std::alloc::AllocError;
 use std::fs;
 use std::test::Fail;
 
@@ -11,8 +12,9 @@ fn keeper<'a>(
     rt: &'a HostRuntime,
     name: &str,
     sync: bool,
-) -> Result<FileKeeper<&'a HostRuntime>, AllocError> {
-    FileKeeper::new(rt, rt.alloc(), name, SALT, sync)
+) -> Result<FileKeeper<FilePlace<&'a HostRuntime>>, AllocError> {
+    let place = FilePlace::new(rt, rt.alloc(), name)?;
+    Ok(FileKeeper::new(place, SALT, sync))
 }
 
 /// Whether this state is read back, tried once more where memory was refused.
