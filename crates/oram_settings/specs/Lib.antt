@@ -2,3 +2,4 @@ pub mod Settings
 pub mod Status
 pub mod Progress
 pub mod CommandLine
+pub mod Sizes

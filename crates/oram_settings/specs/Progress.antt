@@ -1,5 +1,6 @@
 -- How far a formatting is.
-use Rattle.std.specs.Prelude.{ℕ, ◌*◌, ◌+◌, ◌/◌, ◌-◌, ◌^◌, min, max, if◌then◌else◌, nat_le}
+use Rattle.std.specs.Prelude.{ℕ, List, ◌*◌, ◌+◌, ◌/◌, ◌-◌, ◌^◌, [], ◌∷◌, min, max, if◌then◌else◌, nat_le, codes, decimal}
+use Rattle.std.specs.List.{concat}
 use Rattle.oram_settings.specs.declared.progress.Meter.{Meter}
 
 -- how many of a hundred are done
@@ -9,6 +10,12 @@ percent done of = if nat_le of done then 100 else done * 100 / of
 -- in how many seconds the rest is done, if it goes on as it did for so many milliseconds
 abbrev pub seconds_left : ℕ → ℕ → ℕ → ℕ
 seconds_left done of milliseconds = min (milliseconds * (of - done) / max done 1 / 1000) (2 ^ 64 - 1)
+
+-- what is told of it
+abbrev pub progress_text : ℕ → ℕ → ℕ → List ℕ
+progress_text done of milliseconds =
+    concat (codes "formatting: " ∷ decimal (percent done of) ∷ codes " % (" ∷ decimal done ∷ codes " of " ∷ decimal of ∷ codes " messages), "
+    ∷ decimal (seconds_left done of milliseconds) ∷ codes " s left" ∷ [])
 
 -- a meter once it was asked at so many of a hundred: where it was due, it is due next a step later
 abbrev pub asked_at : Meter → ℕ → Meter

@@ -1,5 +1,7 @@
 -- What a disk's settings file says, and when a text says it.
-use Rattle.std.specs.Prelude.{◌≡◌, ◌∷◌, ◌*◌, ◌^◌, ℕ, Bool, List, [], codes, string_bytes, Some, Ok}
+use Rattle.std.specs.Prelude.{◌≡◌, ◌∷◌, ◌*◌, ◌^◌, ℕ, Bool, List, [], codes, decimal, string_bytes, Some, Ok}
+use Rattle.std.specs.List.{concat}
+use Rattle.hex.specs.Hex.{encode_lower}
 use Rattle.toml.specs.Data.{Members, boolean, get_member}
 use Rattle.toml.specs.Parse.{parse_document}
 use Rattle.oram_geometry.specs.Sizes.{device_of}
@@ -71,3 +73,11 @@ IsDocumentOf text s = (table : Members) × (parse_document text ≡ Some table) 
 abbrev pub IsDeviceOf : ℕ → ℕ → ℕ → ℕ → Sizes → Type 0
 IsDeviceOf size block slots table device = (blocks : ℕ) × (blocks * block ≡ size)
     × (device_of (record { blocks = blocks; block_bytes = block; slots = slots; top = table; lifetime = 2 ^ 40 }) ≡ Ok device)
+
+-- the first settings of a disk of so many bytes and this key, as its file has them
+abbrev pub first_text : ℕ → List ℕ → List ℕ
+first_text size key =
+    concat (codes "# The disk's size in bytes. It is fixed once the disk is formatted, and so are the next four lines.\nsize = " ∷ decimal size
+    ∷ codes "\nblock = " ∷ decimal 4096 ∷ codes "\nslots = " ∷ decimal 4 ∷ codes "\ntable = " ∷ decimal 1024
+    ∷ codes "\nsealer = \"chacha\"\n# Whoever has this key can read the disk. Without it nobody can.\nkey = \"" ∷ encode_lower key
+    ∷ codes "\"\n# Where the host is reached, and where the disk is served.\nhost = \"127.0.0.1:7001\"\nlisten = \"127.0.0.1:10809\"\n# The file of the disk's state, in this folder, and whether it is synced each time.\nstate = \"disk.state\"\nsync = true\n# For how many seconds a host that is out of reach is waited for.\npatience = 600\n" ∷ [])

@@ -1,8 +1,11 @@
 -- How a disk stands.
-use Rattle.std.specs.Prelude.{length}
+use Rattle.std.specs.Prelude.{ℕ, List, Option, Some, None, ◌*◌, ◌-◌, ◌^◌, ◌++◌, [], ◌∷◌, min, length, codes, decimal}
+use Rattle.std.specs.List.{concat}
 use Rattle.oram_geometry.specs.declared.Sizes.{Sizes}
 use Rattle.oram_geometry.specs.Sizes.{trees_of}
 use Rattle.oram_run.specs.State.{State}
+use Rattle.oram_run.specs.declared.events.Reason.{Reason}
+use Rattle.oram_run.specs.declared.events.Reason.TheVariants.{Malformed, Tampered, HostRefused}
 use Rattle.oram_settings.specs.declared.status.Status.{Status}
 
 abbrev pub stands_as : Sizes → State → Status
@@ -15,3 +18,23 @@ stands_as d s = record {
   waiting = length s.queue;
   failure = s.failure;
 }
+
+-- what is told of a failure
+abbrev pub failing : Option Reason → List ℕ
+failing None = codes "it is sound"
+failing (Some Malformed) = codes "it has failed: what the host answered is no answer"
+failing (Some (Tampered tree level)) =
+    concat (codes "it has failed: in tree " ∷ decimal tree ∷ codes " the record at level " ∷ decimal level ∷ codes " of a path wasn't the one that was stored last" ∷ [])
+failing (Some (HostRefused code)) = codes "it has failed: the host refused a message, by the code " ++ decimal code
+
+-- the bytes of a disk, or the greatest number where they are more
+abbrev pub size_of : Status → ℕ
+size_of s = min (s.blocks * s.block_bytes) (2 ^ 64 - 1)
+
+-- the lines that tell how a disk stands: its size, its trees, the accesses made and left, the commands that wait, and a failure
+abbrev pub report : Status → List ℕ
+report s = concat (codes "size: " ∷ decimal (size_of s) ∷ codes " bytes, " ∷ decimal s.blocks ∷ codes " blocks of " ∷ decimal s.block_bytes
+    ∷ codes "\ntrees: " ∷ decimal s.trees
+    ∷ codes "\naccesses: " ∷ decimal s.accesses ∷ codes " made, " ∷ decimal (s.lifetime - s.accesses)
+    ∷ codes " left\nwaiting: " ∷ decimal s.waiting
+    ∷ codes "\nstate: " ∷ failing s.failure ∷ codes "\n" ∷ [])

@@ -1,16 +1,16 @@
 //! The settings file of a disk.
 
-ghost use Rattle.std.specs.Prelude.{◌≡◌, None, option_and_then, IfOk, IfSome, IsErrOf};
+ghost use Rattle.std.specs.Prelude.{◌≡◌, None, option_and_then, IfOk, IfSome, IsErrOf, string_bytes};
 ghost use Rattle.toml.specs.Data.{as_bool, get_member};
 ghost use Rattle.toml.specs.View.{table_view};
 ghost use Rattle.oram_edge.specs.Tables.{Finds};
-ghost use Rattle.oram_settings.specs.Settings.{HasFlag, HasSealing, IsDeviceOf, IsDisk, IsDocumentOf, shown};
+ghost use Rattle.oram_settings.specs.Settings.{HasFlag, HasSealing, IsDeviceOf, IsDisk, IsDocumentOf, first_text, shown};
 
-use hex::encode_to_slice;
+use hex::encode;
 use oram_edge::{InputFault, address_at, count_at, has_only, key_at, name_at, number_at, table_of};
 use oram_geometry::Device;
 use std::alloc::{AllocError, Global};
-use std::{fmt, str};
+use std::fmt;
 use toml::Table;
 
 /// The most commands that a disk ever takes: as many as a device may.
@@ -155,16 +155,12 @@ pub fn device_of(size: u64, block: u64, slots: u64, table: u64) -> Option<Device
     Device::new(blocks, block, slots, table, LIFETIME).ok()
 }
 
-/// The 64 hexadecimal digits of a key.
-fn spelled<'a>(key: &[u8; 32], digits: &'a mut [u8; 64]) -> Option<&'a str> {
-    encode_to_slice(key, digits).ok()?;
-    str::from_utf8(digits).ok()
-}
-
 /// The first settings of a disk of so many bytes and this key, which is drawn at random.
-pub fn disk_text(alloc: Global, size: u64, key: &[u8; 32]) -> Result<String, AllocError> {
-    let mut digits = [0; 64];
-    let key = spelled(key, &mut digits).unwrap_or("");
+pub fn disk_text(alloc: Global, size: u64, key: &[u8; 32]) -> Result<String, AllocError>
+    ensures { IfOk result (λ text. string_bytes text ≡ first_text size key.now) }
+{
+    let key = encode(alloc, key)?;
+    let key = key.as_str();
     format!(in alloc;
         "# The disk's size in bytes. It is fixed once the disk is formatted, and so are the next four lines.\nsize = {size}\nblock = {FIRST_BLOCK}\nslots = {FIRST_SLOTS}\ntable = {FIRST_TABLE}\nsealer = \"chacha\"\n# Whoever has this key can read the disk. Without it nobody can.\nkey = \"{key}\"\n# Where the host is reached, and where the disk is served.\nhost = \"127.0.0.1:7001\"\nlisten = \"127.0.0.1:10809\"\n# The file of the disk's state, in this folder, and whether it is synced each time.\nstate = \"disk.state\"\nsync = true\n# For how many seconds a host that is out of reach is waited for.\npatience = 600\n"
     )

@@ -1,6 +1,6 @@
 //! How far a formatting is.
 
-ghost use Rattle.std.specs.Prelude.{◌≡◌, ◌≤◌, ◌↔◌, IsTrue};
+ghost use Rattle.std.specs.Prelude.{◌≡◌, ◌≤◌, ◌↔◌, IsTrue, IfOk, string_bytes};
 ghost use Rattle.oram_settings.specs.Progress as spec;
 
 use std::alloc::{AllocError, Global};
@@ -30,7 +30,9 @@ pub fn progress_text(
     done: u64,
     of: u64,
     milliseconds: u64,
-) -> Result<String, AllocError> {
+) -> Result<String, AllocError>
+    ensures { IfOk result (λ text. string_bytes text ≡ spec.progress_text done of milliseconds) }
+{
     let percent = percent(done, of);
     let left = seconds_left(done, of, milliseconds);
     format!(in alloc; "formatting: {percent} % ({done} of {of} messages), {left} s left")

@@ -1,6 +1,7 @@
 //! Sizes as people write them.
 
-ghost use Rattle.std.specs.Prelude.{◌≤◌, ◌↔◌, IsTrue, slice_index};
+ghost use Rattle.std.specs.Prelude.{ℕ, ◌≡◌, ◌≤◌, ◌<◌, ◌^◌, ◌↔◌, ◌≢◌, IsTrue, IfSome, None, decimal, slice_index};
+ghost use Rattle.oram_settings.specs.Sizes.{IsSize, IsSizeIn};
 
 /// The units of a size, each with its bytes. The last has no name.
 const UNITS: [(&str, u64); 9] = [
@@ -23,7 +24,10 @@ fn begins_number(text: &str) -> bool
 }
 
 /// A number in decimal, which 0 doesn't begin.
-fn read_number(text: &str) -> Option<u64> {
+fn read_number(text: &str) -> Option<u64>
+    ensures some { IfSome result (λ n. (0 < n) × (text.now ≡ decimal n)) }
+    ensures none { result ≡ None → (n : ℕ) → 0 < n → n < 2 ^ 64 → text.now ≢ decimal n }
+{
     if !begins_number(text) {
         return None;
     }
@@ -31,14 +35,21 @@ fn read_number(text: &str) -> Option<u64> {
 }
 
 /// A size in a unit of this name.
-fn read_in(text: &str, unit: &str, bytes: u64) -> Option<u64> {
+fn read_in(text: &str, unit: &str, bytes: u64) -> Option<u64>
+    requires { 0 < bytes }
+    ensures some { IfSome result (λ size. IsSizeIn (unit.now, bytes) text.now size) }
+    ensures none { result ≡ None → (size : ℕ) → size < 2 ^ 64 → IsSizeIn (unit.now, bytes) text.now size → ⊥ }
+{
     let digits = text.strip_suffix(unit)?;
     read_number(digits)?.checked_mul(bytes)
 }
 
 /// Reads a size, as `1GiB`, `512MiB`, `100MB` or `4096`: a number of units, from 1 on. None where it is no size, or 2^64 bytes or more.
-pub fn read_size(text: &str) -> Option<u64> {
-    for (unit, bytes) in UNITS {
+pub fn read_size(text: &str) -> Option<u64>
+    ensures some { IfSome result (λ size. IsSize text.now size) }
+    ensures none { result ≡ None → (size : ℕ) → size < 2 ^ 64 → IsSize text.now size → ⊥ }
+{
+    for &(unit, bytes) in &UNITS {
         if let Some(size) = read_in(text, unit, bytes) {
             return Some(size);
         }

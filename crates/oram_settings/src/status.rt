@@ -1,7 +1,7 @@
 //! How a disk stands.
 
-ghost use Rattle.std.specs.Prelude.{◌≡◌};
-ghost use Rattle.oram_settings.specs.Status.{stands_as};
+ghost use Rattle.std.specs.Prelude.{◌≡◌, IfOk, string_bytes};
+ghost use Rattle.oram_settings.specs.Status as spec;
 
 use oram_bucket::Sealer;
 use oram_core::{Core, Reason};
@@ -24,7 +24,7 @@ pub struct Status {
 
 /// How the disk of a core stands.
 pub fn status_of<S: Sealer>(core: &Core<S>) -> Status
-    ensures { result ≡ stands_as core.now.device core.now.state }
+    ensures { result ≡ spec.stands_as core.now.device core.now.state }
 {
     let device = core.device();
     let trees = device.trees();
@@ -41,7 +41,9 @@ pub fn status_of<S: Sealer>(core: &Core<S>) -> Status
 }
 
 /// What is told of a failure.
-fn failing(alloc: Global, failure: Option<Reason>) -> Result<String, AllocError> {
+fn failing(alloc: Global, failure: Option<Reason>) -> Result<String, AllocError>
+    ensures { IfOk result (λ text. string_bytes text ≡ spec.failing failure) }
+{
     match failure {
         None => String::from_str(alloc, "it is sound"),
         Some(Reason::Malformed) => {
@@ -57,7 +59,9 @@ fn failing(alloc: Global, failure: Option<Reason>) -> Result<String, AllocError>
 }
 
 /// The lines that tell how a disk stands.
-pub fn report(alloc: Global, status: &Status) -> Result<String, AllocError> {
+pub fn report(alloc: Global, status: &Status) -> Result<String, AllocError>
+    ensures { IfOk result (λ text. string_bytes text ≡ spec.report status.now) }
+{
     let size = status.blocks.saturating_mul(status.block_bytes);
     let blocks = status.blocks;
     let block_bytes = status.block_bytes;
