@@ -4,8 +4,8 @@ use crate::disk_files::disk_settings_in;
 use crate::faults::Fault;
 use oram_bucket::{ChaChaSeal, PlainSeal, Sealer};
 use oram_client::{
-    Ahead, DiskKey, FileKeeper, FormattingFault, Progress, Salt, format_ahead, kept_name,
-    sealer_key,
+    Ahead, DiskKey, FileKeeper, FilePlace, FormattingFault, Progress, Salt, format_ahead,
+    kept_name, sealer_key,
 };
 use oram_core::Core;
 use oram_edge::buffered;
@@ -122,7 +122,8 @@ fn format_with<S: Sealer>(
 ) -> Result<(), Fault> {
     let alloc = rt.alloc();
     let name = settings.state.as_str();
-    let mut keeper = FileKeeper::new(rt, alloc, name, salt, settings.sync)?;
+    let place = FilePlace::new(rt, alloc, name)?;
+    let mut keeper = FileKeeper::new(place, salt, settings.sync);
     let core = formatted(rt, device, sealer, settings.host)?;
     let state = encode_state(alloc, &core)?;
     match keeper.keep(state.as_slice()) {

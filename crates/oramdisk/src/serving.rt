@@ -5,8 +5,8 @@ use crate::faults::Fault;
 use crate::hosting::{listen_at, not_accepted, time};
 use oram_bucket::{ChaChaSeal, PlainSeal, Sealer};
 use oram_client::{
-    DiskKey, FileKeeper, PatientLink, Salt, TcpDialer, Watch, kept_bytes, read_kept_file,
-    sealer_key, tape_key,
+    DiskKey, FileKeeper, FilePlace, PatientLink, Salt, TcpDialer, Watch, kept_bytes,
+    read_kept_file, sealer_key, tape_key,
 };
 use oram_core::Core;
 use oram_edge::buffered;
@@ -146,7 +146,7 @@ where
 }
 
 /// A core behind its file, and behind a link to its host.
-type DiskVolume<'a, S, L> = Volume<S, L, FileKeeper<&'a HostRuntime>, ChaChaTape>;
+type DiskVolume<'a, S, L> = Volume<S, L, FileKeeper<FilePlace<&'a HostRuntime>>, ChaChaTape>;
 
 /// Why a disk stopped.
 fn stopped<S: Sealer, L: Link>(volume: &DiskVolume<'_, S, L>, settings: DiskSettings) -> Fault {
@@ -187,7 +187,8 @@ where
     L: Drop,
 {
     let alloc = rt.alloc();
-    let keeper = FileKeeper::new(rt, alloc, settings.state.as_str(), salt, settings.sync)?;
+    let place = FilePlace::new(rt, alloc, settings.state.as_str())?;
+    let keeper = FileKeeper::new(place, salt, settings.sync);
     let key = tape_key(&DiskKey(settings.key), &salt).0;
     let trees = core.device().trees();
     let mut volume = Volume {
