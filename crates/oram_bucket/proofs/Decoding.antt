@@ -1,5 +1,5 @@
 -- The loop of the decoder, over what it has read and what is left.
-use Rattle.std.proofs.Common.{◌≡◌, ℕ, ◌+◌, ◌*◌, ◌%◌, ◌^◌, ◌<◌, ◌≤◌, List, [], ◌∷◌, ◌++◌, length, drop, Option, Some, None, Result, Ok, Err, IfOk, IsOkAnd, refl, sym, ap, ◌∙◌, inl, inr, arith, below_more, add-one, slice_index, subst}
+use Rattle.std.proofs.Common.{◌≡◌, ℕ, ◌+◌, ◌*◌, ◌%◌, ◌^◌, ◌<◌, ◌≤◌, List, [], ◌∷◌, ◌++◌, length, drop, Option, Some, None, Result, Ok, Err, IfOk, IsOkAnd, sym, ap, ◌∙◌, inl, inr, arith, below_more, add-one, slice_index, subst}
 use Rattle.std.proofs.lemmas.Nat.{one_shl}
 use Rattle.oram_geometry.specs.declared.Sizes.{Sizes}
 use Rattle.oram_geometry.specs.Sizes.{blocks_in, depth_of, bucket_len}
@@ -11,7 +11,7 @@ use Rattle.oram_bucket.specs.Slots.{number_of, block_in, slot_at, number_before}
 use Rattle.oram_bucket.specs.Fault.{fault_behind, slot_fault, first_fault}
 use Rattle.oram_bucket.proofs.Spelling.{HasFew, length-spelling, one_spelling, bytes_taken}
 use Rattle.oram_bucket.proofs.Slots.{no_fault, first_of_slots, spelled_without_fault, slot_without_fault}
-use Rattle.oram_bucket.proofs.SlotBySlot.{IsReadTo, read_none, read_real, read_dummy, read_all, next_slot, last_slot, bytes_dropped}
+use Rattle.oram_bucket.proofs.SlotBySlot.{IsReadTo, read_real, read_dummy, read_all, next_slot, last_slot, bytes_dropped}
 
 -- what holds after k slots, where these bytes are left to be cut into pieces of this size
 pub record IsAt (d : Sizes) (i : ℕ) (bytes : List ℕ) (k : ℕ) (rest : List ℕ) (size : ℕ) (before : Option ℕ) (held : List Cell → Type 0) : Type 0 where

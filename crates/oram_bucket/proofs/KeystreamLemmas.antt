@@ -1,29 +1,29 @@
 -- The keystream block by block, as the generator fills it.
-use Rattle.std.proofs.Common.{◌≡◌, ℕ, zero, suc, ◌+◌, ◌-◌, ◌*◌, ◌/◌, ◌%◌, ◌^◌, ◌<◌, ◌≤◌, List, [], ◌∷◌, ◌++◌, length, get_or, take, drop, refl, sym, ap, ◌∙◌, arith, ◌⊎◌, inl, inr, append_assoc}
+use Rattle.std.proofs.Common.{◌≡◌, ℕ, zero, suc, ◌+◌, ◌-◌, ◌*◌, ◌/◌, ◌%◌, ◌^◌, ◌<◌, ◌≤◌, List, [], ◌∷◌, ◌++◌, length, get_or, take, drop, refl, sym, ap, ◌∙◌, arith, inl, inr, append_assoc}
 use Rattle.std.proofs.lemmas.Bool.{cases_lt}
 use Rattle.std.proofs.Math.Nat.{div-one}
-use Rattle.std.proofs.Math.Seq.{get_or-append_right}
-use Rattle.std.proofs.lemmas.List.{get_or_append_left, length-append, take_all, drop-drop, take-append-drop, length-take-le, length-drop}
+use Rattle.std.proofs.Math.Seq.{get_or-append_right, take-append_seam}
+use Rattle.std.proofs.lemmas.List.{get_or_append_left, length-append, take_all, drop-drop, append-nil, take-append-drop, length-take-le, length-drop}
 use Rattle.std.specs.Int.{w32, to_le_bytes}
 use Rattle.std.specs.Int.Bits.{bit_xor}
 use Rattle.std.specs.Simd.Lanes.{zip2}
 use Rattle.std.specs.Simd.{first_chunks}
-use Rattle.rand_core.specs.Steps.{word_bytes, fill_via_u32}
-use Rattle.rand_core.specs.Stream.{Stream, fill_bytes}
-use Rattle.rand_core.specs.Steps.{stream_of, steps_u32}
-use Rattle.rand_core.proofs.StepsLemmas.{fill_bytes-stream_of}
-use Rattle.rand_chacha.specs.ChaCha.{ChaCha, next_word, word_at, key_of}
-use Rattle.oram_bucket.specs.Keystream.{key_byte, xored_from}
+use Rattle.rand_core.specs.Steps.{word_bytes}
+use lib.Lanes.{Each1, number_l, digits_l}
+use Rattle.std.specs.List.{flat_map}
+use Rattle.rand_chacha.specs.ChaCha.{ChaCha, next_word, word_at}
+use Rattle.oram_bucket.specs.Keystream.{next_words, key_byte, xored_from}
+use Rattle.oram_bucket.specs.ChaChaLaws.{length-xored}
 
 -- the generator of a key and a nonce at a word of its stream
 abbrev pub generator_at : List ℕ → ℕ → ℕ → ChaCha
-generator_at key nonce pos = record { key = key_of key; stream = nonce; word_pos = pos }
+generator_at key nonce pos = record { key = key; stream = nonce; word_pos = pos }
 
 -- a byte of a word
-key_byte_in : (key : List ℕ) (nonce w r : ℕ) → r < 4 → get_or (to_le_bytes w32 (word_at 10 (key_of key) nonce w)) r 0 ≡ key_byte key nonce (4 * w + r)
+key_byte_in : (key : List ℕ) (nonce w r : ℕ) → r < 4 → get_or (to_le_bytes w32 (word_at 10 key nonce w)) r 0 ≡ key_byte key nonce (4 * w + r)
 unfolding key_byte
 key_byte_in key nonce w r h =
-    let word = λ (p : ℕ). word_at 10 (key_of key) nonce p in
+    let word = λ (p : ℕ). word_at 10 key nonce p in
     let place : (4 * w + r) / 4 ≡ w = omega arith in
     let part : (4 * w + r) % 4 ≡ r = omega arith in
     rw (place, part) (of_byte (word w) r h)
@@ -39,7 +39,7 @@ length-word : (n : ℕ) → length (to_le_bytes w32 n) ≡ 4
 length-word n = refl
 
 -- after k words the generator is k words on
-words_on : (key : List ℕ) (nonce pos k : ℕ) → pos + k < 2 ^ 68 → (word_bytes (to_le_bytes w32) (next_word 10) k (generator_at key nonce pos)).1 ≡ generator_at key nonce (pos + k)
+words_on : (key : List ℕ) (nonce pos k : ℕ) → pos + k < 2 ^ 68 → (next_words k (generator_at key nonce pos)).1 ≡ generator_at key nonce (pos + k)
 unfolding word_bytes
 words_on key nonce pos zero h = ap (generator_at key nonce) (omega arith)
 words_on key nonce pos (suc k) h =
@@ -47,7 +47,7 @@ words_on key nonce pos (suc k) h =
     let place : (pos + k + 1) % 2 ^ 68 ≡ pos + suc k = omega arith in
     ap (λ (g : ChaCha). (next_word 10 g).1) before ∙ ap (generator_at key nonce) place
 
-length-words : (key : List ℕ) (nonce pos k : ℕ) → length (word_bytes (to_le_bytes w32) (next_word 10) k (generator_at key nonce pos)).0 ≡ 4 * k
+length-words : (key : List ℕ) (nonce pos k : ℕ) → length (next_words k (generator_at key nonce pos)).0 ≡ 4 * k
 unfolding word_bytes
 length-words key nonce pos zero = refl
 length-words key nonce pos (suc k) =
@@ -56,7 +56,7 @@ length-words key nonce pos (suc k) =
 
 -- the bytes of k words are those of the keystream
 words_are : (key : List ℕ) (nonce pos k i : ℕ) → pos + k < 2 ^ 68 → i < 4 * k
-    → get_or (word_bytes (to_le_bytes w32) (next_word 10) k (generator_at key nonce pos)).0 i 0 ≡ key_byte key nonce (4 * pos + i)
+    → get_or (next_words k (generator_at key nonce pos)).0 i 0 ≡ key_byte key nonce (4 * pos + i)
 unfolding word_bytes
 words_are key nonce pos zero i h l = absurd (omega arith)
 words_are key nonce pos (suc k) i h l =
@@ -74,50 +74,6 @@ words_are key nonce pos (suc k) i h l =
           ∙ key_byte_in key nonce (pos + k) (i - 4 * k) within
           ∙ ap (key_byte key nonce) (sym place)
     ]
-
-abbrev stream_from_state : ChaCha → Stream
-stream_from_state = stream_of {S = ChaCha} (steps_u32 (next_word 10))
-
-abbrev pub stream_from : List ℕ → ℕ → ℕ → Stream
-stream_from key nonce pos = stream_from_state (generator_at key nonce pos)
-
--- one more block of 64 bytes
-pub record IsBlock (key : List ℕ) (nonce i : ℕ) (bytes : List ℕ) (after : Stream) : Type 0 where
-  pub each : (k : ℕ) → k < 64 → get_or bytes k 0 ≡ key_byte key nonce (64 * i + k)
-  pub long : length bytes ≡ 64
-  pub next : after ≡ stream_from key nonce (16 * (i + 1))
-
-filled_is : (key : List ℕ) (nonce pos n : ℕ) (bytes : List ℕ) (now after : Stream) → n ≡ 64 → now ≡ stream_from key nonce pos → (bytes, after) ≡ fill_bytes n now
-    → ◌≡◌ {A = List ℕ × Stream} (bytes, after) ((fill_via_u32 (next_word 10) 64 (generator_at key nonce pos)).0, stream_from_state (fill_via_u32 (next_word 10) 64 (generator_at key nonce pos)).1)
-filled_is key nonce pos n bytes now after size was filled =
-    filled ∙ ap (λ (m : ℕ). fill_bytes m now) size ∙ ap (fill_bytes 64) was ∙ fill_bytes-stream_of {S = ChaCha} (steps_u32 (next_word 10)) 64 (generator_at key nonce pos)
-
--- the bytes of the next sixteen words
-next_bytes : (key : List ℕ) (nonce pos n : ℕ) (bytes : List ℕ) (now after : Stream) → n ≡ 64 → now ≡ stream_from key nonce pos → (bytes, after) ≡ fill_bytes n now
-    → bytes ≡ (word_bytes (to_le_bytes w32) (next_word 10) 16 (generator_at key nonce pos)).0
-next_bytes key nonce pos n bytes now after size was filled =
-    ap (λ (p : List ℕ × Stream). p.0) (filled_is key nonce pos n bytes now after size was filled)
-    ∙ take_all 64 (word_bytes (to_le_bytes w32) (next_word 10) 16 (generator_at key nonce pos)).0 (omega (arith, length-words key nonce pos 16))
-
-pub next_block : (key : List ℕ) (nonce i n : ℕ) (bytes : List ℕ) (now after : Stream) → 16 * (i + 1) < 2 ^ 68 → n ≡ 64
-    → now ≡ stream_from key nonce (16 * i) → (bytes, after) ≡ fill_bytes n now → IsBlock key nonce i bytes after
-next_block key nonce i n bytes now after fits size was filled =
-    let whole = next_bytes key nonce (16 * i) n bytes now after size was filled in
-    record {
-      each = each bytes whole;
-      long = ap length whole ∙ length-words key nonce (16 * i) 16;
-      next = ap (λ (p : List ℕ × Stream). p.1) (filled_is key nonce (16 * i) n bytes now after size was filled) ∙ words_later;
-    }
-  where
-    each : (bytes : List ℕ) → bytes ≡ (word_bytes (to_le_bytes w32) (next_word 10) 16 (generator_at key nonce (16 * i))).0 → (k : ℕ) → k < 64 → get_or bytes k 0 ≡ key_byte key nonce (64 * i + k)
-    each bytes whole k h =
-        let place : 4 * (16 * i) + k ≡ 64 * i + k = omega arith in
-        ap (λ (xs : List ℕ). get_or xs k 0) whole ∙ words_are key nonce (16 * i) 16 k (omega arith) h ∙ ap (key_byte key nonce) place
-
-    words_later : stream_from_state (word_bytes (to_le_bytes w32) (next_word 10) 16 (generator_at key nonce (16 * i))).1 ≡ stream_from key nonce (16 * (i + 1))
-    words_later =
-        let place : 16 * i + 16 ≡ 16 * (i + 1) = omega arith in
-        ap stream_from_state (words_on key nonce (16 * i) 16 (omega arith)) ∙ ap (stream_from key nonce) place
 
 -- bytes XORed lane by lane with the keystream's
 xored_front : (key : List ℕ) (nonce k : ℕ) (xs ys : List ℕ) → length xs ≤ length ys
@@ -143,35 +99,121 @@ get_or-first_chunks n (suc k) (suc i) xs d h =
     let place : n + n * i ≡ n * suc i = omega arith in
     get_or-first_chunks n k i (drop n xs) d (omega arith) ∙ ap (take n) (drop-drop (n * i) n xs ∙ ap (λ (m : ℕ). drop m xs) place)
 
--- one more block XORed
-pub block_more : (key : List ℕ) (nonce i : ℕ) (bytes out all block stream : List ℕ) (after : Stream) → 64 * (i + 1) ≤ length bytes
-    → out ++ xored_from key nonce (64 * i) (drop (64 * i) bytes) ≡ all → block ≡ take 64 (drop (64 * i) bytes) → IsBlock key nonce i stream after
-    → (out ++ zip2 bit_xor block stream) ++ xored_from key nonce (64 * (i + 1)) (drop (64 * (i + 1)) bytes) ≡ all
-block_more key nonce i bytes out all block stream after fits so_far is next =
-    let rest = drop (64 * i) bytes in
-    let place : 64 * i + 64 ≡ 64 * (i + 1) = omega arith in
-    let long : length block ≡ 64 = ap length is ∙ length-take-le 64 rest (omega (arith, length-drop (64 * i) bytes)) in
-    let after : drop (64 * (i + 1)) bytes ≡ drop 64 rest = ap (λ (m : ℕ). drop m bytes) (sym place) ∙ sym (drop-drop 64 (64 * i) bytes) in
-    let parts : block ++ drop 64 rest ≡ rest = ap (λ (b : List ℕ). b ++ drop 64 rest) is ∙ take-append-drop 64 rest in
-    let lanes : zip2 bit_xor block stream ≡ xored_from key nonce (64 * i) block = xored_front key nonce (64 * i) block stream (omega (arith, next.long)) (λ k h. next.each k (omega arith)) in
-    let there : 64 * i + length block ≡ 64 * (i + 1) = omega arith in
-    let joined : xored_from key nonce (64 * i) rest ≡ zip2 bit_xor block stream ++ xored_from key nonce (64 * (i + 1)) (drop (64 * (i + 1)) bytes) =
-    ap (xored_from key nonce (64 * i)) (sym parts) ∙ xored-append key nonce (64 * i) block (drop 64 rest)
-    ∙ ap (λ (b : List ℕ). b ++ xored_from key nonce (64 * i + length block) (drop 64 rest)) (sym lanes)
-    ∙ ap (λ (m : ℕ). zip2 bit_xor block stream ++ xored_from key nonce m (drop 64 rest)) there
-    ∙ ap (λ (r : List ℕ). zip2 bit_xor block stream ++ xored_from key nonce (64 * (i + 1)) r) (sym after) in
-    append_assoc out (zip2 bit_xor block stream) _ ∙ ap (λ (r : List ℕ). out ++ r) (sym joined) ∙ so_far
+-- words of the generator, XORed lane by lane, are the keystream's
+xored_words : (key : List ℕ) (nonce i : ℕ) (block : List ℕ) → 16 * i + 16 < 2 ^ 68 → length block ≡ 64
+    → zip2 bit_xor block (next_words 16 (generator_at key nonce (16 * i))).0 ≡ xored_from key nonce (64 * i) block
+xored_words key nonce i block fits long =
+    let words = (next_words 16 (generator_at key nonce (16 * i))).0 in
+    let all : length words ≡ 64 = length-words key nonce (16 * i) 16 in
+    let place : 4 * (16 * i) ≡ 64 * i = omega arith in
+    xored_front key nonce (64 * i) block words (omega (arith, all, long)) (λ k h. words_are key nonce (16 * i) 16 k (omega arith) (omega (arith, long)) ∙ ap (λ (m : ℕ). key_byte key nonce (m + k)) place)
 
--- what fills no block, with the front of one more block of the stream
-pub rest_more : (key : List ℕ) (nonce i : ℕ) (out all rest stream : List ℕ) (after : Stream) → length rest < 64
-    → out ++ xored_from key nonce (64 * i) rest ≡ all → IsBlock key nonce i stream after
-    → out ++ zip2 bit_xor rest stream ≡ all
-rest_more key nonce i out all rest stream after short so_far next =
-    ap (λ (r : List ℕ). out ++ r) (xored_front key nonce (64 * i) rest stream (omega (arith, next.long)) (λ k h. next.each k (omega arith))) ∙ so_far
+-- a block is XORed: what comes of it, and the generator a block on
+pub record IsXored (key : List ℕ) (nonce i : ℕ) (block xored : List ℕ) (after : ChaCha) : Type 0 where
+  pub value : xored ≡ xored_from key nonce (64 * i) block
+  pub later : after ≡ generator_at key nonce (16 * (i + 1))
 
--- nothing is left of one of the two
-pub zip2-nil : (xs ys : List ℕ) → (xs ≡ []) ⊎ (ys ≡ []) → zip2 bit_xor xs ys ≡ []
-zip2-nil [] ys e = refl
-zip2-nil (x ∷ xs) [] e = refl
-zip2-nil (x ∷ xs) (y ∷ ys) (inl e) = cc
-zip2-nil (x ∷ xs) (y ∷ ys) (inr e) = cc
+pub is_xored : (key : List ℕ) (nonce i : ℕ) (block xored : List ℕ) (before after : ChaCha) → 16 * i + 16 < 2 ^ 68 → length block ≡ 64
+    → before ≡ generator_at key nonce (16 * i) → xored ≡ zip2 bit_xor block (next_words 16 before).0 → after ≡ (next_words 16 before).1
+    → IsXored key nonce i block xored after
+is_xored key nonce i block xored before after fits long was value later =
+    let place : 16 * i + 16 ≡ 16 * (i + 1) = omega arith in
+    record {
+      value = value ∙ ap (λ (g : ChaCha). zip2 bit_xor block (next_words 16 g).0) was ∙ xored_words key nonce i block fits long;
+      later = later ∙ ap (λ (g : ChaCha). (next_words 16 g).1) was ∙ words_on key nonce (16 * i) 16 fits ∙ ap (generator_at key nonce) place;
+    }
+
+-- a list XORed, block by block
+pub joined : (key : List ℕ) (nonce i : ℕ) (block xored rest more : List ℕ) → length block ≡ 64 → xored ≡ xored_from key nonce (64 * i) block
+    → more ≡ xored_from key nonce (64 * (i + 1)) rest → xored ++ more ≡ xored_from key nonce (64 * i) (block ++ rest)
+joined key nonce i block xored rest more long first then_more =
+    let place : 64 * i + length block ≡ 64 * (i + 1) = omega arith in
+    ap (λ (x : List ℕ). x ++ more) first ∙ ap (λ (x : List ℕ). xored_from key nonce (64 * i) block ++ x) then_more
+    ∙ ap (λ (m : ℕ). xored_from key nonce (64 * i) block ++ xored_from key nonce m rest) (sym place)
+    ∙ sym (xored-append key nonce (64 * i) block rest)
+
+-- a run is its four blocks
+pub quarters : (run : List ℕ) → length run ≡ 256
+    → take 64 run ++ (take 64 (drop 64 run) ++ (take 64 (drop 128 run) ++ (take 64 (drop 192 run) ++ []))) ≡ run
+quarters run long =
+    let from = λ (n : ℕ). drop n run in
+    let last : take 64 (from 192) ++ [] ≡ from 192 = append-nil (take 64 (from 192)) ∙ take_all 64 (from 192) (omega (arith, length-drop 192 run, long)) in
+    let third : take 64 (from 128) ++ from 192 ≡ from 128 = ap (λ (r : List ℕ). take 64 (from 128) ++ r) (sym (drop-drop 64 128 run)) ∙ take-append-drop 64 (from 128) in
+    let second : take 64 (from 64) ++ from 128 ≡ from 64 = ap (λ (r : List ℕ). take 64 (from 64) ++ r) (sym (drop-drop 64 64 run)) ∙ take-append-drop 64 (from 64) in
+    ap (λ (r : List ℕ). take 64 run ++ (take 64 (from 64) ++ (take 64 (from 128) ++ r))) last
+    ∙ ap (λ (r : List ℕ). take 64 run ++ (take 64 (from 64) ++ r)) third
+    ∙ ap (λ (r : List ℕ). take 64 run ++ r) second
+    ∙ take-append-drop 64 run
+
+-- no word yet
+pub no_words : (g : ChaCha) → next_words 0 g ≡ ([], g)
+unfolding word_bytes
+no_words g = refl
+
+-- one more word
+pub word_more : (k : ℕ) (g h later : ChaCha) (bytes : List ℕ) (word : ℕ) → next_words k g ≡ (bytes, h) → (word, later) ≡ next_word 10 h
+    → next_words (suc k) g ≡ (bytes ++ to_le_bytes w32 word, later)
+unfolding word_bytes
+word_more k g h later bytes word before now =
+    ap (λ (p : List ℕ × ChaCha). (p.0 ++ to_le_bytes w32 (next_word 10 p.1).0, (next_word 10 p.1).1)) before
+    ∙ ap (λ (q : ℕ × ChaCha). (bytes ++ to_le_bytes w32 q.0, q.1)) (sym now)
+
+-- the bytes of words in lanes
+pub lanes_are : (words : List ℕ) → Each1 (λ w. w < 2 ^ 32) words → digits_l 256 (4 * length words) (number_l (2 ^ 32) words) ≡ flat_map (to_le_bytes w32) words
+lanes_are [] each = refl
+lanes_are (w ∷ ws) each = first w (number_l (2 ^ 32) ws) (4 * length ws) _ _ (omega arith) each.0 (lanes_are ws each.1)
+  where
+    first : (x r n m : ℕ) (rest : List ℕ) → m ≡ suc (suc (suc (suc n))) → x < 2 ^ 32 → digits_l 256 n r ≡ rest → digits_l 256 m (x + 2 ^ 32 * r) ≡ to_le_bytes w32 x ++ rest
+    first x r n m rest size small is =
+        let y = x + 2 ^ 32 * r in
+        let byte0 : y % 256 ≡ x % 256 = omega arith in
+        let byte1 : y / 256 % 256 ≡ x / 256 ^ 1 % 256 = omega arith in
+        let byte2 : y / 256 / 256 % 256 ≡ x / 256 ^ 2 % 256 = omega arith in
+        let byte3 : y / 256 / 256 / 256 % 256 ≡ x / 256 ^ 3 % 256 = omega arith in
+        let over : y / 256 / 256 / 256 / 256 ≡ r = omega arith in
+        ap (λ (k : ℕ). digits_l 256 k y) size
+        ∙ (λ i. byte0 i ∷ byte1 i ∷ byte2 i ∷ byte3 i ∷ digits_l 256 n (over i))
+        ∙ ap (λ (l : List ℕ). to_le_bytes w32 x ++ l) is
+
+-- a run has 256 bytes, XORed too
+pub run_long : (key : List ℕ) (nonce i : ℕ) (bytes run xored : List ℕ) → 256 * (i + 1) ≤ length bytes → run ≡ take 256 (drop (256 * i) bytes)
+    → xored ≡ xored_from key nonce (256 * i) run → length xored ≡ 256
+run_long key nonce i bytes run xored fits is value =
+    ap length value ∙ length-xored key nonce (256 * i) run ∙ ap length is ∙ length-take-le 256 (drop (256 * i) bytes) (omega (arith, length-drop (256 * i) bytes))
+
+-- one more run XORed
+pub run_more : (key : List ℕ) (nonce i : ℕ) (bytes out all run xored : List ℕ) → 256 * (i + 1) ≤ length bytes
+    → out ++ xored_from key nonce (256 * i) (drop (256 * i) bytes) ≡ all → run ≡ take 256 (drop (256 * i) bytes) → xored ≡ xored_from key nonce (256 * i) run
+    → (out ++ xored) ++ xored_from key nonce (256 * (i + 1)) (drop (256 * (i + 1)) bytes) ≡ all
+run_more key nonce i bytes out all run xored fits so_far is next =
+    let rest = drop (256 * i) bytes in
+    let place : 256 * i + 256 ≡ 256 * (i + 1) = omega arith in
+    let long : length run ≡ 256 = ap length is ∙ length-take-le 256 rest (omega (arith, length-drop (256 * i) bytes)) in
+    let after : drop (256 * (i + 1)) bytes ≡ drop 256 rest = ap (λ (m : ℕ). drop m bytes) (sym place) ∙ sym (drop-drop 256 (256 * i) bytes) in
+    let parts : run ++ drop 256 rest ≡ rest = ap (λ (b : List ℕ). b ++ drop 256 rest) is ∙ take-append-drop 256 rest in
+    let there : 256 * i + length run ≡ 256 * (i + 1) = omega arith in
+    let joined : xored_from key nonce (256 * i) rest ≡ xored ++ xored_from key nonce (256 * (i + 1)) (drop (256 * (i + 1)) bytes) =
+    ap (xored_from key nonce (256 * i)) (sym parts) ∙ xored-append key nonce (256 * i) run (drop 256 rest)
+    ∙ ap (λ (b : List ℕ). b ++ xored_from key nonce (256 * i + length run) (drop 256 rest)) (sym next)
+    ∙ ap (λ (m : ℕ). xored ++ xored_from key nonce m (drop 256 rest)) there
+    ∙ ap (λ (r : List ℕ). xored ++ xored_from key nonce (256 * (i + 1)) r) (sym after) in
+    append_assoc out xored _ ∙ ap (λ (r : List ℕ). out ++ r) (sym joined) ∙ so_far
+
+-- the front of a list, XORed
+pub take-xored : (key : List ℕ) (nonce k n : ℕ) (xs : List ℕ) → take n (xored_from key nonce k xs) ≡ xored_from key nonce k (take n xs)
+take-xored key nonce k zero xs = refl
+take-xored key nonce k (suc n) [] = refl
+take-xored key nonce k (suc n) (x ∷ xs) = ap (λ (r : List ℕ). bit_xor x (key_byte key nonce k) ∷ r) (take-xored key nonce (k + 1) n xs)
+
+-- the front of a list whose front was written over
+pub front_of : (xs ys zs : List ℕ) → ys ≡ xs → take (length xs) (ys ++ zs) ≡ xs
+front_of xs ys zs same = ap (λ (l : List ℕ). take (length xs) (l ++ zs)) same ∙ take-append_seam xs zs
+
+-- what fills no run, XORed as the front of one
+pub rest_more : (key : List ℕ) (nonce i : ℕ) (bytes out all rest run xored : List ℕ) → rest ≡ drop (256 * i) bytes
+    → out ++ xored_from key nonce (256 * i) (drop (256 * i) bytes) ≡ all → xored ≡ xored_from key nonce (256 * i) run → take (length rest) run ≡ rest
+    → out ++ take (length rest) xored ≡ all
+rest_more key nonce i bytes out all rest run xored is so_far value front =
+    ap (λ (x : List ℕ). out ++ take (length rest) x) value
+    ∙ ap (λ (x : List ℕ). out ++ x) (take-xored key nonce (256 * i) (length rest) run ∙ ap (xored_from key nonce (256 * i)) (front ∙ is))
+    ∙ so_far

@@ -3,9 +3,10 @@ use Rattle.std.proofs.Common.{◌≡◌, ℕ, suc, ◌+◌, ◌^◌, ◌<◌, �
 use Rattle.std.proofs.lemmas.Bool.{le-ltb}
 use Rattle.std.proofs.lemmas.Nat.{from_be_bytes-to_be_bytes_8}
 use Rattle.std.specs.Int.Bits.{bit_xor, xor_assoc, xor_self, xor_zero_r}
+use Rattle.rand_chacha.specs.ChaCha.{key_of}
 use Rattle.oram_bucket.specs.Keystream.{key_byte, xored_from, chacha_sealing, chacha_opening}
 
-length-xored : (key : List ℕ) (nonce k : ℕ) (xs : List ℕ) → length (xored_from key nonce k xs) ≡ length xs
+pub length-xored : (key : List ℕ) (nonce k : ℕ) (xs : List ℕ) → length (xored_from key nonce k xs) ≡ length xs
 length-xored key nonce k [] = refl
 length-xored key nonce k (x ∷ xs) = ap suc (length-xored key nonce (k + 1) xs)
 
@@ -19,12 +20,12 @@ xored-xored key nonce k (x ∷ xs) =
     ap (λ (y : ℕ). y ∷ xored_from key nonce (k + 1) (xored_from key nonce (k + 1) xs)) (xor_twice x (key_byte key nonce k))
     ∙ ap (λ (ys : List ℕ). x ∷ ys) (xored-xored key nonce (k + 1) xs)
 
-pub chacha_longer : (key : List ℕ) (nonce : ℕ) (plain : List ℕ) → length (chacha_sealing key nonce plain) ≡ 8 + length plain
-chacha_longer key nonce plain = omega (arith, length-xored key nonce 0 plain)
+pub chacha_longer : (seed : List ℕ) (nonce : ℕ) (plain : List ℕ) → length (chacha_sealing seed nonce plain) ≡ 8 + length plain
+chacha_longer seed nonce plain = omega (arith, length-xored (key_of seed) nonce 0 plain)
 
-pub chacha_undoes : (key : List ℕ) (nonce : ℕ) (plain : List ℕ) → nonce < 2 ^ 64 → chacha_opening key (chacha_sealing key nonce plain) ≡ Some plain
-chacha_undoes key nonce plain small =
-    let long : 8 ≤ length (chacha_sealing key nonce plain) = omega (arith, chacha_longer key nonce plain) in
-    rw (le-ltb (length (chacha_sealing key nonce plain)) 8 long)
-    (ap (λ (n : ℕ). Some (xored_from key n 0 (xored_from key nonce 0 plain))) (from_be_bytes-to_be_bytes_8 nonce small)
-    ∙ ap (λ (xs : List ℕ). Some xs) (xored-xored key nonce 0 plain))
+pub chacha_undoes : (seed : List ℕ) (nonce : ℕ) (plain : List ℕ) → nonce < 2 ^ 64 → chacha_opening seed (chacha_sealing seed nonce plain) ≡ Some plain
+chacha_undoes seed nonce plain small =
+    let long : 8 ≤ length (chacha_sealing seed nonce plain) = omega (arith, chacha_longer seed nonce plain) in
+    rw (le-ltb (length (chacha_sealing seed nonce plain)) 8 long)
+    (ap (λ (n : ℕ). Some (xored_from (key_of seed) n 0 (xored_from (key_of seed) nonce 0 plain))) (from_be_bytes-to_be_bytes_8 nonce small)
+    ∙ ap (λ (xs : List ℕ). Some xs) (xored-xored (key_of seed) nonce 0 plain))

@@ -1,15 +1,17 @@
 //! A sealer by the stream cipher ChaCha20.
-ghost use Rattle.std.specs.Prelude.{◌≡◌, ◌+◌, ◌<◌, ◌++◌, OnOk, OnErr, length, vec_len, vec_capacity, bit_xor};
+ghost use Rattle.std.specs.Prelude.{◌≡◌, ℕ, List, ◌+◌, ◌*◌, ◌^◌, ◌<◌, ◌++◌, OnOk, OnErr, length, vec_len, vec_capacity, bit_xor};
 ghost use Rattle.std.specs.Simd.Lanes.{zip2};
 ghost use Rattle.rand_chacha.specs.ChaCha.{key_of};
-ghost use Rattle.oram_bucket.specs.Keystream.{xored_from, chacha_sealing, chacha_opening};
+ghost use Rattle.oram_bucket.specs.Keystream.{next_words, xored_from, chacha_sealing, chacha_opening};
 ghost use Rattle.oram_bucket.specs.ChaChaLaws.{chacha_longer, chacha_undoes};
+ghost use Rattle.std.specs.List.{flat_map};
 ghost use Rattle.std.proofs.Common.{arith};
 
 use crate::sealing::{OpenFault, Sealer};
 use byteorder::{BigEndian, ByteOrder};
 use rand_chacha::ChaCha20Rng;
-use rand_core::{Rng, SeedableRng};
+use rand_core::SeedableRng;
+use rand_core::utils::NextWord;
 use std::alloc::{AllocError, Global};
 use std::fmt;
 use std::simd::prelude::*;
@@ -19,8 +21,14 @@ mod tests;
 
 const NONCE_LEN: usize = 8;
 
-// What a block of ChaCha20 has.
+// What a block of ChaCha20 has, and a run of blocks, as many as the generator makes at a time.
 const BLOCK_LEN: usize = 64;
+
+const RUN_BLOCKS: usize = 4;
+
+const RUN_LEN: usize = 256;
+
+const RUN_WORDS: u128 = 64;
 
 /// ChaCha20 (RFC 8439) under one key, where each nonce has a stream of its own.
 ///
@@ -94,35 +102,75 @@ fn append_xored(
     nonce: u64,
     bytes: &[u8],
 ) -> Result<(), AllocError>
-    ensures ok { OnOk result (out.new.items ≡ out.old.items ++ xored_from key nonce 0 bytes.now) }
+    ensures ok { OnOk result (out.new.items ≡ out.old.items ++ xored_from (key_of key) nonce 0 bytes.now) }
     ensures full { OnErr result (vec_capacity out.old < vec_len out.old + length bytes.now) }
 {
     let mut generator = ChaCha20Rng::from_seed(key);
     generator.set_stream(nonce);
-    let (blocks, rest) = bytes.as_chunks::<BLOCK_LEN>();
-    let mut stream = [0; BLOCK_LEN];
-    for block in blocks {
-        generator.fill_bytes(&mut stream);
-        out.extend_from_slice(&xored_lanes(*block, stream))?;
+    let (runs, rest) = bytes.as_chunks::<RUN_LEN>();
+    for (place, run) in runs.iter().enumerate() {
+        let xored = xored_run(&mut generator, place, run);
+        out.extend_from_slice(xored.as_flattened())?;
     }
-    generator.fill_bytes(&mut stream);
-    append_rest(out, rest, &stream)
+    let mut last = [0; RUN_LEN];
+    last[..rest.len()].copy_from_slice(rest);
+    let xored = xored_run(&mut generator, runs.len(), &last);
+    out.extend_from_slice(&xored.as_flattened()[..rest.len()])
 }
 
-/// The bytes of two blocks XORed, all lanes at once.
-fn xored_lanes(block: [u8; BLOCK_LEN], stream: [u8; BLOCK_LEN]) -> [u8; BLOCK_LEN]
-    ensures { result ≡ zip2 bit_xor block stream }
+/// The run at a place of a stream, XORed with its keystream.
+#[inline(always)]
+fn xored_run(
+    generator: &mut ChaCha20Rng,
+    place: usize,
+    run: &[u8; RUN_LEN],
+) -> [[u8; BLOCK_LEN]; RUN_BLOCKS]
+    requires { 256 * place < 2 ^ 64 }
+    ensures value { flat_map (λ x. x) result ≡ xored_from generator.old.key generator.old.stream (256 * place) run.now }
+    ensures later { generator.new ≡ record generator.old { word_pos = 64 * (place + 1) } }
 {
-    (u8x64::from_array(block) ^ u8x64::from_array(stream)).to_array()
+    // (told its place, the generator makes its words here, with no test before each)
+    generator.set_word_pos(RUN_WORDS * place as u128);
+    [
+        xored_block(generator, &run[..BLOCK_LEN]),
+        xored_block(generator, &run[BLOCK_LEN..2 * BLOCK_LEN]),
+        xored_block(generator, &run[2 * BLOCK_LEN..3 * BLOCK_LEN]),
+        xored_block(generator, &run[3 * BLOCK_LEN..]),
+    ]
 }
 
-/// Puts what fills no block at the end of `out`, byte by byte.
-fn append_rest(out: &mut Vec<u8>, rest: &[u8], stream: &[u8]) -> Result<(), AllocError>
-    ensures ok { OnOk result (out.new.items ≡ out.old.items ++ zip2 bit_xor rest.now stream.now) }
-    ensures full { OnErr result (vec_capacity out.old < vec_len out.old + length rest.now) }
+/// A block XORed with the next one of the keystream, all lanes at once.
+#[inline(always)]
+fn xored_block(generator: &mut ChaCha20Rng, block: &[u8]) -> [u8; BLOCK_LEN]
+    requires { length block.now ≡ 64 }
+    ensures value { result ≡ zip2 bit_xor block.now (next_words 16 generator.old).0 }
+    ensures later { generator.new ≡ (next_words 16 generator.old).1 }
 {
-    for (byte, key) in rest.iter().zip(stream) {
-        out.push(*byte ^ *key)?;
-    }
-    Ok(())
+    (u8x64::from_slice(block) ^ next_lanes(generator)).to_array()
+}
+
+/// The bytes of the next sixteen words.
+#[inline(always)]
+fn next_lanes(generator: &mut ChaCha20Rng) -> u8x64
+    ensures { (result, generator.new) ≡ next_words 16 generator.old }
+{
+    let words = [
+        generator.next_word(),
+        generator.next_word(),
+        generator.next_word(),
+        generator.next_word(),
+        generator.next_word(),
+        generator.next_word(),
+        generator.next_word(),
+        generator.next_word(),
+        generator.next_word(),
+        generator.next_word(),
+        generator.next_word(),
+        generator.next_word(),
+        generator.next_word(),
+        generator.next_word(),
+        generator.next_word(),
+        generator.next_word(),
+    ];
+    u32x16::from_array(words).to_le_bytes()
 }

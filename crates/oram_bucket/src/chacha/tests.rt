@@ -1,4 +1,5 @@
 use super::*;
+use rand_core::Rng;
 use std::test::Fail;
 
 /// The keystream of the zero key and nonce 0: RFC 8439, appendix A.1, test vectors 1 and 2.
@@ -52,10 +53,12 @@ fn the_bytes_of_a_zero_key(rt: HostRuntime) -> Result<(), Fail> {
 }
 
 #[test]
-fn lanes_are_as_single_bytes(rt: HostRuntime) -> Result<(), Fail> {
+fn runs_are_as_single_bytes(rt: HostRuntime) -> Result<(), Fail> {
     let alloc = rt.alloc();
     let sealer = ChaChaSeal { key: [7; 32] };
-    for len in 0..131 {
+    for len in [
+        0, 1, 7, 8, 63, 64, 65, 128, 255, 256, 257, 300, 511, 512, 513, 600,
+    ] {
         let plain = retried!(pattern(alloc, len));
         let nonce = 0x0102_0304_0506_0708 + len as u64;
         let sealed = retried!(sealer.seal(alloc, nonce, &plain));
