@@ -2,7 +2,7 @@
 
 ghost use Rattle.std.specs.Prelude.{◌≤◌};
 
-use crate::system::{new_store, report_memory};
+use crate::system::{close, new_store, report_memory};
 use oram_bytes::Bytes;
 use oram_geometry::Device;
 use oram_host::Server;
@@ -238,7 +238,8 @@ pub(crate) fn measure(rt: &HostRuntime, file: &str) -> io::Result<()> {
         return Ok(());
     };
     let mut store = new_store(rt, file)?;
-    measure_shape(rt, shape, &mut store, file)?;
-    let _ = store.close();
+    let measured = measure_shape(rt, shape, &mut store, file);
+    close(store)?;
+    measured?;
     report_memory(rt)
 }

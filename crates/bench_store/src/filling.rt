@@ -1,13 +1,13 @@
 //! A file of some size, filled and opened again.
 
 use crate::accesses::{Shape, first_shape, format};
-use crate::system::{new_store, opened, report_memory};
+use crate::system::{close, new_store, opened, report_memory};
 use oram_store::Store;
 use oram_wire::fetch_header;
 use sqlite::Alter;
 use std::alloc::{AllocError, Global};
 use std::io;
-use std::time::Instant;
+use std::time::{Duration, Instant};
 
 /// How many paths are fetched from a file that was filled.
 const FETCHES: u32 = 1_000;
@@ -29,15 +29,15 @@ pub(crate) fn fill(rt: &HostRuntime, file: &str, depth: &str) -> io::Result<()> 
     let Some(shape) = shape_of(depth) else {
         return Err(io::ErrorKind::InvalidInput.into());
     };
-    let mut store = new_store(rt, file)?;
     let start = Instant::now(rt)?;
-    let taken = format(rt.alloc(), &mut store, shape)?;
-    let settled = store.close();
+    let mut store = new_store(rt, file)?;
+    let taken = format(rt.alloc(), &mut store, shape);
+    close(store)?;
     println!(rt;
-        "{taken} records of {} bytes put and closed in {} ms: {}",
+        "{} records of {} bytes put and closed in {} ms",
+        taken?,
         shape.record_len,
-        start.elapsed(rt)?.as_millis(),
-        settled.is_ok()
+        start.elapsed(rt)?.as_millis()
     )?;
     report_memory(rt)
 }
@@ -53,16 +53,30 @@ fn fetch_paths<S: Alter>(alloc: Global, store: &mut Store<S>) -> Result<u32, All
     Ok(found)
 }
 
-pub(crate) fn reopen(rt: &HostRuntime, file: &str) -> io::Result<()> {
-    let start = Instant::now(rt)?;
-    let mut store = opened(rt, file)?;
-    println!(rt; "opened in {} ms", start.elapsed(rt)?.as_millis())?;
+/// Tells how long the opening took, and the fetching.
+fn fetch_first<S: Alter>(
+    rt: &HostRuntime,
+    store: &mut Store<S>,
+    opening: Duration,
+) -> io::Result<()> {
+    println!(rt; "opened in {} ms", opening.as_millis())?;
     report_memory(rt)?;
     let start = Instant::now(rt)?;
-    let found = fetch_paths(rt.alloc(), &mut store)?;
+    let found = fetch_paths(rt.alloc(), store)?;
     println!(rt;
         "{found} of {FETCHES} paths fetched in {} ms",
         start.elapsed(rt)?.as_millis()
     )?;
     report_memory(rt)
+}
+
+pub(crate) fn reopen(rt: &HostRuntime, file: &str) -> io::Result<()> {
+    let start = Instant::now(rt)?;
+    let mut store = opened(rt, file)?;
+    let fetched = match start.elapsed(rt) {
+        Ok(opening) => fetch_first(rt, &mut store, opening),
+        Err(error) => Err(error),
+    };
+    close(store)?;
+    fetched
 }

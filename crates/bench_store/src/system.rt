@@ -22,6 +22,14 @@ pub(crate) fn opened(rt: &HostRuntime, name: &str) -> io::Result<BucketFile> {
     }
 }
 
+/// Closes a store, so that all of it lies in its file. It is what ends every use of one.
+pub(crate) fn close(store: BucketFile) -> io::Result<()> {
+    match store.close() {
+        Ok(()) => Ok(()),
+        Err(_) => Err(io::ErrorKind::Other.into()),
+    }
+}
+
 /// Prints the line of the process's status that tells the most memory that it had.
 pub(crate) fn report_memory(rt: &(impl Files + AllocGlobal + Print)) -> io::Result<()> {
     let status = fs::read_to_string(rt, "/proc/self/status")?;
