@@ -7,7 +7,7 @@ use crate::visits::{Visit, line};
 use jiff::Timestamp;
 use oram_answering::{ServeFault, host_serve};
 use oram_edge::{InputFault, SocketFault, buffered, bytes_in, listen};
-use oram_store::open_store;
+use oram_store::{Store, StoreFault, open_store};
 use sqlite::Alter;
 use std::alloc::{AllocError, Global};
 use std::io::{Error, ErrorKind, Read, Write};
@@ -113,10 +113,10 @@ pub(crate) fn not_accepted(error: &Error) -> Result<(), Fault> {
 }
 
 /// Serves connections, one after the other, until the store has to be opened again.
-fn serve_all<R: Clock + Eprint + AllocGlobal, L: OpenListener, S: Alter>(
+fn serve_all<R: Clock + Eprint + AllocGlobal, L: OpenListener, S: Alter + Drop>(
     rt: &R,
     listener: &L,
-    hosted: &mut Hosted<S>,
+    mut hosted: Hosted<S>,
 ) -> Result<(), Fault>
 where
     L::Stream: Read + Write + OpenStream,
@@ -124,7 +124,7 @@ where
     for _ in 0..u64::MAX {
         match listener.accept() {
             Ok((stream, peer)) => {
-                if receive(rt, stream, peer, hosted).is_err() {
+                if receive(rt, stream, peer, &mut hosted).is_err() {
                     let _passed_over = rt.eprint(
                         "oramdisk: no memory for a connection, or for its line\n",
                     );
@@ -139,15 +139,28 @@ where
     Ok(())
 }
 
+/// Serves a store that was opened, until it has to be opened again.
+fn serve_opened<R: Clock + Eprint + AllocGlobal, L: OpenListener, S: Alter + Drop>(
+    rt: &R,
+    listener: &L,
+    opened: Result<Store<S>, StoreFault>,
+    file: &str,
+) -> Result<(), Fault>
+where
+    L::Stream: Read + Write + OpenStream,
+{
+    match opened {
+        Ok(store) => serve_all(rt, listener, Hosted::new(store)),
+        Err(why) => Err(store_fault(rt.alloc(), file, why)),
+    }
+}
+
 /// Opens the file and serves it, until it has to be opened again.
 fn serve_file<L: OpenListener>(rt: &HostRuntime, listener: &L, file: &str) -> Result<(), Fault>
 where
     L::Stream: Read + Write + OpenStream,
 {
-    match open_store(rt, rt.alloc(), file) {
-        Ok(store) => serve_all(rt, listener, &mut Hosted::new(store)),
-        Err(why) => Err(store_fault(rt.alloc(), file, why)),
-    }
+    serve_opened(rt, listener, open_store(rt, rt.alloc(), file), file)
 }
 
 /// Keeps buckets for others, until it is ended. It listens before it opens the file, so a port that is taken leaves the file alone.
