@@ -5,6 +5,7 @@ mod remade;
 mod shelf;
 mod worlds;
 
+use self::play::{ONE_TREE, THREE_TREES, device_of};
 use self::shelf::{Shelf, empty_shelf};
 use crate::{Command, Core, Event, Note, Reaction, Reason, Refusal, ReplyBody, run};
 use oram_bucket::{ChaChaSeal, PlainSeal, Sealer};
@@ -114,56 +115,71 @@ fn three_trees(rt: HostRuntime) -> Result<(), Fail> {
 }
 
 /// Reads of two blocks that share their map blocks, and of the first of them again.
+const READS: [(u32, [u64; 6]); 3] = [
+    (37, [10, 11, 12, 13, 14, 15]),
+    (38, [20, 21, 22, 23, 24, 25]),
+    (37, [30, 31, 32, 33, 34, 35]),
+];
+
+const SHOWN: [Sign; 21] = [
+    ("fetch", 2, 2),
+    ("store", 2, 2),
+    ("fetch", 1, 12),
+    ("store", 1, 12),
+    ("fetch", 0, 10),
+    ("store", 0, 10),
+    ("data", 1, 0),
+    ("fetch", 2, 3),
+    ("store", 2, 3),
+    ("fetch", 1, 13),
+    ("store", 1, 13),
+    ("fetch", 0, 20),
+    ("store", 0, 20),
+    ("data", 1, 1),
+    ("fetch", 2, 1),
+    ("store", 2, 1),
+    ("fetch", 1, 7),
+    ("store", 1, 7),
+    ("fetch", 0, 11),
+    ("store", 0, 11),
+    ("data", 1, 2),
+];
+
 fn accesses_of_three_trees(rt: &impl Abort, alloc: Global) -> Result<(), AllocError> {
-    let device = Device::new(64, 16, 4, 4, 100).expect(rt, "a device");
-    let (mut core, mut shelf) = formatted(rt, alloc, device, PlainSeal)?;
-    assert_eq!(rt; core.device().trees(), 3);
+    let (mut core, mut shelf) = formatted(rt, alloc, device_of(rt, THREE_TREES), PlainSeal)?;
     let mut shown = Vec::new(alloc);
-    let submissions: [(u32, [u64; 6]); 3] = [
-        (37, [10, 11, 12, 13, 14, 15]),
-        (38, [20, 21, 22, 23, 24, 25]),
-        (37, [30, 31, 32, 33, 34, 35]),
-    ];
-    for (ticket, (address, words)) in submissions.iter().enumerate() {
+    for (ticket, (address, words)) in READS.iter().enumerate() {
         let event = read(alloc, 1, *address, words)?;
-        let (note, data) = drain(rt, alloc, &mut core, &mut shelf, &event, &mut shown)?;
-        assert_eq!(rt; note, Note::Accepted(ticket as u64));
-        assert_eq!(rt; data, Some(Bytes::copy(alloc, &[0; 16])?));
+        let drained = drain(rt, alloc, &mut core, &mut shelf, &event, &mut shown)?;
+        assert_drained(rt, &drained, Note::Accepted(ticket as u64), Some([0; 16]));
     }
-    let expected: [Sign; 21] = [
-        ("fetch", 2, 2),
-        ("store", 2, 2),
-        ("fetch", 1, 12),
-        ("store", 1, 12),
-        ("fetch", 0, 10),
-        ("store", 0, 10),
-        ("data", 1, 0),
-        ("fetch", 2, 3),
-        ("store", 2, 3),
-        ("fetch", 1, 13),
-        ("store", 1, 13),
-        ("fetch", 0, 20),
-        ("store", 0, 20),
-        ("data", 1, 1),
-        ("fetch", 2, 1),
-        ("store", 2, 1),
-        ("fetch", 1, 7),
-        ("store", 1, 7),
-        ("fetch", 0, 11),
-        ("store", 0, 11),
-        ("data", 1, 2),
-    ];
-    assert_eq!(rt; shown.as_slice(), expected.as_slice());
+    assert_eq!(rt; shown.as_slice(), SHOWN.as_slice());
+    assert_eq!(rt; told(&core), (3, 0, true, None));
+    assert_no_stash(rt, &core);
+    Ok(())
+}
+
+/// Whether a step had this note, and its last reply this data.
+fn assert_drained(
+    rt: &impl Abort,
+    drained: &(Note, Option<Bytes>),
+    note: Note,
+    data: Option<[u8; 16]>,
+) {
+    let (told, read) = drained;
+    assert_eq!(rt; *told, note);
     assert_eq!(rt;
-        (core.next_ticket(), core.waiting(), core.is_idle()),
-        (3, 0, true)
+        read.as_ref().map(Bytes::as_slice),
+        data.as_ref().map(|data| data.as_slice())
     );
-    assert_eq!(rt; core.failure(), None);
-    // Three blocks at most fit into the root's bucket.
+}
+
+/// Three blocks at most fit into the root's bucket.
+fn assert_no_stash(rt: &impl Abort, core: &Core<PlainSeal>) {
+    assert_eq!(rt; core.device().trees(), 3);
     for tree in 0..core.device().trees() {
         assert_eq!(rt; core.stash_len(tree), 0, "in tree {tree}");
     }
-    Ok(())
 }
 
 #[test]
@@ -176,22 +192,28 @@ fn sealed_trees_answer_as_an_array(rt: HostRuntime) -> Result<(), Fail> {
 
 /// Blocks that are written and read through three sealed trees.
 fn written_and_read(rt: &impl Abort, alloc: Global) -> Result<(), AllocError> {
-    let device = Device::new(64, 16, 4, 4, 100).expect(rt, "a device");
-    let (mut core, mut shelf) = formatted(rt, alloc, device, ChaChaSeal { key: [7; 32] })?;
+    let sealer = ChaChaSeal { key: [7; 32] };
+    let (mut core, mut shelf) = formatted(rt, alloc, device_of(rt, THREE_TREES), sealer)?;
     let mut shown = Vec::new(alloc);
-    for turn in 0..4u8 {
-        let words = [u64::from(turn); 6];
-        let event = write(alloc, 9 * u32::from(turn), &[turn + 1; 16], &words)?;
-        let (_, data) = drain(rt, alloc, &mut core, &mut shelf, &event, &mut shown)?;
-        assert_eq!(rt; data, None);
-    }
-    for turn in 0..4u8 {
-        let words = [u64::from(turn) + 9; 6];
-        let event = read(alloc, 2, 9 * u32::from(turn), &words)?;
-        let (_, data) = drain(rt, alloc, &mut core, &mut shelf, &event, &mut shown)?;
-        assert_eq!(rt; data, Some(Bytes::copy(alloc, &[turn + 1; 16])?));
+    for turn in 0..8u8 {
+        let (event, data) = written_or_read(alloc, turn)?;
+        let drained = drain(rt, alloc, &mut core, &mut shelf, &event, &mut shown)?;
+        assert_drained(rt, &drained, Note::Accepted(u64::from(turn)), data);
     }
     Ok(())
+}
+
+/// The event of a turn and the data that it is answered with: four blocks are written, and then read.
+fn written_or_read(alloc: Global, turn: u8) -> Result<(Event, Option<[u8; 16]>), AllocError> {
+    let block = turn % 4;
+    let address = 9 * u32::from(block);
+    let bytes = [block + 1; 16];
+    let words = [u64::from(turn) + 5; 6];
+    Ok(if turn < 4 {
+        (write(alloc, address, &bytes, &words)?, None)
+    } else {
+        (read(alloc, 2, address, &words)?, Some(bytes))
+    })
 }
 
 /// An event of a table.
@@ -247,23 +269,22 @@ fn an_idle_core_refuses(rt: HostRuntime) -> Result<(), Fail> {
     Ok(())
 }
 
+const REFUSED: [(Happening, Note); 6] = [
+    (Happening::Answer(&[0x80]), Note::Unexpected),
+    (Happening::Lost, Note::Unexpected),
+    (Happening::Retry, Note::Unexpected),
+    (
+        Happening::Read(8, &[0, 0]),
+        Note::Refused(Refusal::BadAddress),
+    ),
+    (Happening::Write(7, 15), Note::Refused(Refusal::BadLength)),
+    (Happening::Read(7, &[0]), Note::Refused(Refusal::BadWords)),
+];
+
 fn refused_when_idle(rt: &impl Abort, alloc: Global) -> Result<(), AllocError> {
-    let device = Device::new(8, 16, 4, 8, 100).expect(rt, "a device");
-    let (mut core, _) = formatted(rt, alloc, device, PlainSeal)?;
-    let table = [
-        (Happening::Answer(&[0x80]), Note::Unexpected),
-        (Happening::Lost, Note::Unexpected),
-        (Happening::Retry, Note::Unexpected),
-        (
-            Happening::Read(8, &[0, 0]),
-            Note::Refused(Refusal::BadAddress),
-        ),
-        (Happening::Write(7, 15), Note::Refused(Refusal::BadLength)),
-        (Happening::Read(7, &[0]), Note::Refused(Refusal::BadWords)),
-    ];
-    let sent = follow(rt, alloc, &mut core, &table)?;
-    assert_eq!(rt; sent.len(), 0);
-    assert_eq!(rt; core.is_idle(), true);
+    let (mut core, _) = formatted(rt, alloc, device_of(rt, ONE_TREE), PlainSeal)?;
+    let sent = follow(rt, alloc, &mut core, &REFUSED)?;
+    assert_eq!(rt; (sent.len(), core.is_idle()), (0, true));
     Ok(())
 }
 
@@ -276,26 +297,27 @@ fn losses_and_a_failure(rt: HostRuntime) -> Result<(), Fail> {
 }
 
 /// A message that is lost twice, and an answer that fails the device.
+const LOST_TWICE: [(Happening, Note); 11] = [
+    (Happening::Read(5, &[6, 3]), Note::Accepted(0)),
+    (Happening::Answer(&[0x81, 8]), Note::Stalled),
+    (Happening::Answer(&[0x80]), Note::Unexpected),
+    (Happening::Retry, Note::Resent),
+    (Happening::Retry, Note::Unexpected),
+    (Happening::Lost, Note::Stalled),
+    (Happening::Lost, Note::Unexpected),
+    (Happening::Retry, Note::Resent),
+    (
+        Happening::Answer(&[0x81, 6]),
+        Note::FailedNow(Reason::HostRefused(6)),
+    ),
+    (Happening::Retry, Note::Unexpected),
+    (Happening::Read(5, &[6, 3]), Note::Refused(Refusal::Failed)),
+];
+
 fn lost_and_failed(rt: &impl Abort, alloc: Global) -> Result<(), AllocError> {
-    let device = Device::new(8, 16, 4, 8, 100).expect(rt, "a device");
-    let (mut core, _) = formatted(rt, alloc, device, PlainSeal)?;
-    let failed = Reason::HostRefused(6);
-    let table = [
-        (Happening::Read(5, &[6, 3]), Note::Accepted(0)),
-        (Happening::Answer(&[0x81, 8]), Note::Stalled),
-        (Happening::Answer(&[0x80]), Note::Unexpected),
-        (Happening::Retry, Note::Resent),
-        (Happening::Retry, Note::Unexpected),
-        (Happening::Lost, Note::Stalled),
-        (Happening::Lost, Note::Unexpected),
-        (Happening::Retry, Note::Resent),
-        (Happening::Answer(&[0x81, 6]), Note::FailedNow(failed)),
-        (Happening::Retry, Note::Unexpected),
-        (Happening::Read(5, &[6, 3]), Note::Refused(Refusal::Failed)),
-    ];
-    let sent = follow(rt, alloc, &mut core, &table)?;
-    assert_eq!(rt; core.failure(), Some(failed));
-    assert_eq!(rt; core.is_idle(), false);
+    let (mut core, _) = formatted(rt, alloc, device_of(rt, ONE_TREE), PlainSeal)?;
+    let sent = follow(rt, alloc, &mut core, &LOST_TWICE)?;
+    assert_eq!(rt; told(&core), (1, 0, false, Some(Reason::HostRefused(6))));
     assert_eq!(rt; sent.len(), 3);
     for message in &sent {
         assert_eq!(rt; message.as_slice(), [1, 0, 0, 0, 0, 6].as_slice());
@@ -312,29 +334,28 @@ fn a_whole_run(rt: HostRuntime) -> Result<(), Fail> {
 }
 
 /// A run whose message is lost and sent again, and then refused.
+const LOST_ONCE: [(Happening, Note); 4] = [
+    (Happening::Read(5, &[6, 3]), Note::Accepted(0)),
+    (Happening::Lost, Note::Stalled),
+    (Happening::Retry, Note::Resent),
+    (
+        Happening::Answer(&[0x80]),
+        Note::FailedNow(Reason::Malformed),
+    ),
+];
+
 fn run_to_a_failure(rt: &impl Abort, alloc: Global) -> Result<(), AllocError> {
-    let device = Device::new(8, 16, 4, 8, 100).expect(rt, "a device");
-    let table = [
-        (Happening::Read(5, &[6, 3]), Note::Accepted(0)),
-        (Happening::Lost, Note::Stalled),
-        (Happening::Retry, Note::Resent),
-        (
-            Happening::Answer(&[0x80]),
-            Note::FailedNow(Reason::Malformed),
-        ),
-    ];
     let mut events = Vec::new(alloc);
-    for (happening, _) in &table {
+    for (happening, _) in &LOST_ONCE {
         events.push(happening.event(alloc)?)?;
     }
-    let run = run(alloc, device, PlainSeal, &events);
+    let run = run(alloc, device_of(rt, ONE_TREE), PlainSeal, &events);
     if run.out_of_memory {
         return Err(AllocError);
     }
     // The tree's shape, and its 15 nodes.
-    assert_eq!(rt; run.format.len(), 16);
-    assert_eq!(rt; run.reactions.len(), 4);
-    for (reaction, (_, note)) in run.reactions.iter().zip(&table) {
+    assert_eq!(rt; (run.format.len(), run.reactions.len()), (16, 4));
+    for (reaction, (_, note)) in run.reactions.iter().zip(&LOST_ONCE) {
         assert_eq!(rt; reaction.note, *note);
     }
     Ok(())
@@ -367,44 +388,75 @@ fn stepped(
     }
 }
 
+/// A device of one tree just formatted, with its host.
+fn formatted_or_again(
+    rt: &impl Abort,
+    alloc: Global,
+) -> Result<(Core<PlainSeal>, Shelf), AllocError> {
+    match formatted(rt, alloc, device_of(rt, ONE_TREE), PlainSeal) {
+        Ok(whole) => Ok(whole),
+        Err(AllocError) => formatted(rt, alloc, device_of(rt, ONE_TREE), PlainSeal),
+    }
+}
+
+fn read_or_again(alloc: Global) -> Result<Event, AllocError> {
+    match read(alloc, 1, 5, &[6, 3]) {
+        Ok(event) => Ok(event),
+        Err(AllocError) => read(alloc, 1, 5, &[6, 3]),
+    }
+}
+
+fn answered_or_again(
+    alloc: Global,
+    shelf: &mut Shelf,
+    message: &[u8],
+) -> Result<Event, AllocError> {
+    let answered = match shelf.answer(alloc, message) {
+        Ok(answered) => answered,
+        Err(AllocError) => shelf.answer(alloc, message)?,
+    };
+    Ok(Event::Answer(Bytes::from_vec(answered)))
+}
+
+/// A STORE has six bytes and the four records of the path, of 160 bytes each.
+fn assert_store(rt: &impl Abort, message: &[u8]) {
+    if let [2, place @ .., _] = message {
+        assert_eq!(rt; message.len(), 646);
+        assert!(rt; place.starts_with(&[0, 0, 0, 0, 6]));
+    }
+}
+
+/// The last reaction has a read's reply, and the others none.
+fn assert_zeros(rt: &impl Abort, reaction: &Reaction, is_last: bool) {
+    match reaction.replies.last() {
+        Some(reply) => assert!(rt; is_last && holds_zeros(&reply.body)),
+        None => assert!(rt; !is_last),
+    }
+}
+
+fn holds_zeros(body: &ReplyBody) -> bool {
+    match body {
+        ReplyBody::Data(data) => data.as_slice() == [0; 16].as_slice(),
+        _ => false,
+    }
+}
+
 #[test]
 fn a_step_without_memory_changes_nothing(rt: HostRuntime) -> Result<(), Fail> {
     let alloc = rt.alloc();
-    let device = Device::new(8, 16, 4, 8, 100).expect(&rt, "a device");
-    let (mut core, mut shelf) = match formatted(&rt, alloc, device, PlainSeal) {
-        Ok(whole) => whole,
-        Err(_) => {
-            let device = Device::new(8, 16, 4, 8, 100).expect(&rt, "a device");
-            formatted(&rt, alloc, device, PlainSeal)?
-        }
-    };
-    let mut event = match read(alloc, 1, 5, &[6, 3]) {
-        Ok(event) => event,
-        Err(_) => read(alloc, 1, 5, &[6, 3])?,
-    };
+    let (mut core, mut shelf) = formatted_or_again(&rt, alloc)?;
+    let mut event = read_or_again(alloc)?;
     let notes = [Note::Accepted(0), Note::Taken, Note::Taken];
     for (note, waiting) in notes.iter().zip([1, 1, 0]) {
-        let mut reaction = stepped(&rt, alloc, &mut core, &event)?;
-        assert_eq!(&rt; reaction.note, *note);
-        assert_eq!(&rt; told(&core), (1, waiting, waiting == 0, None));
-        if let Some(message) = reaction.sends.pop() {
-            // A STORE has six bytes and the four records of the path, of 160 bytes each.
-            if let [2, place @ .., _] = message.as_slice() {
-                assert_eq!(&rt; message.len(), 646);
-                assert!(&rt; place.starts_with(&[0, 0, 0, 0, 6]));
-            }
-            let answered = match shelf.answer(alloc, message.as_slice()) {
-                Ok(answered) => answered,
-                Err(_) => shelf.answer(alloc, message.as_slice())?,
-            };
-            event = Event::Answer(Bytes::from_vec(answered));
-        }
-        if waiting == 0 {
-            let reply = reaction.replies.pop().expect(&rt, "a reply");
-            let ReplyBody::Data(data) = &reply.body else {
-                panic!(&rt; "a read is answered with data");
-            };
-            assert_eq!(&rt; data.as_slice(), [0; 16].as_slice());
+        let reaction = stepped(&rt, alloc, &mut core, &event)?;
+        assert_eq!(&rt;
+            (reaction.note, told(&core)),
+            (*note, (1, waiting, waiting == 0, None))
+        );
+        assert_zeros(&rt, &reaction, waiting == 0);
+        if let Some(message) = reaction.sends.last() {
+            assert_store(&rt, message.as_slice());
+            event = answered_or_again(alloc, &mut shelf, message.as_slice())?;
         }
     }
     Ok(())

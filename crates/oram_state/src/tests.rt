@@ -20,7 +20,7 @@ use crate::reading::read_state;
 use crate::saved::Saved;
 use crate::writing::write_state;
 use hex::FromHexError;
-use oram_core::{Command, Reason};
+use oram_core::{Command, Pending, Reason};
 use sha2::{Digest, Sha256};
 use std::alloc::Global;
 use std::process::Abort;
@@ -43,48 +43,72 @@ fn fault_of(alloc: Global, file: &[u8]) -> Option<StateFault> {
     retried!(read_state(alloc, file)).err()
 }
 
+/// The bytes of a file, once more where memory was refused.
+fn file_of(alloc: Global, digits: &str) -> Result<Vec<u8>, StateFault> {
+    retried!(bytes_of(alloc, digits))
+}
+
+fn assert_file(
+    rt: &impl Abort,
+    alloc: Global,
+    file: &[u8],
+    digits: &str,
+) -> Result<(), StateFault> {
+    assert_eq!(rt; file, file_of(alloc, digits)?.as_slice());
+    Ok(())
+}
+
+/// The files that are written again as they are.
+const SAME: [&str; 15] = [
+    FORMATTED,
+    FORMATTED_CHACHA,
+    FETCHING,
+    STORING,
+    STALLED,
+    FOUR,
+    REFUSED,
+    TAMPERED,
+    MALFORMED,
+    THREE_TREES,
+    THREE_STORING,
+    THREE_BETWEEN,
+    THREE_STALLED,
+    THREE_LAST,
+    STASHED,
+];
+
+/// Files of the first version, and what is written of them.
+const FIRST_VERSION: [(&str, &str); 3] = [
+    (FORMATTED_1, FORMATTED),
+    (REFUSED_1, REFUSED),
+    (STASHED_1, STASHED),
+];
+
+fn assert_rewritten(
+    rt: &impl Abort,
+    alloc: Global,
+    digits: &str,
+    again: &str,
+) -> Result<(), StateFault> {
+    let file = file_of(alloc, digits)?;
+    let written = retried!(rewritten(alloc, &file))?;
+    assert_file(rt, alloc, &written, again)
+}
+
 #[test]
 fn files_are_written_again(rt: HostRuntime) -> Result<(), StateFault> {
-    let alloc = rt.alloc();
-    let same = [
-        FORMATTED,
-        FORMATTED_CHACHA,
-        FETCHING,
-        STORING,
-        STALLED,
-        FOUR,
-        REFUSED,
-        TAMPERED,
-        MALFORMED,
-        THREE_TREES,
-        THREE_STORING,
-        THREE_BETWEEN,
-        THREE_STALLED,
-        THREE_LAST,
-        STASHED,
-    ];
-    for digits in same {
-        let file = retried!(bytes_of(alloc, digits))?;
-        let again = retried!(rewritten(alloc, &file))?;
-        assert_eq!(rt; again.as_slice(), file.as_slice());
+    for digits in SAME {
+        assert_rewritten(&rt, rt.alloc(), digits, digits)?;
     }
-    let first_version = [
-        (FORMATTED_1, FORMATTED),
-        (REFUSED_1, REFUSED),
-        (STASHED_1, STASHED),
-    ];
-    for (old, new) in first_version {
-        let old = retried!(bytes_of(alloc, old))?;
-        let new = retried!(bytes_of(alloc, new))?;
-        let again = retried!(rewritten(alloc, &old))?;
-        assert_eq!(rt; again.as_slice(), new.as_slice());
+    for (old, new) in FIRST_VERSION {
+        assert_rewritten(&rt, rt.alloc(), old, new)?;
     }
     Ok(())
 }
 
 /// What a file tells, once more where memory was refused.
 fn told(alloc: Global, digits: &str) -> Result<Saved, StateFault> {
-    let file = retried!(bytes_of(alloc, digits))?;
+    let file = file_of(alloc, digits)?;
     retried!(read_state(alloc, &file))
 }
 
@@ -114,12 +138,14 @@ fn fetching_core(rt: HostRuntime) -> Result<(), StateFault> {
         (0, false, 1)
     );
     assert_eq!(rt; parts.message.as_slice(), [1, 0, 0, 0, 0, 6].as_slice());
-    for pending in &parts.waiting {
-        assert_eq!(rt; pending.session, 1);
-        assert_eq!(rt; pending.command, Command::Read(5));
-        assert_eq!(rt; pending.words.as_slice(), [6, 3].as_slice());
-    }
+    assert!(rt; parts.waiting.iter().all(|pending| is_read_of_5(pending)));
     Ok(())
+}
+
+fn is_read_of_5(pending: &Pending) -> bool {
+    pending.session == 1
+        && pending.command == Command::Read(5)
+        && pending.words.as_slice() == [6, 3].as_slice()
 }
 
 #[test]
@@ -154,7 +180,7 @@ fn fault_beside(place: usize) -> StateFault {
 #[test]
 fn each_byte_counts(rt: HostRuntime) -> Result<(), StateFault> {
     for digits in [FORMATTED, FETCHING] {
-        let mut file = retried!(bytes_of(rt.alloc(), digits))?;
+        let mut file = file_of(rt.alloc(), digits)?;
         for place in 0..file.len() {
             flip(&mut file, place);
             assert_eq!(rt; fault_of(rt.alloc(), &file), Some(fault_beside(place)));
@@ -181,7 +207,7 @@ fn flip(file: &mut [u8], place: usize) {
 
 #[test]
 fn first_faults(rt: HostRuntime) -> Result<(), StateFault> {
-    let mut file = retried!(bytes_of(rt.alloc(), FORMATTED))?;
+    let mut file = file_of(rt.alloc(), FORMATTED)?;
     // What isn't so, from the last that is looked at to the first.
     for (place, fault) in [
         (164, StateFault::Digest),
@@ -255,12 +281,18 @@ fn edited_failure(rt: HostRuntime) -> Result<(), StateFault> {
     refuse_edits(&rt, rt.alloc(), REFUSED, &edits)
 }
 
+const NUMBERS: [(StateFault, Option<u8>); 6] = [
+    (StateFault::Magic, Some(1)),
+    (StateFault::Version, Some(2)),
+    (StateFault::Length, Some(3)),
+    (StateFault::Digest, Some(4)),
+    (StateFault::Content, Some(5)),
+    (StateFault::OutOfMemory, None),
+];
+
 #[test]
 fn numbers_of_faults(rt: HostRuntime) {
-    assert_eq!(rt; StateFault::Magic.number(), Some(1));
-    assert_eq!(rt; StateFault::Version.number(), Some(2));
-    assert_eq!(rt; StateFault::Length.number(), Some(3));
-    assert_eq!(rt; StateFault::Digest.number(), Some(4));
-    assert_eq!(rt; StateFault::Content.number(), Some(5));
-    assert_eq!(rt; StateFault::OutOfMemory.number(), None);
+    for (fault, number) in NUMBERS {
+        assert_eq!(rt; fault.number(), number);
+    }
 }

@@ -28,9 +28,7 @@ fn up_to_fetch(
     let mut play = Play::new(rt, alloc, THREE_TREES, PlainSeal)?;
     play.happen(alloc, read(alloc, 1, 37, &WORDS)?)?;
     play.happen(alloc, read(alloc, 2, 5, &LATER_WORDS)?)?;
-    for _ in 0..answers {
-        play.go_on(rt, alloc)?;
-    }
+    play.go_on_by(rt, alloc, answers)?;
     Ok(play)
 }
 
@@ -58,6 +56,16 @@ fn assert_failed(rt: &impl Abort, run: &Run, at: usize, tickets: [u64; 2], reaso
     }
 }
 
+/// An answer, and what is asked of a core that has failed.
+fn push_asked(alloc: Global, events: &mut Vec<Event>, answer: &[u8]) -> Result<(), AllocError> {
+    events.push(Event::Answer(Bytes::copy(alloc, answer)?))?;
+    events.push(read(alloc, 3, 37, &LATER_WORDS)?)?;
+    events.push(Event::Retry)?;
+    events.push(Event::Lost)?;
+    events.push(Event::Answer(Bytes::copy(alloc, &[0x80])?))?;
+    Ok(())
+}
+
 /// Lets the host answer with these bytes, and then goes on asking the core. The run is left as it was.
 fn assert_fails<S: Sealer + Copy>(
     rt: &impl Abort,
@@ -68,13 +76,7 @@ fn assert_fails<S: Sealer + Copy>(
     reason: Reason,
 ) -> Result<(), AllocError> {
     let at = play.events.len();
-    play.events
-        .push(Event::Answer(Bytes::copy(alloc, answer)?))?;
-    play.events.push(read(alloc, 3, 37, &LATER_WORDS)?)?;
-    play.events.push(Event::Retry)?;
-    play.events.push(Event::Lost)?;
-    play.events
-        .push(Event::Answer(Bytes::copy(alloc, &[0x80])?))?;
+    push_asked(alloc, &mut play.events, answer)?;
     let run = play.run(rt, alloc)?;
     assert_eq!(rt; run.reactions.len(), at + 5);
     assert_failed(rt, &run, at, tickets, reason);
@@ -179,6 +181,38 @@ fn a_spoiled_answer_of_the_data_fails_the_device(rt: HostRuntime) -> Result<(), 
     Ok(())
 }
 
+/// The fetch of a path and its answer. The run goes on until the path is stored again.
+fn first_answer(
+    rt: &impl Abort,
+    alloc: Global,
+    play: &mut Play<ChaChaSeal>,
+    answers: usize,
+) -> Result<(Bytes, Vec<u8>), AllocError> {
+    play.happen(alloc, read(alloc, 1, 37, &[10, 10, 12, 12, 14, 14])?)?;
+    play.go_on_by(rt, alloc, answers)?;
+    let asked = play.asked(rt, alloc)?;
+    let answer = play.answer(rt, alloc)?;
+    play.drain(rt, alloc)?;
+    Ok((asked, answer))
+}
+
+/// The run up to a later fetch of that path, which the host would answer otherwise, with a command waiting.
+fn up_to_another(
+    rt: &impl Abort,
+    alloc: Global,
+    play: &mut Play<ChaChaSeal>,
+    answers: usize,
+    first: &(Bytes, Vec<u8>),
+) -> Result<(), AllocError> {
+    play.happen(alloc, read(alloc, 1, 37, &LATER_WORDS)?)?;
+    play.happen(alloc, read(alloc, 2, 5, &LATER_WORDS)?)?;
+    play.go_on_by(rt, alloc, answers)?;
+    let (asked, answer) = first;
+    assert!(rt; play.asked(rt, alloc)? == *asked);
+    assert!(rt; play.answer(rt, alloc)? != *answer);
+    Ok(())
+}
+
 /// The answer to the fetch of a path, given to a later fetch of that path, which was stored in between.
 fn played_again(
     rt: &impl Abort,
@@ -186,30 +220,11 @@ fn played_again(
     tree: u8,
     answers: usize,
 ) -> Result<(), AllocError> {
-    let words = [10, 10, 12, 12, 14, 14];
     let mut play = Play::new(rt, alloc, THREE_TREES, ChaChaSeal { key: [7; 32] })?;
-    play.happen(alloc, read(alloc, 1, 37, &words)?)?;
-    for _ in 0..answers {
-        play.go_on(rt, alloc)?;
-    }
-    let asked = play.asked(rt, alloc)?;
-    let answer = play.answer(rt, alloc)?;
-    play.drain(rt, alloc)?;
-    play.happen(alloc, read(alloc, 1, 37, &LATER_WORDS)?)?;
-    play.happen(alloc, read(alloc, 2, 5, &LATER_WORDS)?)?;
-    for _ in 0..answers {
-        play.go_on(rt, alloc)?;
-    }
-    assert_eq!(rt; play.asked(rt, alloc)?, asked);
-    assert_ne!(rt; play.answer(rt, alloc)?.as_slice(), answer.as_slice());
-    assert_fails(
-        rt,
-        alloc,
-        &mut play,
-        &answer,
-        [1, 2],
-        Reason::Tampered(tree, 0),
-    )
+    let first = first_answer(rt, alloc, &mut play, answers)?;
+    up_to_another(rt, alloc, &mut play, answers, &first)?;
+    let reason = Reason::Tampered(tree, 0);
+    assert_fails(rt, alloc, &mut play, &first.1, [1, 2], reason)
 }
 
 #[test]

@@ -102,6 +102,19 @@ impl<S: Sealer + Copy> Play<S> {
         Ok(())
     }
 
+    /// The host answers so many messages.
+    pub fn go_on_by(
+        &mut self,
+        rt: &impl Abort,
+        alloc: Global,
+        answers: usize,
+    ) -> Result<(), AllocError> {
+        for _ in 0..answers {
+            self.go_on(rt, alloc)?;
+        }
+        Ok(())
+    }
+
     /// The host answers until nothing is outstanding.
     pub fn drain(&mut self, rt: &impl Abort, alloc: Global) -> Result<(), AllocError> {
         for _ in 0..1000 {

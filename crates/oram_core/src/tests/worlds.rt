@@ -1,9 +1,10 @@
 //! Two worlds that a host can't tell apart: other addresses and other commands, and one view.
 use super::play::{Numbers, ONE_TREE, Play, THREE_TREES, device_of};
 use super::{read, write};
-use crate::{Event, Note, ReplyBody, Run};
+use crate::{Event, Note, Reaction, ReplyBody, Run};
 use oram_bucket::ChaChaSeal;
 use oram_bytes::Bytes;
+use oram_geometry::Device;
 use oram_trace::rearrange;
 use std::alloc::{AllocError, Global};
 use std::process::Abort;
@@ -132,18 +133,17 @@ fn seen(message: &Bytes) -> (&[u8], usize) {
     (message.as_slice().get(..6).unwrap_or(&[]), message.len())
 }
 
+/// The note of a reaction, and how many replies and messages it has.
+fn shape(reaction: &Reaction) -> (Note, usize, usize) {
+    (reaction.note, reaction.replies.len(), reaction.sends.len())
+}
+
 /// Compares what the host sees, event by event.
 fn assert_alike(rt: &impl Abort, one: &Run, other: &Run) {
     assert!(rt; one.format.iter().eq(&other.format));
     assert_eq!(rt; one.reactions.len(), other.reactions.len());
     for (number, (left, right)) in one.reactions.iter().zip(&other.reactions).enumerate() {
-        assert_eq!(rt; left.note, right.note, "at event {number}");
-        assert_eq!(rt;
-            left.replies.len(),
-            right.replies.len(),
-            "at event {number}"
-        );
-        assert_eq!(rt; left.sends.len(), right.sends.len(), "at event {number}");
+        assert_eq!(rt; shape(left), shape(right), "at event {number}");
         for (message, twin) in left.sends.iter().zip(&right.sends) {
             assert_eq!(rt; seen(message), seen(twin), "at event {number}");
         }
@@ -178,9 +178,14 @@ fn assert_replies(rt: &impl Abort, run: &Run, commands: usize, body: &ReplyBody)
     assert_eq!(rt; tickets.next(), None);
 }
 
-fn one_view(rt: &impl Abort, alloc: Global, row: &Row) -> Result<(), AllocError> {
-    let device = device_of(rt, row.numbers);
-    let Ok(order) = rearrange(alloc, &device, row.a, row.b) else {
+/// Whether the tape, rearranged, is the second world's.
+fn assert_moved(
+    rt: &impl Abort,
+    alloc: Global,
+    device: &Device,
+    row: &Row,
+) -> Result<(), AllocError> {
+    let Ok(order) = rearrange(alloc, device, row.a, row.b) else {
         return Err(AllocError);
     };
     assert_eq!(rt; order.as_slice(), row.order);
@@ -188,17 +193,32 @@ fn one_view(rt: &impl Abort, alloc: Global, row: &Row) -> Result<(), AllocError>
     for (word, place) in row.moved.iter().zip(&order) {
         assert_eq!(rt; Some(word), row.tape.get(*place as usize));
     }
+    Ok(())
+}
+
+/// Whether a run fetches the row's paths and answers its commands by this.
+fn assert_answered(
+    rt: &impl Abort,
+    alloc: Global,
+    row: &Row,
+    run: &Run,
+    body: &ReplyBody,
+) -> Result<(), AllocError> {
+    assert_eq!(rt; fetched(alloc, run)?.as_slice(), row.fetched);
+    assert_replies(rt, run, row.a.len(), body);
+    Ok(())
+}
+
+fn one_view(rt: &impl Abort, alloc: Global, row: &Row) -> Result<(), AllocError> {
+    let device = device_of(rt, row.numbers);
+    assert_moved(rt, alloc, &device, row)?;
     let words = 2 * usize::from(device.trees());
     let one = world(rt, alloc, row.numbers, reads(alloc, row, words)?)?;
     let other = world(rt, alloc, row.numbers, writes(alloc, row, words)?)?;
     assert_alike(rt, &one, &other);
-    for run in [&one, &other] {
-        assert_eq!(rt; fetched(alloc, run)?.as_slice(), row.fetched);
-    }
     let zeros = ReplyBody::Data(Bytes::copy(alloc, &[0; 16])?);
-    assert_replies(rt, &one, row.a.len(), &zeros);
-    assert_replies(rt, &other, row.b.len(), &ReplyBody::Done);
-    Ok(())
+    assert_answered(rt, alloc, row, &one, &zeros)?;
+    assert_answered(rt, alloc, row, &other, &ReplyBody::Done)
 }
 
 // Runs a second time where an allocation was refused, so it holds whichever one is.

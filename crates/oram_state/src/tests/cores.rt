@@ -1,7 +1,7 @@
 //! Cores are read from files that another program wrote, go on, and are written again.
 
 use super::files::*;
-use super::{bytes_of, edited};
+use super::{assert_file, bytes_of, edited};
 use crate::{StateFault, decode_state, encode_state};
 use oram_bucket::{ChaChaSeal, PlainSeal, Sealer};
 use oram_bytes::{Bytes, Words};
@@ -32,30 +32,44 @@ pub(super) fn chacha() -> ChaChaSeal {
     ChaChaSeal { key }
 }
 
+/// Files of cores over plain records, and what is written of these cores.
+const PLAIN: [(&str, &str); 12] = [
+    (FORMATTED, FORMATTED),
+    (TAMPERED, TAMPERED),
+    (FORMATTED_1, FORMATTED),
+    (FETCHING, FETCHING),
+    (STORING, STORING),
+    (STALLED, STALLED),
+    (REFUSED_1, REFUSED),
+    (THREE_TREES, THREE_TREES),
+    (THREE_STORING, THREE_STORING),
+    (THREE_STALLED, THREE_STALLED),
+    (THREE_LAST, THREE_LAST),
+    (STASHED_1, STASHED),
+];
+
+/// Files of cores over sealed records, which are written again as they are.
+const SEALED: [&str; 4] = [FORMATTED_CHACHA, FOUR, MALFORMED, THREE_BETWEEN];
+
+/// A core that is read is written as this.
+fn assert_written<S: Sealer + Copy>(
+    rt: &impl Abort,
+    alloc: Global,
+    sealer: S,
+    digits: &str,
+    again: &str,
+) -> Result<(), StateFault> {
+    let written = retried!(file_after(alloc, sealer, digits, &[]))?;
+    assert_file(rt, alloc, &written, again)
+}
+
 #[test]
 fn cores_are_written_again(rt: HostRuntime) -> Result<(), StateFault> {
-    let alloc = rt.alloc();
-    let pairs = [
-        (FORMATTED, FORMATTED),
-        (TAMPERED, TAMPERED),
-        (FORMATTED_1, FORMATTED),
-        (FETCHING, FETCHING),
-        (STORING, STORING),
-        (STALLED, STALLED),
-        (REFUSED_1, REFUSED),
-        (THREE_TREES, THREE_TREES),
-        (THREE_STORING, THREE_STORING),
-        (THREE_STALLED, THREE_STALLED),
-        (THREE_LAST, THREE_LAST),
-        (STASHED_1, STASHED),
-    ];
-    for (file, again) in pairs {
-        let written = retried!(file_after(alloc, PlainSeal, file, &[]))?;
-        assert_eq!(rt; written, retried!(bytes_of(alloc, again))?);
+    for (file, again) in PLAIN {
+        assert_written(&rt, rt.alloc(), PlainSeal, file, again)?;
     }
-    for file in [FORMATTED_CHACHA, FOUR, MALFORMED, THREE_BETWEEN] {
-        let written = retried!(file_after(alloc, chacha(), file, &[]))?;
-        assert_eq!(rt; written, retried!(bytes_of(alloc, file))?);
+    for file in SEALED {
+        assert_written(&rt, rt.alloc(), chacha(), file, file)?;
     }
     Ok(())
 }
@@ -81,15 +95,10 @@ fn refused(alloc: Global) -> Result<Vec<u8>, StateFault> {
 #[test]
 fn a_core_goes_on_from_its_file(rt: HostRuntime) -> Result<(), StateFault> {
     let alloc = rt.alloc();
-    assert_eq!(rt;
-        retried!(fetching(alloc))?,
-        retried!(bytes_of(alloc, FETCHING))?
-    );
-    assert_eq!(rt;
-        retried!(refused(alloc))?,
-        retried!(bytes_of(alloc, REFUSED))?
-    );
-    Ok(())
+    let at_work = retried!(fetching(alloc))?;
+    assert_file(&rt, alloc, &at_work, FETCHING)?;
+    let failed = retried!(refused(alloc))?;
+    assert_file(&rt, alloc, &failed, REFUSED)
 }
 
 /// The fault of a file whose byte at this place is another, under a digest of its own.

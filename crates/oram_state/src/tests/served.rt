@@ -1,6 +1,6 @@
 //! Cores that a server answers, and their files.
 
-use super::bytes_of;
+use super::assert_file;
 use super::cores::{chacha, read};
 use super::files::*;
 use crate::{StateFault, encode_state};
@@ -90,7 +90,7 @@ fn a_read_on_one_tree(rt: HostRuntime) -> Result<(), StateFault> {
         (storing, STORING, 868),
     ] {
         assert_eq!(rt; file.len(), len);
-        assert_eq!(rt; file, retried!(bytes_of(rt.alloc(), digits))?);
+        assert_file(&rt, rt.alloc(), &file, digits)?;
     }
     Ok(())
 }
@@ -119,12 +119,9 @@ fn file_of_malformed(rt: &impl Abort, alloc: Global) -> Result<Vec<u8>, StateFau
 fn failed_cores(rt: HostRuntime) -> Result<(), StateFault> {
     let alloc = rt.alloc();
     let tampered = retried!(file_of_tampered(&rt, alloc))?;
-    assert_eq!(rt; tampered.len(), 101);
-    assert_eq!(rt; tampered, retried!(bytes_of(alloc, TAMPERED))?);
+    assert_file(&rt, alloc, &tampered, TAMPERED)?;
     let malformed = retried!(file_of_malformed(&rt, alloc))?;
-    assert_eq!(rt; malformed.len(), 101);
-    assert_eq!(rt; malformed, retried!(bytes_of(alloc, MALFORMED))?);
-    Ok(())
+    assert_file(&rt, alloc, &malformed, MALFORMED)
 }
 
 /// The files of three trees just formatted, and after two reads.
@@ -138,19 +135,19 @@ fn files_of_three_trees(rt: &impl Abort, alloc: Global) -> Result<[Vec<u8>; 2], 
     Ok([first, encode_state(alloc, &core)?])
 }
 
+/// The mode, the tickets and the nonce of a core just formatted, and of one that has served two reads.
+const COUNTED: [[u8; 17]; 2] = [
+    [0, 0, 0, 0, 0, 0, 0, 0, 0, 0, 0, 0, 0, 0, 0, 0, 165],
+    [0, 0, 0, 0, 0, 0, 0, 0, 2, 0, 0, 0, 0, 0, 0, 0, 195],
+];
+
 // A core at rest has another ticket, nonce and table after each read.
 #[test]
 fn two_reads_on_three_trees(rt: HostRuntime) -> Result<(), StateFault> {
-    let [first, last] = retried!(files_of_three_trees(&rt, rt.alloc()))?;
-    assert_eq!(rt; first, retried!(bytes_of(rt.alloc(), THREE_TREES))?);
-    // the mode, the tickets and the nonce
-    assert_eq!(rt;
-        first.get(48..65),
-        Some([0, 0, 0, 0, 0, 0, 0, 0, 0, 0, 0, 0, 0, 0, 0, 0, 165].as_slice())
-    );
-    assert_eq!(rt;
-        last.get(48..65),
-        Some([0, 0, 0, 0, 0, 0, 0, 0, 2, 0, 0, 0, 0, 0, 0, 0, 195].as_slice())
-    );
-    Ok(())
+    let files = retried!(files_of_three_trees(&rt, rt.alloc()))?;
+    for (file, counted) in files.iter().zip(&COUNTED) {
+        assert_eq!(rt; file.get(48..65), Some(counted.as_slice()));
+    }
+    let [first, _] = &files;
+    assert_file(&rt, rt.alloc(), first, THREE_TREES)
 }
