@@ -39,16 +39,16 @@ late_at : (r : Running) (m n : Machine) (bytes : List ℕ) → IsWholeMachine m 
 late_at r m n bytes w f h = rw h.core (late_honest m.core.state m.outstanding bytes r.host n.server w.waits w.latest (subst (λ (k : Host). HostAnswers k m.outstanding bytes n.server) f.host h.replies))
 
 pub answered : (r : Running) (m n k : Machine) (bytes : List ℕ) (old new : Option (List ℕ)) → IsWholeMachine m → IsAtRun r m → IsHeard m n bytes
-    → (x : Shown) × RunsOn (with_host r n.server) (after_turn (with_host r n.server) (Answer bytes) x) k old new × StaysFaithful (with_host r n.server) n.core.state (Answer bytes) x
-    → (x : Shown) × (later : Running) × IsAnswered r x later × RunsOn r later k old new × (IsFaithful r → IsFaithful later)
+    → (x : Shown) × RunsOn (with_host r n.server) (after_turn (with_host r n.server) (Answer bytes) x) k old new × StaysFaithful (with_host r n.server) n.core.state (Answer bytes) x k.core.state
+    → (x : Shown) × (later : Running) × IsAnswered r x later × RunsOn r later k old new × (IsFaithful r m.core.state → IsFaithful later k.core.state)
 answered r m n k bytes old new w f h q =
-    (q.0, after_turn (with_host r n.server) (Answer bytes) q.0, (bytes, n.server, replies_as r m n bytes f h, refl), q.1, λ faithful. q.2 r.host (honest_at r m n bytes w f h) faithful)
+    (q.0, after_turn (with_host r n.server) (Answer bytes) q.0, (bytes, n.server, replies_as r m n bytes f h, refl), q.1, λ faithful. q.2 r.host (honest_at r m n bytes w f h) (rw h.core faithful))
 
 pub answer_lost : (r : Running) (m n k : Machine) (bytes : List ℕ) (old new : Option (List ℕ)) → IsWholeMachine m → IsAtRun r m → IsHeard m n bytes
-    → (x : Shown) × RunsOn (with_host r n.server) (after_turn (with_host r n.server) Lost x) k old new × StaysFaithful (with_host r n.server) n.core.state Lost x
-    → (later : Running) × Obeys r Late later × RunsOn r later k old new × (IsFaithful r → IsFaithful later)
+    → (x : Shown) × RunsOn (with_host r n.server) (after_turn (with_host r n.server) Lost x) k old new × StaysFaithful (with_host r n.server) n.core.state Lost x k.core.state
+    → (later : Running) × Obeys r Late later × RunsOn r later k old new × (IsFaithful r m.core.state → IsFaithful later k.core.state)
 answer_lost r m n k bytes old new w f h q =
-    (after_turn (with_host r n.server) Lost q.0, (bytes, n.server, replies_as r m n bytes f h, (q.0, refl)), q.1, λ faithful. q.2 r.host (late_at r m n bytes w f h) faithful)
+    (after_turn (with_host r n.server) Lost q.0, (bytes, n.server, replies_as r m n bytes f h, (q.0, refl)), q.1, λ faithful. q.2 r.host (late_at r m n bytes w f h) (rw h.core faithful))
 
 -- how many answers are wanted, told of the machine before the host had the message
 pub fewer_as : (m n k : Machine) → n.core ≡ m.core → n.outstanding ≡ m.outstanding

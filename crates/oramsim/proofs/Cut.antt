@@ -40,7 +40,7 @@ pub unbegun : (head : List ℕ) (made : Result Sizes ShapeFault) (old new : Opti
 unbegun head made old new same = (behind head, inl refl, tt, none_told (text_at (behind head)) old new same)
 
 pub begun_cut : (head : List ℕ) (made : Result Sizes ShapeFault) (d : Sizes) (trees : ℕ) (m : Machine) (e : SimFault) (old new : Option (List ℕ)) → made ≡ Ok d → trees ≡ trees_of d
-    → (r : Running) × IsNewRun d r × IsAtRun r m × IsFaithful r → (k : ℕ) × Appends old new (take k (ready_text trees)) → e ≡ Write
+    → (r : Running) × IsNewRun d r × IsAtRun r m × IsFaithful r m.core.state → (k : ℕ) × Appends old new (take k (ready_text trees)) → e ≡ Write
     → GivesUpAt (behind head) (λ q. (q ≡ behind head) ⊎ Starts head made q) e old new
 begun_cut head made d trees m e old new is count p wrote write =
     let text = ready_text (trees_of d) in

@@ -4,6 +4,7 @@ use Rattle.std.specs.Prelude.{is_some}
 use Rattle.std.specs.List.{FoldsTo}
 use Rattle.std.proofs.lemmas.Fn.{FoldsTo-push}
 use Rattle.oram_run.specs.Run.{Shown}
+use Rattle.oram_run.specs.State.{State}
 use Rattle.oramsim.specs.Script.{IsAnswered, IsDrained, Running}
 use Rattle.oramsim.specs.Standing.{RunsOn, IsFaithful}
 use Rattle.oramsim.specs.declared.machine.Machine.{Machine}
@@ -17,10 +18,10 @@ pub some_there : (o p : Option (List ℕ)) → is_some o ≡ true → o ≡ p �
 some_there None p e same = cc
 some_there (Some m) p e same = λ none. let both : Some m ≡ None = same ∙ none in cc
 
-pub drained_more : (r mid later : Running) (m n : Machine) (old between new : Option (List ℕ)) (xs : List Shown) (x : Shown) → FoldsTo IsDrained r xs mid → RunsOn r mid m old between
-    → is_some m.outstanding ≡ true → IsAnswered mid x later → RunsOn mid later n between new → (IsFaithful r → IsFaithful later)
-    → (xs' : List Shown) × (last : Running) × FoldsTo IsDrained r xs' last × RunsOn r last n old new × (IsFaithful r → IsFaithful last)
-drained_more r mid later m n old between new xs x folds gone some answered next faithful = (
+pub drained_more : (r mid later : Running) (s : State) (m n : Machine) (old between new : Option (List ℕ)) (xs : List Shown) (x : Shown) → FoldsTo IsDrained r xs mid → RunsOn r mid m old between
+    → is_some m.outstanding ≡ true → IsAnswered mid x later → RunsOn mid later n between new → (IsFaithful r s → IsFaithful later n.core.state)
+    → (xs' : List Shown) × (last : Running) × FoldsTo IsDrained r xs' last × RunsOn r last n old new × (IsFaithful r s → IsFaithful last n.core.state)
+drained_more r mid later s m n old between new xs x folds gone some answered next faithful = (
   xs ++ x ∷ [],
   later,
   FoldsTo-push IsDrained r xs mid x later folds (some_there m.outstanding mid.message some gone.0.message, answered),

@@ -6,60 +6,48 @@ use Rattle.oram_geometry.specs.Sizes.{IsDevice}
 use Rattle.oram_host.specs.Host.{Host}
 use Rattle.oram_host.specs.Serving.{Serves}
 use Rattle.oram_run.specs.Law.{StepsByRule, StepsAlong, new_state}
-use Rattle.oram_run.specs.Progress.{Setting, Step, Status}
+use Rattle.oram_run.specs.Progress.{Setting, Status}
 use Rattle.oram_run.specs.Progress.Status.{Idle, Waiting, Stalling, Over}
-use Rattle.oram_run.specs.Run.{AllRight, Shown, fails_now, is_waiting, shows_pair, step_of}
+use Rattle.oram_run.specs.Moves.{moved, world_after}
+use Rattle.oram_run.specs.Run.{AllRight, Shown, fails_now, is_waiting}
+use Rattle.oram_run.specs.Serving.{HasServed, ServesArray, array_after}
 use Rattle.oram_run.specs.Shape.{Shape}
-use Rattle.oram_run.specs.State.{State, status_in}
+use Rattle.oram_run.specs.State.{State, World, status_in}
 use Rattle.oram_run.specs.declared.events.Event.{Event}
 use Rattle.oram_run.specs.declared.events.Event.TheVariants.{Submit, Answer, Lost, Reopen, Retry}
-use Rattle.oram_run.proofs.Bounds.{IsFit, fit_device}
-use Rattle.oram_run.proofs.Follows.{Follows}
-use Rattle.oram_run.proofs.Formatting.{formatted_holds}
-use Rattle.oram_run.proofs.Going.{new_follows, one_step, steps_are_right}
+use Rattle.oram_run.specs.declared.events.Reply.{Reply}
+use Rattle.oram_run.proofs.Going.{steps_are_right}
 use Rattle.oram_honest.specs.Honest.{IsHonest}
+use Rattle.oram_honest.proofs.Honest.{honest_hosts_serve}
 use Rattle.oramsim.specs.Script.{HostAnswers, Running, Turn, all_shown, events, is_answer, plain_shape}
-use Rattle.oramsim.specs.Standing.{AllApart, IsPlayed, LeadsTo, IsAtRun, StaysFaithful, past_from}
+use Rattle.oramsim.specs.Standing.{IsPlayed, IsAtRun, StaysFaithful}
 use Rattle.oramsim.specs.declared.machine.Machine.{Machine}
-use Rattle.oramsim.proofs.HostedSteps.{step_served}
 use Rattle.oramsim.proofs.Turning.{moving}
 
-past_more : (past : List Step) (turns : List Turn) (t : Turn) → past_from past (turns ++ t ∷ []) ≡ step_of t.event t.shown ∷ past_from past turns
-past_more past [] t = refl
-past_more past (u ∷ turns) t = past_more (step_of u.event u.shown ∷ past) turns t
-
-apart_more : (v : Setting) (past : List Step) (turns : List Turn) (t : Turn) → AllApart v past turns → shows_pair v (past_from past turns) t.event ≡ false → AllApart v past (turns ++ t ∷ [])
-apart_more v past [] t a e = (e, tt)
-apart_more v past (u ∷ turns) t a e = (a.0, apart_more v (step_of u.event u.shown ∷ past) turns t a.1 e)
+-- the array that is served after an event
+served_now : (v : Shape) (s t : State) (w : World) (array : ℕ → List ℕ) (replies : List Reply) → HasServed v s t w array replies → (now : ℕ → List ℕ) × ServesArray v t w now
+served_now v s t w array replies (inl quiet) = (array, quiet.1)
+served_now v s t w array replies (inr replied) = (array_after v.device replied.0.command array, replied.4)
 
 calm_more : (turns : List Turn) (t : Turn) → AllByRecursion (λ (u : Turn). fails_now u.shown.note ≡ false) turns → fails_now t.shown.note ≡ false → AllByRecursion (λ (u : Turn). fails_now u.shown.note ≡ false) (turns ++ t ∷ [])
 calm_more [] t a e = (e, tt)
 calm_more (u ∷ turns) t a e = (a.0, calm_more turns t a.1 e)
 
--- a core follows the turns that it made
-follows_on : (v : Setting) (past : List Step) (s t : State) (turns : List Turn) → IsFit v.shape.device → Follows v past s → FoldsTo (λ a (u : Turn) b. StepsByRule v.shape a u.event u.shown b) s turns t → AllApart v past turns
-    → Follows v (past_from past turns) t
-follows_on v past s t [] fit f run apart = subst (Follows v past) run f
-follows_on v past s t (u ∷ turns) fit f run apart =
-    follows_on v (step_of u.event u.shown ∷ past) run.0 t turns fit (one_step v past s run.0 u.event u.shown fit f run.1 apart.0).follows run.2 apart.1
-
-follows_run : (v : Setting) (turns : List Turn) (s : State) → IsFit v.shape.device → LeadsTo v turns s → AllApart v [] turns → Follows v (past_from [] turns) s
-follows_run v turns s fit leads apart =
-    follows_on v [] (new_state v leads.0) s turns fit (new_follows v leads.0 fit (formatted_holds v leads.0 leads.1)) leads.2 apart
-
-fit_run : (r : Running) (m : Machine) → IsAtRun r m → IsFit r.setting.shape.device
-fit_run r m f = fit_device r.setting.shape.device (subst (λ (v : Shape). IsDevice v.device) (sym f.shape) f.ranges)
-
-pub stays_faithful : (r : Running) (m : Machine) (e : Event) (x : Shown) (sent : Option (List ℕ)) (t : State) → IsAtRun r m → IsPlayed m.core.device m.core.state e x sent t → StaysFaithful r m.core.state e x
+pub stays_faithful : (r : Running) (m : Machine) (e : Event) (x : Shown) (sent : Option (List ℕ)) (t : State) → IsAtRun r m → IsPlayed m.core.device m.core.state e x sent t → StaysFaithful r m.core.state e x t
 stays_faithful r m e x sent t f played before honest h =
-    let fit = fit_run r m f in
-    let turn : Turn = record { event = e; shown = x } in
-    let k = step_served r.setting (past_from [] r.turns) m.core.state t e x before r.host fit (follows_run r.setting r.turns m.core.state fit f.leads h.apart)
-    (moving (plain_shape m.core.device) r.setting.shape m.core.state t e x f.shape played.steps) h.served honest in
+    let v : Shape = r.setting.shape in
+    let s : State = m.core.state in
+    let k = honest_hosts_serve v s t h.world h.array e x before r.host (subst (λ (u : Shape). IsDevice u.device) (sym f.shape) f.ranges) h.alive h.serving h.hosts
+    (moving (plain_shape m.core.device) v s t e x f.shape played.steps) honest in
+    let now : World = world_after v h.world (moved v s h.world e) x.sends in
+    let served = served_now v s t now h.array x.replies k.goes_on.served in
     record {
-      apart = apart_more r.setting [] r.turns turn h.apart k.apart;
-      calm = calm_more r.turns turn h.calm k.calm;
-      served = rw (past_more [] r.turns turn) k.served;
+      calm = calm_more r.turns (record { event = e; shown = x }) h.calm k.calm;
+      alive = k.alive;
+      world = now;
+      array = served.0;
+      serving = record { orderly = k.goes_on.orderly; holds = k.goes_on.holds; agrees = k.goes_on.agrees; serves = served.1 };
+      hosts = k.hosts;
     }
 
 -- an event that isn't an answer, of which the host hears nothing

@@ -1,20 +1,20 @@
 -- A device just formatted.
-use Rattle.std.proofs.Common.{◌≡◌, ◌<◌, ◌≤◌, ◌*◌, List, [], None, refl, sym, ap, subst, arith, inl}
+use Rattle.std.proofs.Common.{◌≡◌, ◌<◌, ◌*◌, [], None, replicate, refl, sym, ap, subst, arith}
 use Rattle.oram_geometry.specs.declared.Sizes.{Sizes}
 use Rattle.oram_geometry.specs.Sizes.{IsDevice, trees_of}
 use Rattle.oram_host.specs.Host.{Host}
 use Rattle.oram_tree.specs.declared.faults.FormatFault.{FormatFault}
 use Rattle.oram_tree.specs.declared.faults.FormatFault.TheVariants as formatting
-use Rattle.oram_run.specs.Formatting.{IsFormatBegun, IsFormatted}
+use Rattle.oram_run.specs.Formatting.{IsFormatBegun}
 use Rattle.oram_tree.specs.Format.{IsBrokenOff, PutsAll}
-use Rattle.oram_tree.specs.State.{State as Tree}
-use Rattle.oram_run.specs.Progress.{Setting, progress, sent}
+use Rattle.oram_run.specs.Law.{world_of}
+use Rattle.oram_run.specs.Progress.{Setting}
 use Rattle.oram_run.specs.State.{State}
 use Rattle.oram_run.proofs.Bounds.{some_trees}
 use Rattle.oram_core.specs.Formatting as core
 use Rattle.oram_honest.specs.Honest.{Refusing, Takes}
-use Rattle.oram_honest.proofs.FormattedHosts.{broken_off_for_room, formatted_kept}
-use Rattle.oramsim.specs.Hosting.{IsServed}
+use Rattle.oram_honest.proofs.FormattedHosts.{broken_off_for_room}
+use Rattle.oram_honest.proofs.Honest.{new_hosts_serve}
 use Rattle.oramsim.specs.Script.{IsNewRun, Running, plain_shape}
 use Rattle.oramsim.specs.Standing.{IsFaithful, IsWhole, IsAtRun}
 use Rattle.oramsim.specs.declared.machine.Machine.{Machine}
@@ -25,23 +25,17 @@ some_stages d = let some : 0 < trees_of d = some_trees d in omega (arith, some)
 pub new_whole : (d : Sizes) (s : State) (from to : Host) → core.IsNew (plain_shape d) Takes from s to → IsWhole d s None
 new_whole d s from to k = rw k.state (record { waits = refl; latest = tt; rests = λ none empty. refl; stage = λ none. some_stages d })
 
--- the host that was formatted serves the run from its beginning
-formatted_served : (v : Setting) (trees : List Tree) (host : Host) → IsDevice v.shape.device → v.shape.overhead ≤ 64
-    → IsFormatted v trees → PutsAll Takes [] v.format host → IsServed v [] host
-unfolding sent progress
-formatted_served v trees host device light made puts =
-    record { alive = refl; whole = tt; keeps = inl (formatted_kept v trees host device light made puts) }
-
 pub new_run : (d : Sizes) (m : Machine) (from : Host) → IsDevice d → m.core.device ≡ d → from ≡ [] → core.IsNew (plain_shape d) Takes from m.core.state m.server → m.outstanding ≡ None → m.snapshot ≡ None
-    → (r : Running) × IsNewRun d r × IsAtRun r m × IsFaithful r
+    → (r : Running) × IsNewRun d r × IsAtRun r m × IsFaithful r m.core.state
 new_run d m from is device empty k out copy =
     let v : Setting = record { shape = plain_shape d; format = k.format } in
     let r : Running = record { setting = v; turns = []; message = None; host = m.server; copy = None } in
-    let puts = subst (λ (h : Host). PutsAll Takes h k.format m.server) empty k.puts in (
+    let puts = subst (λ (h : Host). PutsAll Takes h k.format m.server) empty k.puts in
+    let new = new_hosts_serve v k.trees m.server is (omega arith) k.formatted puts in (
       r,
       record { shape = refl; trees = k.trees; formatted = k.formatted; taken = puts; turns = refl; message = refl; copy = refl },
       record { ranges = rw device is; shape = ap plain_shape (sym device); leads = (k.trees, k.formatted, sym k.state); message = out; host = refl; copy = copy },
-      record { apart = tt; calm = tt; served = formatted_served v k.trees m.server is (omega arith) k.formatted puts },
+      rw k.state (record { calm = tt; alive = refl; world = world_of v []; array = λ a. replicate d.block_bytes 0; serving = new.serving; hosts = new.hosts }),
     )
 
 -- a formatting of a host that keeps nothing is broken off for want of memory alone

@@ -4,8 +4,6 @@ pub mod Writes
 pub mod FirstLine
 pub mod Whole
 pub mod Turning
-pub mod HostedPast
-pub mod HostedSteps
 pub mod Faithful
 pub mod Answering
 pub mod Drained

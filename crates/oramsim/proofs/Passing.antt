@@ -25,8 +25,8 @@ use Rattle.oramsim.specs.declared.script.Ending.TheVariants.{End, BadLine}
 use Rattle.oramsim.specs.declared.script.SimFault.{SimFault}
 
 -- a line was passed, and the run goes on
-abbrev pub Passed : Point → List ℕ → Option Machine → Option (List ℕ) → Option (List ℕ) → Type 0
-Passed p bytes m old new = (q : Point) × IsPassed p bytes q × RunsOnAt p q m old new × (IsHarmless (line_of bytes) → IsFaithfulAt p.stage → IsFaithfulAt q.stage)
+abbrev pub Passed : Point → List ℕ → Option Machine → Option Machine → Option (List ℕ) → Option (List ℕ) → Type 0
+Passed p bytes from m old new = (q : Point) × IsPassed p bytes q × RunsOnAt p q m old new × (IsHarmless (line_of bytes) → IsFaithfulAt p.stage from → IsFaithfulAt q.stage m)
 
 pub passes_line : (p q : Point) (bytes : List ℕ) (line : Line) → (length bytes == 0) ≡ false → line_of bytes ≡ Some line → IsDone p p.stage line q → IsPassed p bytes q
 passes_line p q [] line n e d = cc
@@ -43,14 +43,14 @@ passes_empty p (b ∷ bytes) e = absurd (omega (arith, eqb-true (length (b ∷ b
 no_text : (p : Point) (old : Option (List ℕ)) → Prints (text_at p) (text_at p) old old
 no_text p old = ([], sym (append-nil (text_at p)), Appends-nil old)
 
-pub empty_passed : (p : Point) (m : Option Machine) (bytes : List ℕ) (old : Option (List ℕ)) → (length bytes == 0) ≡ true → StandsAt p.stage m → Passed p bytes m old old
+pub empty_passed : (p : Point) (m : Option Machine) (bytes : List ℕ) (old : Option (List ℕ)) → (length bytes == 0) ≡ true → StandsAt p.stage m → Passed p bytes m m old old
 empty_passed p m bytes old e f = (p, passes_empty p bytes e, (f, no_text p old), λ harmless h. h)
 
 -- a device obeyed a line
 passed_at : (stage : Stage) (head : List ℕ) (m n : Machine) (bytes : List ℕ) (line : Line) (result : Result Bool SimFault) (old new : Option (List ℕ)) →
-    ((r : Running) → IsAtRun r m → result ≡ Ok true → Obeyed r line n old new)
+    ((r : Running) → IsAtRun r m → result ≡ Ok true → Obeyed r m.core.state line n old new)
     → (length bytes == 0) ≡ false → line_of bytes ≡ Some line → StandsAt stage (Some m) → result ≡ Ok true
-    → Passed (record { stage = stage; head = head }) bytes (Some n) old new
+    → Passed (record { stage = stage; head = head }) bytes (Some m) (Some n) old new
 passed_at None head m n bytes line result old new ok some e f done = absurd f
 passed_at (Some r) head m n bytes line result old new ok some e f done =
     let o = ok r f done in
@@ -58,10 +58,11 @@ passed_at (Some r) head m n bytes line result old new ok some e f done =
     let q : Point = record { stage = Some o.0; head = head } in
     (q, passes_line p q bytes line some e (o.0, o.1, refl), (o.2.0, (o.2.1.0, ap (λ l. head ++ l) o.2.1.1 ∙ sym (append_assoc head _ o.2.1.0), o.2.1.2)), λ harmless h. o.3 (subst IsHarmless e harmless) h)
 
-pub passed_some : (p : Point) (m n : Machine) (bytes : List ℕ) (line : Line) (result : Result Bool SimFault) (old new : Option (List ℕ)) →
-    ((r : Running) → IsAtRun r m → result ≡ Ok true → Obeyed r line n old new)
-    → (length bytes == 0) ≡ false → line_of bytes ≡ Some line → StandsAt p.stage (Some m) → result ≡ Ok true → Passed p bytes (Some n) old new
-passed_some p m n bytes line result old new ok some e f done = passed_at p.stage p.head m n bytes line result old new ok some e f done
+pub passed_some : (p : Point) (from : Option Machine) (m n : Machine) (bytes : List ℕ) (line : Line) (result : Result Bool SimFault) (old new : Option (List ℕ)) →
+    ((r : Running) → IsAtRun r m → result ≡ Ok true → Obeyed r m.core.state line n old new)
+    → (length bytes == 0) ≡ false → line_of bytes ≡ Some line → from ≡ Some m → StandsAt p.stage from → result ≡ Ok true → Passed p bytes from (Some n) old new
+passed_some p from m n bytes line result old new ok some e is f done =
+    subst (λ (o : Option Machine). Passed p bytes o (Some n) old new) (sym is) (passed_at p.stage p.head m n bytes line result old new ok some e (subst (StandsAt p.stage) is f) done)
 
 refused_at : (stage : Stage) (m : Machine) (bytes : List ℕ) (line : Line) (result : Result Bool SimFault) (old new : Option (List ℕ)) →
     ((r : Running) → IsAtRun r m → result ≡ Ok false → IsUnfit r line × (new ≡ old))
@@ -75,22 +76,22 @@ pub refused_some : (p : Point) (m : Machine) (bytes : List ℕ) (line : Line) (r
 refused_some p m bytes line result old new bad some e f done = refused_at p.stage m bytes line result old new bad some e f done
 
 -- a device where there was none
-started_at : (stage : Stage) (head : List ℕ) (m : Option Machine) (bytes : List ℕ) (blocks block_bytes slots top lifetime : ℕ) (made : Result Sizes ShapeFault) (old new : Option (List ℕ)) →
+started_at : (stage : Stage) (head : List ℕ) (from m : Option Machine) (bytes : List ℕ) (blocks block_bytes slots top lifetime : ℕ) (made : Result Sizes ShapeFault) (old new : Option (List ℕ)) →
     made ≡ device_of (record { blocks = blocks; block_bytes = block_bytes; slots = slots; top = top; lifetime = lifetime })
-    → ((h : List ℕ) → (q : Point) × Starts h made q × RunsOnAt (record { stage = None; head = h }) q m old new × IsFaithfulAt q.stage)
+    → ((h : List ℕ) → (q : Point) × Starts h made q × RunsOnAt (record { stage = None; head = h }) q m old new × IsFaithfulAt q.stage m)
     → (length bytes == 0) ≡ false → line_of bytes ≡ Some (Device blocks block_bytes slots top lifetime) → StandsAt stage None
-    → Passed (record { stage = stage; head = head }) bytes m old new
-started_at (Some r) head m bytes blocks block_bytes slots top lifetime made old new is began some e f = absurd f
-started_at None head m bytes blocks block_bytes slots top lifetime made old new is began some e f =
+    → Passed (record { stage = stage; head = head }) bytes from m old new
+started_at (Some r) head from m bytes blocks block_bytes slots top lifetime made old new is began some e f = absurd f
+started_at None head from m bytes blocks block_bytes slots top lifetime made old new is began some e f =
     let k = began head in
     let p : Point = record { stage = None; head = head } in
     (k.0, passes_line p k.0 bytes (Device blocks block_bytes slots top lifetime) some e (subst (λ (o : Result Sizes ShapeFault). Starts head o k.0) is k.1), k.2, λ harmless h. k.3)
 
-pub started : (p : Point) (m : Option Machine) (bytes : List ℕ) (blocks block_bytes slots top lifetime : ℕ) (made : Result Sizes ShapeFault) (old new : Option (List ℕ)) →
+pub started : (p : Point) (from m : Option Machine) (bytes : List ℕ) (blocks block_bytes slots top lifetime : ℕ) (made : Result Sizes ShapeFault) (old new : Option (List ℕ)) →
     made ≡ device_of (record { blocks = blocks; block_bytes = block_bytes; slots = slots; top = top; lifetime = lifetime })
-    → ((h : List ℕ) → (q : Point) × Starts h made q × RunsOnAt (record { stage = None; head = h }) q m old new × IsFaithfulAt q.stage)
-    → (length bytes == 0) ≡ false → line_of bytes ≡ Some (Device blocks block_bytes slots top lifetime) → StandsAt p.stage None → Passed p bytes m old new
-started p m bytes blocks block_bytes slots top lifetime made old new is began some e f = started_at p.stage p.head m bytes blocks block_bytes slots top lifetime made old new is began some e f
+    → ((h : List ℕ) → (q : Point) × Starts h made q × RunsOnAt (record { stage = None; head = h }) q m old new × IsFaithfulAt q.stage m)
+    → (length bytes == 0) ≡ false → line_of bytes ≡ Some (Device blocks block_bytes slots top lifetime) → StandsAt p.stage None → Passed p bytes from m old new
+started p from m bytes blocks block_bytes slots top lifetime made old new is began some e f = started_at p.stage p.head from m bytes blocks block_bytes slots top lifetime made old new is began some e f
 
 head_made : (head : List ℕ) (made : Result Sizes ShapeFault) (q : Point) → Starts head made q → Clean head → Clean q.head
 head_made head (Ok d) q k clean = subst (λ (u : Point). Clean u.head) (sym k.2) (clean_append head (ready_text (trees_of d)) clean (ready_clean (trees_of d)))
@@ -113,12 +114,13 @@ head_passed : (p q : Point) (bytes : List ℕ) → IsPassed p bytes q → Clean 
 head_passed p q [] k clean = subst (λ (u : Point). Clean u.head) (sym k) clean
 head_passed p q (b ∷ bytes) k clean = head_done p.stage p q k.0 k.2 clean
 
-stage_clean : (stage : Stage) → IsFaithfulAt stage → Clean (stage_text stage)
-stage_clean None h = clean_nil
-stage_clean (Some r) h = turns_clean r.turns h.calm
+stage_clean : (stage : Stage) (m : Option Machine) → IsFaithfulAt stage m → Clean (stage_text stage)
+stage_clean None m h = clean_nil
+stage_clean (Some r) None h = absurd h
+stage_clean (Some r) (Some m) h = turns_clean r.turns h.calm
 
-point_clean : (p : Point) → Clean p.head → IsFaithfulAt p.stage → Clean (text_at p)
-point_clean p clean h = clean_append p.head (stage_text p.stage) clean (stage_clean p.stage h)
+point_clean : (p : Point) (m : Option Machine) → Clean p.head → IsFaithfulAt p.stage m → Clean (text_at p)
+point_clean p m clean h = clean_append p.head (stage_text p.stage) clean (stage_clean p.stage m h)
 
 all_split : {A : Type 0} (P : A → Type 0) (xs ys : List A) → AllByRecursion P (xs ++ ys) → AllByRecursion P xs × AllByRecursion P ys
 all_split P [] ys h = (tt, h)
@@ -141,7 +143,7 @@ pub record Came (input : List ℕ) (left old new : Option (List ℕ)) (number : 
   pub stands : StandsAt point.stage machine
   pub wrote : Appends old new (text_at point)
   pub neat : Clean point.head
-  pub faithful : AllByRecursion (λ bytes. IsHarmless (line_of bytes)) lines → IsFaithfulAt point.stage
+  pub faithful : AllByRecursion (λ bytes. IsHarmless (line_of bytes)) lines → IsFaithfulAt point.stage machine
 
 pub came_none : (all text : Option (List ℕ)) → IfSome all (λ input. Came input all text text 0 None)
 came_none None text = tt
@@ -153,7 +155,7 @@ read_rest left later line rest e drops known = (subst (λ o. IfSome o (λ xs. li
 
 pub came_more : (all left later old mid new : Option (List ℕ)) (number : ℕ) (m n : Option Machine) (line bytes : List ℕ) →
     IfSome all (λ input. Came input left old mid number m) → IfSome left (λ xs. line ≡ take_through 10 xs) → DropsThrough left later 10 → 0 < length line → bytes ≡ strip_last 10 line
-    → ((p : Point) → StandsAt p.stage m → Passed p bytes n mid new)
+    → ((p : Point) → StandsAt p.stage m → Passed p bytes m n mid new)
     → IfSome all (λ input. Came input later old new (number + 1) n)
 came_more None left later old mid new number m n line bytes came e drops some cut ok = tt
 came_more (Some input) left later old mid new number m n line bytes came e drops some cut ok =
@@ -182,7 +184,7 @@ came_end (Some input) left old new number m came end =
     let all : lines_of input ≡ came.lines = came.split ∙ (ap (λ l. came.lines ++ lines_of l) over ∙ append-nil came.lines) in (
       text_at came.point,
       (came.point, subst (λ l. FoldsTo IsPassed start l came.point) (sym all) came.passed, run_done came.point.stage m came.stands, refl),
-      (λ harmless. clean_text (text_at came.point) (point_clean came.point came.neat (came.faithful (subst (AllByRecursion (λ b. IsHarmless (line_of b))) all harmless)))),
+      (λ harmless. clean_text (text_at came.point) (point_clean came.point m came.neat (came.faithful (subst (AllByRecursion (λ b. IsHarmless (line_of b))) all harmless)))),
       came.wrote,
     )
 
@@ -211,7 +213,7 @@ came_bad (Some input) left later old mid next new number m line bytes came e dro
       ),
       (λ harmless.
           let parts = all_split (λ b. IsHarmless (line_of b)) came.lines (bytes ∷ lines_of (drop_through 10 came.rest)) (subst (AllByRecursion (λ b. IsHarmless (line_of b))) split harmless) in
-          clean_text (text_at came.point ++ error_text (number + 1)) (clean_append (text_at came.point) (error_text (number + 1)) (point_clean came.point came.neat (came.faithful parts.0)) (error_clean (number + 1)))),
+          clean_text (text_at came.point ++ error_text (number + 1)) (clean_append (text_at came.point) (error_text (number + 1)) (point_clean came.point m came.neat (came.faithful parts.0)) (error_clean (number + 1)))),
       Appends-trans _ _ _ _ _ (subst (λ w. Appends old w (text_at came.point)) (sym p.1) came.wrote) told,
     )
 

@@ -1,7 +1,7 @@
 -- A machine that goes on with the core that was read back.
 use Rattle.std.proofs.Common.{◌≡◌, ℕ, List, Option, refl}
 use Rattle.oram_run.specs.Run.{Shown}
-use Rattle.oram_run.specs.State.{State, status_in}
+use Rattle.oram_run.specs.State.{status_in}
 use Rattle.oram_run.specs.declared.events.Event.TheVariants as event
 use Rattle.oramsim.specs.Script.{Obeys, Running, after_turn}
 use Rattle.oramsim.specs.Standing.{RunsOn, IsFaithful, IsWholeMachine, IsAtRun, StaysFaithful}
@@ -16,7 +16,8 @@ pub same_stands : (r : Running) (m n : Machine) → n ≡ m → IsAtRun r m → 
 same_stands r m n same f = rw same f
 
 -- a core that was told that it was read back
-pub reopened : (r : Running) (s : State) (n : Machine) (old new : Option (List ℕ))
-    → (x : Shown) × RunsOn r (after_turn r event.Reopen x) n old new × StaysFaithful r s event.Reopen x
-    → (later : Running) × Obeys r Reopen later × RunsOn r later n old new × (IsFaithful r → IsFaithful later)
-reopened r s n old new q = (after_turn r event.Reopen q.0, (q.0, refl), q.1, λ h. q.2 r.host (unheard (status_in s) s.last event.Reopen r.host refl) h)
+pub reopened : (r : Running) (m k n : Machine) (old new : Option (List ℕ)) → k ≡ m
+    → (x : Shown) × RunsOn r (after_turn r event.Reopen x) n old new × StaysFaithful r k.core.state event.Reopen x n.core.state
+    → (later : Running) × Obeys r Reopen later × RunsOn r later n old new × (IsFaithful r m.core.state → IsFaithful later n.core.state)
+reopened r m k n old new same q =
+    (after_turn r event.Reopen q.0, (q.0, refl), q.1, λ h. q.2 r.host (unheard (status_in k.core.state) k.core.state.last event.Reopen r.host refl) (rw same h))

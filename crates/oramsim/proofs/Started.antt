@@ -13,8 +13,8 @@ pub nothing_shown : (r : Running) → r.turns ≡ [] → stage_text (Some r) ≡
 nothing_shown r none = rw none refl
 
 pub begun : (head : List ℕ) (made : Result Sizes ShapeFault) (d : Sizes) (trees : ℕ) (m : Machine) (old new : Option (List ℕ)) → made ≡ Ok d → trees ≡ trees_of d
-    → (r : Running) × IsNewRun d r × IsAtRun r m × IsFaithful r → Appends old new (ready_text trees)
-    → (q : Point) × Starts head made q × RunsOnAt (record { stage = None; head = head }) q (Some m) old new × IsFaithfulAt q.stage
+    → (r : Running) × IsNewRun d r × IsAtRun r m × IsFaithful r m.core.state → Appends old new (ready_text trees)
+    → (q : Point) × Starts head made q × RunsOnAt (record { stage = None; head = head }) q (Some m) old new × IsFaithfulAt q.stage (Some m)
 begun head made d trees m old new is count p wrote =
     let text = ready_text (trees_of d) in
     let q : Point = record { stage = Some p.0; head = head ++ text } in (
@@ -25,7 +25,7 @@ begun head made d trees m old new is count p wrote =
     )
 
 pub faulted : (head : List ℕ) (made : Result Sizes ShapeFault) (fault : ShapeFault) (old new : Option (List ℕ)) → made ≡ Err fault → Appends old new (shape_text fault)
-    → (q : Point) × Starts head made q × RunsOnAt (record { stage = None; head = head }) q None old new × IsFaithfulAt q.stage
+    → (q : Point) × Starts head made q × RunsOnAt (record { stage = None; head = head }) q None old new × IsFaithfulAt q.stage None
 faulted head made fault old new is wrote =
     let text = shape_text fault in
     let q : Point = record { stage = None; head = head ++ text } in (

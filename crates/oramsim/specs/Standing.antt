@@ -1,5 +1,5 @@
 -- How a machine stands to the run of a script.
-use Rattle.std.specs.Prelude.{◌≡◌, ◌⊎◌, ℕ, ◌+◌, ◌-◌, ◌*◌, ◌<◌, false, if◌then◌else◌, List, [], ◌∷◌, length, ◌++◌, Option, Some, None, is_some, IfSome, ⊤}
+use Rattle.std.specs.Prelude.{◌≡◌, ◌⊎◌, ℕ, ◌+◌, ◌-◌, ◌*◌, ◌<◌, false, if◌then◌else◌, List, length, ◌++◌, Option, Some, None, is_some, IfSome, ⊤}
 use Rattle.std.specs.Io.KnownBytes.{Appends}
 use Rattle.std.specs.List.{AllByRecursion, FoldsTo}
 use Rattle.oram_geometry.specs.declared.Sizes.{Sizes}
@@ -7,14 +7,14 @@ use Rattle.oram_geometry.specs.Sizes.{IsDevice, trees_of}
 use Rattle.oram_host.specs.Host.{Host}
 use Rattle.oram_tree.specs.State.{State as Tree}
 use Rattle.oram_run.specs.Formatting.{IsFormatted}
-use Rattle.oram_run.specs.Law.{StepsByRule, new_state}
-use Rattle.oram_run.specs.Progress.{Setting, Step}
-use Rattle.oram_run.specs.Run.{Shown, fails_now, is_waiting, shows_pair, step_of}
-use Rattle.oram_run.specs.State.{State, status_in}
+use Rattle.oram_run.specs.Law.{IsServing, StepsByRule, new_state}
+use Rattle.oram_run.specs.Progress.{Setting}
+use Rattle.oram_run.specs.Run.{Shown, fails_now, is_waiting}
+use Rattle.oram_run.specs.State.{State, World, status_in}
 use Rattle.oram_run.specs.declared.events.Event.{Event}
 use Rattle.oram_core.specs.Steps.{Steps}
 use Rattle.oram_honest.specs.Honest.{IsHonest}
-use Rattle.oramsim.specs.Hosting.{IsServed}
+use Rattle.oram_honest.specs.Hosting.{Hosts}
 use Rattle.oramsim.specs.Printing.{reaction_text}
 use Rattle.oramsim.specs.Script.{HasPassed, HasRun, IsBeginning, IsDrained, IsDue, Obeys, Point, GetsTo, Running, Stage, Turn, after_turn, newest_of, plain_shape, stage_text, text_at, with_host}
 use Rattle.oramsim.specs.declared.line.Line.{Line}
@@ -58,29 +58,23 @@ pub record IsAtRun (r : Running) (m : Machine) : Type 0 where
   pub host : m.server ≡ r.host
   pub copy : m.snapshot ≡ r.copy
 
--- the steps of these turns, the newest first, after a past
-abbrev pub past_from : List Step → List Turn → List Step
-past_from past [] = past
-past_from past (t ∷ turns) = past_from (step_of t.event t.shown ∷ past) turns
-
--- no two records of one digest stand in an answer of these turns, after a past
-abbrev pub AllApart : Setting → List Step → List Turn → Type 0
-AllApart v past [] = ⊤
-AllApart v past (t ∷ turns) = (shows_pair v past t.event ≡ false) × AllApart v (step_of t.event t.shown ∷ past) turns
-
--- the host has served the run so far, and the device never failed
-pub record IsFaithful (r : Running) : Type 0 where
-  pub apart : AllApart r.setting [] r.turns
+-- The device never failed, its core serves an array, and the host keeps what it serves it from.
+pub record IsFaithful (r : Running) (s : State) : Type 0 where
   pub calm : AllByRecursion (λ t. fails_now t.shown.note ≡ false) r.turns
-  pub served : IsServed r.setting (past_from [] r.turns) r.host
+  pub alive : s.failure ≡ None
+  pub world : World
+  pub array : ℕ → List ℕ
+  pub serving : IsServing r.setting.shape s world array
+  pub hosts : Hosts r.setting.shape s world r.host
 
-abbrev pub IsFaithfulAt : Stage → Type 0
-IsFaithfulAt None = ⊤
-IsFaithfulAt (Some r) = IsFaithful r
+abbrev pub IsFaithfulAt : Stage → Option Machine → Type 0
+IsFaithfulAt None machine = ⊤
+IsFaithfulAt (Some r) None = ⊥
+IsFaithfulAt (Some r) (Some m) = IsFaithful r m.core.state
 
 -- a run goes on so where the host was `before`, and is now, what an honest one is
-abbrev pub StaysFaithful : Running → State → Event → Shown → Type 0
-StaysFaithful r s e x = (before : Host) → IsHonest (status_in s) s.last e before r.host → IsFaithful (with_host r before) → IsFaithful (after_turn r e x)
+abbrev pub StaysFaithful : Running → State → Event → Shown → State → Type 0
+StaysFaithful r s e x t = (before : Host) → IsHonest (status_in s) s.last e before r.host → IsFaithful (with_host r before) s → IsFaithful (after_turn r e x) t
 
 abbrev pub AreWhole : Option Machine → Type 0
 AreWhole None = ⊤

@@ -113,7 +113,7 @@ impl Machine {
         ensures whole { OnOk result (IsWholeMachine self.new) }
         ensures left { OnOk result (spec.is_answer event.now ≡ true → is_some self.old.outstanding ≡ true → still_wanted self.new < still_wanted self.old) }
         ensures ok { (r : Running) → IsAtRun r self.old → OnOk result ((x : Shown) × RunsOn r (after_turn r event.now x) self.new (W.contents writer.old) (W.contents writer.new)
-            × StaysFaithful r self.old.core.state event.now x) }
+            × StaysFaithful r self.old.core.state event.now x self.new.core.state) }
         ensures err { (r : Running) → IsAtRun r self.old → IfErr result (λ e. GivesUp r (λ later. (later ≡ r) ⊎ spec.AtEvent r event.now later) e (W.contents writer.old) (W.contents writer.new)) }
     {
         let sent = play(alloc, writer, &mut self.core, event)?;
@@ -142,7 +142,7 @@ impl Machine {
         ensures whole { OnOk result (IsWholeMachine self.new) }
         ensures left { OnOk result (is_some self.old.outstanding ≡ true → still_wanted self.new < still_wanted self.old) }
         ensures ok { (r : Running) → IsAtRun r self.old → OnOk result ((x : Shown) × (later : Running) × IsAnswered r x later
-            × RunsOn r later self.new (W.contents writer.old) (W.contents writer.new) × (IsFaithful r → IsFaithful later)) }
+            × RunsOn r later self.new (W.contents writer.old) (W.contents writer.new) × (IsFaithful r self.old.core.state → IsFaithful later self.new.core.state)) }
         ensures err { (r : Running) → IsAtRun r self.old → IfErr result (λ e. GivesUp r (λ later. (later ≡ r) ⊎ ((x : Shown) × IsAnswered r x later)) e
             (W.contents writer.old) (W.contents writer.new)) }
     {
@@ -156,7 +156,7 @@ impl Machine {
         ensures whole { OnOk result (IsWholeMachine self.new) }
         ensures ok { (r : Running) → IsAtRun r self.old → OnOk result ((xs : List Shown) × (later : Running)
             × FoldsTo IsDrained r xs later × (later.message ≡ None)
-            × RunsOn r later self.new (W.contents writer.old) (W.contents writer.new) × (IsFaithful r → IsFaithful later)) }
+            × RunsOn r later self.new (W.contents writer.old) (W.contents writer.new) × (IsFaithful r self.old.core.state → IsFaithful later self.new.core.state)) }
         ensures err { (r : Running) → IsAtRun r self.old → IfErr result (λ e. GivesUp r (λ later. (xs : List Shown) × FoldsTo IsDrained r xs later) e
             (W.contents writer.old) (W.contents writer.new)) }
     {
@@ -171,7 +171,7 @@ impl Machine {
         requires { IsWholeMachine self.old }
         ensures whole { OnOk result (IsWholeMachine self.new) }
         ensures ok { (r : Running) → IsAtRun r self.old → OnOk result ((later : Running) × Obeys r Line.Late later
-            × RunsOn r later self.new (W.contents writer.old) (W.contents writer.new) × (IsFaithful r → IsFaithful later)) }
+            × RunsOn r later self.new (W.contents writer.old) (W.contents writer.new) × (IsFaithful r self.old.core.state → IsFaithful later self.new.core.state)) }
         ensures err { (r : Running) → IsAtRun r self.old → IfErr result (λ e. GivesUp r (λ later. (later ≡ r) ⊎ Obeys r Line.Late later) e
             (W.contents writer.old) (W.contents writer.new)) }
     {
@@ -184,7 +184,7 @@ impl Machine {
         requires { IsWholeMachine self.old }
         ensures whole { OnOk result (IsWholeMachine self.new) }
         ensures ok { (r : Running) → IsAtRun r self.old → OnOk result ((later : Running) × Obeys r Line.Reopen later
-            × RunsOn r later self.new (W.contents writer.old) (W.contents writer.new) × (IsFaithful r → IsFaithful later)) }
+            × RunsOn r later self.new (W.contents writer.old) (W.contents writer.new) × (IsFaithful r self.old.core.state → IsFaithful later self.new.core.state)) }
         ensures err { (r : Running) → IsAtRun r self.old → IfErr result (λ e. GivesUp r (λ later. (later ≡ r) ⊎ Obeys r Line.Reopen later) e
             (W.contents writer.old) (W.contents writer.new)) }
     {
@@ -197,7 +197,7 @@ impl Machine {
         requires { IsWholeMachine self.old }
         ensures whole { OnOk result (IsWholeMachine self.new) }
         ensures ok { (r : Running) → IsAtRun r self.old → OnOk result ((later : Running) × Obeys r Line.Snapshot later × IsAtRun later self.new
-            × (IsFaithful r → IsFaithful later)) }
+            × (IsFaithful r self.old.core.state → IsFaithful later self.new.core.state)) }
     {
         self.snapshot = Some(self.server.copy(alloc)?);
         Ok(())
@@ -249,7 +249,7 @@ impl Machine {
         requires { IsWholeMachine self.old }
         ensures whole { OnOk result (IsWholeMachine self.new) }
         ensures ok { (r : Running) → IsAtRun r self.old → result ≡ Ok true → (later : Running) × Obeys r line later
-            × RunsOn r later self.new (W.contents writer.old) (W.contents writer.new) × (spec.is_meddling line ≡ false → IsFaithful r → IsFaithful later) }
+            × RunsOn r later self.new (W.contents writer.old) (W.contents writer.new) × (spec.is_meddling line ≡ false → IsFaithful r self.old.core.state → IsFaithful later self.new.core.state) }
         ensures bad { (r : Running) → IsAtRun r self.old → result ≡ Ok false → IsUnfit r line × (W.contents writer.new ≡ W.contents writer.old) }
         ensures err { (r : Running) → IsAtRun r self.old → IfErr result (λ e. GivesUp r (IsUnder r line) e (W.contents writer.old) (W.contents writer.new)) }
     {
@@ -295,7 +295,7 @@ impl Machine {
 fn formatted(alloc: Global, device: Device) -> Result<Machine, FormatFault>
     requires { IsDevice device }
     ensures whole { IfOk result (λ machine. IsWholeMachine machine) }
-    ensures ok { IfOk result (λ machine. (r : Running) × IsNewRun device r × IsAtRun r machine × IsFaithful r) }
+    ensures ok { IfOk result (λ machine. (r : Running) × IsNewRun device r × IsAtRun r machine × IsFaithful r machine.core.state) }
     ensures err { IfErr result (λ fault. fault ≡ FormatFault.OutOfMemory) }
 {
     let mut server = Server::new(alloc);
@@ -316,7 +316,7 @@ pub fn begin<W: Write>(
 ) -> Result<Option<Machine>, SimFault>
     ensures whole { IfOk result (λ machine. AreWhole machine) }
     ensures ok { (head : List ℕ) → IfOk result (λ machine. (q : Point) × Starts head device q
-        × RunsOnAt (record { stage = None; head = head }) q machine (W.contents writer.old) (W.contents writer.new) × IsFaithfulAt q.stage) }
+        × RunsOnAt (record { stage = None; head = head }) q machine (W.contents writer.old) (W.contents writer.new) × IsFaithfulAt q.stage machine) }
     ensures err { (head : List ℕ) → IfErr result (λ e. GivesUpAt (record { stage = None; head = head }) (λ q. (q ≡ record { stage = None; head = head }) ⊎ Starts head device q) e
         (W.contents writer.old) (W.contents writer.new)) }
 {

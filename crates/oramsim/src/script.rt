@@ -66,7 +66,7 @@ fn pass<W: Write>(
     ensures whole { OnOk result (AreWhole machine.new) }
     ensures ok { (p : Point) → StandsAt p.stage machine.old → result ≡ Ok true → (q : Point) × IsPassed p bytes.now q
         × RunsOnAt p q machine.new (W.contents writer.old) (W.contents writer.new)
-        × (IsHarmless (line_of bytes.now) → IsFaithfulAt p.stage → IsFaithfulAt q.stage) }
+        × (IsHarmless (line_of bytes.now) → IsFaithfulAt p.stage machine.old → IsFaithfulAt q.stage machine.new) }
     ensures bad { (p : Point) → StandsAt p.stage machine.old → result ≡ Ok false → IsBad p.stage bytes.now × (W.contents writer.new ≡ W.contents writer.old) }
     ensures err { (p : Point) → StandsAt p.stage machine.old → IfErr result (λ e. GivesUpAt p (λ q. IsPassed p bytes.now q ⊎ IsWithin p (bytes.now ∷ []) q) e
         (W.contents writer.old) (W.contents writer.new)) }

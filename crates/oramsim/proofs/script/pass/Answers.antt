@@ -12,7 +12,7 @@ returns-then-is_empty-clause-ok g c = λ p f e. empty_passed p _ c.args.bytes.no
 
 pub returns-in-Some-machine-clause-ok : goal.returns-in-Some-machine-clause-ok
 returns-in-Some-machine-clause-ok g c = λ p f e.
-    passed_some p c.in-Some-machine.machine c.obey.new.self c.args.bytes.now c.in-Some.line c.obey.result _ _ c.obey.ensures.ok (sym c.if-is_empty.ensures) (sym c.in_ok-line.ensures ∙ c.in-Some.is) (subst (StandsAt p.stage) c.in-Some-machine.is f) e
+    passed_some p _ c.in-Some-machine.machine c.obey.new.self c.args.bytes.now c.in-Some.line c.obey.result _ _ c.obey.ensures.ok (sym c.if-is_empty.ensures) (sym c.in_ok-line.ensures ∙ c.in-Some.is) c.in-Some-machine.is f e
 
 pub returns-in-Some-machine-clause-bad : goal.returns-in-Some-machine-clause-bad
 returns-in-Some-machine-clause-bad g c = λ p f e.
@@ -20,7 +20,7 @@ returns-in-Some-machine-clause-bad g c = λ p f e.
 
 pub returns-in_ok-machine-in-None-clause-ok : goal.returns-in_ok-machine-in-None-clause-ok
 returns-in_ok-machine-in-None-clause-ok g c = λ p f e.
-    started p c.in_ok-machine-in-None.field-0 c.args.bytes.now _ _ _ _ _ c.new-device.result _ _ c.new-device.ensures
+    started p _ c.in_ok-machine-in-None.field-0 c.args.bytes.now _ _ _ _ _ c.new-device.result _ _ c.new-device.ensures
     c.in_ok-machine-in-None.ensures.ok (sym c.if-is_empty.ensures) (sym c.in_ok-line.ensures ∙ (c.in-Some.is ∙ ap (λ (l : Line). Some l) c.in-Device.is)) (subst (StandsAt p.stage) c.in-None.is f)
 
 pub returns-in_err-line-clause-err : goal.returns-in_err-line-clause-err

@@ -13,7 +13,7 @@ loop-alloc-preserved g c = record {
   so_far = λ r f.
       let p = c.loop-alloc.invariant.so_far r f in
       let q = c.in_ok-answer.ensures.ok p.1 p.3.0 in
-      drained_more r p.1 q.1 c.loop-alloc.self c.answer.new.self _ _ _ p.0 q.0 p.2 p.3 (sym c.loop-alloc-test.ensures) q.2 q.3 (λ h. q.4 (p.4 h));
+      drained_more r p.1 q.1 _ c.loop-alloc.self c.answer.new.self _ _ _ p.0 q.0 p.2 p.3 (sym c.loop-alloc-test.ensures) q.2 q.3 (λ h. q.4 (p.4 h));
 }
 
 pub returns-clause-ok : goal.returns-clause-ok

@@ -9,7 +9,7 @@ abbrev pub invariant-loop-alloc : goal.invariant-loop-alloc
 invariant-loop-alloc g l = record {
   whole : IsWholeMachine l.self;
   so_far : (r : Running) → IsAtRun r l.fn.self → (xs : List Shown) × (later : Running) × FoldsTo IsDrained r xs later
-      × RunsOn r later l.self (g.W.Write.contents l.fn.writer) (g.W.Write.contents l.writer) × (IsFaithful r → IsFaithful later);
+      × RunsOn r later l.self (g.W.Write.contents l.fn.writer) (g.W.Write.contents l.writer) × (IsFaithful r l.fn.self.core.state → IsFaithful later l.self.core.state);
 }
 
 abbrev pub decreases-loop-alloc : goal.decreases-loop-alloc

@@ -6,26 +6,26 @@ use Rattle.oramsim.proofs.Obeyed.{answer_obeyed, drain_obeyed, restore_obeyed, r
 use Rattle.oramsim.proofs.machine.Machine.obey.Goals as goal
 
 pub returns-in_ok-tell-in-Told-clause-ok : goal.returns-in_ok-tell-in-Told-clause-ok
-returns-in_ok-tell-in-Told-clause-ok g c = λ r f e. told_obeyed r c.args.line c.args.self.now.core.state c.in-Told.event c.tell.new.self _ _ c.in-Told.is (c.in_ok-tell-in-Told.ensures.ok r f)
+returns-in_ok-tell-in-Told-clause-ok g c = λ r f e. told_obeyed r c.args.self.now.core.state c.args.line c.in-Told.event c.tell.new.self _ _ c.in-Told.is (c.in_ok-tell-in-Told.ensures.ok r f)
 
 pub returns-in_ok-answer-in-Answer-clause-ok : goal.returns-in_ok-answer-in-Answer-clause-ok
-returns-in_ok-answer-in-Answer-clause-ok g c = λ r f e. answer_obeyed r c.args.line c.answer.new.self _ _ c.in-Answer.is (c.in_ok-answer-in-Answer.ensures.ok r f)
+returns-in_ok-answer-in-Answer-clause-ok g c = λ r f e. answer_obeyed r c.args.self.now.core.state c.args.line c.answer.new.self _ _ c.in-Answer.is (c.in_ok-answer-in-Answer.ensures.ok r f)
 
 pub returns-in_ok-drain-in-Drain-clause-ok : goal.returns-in_ok-drain-in-Drain-clause-ok
-returns-in_ok-drain-in-Drain-clause-ok g c = λ r f e. drain_obeyed r c.args.line c.drain.new.self _ _ c.in-Drain.is (c.in_ok-drain-in-Drain.ensures.ok r f)
+returns-in_ok-drain-in-Drain-clause-ok g c = λ r f e. drain_obeyed r c.args.self.now.core.state c.args.line c.drain.new.self _ _ c.in-Drain.is (c.in_ok-drain-in-Drain.ensures.ok r f)
 
 pub returns-in_ok-lose_answer-in-Late-clause-ok : goal.returns-in_ok-lose_answer-in-Late-clause-ok
-returns-in_ok-lose_answer-in-Late-clause-ok g c = λ r f e. spoken_obeyed r c.args.line Late c.lose_answer.new.self _ _ c.in-Late.is (c.in_ok-lose_answer-in-Late.ensures.ok r f)
+returns-in_ok-lose_answer-in-Late-clause-ok g c = λ r f e. spoken_obeyed r c.args.self.now.core.state c.args.line Late c.lose_answer.new.self _ _ c.in-Late.is (c.in_ok-lose_answer-in-Late.ensures.ok r f)
 
 pub returns-in_ok-reopen-in-Reopen-clause-ok : goal.returns-in_ok-reopen-in-Reopen-clause-ok
-returns-in_ok-reopen-in-Reopen-clause-ok g c = λ r f e. spoken_obeyed r c.args.line Reopen c.reopen.new.self _ _ c.in-Reopen.is (c.in_ok-reopen-in-Reopen.ensures.ok r f)
+returns-in_ok-reopen-in-Reopen-clause-ok g c = λ r f e. spoken_obeyed r c.args.self.now.core.state c.args.line Reopen c.reopen.new.self _ _ c.in-Reopen.is (c.in_ok-reopen-in-Reopen.ensures.ok r f)
 
 pub returns-in_ok-keep-in-Snapshot-clause-ok : goal.returns-in_ok-keep-in-Snapshot-clause-ok
-returns-in_ok-keep-in-Snapshot-clause-ok g c = λ r f e. snapshot_obeyed r c.args.line c.keep.new.self _ c.in-Snapshot.is (c.in_ok-keep-in-Snapshot.ensures.ok r f)
+returns-in_ok-keep-in-Snapshot-clause-ok g c = λ r f e. snapshot_obeyed r c.args.self.now.core.state c.args.line c.keep.new.self _ c.in-Snapshot.is (c.in_ok-keep-in-Snapshot.ensures.ok r f)
 
 pub returns-in-Tamper-clause-ok : goal.returns-in-Tamper-clause-ok
 returns-in-Tamper-clause-ok g c = λ r f e.
-    tamper_obeyed r c.args.line c.tamper.new.self c.in-Tamper.tree c.in-Tamper.node c.in-Tamper.offset _ c.in-Tamper.is (when_true _ _ c.tamper.result _ refl (c.tamper.ensures.ok r f) e)
+    tamper_obeyed r c.args.self.now.core.state c.args.line c.tamper.new.self c.in-Tamper.tree c.in-Tamper.node c.in-Tamper.offset _ c.in-Tamper.is (when_true _ _ c.tamper.result _ refl (c.tamper.ensures.ok r f) e)
 
 pub returns-in-Tamper-clause-bad : goal.returns-in-Tamper-clause-bad
 returns-in-Tamper-clause-bad g c = λ r f e.
@@ -33,7 +33,7 @@ returns-in-Tamper-clause-bad g c = λ r f e.
 
 pub returns-in-Swap-clause-ok : goal.returns-in-Swap-clause-ok
 returns-in-Swap-clause-ok g c = λ r f e.
-    let l = c.in-Swap in swap_obeyed r c.args.line c.swap.new.self l.tree_a l.node_a l.tree_b l.node_b _ l.is (when_true _ _ c.swap.result _ refl (c.swap.ensures.ok r f) e)
+    let l = c.in-Swap in swap_obeyed r c.args.self.now.core.state c.args.line c.swap.new.self l.tree_a l.node_a l.tree_b l.node_b _ l.is (when_true _ _ c.swap.result _ refl (c.swap.ensures.ok r f) e)
 
 pub returns-in-Swap-clause-bad : goal.returns-in-Swap-clause-bad
 returns-in-Swap-clause-bad g c = λ r f e.
@@ -41,7 +41,7 @@ returns-in-Swap-clause-bad g c = λ r f e.
 
 pub returns-in_ok-restore-in-Restore-clause-ok : goal.returns-in_ok-restore-in-Restore-clause-ok
 returns-in_ok-restore-in-Restore-clause-ok g c = λ r f e.
-    restore_obeyed r c.args.line c.restore.new.self _ c.in-Restore.is (when_true _ _ c.in_ok-restore-in-Restore.field-0 _ refl (c.in_ok-restore-in-Restore.ensures.ok r f) e)
+    restore_obeyed r c.args.self.now.core.state c.args.line c.restore.new.self _ c.in-Restore.is (when_true _ _ c.in_ok-restore-in-Restore.field-0 _ refl (c.in_ok-restore-in-Restore.ensures.ok r f) e)
 
 pub returns-in_ok-restore-in-Restore-clause-bad : goal.returns-in_ok-restore-in-Restore-clause-bad
 returns-in_ok-restore-in-Restore-clause-bad g c = λ r f e.

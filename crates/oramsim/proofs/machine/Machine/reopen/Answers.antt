@@ -8,7 +8,7 @@ use Rattle.oramsim.proofs.machine.Machine.reopen.Goals as goal
 pub returns-clause-ok : goal.returns-clause-ok
 returns-clause-ok g c = λ r f.
     let same = ap (λ k. record c.args.self.now { core = k }) c.in_ok-self.ensures in
-    on_ok _ _ c.tell.result (λ q. reopened r c.in_ok-self.field-0.state c.tell.new.self _ _ q) (c.tell.ensures.ok r (same_stands r c.args.self.now _ same f))
+    on_ok _ _ c.tell.result (λ q. reopened r c.args.self.now _ c.tell.new.self _ _ same q) (c.tell.ensures.ok r (same_stands r c.args.self.now _ same f))
 
 pub returns-in_err-self-clause-err : goal.returns-in_err-self-clause-err
 returns-in_err-self-clause-err g c = λ r f. raised _ _ OutOfMemory c.from_residual.ensures.1 (stays r c.args.self.now _ _ _ f (inl refl) refl)
