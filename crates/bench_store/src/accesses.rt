@@ -3,6 +3,7 @@
 ghost use Rattle.std.specs.Prelude.{◌≤◌};
 
 use crate::system::{close, new_store, report_memory};
+use crate::times::{Summary, Times, ratio};
 use oram_bytes::Bytes;
 use oram_geometry::Device;
 use oram_host::Server;
@@ -58,28 +59,50 @@ impl<F: OpenFile + Write + Seek> Takes for Plain<F> {
     }
 }
 
-/// What the FETCHes and the STOREs took, in all.
-#[derive(Clone, Copy)]
-struct Times {
-    fetches: Duration,
-    stores: Duration,
+/// How long the FETCHes and the STOREs took.
+#[derive(Drop)]
+struct Accesses {
+    fetches: Times,
+    stores: Times,
 }
 
-const NONE: Times = Times {
-    fetches: Duration::ZERO,
-    stores: Duration::ZERO,
-};
+impl Accesses {
+    fn new(alloc: Global) -> Accesses {
+        Accesses {
+            fetches: Times::new(alloc),
+            stores: Times::new(alloc),
+        }
+    }
+}
 
-/// Hands over a body, and adds to a time what that takes.
+/// The same accesses to the store, to the server in memory and to the plain file.
+#[derive(Drop)]
+struct Compared {
+    file: Accesses,
+    memory: Accesses,
+    plain: Accesses,
+}
+
+impl Compared {
+    fn new(alloc: Global) -> Compared {
+        Compared {
+            file: Accesses::new(alloc),
+            memory: Accesses::new(alloc),
+            plain: Accesses::new(alloc),
+        }
+    }
+}
+
+/// Hands over a body, and notes how long that takes.
 fn timed<T: Takes>(
     rt: &(impl Alloc<A = Global> + Clock),
     taker: &mut T,
     body: &[u8],
-    time: &mut Duration,
+    times: &mut Times,
 ) -> io::Result<Vec<u8>> {
     let start = Instant::now(rt)?;
     let answer = taker.take(rt.alloc(), body)?;
-    *time = time.saturating_add(start.elapsed(rt)?);
+    times.push(start.elapsed(rt)?)?;
     Ok(answer)
 }
 
@@ -144,17 +167,17 @@ fn compare<S: Alter, F: OpenFile + Write + Seek>(
     store: &mut Store<S>,
     server: &mut Server,
     plain: &mut Plain<F>,
-    times: &mut [Times; 3],
+    times: &mut Compared,
 ) -> io::Result<u32> {
     let mut random = ChaCha20Rng::from_seed([1; 32]);
     let mut differing = 0u32;
     for _ in 0..ACCESSES {
         let (fetch, put) = bodies(rt.alloc(), shape, &mut random)?;
-        let from_file = timed(rt, store, fetch.as_slice(), &mut times[0].fetches)?;
-        let from_memory = timed(rt, server, fetch.as_slice(), &mut times[1].fetches)?;
-        let kept = timed(rt, store, put.as_slice(), &mut times[0].stores)?;
-        let held = timed(rt, server, put.as_slice(), &mut times[1].stores)?;
-        let _ = timed(rt, plain, put.as_slice(), &mut times[2].stores)?;
+        let from_file = timed(rt, store, fetch.as_slice(), &mut times.file.fetches)?;
+        let from_memory = timed(rt, server, fetch.as_slice(), &mut times.memory.fetches)?;
+        let kept = timed(rt, store, put.as_slice(), &mut times.file.stores)?;
+        let held = timed(rt, server, put.as_slice(), &mut times.memory.stores)?;
+        let _ = timed(rt, plain, put.as_slice(), &mut times.plain.stores)?;
         if from_file != from_memory || kept != held {
             differing = differing.saturating_add(1);
         }
@@ -162,32 +185,39 @@ fn compare<S: Alter, F: OpenFile + Write + Seek>(
     Ok(differing)
 }
 
-fn each(time: Duration) -> u128 {
-    time.as_micros() / u128::from(ACCESSES)
-}
-
-/// How many a second.
-fn rate(time: Duration) -> u128 {
-    1_000_000 / each(time).max(1)
-}
-
-fn report(rt: &impl Print, times: &[Times; 3], differing: u32) -> io::Result<()> {
-    let [store, server, plain] = times;
-    for (name, time) in [
-        ("FETCHes from the file", store.fetches),
-        ("FETCHes from memory", server.fetches),
-        ("STOREs to the file", store.stores),
-        ("STOREs to memory", server.stores),
-        ("writes of a STORE's bytes, synced", plain.stores),
-    ] {
-        println!(rt; "  {name}: {} a second, {} us each", rate(time), each(time))?;
-    }
-    let ratio = store.stores.as_micros().saturating_mul(100) / plain.stores.as_micros().max(1);
+/// Prints how long calls took.
+fn report_times(rt: &impl Print, name: &str, times: Summary) -> io::Result<()> {
+    let mean = times.mean.as_micros();
     println!(rt;
-        "  a STORE to the file is {}.{:02} times a synced write",
-        ratio / 100,
-        ratio % 100
-    )?;
+        "  {name}: {} a second, {mean} us each (median {} us, longest {} us)",
+        1_000_000 / mean.max(1),
+        times.median.as_micros(),
+        times.longest.as_micros()
+    )
+}
+
+/// Prints how many times as long as a synced write a STORE to the file took.
+fn report_ratio(rt: &impl Print, file: Summary, plain: Summary) -> io::Result<()> {
+    let mean = ratio(file.mean, plain.mean);
+    let median = ratio(file.median, plain.median);
+    println!(rt;
+        "  a STORE to the file is {}.{:02} times a synced write (median {}.{:02} times)",
+        mean / 100,
+        mean % 100,
+        median / 100,
+        median % 100
+    )
+}
+
+fn report(rt: &impl Print, times: &mut Compared, differing: u32) -> io::Result<()> {
+    report_times(rt, "FETCHes from the file", times.file.fetches.summary()?)?;
+    report_times(rt, "FETCHes from memory", times.memory.fetches.summary()?)?;
+    let file = times.file.stores.summary()?;
+    let plain = times.plain.stores.summary()?;
+    report_times(rt, "STOREs to the file", file)?;
+    report_times(rt, "STOREs to memory", times.memory.stores.summary()?)?;
+    report_times(rt, "writes of a STORE's bytes, synced", plain)?;
+    report_ratio(rt, file, plain)?;
     println!(rt; "  answers that differ: {differing}")
 }
 
@@ -217,10 +247,10 @@ where
     let _ = format(rt.alloc(), &mut server, shape)?;
     let plain_name = format!(in rt.alloc(); "{file}-plain")?;
     let mut plain = Plain(fs::create(rt, plain_name.as_str())?);
-    let mut times = [NONE; 3];
+    let mut times = Compared::new(rt.alloc());
     let differing = compare(rt, shape, store, &mut server, &mut plain, &mut times)?;
     fs::remove_file(rt, plain_name.as_str())?;
-    report(rt, &times, differing)
+    report(rt, &mut times, differing)
 }
 
 /// The records of the first device of `bench_core`.

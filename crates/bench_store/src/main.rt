@@ -2,13 +2,15 @@
 //!
 //! `run FILE` makes the first device of `bench_core` in a new file, one tree of blocks of 4,096 bytes, and tells how many FETCHes
 //! and STOREs a second the store answers, how many the server in memory, and how many writes of the same bytes are synced a second,
-//! in one run. `fill FILE DEPTH` makes a whole tree of that depth of the same records in a new file (depth 16: 2.2 GB); `open FILE`
-//! opens what `fill` left, and fetches the paths of its first 1,000 leaves. Each tells the most memory that the process had.
+//! in one run: each by its mean, its median and the longest. `fill FILE DEPTH` makes a whole tree of that depth of the same records
+//! in a new file (depth 16: 2.2 GB); `open FILE` opens what `fill` left, and fetches the paths of its first 1,000 leaves. Each tells
+//! the most memory that the process had.
 #![tactic(auto)]
 
 mod accesses;
 mod filling;
 mod system;
+mod times;
 
 use accesses::measure;
 use filling::{fill, reopen};

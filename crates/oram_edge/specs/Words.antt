@@ -1,5 +1,5 @@
 -- What a command line names, by clap's own account of it.
-use Rattle.std.specs.Prelude.{ℕ, List, [], ◌∷◌, true, Option, None, codes, option_and_then, option_map}
+use Rattle.std.specs.Prelude.{List, [], ◌∷◌, true, Option, None, codes, option_and_then, option_map}
 use Rattle.clap.specs.Walk.{Row, Text, first_of}
 use Rattle.clap.specs.Simple.{App, Shape, new_rule, new_shape, subcommand_of}
 use Rattle.clap.specs.Kinds.{Kinds}

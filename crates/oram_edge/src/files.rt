@@ -1,6 +1,8 @@
 //! The files that programs read and keep.
 
+ghost use Rattle.std.specs.IoError.{error_kind};
 ghost use Rattle.std.specs.Prelude.{◌≡◌, ◌++◌, codes, string_bytes, IfOk};
+ghost use Rattle.oram_edge.specs.Files.{IsFaultOf};
 ghost use Rattle.oram_edge.specs.declared.files.FileFault.TheVariants.{OutOfMemory};
 
 use std::alloc::{AllocError, Global};
@@ -29,7 +31,9 @@ impl From<AllocError> for FileFault {
 }
 
 /// The fault of the file of this name.
-fn file_fault(alloc: Global, name: &str) -> FileFault {
+fn file_fault(alloc: Global, name: &str) -> FileFault
+    ensures { IsFaultOf name.now result }
+{
     match String::from_str(alloc, name) {
         Ok(name) => FileFault::File(name),
         Err(_) => FileFault::OutOfMemory,
@@ -37,7 +41,10 @@ fn file_fault(alloc: Global, name: &str) -> FileFault {
 }
 
 /// What a failed call on the file of this name is.
-pub fn call_fault(alloc: Global, name: &str, error: &io::Error) -> FileFault {
+pub fn call_fault(alloc: Global, name: &str, error: &io::Error) -> FileFault
+    ensures name { IsFaultOf name.now result }
+    ensures memory { error_kind error.now ≡ ErrorKind.OutOfMemory → result ≡ FileFault.OutOfMemory }
+{
     if error.kind() == ErrorKind::OutOfMemory {
         FileFault::OutOfMemory
     } else {

@@ -1,6 +1,6 @@
 //! The words of a command line, which name one of several subcommands and give it a word.
 
-ghost use Rattle.std.specs.Prelude.{◌≡◌, ◌≢◌, None, Some, false, true, IfOk, IsErrOf};
+ghost use Rattle.std.specs.Prelude.{◌≡◌, ◌≢◌, None, Some, false, true, map, string_bytes, IfOk, IsErrOf};
 ghost use Rattle.clap.specs.Faults.{is_simple_and_free};
 ghost use Rattle.clap.specs.Walk.{texts};
 ghost use Rattle.clap.specs.Words.{app_of, kind_of, shape_of};
@@ -31,7 +31,9 @@ pub fn arguments<R: Env + AllocGlobal>(rt: &R) -> Result<Vec<String>, InputFault
 }
 
 /// The texts of words, one for each.
-pub fn texts_of<'a>(alloc: Global, words: &'a [String]) -> Result<Vec<&'a str>, InputFault> {
+pub fn texts_of<'a>(alloc: Global, words: &'a [String]) -> Result<Vec<&'a str>, AllocError>
+    ensures { IfOk result (λ v. texts v.items ≡ map string_bytes words.now) }
+{
     let mut texts = Vec::new(alloc);
     for word in words {
         texts.push(word.as_str())?;

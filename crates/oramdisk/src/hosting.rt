@@ -1,5 +1,7 @@
 //! The host: connections that are served one after the other, out of a store in a file.
 
+ghost use Rattle.std.specs.Prelude.{◌≡◌};
+
 use crate::faults::{Fault, store_fault};
 use crate::hosted::Hosted;
 use crate::settings_file::{HostSettings, read_host_settings};
@@ -52,7 +54,10 @@ fn serve<T: Read + Write + OpenStream + Drop, S: Alter>(
     alloc: Global,
     stream: T,
     hosted: &mut Hosted<S>,
-) -> Option<ServeFault> {
+) -> Option<ServeFault>
+    // No record of a formatting waits for a commit behind it.
+    ensures { hosted.old.store.taken ≡ 0 → hosted.new.store.taken ≡ 0 }
+{
     hosted.begin();
     let (mut reader, mut writer) = match buffered(alloc, stream) {
         Ok(halves) => halves,
@@ -72,7 +77,9 @@ fn receive<R: Clock + Eprint + AllocGlobal, T: Read + Write + OpenStream + Drop,
     stream: T,
     peer: SocketAddr,
     hosted: &mut Hosted<S>,
-) -> Result<(), AllocError> {
+) -> Result<(), AllocError>
+    ensures { hosted.old.store.taken ≡ 0 → hosted.new.store.taken ≡ 0 }
+{
     let alloc = rt.alloc();
     let peer = format!(in alloc; "{peer}")?;
     let from = time(rt)?;

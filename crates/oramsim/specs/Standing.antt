@@ -16,9 +16,10 @@ use Rattle.oram_core.specs.Steps.{Steps}
 use Rattle.oram_honest.specs.Honest.{IsHonest}
 use Rattle.oram_honest.specs.Hosting.{Hosts}
 use Rattle.oramsim.specs.Printing.{reaction_text}
-use Rattle.oramsim.specs.Script.{HasPassed, HasRun, IsBeginning, IsDrained, IsDue, Obeys, Point, GetsTo, Running, Stage, Turn, after_turn, newest_of, plain_shape, stage_text, text_at, with_host}
+use Rattle.oramsim.specs.Script.{HasNoFailure, HasPassed, HasRun, IsBeginning, IsCutText, IsDrained, IsDue, IsHarmlessScript, IsScriptText, Obeys, Point, GetsTo, Running, Stage, Turn, after_turn, newest_of, plain_shape, stage_text, text_at, with_host}
 use Rattle.oramsim.specs.declared.line.Line.{Line}
 use Rattle.oramsim.specs.declared.line.Line.TheVariants.{Drain}
+use Rattle.oramsim.specs.declared.script.Ending.{Ending}
 use Rattle.oramsim.specs.declared.script.SimFault.{SimFault}
 use Rattle.oramsim.specs.declared.script.SimFault.TheVariants.{OutOfMemory, Read, Write}
 use Rattle.oramsim.specs.declared.machine.Machine.{Machine}
@@ -136,3 +137,12 @@ abbrev pub IsUntold : SimFault → List ℕ → Option (List ℕ) → Option (Li
 IsUntold OutOfMemory text old new = new ≡ old
 IsUntold Write text old new = (part : List ℕ) × IsBeginning part text × Appends old new part
 IsUntold Read text old new = ⊥
+
+-- All that a script's run to its ending prints was written, and no failure is told where no line meddles.
+abbrev pub HasEnded : Option (List ℕ) → Option (List ℕ) → Option (List ℕ) → Ending → Type 0
+HasEnded unread old new ending =
+    IfSome unread (λ input. (text : List ℕ) × IsScriptText input text ending × (IsHarmlessScript input → HasNoFailure text) × Appends old new text)
+
+-- What was written is what a run prints that is given up.
+abbrev pub HasGivenUp : Option (List ℕ) → Option (List ℕ) → Option (List ℕ) → SimFault → Type 0
+HasGivenUp unread old new fault = IfSome unread (λ input. (text : List ℕ) × IsCutText input text fault × Appends old new text)

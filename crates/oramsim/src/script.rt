@@ -5,8 +5,8 @@ ghost use Rattle.std.specs.Io.KnownBytes.{Appends, IsAtEnd};
 ghost use Rattle.oramsim.specs.declared.script.SimFault.TheVariants.{OutOfMemory};
 ghost use Rattle.oramsim.specs.Printing.{error_text};
 ghost use Rattle.oramsim.specs.Reading.{line_of};
-ghost use Rattle.oramsim.specs.Script.{Point, HasNoFailure, IsBad, IsCutText, IsHarmless, IsHarmlessScript, IsPassed, IsScriptText, IsWithin};
-ghost use Rattle.oramsim.specs.Standing.{AreWhole, GivesUpAt, RunsOnAt, IsFaithfulAt, IsWrittenAt, IsUntold, StandsAt};
+ghost use Rattle.oramsim.specs.Script.{Point, IsBad, IsHarmless, IsPassed, IsWithin};
+ghost use Rattle.oramsim.specs.Standing.{AreWhole, GivesUpAt, HasEnded, HasGivenUp, RunsOnAt, IsFaithfulAt, IsWrittenAt, IsUntold, StandsAt};
 
 use crate::line::Line;
 use crate::lines::{flush, next_line};
@@ -112,8 +112,7 @@ fn run_lines<R: BufRead, W: Write>(
     reader: &mut R,
     writer: &mut W,
 ) -> Result<Ending, SimFault>
-    ensures ok { IfOk result (λ ending. IfSome (R.remaining reader.old) (λ input. (text : List ℕ) × IsScriptText input text ending
-        × (IsHarmlessScript input → HasNoFailure text) × Appends (W.contents writer.old) (W.contents writer.new) text)) }
+    ensures ok { IfOk result (λ ending. HasEnded (R.remaining reader.old) (W.contents writer.old) (W.contents writer.new) ending) }
     ensures end { result ≡ Ok Ending.End → IfSome (R.remaining reader.old) (λ _. IsAtEnd (R.remaining reader.new)) }
     ensures err { IfErr result (λ e. IfSome (R.remaining reader.old) (λ input. (text : List ℕ) × IsWrittenAt input text e × Appends (W.contents writer.old) (W.contents writer.new) text)) }
 {
@@ -138,10 +137,9 @@ fn run_to_end<R: BufRead, W: Write>(
     reader: &mut R,
     writer: &mut W,
 ) -> Result<Ending, SimFault>
-    ensures ok { IfOk result (λ ending. IfSome (R.remaining reader.old) (λ input. (text : List ℕ) × IsScriptText input text ending
-        × (IsHarmlessScript input → HasNoFailure text) × Appends (W.contents writer.old) (W.contents writer.new) text)) }
+    ensures ok { IfOk result (λ ending. HasEnded (R.remaining reader.old) (W.contents writer.old) (W.contents writer.new) ending) }
     ensures end { result ≡ Ok Ending.End → IfSome (R.remaining reader.old) (λ _. IsAtEnd (R.remaining reader.new)) }
-    ensures err { IfErr result (λ e. IfSome (R.remaining reader.old) (λ input. (text : List ℕ) × IsCutText input text e × Appends (W.contents writer.old) (W.contents writer.new) text)) }
+    ensures err { IfErr result (λ e. HasGivenUp (R.remaining reader.old) (W.contents writer.old) (W.contents writer.new) e) }
 {
     match run_lines(alloc, reader, writer) {
         Err(SimFault::OutOfMemory) => {
@@ -159,10 +157,9 @@ pub fn run_script<R: BufRead, W: Write>(
     reader: &mut R,
     writer: &mut W,
 ) -> Result<Ending, SimFault>
-    ensures ok { IfOk result (λ ending. IfSome (R.remaining reader.old) (λ input. (text : List ℕ) × IsScriptText input text ending
-        × (IsHarmlessScript input → HasNoFailure text) × Appends (W.contents writer.old) (W.contents writer.new) text)) }
+    ensures ok { IfOk result (λ ending. HasEnded (R.remaining reader.old) (W.contents writer.old) (W.contents writer.new) ending) }
     ensures end { result ≡ Ok Ending.End → IfSome (R.remaining reader.old) (λ _. IsAtEnd (R.remaining reader.new)) }
-    ensures err { IfErr result (λ e. IfSome (R.remaining reader.old) (λ input. (text : List ℕ) × IsCutText input text e × Appends (W.contents writer.old) (W.contents writer.new) text)) }
+    ensures err { IfErr result (λ e. HasGivenUp (R.remaining reader.old) (W.contents writer.old) (W.contents writer.new) e) }
 {
     let ended = run_to_end(alloc, reader, writer);
     flush(writer)?;

@@ -1,0 +1,32 @@
+use Rattle.std.proofs.Common.{◌≡◌, ℕ, ◌+◌, List, ap, sym, ◌∙◌}
+use Rattle.oram_wire.specs.HostMessages.{answer_body}
+use Rattle.oram_wire.specs.declared.host_messages.HostAnswer.{HostAnswer}
+use Rattle.oramdisk.specs.Tallies.{capped, frame_len}
+use Rattle.oramdisk.proofs.Served.{served_by}
+use Rattle.oramdisk.proofs.hosted.HostedBucketServer.respond.Goals as goal
+
+pub returns-clause-ok : goal.returns-clause-ok
+returns-clause-ok g c =
+    let call = c.in_ok-answer.ensures in
+    let answer : HostAnswer = call.ok.0 in
+    let bytes : c.in_ok-answer.answer.items ≡ answer_body answer = call.ok.2 in
+    let asked : c.deref.result.now ≡ answer_body answer = c.deref.ensures.value ∙ bytes in
+    let counted : c.deref-2.result.now ≡ answer_body answer = c.deref-2.ensures.value ∙ bytes in (
+      answer,
+      served_by g.S.Store.view _ _ _ _ _ c.self.view_is (record {
+        counts = record {
+          messages = c.with-self-inside.ensures.messages;
+          received = c.with-self-inside.ensures.received;
+          sent = c.with-self-inside.ensures.sent ∙ ap (λ (b : List ℕ). capped (c.self.inside.tally.sent + frame_len b)) counted;
+        };
+        told = λ message numbers is. (call.ok.3 message numbers is).0;
+        records = λ message numbers is. (call.ok.3 message numbers is).1;
+        committed = λ message numbers is kept done. call.committed message numbers is kept (bytes ∙ done);
+        op = λ h. sym bytes ∙ call.op h;
+        misfit = λ h. sym bytes ∙ call.misfit h;
+        full = λ is. c.failure-failure.ensures.full (asked ∙ is);
+        spare = λ isnt. c.failure-failure.ensures.spare (λ same. isnt (sym asked ∙ same));
+      }),
+      call.ok.1,
+      bytes,
+    )
