@@ -79,6 +79,3 @@ pub fn host_serve<R: Read, W: Write, H: BucketServer>(
     }
     Err(ServeFault::Read)
 }
-
-#[cfg(test)]
-mod tests;

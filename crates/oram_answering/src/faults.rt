@@ -69,6 +69,3 @@ impl From<WriteFault> for ServeFault {
         ServeFault::Write
     }
 }
-
-#[cfg(test)]
-mod tests;

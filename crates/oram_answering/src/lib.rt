@@ -4,17 +4,6 @@
 //! requests and writes its answers, to the end of the input. [`put_body`] and [`ServeFault`] serve a client's sessions too.
 #![tactic(auto)]
 
-// Calls once more where one allocation was refused, so that the tests hold whichever it is.
-#[cfg(test)]
-macro_rules! retried {
-    ($call:expr) => {
-        match $call {
-            Ok(value) => value,
-            Err(_) => $call?,
-        }
-    };
-}
-
 mod answering;
 mod faults;
 mod server;

@@ -16,9 +16,6 @@ use std::alloc::{AllocError, Global};
 use std::fmt;
 use std::simd::prelude::*;
 
-#[cfg(test)]
-mod tests;
-
 const NONCE_LEN: usize = 8;
 
 // What a block of ChaCha20 has, and a run of blocks, as many as the generator makes at a time.

@@ -17,9 +17,6 @@ use byteorder::{BigEndian, ByteOrder};
 use oram_geometry::Device;
 use std::alloc::{AllocError, Global};
 
-#[cfg(test)]
-mod tests;
-
 const HEAD_LEN: usize = 8;
 
 /// Why bytes are no bucket: the first fault from the left, and of the faults of one slot the first in this order.

@@ -5,17 +5,6 @@
 //! the host sees; the layers above know it by its law alone.
 #![tactic(auto)]
 
-// Calls once more where one allocation was refused, so that the tests hold whichever it is.
-#[cfg(test)]
-macro_rules! retried {
-    ($call:expr) => {
-        match $call {
-            Ok(value) => value,
-            Err(_) => $call?,
-        }
-    };
-}
-
 mod block;
 mod chacha;
 mod codec;

@@ -12,9 +12,6 @@ use crate::sealing::{OpenFault, Sealer};
 use oram_geometry::Device;
 use std::alloc::{AllocError, Global};
 
-#[cfg(test)]
-mod tests;
-
 /// The sealed bytes of a bucket with these blocks.
 pub fn seal_bucket<S: Sealer>(
     alloc: Global,

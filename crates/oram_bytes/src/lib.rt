@@ -10,6 +10,3 @@ mod word_list;
 
 pub use byte_list::Bytes;
 pub use word_list::Words;
-
-#[cfg(test)]
-mod tests;

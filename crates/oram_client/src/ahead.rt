@@ -80,11 +80,6 @@ impl<R, W, P> Ahead<R, W, P> {
         }
     }
 
-    #[cfg(test)]
-    pub(crate) fn progress(&self) -> &P {
-        &self.progress
-    }
-
     /// Whether as many messages are without an answer as may be.
     fn is_full(&self) -> bool
         ensures most { self.now.due ≤ most_due }

@@ -66,6 +66,3 @@ impl<P: Place> Keeper for FileKeeper<P> {
         }
     }
 }
-
-#[cfg(test)]
-mod tests;

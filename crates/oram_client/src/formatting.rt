@@ -139,6 +139,3 @@ pub fn format_ahead<S: Sealer, R: Read, W: Write, P: Progress>(
     check_trees(alloc, &core, ahead)?;
     Ok(core)
 }
-
-#[cfg(test)]
-mod tests;

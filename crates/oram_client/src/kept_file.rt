@@ -52,6 +52,3 @@ pub fn read_kept_file(file: &[u8]) -> Result<KeptFile<'_>, NotOurs>
         state,
     })
 }
-
-#[cfg(test)]
-mod tests;

@@ -64,6 +64,3 @@ pub fn tape_key(key: &DiskKey, salt: &Salt) -> TapeKey
 {
     TapeKey(derived(key, b"vidlaqe tape key", salt))
 }
-
-#[cfg(test)]
-mod tests;

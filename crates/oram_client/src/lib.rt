@@ -7,17 +7,6 @@
 //! [`format_ahead`] formats a disk over an [`Ahead`], a connection on which messages go ahead of their answers.
 #![tactic(auto)]
 
-// Calls once more where one allocation was refused, so that the tests hold whichever it is.
-#[cfg(test)]
-macro_rules! retried {
-    ($call:expr) => {
-        match $call {
-            Ok(value) => value,
-            Err(_) => $call?,
-        }
-    };
-}
-
 mod ahead;
 mod dialing;
 mod file_keeper;

@@ -170,6 +170,3 @@ impl<D: Dial, W: Watch> Link for PatientLink<D, W> {
 
     ghost counts = { λ l m body outcome h. h.faults };
 }
-
-#[cfg(test)]
-mod tests;

@@ -75,6 +75,3 @@ impl<R: Net + Clock> Dial for TcpDialer<R> {
         thread::sleep(&self.rt, Duration::from_millis(milliseconds));
     }
 }
-
-#[cfg(test)]
-mod tests;

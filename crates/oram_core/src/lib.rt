@@ -23,6 +23,3 @@ pub use oram_tree::{PartsFault, TreeParts};
 pub use outcome::Run;
 pub use parts::{Parts, Pending};
 pub use whole::run;
-
-#[cfg(test)]
-mod tests;

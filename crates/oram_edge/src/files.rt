@@ -130,6 +130,3 @@ impl KeptFile {
         }
     }
 }
-
-#[cfg(test)]
-mod tests;

@@ -6,17 +6,6 @@
 //! beginning of them was written. A [`KeptFile`] is written as a whole. [`listen`], [`connect`] and [`buffered`] are for sockets.
 #![tactic(auto)]
 
-// Calls once more where one allocation was refused, so that the tests hold whichever it is.
-#[cfg(test)]
-macro_rules! retried {
-    ($call:expr) => {
-        match $call {
-            Ok(value) => value,
-            Err(_) => $call?,
-        }
-    };
-}
-
 mod files;
 mod input;
 mod sockets;

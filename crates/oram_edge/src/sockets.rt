@@ -53,6 +53,3 @@ pub fn buffered<S: Read + Write + OpenStream + Drop>(
         BufWriter::new(alloc, writer)?,
     ))
 }
-
-#[cfg(test)]
-mod tests;

@@ -172,6 +172,3 @@ pub fn has_only(table: &Table, keys: &[&str]) -> bool
 {
     are_among(table, keys)
 }
-
-#[cfg(test)]
-mod tests;

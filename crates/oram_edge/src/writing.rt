@@ -68,6 +68,3 @@ pub fn put_number<W: Write>(writer: &mut W, front: &[u8], number: u8) -> Result<
         put_both(writer, front, &[b'0' + number / 100, tens, ones])
     }
 }
-
-#[cfg(test)]
-mod tests;

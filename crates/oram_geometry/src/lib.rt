@@ -261,6 +261,3 @@ impl Device {
         level
     }
 }
-
-#[cfg(test)]
-mod tests;

@@ -39,6 +39,3 @@ pub fn node_digest(bytes: &[u8]) -> [u8; DIGEST_LEN]
 {
     Sha256::digest(bytes)
 }
-
-#[cfg(test)]
-mod tests;

@@ -72,6 +72,3 @@ impl<T: Drop> From<AllocFailed<T>> for ImageFault {
         ImageFault::OutOfMemory
     }
 }
-
-#[cfg(test)]
-mod tests;

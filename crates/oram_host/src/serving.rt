@@ -301,6 +301,3 @@ impl Server {
         save_trees(writer, &self.trees)
     }
 }
-
-#[cfg(test)]
-mod tests;

@@ -27,6 +27,3 @@ impl Sink for Server {
         }
     }
 }
-
-#[cfg(test)]
-mod tests;

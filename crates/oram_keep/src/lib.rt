@@ -12,11 +12,7 @@ mod faults;
 mod keeper;
 mod keeping;
 mod law;
-#[cfg(test)]
-mod lives;
 mod resuming;
-#[cfg(test)]
-mod testing;
 
 pub use asking::{Asked, ask};
 pub use faults::KeepFault;

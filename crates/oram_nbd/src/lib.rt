@@ -44,6 +44,3 @@ pub const MOST_OPTIONS: u32 = 1_000;
 
 /// The longest name of an export, in bytes.
 pub const LONGEST_NAME: usize = 4_096;
-
-#[cfg(test)]
-mod tests;

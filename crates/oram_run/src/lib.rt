@@ -16,6 +16,3 @@ pub use law::{
     cores_serve, cores_tell, new_cores_serve, nonces_are_apart, steps_are_right,
     two_worlds_look_alike,
 };
-
-#[cfg(test)]
-mod tests;

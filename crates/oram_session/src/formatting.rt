@@ -85,6 +85,3 @@ pub fn format_device<S: Sealer, L: Link>(
     let _ = &*link;
     formatted
 }
-
-#[cfg(test)]
-mod tests;

@@ -8,17 +8,6 @@
 //! core that was read back.
 #![tactic(auto)]
 
-// Calls once more where one allocation was refused, so that the tests hold whichever it is.
-#[cfg(test)]
-macro_rules! retried {
-    ($call:expr) => {
-        match $call {
-            Ok(value) => value,
-            Err(_) => $call?,
-        }
-    };
-}
-
 mod exchanges;
 mod formatting;
 mod law;
@@ -29,8 +18,6 @@ mod resuming;
 mod serving;
 mod tape;
 mod tapes;
-#[cfg(test)]
-mod testing;
 
 pub use exchanges::{MOST_RETRIES, exchange};
 pub use formatting::format_device;

@@ -72,6 +72,3 @@ pub trait Link {
     ghost counts: { (l m : Self) (body : List ℕ) (outcome : Outcome)
         → calls l body outcome m → fault_count m ≡ faults_after (fault_count l) outcome };
 }
-
-#[cfg(test)]
-mod tests;

@@ -10,6 +10,3 @@ pub use direct::Direct;
 pub use faulty::FaultLink;
 pub use loopback::LoopLink;
 pub use stream::StreamLink;
-
-#[cfg(test)]
-mod tests;

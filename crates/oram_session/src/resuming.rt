@@ -78,6 +78,3 @@ pub fn resume<S: Sealer, L: Link>(
     exchange_all(alloc, core, link, reaction, MOST_RETRIES - 1)?;
     Ok(waiting)
 }
-
-#[cfg(test)]
-mod tests;

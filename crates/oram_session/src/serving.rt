@@ -186,6 +186,3 @@ pub fn serve<S: Sealer, R: Read, W: Write, L: Link, T: Tape>(
     }
     Err(ServeFault::Read)
 }
-
-#[cfg(test)]
-mod tests;

@@ -5,6 +5,3 @@ mod list;
 
 pub use chacha::ChaChaTape;
 pub use list::ListTape;
-
-#[cfg(test)]
-mod tests;

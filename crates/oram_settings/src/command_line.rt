@@ -103,6 +103,3 @@ pub fn read_words(alloc: Global, words: &[&str]) -> Result<Words, InputFault>
     };
     asked(alloc, name, word, inner.get_str("size"))
 }
-
-#[cfg(test)]
-mod tests;

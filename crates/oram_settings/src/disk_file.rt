@@ -165,6 +165,3 @@ pub fn disk_text(alloc: Global, size: u64, key: &[u8; 32]) -> Result<String, All
         "# The disk's size in bytes. It is fixed once the disk is formatted, and so are the next four lines.\nsize = {size}\nblock = {FIRST_BLOCK}\nslots = {FIRST_SLOTS}\ntable = {FIRST_TABLE}\nsealer = \"chacha\"\n# Whoever has this key can read the disk. Without it nobody can.\nkey = \"{key}\"\n# Where the host is reached, and where the disk is served.\nhost = \"127.0.0.1:7001\"\nlisten = \"127.0.0.1:10809\"\n# The file of the disk's state, in this folder, and whether it is synced each time.\nstate = \"disk.state\"\nsync = true\n# For how many seconds a host that is out of reach is waited for.\npatience = 600\n"
     )
 }
-
-#[cfg(test)]
-mod tests;

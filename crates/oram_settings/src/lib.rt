@@ -4,17 +4,6 @@
 //! write it. [`status_of`] and [`report`] tell how a disk stands, [`progress_text`] and [`Meter`] how far a formatting is.
 #![tactic(auto)]
 
-// Calls once more where one allocation was refused, so that the tests hold whichever it is.
-#[cfg(test)]
-macro_rules! retried {
-    ($call:expr) => {
-        match $call {
-            Ok(value) => value,
-            Err(_) => $call?,
-        }
-    };
-}
-
 mod command_line;
 mod disk_file;
 mod names;

@@ -13,6 +13,3 @@ pub fn beside(alloc: Global, file: &str, name: &str) -> Result<String, AllocErro
     let path = Path::new(file).with_file_name(alloc, name)?;
     Ok(path.into_string())
 }
-
-#[cfg(test)]
-mod tests;

@@ -68,6 +68,3 @@ impl Meter {
         true
     }
 }
-
-#[cfg(test)]
-mod tests;

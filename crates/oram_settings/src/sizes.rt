@@ -56,6 +56,3 @@ pub fn read_size(text: &str) -> Option<u64>
     }
     None
 }
-
-#[cfg(test)]
-mod tests;

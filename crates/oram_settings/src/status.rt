@@ -75,6 +75,3 @@ pub fn report(alloc: Global, status: &Status) -> Result<String, AllocError>
         "size: {size} bytes, {blocks} blocks of {block_bytes}\ntrees: {trees}\naccesses: {accesses} made, {left} left\nwaiting: {waiting}\nstate: {failing}\n"
     )
 }
-
-#[cfg(test)]
-mod tests;

@@ -318,6 +318,3 @@ fn is_among(addresses: &[u32], address: u32) -> bool
 pub fn eviction_has_one_outcome()
     ensures { OneOutcome }
 {}
-
-#[cfg(test)]
-mod tests;

@@ -41,6 +41,3 @@ pub fn files_tell_of_one_core()
     ensures { (text : List ℕ) (overhead : ℕ) (d d' : Sizes) (s s' : State) → length text < 2 ^ 64
         → IsSaved text overhead d s → IsSaved text overhead d' s' → (d ≡ d') × (s ≡ s') }
 {}
-
-#[cfg(test)]
-mod tests;

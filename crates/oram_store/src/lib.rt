@@ -17,6 +17,3 @@ mod tables;
 pub use faults::StoreFault;
 pub use opening::{BucketFile, open_store};
 pub use storing::Store;
-
-#[cfg(test)]
-mod tests;

@@ -5,9 +5,6 @@ ghost use Rattle.oram_tree.specs.Edits.{edited_content, with_entry, HasRoomFor};
 use byteorder::{BigEndian, ByteOrder};
 use std::alloc::{AllocError, Global};
 
-#[cfg(test)]
-mod tests;
-
 /// Bytes of an entry of a map block.
 const ENTRY_LEN: usize = 4;
 

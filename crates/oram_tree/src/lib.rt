@@ -289,6 +289,3 @@ impl Tree {
         Ok(lookup)
     }
 }
-
-#[cfg(test)]
-mod tests;

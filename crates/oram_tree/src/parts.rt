@@ -86,6 +86,3 @@ fn are_blocks(device: &Device, tree: u8, blocks: &[Block]) -> bool
         block.address < count && block.leaf < leaves && block.content.len() == block_bytes
     })
 }
-
-#[cfg(test)]
-mod tests;

@@ -4,20 +4,7 @@
 //! after the other, as `oram_nbd` asks them of a disk. What waits in it from before is carried out first.
 #![tactic(auto)]
 
-// Calls once more where one allocation was refused, so that the tests hold whichever it is.
-#[cfg(test)]
-macro_rules! retried {
-    ($call:expr) => {
-        match $call {
-            Ok(value) => value,
-            Err(_) => $call?,
-        }
-    };
-}
-
 mod disk;
-#[cfg(test)]
-mod tests;
 mod volume;
 
 pub use volume::Volume;

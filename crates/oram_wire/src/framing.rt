@@ -250,6 +250,3 @@ impl Frames {
         Ok(fed)
     }
 }
-
-#[cfg(test)]
-mod tests;

@@ -320,6 +320,3 @@ impl HostAnswer {
         }
     }
 }
-
-#[cfg(test)]
-mod tests;

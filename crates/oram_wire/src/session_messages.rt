@@ -179,6 +179,3 @@ impl SessionReply {
         }
     }
 }
-
-#[cfg(test)]
-mod tests;

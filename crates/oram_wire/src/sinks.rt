@@ -99,6 +99,3 @@ impl Sink for ListSink {
         }
     }
 }
-
-#[cfg(test)]
-mod tests;

@@ -194,6 +194,3 @@ pub fn put_frame<W: Write>(writer: &mut W, body: &[u8]) -> Result<(), WriteFault
     write(writer, &head)?;
     write(writer, body)
 }
-
-#[cfg(test)]
-mod tests;

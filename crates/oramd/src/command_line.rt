@@ -66,6 +66,3 @@ pub fn read_words(alloc: Global, words: &[&str]) -> Result<Words, InputFault>
     let (name, word) = read_named(command(alloc)?, words)?;
     asked(alloc, name, word)
 }
-
-#[cfg(test)]
-mod tests;

@@ -31,6 +31,3 @@ pub fn ending<S: Sealer>(core: &Core<S>, served: Result<(), Fault>) -> Result<()
         None => Ok(()),
     }
 }
-
-#[cfg(test)]
-mod tests;

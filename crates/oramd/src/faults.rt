@@ -180,6 +180,3 @@ pub fn report<W: Write>(writer: &mut W, fault: &Fault) -> u8
     let _passed_over = put_line(writer, fault);
     fault.status()
 }
-
-#[cfg(test)]
-mod tests;

@@ -43,6 +43,3 @@ pub fn format_state<S: Sealer, L: Link>(
     let core = format_device(alloc, device, sealer, link)?;
     Ok(encode_state(alloc, &core)?)
 }
-
-#[cfg(test)]
-mod tests;

@@ -55,6 +55,3 @@ pub fn load_core<S: Sealer>(alloc: Global, sealer: S, file: &[u8]) -> Result<Cor
 {
     Ok(decode_state(alloc, sealer, file)?)
 }
-
-#[cfg(test)]
-mod tests;

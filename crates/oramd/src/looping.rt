@@ -64,6 +64,3 @@ pub fn answer_frames<L: Link>(
     let ended = serve(alloc, &mut reader, replies, &mut core, link, &mut tape, 0);
     after_frames(ended)
 }
-
-#[cfg(test)]
-mod tests;

@@ -1,17 +1,6 @@
 //! The block store as a daemon: a bucket host, the formatting of a device on it, and the proxy that answers the device's sessions.
 #![tactic(auto)]
 
-// Calls once more where one allocation was refused, so that the tests hold whichever it is.
-#[cfg(test)]
-macro_rules! retried {
-    ($call:expr) => {
-        match $call {
-            Ok(value) => value,
-            Err(_) => $call?,
-        }
-    };
-}
-
 mod command_line;
 mod endings;
 mod faults;
@@ -21,8 +10,6 @@ mod loading;
 mod looping;
 mod roles;
 mod settings_file;
-#[cfg(test)]
-mod testing;
 
 pub use command_line::{Role, Words, read_words};
 pub use endings::{after_serving, ending};

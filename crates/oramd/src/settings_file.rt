@@ -159,6 +159,3 @@ pub fn read_settings(alloc: Global, role: Role, text: &str) -> Result<Settings, 
         Role::Proxy => proxy_in(alloc, &table),
     }
 }
-
-#[cfg(test)]
-mod tests;

@@ -94,6 +94,3 @@ pub(crate) fn make_folder<R: Files + RandomSource + AllocGlobal>(
         }
     }
 }
-
-#[cfg(test)]
-mod tests;

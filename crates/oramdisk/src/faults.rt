@@ -234,6 +234,3 @@ pub fn report<W: Write>(writer: &mut W, fault: &Fault) -> u8
     let _passed_over = put_between(writer, front.as_bytes(), name.as_bytes(), rest.as_bytes());
     fault.status()
 }
-
-#[cfg(test)]
-mod tests;

@@ -104,6 +104,3 @@ impl<S: Alter> BucketServer for Hosted<S> {
         Ok(answer)
     }
 }
-
-#[cfg(test)]
-mod tests;

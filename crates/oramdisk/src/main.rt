@@ -1,17 +1,6 @@
 //! A disk on a rented machine: the host that keeps its buckets in a file, and its client, which formats and serves it.
 #![tactic(auto)]
 
-// Calls once more where one allocation was refused, so that the tests hold whichever it is.
-#[cfg(test)]
-macro_rules! retried {
-    ($call:expr) => {
-        match $call {
-            Ok(value) => value,
-            Err(_) => $call?,
-        }
-    };
-}
-
 mod creating;
 mod disk_files;
 mod faults;

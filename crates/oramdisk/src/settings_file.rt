@@ -45,6 +45,3 @@ pub fn read_host_settings(alloc: Global, text: &str) -> Result<HostSettings, Inp
     let table = table_of(alloc, text)?;
     host_in(alloc, &table)
 }
-
-#[cfg(test)]
-mod tests;

@@ -68,6 +68,3 @@ pub fn line(alloc: Global, visit: &Visit) -> Result<String, AllocError>
         "oramdisk: {peer} from {from} until {until}, {messages} messages, {received} bytes in, {sent} bytes out{ended}{failed}\n"
     )
 }
-
-#[cfg(test)]
-mod tests;

@@ -45,6 +45,3 @@ fn run(rt: &(impl Input + Print + AllocGlobal)) -> Result<Ending, SimFault> {
 fn main(rt: HostRuntime) -> ExitCode {
     ExitCode::from(status(run(&rt)))
 }
-
-#[cfg(test)]
-mod tests;

@@ -165,6 +165,3 @@ pub fn run_script<R: BufRead, W: Write>(
     flush(writer)?;
     ended
 }
-
-#[cfg(test)]
-mod tests;

@@ -203,6 +203,3 @@ impl<R: Net> Link for LoopLink<R> {
 
     ghost counts = { λ l m body outcome h. h.faults };
 }
-
-#[cfg(test)]
-mod tests;

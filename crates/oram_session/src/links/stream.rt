@@ -84,6 +84,3 @@ impl<R: Read, W: Write> Link for StreamLink<R, W> {
 
     ghost counts = { λ l m body outcome h. h.faults };
 }
-
-#[cfg(test)]
-mod tests;

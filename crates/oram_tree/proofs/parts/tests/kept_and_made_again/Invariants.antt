@@ -1,7 +1,0 @@
-use Rattle.std.proofs.Common.{◌≡◌, All}
-use Rattle.oram_bucket.specs.Bucket.{IsBlockOf}
-use Rattle.oram_tree.proofs.parts.tests.kept_and_made_again.Given as goal
-
--- the tree made again is the device's first, and its stash has blocks of it
-abbrev pub invariant-loop-address : goal.invariant-loop-address
-invariant-loop-address g l = (l.again.number ≡ 0) × All (IsBlockOf l.device 0) l.again.stash

@@ -1,0 +1,130 @@
+//! Rows are read in turn, and written with their answers.
+
+use crate::page::Page;
+use crate::words::Words;
+use std::alloc::{AllocError, AllocFailed, Global};
+use std::io;
+use std::io::{BufRead, BufReader, BufWriter, ErrorKind, Write};
+use std::process::ExitCode;
+
+/// What keeps a row from being answered.
+#[derive(Clone, Copy, Debug, PartialEq, Eq)]
+pub enum RowFault {
+    /// The words are no call's.
+    NoRow,
+    OutOfMemory,
+}
+
+impl From<AllocError> for RowFault {
+    fn from(_error: AllocError) -> RowFault {
+        RowFault::OutOfMemory
+    }
+}
+
+impl<T: Drop> From<AllocFailed<T>> for RowFault {
+    fn from(_error: AllocFailed<T>) -> RowFault {
+        RowFault::OutOfMemory
+    }
+}
+
+/// The calls that the rows of a program may name, and what they work on from row to row.
+pub trait Table {
+    /// Makes the call of this name with these words, and writes on the page what it answers.
+    fn answer(
+        &mut self,
+        alloc: Global,
+        call: &str,
+        words: &mut Words,
+        page: &mut Page,
+    ) -> Result<(), RowFault>;
+}
+
+/// Answers one row, without its line's end.
+fn answer_row<T: Table>(
+    alloc: Global,
+    table: &mut T,
+    row: &str,
+    page: &mut Page,
+) -> Result<(), AllocError> {
+    let mut words = Words::of(row);
+    let made = match words.text() {
+        Ok(call) => table.answer(alloc, call, &mut words, page),
+        Err(fault) => Err(fault),
+    };
+    match made {
+        Ok(()) if words.is_empty() => Ok(()),
+        Err(RowFault::OutOfMemory) => Err(AllocError),
+        Ok(()) | Err(RowFault::NoRow) => {
+            page.clear();
+            page.word("no such row")
+        }
+    }
+}
+
+/// A row without its expected answer.
+fn call_of(line: &str) -> &str {
+    match line.split_once(" =>") {
+        Some((row, _)) => row,
+        None => line,
+    }
+}
+
+/// Answers the rows of a reader in turn, and writes each with its answer.
+fn answer_rows<R: BufRead + Drop, W: Write, T: Table>(
+    alloc: Global,
+    reader: R,
+    writer: &mut W,
+    table: &mut T,
+) -> io::Result<()> {
+    let mut page = Page::new(alloc);
+    for line in reader.lines(alloc) {
+        let line = line?;
+        let text = line.as_str();
+        if text.is_empty() || text.starts_with('#') {
+            writeln!(writer, "{text}")?;
+            continue;
+        }
+        let row = call_of(text);
+        page.clear();
+        answer_row(alloc, table, row, &mut page)?;
+        let answer = page.text();
+        writeln!(writer, "{row} => {answer}")?;
+    }
+    Ok(())
+}
+
+/// Answers the rows of the standard input on the standard output. The status is 3 where memory ran out, which the last line
+/// says, and 4 where reading or writing failed.
+pub fn run_table<T: Table>(rt: &(impl Input + Print + AllocGlobal), table: &mut T) -> ExitCode {
+    let alloc = rt.alloc();
+    let reader = BufReader::new(alloc, rt.reader());
+    let writer = BufWriter::new(alloc, io::writer(rt));
+    let (Ok(reader), Ok(mut writer)) = (reader, writer) else {
+        return ended(
+            &mut io::writer(rt),
+            Err(io::Error::from(ErrorKind::OutOfMemory)),
+        );
+    };
+    let answered = answer_rows(alloc, reader, &mut writer, table);
+    ended(&mut writer, answered)
+}
+
+/// The status of rows that ended so, once the last line is written.
+fn ended<W: Write>(writer: &mut W, answered: io::Result<()>) -> ExitCode {
+    let status = match answered {
+        Ok(()) => 0,
+        Err(error) if error.kind() == ErrorKind::OutOfMemory => 3,
+        Err(_) => 4,
+    };
+    let told = if status == 3 {
+        writeln!(writer, "out of memory")
+    } else {
+        Ok(())
+    };
+    let flushed = writer.flush();
+    ExitCode::from(if told.is_err() || flushed.is_err() {
+        4
+    } else {
+        status
+    })
+}

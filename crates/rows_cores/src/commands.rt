@@ -1,0 +1,51 @@
+//! Commands and events as words.
+
+use oram_bytes::{Bytes, Words as Tape};
+use oram_run::{Command, Event};
+use rows::{Page, RowFault, Words};
+use std::alloc::Global;
+
+/// A command of this kind: `read ADDRESS`, `write ADDRESS DATA` or `discard ADDRESS`.
+pub fn command_of(alloc: Global, kind: &str, words: &mut Words) -> Result<Command, RowFault> {
+    let address = words.short()?;
+    match kind {
+        "read" => Ok(Command::Read(address)),
+        "write" => Ok(Command::Write(address, Bytes::from_vec(words.bytes(alloc)?))),
+        "discard" => Ok(Command::Discard(address)),
+        _ => Err(RowFault::NoRow),
+    }
+}
+
+/// An event of this kind: `KIND SESSION ADDRESS [DATA] TAPE` for a command, `hear BYTES` for an answer, `lost`, `reopened`
+/// or `retry`.
+pub fn event_of(alloc: Global, kind: &str, words: &mut Words) -> Result<Event, RowFault> {
+    match kind {
+        "hear" => Ok(Event::Answer(Bytes::from_vec(words.bytes(alloc)?))),
+        "lost" => Ok(Event::Lost),
+        "reopened" => Ok(Event::Reopen),
+        "retry" => Ok(Event::Retry),
+        _ => {
+            let session = words.short()?;
+            let command = command_of(alloc, kind, words)?;
+            Ok(Event::Submit {
+                session,
+                command,
+                words: Tape::from_vec(words.numbers(alloc)?),
+            })
+        }
+    }
+}
+
+/// Writes a command.
+pub fn show_command(alloc: Global, command: &Command, page: &mut Page) -> Result<(), RowFault> {
+    page.word(match command {
+        Command::Read(_) => "read",
+        Command::Write(..) => "write",
+        Command::Discard(_) => "discard",
+    })?;
+    page.number(alloc, u64::from(command.address()))?;
+    if let Command::Write(_, bytes) = command {
+        page.bytes(alloc, bytes.as_slice())?;
+    }
+    Ok(())
+}

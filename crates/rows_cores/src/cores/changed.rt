@@ -1,0 +1,78 @@
+//! Cores made of changed parts.
+
+use super::machine::Machine;
+use crate::said::reason_of;
+use oram_bucket::{Block, Sealer};
+use oram_bytes::Bytes;
+use oram_core::Parts;
+use rows::{Page, RowFault, Words};
+use std::alloc::Global;
+
+/// Changes one of the parts of a core.
+fn change(
+    alloc: Global,
+    parts: &mut Parts,
+    field: &str,
+    words: &mut Words,
+) -> Result<(), RowFault> {
+    match field {
+        "tickets" => parts.tickets = words.number()?,
+        "nonce" => parts.nonce = words.number()?,
+        "table" => parts.table = words.shorts(alloc)?,
+        "trees" => parts.trees.truncate(words.size()?),
+        "failure" => parts.failure = Some(reason_of(words)?),
+        "waiting" => parts.waiting.truncate(words.size()?),
+        "entry" => parts.r = words.short()?,
+        "held_entry" => parts.held_entry = words.short()?,
+        "held_data" => parts.held_data = Bytes::from_vec(words.bytes(alloc)?),
+        "message" => parts.message = Bytes::from_vec(words.bytes(alloc)?),
+        "stalled" => parts.stalled = words.flag()?,
+        _ => return Err(RowFault::NoRow),
+    }
+    Ok(())
+}
+
+impl<S: Sealer + Copy> Machine<S> {
+    /// `core parts FIELD VALUE`: whether there is a core with the parts of this one, one of them changed: `core`, or
+    /// `content` where there is none. Of `trees` and `waiting` the first so many are left.
+    pub fn parts(
+        &mut self,
+        alloc: Global,
+        words: &mut Words,
+        page: &mut Page,
+    ) -> Result<(), RowFault> {
+        let mut parts = self.core.parts(alloc)?;
+        change(alloc, &mut parts, words.text()?, words)?;
+        match self.core_with(alloc, parts)? {
+            Some(_) => page.word("core")?,
+            None => page.word("content")?,
+        }
+        Ok(())
+    }
+
+    /// `core put TREE ADDRESS LEAF DATA`: goes on with a core that has one more block, behind those of the stash of a tree.
+    pub fn put(
+        &mut self,
+        alloc: Global,
+        words: &mut Words,
+        page: &mut Page,
+    ) -> Result<(), RowFault> {
+        let mut parts = self.core.parts(alloc)?;
+        let Some(tree) = parts.trees.get_mut(words.size()?) else {
+            return Err(RowFault::NoRow);
+        };
+        tree.stash.push(Block {
+            address: words.short()?,
+            leaf: words.short()?,
+            content: words.bytes(alloc)?,
+        })?;
+        match self.core_with(alloc, parts)? {
+            Some(core) => {
+                self.core = core;
+                page.word("core")?;
+            }
+            None => page.word("content")?,
+        }
+        Ok(())
+    }
+}

@@ -1,0 +1,104 @@
+//! Answers that a host shouldn't give, each to a copy of the core.
+
+use super::machine::Machine;
+use crate::said::show_reaction;
+use oram_bucket::Sealer;
+use oram_bytes::{Bytes, Words as Tape};
+use oram_core::Core;
+use oram_run::{Command, Event};
+use rows::{Groups, Page, RowFault, Words};
+use std::alloc::Global;
+
+/// A read with words that are all 0.
+fn read_of_zero(alloc: Global, trees: u8) -> Result<Event, RowFault> {
+    Ok(Event::Submit {
+        session: 3,
+        command: Command::Read(0),
+        words: Tape::from_vec(vec![in alloc; 0; 2 * usize::from(trees)]?),
+    })
+}
+
+/// Writes what a core says to an answer, and then to a read, a retry, a loss and a good answer.
+fn show_asked<S: Sealer>(
+    alloc: Global,
+    core: &mut Core<S>,
+    answer: &[u8],
+    page: &mut Page,
+) -> Result<(), RowFault> {
+    let events = [
+        Event::Answer(Bytes::copy(alloc, answer)?),
+        read_of_zero(alloc, core.device().trees())?,
+        Event::Retry,
+        Event::Lost,
+        Event::Answer(Bytes::copy(alloc, &[0x80])?),
+    ];
+    for event in &events {
+        let reaction = core.step(alloc, event)?;
+        show_reaction(alloc, &reaction, page)?;
+    }
+    Ok(())
+}
+
+/// Flips one bit of a byte.
+fn flip(bytes: &mut [u8], place: usize) {
+    if let Some(byte) = bytes.get_mut(place) {
+        *byte ^= 1 << (place % 8);
+    }
+}
+
+impl<S: Sealer + Copy> Machine<S> {
+    /// Gives an answer to a copy of the core, and asks on: what it says joins the group of what was said before.
+    fn try_answer(
+        &self,
+        alloc: Global,
+        number: usize,
+        answer: &[u8],
+        groups: &mut Groups,
+        page: &mut Page,
+    ) -> Result<(), RowFault> {
+        let mut core = self.core_again(alloc)?;
+        let mut said = Page::new(alloc);
+        show_asked(alloc, &mut core, answer, &mut said)?;
+        groups.add(alloc, number as u64, said.text(), page)
+    }
+
+    /// `core flips FIRST LAST`: what the core says to the host's answer with one bit of a byte flipped, byte by byte, and
+    /// then to a read, a retry, a loss and a good answer.
+    pub fn flips(
+        &mut self,
+        alloc: Global,
+        words: &mut Words,
+        page: &mut Page,
+    ) -> Result<(), RowFault> {
+        let (first, last) = (words.size()?, words.size()?);
+        let mut answer = self.answer_of_host(alloc)?;
+        if last >= answer.len() {
+            return Err(RowFault::NoRow);
+        }
+        let mut groups = Groups::new(alloc);
+        for place in first..last + 1 {
+            flip(&mut answer, place);
+            self.try_answer(alloc, place, &answer, &mut groups, page)?;
+            flip(&mut answer, place);
+        }
+        groups.end(alloc, page)
+    }
+
+    /// `core lengths FIRST LAST`: the same for the host's answer cut, or filled up with zeros, to a length.
+    pub fn lengths(
+        &mut self,
+        alloc: Global,
+        words: &mut Words,
+        page: &mut Page,
+    ) -> Result<(), RowFault> {
+        let (first, last) = (words.short()?, words.short()?);
+        let whole = self.answer_of_host(alloc)?;
+        let mut groups = Groups::new(alloc);
+        for len in first as usize..last as usize + 1 {
+            let mut answer = whole.as_slice().to_vec(alloc)?;
+            answer.resize(len, 0)?;
+            self.try_answer(alloc, len, &answer, &mut groups, page)?;
+        }
+        groups.end(alloc, page)
+    }
+}

@@ -1,0 +1,272 @@
+//! A core at work, with its host.
+
+use super::seen::{Seen, show_run};
+use crate::commands::event_of;
+use crate::host::{host_answer, host_of, row_fault};
+use crate::said::{show_answered, show_reaction, show_reason};
+use oram_bucket::Sealer;
+use oram_bytes::Bytes;
+use oram_core::{Core, Parts, PartsFault};
+use oram_geometry::Device;
+use oram_host::Server;
+use oram_run::{Event, Reaction};
+use oram_wire::ListSink;
+use rows::{Page, RowFault, Words};
+use std::alloc::Global;
+
+/// More answers than a row may ask for.
+const MOST_ANSWERS: u32 = 1000;
+
+/// A core with its host, the message that has no answer yet, and all that happened so far.
+#[derive(Drop)]
+pub struct Machine<S: Sealer> {
+    sealer: S,
+    pub(super) core: Core<S>,
+    pub(super) host: Server,
+    outstanding: Option<Bytes>,
+    /// An answer that was kept for later.
+    pub(super) kept: Vec<u8>,
+    /// The copy of the host that was kept.
+    pub(super) snapshot: Option<Server>,
+    events: Vec<Event>,
+    seen: Seen,
+}
+
+/// The core of these parts, or none where they are no core's.
+pub fn core_of<S: Sealer>(
+    alloc: Global,
+    sealer: S,
+    parts: Parts,
+) -> Result<Option<Core<S>>, RowFault> {
+    match Core::from_parts(alloc, sealer, parts) {
+        Ok(core) => Ok(Some(core)),
+        Err(PartsFault::Content) => Ok(None),
+        Err(PartsFault::OutOfMemory) => Err(RowFault::OutOfMemory),
+    }
+}
+
+/// Whether an event ends the wait for an answer.
+fn ends_wait(event: &Event) -> bool {
+    match event {
+        Event::Answer(_) | Event::Lost | Event::Reopen => true,
+        Event::Submit { .. } | Event::Retry => false,
+    }
+}
+
+impl<S: Sealer + Copy> Machine<S> {
+    /// A device just formatted.
+    pub fn new(alloc: Global, device: &Device, sealer: S) -> Result<Machine<S>, RowFault> {
+        let mut sink = ListSink::new(alloc);
+        let core = Core::format(alloc, device.copy(), sealer, &mut sink).map_err(row_fault)?;
+        let format = sink.into_bodies();
+        Ok(Machine {
+            sealer,
+            core,
+            host: host_of(alloc, &format)?,
+            outstanding: None,
+            kept: Vec::new(alloc),
+            snapshot: None,
+            events: Vec::new(alloc),
+            seen: Seen {
+                format,
+                reactions: Vec::new(alloc),
+            },
+        })
+    }
+
+    /// How many messages the formatting took.
+    pub fn messages(&self) -> usize {
+        self.seen.format.len()
+    }
+
+    /// A core with these parts, under the same sealer.
+    pub fn core_with(&self, alloc: Global, parts: Parts) -> Result<Option<Core<S>>, RowFault> {
+        core_of(alloc, self.sealer, parts)
+    }
+
+    /// The core again, made of its parts.
+    pub fn core_again(&self, alloc: Global) -> Result<Core<S>, RowFault> {
+        match self.core_with(alloc, self.core.parts(alloc)?)? {
+            Some(core) => Ok(core),
+            None => Err(RowFault::NoRow),
+        }
+    }
+
+    /// Makes a step.
+    fn step(&mut self, alloc: Global, event: Event) -> Result<&Reaction, RowFault> {
+        let reaction = self.core.step(alloc, &event)?;
+        if ends_wait(&event) {
+            self.outstanding = None;
+        }
+        if let Some(message) = reaction.sends.last() {
+            self.outstanding = Some(Bytes::copy(alloc, message.as_slice())?);
+        }
+        self.events.push(event)?;
+        self.seen.reactions.push(reaction)?;
+        match self.seen.reactions.last() {
+            Some(reaction) => Ok(reaction),
+            None => Err(RowFault::NoRow),
+        }
+    }
+
+    /// Makes a step and writes the reaction.
+    pub fn tell(&mut self, alloc: Global, event: Event, page: &mut Page) -> Result<(), RowFault> {
+        let reaction = self.step(alloc, event)?;
+        show_reaction(alloc, reaction, page)
+    }
+
+    /// What the host answers to the outstanding message. With none outstanding it is no byte.
+    pub fn answer_of_host(&mut self, alloc: Global) -> Result<Vec<u8>, RowFault> {
+        match &self.outstanding {
+            Some(message) => host_answer(alloc, &mut self.host, message.as_slice()),
+            None => Ok(Vec::new(alloc)),
+        }
+    }
+
+    /// `core answer`: the host answers.
+    fn answer(&mut self, alloc: Global, page: &mut Page) -> Result<(), RowFault> {
+        let bytes = self.answer_of_host(alloc)?;
+        self.tell(alloc, Event::Answer(Bytes::from_vec(bytes)), page)
+    }
+
+    /// The host answers so many messages, as long as one is outstanding. The core may be made again of its parts before
+    /// each.
+    fn answers(
+        &mut self,
+        alloc: Global,
+        count: u32,
+        remakes: bool,
+        page: &mut Page,
+    ) -> Result<(), RowFault> {
+        for _ in 0..count {
+            if self.outstanding.is_none() {
+                break;
+            }
+            if remakes {
+                self.core = self.core_again(alloc)?;
+            }
+            let bytes = self.answer_of_host(alloc)?;
+            let reaction = self.step(alloc, Event::Answer(Bytes::from_vec(bytes)))?;
+            show_answered(alloc, reaction, page)?;
+        }
+        Ok(())
+    }
+
+    /// `core late`: the host gets the message, and its answer is lost.
+    fn late(&mut self, alloc: Global, page: &mut Page) -> Result<(), RowFault> {
+        let _unheard = self.answer_of_host(alloc)?;
+        self.tell(alloc, Event::Lost, page)
+    }
+
+    /// `core reopen`: the core is made again of its parts, and is told so.
+    fn reopen(&mut self, alloc: Global, page: &mut Page) -> Result<(), RowFault> {
+        self.core = self.core_again(alloc)?;
+        self.tell(alloc, Event::Reopen, page)
+    }
+
+    /// `core times COUNT EVENT`: the last of so many reactions to one event.
+    fn times(&mut self, alloc: Global, words: &mut Words, page: &mut Page) -> Result<(), RowFault> {
+        let count = words.short()?;
+        let kind = words.text()?;
+        let rest = words.all();
+        for _ in 0..count {
+            page.clear();
+            let event = event_of(alloc, kind, &mut Words::of(rest))?;
+            self.tell(alloc, event, page)?;
+        }
+        Ok(())
+    }
+
+    /// `core told`: the next ticket, how many commands wait, whether the core is idle, whether a store is outstanding, and
+    /// why the device failed.
+    fn told(&self, alloc: Global, page: &mut Page) -> Result<(), RowFault> {
+        page.word("next")?;
+        page.number(alloc, self.core.next_ticket())?;
+        page.part()?;
+        page.word("waiting")?;
+        page.number(alloc, self.core.waiting() as u64)?;
+        page.part()?;
+        page.word("idle")?;
+        page.flag(self.core.is_idle())?;
+        page.part()?;
+        page.word("storing")?;
+        page.flag(self.core.is_storing())?;
+        page.part()?;
+        page.word("failure")?;
+        match self.core.failure() {
+            Some(reason) => show_reason(alloc, reason, page),
+            None => Ok(page.word("none")?),
+        }
+    }
+
+    /// `core stashes`: how many blocks are in the stash of each tree.
+    fn stashes(&self, alloc: Global, page: &mut Page) -> Result<(), RowFault> {
+        for tree in 0..self.core.device().trees() {
+            page.number(alloc, self.core.stash_len(tree) as u64)?;
+        }
+        Ok(())
+    }
+
+    /// `core message`: the bytes of the outstanding message, or `none`.
+    fn message(&self, alloc: Global, page: &mut Page) -> Result<(), RowFault> {
+        match &self.outstanding {
+            Some(message) => page.bytes(alloc, message.as_slice())?,
+            None => page.word("none")?,
+        }
+        Ok(())
+    }
+
+    /// `core run`: whether a run of all that happened formats the device and reacts as this core did.
+    fn run(&self, alloc: Global, page: &mut Page) -> Result<(), RowFault> {
+        let device = self.core.device().copy();
+        show_run(alloc, device, self.sealer, &self.events, &self.seen, page)
+    }
+
+    /// Makes a call: `drain` has the host answer until no message is outstanding, `redrain` does so with the core made again
+    /// of its parts before each answer, and `overhead` is what the sealer adds to a bucket.
+    pub fn call(
+        &mut self,
+        alloc: Global,
+        call: &str,
+        words: &mut Words,
+        page: &mut Page,
+    ) -> Result<(), RowFault> {
+        match call {
+            "answer" => self.answer(alloc, page),
+            "answers" => self.answers(alloc, words.short()?, false, page),
+            "drain" => self.answers(alloc, MOST_ANSWERS, false, page),
+            "redrain" => self.answers(alloc, MOST_ANSWERS, true, page),
+            "late" => self.late(alloc, page),
+            "reopen" => self.reopen(alloc, page),
+            "times" => self.times(alloc, words, page),
+            "told" => self.told(alloc, page),
+            "stashes" => self.stashes(alloc, page),
+            "message" => self.message(alloc, page),
+            "overhead" => Ok(page.number(alloc, self.core.overhead() as u64)?),
+            "run" => self.run(alloc, page),
+            "flips" => self.flips(alloc, words, page),
+            "lengths" => self.lengths(alloc, words, page),
+            "parts" => self.parts(alloc, words, page),
+            "put" => self.put(alloc, words, page),
+            "keep" | "kept" | "same" | "tamper" | "swap" | "snapshot" | "restore" => {
+                self.meddle(alloc, call, words, page)
+            }
+            _ => {
+                let event = event_of(alloc, call, words)?;
+                self.tell(alloc, event, page)
+            }
+        }
+    }
+}
+
+impl<S: Sealer> Machine<S> {
+    /// What was seen.
+    pub fn seen(&self) -> &Seen {
+        &self.seen
+    }
+
+    /// What was seen, without the rest.
+    pub fn into_seen(self) -> Seen {
+        self.seen
+    }
+}

@@ -1,0 +1,83 @@
+//! What a host does besides answering.
+
+use super::machine::Machine;
+use oram_bucket::Sealer;
+use oram_bytes::Bytes;
+use oram_run::Event;
+use rows::{Page, RowFault, Words};
+use std::alloc::Global;
+
+impl<S: Sealer + Copy> Machine<S> {
+    /// `core keep`: keeps what the host answers to the outstanding message, and tells how many bytes it has.
+    fn keep(&mut self, alloc: Global, page: &mut Page) -> Result<(), RowFault> {
+        self.kept = self.answer_of_host(alloc)?;
+        page.number(alloc, self.kept.len() as u64)?;
+        page.word("bytes")?;
+        Ok(())
+    }
+
+    /// `core kept`: the host answers by what was kept.
+    fn kept(&mut self, alloc: Global, page: &mut Page) -> Result<(), RowFault> {
+        let bytes = Bytes::copy(alloc, &self.kept)?;
+        self.tell(alloc, Event::Answer(bytes), page)
+    }
+
+    /// `core same`: whether the host would now answer what was kept.
+    fn same(&mut self, alloc: Global, page: &mut Page) -> Result<(), RowFault> {
+        let bytes = self.answer_of_host(alloc)?;
+        page.flag(bytes.as_slice() == self.kept.as_slice())?;
+        Ok(())
+    }
+
+    /// `core snapshot`: keeps a copy of the host.
+    fn snapshot(&mut self, alloc: Global) -> Result<bool, RowFault> {
+        self.snapshot = Some(self.host.copy(alloc)?);
+        Ok(true)
+    }
+
+    /// `core restore`: puts the host back that was kept.
+    fn restore(&mut self, alloc: Global) -> Result<bool, RowFault> {
+        let Some(kept) = &self.snapshot else {
+            return Ok(false);
+        };
+        self.host = kept.copy(alloc)?;
+        Ok(true)
+    }
+
+    /// `core tamper TREE NODE OFFSET`: flips the lowest bit of a byte of a record.
+    fn tamper(&mut self, words: &mut Words) -> Result<bool, RowFault> {
+        let (tree, node) = (words.number()?, words.number()?);
+        Ok(self.host.flip(tree, node, words.number()?))
+    }
+
+    /// `core swap TREE NODE TREE NODE`: exchanges two records.
+    fn swap(&mut self, words: &mut Words) -> Result<bool, RowFault> {
+        let (tree_a, node_a) = (words.number()?, words.number()?);
+        Ok(
+            self.host
+                .swap(tree_a, node_a, words.number()?, words.number()?),
+        )
+    }
+
+    /// Makes a call. What changes the host tells whether that could be done.
+    pub fn meddle(
+        &mut self,
+        alloc: Global,
+        call: &str,
+        words: &mut Words,
+        page: &mut Page,
+    ) -> Result<(), RowFault> {
+        let done = match call {
+            "keep" => return self.keep(alloc, page),
+            "kept" => return self.kept(alloc, page),
+            "same" => return self.same(alloc, page),
+            "snapshot" => self.snapshot(alloc)?,
+            "restore" => self.restore(alloc)?,
+            "tamper" => self.tamper(words)?,
+            "swap" => self.swap(words)?,
+            _ => return Err(RowFault::NoRow),
+        };
+        page.word(if done { "done" } else { "no" })?;
+        Ok(())
+    }
+}

@@ -1,0 +1,72 @@
+//! Rows of a run: commands, events and cores.
+//!
+//! `device BLOCKS BLOCK_BYTES SLOTS TOP LIFETIME` begins anew with a device. Every other row begins with the layer that it
+//! calls.
+#![tactic(auto)]
+
+mod commands;
+mod cores;
+mod host;
+mod runs;
+mod said;
+
+use crate::cores::Cores;
+use oram_geometry::Device;
+use rows::{Page, RowFault, Table, Words, run_table};
+use std::alloc::Global;
+use std::process::ExitCode;
+
+/// The calls of these rows.
+#[derive(Drop)]
+struct Calls {
+    device: Option<Device>,
+    cores: Cores,
+}
+
+impl Calls {
+    /// `device SIZES`: how many trees the device has, or the number of the fault.
+    fn begin(&mut self, alloc: Global, words: &mut Words, page: &mut Page) -> Result<(), RowFault> {
+        let (blocks, block_bytes, slots) = (words.number()?, words.number()?, words.number()?);
+        self.cores = Cores::new();
+        match Device::new(blocks, block_bytes, slots, words.number()?, words.number()?) {
+            Ok(device) => {
+                page.word("ready")?;
+                page.number(alloc, u64::from(device.trees()))?;
+                self.device = Some(device);
+            }
+            Err(fault) => {
+                page.word("shape")?;
+                page.number(alloc, u64::from(fault.number()))?;
+                self.device = None;
+            }
+        }
+        Ok(())
+    }
+}
+
+impl Table for Calls {
+    fn answer(
+        &mut self,
+        alloc: Global,
+        call: &str,
+        words: &mut Words,
+        page: &mut Page,
+    ) -> Result<(), RowFault> {
+        if call == "device" {
+            return self.begin(alloc, words, page);
+        }
+        match (&self.device, call) {
+            (_, "run") => runs::answer(alloc, words, page),
+            (Some(device), "core") => self.cores.answer(alloc, device, words, page),
+            _ => Err(RowFault::NoRow),
+        }
+    }
+}
+
+fn main(rt: HostRuntime) -> ExitCode {
+    let mut calls = Calls {
+        device: None,
+        cores: Cores::new(),
+    };
+    run_table(&rt, &mut calls)
+}

@@ -1,0 +1,68 @@
+//! Rows of commands, events and reactions.
+
+use crate::commands::{command_of, event_of, show_command};
+use crate::said::{reason_of, refusal_name, show_reaction};
+use oram_run::{Note, Reaction, Refusal};
+use rows::{Page, RowFault, Words};
+use std::alloc::Global;
+
+/// `run copy COMMAND`: the copy of a command, and whether it equals the command.
+fn copy(alloc: Global, words: &mut Words, page: &mut Page) -> Result<(), RowFault> {
+    let command = command_of(alloc, words.text()?, words)?;
+    let copy = command.copy(alloc)?;
+    show_command(alloc, &copy, page)?;
+    page.part()?;
+    page.flag(copy == command)?;
+    Ok(())
+}
+
+/// `run equal COMMAND COMMAND`: whether the two are equal.
+fn equal(alloc: Global, words: &mut Words, page: &mut Page) -> Result<(), RowFault> {
+    let first = command_of(alloc, words.text()?, words)?;
+    let second = command_of(alloc, words.text()?, words)?;
+    page.flag(first == second)?;
+    Ok(())
+}
+
+/// `run same EVENT EVENT`: whether the two are equal.
+fn same(alloc: Global, words: &mut Words, page: &mut Page) -> Result<(), RowFault> {
+    let first = event_of(alloc, words.text()?, words)?;
+    let second = event_of(alloc, words.text()?, words)?;
+    page.flag(first == second)?;
+    Ok(())
+}
+
+/// `run only REASON`: the reaction that is a failure, and nothing else.
+fn only(alloc: Global, words: &mut Words, page: &mut Page) -> Result<(), RowFault> {
+    let reaction = Reaction::only(alloc, Note::FailedNow(reason_of(words)?));
+    show_reaction(alloc, &reaction, page)
+}
+
+/// `run refusals`: the numbers and names of the refusals.
+fn refusals(alloc: Global, page: &mut Page) -> Result<(), RowFault> {
+    for refusal in [
+        Refusal::BadAddress,
+        Refusal::BadLength,
+        Refusal::BadWords,
+        Refusal::Busy,
+        Refusal::Exhausted,
+        Refusal::Failed,
+    ] {
+        page.part()?;
+        page.number(alloc, u64::from(refusal.number()))?;
+        page.word(refusal_name(refusal))?;
+    }
+    Ok(())
+}
+
+/// Makes a call.
+pub fn answer(alloc: Global, words: &mut Words, page: &mut Page) -> Result<(), RowFault> {
+    match words.text()? {
+        "copy" => copy(alloc, words, page),
+        "equal" => equal(alloc, words, page),
+        "same" => same(alloc, words, page),
+        "only" => only(alloc, words, page),
+        "refusals" => refusals(alloc, page),
+        _ => Err(RowFault::NoRow),
+    }
+}

@@ -1,0 +1,192 @@
+//! Connections to a device of four blocks of four bytes, whose export has the name `disk`.
+
+use crate::endings::{with_memory, write_ended};
+use crate::stopping;
+use oram_nbd::{MemDisk, NbdFault, serve, transmit};
+use rows::{Pace, Page, RowFault, Source, Target, Words};
+use std::alloc::Global;
+use std::io;
+use std::io::{BufReader, Read};
+
+/// Room for what a client is told.
+const ROOM: usize = 65_536;
+
+/// What a client said, and what it was told.
+#[derive(Drop)]
+pub struct Connections {
+    said: Vec<u8>,
+    told: Vec<u8>,
+}
+
+/// How a connection ended, and what the client was told.
+type Talk = (Result<u64, NbdFault>, Target);
+
+/// A connection of a client that says what a reader gives, and takes no more bytes than there is room for.
+fn talked<R: Read>(
+    alloc: Global,
+    reader: &mut R,
+    room: usize,
+    pace: Pace,
+) -> Result<Talk, RowFault> {
+    let mut target = Target::new(alloc, room, pace)?;
+    let mut disk = MemDisk::new(alloc, 4, 4)?;
+    let ended = serve(alloc, reader, &mut target, &mut disk, b"disk");
+    Ok((with_memory(ended, target.bytes())?, target))
+}
+
+/// The pace of a word: whether a stream `ends` or `fails` where it can't go on.
+fn pace_of(words: &mut Words) -> Result<Pace, RowFault> {
+    match words.text()? {
+        "ends" => Ok(Pace::smooth(false)),
+        "fails" => Ok(Pace::smooth(true)),
+        _ => Err(RowFault::NoRow),
+    }
+}
+
+fn write_talk(alloc: Global, page: &mut Page, talk: &Talk) -> Result<(), RowFault> {
+    write_ended(alloc, page, talk.0)?;
+    page.bytes(alloc, talk.1.bytes())?;
+    Ok(())
+}
+
+/// `nbd options COUNT HEAD`: how a connection ends whose client takes one option so often, and how many bytes it is told.
+fn options(alloc: Global, words: &mut Words, page: &mut Page) -> Result<(), RowFault> {
+    let count = words.short()?;
+    let head = words.bytes(alloc)?;
+    let mut said = vec![in alloc; 0, 0, 0, 3]?;
+    for _ in 0..count {
+        said.extend_from_slice(&head)?;
+    }
+    let mut source = Source::new(&said, Pace::smooth(false));
+    let talk = talked(alloc, &mut source, ROOM, Pace::smooth(true))?;
+    write_ended(alloc, page, talk.0)?;
+    page.number(alloc, talk.1.bytes().len() as u64)?;
+    Ok(())
+}
+
+/// `nbd passes HEAD COUNT REST`: what comes of requests, of which the first is followed by so many bytes.
+fn passes(alloc: Global, words: &mut Words, page: &mut Page) -> Result<(), RowFault> {
+    let head = words.bytes(alloc)?;
+    let count = words.number()?;
+    let rest = words.bytes(alloc)?;
+    let mut reader = head
+        .as_slice()
+        .chain(io::repeat(7).take(count))
+        .chain(rest.as_slice());
+    let mut target = Target::new(alloc, ROOM, Pace::smooth(true))?;
+    let mut disk = MemDisk::new(alloc, 4, 4)?;
+    let ended = transmit(alloc, &mut reader, &mut target, &mut disk);
+    write_ended(alloc, page, with_memory(ended, target.bytes())?)?;
+    page.bytes(alloc, target.bytes())?;
+    Ok(())
+}
+
+impl Connections {
+    pub fn new(alloc: Global) -> Connections {
+        Connections {
+            said: Vec::new(alloc),
+            told: Vec::new(alloc),
+        }
+    }
+
+    /// `nbd talk SAID`: how a connection ends whose client says this and no more, and what it is told.
+    fn talk(&mut self, alloc: Global, words: &mut Words, page: &mut Page) -> Result<(), RowFault> {
+        self.said = words.bytes(alloc)?;
+        let mut source = Source::new(&self.said, Pace::smooth(false));
+        let talk = talked(alloc, &mut source, ROOM, Pace::smooth(true))?;
+        self.told = talk.1.bytes().to_vec(alloc)?;
+        write_talk(alloc, page, &talk)
+    }
+
+    /// `nbd ahead`: the same over a reader that reads ahead.
+    fn ahead(&self, alloc: Global, page: &mut Page) -> Result<(), RowFault> {
+        let Ok(mut reader) = BufReader::new(alloc, self.said.as_slice()) else {
+            return Err(RowFault::OutOfMemory);
+        };
+        let talk = talked(alloc, &mut reader, ROOM, Pace::smooth(true))?;
+        write_talk(alloc, page, &talk)
+    }
+
+    /// How a connection ends whose client says so many bytes of it, and how many bytes it is told, which begin what it was told.
+    fn cut(
+        &self,
+        alloc: Global,
+        len: usize,
+        pace: Pace,
+    ) -> Result<(Result<u64, NbdFault>, usize), RowFault> {
+        let Some(said) = self.said.get(..len) else {
+            return Err(RowFault::NoRow);
+        };
+        let mut source = Source::new(said, pace);
+        let (ended, target) = talked(alloc, &mut source, ROOM, Pace::smooth(true))?;
+        if !self.told.as_slice().starts_with(target.bytes()) {
+            return Err(RowFault::NoRow);
+        }
+        Ok((ended, target.bytes().len()))
+    }
+
+    /// `nbd cuts FROM TO`, `nbd breaks FROM TO`: what comes of a client that says so many of these bytes, from one count on
+    /// and below another, before its connection ends or fails; which is the same at each count.
+    fn cuts(
+        &self,
+        alloc: Global,
+        fails: bool,
+        words: &mut Words,
+        page: &mut Page,
+    ) -> Result<(), RowFault> {
+        let from = words.size()?;
+        let wanted = self.cut(alloc, from, Pace::smooth(fails))?;
+        for len in from..words.size()? {
+            if self.cut(alloc, len, Pace::smooth(fails))? != wanted {
+                return Ok(page.word("not alike")?);
+            }
+        }
+        write_ended(alloc, page, wanted.0)?;
+        page.number(alloc, wanted.1 as u64)?;
+        Ok(())
+    }
+
+    /// Whether a connection over which no more bytes can be told ends for that, once they are.
+    fn is_full(&self, alloc: Global, room: usize, pace: Pace) -> Result<bool, RowFault> {
+        let mut source = Source::new(&self.said, Pace::smooth(false));
+        let (ended, target) = talked(alloc, &mut source, room, pace)?;
+        Ok(ended == Err(NbdFault::Write) && self.told.get(..room) == Some(target.bytes()))
+    }
+
+    /// `nbd rooms FROM TO ends|fails`: whether a connection ends for that wherever no more bytes can be told, from one count
+    /// on and below another, once they are.
+    fn rooms(&self, alloc: Global, words: &mut Words, page: &mut Page) -> Result<(), RowFault> {
+        let from = words.size()?;
+        let to = words.size()?;
+        let ending = words.text()?;
+        for room in from..to {
+            let pace = pace_of(&mut Words::of(ending))?;
+            if !self.is_full(alloc, room, pace)? {
+                return Ok(page.word("no")?);
+            }
+        }
+        page.word("yes")?;
+        Ok(())
+    }
+
+    /// Answers a row about connections.
+    pub fn answer(
+        &mut self,
+        alloc: Global,
+        name: &str,
+        words: &mut Words,
+        page: &mut Page,
+    ) -> Result<(), RowFault> {
+        match name {
+            "talk" => self.talk(alloc, words, page),
+            "ahead" => self.ahead(alloc, page),
+            "cuts" => self.cuts(alloc, false, words, page),
+            "breaks" => self.cuts(alloc, true, words, page),
+            "rooms" => self.rooms(alloc, words, page),
+            "options" => options(alloc, words, page),
+            "passes" => passes(alloc, words, page),
+            "stops" => stopping::stops(alloc, words, page),
+            _ => Err(RowFault::NoRow),
+        }
+    }
+}

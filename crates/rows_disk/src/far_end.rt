@@ -1,0 +1,139 @@
+//! The far end of a connection, where a host answers each message when its answer is read.
+
+use oram_host::Server;
+use oram_wire::{LONGEST_BODY, next_frame, put_frame};
+use std::alloc::Global;
+use std::cell::RefCell;
+use std::io;
+use std::io::{ErrorKind, Read, Write};
+
+/// The answer of a host that found no memory.
+const NO_ROOM: [u8; 2] = [0x81, 8];
+
+/// A host, and what is on its way to it and from it.
+#[derive(Drop)]
+pub struct FarEnd {
+    alloc: Global,
+    server: Server,
+    sent: Vec<u8>,
+    /// How many of the bytes that were sent it has read.
+    heard: usize,
+    answer: Vec<u8>,
+    /// How many bytes of the answer were read.
+    taken: usize,
+    /// How many messages it answers before the connection ends.
+    most: u64,
+    /// Whether a byte of each path is another than the host's.
+    alters: bool,
+    lacks_memory: bool,
+}
+
+impl FarEnd {
+    pub fn new(alloc: Global, most: u64, alters: bool) -> FarEnd {
+        FarEnd {
+            alloc,
+            server: Server::new(alloc),
+            sent: Vec::new(alloc),
+            heard: 0,
+            answer: Vec::new(alloc),
+            taken: 0,
+            most,
+            alters,
+            lacks_memory: false,
+        }
+    }
+
+    /// Whether it failed for want of memory.
+    pub fn lacks_memory(&self) -> bool {
+        self.lacks_memory
+    }
+
+    /// The next message, of which all is to be here.
+    fn next_message(&mut self) -> io::Result<Vec<u8>> {
+        let mut rest = self.sent.get(self.heard..).unwrap_or(&[]);
+        let Ok(Some(body)) = next_frame(self.alloc, &mut rest) else {
+            return Err(io::Error::from(ErrorKind::WouldBlock));
+        };
+        self.heard = self.sent.len().saturating_sub(rest.len());
+        Ok(body)
+    }
+
+    /// The host's answer to a message.
+    fn answer_to(&mut self, body: &[u8]) -> io::Result<Vec<u8>> {
+        let mut answer = self.server.answer(self.alloc, body)?;
+        if answer.as_slice() == NO_ROOM.as_slice() {
+            return Err(io::Error::from(ErrorKind::OutOfMemory));
+        }
+        if let Some(byte) = answer.get_mut(9)
+            && self.alters
+        {
+            *byte ^= 1;
+        }
+        Ok(answer)
+    }
+
+    /// Answers the next message, if there is to be an answer.
+    fn serve(&mut self) -> io::Result<()> {
+        if self.most == 0 {
+            return Ok(());
+        }
+        self.most -= 1;
+        let body = self.next_message()?;
+        let answer = self.answer_to(&body)?;
+        self.answer.clear();
+        self.taken = 0;
+        if answer.len() > LONGEST_BODY || put_frame(&mut self.answer, &answer).is_err() {
+            return Err(io::Error::from(ErrorKind::OutOfMemory));
+        }
+        Ok(())
+    }
+
+    /// The bytes of the answer that weren't read, or of the next one. A want of memory is kept in mind.
+    fn ready(&mut self) -> io::Result<&[u8]> {
+        if self.taken >= self.answer.len()
+            && let Err(error) = self.serve()
+        {
+            self.lacks_memory |= error.kind() == ErrorKind::OutOfMemory;
+            return Err(error);
+        }
+        Ok(self.answer.get(self.taken..).unwrap_or(&[]))
+    }
+}
+
+/// The end of a connection that is read.
+#[derive(Drop)]
+pub struct Answers<'a>(pub &'a RefCell<FarEnd>);
+
+impl<'a> Read for Answers<'a> {
+    fn read(&mut self, buf: &mut [u8]) -> io::Result<usize> {
+        let Ok(mut far) = self.0.try_borrow_mut() else {
+            return Err(io::Error::from(ErrorKind::WouldBlock));
+        };
+        let rest = far.ready()?;
+        let count = rest.len().min(buf.len());
+        buf[..count].copy_from_slice(&rest[..count]);
+        far.taken = far.taken.saturating_add(count);
+        Ok(count)
+    }
+}
+
+/// The end of a connection that is written.
+#[derive(Drop)]
+pub struct Messages<'a>(pub &'a RefCell<FarEnd>);
+
+impl<'a> Write for Messages<'a> {
+    fn write(&mut self, buf: &[u8]) -> io::Result<usize> {
+        let Ok(mut far) = self.0.try_borrow_mut() else {
+            return Err(io::Error::from(ErrorKind::WouldBlock));
+        };
+        if far.sent.extend_from_slice(buf).is_err() {
+            far.lacks_memory = true;
+            return Err(io::Error::from(ErrorKind::OutOfMemory));
+        }
+        Ok(buf.len())
+    }
+
+    fn flush(&mut self) -> io::Result<()> {
+        Ok(())
+    }
+}

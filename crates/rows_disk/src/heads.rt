@@ -1,0 +1,74 @@
+//! The heads of options and of requests.
+
+use oram_nbd::{Command, HandshakeOption, OptionHead, Request};
+use rows::{Page, RowFault, Words};
+use std::alloc::Global;
+
+/// `head option CODE LENGTH`: the head of an option that carries so many bytes.
+fn option(alloc: Global, words: &mut Words, page: &mut Page) -> Result<(), RowFault> {
+    let head = OptionHead {
+        option: HandshakeOption::of(words.short()?),
+        length: words.short()?,
+    };
+    page.bytes(alloc, &head.encode(alloc)?)?;
+    Ok(())
+}
+
+/// `head read_option BYTES`: the option of a head, and how many bytes it carries.
+fn read_option(alloc: Global, words: &mut Words, page: &mut Page) -> Result<(), RowFault> {
+    let bytes = words.bytes(alloc)?;
+    let Some(head) = OptionHead::decode(&bytes) else {
+        return Ok(page.word("none")?);
+    };
+    page.show(alloc, &head.option)?;
+    page.number(alloc, head.length.into())?;
+    Ok(())
+}
+
+/// The next word as a decimal number below 2^16.
+fn code_in(words: &mut Words) -> Result<u16, RowFault> {
+    u16::try_from(words.number()?).map_err(|_| RowFault::NoRow)
+}
+
+/// `head request CODE FLAGS COOKIE OFFSET LENGTH`: the head of a request.
+fn request(alloc: Global, words: &mut Words, page: &mut Page) -> Result<(), RowFault> {
+    let request = Request {
+        command: Command::of(code_in(words)?),
+        flags: code_in(words)?,
+        cookie: words.number()?,
+        offset: words.number()?,
+        length: words.short()?,
+    };
+    page.bytes(alloc, &request.encode(alloc)?)?;
+    Ok(())
+}
+
+/// `head read_request BYTES`: the command of a request, its flags, its cookie, and the range that it is about.
+fn read_request(alloc: Global, words: &mut Words, page: &mut Page) -> Result<(), RowFault> {
+    let bytes = words.bytes(alloc)?;
+    let Some(request) = Request::decode(&bytes) else {
+        return Ok(page.word("none")?);
+    };
+    page.show(alloc, &request.command)?;
+    page.number(alloc, request.flags.into())?;
+    page.number(alloc, request.cookie)?;
+    page.number(alloc, request.offset)?;
+    page.number(alloc, request.length.into())?;
+    Ok(())
+}
+
+/// Answers a row about heads.
+pub fn answer(
+    alloc: Global,
+    name: &str,
+    words: &mut Words,
+    page: &mut Page,
+) -> Result<(), RowFault> {
+    match name {
+        "option" => option(alloc, words, page),
+        "read_option" => read_option(alloc, words, page),
+        "request" => request(alloc, words, page),
+        "read_request" => read_request(alloc, words, page),
+        _ => Err(RowFault::NoRow),
+    }
+}

@@ -1,0 +1,189 @@
+//! What a client keeps of a disk: its file, its keys, and how a keeper fails.
+
+use oram_client::{
+    DiskKey, FileFailure, FileKeeper, FileReason, FileStep, Place, Salt, put_kept_file,
+    read_kept_file, sealer_key, tape_key,
+};
+use oram_keep::Keeper;
+use rows::{Page, RowFault, Target, Words, pace_in};
+use std::alloc::Global;
+use std::cell::Cell;
+
+/// `disk put ROOM PACE SALT STATE`: whether the file of a disk is written, and the bytes that were.
+fn put(alloc: Global, words: &mut Words, page: &mut Page) -> Result<(), RowFault> {
+    let room = words.size()?;
+    let mut target = Target::new(alloc, room, pace_in(words)?)?;
+    let salt = Salt(words.array(alloc)?);
+    let state = words.bytes(alloc)?;
+    let written = put_kept_file(&mut target, &salt, &state);
+    page.word(if written.is_ok() { "done" } else { "failed" })?;
+    page.bytes(alloc, target.bytes())?;
+    Ok(())
+}
+
+/// `disk read FILE`: the salt and the state of a disk's file.
+fn read(alloc: Global, words: &mut Words, page: &mut Page) -> Result<(), RowFault> {
+    let file = words.bytes(alloc)?;
+    match read_kept_file(&file) {
+        Ok(kept) => {
+            page.bytes(alloc, &kept.salt.0)?;
+            page.bytes(alloc, kept.state)?;
+        }
+        Err(fault) => page.show(alloc, &fault)?,
+    }
+    Ok(())
+}
+
+/// `disk keys KEY SALT`: the sealer's key and the tape's.
+fn keys(alloc: Global, words: &mut Words, page: &mut Page) -> Result<(), RowFault> {
+    let key = DiskKey(words.array(alloc)?);
+    let salt = Salt(words.array(alloc)?);
+    page.bytes(alloc, &sealer_key(&key, &salt).0)?;
+    page.bytes(alloc, &tape_key(&key, &salt).0)?;
+    Ok(())
+}
+
+fn step_in(words: &mut Words) -> Result<FileStep, RowFault> {
+    match words.text()? {
+        "create" => Ok(FileStep::Create),
+        "write" => Ok(FileStep::Write),
+        "sync" => Ok(FileStep::Sync),
+        "set_aside" => Ok(FileStep::SetAside),
+        "rename" => Ok(FileStep::Rename),
+        "sync_folder" => Ok(FileStep::SyncFolder),
+        "clear" => Ok(FileStep::Clear),
+        _ => Err(RowFault::NoRow),
+    }
+}
+
+fn reason_in(words: &mut Words) -> Result<FileReason, RowFault> {
+    match words.text()? {
+        "no_room" => Ok(FileReason::NoRoom),
+        "forbidden" => Ok(FileReason::Forbidden),
+        "missing" => Ok(FileReason::Missing),
+        "failed" => Ok(FileReason::Failed),
+        _ => Err(RowFault::NoRow),
+    }
+}
+
+/// Writes a failure as a client tells it.
+fn write_failure(alloc: Global, page: &mut Page, failure: FileFailure) -> Result<(), RowFault> {
+    let text = format!(in alloc; "{failure}")?;
+    page.lines(text.as_str())?;
+    Ok(())
+}
+
+/// `disk failure STEP REASON`: the text of a failure.
+fn failure(alloc: Global, words: &mut Words, page: &mut Page) -> Result<(), RowFault> {
+    let failure = FileFailure {
+        step: step_in(words)?,
+        reason: reason_in(words)?,
+    };
+    write_failure(alloc, page, failure)
+}
+
+/// A place where one deed fails, the others being done.
+#[derive(Drop)]
+struct Desk<'a> {
+    deeds: &'a Cell<u64>,
+    /// How many deeds are done before it.
+    fails_behind: u64,
+    reason: FileReason,
+}
+
+impl<'a> Desk<'a> {
+    ghost use Rattle.std.specs.Prelude.{◌≡◌, IfErr};
+
+    /// Does the next deed, or fails in this step.
+    fn next(&mut self, step: FileStep) -> Result<(), FileFailure>
+        ensures { IfErr result (λ failure. failure.step ≡ step) }
+    {
+        let done = self.deeds.get();
+        self.deeds.set(done.saturating_add(1));
+        if done == self.fails_behind {
+            return Err(FileFailure {
+                step,
+                reason: self.reason,
+            });
+        }
+        Ok(())
+    }
+}
+
+impl<'a> Place for Desk<'a> {
+    ghost use Rattle.std.specs.Prelude.{⊤};
+
+    ghost does = { λ _ _ _ _. ⊤ };
+
+    fn write(&mut self, _salt: &Salt, _state: &[u8], _sync: bool) -> Result<(), FileFailure> {
+        self.next(FileStep::Create)
+    }
+
+    fn set_aside(&mut self) -> Result<(), FileFailure> {
+        self.next(FileStep::SetAside)
+    }
+
+    fn settle(&mut self) -> Result<(), FileFailure> {
+        self.next(FileStep::Rename)
+    }
+
+    fn sync_folder(&mut self) -> Result<(), FileFailure> {
+        self.next(FileStep::SyncFolder)
+    }
+
+    fn clear(&mut self) -> Result<(), FileFailure> {
+        self.next(FileStep::Clear)
+    }
+}
+
+/// Keeps so many states, and writes whether each was kept.
+fn keep_states(
+    page: &mut Page,
+    keeper: &mut FileKeeper<Desk<'_>>,
+    count: u32,
+) -> Result<(), RowFault> {
+    for _ in 0..count {
+        page.word(match keeper.keep(b"state") {
+            Ok(()) => "kept",
+            Err(_) => "lost",
+        })?;
+    }
+    Ok(())
+}
+
+/// `disk keeps COUNT SYNC DEEDS REASON`: whether each of so many states is kept, on the disk or not, in a place where the deed
+/// behind so many others fails; how many deeds there were, and why a state was not kept.
+fn keeps(alloc: Global, words: &mut Words, page: &mut Page) -> Result<(), RowFault> {
+    let count = words.short()?;
+    let sync = words.flag()?;
+    let deeds = Cell::new(0);
+    let desk = Desk {
+        deeds: &deeds,
+        fails_behind: words.number()?,
+        reason: reason_in(words)?,
+    };
+    let mut keeper = FileKeeper::new(desk, Salt([7; 32]), sync);
+    keep_states(page, &mut keeper, count)?;
+    page.number(alloc, deeds.get())?;
+    match keeper.failure() {
+        Some(failure) => write_failure(alloc, page, failure),
+        None => Ok(()),
+    }
+}
+
+/// Answers a row about what is kept of a disk.
+pub fn answer(
+    alloc: Global,
+    name: &str,
+    words: &mut Words,
+    page: &mut Page,
+) -> Result<(), RowFault> {
+    match name {
+        "put" => put(alloc, words, page),
+        "read" => read(alloc, words, page),
+        "keys" => keys(alloc, words, page),
+        "failure" => failure(alloc, words, page),
+        "keeps" => keeps(alloc, words, page),
+        _ => Err(RowFault::NoRow),
+    }
+}

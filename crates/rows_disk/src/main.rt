@@ -1,0 +1,56 @@
+//! Rows of the block device: the NBD protocol, a volume behind it, and what a client keeps of a disk.
+//!
+//! The first word of a row names the layer that it is about, the second one the call.
+#![tactic(auto)]
+
+mod connections;
+mod endings;
+mod far_end;
+mod formatting;
+mod heads;
+mod keeping;
+mod links;
+mod stopping;
+mod volumes;
+
+use connections::Connections;
+use rows::{Page, RowFault, Table, Words, run_table};
+use std::alloc::Global;
+use std::process::ExitCode;
+use volumes::Volumes;
+
+/// The calls of these rows, with what each layer keeps from row to row.
+#[derive(Drop)]
+struct Calls {
+    connections: Connections,
+    volumes: Volumes,
+}
+
+impl Table for Calls {
+    fn answer(
+        &mut self,
+        alloc: Global,
+        call: &str,
+        words: &mut Words,
+        page: &mut Page,
+    ) -> Result<(), RowFault> {
+        let name = words.text()?;
+        match call {
+            "head" => heads::answer(alloc, name, words, page),
+            "nbd" => self.connections.answer(alloc, name, words, page),
+            "volume" => self.volumes.answer(alloc, name, words, page),
+            "disk" => keeping::answer(alloc, name, words, page),
+            "link" => links::answer(alloc, name, words, page),
+            "format" => formatting::answer(alloc, name, words, page),
+            _ => Err(RowFault::NoRow),
+        }
+    }
+}
+
+fn main(rt: HostRuntime) -> ExitCode {
+    let mut calls = Calls {
+        connections: Connections::new(rt.alloc()),
+        volumes: Volumes::new(),
+    };
+    run_table(&rt, &mut calls)
+}

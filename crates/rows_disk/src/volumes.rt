@@ -1,0 +1,125 @@
+//! Volumes in memory, and what becomes of them where a keeper or a link fails.
+
+use crate::endings::{with_memory, write_ended};
+use oram_bucket::PlainSeal;
+use oram_core::Core;
+use oram_geometry::Device;
+use oram_host::Server;
+use oram_keep::{Keeper, Unkept};
+use oram_nbd::transmit;
+use oram_session::{ChaChaTape, Direct, FaultLink};
+use oram_volume::Volume;
+use rows::{Pace, Page, RowFault, Source, Target, Words};
+use std::alloc::Global;
+
+/// Keeps nothing, so often.
+#[derive(Drop)]
+struct Room(u64);
+
+impl Keeper for Room {
+    ghost use Rattle.std.specs.Prelude.{⊤};
+
+    ghost keeps = { λ _ _ _ _. ⊤ };
+
+    fn keep(&mut self, _file: &[u8]) -> Result<(), Unkept> {
+        if self.0 == 0 {
+            return Err(Unkept);
+        }
+        self.0 -= 1;
+        Ok(())
+    }
+}
+
+/// The volume of the next rows.
+#[derive(Drop)]
+pub struct Volumes {
+    volume: Option<Volume<PlainSeal, FaultLink<Direct>, Room, ChaChaTape>>,
+}
+
+/// The core of a new device of 64 blocks of 16 bytes over three trees, whose records the host takes.
+fn formatted(alloc: Global, server: &mut Server) -> Result<Core<PlainSeal>, RowFault> {
+    let Ok(device) = Device::new(64, 16, 4, 4, 100) else {
+        return Err(RowFault::NoRow);
+    };
+    match Core::format(alloc, device, PlainSeal, server) {
+        Ok(core) => Ok(core),
+        Err(_) => Err(RowFault::OutOfMemory),
+    }
+}
+
+impl Volumes {
+    pub fn new() -> Volumes {
+        Volumes { volume: None }
+    }
+
+    /// `volume new ROOM AT TIMES`: a new volume, whose keeper keeps so many states, and whose link fails from one call on so often.
+    fn begin(&mut self, alloc: Global, words: &mut Words) -> Result<(), RowFault> {
+        let room = words.number()?;
+        let at = words.number()?;
+        let times = words.number()?;
+        let mut server = Server::new(alloc);
+        let core = formatted(alloc, &mut server)?;
+        self.volume = Some(Volume {
+            core,
+            link: FaultLink::new(Direct::new(alloc, server), at, times, false),
+            keeper: Room(room),
+            tape: ChaChaTape {
+                key: [0; 32],
+                trees: 3,
+            },
+        });
+        Ok(())
+    }
+
+    /// `volume keeps ROOM`: the keeper keeps so many states from now on.
+    fn give_room(&mut self, words: &mut Words) -> Result<(), RowFault> {
+        let Some(volume) = &mut self.volume else {
+            return Err(RowFault::NoRow);
+        };
+        volume.keeper = Room(words.number()?);
+        Ok(())
+    }
+
+    /// `volume bare`: the host is another from now on, that has nothing of the device.
+    fn mislead(&mut self, alloc: Global) -> Result<(), RowFault> {
+        let Some(volume) = &mut self.volume else {
+            return Err(RowFault::NoRow);
+        };
+        let other = Direct::new(alloc, Server::new(alloc));
+        volume.link = FaultLink::new(other, u64::MAX, 0, false);
+        Ok(())
+    }
+
+    /// `volume asks SAID`: what comes of requests, and what is told.
+    fn asks(&mut self, alloc: Global, words: &mut Words, page: &mut Page) -> Result<(), RowFault> {
+        let said = words.bytes(alloc)?;
+        let Some(volume) = &mut self.volume else {
+            return Err(RowFault::NoRow);
+        };
+        let mut source = Source::new(&said, Pace::smooth(false));
+        let mut target = Target::new(alloc, 256, Pace::smooth(true))?;
+        let ended = transmit(alloc, &mut source, &mut target, volume);
+        write_ended(alloc, page, with_memory(ended, target.bytes())?)?;
+        page.bytes(alloc, target.bytes())?;
+        Ok(())
+    }
+
+    /// Answers a row about volumes.
+    pub fn answer(
+        &mut self,
+        alloc: Global,
+        name: &str,
+        words: &mut Words,
+        page: &mut Page,
+    ) -> Result<(), RowFault> {
+        match name {
+            "new" => self.begin(alloc, words)?,
+            "keeps" => self.give_room(words)?,
+            "bare" => self.mislead(alloc)?,
+            "asks" => return self.asks(alloc, words, page),
+            _ => return Err(RowFault::NoRow),
+        }
+        page.word("done")?;
+        Ok(())
+    }
+}

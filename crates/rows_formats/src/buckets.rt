@@ -1,0 +1,191 @@
+//! The bytes of buckets.
+
+use crate::devices::device_in;
+use crate::sealers::{Sealing, sealing_in};
+use crate::shown::show_fault;
+use oram_bucket::{
+    Block, BucketFault, OpenFault, Sealer, decode_bucket, encode_bucket, open_bucket, seal_bucket,
+};
+use oram_geometry::Device;
+use rows::{Page, RowFault, Words};
+use std::alloc::Global;
+
+/// The device whose first tree has the buckets of the next rows.
+#[derive(Drop)]
+pub struct Buckets {
+    device: Option<Device>,
+}
+
+fn write_block(alloc: Global, page: &mut Page, block: &Block) -> Result<(), RowFault> {
+    page.number(alloc, block.address.into())?;
+    page.number(alloc, block.leaf.into())?;
+    page.bytes(alloc, &block.content)?;
+    Ok(())
+}
+
+/// Writes the address, the leaf and the data of each block, or that there is none.
+fn write_blocks(alloc: Global, page: &mut Page, blocks: &[Block]) -> Result<(), RowFault> {
+    if blocks.is_empty() {
+        page.word("empty")?;
+    }
+    for block in blocks {
+        write_block(alloc, page, block)?;
+    }
+    Ok(())
+}
+
+/// `bucket decode BYTES`: the blocks that the bytes spell, or the first fault.
+fn decode(
+    alloc: Global,
+    device: &Device,
+    words: &mut Words,
+    page: &mut Page,
+) -> Result<(), RowFault> {
+    let bytes = words.bytes(alloc)?;
+    if device.trees() == 0 {
+        return Err(RowFault::NoRow);
+    }
+    match decode_bucket(alloc, device, 0, &bytes) {
+        Ok(blocks) => write_blocks(alloc, page, &blocks),
+        Err(BucketFault::OutOfMemory) => Err(RowFault::OutOfMemory),
+        Err(fault) => show_fault(alloc, page, fault.number(), &fault),
+    }
+}
+
+/// `bucket again BYTES`: the bytes of the bucket with the blocks that these spell.
+fn again(
+    alloc: Global,
+    device: &Device,
+    words: &mut Words,
+    page: &mut Page,
+) -> Result<(), RowFault> {
+    let bytes = words.bytes(alloc)?;
+    if device.trees() == 0 {
+        return Err(RowFault::NoRow);
+    }
+    match decode_bucket(alloc, device, 0, &bytes) {
+        Ok(blocks) => page.bytes(alloc, &encode_bucket(alloc, device, 0, &blocks)?)?,
+        Err(BucketFault::OutOfMemory) => return Err(RowFault::OutOfMemory),
+        Err(_) => return Err(RowFault::NoRow),
+    }
+    Ok(())
+}
+
+fn write_sealed<S: Sealer>(
+    alloc: Global,
+    sealer: &S,
+    device: &Device,
+    nonce: u64,
+    bytes: &[u8],
+    page: &mut Page,
+) -> Result<(), RowFault> {
+    if device.trees() == 0 {
+        return Err(RowFault::NoRow);
+    }
+    match decode_bucket(alloc, device, 0, bytes) {
+        Ok(blocks) => {
+            let sealed = seal_bucket(alloc, sealer, device, 0, nonce, &blocks)?;
+            page.bytes(alloc, &sealed)?;
+        }
+        Err(BucketFault::OutOfMemory) => return Err(RowFault::OutOfMemory),
+        Err(_) => return Err(RowFault::NoRow),
+    }
+    Ok(())
+}
+
+/// `bucket seal SEALER NONCE BYTES`: the sealed bytes of the bucket that the bytes spell.
+fn seal(
+    alloc: Global,
+    device: &Device,
+    words: &mut Words,
+    page: &mut Page,
+) -> Result<(), RowFault> {
+    let sealing = sealing_in(alloc, words)?;
+    let nonce = words.number()?;
+    let bytes = words.bytes(alloc)?;
+    match &sealing {
+        Sealing::Plain(sealer) => write_sealed(alloc, sealer, device, nonce, &bytes, page),
+        Sealing::ChaCha(sealer) => write_sealed(alloc, sealer, device, nonce, &bytes, page),
+    }
+}
+
+fn write_opened<S: Sealer>(
+    alloc: Global,
+    sealer: &S,
+    device: &Device,
+    sealed: &[u8],
+    page: &mut Page,
+) -> Result<(), RowFault> {
+    if device.trees() == 0 {
+        return Err(RowFault::NoRow);
+    }
+    match open_bucket(alloc, sealer, device, 0, sealed) {
+        Ok(blocks) => write_blocks(alloc, page, &blocks),
+        Err(OpenFault::OutOfMemory) => Err(RowFault::OutOfMemory),
+        Err(fault) => Ok(page.show(alloc, &fault)?),
+    }
+}
+
+/// `bucket open SEALER BYTES`: the blocks of a sealed bucket.
+fn open(
+    alloc: Global,
+    device: &Device,
+    words: &mut Words,
+    page: &mut Page,
+) -> Result<(), RowFault> {
+    let sealing = sealing_in(alloc, words)?;
+    let sealed = words.bytes(alloc)?;
+    match &sealing {
+        Sealing::Plain(sealer) => write_opened(alloc, sealer, device, &sealed, page),
+        Sealing::ChaCha(sealer) => write_opened(alloc, sealer, device, &sealed, page),
+    }
+}
+
+/// `bucket copy ADDRESS LEAF BYTES`: the copy of a block.
+fn copy(alloc: Global, words: &mut Words, page: &mut Page) -> Result<(), RowFault> {
+    let block = Block {
+        address: words.short()?,
+        leaf: words.short()?,
+        content: words.bytes(alloc)?,
+    };
+    let copied = block.copy(alloc)?;
+    write_block(alloc, page, &copied)
+}
+
+impl Buckets {
+    pub fn new() -> Buckets {
+        Buckets { device: None }
+    }
+
+    /// Answers a row about buckets. `bucket device SIZES` says of which device, and tells its depth.
+    pub fn answer(
+        &mut self,
+        alloc: Global,
+        name: &str,
+        words: &mut Words,
+        page: &mut Page,
+    ) -> Result<(), RowFault> {
+        if name == "device" {
+            self.device = device_in(words)?.ok();
+            page.flag(self.device.is_some())?;
+            return Ok(());
+        }
+        let Some(device) = &self.device else {
+            return Err(RowFault::NoRow);
+        };
+        match name {
+            "decode" => decode(alloc, device, words, page),
+            "again" => again(alloc, device, words, page),
+            "seal" => seal(alloc, device, words, page),
+            "open" => open(alloc, device, words, page),
+            "copy" => copy(alloc, words, page),
+            "want" => show_fault(
+                alloc,
+                page,
+                BucketFault::OutOfMemory.number(),
+                &BucketFault::OutOfMemory,
+            ),
+            _ => Err(RowFault::NoRow),
+        }
+    }
+}

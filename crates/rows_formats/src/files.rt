@@ -1,0 +1,180 @@
+//! State files that are read, written again, and changed.
+
+use crate::cores::AnyCore;
+use crate::sealers::{Sealing, sealing_in};
+use crate::shown::show_fault;
+use oram_state::StateFault;
+use rows::{Page, RowFault, Words};
+use sha2::{Digest, Sha256};
+use std::alloc::Global;
+
+/// The file that the next rows change, and the sealer of its core.
+#[derive(Drop)]
+pub struct Files {
+    file: Vec<u8>,
+    sealing: Sealing,
+}
+
+/// Bytes of the digest at the end.
+const DIGEST_LEN: usize = 32;
+
+/// The core of a file, or why there is none.
+pub fn core_in(
+    alloc: Global,
+    sealing: Sealing,
+    file: &[u8],
+) -> Result<Result<AnyCore, StateFault>, RowFault> {
+    match AnyCore::read(alloc, sealing, file) {
+        Err(StateFault::OutOfMemory) => Err(RowFault::OutOfMemory),
+        read => Ok(read),
+    }
+}
+
+/// What is wrong with a file.
+fn fault_of(alloc: Global, sealing: Sealing, file: &[u8]) -> Result<Option<StateFault>, RowFault> {
+    Ok(core_in(alloc, sealing, file)?.err())
+}
+
+/// Writes what is wrong with a file.
+pub fn write_fault(
+    alloc: Global,
+    page: &mut Page,
+    fault: Option<StateFault>,
+) -> Result<(), RowFault> {
+    match fault {
+        Some(fault) => show_fault(alloc, page, fault.number(), &fault),
+        None => Ok(page.word("good")?),
+    }
+}
+
+/// Flips the lowest bit of a byte.
+fn flip(file: &mut [u8], place: usize) -> Result<(), RowFault> {
+    let Some(byte) = file.get_mut(place) else {
+        return Err(RowFault::NoRow);
+    };
+    *byte ^= 1;
+    Ok(())
+}
+
+/// `file again SEALER FILE`: the file of the core that a file tells of.
+fn again(alloc: Global, words: &mut Words, page: &mut Page) -> Result<(), RowFault> {
+    let sealing = sealing_in(alloc, words)?;
+    let file = words.bytes(alloc)?;
+    match core_in(alloc, sealing, &file)? {
+        Ok(core) => Ok(page.bytes(alloc, &core.file(alloc)?)?),
+        Err(fault) => write_fault(alloc, page, Some(fault)),
+    }
+}
+
+impl Files {
+    pub fn new(alloc: Global) -> Files {
+        Files {
+            file: Vec::new(alloc),
+            sealing: Sealing::Plain(oram_bucket::PlainSeal),
+        }
+    }
+
+    /// `file kept SEALER FILE`: what is wrong with the file that the next rows change.
+    fn keep(&mut self, alloc: Global, words: &mut Words, page: &mut Page) -> Result<(), RowFault> {
+        self.sealing = sealing_in(alloc, words)?;
+        self.file = words.bytes(alloc)?;
+        write_fault(alloc, page, fault_of(alloc, self.sealing, &self.file)?)
+    }
+
+    /// What is wrong with the file where the lowest bit of this byte is another.
+    fn fault_beside(
+        &mut self,
+        alloc: Global,
+        place: usize,
+    ) -> Result<Option<StateFault>, RowFault> {
+        flip(&mut self.file, place)?;
+        let fault = fault_of(alloc, self.sealing, &self.file)?;
+        flip(&mut self.file, place)?;
+        Ok(fault)
+    }
+
+    /// `file flips FROM TO`: what is wrong with the file where the lowest bit of one byte is another, which is the same at
+    /// each place of the range.
+    fn flips(&mut self, alloc: Global, words: &mut Words, page: &mut Page) -> Result<(), RowFault> {
+        let from = words.size()?;
+        let wanted = self.fault_beside(alloc, from)?;
+        for place in from..words.size()? {
+            if self.fault_beside(alloc, place)? != wanted {
+                page.word("not alike")?;
+                return Ok(());
+            }
+        }
+        write_fault(alloc, page, wanted)
+    }
+
+    /// What is wrong with so many of the file's first bytes.
+    fn fault_before(&self, alloc: Global, len: usize) -> Result<Option<StateFault>, RowFault> {
+        let Some(cut) = self.file.get(..len) else {
+            return Err(RowFault::NoRow);
+        };
+        fault_of(alloc, self.sealing, cut)
+    }
+
+    /// `file cuts FROM TO`: what is wrong with so many of the file's first bytes, which is the same at each count of the range.
+    fn cuts(&self, alloc: Global, words: &mut Words, page: &mut Page) -> Result<(), RowFault> {
+        let from = words.size()?;
+        let wanted = self.fault_before(alloc, from)?;
+        for len in from..words.size()? {
+            if self.fault_before(alloc, len)? != wanted {
+                page.word("not alike")?;
+                return Ok(());
+            }
+        }
+        write_fault(alloc, page, wanted)
+    }
+
+    /// `file flip PLACE`: what is wrong with the file, in which the lowest bit of this byte is another from now on.
+    fn flip(&mut self, alloc: Global, words: &mut Words, page: &mut Page) -> Result<(), RowFault> {
+        flip(&mut self.file, words.size()?)?;
+        write_fault(alloc, page, fault_of(alloc, self.sealing, &self.file)?)
+    }
+
+    /// The file with another byte at a place, and with the digest of what it then is.
+    fn edited(&self, alloc: Global, place: usize, byte: u8) -> Result<Vec<u8>, RowFault> {
+        let mut file = self.file.as_slice().to_vec(alloc)?;
+        file.truncate(file.len().saturating_sub(DIGEST_LEN));
+        let Some(old) = file.get_mut(place) else {
+            return Err(RowFault::NoRow);
+        };
+        *old = byte;
+        let digest = Sha256::digest(file.as_slice());
+        file.extend_from_slice(&digest)?;
+        Ok(file)
+    }
+
+    /// `file edit PLACE BYTE`: what is wrong with the file where this byte is another, behind its right digest.
+    fn edit(&self, alloc: Global, words: &mut Words, page: &mut Page) -> Result<(), RowFault> {
+        let place = words.size()?;
+        let byte = words.byte()?;
+        let file = self.edited(alloc, place, byte)?;
+        write_fault(alloc, page, fault_of(alloc, self.sealing, &file)?)
+    }
+
+    /// Answers a row about files.
+    pub fn answer(
+        &mut self,
+        alloc: Global,
+        name: &str,
+        words: &mut Words,
+        page: &mut Page,
+    ) -> Result<(), RowFault> {
+        match name {
+            "again" => again(alloc, words, page),
+            "kept" => self.keep(alloc, words, page),
+            "flips" => self.flips(alloc, words, page),
+            "cuts" => self.cuts(alloc, words, page),
+            "flip" => self.flip(alloc, words, page),
+            "edit" => self.edit(alloc, words, page),
+            "want" => {
+                let want = StateFault::OutOfMemory;
+                show_fault(alloc, page, want.number(), &want)
+            }
+            _ => Err(RowFault::NoRow),
+        }
+    }
+}

@@ -1,0 +1,61 @@
+//! The images of bucket hosts.
+
+use crate::servers::Servers;
+use crate::shown::show_fault;
+use oram_host::{ImageFault, Server};
+use rows::{Page, RowFault, Source, Target, Words, pace_in};
+use std::alloc::Global;
+
+/// `image save ROOM PACE`: how saving the host's image ends, and the bytes that were written.
+fn save(
+    alloc: Global,
+    server: &Server,
+    words: &mut Words,
+    page: &mut Page,
+) -> Result<(), RowFault> {
+    let room = words.size()?;
+    let mut target = Target::new(alloc, room, pace_in(words)?)?;
+    match server.save_image(&mut target) {
+        Ok(()) => page.word("saved")?,
+        Err(fault) => show_fault(alloc, page, fault.number(), &fault)?,
+    }
+    page.bytes(alloc, target.bytes())?;
+    Ok(())
+}
+
+/// `image load PACE BYTES`: how loading an image ends. The next rows are about the host that was loaded.
+fn load(
+    alloc: Global,
+    servers: &mut Servers,
+    words: &mut Words,
+    page: &mut Page,
+) -> Result<(), RowFault> {
+    let pace = pace_in(words)?;
+    let bytes = words.bytes(alloc)?;
+    match Server::load_image(alloc, &mut Source::new(&bytes, pace)) {
+        Ok(server) => {
+            servers.go_on_with(server);
+            page.word("loaded")?;
+            Ok(())
+        }
+        Err(ImageFault::OutOfMemory) => Err(RowFault::OutOfMemory),
+        Err(fault) => show_fault(alloc, page, fault.number(), &fault),
+    }
+}
+
+/// Answers a row about images.
+pub fn answer(
+    alloc: Global,
+    servers: &mut Servers,
+    name: &str,
+    words: &mut Words,
+    page: &mut Page,
+) -> Result<(), RowFault> {
+    let want = ImageFault::OutOfMemory;
+    match name {
+        "save" => save(alloc, servers.server()?, words, page),
+        "load" => load(alloc, servers, words, page),
+        "want" => show_fault(alloc, page, want.number(), &want),
+        _ => Err(RowFault::NoRow),
+    }
+}

@@ -1,0 +1,70 @@
+//! Lists of bytes and of words on the heap.
+
+use oram_bytes::{Bytes, Words as WordList};
+use rows::{Page, RowFault, Words};
+use std::alloc::Global;
+
+/// `list bytes BYTES`: their count, whether there are none, and they themselves.
+fn bytes(alloc: Global, words: &mut Words, page: &mut Page) -> Result<(), RowFault> {
+    let list = Bytes::from_vec(words.bytes(alloc)?);
+    page.number(alloc, list.len() as u64)?;
+    page.flag(list.is_empty())?;
+    page.bytes(alloc, list.as_slice())?;
+    page.number(alloc, list.into_vec().len() as u64)?;
+    Ok(())
+}
+
+/// `list same BYTES BYTES`: whether a list is equal to a copy of another.
+fn same(alloc: Global, words: &mut Words, page: &mut Page) -> Result<(), RowFault> {
+    let list = Bytes::from_vec(words.bytes(alloc)?);
+    let other = words.bytes(alloc)?;
+    page.flag(Bytes::copy(alloc, &other)? == list)?;
+    Ok(())
+}
+
+/// Writes numbers one after the other.
+fn write_numbers(alloc: Global, page: &mut Page, numbers: &[u64]) -> Result<(), RowFault> {
+    for number in numbers {
+        page.number(alloc, *number)?;
+    }
+    Ok(())
+}
+
+/// `list words NUMBERS`: how many there are, whether there are none, they themselves, and how many there are in the vector.
+fn numbers(alloc: Global, words: &mut Words, page: &mut Page) -> Result<(), RowFault> {
+    let list = WordList::from_vec(words.numbers(alloc)?);
+    page.number(alloc, list.len() as u64)?;
+    page.flag(list.is_empty())?;
+    write_numbers(alloc, page, list.as_slice())?;
+    page.number(alloc, list.into_vec().len() as u64)?;
+    Ok(())
+}
+
+/// `list alike COUNT NUMBERS`: whether the first so many are equal to a copy of the others.
+fn alike(alloc: Global, words: &mut Words, page: &mut Page) -> Result<(), RowFault> {
+    let count = words.size()?;
+    let numbers = words.numbers(alloc)?;
+    if count > numbers.len() {
+        return Err(RowFault::NoRow);
+    }
+    let (first, others) = numbers.as_slice().split_at(count);
+    let list = WordList::from_vec(first.to_vec(alloc)?);
+    page.flag(WordList::copy(alloc, others)? == list)?;
+    Ok(())
+}
+
+/// Answers a row about lists.
+pub fn answer(
+    alloc: Global,
+    name: &str,
+    words: &mut Words,
+    page: &mut Page,
+) -> Result<(), RowFault> {
+    match name {
+        "bytes" => bytes(alloc, words, page),
+        "same" => same(alloc, words, page),
+        "words" => numbers(alloc, words, page),
+        "alike" => alike(alloc, words, page),
+        _ => Err(RowFault::NoRow),
+    }
+}

@@ -1,0 +1,255 @@
+//! The messages that go to the bucket host, and its answers.
+
+use oram_bytes::Bytes;
+use oram_wire::{
+    HostAnswer, HostRequest, HostView, ListSink, Sink, SinkFault, WireFault, fetch_header,
+    store_header,
+};
+use rows::{Page, RowFault, Words};
+use std::alloc::Global;
+
+/// Writes a fault of a body.
+pub fn write_fault(alloc: Global, page: &mut Page, fault: WireFault) -> Result<(), RowFault> {
+    if fault == WireFault::OutOfMemory {
+        return Err(RowFault::OutOfMemory);
+    }
+    page.show(alloc, &fault)?;
+    Ok(())
+}
+
+/// The request that words tell, as `write_view` writes it.
+fn request_in(alloc: Global, words: &mut Words) -> Result<HostRequest, RowFault> {
+    match words.text()? {
+        "fetch" => Ok(HostRequest::Fetch {
+            tree: words.byte()?,
+            leaf: words.short()?,
+        }),
+        "store" => Ok(HostRequest::Store {
+            tree: words.byte()?,
+            leaf: words.short()?,
+            records: Bytes::from_vec(words.bytes(alloc)?),
+        }),
+        "put" => Ok(HostRequest::Put {
+            tree: words.byte()?,
+            node: words.short()?,
+            bytes: Bytes::from_vec(words.bytes(alloc)?),
+        }),
+        "shape" => Ok(HostRequest::Shape {
+            tree: words.byte()?,
+            depth: words.byte()?,
+            record_len: words.short()?,
+        }),
+        _ => Err(RowFault::NoRow),
+    }
+}
+
+/// The request with its bytes lent.
+fn view_of(request: &HostRequest) -> HostView<'_> {
+    match request {
+        HostRequest::Fetch { tree, leaf } => HostView::Fetch {
+            tree: *tree,
+            leaf: *leaf,
+        },
+        HostRequest::Store {
+            tree,
+            leaf,
+            records,
+        } => HostView::Store {
+            tree: *tree,
+            leaf: *leaf,
+            records: records.as_slice(),
+        },
+        HostRequest::Put { tree, node, bytes } => HostView::Put {
+            tree: *tree,
+            node: *node,
+            bytes: bytes.as_slice(),
+        },
+        HostRequest::Shape {
+            tree,
+            depth,
+            record_len,
+        } => HostView::Shape {
+            tree: *tree,
+            depth: *depth,
+            record_len: *record_len,
+        },
+    }
+}
+
+/// Writes a name, a tree and a number.
+fn write_place(
+    alloc: Global,
+    page: &mut Page,
+    name: &str,
+    tree: u8,
+    number: u32,
+) -> Result<(), RowFault> {
+    page.word(name)?;
+    page.number(alloc, tree.into())?;
+    page.number(alloc, number.into())?;
+    Ok(())
+}
+
+/// Writes a request: its name, its numbers and its bytes.
+fn write_view(alloc: Global, page: &mut Page, view: HostView<'_>) -> Result<(), RowFault> {
+    match view {
+        HostView::Fetch { tree, leaf } => write_place(alloc, page, "fetch", tree, leaf),
+        HostView::Store {
+            tree,
+            leaf,
+            records,
+        } => {
+            write_place(alloc, page, "store", tree, leaf)?;
+            Ok(page.bytes(alloc, records)?)
+        }
+        HostView::Put { tree, node, bytes } => {
+            write_place(alloc, page, "put", tree, node)?;
+            Ok(page.bytes(alloc, bytes)?)
+        }
+        HostView::Shape {
+            tree,
+            depth,
+            record_len,
+        } => {
+            write_place(alloc, page, "shape", tree, depth.into())?;
+            Ok(page.number(alloc, record_len.into())?)
+        }
+    }
+}
+
+/// `host write REQUEST`: the body of a request.
+fn write(alloc: Global, words: &mut Words, page: &mut Page) -> Result<(), RowFault> {
+    let request = request_in(alloc, words)?;
+    page.bytes(alloc, &request.encode(alloc)?)?;
+    Ok(())
+}
+
+/// `host read BODY`: the request that a body is.
+fn read(alloc: Global, words: &mut Words, page: &mut Page) -> Result<(), RowFault> {
+    let body = words.bytes(alloc)?;
+    match HostRequest::decode(alloc, &body) {
+        Ok(request) => write_view(alloc, page, view_of(&request)),
+        Err(fault) => write_fault(alloc, page, fault),
+    }
+}
+
+/// `host view BODY`: the request that a body is, with the body's bytes.
+fn view(alloc: Global, words: &mut Words, page: &mut Page) -> Result<(), RowFault> {
+    let body = words.bytes(alloc)?;
+    match HostView::read(&body) {
+        Ok(view) => write_view(alloc, page, view),
+        Err(fault) => write_fault(alloc, page, fault),
+    }
+}
+
+/// `host heads TREE LEAF`: the body of a fetch of this path, and the beginning of a store to it.
+fn heads(alloc: Global, words: &mut Words, page: &mut Page) -> Result<(), RowFault> {
+    let tree = words.byte()?;
+    let leaf = words.short()?;
+    page.bytes(alloc, &fetch_header(tree, leaf))?;
+    page.bytes(alloc, &store_header(tree, leaf))?;
+    Ok(())
+}
+
+/// Writes an answer of the host.
+pub fn write_answer(alloc: Global, page: &mut Page, answer: &HostAnswer) -> Result<(), RowFault> {
+    match answer {
+        HostAnswer::Done => page.word("done")?,
+        HostAnswer::Payload(bytes) => {
+            page.word("records")?;
+            page.bytes(alloc, bytes.as_slice())?;
+        }
+        HostAnswer::Refused(code) => {
+            page.word("refused")?;
+            page.number(alloc, u64::from(*code))?;
+        }
+    }
+    Ok(())
+}
+
+/// `host answered BODY`: the answer that a body is.
+fn answered(alloc: Global, words: &mut Words, page: &mut Page) -> Result<(), RowFault> {
+    let body = words.bytes(alloc)?;
+    match HostAnswer::decode(alloc, &body) {
+        Ok(answer) => write_answer(alloc, page, &answer),
+        Err(fault) => write_fault(alloc, page, fault),
+    }
+}
+
+/// `host done`: the body of that answer.
+fn done(alloc: Global, page: &mut Page) -> Result<(), RowFault> {
+    page.bytes(alloc, &HostAnswer::Done.encode(alloc)?)?;
+    Ok(())
+}
+
+/// `host refused CODE`: the body of a refusal.
+fn refused(alloc: Global, words: &mut Words, page: &mut Page) -> Result<(), RowFault> {
+    let code = words.byte()?;
+    if code == 0 || code > 8 {
+        return Err(RowFault::NoRow);
+    }
+    page.bytes(alloc, &HostAnswer::Refused(code).encode(alloc)?)?;
+    Ok(())
+}
+
+/// `host records BYTES`: the body of an answer with these.
+fn records(alloc: Global, words: &mut Words, page: &mut Page) -> Result<(), RowFault> {
+    let bytes = Bytes::from_vec(words.bytes(alloc)?);
+    if bytes.is_empty() {
+        return Err(RowFault::NoRow);
+    }
+    page.bytes(alloc, &HostAnswer::Payload(bytes).encode(alloc)?)?;
+    Ok(())
+}
+
+/// Puts a body into a sink, known by its bound alone. Of a list of bodies nothing but memory can be refused.
+fn put<S: Sink>(sink: &mut S, body: &[u8]) -> Result<(), RowFault> {
+    match sink.put(body) {
+        Ok(()) => Ok(()),
+        Err(SinkFault::OutOfMemory) => Err(RowFault::OutOfMemory),
+        Err(_) => Err(RowFault::NoRow),
+    }
+}
+
+/// The sink that took the bodies of the words.
+fn filled(alloc: Global, words: &mut Words) -> Result<ListSink, RowFault> {
+    let mut sink = ListSink::new(alloc);
+    for _ in 0..u64::MAX {
+        if words.is_empty() {
+            break;
+        }
+        put(&mut sink, &words.bytes(alloc)?)?;
+    }
+    Ok(sink)
+}
+
+/// `host kept BODIES`: the bodies that a list keeps of these, behind their count.
+fn kept(alloc: Global, words: &mut Words, page: &mut Page) -> Result<(), RowFault> {
+    let sink = filled(alloc, words)?;
+    page.number(alloc, sink.bodies().len() as u64)?;
+    for body in sink.bodies() {
+        page.bytes(alloc, body)?;
+    }
+    Ok(())
+}
+
+/// Answers a row about the host's messages.
+pub fn answer(
+    alloc: Global,
+    name: &str,
+    words: &mut Words,
+    page: &mut Page,
+) -> Result<(), RowFault> {
+    match name {
+        "write" => write(alloc, words, page),
+        "read" => read(alloc, words, page),
+        "view" => view(alloc, words, page),
+        "heads" => heads(alloc, words, page),
+        "answered" => answered(alloc, words, page),
+        "done" => done(alloc, page),
+        "refused" => refused(alloc, words, page),
+        "records" => records(alloc, words, page),
+        "kept" => kept(alloc, words, page),
+        _ => Err(RowFault::NoRow),
+    }
+}

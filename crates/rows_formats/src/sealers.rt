@@ -1,0 +1,112 @@
+//! What hides bytes from the host.
+
+use oram_bucket::{ChaChaSeal, OpenFault, PlainSeal, Sealer};
+use rows::{Page, RowFault, Words};
+use std::alloc::{AllocError, Global};
+
+/// A sealer as a row names it.
+#[derive(Clone, Copy)]
+pub enum Sealing {
+    Plain(PlainSeal),
+    ChaCha(ChaChaSeal),
+}
+
+/// The sealer of a word: `plain`, or a key of 32 bytes for ChaCha20.
+pub fn sealing_in(alloc: Global, words: &mut Words) -> Result<Sealing, RowFault> {
+    let word = words.text()?;
+    if word == "plain" {
+        return Ok(Sealing::Plain(PlainSeal));
+    }
+    let key = Words::of(word).array(alloc)?;
+    Ok(Sealing::ChaCha(ChaChaSeal { key }))
+}
+
+/// Writes what sealed bytes open to.
+pub fn write_opened<S: Sealer>(
+    alloc: Global,
+    sealer: &S,
+    sealed: &[u8],
+    page: &mut Page,
+) -> Result<(), RowFault> {
+    match sealer.open(alloc, sealed) {
+        Ok(plain) => page.bytes(alloc, &plain)?,
+        Err(OpenFault::OutOfMemory) => return Err(RowFault::OutOfMemory),
+        Err(fault) => page.show(alloc, &fault)?,
+    }
+    Ok(())
+}
+
+/// `seal close SEALER NONCE BYTES`: the bytes sealed under a nonce.
+fn close(alloc: Global, words: &mut Words, page: &mut Page) -> Result<(), RowFault> {
+    let sealing = sealing_in(alloc, words)?;
+    let nonce = words.number()?;
+    let plain = words.bytes(alloc)?;
+    let sealed = match &sealing {
+        Sealing::Plain(sealer) => sealer.seal(alloc, nonce, &plain)?,
+        Sealing::ChaCha(sealer) => sealer.seal(alloc, nonce, &plain)?,
+    };
+    page.bytes(alloc, &sealed)?;
+    Ok(())
+}
+
+/// `seal open SEALER BYTES`: what sealed bytes open to.
+fn open(alloc: Global, words: &mut Words, page: &mut Page) -> Result<(), RowFault> {
+    let sealing = sealing_in(alloc, words)?;
+    let sealed = words.bytes(alloc)?;
+    match &sealing {
+        Sealing::Plain(sealer) => write_opened(alloc, sealer, &sealed, page),
+        Sealing::ChaCha(sealer) => write_opened(alloc, sealer, &sealed, page),
+    }
+}
+
+/// The bytes 0, 1, 2 and so on, again from 0 behind 250.
+fn counted(alloc: Global, len: usize) -> Result<Vec<u8>, AllocError> {
+    (0..len).map(|place| (place % 251) as u8).collect(alloc)
+}
+
+/// Writes whether a sealer, known by its law alone, opens what it sealed behind a byte, and by how many bytes that is longer.
+fn write_law<S: Sealer>(
+    alloc: Global,
+    sealer: &S,
+    plain: &[u8],
+    page: &mut Page,
+) -> Result<(), RowFault> {
+    let mut sealed = Vec::new(alloc);
+    sealed.push(7)?;
+    sealer.seal_to(alloc, plain.len() as u64, plain, &mut sealed)?;
+    let opened = match sealer.open(alloc, sealed.get(1..).unwrap_or(&[])) {
+        Ok(opened) => opened.as_slice() == plain,
+        Err(OpenFault::OutOfMemory) => return Err(RowFault::OutOfMemory),
+        Err(OpenFault::Broken) => false,
+    };
+    page.flag(opened)?;
+    page.number(alloc, sealer.overhead() as u64)?;
+    page.number(alloc, sealed.len() as u64)?;
+    Ok(())
+}
+
+/// `seal again SEALER LENGTH`: whether so many bytes are opened as they were sealed, how many bytes a sealing adds, and
+/// how many they are then behind one other.
+fn again(alloc: Global, words: &mut Words, page: &mut Page) -> Result<(), RowFault> {
+    let sealing = sealing_in(alloc, words)?;
+    let plain = counted(alloc, words.size()?)?;
+    match &sealing {
+        Sealing::Plain(sealer) => write_law(alloc, sealer, &plain, page),
+        Sealing::ChaCha(sealer) => write_law(alloc, sealer, &plain, page),
+    }
+}
+
+/// Answers a row about sealers.
+pub fn answer(
+    alloc: Global,
+    name: &str,
+    words: &mut Words,
+    page: &mut Page,
+) -> Result<(), RowFault> {
+    match name {
+        "close" => close(alloc, words, page),
+        "open" => open(alloc, words, page),
+        "again" => again(alloc, words, page),
+        _ => Err(RowFault::NoRow),
+    }
+}

@@ -1,0 +1,350 @@
+//! Cores at work with a bucket host, and the files that are kept of them.
+
+use crate::cores::AnyCore;
+use crate::devices::device_in;
+use crate::files::{core_in, write_fault};
+use crate::sealers::sealing_in;
+use crate::servers::answer_to;
+use crate::shown::show_fault;
+use oram_bytes::{Bytes, Words as WordList};
+use oram_core::{Command, Event, Parts, Pending, Reaction, Reply, ReplyBody};
+use oram_host::Server;
+use rows::{Page, RowFault, Words};
+use std::alloc::Global;
+
+/// The core of the next rows, its host, and the message that has no answer yet.
+#[derive(Drop)]
+pub struct States {
+    core: Option<AnyCore>,
+    server: Server,
+    outstanding: Option<Bytes>,
+    /// The core that was never saved, which hears of the same events.
+    twin: Option<AnyCore>,
+    /// Whether the two once did something else.
+    is_unlike: bool,
+}
+
+/// Whether two cores did the same, byte for byte.
+fn are_alike(one: &Reaction, other: &Reaction) -> bool {
+    one.note == other.note && one.replies == other.replies && one.sends == other.sends
+}
+
+/// The event in which a session submits a command: its words are those that are left.
+fn submission(
+    alloc: Global,
+    session: u32,
+    command: Command,
+    words: &mut Words,
+) -> Result<Event, RowFault> {
+    let words = WordList::from_vec(words.numbers(alloc)?);
+    Ok(Event::Submit {
+        session,
+        command,
+        words,
+    })
+}
+
+/// `core read SESSION ADDRESS WORDS`, `core write SESSION ADDRESS BYTES WORDS` and `core discard SESSION ADDRESS WORDS`:
+/// what the core makes of a command.
+fn command_in(alloc: Global, name: &str, words: &mut Words) -> Result<Event, RowFault> {
+    let session = words.short()?;
+    let address = words.short()?;
+    let command = match name {
+        "read" => Command::Read(address),
+        "write" => Command::Write(address, Bytes::from_vec(words.bytes(alloc)?)),
+        "discard" => Command::Discard(address),
+        _ => return Err(RowFault::NoRow),
+    };
+    submission(alloc, session, command, words)
+}
+
+fn write_reply(alloc: Global, page: &mut Page, reply: &Reply) -> Result<(), RowFault> {
+    page.word("reply")?;
+    page.number(alloc, reply.session.into())?;
+    page.number(alloc, reply.ticket)?;
+    match &reply.body {
+        ReplyBody::Data(bytes) => page.bytes(alloc, bytes.as_slice())?,
+        ReplyBody::Done => page.word("done")?,
+        ReplyBody::Failed => page.word("failed")?,
+    }
+    Ok(())
+}
+
+fn write_replies(alloc: Global, page: &mut Page, replies: &[Reply]) -> Result<(), RowFault> {
+    for reply in replies {
+        write_reply(alloc, page, reply)?;
+    }
+    Ok(())
+}
+
+/// Writes a command that waits: its session, what is asked, its address and its words.
+fn write_pending(alloc: Global, page: &mut Page, pending: &Pending) -> Result<(), RowFault> {
+    page.number(alloc, pending.session.into())?;
+    page.word(match &pending.command {
+        Command::Read(_) => "read",
+        Command::Write(..) => "write",
+        Command::Discard(_) => "discard",
+    })?;
+    page.number(alloc, pending.command.address().into())?;
+    for word in pending.words.as_slice() {
+        page.number(alloc, *word)?;
+    }
+    Ok(())
+}
+
+/// `core counts`: the bytes that the sealer adds, the tickets, the next nonce, and how many entries the table has.
+fn write_counts(
+    alloc: Global,
+    page: &mut Page,
+    overhead: usize,
+    parts: &Parts,
+) -> Result<(), RowFault> {
+    page.number(alloc, overhead as u64)?;
+    page.number(alloc, parts.tickets)?;
+    page.number(alloc, parts.nonce)?;
+    page.number(alloc, parts.table.len() as u64)?;
+    Ok(())
+}
+
+/// `core stash`: how many blocks each tree has in its stash.
+fn write_stashes(alloc: Global, page: &mut Page, parts: &Parts) -> Result<(), RowFault> {
+    page.number(alloc, parts.trees.len() as u64)?;
+    page.word("trees")?;
+    for tree in &parts.trees {
+        page.number(alloc, tree.stash.len() as u64)?;
+    }
+    Ok(())
+}
+
+/// `core work`: the entry that is outstanding, whether its message counts as lost, and how many bytes are held.
+fn write_work(alloc: Global, page: &mut Page, parts: &Parts) -> Result<(), RowFault> {
+    page.number(alloc, parts.r.into())?;
+    page.word(if parts.stalled { "stalled" } else { "sent" })?;
+    page.number(alloc, parts.held_data.len() as u64)?;
+    Ok(())
+}
+
+/// `core waiting`: the commands without a reply.
+fn write_waiting(alloc: Global, page: &mut Page, parts: &Parts) -> Result<(), RowFault> {
+    page.number(alloc, parts.waiting.len() as u64)?;
+    for pending in &parts.waiting {
+        write_pending(alloc, page, pending)?;
+    }
+    Ok(())
+}
+
+/// `core failure`: why the core failed.
+fn write_failure(alloc: Global, page: &mut Page, parts: &Parts) -> Result<(), RowFault> {
+    match parts.failure {
+        Some(why) => Ok(page.show(alloc, &why)?),
+        None => Ok(page.word("none")?),
+    }
+}
+
+impl States {
+    pub fn new(alloc: Global) -> States {
+        States {
+            core: None,
+            server: Server::new(alloc),
+            outstanding: None,
+            twin: None,
+            is_unlike: false,
+        }
+    }
+
+    fn core(&self) -> Result<&AnyCore, RowFault> {
+        self.core.as_ref().ok_or(RowFault::NoRow)
+    }
+
+    /// `core format SEALER SIZES`: formats a device over a new host, or tells why there is no device.
+    fn format(
+        &mut self,
+        alloc: Global,
+        words: &mut Words,
+        page: &mut Page,
+    ) -> Result<(), RowFault> {
+        let sealing = sealing_in(alloc, words)?;
+        match device_in(words)? {
+            Ok(device) => {
+                self.server = Server::new(alloc);
+                self.outstanding = None;
+                let core = AnyCore::format(alloc, device, sealing, &mut self.server)?;
+                self.core = Some(core);
+                self.twin = None;
+                self.is_unlike = false;
+                page.word("formatted")?;
+                Ok(())
+            }
+            Err(fault) => show_fault(alloc, page, Some(fault.number()), &fault),
+        }
+    }
+
+    /// `core open SEALER FILE`: goes on with the core of a file.
+    fn open(&mut self, alloc: Global, words: &mut Words, page: &mut Page) -> Result<(), RowFault> {
+        let sealing = sealing_in(alloc, words)?;
+        let file = words.bytes(alloc)?;
+        match core_in(alloc, sealing, &file)? {
+            Ok(core) => {
+                self.core = Some(core);
+                self.outstanding = None;
+                page.word("good")?;
+                Ok(())
+            }
+            Err(fault) => write_fault(alloc, page, Some(fault)),
+        }
+    }
+
+    /// `core again SEALER`: saves the core, and goes on with the one that is read back. The message on its way stays there. The core
+    /// that was never saved hears of the same events from then on, and has to do the same.
+    fn again(&mut self, alloc: Global, words: &mut Words, page: &mut Page) -> Result<(), RowFault> {
+        let sealing = sealing_in(alloc, words)?;
+        let file = self.core()?.file(alloc)?;
+        match core_in(alloc, sealing, &file)? {
+            Ok(core) => {
+                let saved = self.core.replace(core);
+                if self.twin.is_none() {
+                    self.twin = saved;
+                }
+                page.word("read back")?;
+                Ok(())
+            }
+            Err(fault) => write_fault(alloc, page, Some(fault)),
+        }
+    }
+
+    /// What the core makes of an event.
+    fn step(&mut self, alloc: Global, event: &Event) -> Result<Reaction, RowFault> {
+        let Some(core) = &mut self.core else {
+            return Err(RowFault::NoRow);
+        };
+        let mut reaction = core.step(alloc, event)?;
+        if let Some(twin) = &mut self.twin {
+            let other = twin.step(alloc, event)?;
+            self.is_unlike |= !are_alike(&reaction, &other);
+        }
+        let sent = reaction.sends.pop();
+        if sent.is_some() || matches!(event, Event::Answer(_) | Event::Lost | Event::Reopen) {
+            self.outstanding = sent;
+        }
+        Ok(reaction)
+    }
+
+    /// Tells the core an event, and writes what became of it, and the replies.
+    fn tell(&mut self, alloc: Global, event: &Event, page: &mut Page) -> Result<(), RowFault> {
+        let reaction = self.step(alloc, event)?;
+        page.show(alloc, &reaction.note)?;
+        write_replies(alloc, page, &reaction.replies)?;
+        if self.is_unlike {
+            page.word("unlike the core that was never saved")?;
+        }
+        Ok(())
+    }
+
+    /// The event in which the host answers the outstanding message.
+    fn answer_of_host(&mut self, alloc: Global) -> Result<Event, RowFault> {
+        let Some(message) = &self.outstanding else {
+            return Err(RowFault::NoRow);
+        };
+        let answer = answer_to(alloc, &mut self.server, message.as_slice())?;
+        Ok(Event::Answer(Bytes::from_vec(answer)))
+    }
+
+    /// `core drain`: the replies until no message is outstanding.
+    fn drain(&mut self, alloc: Global, page: &mut Page) -> Result<(), RowFault> {
+        for _ in 0..u64::MAX {
+            if self.outstanding.is_none() {
+                break;
+            }
+            let event = self.answer_of_host(alloc)?;
+            let reaction = self.step(alloc, &event)?;
+            write_replies(alloc, page, &reaction.replies)?;
+        }
+        Ok(())
+    }
+
+    /// `core tamper TREE NODE PLACE`: whether the record has that byte, of which a bit then is another.
+    fn tamper(&mut self, words: &mut Words, page: &mut Page) -> Result<(), RowFault> {
+        let tree = words.number()?;
+        let node = words.number()?;
+        let place = words.number()?;
+        page.flag(self.server.flip(tree, node, place))?;
+        Ok(())
+    }
+
+    /// `core swap TREE NODE TREE NODE`: whether there are two records that change places.
+    fn swap(&mut self, words: &mut Words, page: &mut Page) -> Result<(), RowFault> {
+        let tree_a = words.number()?;
+        let node_a = words.number()?;
+        let tree_b = words.number()?;
+        let node_b = words.number()?;
+        page.flag(self.server.swap(tree_a, node_a, tree_b, node_b))?;
+        Ok(())
+    }
+
+    /// `core message`: the message that the core sent last.
+    fn message(&self, alloc: Global, page: &mut Page) -> Result<(), RowFault> {
+        let parts = self.core()?.parts(alloc)?;
+        page.bytes(alloc, parts.message.as_slice())?;
+        Ok(())
+    }
+
+    /// Answers a row about what is kept of the core.
+    fn kept(&self, alloc: Global, name: &str, page: &mut Page) -> Result<(), RowFault> {
+        let core = self.core()?;
+        let parts = core.parts(alloc)?;
+        match name {
+            "counts" => write_counts(alloc, page, core.overhead(), &parts),
+            "stash" => write_stashes(alloc, page, &parts),
+            "work" => write_work(alloc, page, &parts),
+            "waiting" => write_waiting(alloc, page, &parts),
+            "failure" => write_failure(alloc, page, &parts),
+            _ => Err(RowFault::NoRow),
+        }
+    }
+
+    /// Tells the core the event that a row names.
+    fn event(
+        &mut self,
+        alloc: Global,
+        name: &str,
+        words: &mut Words,
+        page: &mut Page,
+    ) -> Result<(), RowFault> {
+        let event = match name {
+            "answer" => self.answer_of_host(alloc)?,
+            "raw" => Event::Answer(Bytes::from_vec(words.bytes(alloc)?)),
+            "lost" => Event::Lost,
+            // The host hears the message, and its answer is lost.
+            "late" => {
+                let _unheard = self.answer_of_host(alloc)?;
+                Event::Lost
+            }
+            "retry" => Event::Retry,
+            "reopen" => Event::Reopen,
+            _ => command_in(alloc, name, words)?,
+        };
+        self.tell(alloc, &event, page)
+    }
+
+    /// Answers a row about a core.
+    pub fn answer(
+        &mut self,
+        alloc: Global,
+        name: &str,
+        words: &mut Words,
+        page: &mut Page,
+    ) -> Result<(), RowFault> {
+        match name {
+            "format" => self.format(alloc, words, page),
+            "open" => self.open(alloc, words, page),
+            "drain" => self.drain(alloc, page),
+            "tamper" => self.tamper(words, page),
+            "swap" => self.swap(words, page),
+            "file" => Ok(page.bytes(alloc, &self.core()?.file(alloc)?)?),
+            "message" => self.message(alloc, page),
+            "again" => self.again(alloc, words, page),
+            "counts" | "stash" | "work" | "waiting" | "failure" => self.kept(alloc, name, page),
+            _ => self.event(alloc, name, words, page),
+        }
+    }
+}

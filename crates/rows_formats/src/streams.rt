@@ -1,0 +1,122 @@
+//! Frames in a stream: cut from pieces, read from a reader, and written to a writer.
+
+use oram_wire::{FrameFault, Frames, LONGEST_BODY, next_frame, put_frame};
+use rows::{Page, RowFault, Source, Target, Words, pace_in};
+use std::alloc::Global;
+
+/// The stream whose pieces come row by row.
+#[derive(Drop)]
+pub struct Streams {
+    frames: Option<Frames>,
+}
+
+/// Feeds a piece, and writes the bodies that it completes, and whether the stream is broken.
+fn write_fed(
+    alloc: Global,
+    page: &mut Page,
+    frames: &mut Frames,
+    piece: &[u8],
+) -> Result<(), RowFault> {
+    let fed = frames.feed(alloc, piece)?;
+    for body in &fed.frames {
+        page.bytes(alloc, body)?;
+    }
+    if fed.broken {
+        page.word("broken")?;
+    }
+    Ok(())
+}
+
+/// Writes how many bytes of an unfinished frame are held.
+fn write_held(alloc: Global, page: &mut Page, frames: &Frames) -> Result<(), RowFault> {
+    page.word("held")?;
+    page.number(alloc, frames.rest_len() as u64)?;
+    Ok(())
+}
+
+/// `frame pieces SIZE BYTES`: the bodies in a stream that comes in pieces of this size, and how many bytes are held then.
+fn pieces(alloc: Global, words: &mut Words, page: &mut Page) -> Result<(), RowFault> {
+    let size = words.size()?;
+    let stream = words.bytes(alloc)?;
+    if size == 0 {
+        return Err(RowFault::NoRow);
+    }
+    let mut frames = Frames::new(alloc);
+    for piece in stream.as_slice().chunks(size) {
+        write_fed(alloc, page, &mut frames, piece)?;
+    }
+    write_held(alloc, page, &frames)
+}
+
+/// `frame read PACE BYTES`: the next body that a reader gives, the bytes that are left, and how often it was called.
+fn read(alloc: Global, words: &mut Words, page: &mut Page) -> Result<(), RowFault> {
+    let pace = pace_in(words)?;
+    let bytes = words.bytes(alloc)?;
+    let mut source = Source::new(&bytes, pace);
+    match next_frame(alloc, &mut source) {
+        Ok(Some(body)) => page.bytes(alloc, &body)?,
+        Ok(None) => page.word("none")?,
+        Err(FrameFault::OutOfMemory) => return Err(RowFault::OutOfMemory),
+        Err(fault) => page.show(alloc, &fault)?,
+    }
+    page.word("left")?;
+    page.bytes(alloc, source.rest())?;
+    page.word("calls")?;
+    page.number(alloc, source.calls())?;
+    Ok(())
+}
+
+/// `frame write ROOM PACE BODY`: how writing a frame ends, the bytes that were taken, and how often the writer was called.
+fn write(alloc: Global, words: &mut Words, page: &mut Page) -> Result<(), RowFault> {
+    let room = words.size()?;
+    let pace = pace_in(words)?;
+    let body = words.bytes(alloc)?;
+    if body.len() > LONGEST_BODY {
+        return Err(RowFault::NoRow);
+    }
+    let mut target = Target::new(alloc, room, pace)?;
+    let written = put_frame(&mut target, &body);
+    page.word(if written.is_ok() { "done" } else { "failed" })?;
+    page.bytes(alloc, target.bytes())?;
+    page.word("calls")?;
+    page.number(alloc, target.calls())?;
+    Ok(())
+}
+
+impl Streams {
+    pub fn new() -> Streams {
+        Streams { frames: None }
+    }
+
+    /// `frame feed PIECE`: the bodies that the next piece of the stream completes, and how many bytes are held then.
+    fn feed(&mut self, alloc: Global, words: &mut Words, page: &mut Page) -> Result<(), RowFault> {
+        let piece = words.bytes(alloc)?;
+        let Some(frames) = &mut self.frames else {
+            return Err(RowFault::NoRow);
+        };
+        write_fed(alloc, page, frames, &piece)?;
+        write_held(alloc, page, frames)
+    }
+
+    /// Answers a row about frames. `frame stream` begins a stream of pieces.
+    pub fn answer(
+        &mut self,
+        alloc: Global,
+        name: &str,
+        words: &mut Words,
+        page: &mut Page,
+    ) -> Result<(), RowFault> {
+        match name {
+            "stream" => {
+                self.frames = Some(Frames::new(alloc));
+                page.word("new")?;
+                Ok(())
+            }
+            "feed" => self.feed(alloc, words, page),
+            "pieces" => pieces(alloc, words, page),
+            "read" => read(alloc, words, page),
+            "write" => write(alloc, words, page),
+            _ => Err(RowFault::NoRow),
+        }
+    }
+}

@@ -1,0 +1,151 @@
+//! Readers and writers that end or fail where a row wants them to.
+
+use rows::{RowFault, Words};
+use std::alloc::Global;
+use std::io;
+use std::io::{ErrorKind, Read, Write};
+
+/// A reader of bytes that a row gives.
+#[derive(Drop)]
+pub(crate) struct Given {
+    bytes: Vec<u8>,
+    /// How many of them were read.
+    at: usize,
+    /// How many it gives at most at once.
+    step: usize,
+    fails: bool,
+}
+
+impl Given {
+    /// A reader of the next words: `whole BYTES`, `ends LEN BYTES` or `fails LEN BYTES`. The last two give the first bytes, one at a
+    /// time, and then end or fail.
+    pub(crate) fn read(alloc: Global, words: &mut Words) -> Result<Given, RowFault> {
+        let (len, fails) = match words.text()? {
+            "whole" => (None, false),
+            "ends" => (Some(words.size()?), false),
+            "fails" => (Some(words.size()?), true),
+            _ => return Err(RowFault::NoRow),
+        };
+        let mut bytes = words.bytes(alloc)?;
+        if let Some(len) = len {
+            bytes.truncate(len);
+        }
+        Ok(Given {
+            bytes,
+            at: 0,
+            step: if len.is_some() { 1 } else { usize::MAX },
+            fails,
+        })
+    }
+
+    /// A reader of all these bytes.
+    pub(crate) fn of(bytes: Vec<u8>) -> Given {
+        Given {
+            bytes,
+            at: 0,
+            step: usize::MAX,
+            fails: false,
+        }
+    }
+
+    /// Begins anew.
+    pub(crate) fn rewind(&mut self) {
+        self.at = 0;
+    }
+}
+
+impl Read for Given {
+    fn read(&mut self, buf: &mut [u8]) -> io::Result<usize> {
+        let mut rest = self.bytes.get(self.at..).unwrap_or(&[]);
+        if rest.is_empty() && self.fails {
+            return Err(io::Error::from(ErrorKind::Other));
+        }
+        let most = buf.len().min(self.step);
+        let taken = rest.read(&mut buf[..most])?;
+        self.at = self.at.saturating_add(taken);
+        Ok(taken)
+    }
+}
+
+/// A writer, and what was written.
+#[derive(Drop)]
+pub(crate) struct Sheet {
+    bytes: Vec<u8>,
+    room: usize,
+    /// How many bytes it takes at most at once.
+    step: usize,
+    flush_fails: bool,
+    pub(crate) writes: u64,
+    pub(crate) flushes: u64,
+    lacks_memory: bool,
+}
+
+impl Sheet {
+    /// A writer that takes all that it is given.
+    pub(crate) fn ample(alloc: Global) -> Sheet {
+        Sheet {
+            bytes: Vec::new(alloc),
+            room: usize::MAX,
+            step: usize::MAX,
+            flush_fails: false,
+            writes: 0,
+            flushes: 0,
+            lacks_memory: false,
+        }
+    }
+
+    /// A writer of the next words: `ample`, `room LEN`, which takes a byte at a time and fails behind so many, or `unflushed`, whose
+    /// flush fails.
+    pub(crate) fn read(alloc: Global, words: &mut Words) -> Result<Sheet, RowFault> {
+        let mut sheet = Sheet::ample(alloc);
+        match words.text()? {
+            "ample" => {}
+            "room" => {
+                sheet.room = words.size()?;
+                sheet.step = 1;
+            }
+            "unflushed" => sheet.flush_fails = true,
+            _ => return Err(RowFault::NoRow),
+        }
+        Ok(sheet)
+    }
+
+    /// What was written.
+    pub(crate) fn text(&self) -> Result<&[u8], RowFault> {
+        if self.lacks_memory {
+            return Err(RowFault::OutOfMemory);
+        }
+        Ok(&self.bytes)
+    }
+
+    /// What was written, in place of the sheet.
+    pub(crate) fn into_text(self) -> Result<Vec<u8>, RowFault> {
+        if self.lacks_memory {
+            return Err(RowFault::OutOfMemory);
+        }
+        Ok(self.bytes)
+    }
+}
+
+impl Write for Sheet {
+    fn write(&mut self, buf: &[u8]) -> io::Result<usize> {
+        self.writes = self.writes.saturating_add(1);
+        if self.bytes.len() >= self.room {
+            return Err(io::Error::from(ErrorKind::StorageFull));
+        }
+        let taken = buf.len().min(self.step);
+        if self.bytes.extend_from_slice(&buf[..taken]).is_err() {
+            self.lacks_memory = true;
+            return Err(io::Error::from(ErrorKind::OutOfMemory));
+        }
+        Ok(taken)
+    }
+
+    fn flush(&mut self) -> io::Result<()> {
+        self.flushes = self.flushes.saturating_add(1);
+        if self.flush_fails {
+            return Err(io::Error::from(ErrorKind::Other));
+        }
+        Ok(())
+    }
+}

@@ -1,0 +1,91 @@
+//! Rows of sessions whose host is at the other end of a reader and a writer.
+
+use crate::answering::WatchedServer;
+use crate::ends::{Given, Sheet};
+use crate::sessions::{formatted, served};
+use crate::telling::{numbers_in, tell_end};
+use oram_session::{ListTape, ServeFault, StreamLink, host_serve};
+use rows::{Page, RowFault, Words};
+use std::alloc::Global;
+
+/// How many answers a session may want.
+const MOST_ANSWERS: u64 = 100;
+
+/// A session, and how far it has come.
+#[derive(Drop)]
+struct Far {
+    numbers: [u64; 5],
+    given: Given,
+    /// What the host has answered so far.
+    answers: Vec<u8>,
+    replies: Sheet,
+    asked: Sheet,
+}
+
+impl Far {
+    /// Serves the session from its beginning, with these answers.
+    fn serve(&mut self, alloc: Global) -> Result<Result<u64, ServeFault>, RowFault> {
+        let (mut core, _host) = formatted(alloc, self.numbers)?;
+        self.given.rewind();
+        self.replies = Sheet::ample(alloc);
+        self.asked = Sheet::ample(alloc);
+        let mut link = StreamLink::new(alloc, self.answers.as_slice(), &mut self.asked);
+        let mut tape = ListTape {
+            words: Vec::new(alloc),
+        };
+        served(
+            alloc,
+            &mut core,
+            &mut link,
+            &mut tape,
+            &mut self.given,
+            &mut self.replies,
+        )
+    }
+
+    /// Has a host answer all that was asked.
+    fn answer(&mut self, alloc: Global) -> Result<(), RowFault> {
+        let (_core, server) = formatted(alloc, self.numbers)?;
+        let mut host = WatchedServer::over(server);
+        let mut answers = Sheet::ample(alloc);
+        let mut asked = self.asked.text()?;
+        let _ended = host_serve(alloc, &mut asked, &mut answers, &mut host);
+        host.check_memory()?;
+        self.answers = answers.into_text()?;
+        Ok(())
+    }
+
+    /// Begins anew with each answer more, until the session doesn't stall for want of one, and tells how many it wanted.
+    fn go_on(&mut self, alloc: Global) -> Result<(u64, Result<u64, ServeFault>), RowFault> {
+        for wanted in 0..MOST_ANSWERS {
+            let ended = self.serve(alloc)?;
+            if ended != Err(ServeFault::Stalled) {
+                return Ok((wanted, ended));
+            }
+            self.answer(alloc)?;
+        }
+        Err(RowFault::NoRow)
+    }
+}
+
+/// `far_session DEVICE READER`: the replies of a session over a link of a reader and a writer with its host at the other end, how many
+/// there were or why there were no more, and how many answers of the host it wanted.
+pub(crate) fn far_session(
+    alloc: Global,
+    words: &mut Words,
+    page: &mut Page,
+) -> Result<(), RowFault> {
+    let mut far = Far {
+        numbers: numbers_in(words)?,
+        given: Given::read(alloc, words)?,
+        answers: Vec::new(alloc),
+        replies: Sheet::ample(alloc),
+        asked: Sheet::ample(alloc),
+    };
+    let (wanted, ended) = far.go_on(alloc)?;
+    page.bytes(alloc, far.replies.text()?)?;
+    tell_end(alloc, page, ended)?;
+    page.word("answers")?;
+    page.number(alloc, wanted)?;
+    Ok(())
+}

@@ -1,0 +1,186 @@
+//! Rows of a link, and of a core over it, that are kept from row to row.
+
+use crate::network::Cutter;
+use crate::telling::{device_of, numbers_in, standing, tell_end, tell_note, tell_outcome};
+use crate::ways::AnyLink;
+use oram_bucket::PlainSeal;
+use oram_bytes::{Bytes, Words as WordList};
+use oram_core::{Command, Core, Event};
+use oram_host::Server;
+use oram_session::{Link, format_device, resume};
+use oram_tree::FormatFault;
+use oram_wire::SinkFault;
+use rows::{Page, RowFault, Words};
+use std::alloc::Global;
+use std::net::Net;
+
+/// The link and the core.
+#[derive(Drop)]
+pub(crate) struct Kept<'a, R: Net> {
+    pub(crate) net: &'a Cutter<R>,
+    link: Option<AnyLink<'a, R>>,
+    core: Option<Core<PlainSeal>>,
+}
+
+impl<'a, R: Net> Kept<'a, R> {
+    pub(crate) fn new(net: &'a Cutter<R>) -> Kept<'a, R> {
+        Kept {
+            net,
+            link: None,
+            core: None,
+        }
+    }
+
+    /// Makes the call of this name, on the link or the core.
+    pub(crate) fn make(
+        &mut self,
+        alloc: Global,
+        call: &str,
+        words: &mut Words,
+        page: &mut Page,
+    ) -> Result<(), RowFault> {
+        match call {
+            "link" => self.begin(alloc, words, page),
+            "relink" => self.relink(alloc, words, page),
+            "call" => self.call(alloc, words, page),
+            "calls" => self.calls(alloc, page),
+            "cut" => self.cut(page),
+            "flip" => self.flip(alloc, words, page),
+            "format" => self.format(alloc, words, page),
+            "resume" => self.resume(alloc, page),
+            _ => self.step(alloc, &event_in(alloc, call, words)?, page),
+        }
+    }
+
+    /// `link LINK`: a link to a new server, without a core.
+    fn begin(&mut self, alloc: Global, words: &mut Words, page: &mut Page) -> Result<(), RowFault> {
+        self.core = None;
+        self.link = Some(AnyLink::read(alloc, words, self.net, Server::new(alloc))?);
+        page.word("new")?;
+        Ok(())
+    }
+
+    /// `relink LINK`: another link to the server of the `direct` one.
+    fn relink(
+        &mut self,
+        alloc: Global,
+        words: &mut Words,
+        page: &mut Page,
+    ) -> Result<(), RowFault> {
+        let server = self.take_server()?;
+        self.link = Some(AnyLink::read(alloc, words, self.net, server)?);
+        page.word("new")?;
+        Ok(())
+    }
+
+    /// The server of the `direct` link, which is there no more.
+    fn take_server(&mut self) -> Result<Server, RowFault> {
+        match self.link.take() {
+            Some(link) => link.into_server(),
+            None => Err(RowFault::NoRow),
+        }
+    }
+
+    /// `call BODY`: what the link answers to a message.
+    fn call(&mut self, alloc: Global, words: &mut Words, page: &mut Page) -> Result<(), RowFault> {
+        let body = words.bytes(alloc)?;
+        let Some(link) = &mut self.link else {
+            return Err(RowFault::NoRow);
+        };
+        let outcome = link.call(alloc, &body);
+        link.check_memory()?;
+        tell_outcome(alloc, page, outcome)
+    }
+
+    /// `calls`: how many calls the link had, and how many of them a fault.
+    fn calls(&mut self, alloc: Global, page: &mut Page) -> Result<(), RowFault> {
+        match &self.link {
+            Some(link) => link.tell(alloc, page),
+            None => Err(RowFault::NoRow),
+        }
+    }
+
+    /// `cut`: shuts the connection of the `loop` link down.
+    fn cut(&mut self, page: &mut Page) -> Result<(), RowFault> {
+        if self.net.cut().is_err() {
+            return Err(RowFault::NoRow);
+        }
+        page.word("done")?;
+        Ok(())
+    }
+
+    /// `flip TREE NODE OFFSET`: flips a bit of a byte that the server of the `direct` link keeps.
+    fn flip(&mut self, alloc: Global, words: &mut Words, page: &mut Page) -> Result<(), RowFault> {
+        let mut server = self.take_server()?;
+        let flipped = server.flip(words.number()?, words.number()?, words.number()?);
+        self.link = Some(AnyLink::direct(alloc, server));
+        page.flag(flipped)?;
+        Ok(())
+    }
+
+    /// `format DEVICE`: formats a device over the link, and keeps its core.
+    fn format(
+        &mut self,
+        alloc: Global,
+        words: &mut Words,
+        page: &mut Page,
+    ) -> Result<(), RowFault> {
+        let device = device_of(numbers_in(words)?)?;
+        self.core = None;
+        let Some(link) = &mut self.link else {
+            return Err(RowFault::NoRow);
+        };
+        let made = format_device(alloc, device, PlainSeal, link);
+        link.check_memory()?;
+        match made {
+            Ok(core) => {
+                page.word(standing(&core))?;
+                self.core = Some(core);
+            }
+            Err(FormatFault::Sink(SinkFault::Refused)) => page.word("refused")?,
+            Err(FormatFault::Sink(SinkFault::Link)) => page.word("the link has a fault")?,
+            Err(_) => return Err(RowFault::OutOfMemory),
+        }
+        Ok(())
+    }
+
+    /// `read ADDRESS WORDS`, `lost` or `answer BYTES`: what becomes of the event.
+    fn step(&mut self, alloc: Global, event: &Event, page: &mut Page) -> Result<(), RowFault> {
+        let Some(core) = &mut self.core else {
+            return Err(RowFault::NoRow);
+        };
+        let reaction = core.step(alloc, event)?;
+        tell_note(alloc, page, reaction.note)
+    }
+
+    /// `resume`: how many commands were carried out, or why the rest wasn't; how the core then stands, how many commands wait and how
+    /// many there were; and the calls of the link.
+    fn resume(&mut self, alloc: Global, page: &mut Page) -> Result<(), RowFault> {
+        let (Some(core), Some(link)) = (&mut self.core, &mut self.link) else {
+            return Err(RowFault::NoRow);
+        };
+        let ended = resume(alloc, core, link);
+        link.check_memory()?;
+        tell_end(alloc, page, ended)?;
+        page.word(standing(core))?;
+        page.word("waiting")?;
+        page.number(alloc, core.waiting() as u64)?;
+        page.word("of")?;
+        page.number(alloc, core.next_ticket())?;
+        link.tell(alloc, page)
+    }
+}
+
+/// The event of a call.
+fn event_in(alloc: Global, call: &str, words: &mut Words) -> Result<Event, RowFault> {
+    match call {
+        "read" => Ok(Event::Submit {
+            session: 1,
+            command: Command::Read(words.short()?),
+            words: WordList::from_vec(words.numbers(alloc)?),
+        }),
+        "lost" => Ok(Event::Lost),
+        "answer" => Ok(Event::Answer(Bytes::from_vec(words.bytes(alloc)?))),
+        _ => Err(RowFault::NoRow),
+    }
+}

@@ -1,0 +1,229 @@
+//! Rows of whole lives of a device: its process ends, and another begins with what was kept.
+ghost use Rattle.std.specs.Prelude.{⊤};
+
+use crate::network::Cutter;
+use crate::sessions::formatted;
+use crate::telling::{numbers_in, tell};
+use crate::ways::AnyLink;
+use oram_bucket::PlainSeal;
+use oram_bytes::Bytes;
+use oram_core::{Command, Core, ReplyBody};
+use oram_keep::{Asked, KeepFault, Keeper, Unkept, ask, resume};
+use oram_session::{ChaChaTape, is_settled};
+use oram_state::{StateFault, decode_state};
+use rows::{Page, RowFault, Words};
+use std::alloc::Global;
+use std::net::Net;
+
+/// Blocks 1, 2 and 3 are written, each with bytes of its number.
+const WRITES: u8 = 3;
+
+/// Keeps the newest file in memory, and fails once it has kept so many.
+#[derive(Drop)]
+struct Shelf {
+    alloc: Global,
+    newest: Vec<u8>,
+    room: u64,
+    /// Whether the file that it fails at is the newest all the same.
+    late: bool,
+    kept: u64,
+    lacks_memory: bool,
+}
+
+impl Shelf {
+    /// A keeper of the next words: `keeps_all`, `keeps COUNT` files, or `keeps_late COUNT`, where the one behind them is kept too
+    /// though the keeper fails.
+    fn read(alloc: Global, words: &mut Words) -> Result<Shelf, RowFault> {
+        let (late, room) = match words.text()? {
+            "keeps_all" => (false, u64::MAX),
+            "keeps" => (false, words.number()?),
+            "keeps_late" => (true, words.number()?),
+            _ => return Err(RowFault::NoRow),
+        };
+        Ok(Shelf {
+            alloc,
+            newest: Vec::new(alloc),
+            room,
+            late,
+            kept: 0,
+            lacks_memory: false,
+        })
+    }
+
+    fn put(&mut self, file: &[u8]) -> Result<(), Unkept> {
+        let mut newest = Vec::new(self.alloc);
+        if newest.extend_from_slice(file).is_err() {
+            self.lacks_memory = true;
+            return Err(Unkept);
+        }
+        self.newest = newest;
+        Ok(())
+    }
+}
+
+impl Keeper for Shelf {
+    ghost keeps = { λ _ _ _ _. ⊤ };
+
+    fn keep(&mut self, file: &[u8]) -> Result<(), Unkept> {
+        if self.kept < self.room {
+            self.kept += 1;
+            return self.put(file);
+        }
+        if self.late {
+            self.put(file)?;
+        }
+        Err(Unkept)
+    }
+}
+
+/// A device with its link and its keeper.
+#[derive(Drop)]
+struct Life<'a, R: Net> {
+    core: Core<PlainSeal>,
+    link: AnyLink<'a, R>,
+    shelf: Shelf,
+}
+
+impl<R: Net> Life<'_, R> {
+    /// Carries out a command.
+    fn ask(&mut self, alloc: Global, command: Command) -> Result<Asked, KeepFault> {
+        if !is_settled(&self.core) {
+            return Err(KeepFault::Stalled);
+        }
+        let trees = self.core.device().trees();
+        let key = [0; 32];
+        let mut tape = ChaChaTape { key, trees };
+        ask(
+            alloc,
+            &mut self.core,
+            &mut self.link,
+            &mut self.shelf,
+            &mut tape,
+            command,
+        )
+    }
+
+    fn write(&mut self, alloc: Global, number: u8) -> Result<(), KeepFault> {
+        let bytes = Bytes::copy(alloc, &[number; 16])?;
+        match self.ask(alloc, Command::Write(u32::from(number), bytes))? {
+            Asked::Replied(ReplyBody::Done) => Ok(()),
+            _ => Err(KeepFault::Stalled),
+        }
+    }
+
+    /// Writes one block after the other, and tells how many had their reply, and why the next one had none.
+    fn write_all(&mut self, alloc: Global) -> (u8, Option<KeepFault>) {
+        for number in 1..=WRITES {
+            if let Err(fault) = self.write(alloc, number) {
+                return (number - 1, Some(fault));
+            }
+        }
+        (WRITES, None)
+    }
+
+    /// Goes on with what was kept, as the next process does, and a keeper that doesn't fail.
+    fn begin_anew(&mut self, alloc: Global) -> Result<(), RowFault> {
+        match decode_state(alloc, PlainSeal, &self.shelf.newest) {
+            Ok(core) => self.core = core,
+            Err(StateFault::OutOfMemory) => return Err(RowFault::OutOfMemory),
+            Err(_) => return Err(RowFault::NoRow),
+        }
+        self.shelf.room = u64::MAX;
+        match resume(alloc, &mut self.core, &mut self.link, &mut self.shelf) {
+            Ok(_) => Ok(()),
+            Err(fault) => Err(self.row_fault(fault)),
+        }
+    }
+
+    /// The byte that all those of a block are.
+    fn read(&mut self, alloc: Global, address: u32) -> Result<u8, RowFault> {
+        match self.ask(alloc, Command::Read(address)) {
+            Ok(Asked::Replied(ReplyBody::Data(bytes))) => byte_of(bytes.as_slice()),
+            Ok(_) => Err(RowFault::NoRow),
+            Err(fault) => Err(self.row_fault(fault)),
+        }
+    }
+
+    /// How many blocks are as they were written, from the first on; those behind have to be zeros.
+    fn found(&mut self, alloc: Global) -> Result<u8, RowFault> {
+        let mut found = 0;
+        for number in 1..=WRITES {
+            let byte = self.read(alloc, u32::from(number))?;
+            if byte == number && found == number - 1 {
+                found = number;
+            } else if byte != 0 {
+                return Err(RowFault::NoRow);
+            }
+        }
+        Ok(found)
+    }
+
+    /// Whether the link or the keeper found no memory.
+    fn lacks_memory(&self) -> bool {
+        self.shelf.lacks_memory || self.link.check_memory().is_err()
+    }
+
+    /// What keeps a row from being answered that a fault ends.
+    fn row_fault(&self, fault: KeepFault) -> RowFault {
+        if fault == KeepFault::OutOfMemory || self.lacks_memory() {
+            RowFault::OutOfMemory
+        } else {
+            RowFault::NoRow
+        }
+    }
+
+    /// Writes how many writes had their reply, and why the next one had none, how often the core was kept, and how often the link
+    /// called.
+    fn tell_first(&mut self, alloc: Global, page: &mut Page) -> Result<(), RowFault> {
+        let (written, ended) = self.write_all(alloc);
+        if ended == Some(KeepFault::OutOfMemory) || self.lacks_memory() {
+            return Err(RowFault::OutOfMemory);
+        }
+        page.word("written")?;
+        page.number(alloc, u64::from(written))?;
+        if let Some(fault) = ended {
+            tell(alloc, page, fault)?;
+        }
+        page.word("kept")?;
+        page.number(alloc, self.shelf.kept)?;
+        page.word("calls")?;
+        page.number(alloc, self.link.calls())?;
+        Ok(())
+    }
+
+    /// Writes how many blocks the next life finds written.
+    fn tell_next(&mut self, alloc: Global, page: &mut Page) -> Result<(), RowFault> {
+        page.word("found")?;
+        if self.shelf.newest.is_empty() {
+            page.word("nothing")?;
+            return Ok(());
+        }
+        self.begin_anew(alloc)?;
+        page.number(alloc, u64::from(self.found(alloc)?))?;
+        Ok(())
+    }
+}
+
+/// The byte that all these are.
+fn byte_of(bytes: &[u8]) -> Result<u8, RowFault> {
+    match bytes.split_first() {
+        Some((first, rest)) if rest.iter().all(|byte| byte == first) => Ok(*first),
+        _ => Err(RowFault::NoRow),
+    }
+}
+
+/// `lives DEVICE KEEPER LINK`: what comes of a life that writes three blocks and may end before, and how many of them the next life
+/// finds written, which begins with what was kept.
+pub(crate) fn lives<R: Net>(
+    alloc: Global,
+    net: &Cutter<R>,
+    words: &mut Words,
+    page: &mut Page,
+) -> Result<(), RowFault> {
+    let (core, server) = formatted(alloc, numbers_in(words)?)?;
+    let shelf = Shelf::read(alloc, words)?;
+    let link = AnyLink::read(alloc, words, net, server)?;
+    let mut life = Life { core, link, shelf };
+    life.tell_first(alloc, page)?;
+    life.tell_next(alloc, page)
+}

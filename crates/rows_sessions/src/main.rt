@@ -1,0 +1,58 @@
+//! Rows of sessions: links and tapes, devices that are formatted, served, gone on with, and kept through whole lives.
+#![tactic(auto)]
+
+mod answering;
+mod ends;
+mod far;
+mod kept;
+mod lives;
+mod network;
+mod sessions;
+mod streams;
+mod tapes;
+mod telling;
+mod ways;
+
+use crate::kept::Kept;
+use crate::network::Cutter;
+use rows::{Page, RowFault, Table, Words, run_table};
+use std::alloc::Global;
+use std::net::Net;
+use std::process::ExitCode;
+
+impl<R: Net> Table for Kept<'_, R> {
+    fn answer(
+        &mut self,
+        alloc: Global,
+        call: &str,
+        words: &mut Words,
+        page: &mut Page,
+    ) -> Result<(), RowFault> {
+        match call {
+            "names" => telling::names(alloc, words, page),
+            "list_words" => tapes::list_words(alloc, words, page),
+            "chacha_words" => tapes::chacha_words(alloc, words, page),
+            "hosted" => answering::hosted(alloc, words, page),
+            "stream" => streams::stream(alloc, words, page),
+            "session" => sessions::session(alloc, self.net, words, page),
+            "far_session" => far::far_session(alloc, words, page),
+            "lives" => lives::lives(alloc, self.net, words, page),
+            _ => self.make(alloc, call, words, page),
+        }
+    }
+}
+
+/// Answers the rows of the standard input, with links over a network.
+fn answer_rows<R: Input + Print + AllocGlobal, N: Net>(rt: &R, net: &Cutter<N>) -> ExitCode {
+    let mut kept = Kept::new(net);
+    run_table(rt, &mut kept)
+}
+
+/// The same, over a network that it is given.
+fn run<R: Input + Print + AllocGlobal, N: Net + Drop>(rt: &R, net: Cutter<N>) -> ExitCode {
+    answer_rows(rt, &net)
+}
+
+fn main(rt: HostRuntime) -> ExitCode {
+    run(&rt, Cutter::new(&rt))
+}

@@ -1,0 +1,46 @@
+//! A network whose newest connection can be cut off.
+
+use std::cell::Cell;
+use std::io;
+use std::io::ErrorKind;
+use std::net::{Net, OpenStream, Shutdown, SocketAddr};
+
+/// Another network, and a second handle of the connection that was made last.
+#[derive(Drop)]
+pub(crate) struct Cutter<R: Net> {
+    rt: R,
+    newest: Cell<Option<R::Stream>>,
+}
+
+impl<R: Net> Cutter<R> {
+    pub(crate) fn new(rt: R) -> Cutter<R> {
+        Cutter {
+            rt,
+            newest: Cell::new(None),
+        }
+    }
+
+    /// Shuts the newest connection down, both ways.
+    pub(crate) fn cut(&self) -> io::Result<()> {
+        match self.newest.take() {
+            Some(stream) => stream.shutdown(Shutdown::Both),
+            None => Err(io::Error::from(ErrorKind::NotConnected)),
+        }
+    }
+}
+
+impl<R: Net> Net for Cutter<R> {
+    type Stream = R::Stream;
+
+    type Listener = R::Listener;
+
+    fn bind(&self, addr: SocketAddr) -> io::Result<R::Listener> {
+        self.rt.bind(addr)
+    }
+
+    fn connect(&self, addr: SocketAddr) -> io::Result<R::Stream> {
+        let stream = self.rt.connect(addr)?;
+        let _before = self.newest.replace(Some(stream.try_clone()?));
+        Ok(stream)
+    }
+}

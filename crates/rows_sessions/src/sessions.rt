@@ -1,0 +1,90 @@
+//! Rows of whole sessions.
+
+use crate::ends::{Given, Sheet};
+use crate::network::Cutter;
+use crate::telling::{device_of, numbers_in, standing, tell_end};
+use crate::ways::AnyLink;
+use oram_bucket::PlainSeal;
+use oram_core::Core;
+use oram_host::Server;
+use oram_session::{
+    ChaChaTape, Direct, Link, ListTape, ServeFault, Tape, format_device, is_settled, serve,
+};
+use rows::{Page, RowFault, Words};
+use std::alloc::Global;
+use std::net::Net;
+
+/// A core of a device that was just formatted over a link, and the host that holds it.
+pub(crate) fn formatted(
+    alloc: Global,
+    numbers: [u64; 5],
+) -> Result<(Core<PlainSeal>, Server), RowFault> {
+    let mut link = Direct::new(alloc, Server::new(alloc));
+    match format_device(alloc, device_of(numbers)?, PlainSeal, &mut link) {
+        Ok(core) => Ok((core, link.into_server())),
+        Err(_) => Err(RowFault::OutOfMemory),
+    }
+}
+
+/// Serves a session, with the words of the tape.
+pub(crate) fn served<L: Link, T: Tape>(
+    alloc: Global,
+    core: &mut Core<PlainSeal>,
+    link: &mut L,
+    tape: &mut T,
+    given: &mut Given,
+    sheet: &mut Sheet,
+) -> Result<Result<u64, ServeFault>, RowFault> {
+    if !is_settled(core) {
+        return Err(RowFault::NoRow);
+    }
+    Ok(serve(alloc, given, sheet, core, link, tape, 0))
+}
+
+/// `session DEVICE TAPE LINK READER WRITER`: the replies to the frames of a reader, how many there were or why there were no more,
+/// how the core then stands, and the calls of the link. The device was just formatted. The tape is `zeros`, or `chacha` under a key of
+/// zeros.
+pub(crate) fn session<R: Net>(
+    alloc: Global,
+    net: &Cutter<R>,
+    words: &mut Words,
+    page: &mut Page,
+) -> Result<(), RowFault> {
+    let numbers = numbers_in(words)?;
+    match words.text()? {
+        "zeros" => {
+            let mut tape = ListTape {
+                words: Vec::new(alloc),
+            };
+            session_with(alloc, net, numbers, &mut tape, words, page)
+        }
+        "chacha" => {
+            let trees = device_of(numbers)?.trees();
+            let key = [0; 32];
+            let mut tape = ChaChaTape { key, trees };
+            session_with(alloc, net, numbers, &mut tape, words, page)
+        }
+        _ => Err(RowFault::NoRow),
+    }
+}
+
+/// The same, from the words of the link on.
+fn session_with<R: Net, T: Tape>(
+    alloc: Global,
+    net: &Cutter<R>,
+    numbers: [u64; 5],
+    tape: &mut T,
+    words: &mut Words,
+    page: &mut Page,
+) -> Result<(), RowFault> {
+    let (mut core, server) = formatted(alloc, numbers)?;
+    let mut link = AnyLink::read(alloc, words, net, server)?;
+    let mut given = Given::read(alloc, words)?;
+    let mut sheet = Sheet::read(alloc, words)?;
+    let ended = served(alloc, &mut core, &mut link, tape, &mut given, &mut sheet)?;
+    link.check_memory()?;
+    page.bytes(alloc, sheet.text()?)?;
+    tell_end(alloc, page, ended)?;
+    page.word(standing(&core))?;
+    link.tell(alloc, page)
+}

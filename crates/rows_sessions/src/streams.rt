@@ -1,0 +1,49 @@
+//! Rows of links over a reader and a writer.
+
+use crate::ends::{Given, Sheet};
+use crate::telling::tell_outcome;
+use oram_session::{Link, StreamLink};
+use rows::{Page, RowFault, Words};
+use std::alloc::Global;
+
+/// `stream READER WRITER BODIES`: what each call with the next body is answered, how many had a fault, what was sent, and by how
+/// many writes and flushes.
+pub(crate) fn stream(alloc: Global, words: &mut Words, page: &mut Page) -> Result<(), RowFault> {
+    let given = Given::read(alloc, words)?;
+    let mut sheet = Sheet::read(alloc, words)?;
+    call_all(alloc, given, &mut sheet, words, page)?;
+    tell_sent(alloc, &sheet, page)
+}
+
+/// Calls a link over a reader and a writer with one body after the other.
+fn call_all(
+    alloc: Global,
+    given: Given,
+    sheet: &mut Sheet,
+    words: &mut Words,
+    page: &mut Page,
+) -> Result<(), RowFault> {
+    let mut link = StreamLink::new(alloc, given, sheet);
+    for _ in 0..u64::MAX {
+        if words.is_empty() {
+            break;
+        }
+        let body = words.bytes(alloc)?;
+        tell_outcome(alloc, page, link.call(alloc, &body))?;
+        page.word("/")?;
+    }
+    page.word("faults")?;
+    page.number(alloc, link.faults())?;
+    Ok(())
+}
+
+/// Writes what was written on a sheet, and how.
+fn tell_sent(alloc: Global, sheet: &Sheet, page: &mut Page) -> Result<(), RowFault> {
+    page.word("sent")?;
+    page.bytes(alloc, sheet.text()?)?;
+    page.word("writes")?;
+    page.number(alloc, sheet.writes)?;
+    page.word("flushes")?;
+    page.number(alloc, sheet.flushes)?;
+    Ok(())
+}

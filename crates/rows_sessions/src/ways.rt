@@ -1,0 +1,173 @@
+//! Links to hosts, as rows name them.
+ghost use Rattle.std.specs.Prelude.{◌≡◌};
+ghost use Rattle.oram_session.specs.Outcome.{faults_after};
+
+use crate::ends::{Given, Sheet};
+use crate::network::Cutter;
+use oram_host::Server;
+use oram_session::{Direct, FaultLink, Link, LinkFault, LoopLink, StreamLink};
+use rows::{Page, RowFault, Words};
+use std::alloc::Global;
+use std::net::Net;
+
+/// A link of any kind.
+#[derive(Drop)]
+enum Way<'a, R: Net> {
+    Direct(Direct),
+    Faults(FaultLink<Direct>),
+    Loop(LoopLink<&'a Cutter<R>>),
+    Stream(StreamLink<Given, Sheet>),
+}
+
+impl<R: Net> Way<'_, R> {
+    fn call(&mut self, alloc: Global, body: &[u8]) -> Result<Vec<u8>, LinkFault> {
+        match self {
+            Way::Direct(link) => link.call(alloc, body),
+            Way::Faults(link) => link.call(alloc, body),
+            Way::Loop(link) => link.call(alloc, body),
+            Way::Stream(link) => link.call(alloc, body),
+        }
+    }
+
+    fn faults(&self) -> u64 {
+        match self {
+            Way::Direct(link) => link.faults(),
+            Way::Faults(link) => link.faults(),
+            Way::Loop(link) => link.faults(),
+            Way::Stream(link) => link.faults(),
+        }
+    }
+}
+
+/// A host's answer that it has no memory.
+pub(crate) const NO_ROOM: [u8; 2] = [0x81, 8];
+
+/// Whether a call found no memory, here or at the host.
+fn lacks_memory(outcome: &Result<Vec<u8>, LinkFault>) -> bool {
+    match outcome {
+        Ok(answer) => answer.as_slice() == NO_ROOM.as_slice(),
+        Err(fault) => *fault == LinkFault::OutOfMemory,
+    }
+}
+
+/// A link that counts its calls, and remembers whether one of them found no memory.
+#[derive(Drop)]
+pub(crate) struct AnyLink<'a, R: Net> {
+    way: Way<'a, R>,
+    calls: u64,
+    faults: u64,
+    lacks_memory: bool,
+}
+
+impl<'a, R: Net> AnyLink<'a, R> {
+    /// A link of the next words:
+    ///
+    /// - `direct`: to the server in memory.
+    /// - `forgetful`: to one that keeps nothing in its place.
+    /// - `faults AT TIMES before|after`: to it too, but so many calls from a number on have a fault, before or after the server's work.
+    /// - `loop`: to it over a connection of this machine to itself.
+    /// - `stream READER`: what is sent goes nowhere, and the answers are what the reader gives.
+    pub(crate) fn read(
+        alloc: Global,
+        words: &mut Words,
+        net: &'a Cutter<R>,
+        server: Server,
+    ) -> Result<AnyLink<'a, R>, RowFault> {
+        let way = match words.text()? {
+            "direct" => Way::Direct(Direct::new(alloc, server)),
+            "forgetful" => Way::Direct(Direct::new(alloc, Server::new(alloc))),
+            "faults" => Way::Faults(faulty(alloc, words, server)?),
+            "loop" => match LoopLink::open(net, alloc, server) {
+                Ok(link) => Way::Loop(link),
+                Err(_) => return Err(RowFault::NoRow),
+            },
+            "stream" => {
+                let answers = Given::read(alloc, words)?;
+                Way::Stream(StreamLink::new(alloc, answers, Sheet::ample(alloc)))
+            }
+            _ => return Err(RowFault::NoRow),
+        };
+        Ok(AnyLink::over(way))
+    }
+
+    /// A `direct` link.
+    pub(crate) fn direct(alloc: Global, server: Server) -> AnyLink<'a, R> {
+        AnyLink::over(Way::Direct(Direct::new(alloc, server)))
+    }
+
+    fn over(way: Way<'a, R>) -> AnyLink<'a, R> {
+        AnyLink {
+            way,
+            calls: 0,
+            faults: 0,
+            lacks_memory: false,
+        }
+    }
+
+    /// The server of a `direct` link.
+    pub(crate) fn into_server(self) -> Result<Server, RowFault> {
+        match self.way {
+            Way::Direct(link) => Ok(link.into_server()),
+            _ => Err(RowFault::NoRow),
+        }
+    }
+
+    /// A row whose link found no memory has no answer.
+    pub(crate) fn check_memory(&self) -> Result<(), RowFault> {
+        if self.lacks_memory {
+            return Err(RowFault::OutOfMemory);
+        }
+        Ok(())
+    }
+
+    /// How many calls there were.
+    pub(crate) fn calls(&self) -> u64 {
+        match &self.way {
+            Way::Faults(link) => link.calls(),
+            _ => self.calls,
+        }
+    }
+
+    /// Writes how many calls there were, and how many of them had a fault, as the link itself tells it.
+    pub(crate) fn tell(&self, alloc: Global, page: &mut Page) -> Result<(), RowFault> {
+        self.check_memory()?;
+        page.word("calls")?;
+        page.number(alloc, self.calls())?;
+        page.word("faults")?;
+        page.number(alloc, self.way.faults())?;
+        Ok(())
+    }
+}
+
+/// A link of the words `AT TIMES before|after`.
+fn faulty(alloc: Global, words: &mut Words, server: Server) -> Result<FaultLink<Direct>, RowFault> {
+    let (at, times) = (words.number()?, words.number()?);
+    let after = match words.text()? {
+        "before" => false,
+        "after" => true,
+        _ => return Err(RowFault::NoRow),
+    };
+    Ok(FaultLink::new(Direct::new(alloc, server), at, times, after))
+}
+
+impl<R: Net> Link for AnyLink<'_, R> {
+    ghost calls = { λ l body outcome m. m.faults ≡ faults_after l.faults outcome };
+
+    ghost fault_count = { λ l. l.faults };
+
+    fn call(&mut self, alloc: Global, body: &[u8]) -> Result<Vec<u8>, LinkFault> {
+        self.calls = self.calls.saturating_add(1);
+        let outcome = self.way.call(alloc, body);
+        if outcome.is_err() {
+            self.faults = self.faults.saturating_add(1);
+        }
+        self.lacks_memory = self.lacks_memory || lacks_memory(&outcome);
+        outcome
+    }
+
+    fn faults(&self) -> u64 {
+        self.faults
+    }
+
+    ghost counts = { λ l m body outcome h. h };
+}

@@ -1,0 +1,69 @@
+//! The settings of a disk.
+
+use crate::tables::read_or_bad;
+use oram_settings::{DiskSettings, Sealing, device_of, disk_text, read_disk_settings};
+use rows::{Page, RowFault, Words};
+use std::alloc::Global;
+
+/// `disk TEXT`: the settings that a document is: size, block, slots, table, sealer, key, host, listen, state, sync and patience.
+pub fn disk(alloc: Global, words: &mut Words, page: &mut Page) -> Result<(), RowFault> {
+    let text = words.lines(alloc)?;
+    let Some(settings) = read_or_bad(read_disk_settings(alloc, text.as_str()), page)? else {
+        return Ok(());
+    };
+    put_numbers(alloc, &settings, page)?;
+    put_names(alloc, &settings, page)
+}
+
+fn put_numbers(alloc: Global, settings: &DiskSettings, page: &mut Page) -> Result<(), RowFault> {
+    page.number(alloc, settings.size)?;
+    page.number(alloc, settings.block)?;
+    page.number(alloc, settings.slots)?;
+    page.number(alloc, settings.table)?;
+    page.word(match settings.sealer {
+        Sealing::Plain => "plain",
+        Sealing::ChaCha => "chacha",
+    })?;
+    page.bytes(alloc, &settings.key)?;
+    Ok(())
+}
+
+fn put_names(alloc: Global, settings: &DiskSettings, page: &mut Page) -> Result<(), RowFault> {
+    page.word(settings.host.as_str())?;
+    page.word(settings.listen.as_str())?;
+    page.word(settings.state.as_str())?;
+    page.flag(settings.sync)?;
+    page.number(alloc, settings.patience)?;
+    Ok(())
+}
+
+/// `device SIZE BLOCK SLOTS TABLE`: the trees and blocks of the device of such a disk.
+pub fn device(alloc: Global, words: &mut Words, page: &mut Page) -> Result<(), RowFault> {
+    let size = words.number()?;
+    let block = words.number()?;
+    let slots = words.number()?;
+    let table = words.number()?;
+    let Some(device) = device_of(size, block, slots, table) else {
+        page.word("none")?;
+        return Ok(());
+    };
+    if device.trees() == 0 {
+        return Err(RowFault::NoRow);
+    }
+    page.number(alloc, u64::from(device.trees()))?;
+    page.number(alloc, u64::from(device.blocks_in(0)))?;
+    Ok(())
+}
+
+/// `first-settings SIZE KEY`: whether the text that a new disk gets is read as this size and key, and the other values of its
+/// settings.
+pub fn first_settings(alloc: Global, words: &mut Words, page: &mut Page) -> Result<(), RowFault> {
+    let size = words.number()?;
+    let key = words.array(alloc)?;
+    let text = disk_text(alloc, size, &key)?;
+    let Some(settings) = read_or_bad(read_disk_settings(alloc, text.as_str()), page)? else {
+        return Ok(());
+    };
+    put_numbers(alloc, &settings, page)?;
+    put_names(alloc, &settings, page)
+}

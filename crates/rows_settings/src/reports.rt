@@ -1,0 +1,63 @@
+//! What is told of a formatting and of a disk.
+
+use oram_core::Reason;
+use oram_settings::{Meter, Status, progress_text, report};
+use rows::{Page, RowFault, Words};
+use std::alloc::Global;
+
+/// `progress DONE OF MILLISECONDS`: the line of a formatting that is so far.
+pub fn progress(alloc: Global, words: &mut Words, page: &mut Page) -> Result<(), RowFault> {
+    let done = words.number()?;
+    let of = words.number()?;
+    let milliseconds = words.number()?;
+    let text = progress_text(alloc, done, of, milliseconds)?;
+    page.lines(text.as_str())?;
+    Ok(())
+}
+
+/// `meter STEP`: a meter that tells of each such step in a hundred.
+pub fn meter(
+    meter: &mut Option<Meter>,
+    words: &mut Words,
+    page: &mut Page,
+) -> Result<(), RowFault> {
+    *meter = Some(Meter::new(words.number()?));
+    page.word("begun")?;
+    Ok(())
+}
+
+/// `due PERCENT`: whether the meter tells of it.
+pub fn due(meter: Option<&mut Meter>, words: &mut Words, page: &mut Page) -> Result<(), RowFault> {
+    let Some(meter) = meter else {
+        return Err(RowFault::NoRow);
+    };
+    page.flag(meter.is_due(words.number()?))?;
+    Ok(())
+}
+
+/// `report BLOCKS BLOCK_BYTES TREES ACCESSES LIFETIME WAITING FAILURE ..`: the report of a disk, which is `sound`, or failed by
+/// `malformed`, `tampered TREE LEVEL` or `refused CODE`.
+pub fn disk_report(alloc: Global, words: &mut Words, page: &mut Page) -> Result<(), RowFault> {
+    let status = Status {
+        blocks: words.number()?,
+        block_bytes: words.number()?,
+        trees: words.byte()?,
+        accesses: words.number()?,
+        lifetime: words.number()?,
+        waiting: words.number()?,
+        failure: failure(words)?,
+    };
+    let text = report(alloc, &status)?;
+    page.lines(text.as_str())?;
+    Ok(())
+}
+
+fn failure(words: &mut Words) -> Result<Option<Reason>, RowFault> {
+    match words.text()? {
+        "sound" => Ok(None),
+        "malformed" => Ok(Some(Reason::Malformed)),
+        "tampered" => Ok(Some(Reason::Tampered(words.byte()?, words.byte()?))),
+        "refused" => Ok(Some(Reason::HostRefused(words.byte()?))),
+        _ => Err(RowFault::NoRow),
+    }
+}

@@ -1,0 +1,123 @@
+//! What stands at the keys of a TOML document.
+
+use oram_edge::{
+    InputFault, address_at, count_at, has_only, key_at, name_at, number_at, sealer_in, table_of,
+};
+use rows::{Page, RowFault, Words};
+use std::alloc::Global;
+use toml::Table;
+
+/// What was read, or `bad` written on the page in its place.
+pub fn read_or_bad<T: Drop>(
+    read: Result<T, InputFault>,
+    page: &mut Page,
+) -> Result<Option<T>, RowFault> {
+    match read {
+        Ok(value) => Ok(Some(value)),
+        Err(InputFault::Bad) => {
+            page.word("bad")?;
+            Ok(None)
+        }
+        Err(InputFault::OutOfMemory) => Err(RowFault::OutOfMemory),
+    }
+}
+
+/// `document TEXT`: the document of the rows below. The answer is whether the text is one.
+pub fn document(
+    alloc: Global,
+    document: &mut Option<Table>,
+    words: &mut Words,
+    page: &mut Page,
+) -> Result<(), RowFault> {
+    let text = words.lines(alloc)?;
+    let read = read_or_bad(table_of(alloc, text.as_str()), page)?;
+    if read.is_some() {
+        page.word("read")?;
+    }
+    *document = read;
+    Ok(())
+}
+
+/// `at KIND KEY`: what stands there, if it is of that kind. A `sealer` is read from its two keys together.
+pub fn at(
+    alloc: Global,
+    document: Option<&Table>,
+    words: &mut Words,
+    page: &mut Page,
+) -> Result<(), RowFault> {
+    let Some(table) = document else {
+        return Err(RowFault::NoRow);
+    };
+    match words.text()? {
+        "name" => put_text(name_at(table, words.text()?), page),
+        "address" => put_text(address_at(table, words.text()?), page),
+        "number" => put_number(alloc, number_at(table, words.text()?), page),
+        "count" => put_number(alloc, count_at(table, words.text()?), page),
+        "key" => put_key(alloc, key_at(table, words.text()?), page),
+        "sealer" => put_sealer(alloc, sealer_in(table), page),
+        _ => Err(RowFault::NoRow),
+    }
+}
+
+fn put_text(read: Result<&str, InputFault>, page: &mut Page) -> Result<(), RowFault> {
+    if let Some(text) = read_or_bad(read, page)? {
+        page.word(text)?;
+    }
+    Ok(())
+}
+
+fn put_number(
+    alloc: Global,
+    read: Result<u64, InputFault>,
+    page: &mut Page,
+) -> Result<(), RowFault> {
+    if let Some(number) = read_or_bad(read, page)? {
+        page.number(alloc, number)?;
+    }
+    Ok(())
+}
+
+fn put_key(
+    alloc: Global,
+    read: Result<[u8; 32], InputFault>,
+    page: &mut Page,
+) -> Result<(), RowFault> {
+    if let Some(key) = read_or_bad(read, page)? {
+        page.bytes(alloc, &key)?;
+    }
+    Ok(())
+}
+
+fn put_sealer(
+    alloc: Global,
+    read: Result<Option<[u8; 32]>, InputFault>,
+    page: &mut Page,
+) -> Result<(), RowFault> {
+    match read_or_bad(read, page)? {
+        Some(Some(key)) => page.bytes(alloc, &key)?,
+        Some(None) => page.word("plain")?,
+        None => {}
+    }
+    Ok(())
+}
+
+/// `only KEY ..`: whether the document has no other keys.
+pub fn only(
+    alloc: Global,
+    document: Option<&Table>,
+    words: &mut Words,
+    page: &mut Page,
+) -> Result<(), RowFault> {
+    let Some(table) = document else {
+        return Err(RowFault::NoRow);
+    };
+    let mut keys = Vec::new(alloc);
+    for _ in 0..64 {
+        if words.is_empty() {
+            break;
+        }
+        keys.push(words.text()?)?;
+    }
+    page.flag(has_only(table, &keys))?;
+    Ok(())
+}

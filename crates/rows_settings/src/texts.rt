@@ -1,0 +1,91 @@
+//! Sizes, names, command lines and texts that are written.
+
+use crate::tables::read_or_bad;
+use oram_edge::{put_between, put_number};
+use oram_settings::{Words as CommandWords, beside, read_size, read_words};
+use rows::{Page, RowFault, Words};
+use std::alloc::Global;
+
+/// `size TEXT`: the bytes that a size means.
+pub fn size(alloc: Global, words: &mut Words, page: &mut Page) -> Result<(), RowFault> {
+    match read_size(words.all()) {
+        Some(bytes) => page.number(alloc, bytes)?,
+        None => page.word("none")?,
+    }
+    Ok(())
+}
+
+/// `beside FILE NAME`: the name, as seen from the file's folder.
+pub fn beside_file(alloc: Global, words: &mut Words, page: &mut Page) -> Result<(), RowFault> {
+    let file = words.text()?;
+    let name = words.text()?;
+    let found = beside(alloc, file, name)?;
+    page.word(found.as_str())?;
+    Ok(())
+}
+
+/// `words WORD ..`: what a command line asks `oramdisk` for.
+pub fn command_line(alloc: Global, words: &mut Words, page: &mut Page) -> Result<(), RowFault> {
+    let mut texts = Vec::new(alloc);
+    for _ in 0..64 {
+        if words.is_empty() {
+            break;
+        }
+        texts.push(words.text()?)?;
+    }
+    let Some(asked) = read_or_bad(read_words(alloc, &texts), page)? else {
+        return Ok(());
+    };
+    put_asked(&asked, page)
+}
+
+fn put_asked(asked: &CommandWords, page: &mut Page) -> Result<(), RowFault> {
+    match asked {
+        CommandWords::Host(name) => put_both(page, "host", name),
+        CommandWords::Format(name) => put_both(page, "format", name),
+        CommandWords::Serve(name) => put_both(page, "serve", name),
+        CommandWords::Status(name) => put_both(page, "status", name),
+        CommandWords::New { folder, size } => {
+            put_both(page, "new", folder)?;
+            page.word(size.as_str())?;
+            Ok(())
+        }
+    }
+}
+
+fn put_both(page: &mut Page, role: &str, name: &String) -> Result<(), RowFault> {
+    page.word(role)?;
+    page.word(name.as_str())?;
+    Ok(())
+}
+
+/// `write ROOM FRONT TEXT REST`: the bytes that a writer with that room holds behind them, and whether all of them are.
+pub fn write(alloc: Global, words: &mut Words, page: &mut Page) -> Result<(), RowFault> {
+    let room = words.size()?;
+    let front = words.bytes(alloc)?;
+    let text = words.bytes(alloc)?;
+    let rest = words.bytes(alloc)?;
+    let mut held = vec![in alloc; 0u8; room.min(1_000)]?;
+    let mut writer = held.as_mut_slice();
+    let is_written = put_between(&mut writer, &front, &text, &rest).is_ok();
+    let left = writer.len();
+    let len = held.len().saturating_sub(left);
+    page.bytes(alloc, held.get(..len).unwrap_or(&[]))?;
+    page.word(if is_written { "all" } else { "a beginning" })?;
+    Ok(())
+}
+
+/// `write-number ROOM FRONT NUMBER`: the same, of a text with a number behind it.
+pub fn write_number(alloc: Global, words: &mut Words, page: &mut Page) -> Result<(), RowFault> {
+    let room = words.size()?;
+    let front = words.bytes(alloc)?;
+    let number = words.byte()?;
+    let mut held = vec![in alloc; 0u8; room.min(1_000)]?;
+    let mut writer = held.as_mut_slice();
+    let is_written = put_number(&mut writer, &front, number).is_ok();
+    let left = writer.len();
+    let len = held.len().saturating_sub(left);
+    page.bytes(alloc, held.get(..len).unwrap_or(&[]))?;
+    page.word(if is_written { "all" } else { "a beginning" })?;
+    Ok(())
+}

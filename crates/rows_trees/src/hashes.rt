@@ -1,0 +1,217 @@
+//! Rows of hashed paths. `hash path` makes one of tree 0, which the other rows read.
+ghost use Rattle.std.specs.Prelude.{◌≡◌, ◌<◌, ◌+◌, ◌^◌, All, length, vec_len, true};
+ghost use Rattle.oram_geometry.specs.Sizes.{depth_of, record_len_of};
+
+use crate::lists;
+use crate::paths::{MadePath, made_path};
+use oram_geometry::Device;
+use oram_hash::{HashFault, PathView, check_path, node_digest, rebuild};
+use rows::{Groups, Page, RowFault, Words};
+use std::alloc::{AllocError, Global};
+
+/// What is kept of a path.
+#[derive(Drop)]
+pub struct Hashes {
+    leaf: u32,
+    bytes: Vec<u8>,
+}
+
+/// Whether tree 0 of a device has a leaf.
+fn has_leaf(device: &Device, leaf: u32) -> bool
+    ensures { result ≡ true → leaf < 2 ^ depth_of device.now 0 }
+{
+    prove!(device.trees() > 0 && device.depth(0) <= 24);
+    leaf < 1u32 << device.depth(0)
+}
+
+/// The path that bytes are under a root digest, where the tree has the leaf.
+fn checked<'a>(
+    device: &Device,
+    leaf: u32,
+    root: &[u8; 32],
+    bytes: &'a [u8],
+) -> Result<Result<PathView<'a>, HashFault>, RowFault> {
+    prove!(device.trees() > 0);
+    if !has_leaf(device, leaf) {
+        return Err(RowFault::NoRow);
+    }
+    Ok(check_path(device, 0, leaf, 0, root, bytes))
+}
+
+/// Writes what a check says.
+fn show(
+    alloc: Global,
+    checked: Result<PathView<'_>, HashFault>,
+    page: &mut Page,
+) -> Result<(), RowFault> {
+    match checked {
+        Ok(_) => page.word("accepted")?,
+        Err(HashFault::Length) => page.word("length")?,
+        Err(HashFault::Tampered(level)) => {
+            page.word("tampered")?;
+            page.number(alloc, u64::from(level))?;
+        }
+    }
+    Ok(())
+}
+
+/// Sealed buckets of this length, each of which is one byte again and again.
+fn sealed(alloc: Global, fills: &[u8], len: usize) -> Result<Vec<Vec<u8>>, AllocError> {
+    let mut parts = Vec::new(alloc);
+    for fill in fills {
+        parts.push(vec![in alloc; *fill; len]?)?;
+    }
+    Ok(parts)
+}
+
+/// Whether these are the sealed buckets of a path of tree 0.
+fn are_buckets(device: &Device, parts: &[Vec<u8>]) -> bool
+    ensures count { result ≡ true → length parts.now ≡ depth_of device.now 0 + 1 }
+    ensures lengths { result ≡ true → All (λ part. vec_len part + 64 ≡ record_len_of device.now 0) parts.now }
+{
+    prove!(device.trees() > 0);
+    let record_len = device.record_len(0);
+    parts.len() == usize::from(device.depth(0)) + 1
+        && parts.iter().all(|part| part.len() + 64 == record_len)
+}
+
+impl Hashes {
+    pub fn new(alloc: Global) -> Hashes {
+        Hashes {
+            leaf: 0,
+            bytes: Vec::new(alloc),
+        }
+    }
+
+    /// `hash path LEAF FILLS`: the root digest of a path whose records are filled with these bytes.
+    fn path(
+        &mut self,
+        alloc: Global,
+        device: &Device,
+        words: &mut Words,
+        page: &mut Page,
+    ) -> Result<(), RowFault> {
+        self.leaf = words.short()?;
+        let fills = lists::fills(alloc, words)?;
+        let MadePath { bytes, root } = made_path(
+            alloc,
+            self.leaf,
+            device.record_len(0) - 64,
+            &fills,
+        )?;
+        self.bytes = bytes;
+        page.bytes(alloc, &root)?;
+        Ok(())
+    }
+
+    /// `hash check LEN ROOT`: whether the path is accepted under a root digest, cut or filled up with zeros to a length.
+    fn check(
+        &self,
+        alloc: Global,
+        device: &Device,
+        words: &mut Words,
+        page: &mut Page,
+    ) -> Result<(), RowFault> {
+        let len = words.size()?;
+        let root = words.array(alloc)?;
+        let mut bytes = self.bytes.as_slice().to_vec(alloc)?;
+        bytes.resize(len, 0)?;
+        show(alloc, checked(device, self.leaf, &root, &bytes)?, page)
+    }
+
+    /// `hash flips ROOT`: what the check says where the lowest bit of a byte is flipped, byte by byte.
+    fn flips(
+        &self,
+        alloc: Global,
+        device: &Device,
+        words: &mut Words,
+        page: &mut Page,
+    ) -> Result<(), RowFault> {
+        let root = words.array(alloc)?;
+        let mut groups = Groups::new(alloc);
+        let mut bytes = self.bytes.as_slice().to_vec(alloc)?;
+        let mut said = Page::new(alloc);
+        for k in 0..bytes.len() {
+            bytes[k] ^= 1;
+            show(alloc, checked(device, self.leaf, &root, &bytes)?, &mut said)?;
+            groups.add(alloc, k as u64, said.text(), page)?;
+            said.clear();
+            bytes[k] ^= 1;
+        }
+        groups.end(alloc, page)
+    }
+
+    /// `hash sealed|left|right ROOT LEVEL`: that part of the record at a level.
+    fn part(
+        &self,
+        alloc: Global,
+        device: &Device,
+        part: &str,
+        words: &mut Words,
+        page: &mut Page,
+    ) -> Result<(), RowFault> {
+        prove!(device.trees() > 0);
+        let root = words.array(alloc)?;
+        let level = words.byte()?;
+        if !has_leaf(device, self.leaf) || level > device.depth(0) {
+            return Err(RowFault::NoRow);
+        }
+        let Ok(view) = check_path(device, 0, self.leaf, 0, &root, &self.bytes) else {
+            return Err(RowFault::NoRow);
+        };
+        let bytes = match part {
+            "left" => view.left(level),
+            "right" => view.right(level),
+            _ => view.sealed(level),
+        };
+        page.bytes(alloc, bytes)?;
+        Ok(())
+    }
+
+    /// `hash rebuild ROOT FILLS`: the root digest of the path under new sealed buckets, which takes the place of the path.
+    fn rebuild(
+        &mut self,
+        alloc: Global,
+        device: &Device,
+        words: &mut Words,
+        page: &mut Page,
+    ) -> Result<(), RowFault> {
+        prove!(device.trees() > 0);
+        let root = words.array(alloc)?;
+        let fills = lists::fills(alloc, words)?;
+        let sealed = sealed(alloc, &fills, device.record_len(0) - 64)?;
+        if !has_leaf(device, self.leaf) || !are_buckets(device, &sealed) {
+            return Err(RowFault::NoRow);
+        }
+        let Ok(view) = check_path(device, 0, self.leaf, 0, &root, &self.bytes) else {
+            return Err(RowFault::NoRow);
+        };
+        let (bytes, root) = rebuild(alloc, &view, &sealed)?;
+        self.bytes = bytes;
+        page.bytes(alloc, &root)?;
+        Ok(())
+    }
+
+    /// Makes a call: `digest BYTES` is the digest of a record, and `bytes` are those of the path.
+    pub fn answer(
+        &mut self,
+        alloc: Global,
+        device: &Device,
+        words: &mut Words,
+        page: &mut Page,
+    ) -> Result<(), RowFault> {
+        match words.text()? {
+            "digest" => page.bytes(alloc, &node_digest(&words.bytes(alloc)?))?,
+            "bytes" => page.bytes(alloc, &self.bytes)?,
+            "path" => self.path(alloc, device, words, page)?,
+            "check" => self.check(alloc, device, words, page)?,
+            "flips" => self.flips(alloc, device, words, page)?,
+            "rebuild" => self.rebuild(alloc, device, words, page)?,
+            "sealed" => self.part(alloc, device, "sealed", words, page)?,
+            "left" => self.part(alloc, device, "left", words, page)?,
+            "right" => self.part(alloc, device, "right", words, page)?,
+            _ => return Err(RowFault::NoRow),
+        }
+        Ok(())
+    }
+}

@@ -1,0 +1,71 @@
+//! Lists in one word: `5,2,5`, with `7*20` for 20 times 7, and `-` for none. Blocks are written `ADDRESS:LEAF`.
+
+use rows::{Page, RowFault, Words};
+use std::alloc::Global;
+
+/// A decimal number.
+pub fn number_of(text: &str) -> Result<u64, RowFault> {
+    text.parse::<u64>().map_err(|_| RowFault::NoRow)
+}
+
+/// A decimal number below 2^32.
+pub fn short_of(text: &str) -> Result<u32, RowFault> {
+    text.parse::<u32>().map_err(|_| RowFault::NoRow)
+}
+
+/// Adds one part of a list: a number, or a number and how many times it stands there.
+fn push_part(numbers: &mut Vec<u64>, part: &str) -> Result<(), RowFault> {
+    let (number, count) = part.split_once('*').unwrap_or((part, "1"));
+    let number = number_of(number)?;
+    for _ in 0..short_of(count)? {
+        numbers.push(number)?;
+    }
+    Ok(())
+}
+
+/// The numbers of the next word.
+pub fn numbers(alloc: Global, words: &mut Words) -> Result<Vec<u64>, RowFault> {
+    let mut numbers = Vec::new(alloc);
+    let mut rest = words.text()?;
+    if rest == "-" {
+        return Ok(numbers);
+    }
+    for _ in 0..u64::MAX {
+        let (part, behind) = rest.split_once(',').unwrap_or((rest, ""));
+        push_part(&mut numbers, part)?;
+        if behind.is_empty() {
+            break;
+        }
+        rest = behind;
+    }
+    Ok(numbers)
+}
+
+/// The numbers of the next word, each below 2^32.
+pub fn shorts(alloc: Global, words: &mut Words) -> Result<Vec<u32>, RowFault> {
+    let mut shorts = Vec::new(alloc);
+    for number in &numbers(alloc, words)? {
+        shorts.push(u32::try_from(*number).map_err(|_| RowFault::NoRow)?)?;
+    }
+    Ok(shorts)
+}
+
+/// The numbers of the next word, each below 2^8.
+pub fn fills(alloc: Global, words: &mut Words) -> Result<Vec<u8>, RowFault> {
+    let mut fills = Vec::new(alloc);
+    for number in &numbers(alloc, words)? {
+        fills.push(u8::try_from(*number).map_err(|_| RowFault::NoRow)?)?;
+    }
+    Ok(fills)
+}
+
+/// Writes numbers as words, and `-` where there are none.
+pub fn show(alloc: Global, numbers: &[u64], page: &mut Page) -> Result<(), RowFault> {
+    if numbers.is_empty() {
+        page.word("-")?;
+    }
+    for number in numbers {
+        page.number(alloc, *number)?;
+    }
+    Ok(())
+}

@@ -1,0 +1,110 @@
+//! Rows of the trees: hashed paths, stashes, trees and tapes.
+//!
+//! `device BLOCKS BLOCK_BYTES SLOTS TOP LIFETIME` begins anew with a device. Every other row begins with the layer that it
+//! calls.
+#![tactic(auto)]
+
+mod hashes;
+mod lists;
+mod paths;
+mod stashes;
+mod traces;
+mod trees;
+
+use crate::hashes::Hashes;
+use crate::stashes::Stashes;
+use crate::trees::Trees;
+use oram_geometry::Device;
+use rows::{Page, RowFault, Table, Words, run_table};
+use std::alloc::Global;
+use std::process::ExitCode;
+
+/// What the layers keep from row to row, for one device.
+#[derive(Drop)]
+struct Layers {
+    hashes: Hashes,
+    stashes: Stashes,
+    trees: Trees,
+}
+
+impl Layers {
+    fn new(alloc: Global) -> Layers {
+        Layers {
+            hashes: Hashes::new(alloc),
+            stashes: Stashes::new(alloc),
+            trees: Trees::new(alloc),
+        }
+    }
+
+    /// Makes a call of the layer of this name.
+    fn answer(
+        &mut self,
+        alloc: Global,
+        device: &Device,
+        layer: &str,
+        words: &mut Words,
+        page: &mut Page,
+    ) -> Result<(), RowFault> {
+        match layer {
+            "hash" => self.hashes.answer(alloc, device, words, page),
+            "stash" => self.stashes.answer(alloc, device, words, page),
+            "tree" => self.trees.answer(alloc, device, words, page),
+            "trace" => traces::answer(alloc, device, words, page),
+            _ => Err(RowFault::NoRow),
+        }
+    }
+}
+
+/// The calls of these rows.
+#[derive(Drop)]
+struct Calls {
+    device: Option<Device>,
+    layers: Layers,
+}
+
+impl Calls {
+    /// `device SIZES`: how many trees the device has, or the number of the fault.
+    fn begin(&mut self, alloc: Global, words: &mut Words, page: &mut Page) -> Result<(), RowFault> {
+        let (blocks, block_bytes, slots) = (words.number()?, words.number()?, words.number()?);
+        self.layers = Layers::new(alloc);
+        match Device::new(blocks, block_bytes, slots, words.number()?, words.number()?) {
+            Ok(device) => {
+                page.word("ready")?;
+                page.number(alloc, u64::from(device.trees()))?;
+                self.device = Some(device);
+            }
+            Err(fault) => {
+                page.word("shape")?;
+                page.number(alloc, u64::from(fault.number()))?;
+                self.device = None;
+            }
+        }
+        Ok(())
+    }
+}
+
+impl Table for Calls {
+    fn answer(
+        &mut self,
+        alloc: Global,
+        call: &str,
+        words: &mut Words,
+        page: &mut Page,
+    ) -> Result<(), RowFault> {
+        if call == "device" {
+            return self.begin(alloc, words, page);
+        }
+        match &self.device {
+            Some(device) => self.layers.answer(alloc, device, call, words, page),
+            None => Err(RowFault::NoRow),
+        }
+    }
+}
+
+fn main(rt: HostRuntime) -> ExitCode {
+    let mut calls = Calls {
+        device: None,
+        layers: Layers::new(rt.alloc()),
+    };
+    run_table(&rt, &mut calls)
+}

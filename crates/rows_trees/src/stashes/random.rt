@@ -1,0 +1,131 @@
+//! Evictions of many stashes, beside the plainest eviction that there is.
+
+use super::{bare_block, stash_of};
+use oram_geometry::Device;
+use rows::{Page, RowFault, Words};
+use std::alloc::{AllocError, Global};
+
+/// Blocks of the devices, and leaves of their trees.
+const LEAVES: u32 = 128;
+
+/// The next number of a fixed generator.
+pub fn next(state: &mut u64) -> u32 {
+    *state = state
+        .wrapping_mul(6_364_136_223_846_793_005)
+        .wrapping_add(1_442_695_040_888_963_407);
+    (*state >> 33) as u32
+}
+
+/// From 0 to 60 blocks, by rising address: the address and the leaf of each.
+fn next_blocks(alloc: Global, state: &mut u64) -> Result<Vec<(u32, u32)>, AllocError> {
+    let mut blocks = Vec::new(alloc);
+    for k in 0..next(state) % 61 {
+        let address = 2 * k + next(state) % 2;
+        blocks.push((address, next(state) % LEAVES))?;
+    }
+    Ok(blocks)
+}
+
+/// The addresses that a level of the plain eviction takes: the least that fit there, of those that none has yet.
+fn plain_level(
+    alloc: Global,
+    slots: usize,
+    leaf: u32,
+    height: u8,
+    blocks: &[(u32, u32)],
+    placed: &[u32],
+) -> Result<Vec<u32>, AllocError> {
+    let width = 1u32 << height.min(31);
+    let mut list = Vec::new(alloc);
+    for (address, own) in blocks {
+        let fits = list.len() < slots && *own / width == leaf / width;
+        if fits && !placed.contains(address) {
+            list.push(*address)?;
+        }
+    }
+    Ok(list)
+}
+
+/// The plain eviction: it looks through all blocks once a level. Gives the addresses by level, the deepest first.
+fn plain_eviction(
+    alloc: Global,
+    device: &Device,
+    leaf: u32,
+    blocks: &[(u32, u32)],
+) -> Result<Vec<Vec<u32>>, AllocError> {
+    prove!(device.trees() > 0 && device.depth(0) <= 24);
+    let mut lists = Vec::new(alloc);
+    let mut placed: Vec<u32> = Vec::new(alloc);
+    for height in 0..=device.depth(0) {
+        let list = plain_level(alloc, device.slots(), leaf, height, blocks, &placed)?;
+        placed.extend_from_slice(&list)?;
+        lists.push(list)?;
+    }
+    Ok(lists)
+}
+
+/// The eviction by the stash. Gives the addresses by level, the deepest first, and how many blocks stay.
+fn eviction(
+    alloc: Global,
+    device: &Device,
+    leaf: u32,
+    blocks: &[(u32, u32)],
+) -> Result<(Vec<Vec<u32>>, usize), RowFault> {
+    prove!(device.trees() > 0 && device.depth(0) <= 24);
+    let mut whole = Vec::new(alloc);
+    for (address, own) in blocks {
+        whole.push(bare_block(alloc, *address, *own))?;
+    }
+    let mut stash = stash_of(alloc, whole)?;
+    let leaves = 1u32 << device.depth(0);
+    let listed = stash.list(alloc)?;
+    if !(leaf < leaves && listed.iter().all(|block| block.leaf < leaves)) {
+        return Err(RowFault::NoRow);
+    }
+    let mut lists = Vec::new(alloc);
+    for list in stash.evict(alloc, device, 0, leaf)?.iter().rev() {
+        lists.push(list.iter().map(|block| block.address).collect(alloc)?)?;
+    }
+    Ok((lists, stash.len()))
+}
+
+/// How many blocks are in none of these lists.
+fn left_over(blocks: &[(u32, u32)], lists: &[Vec<u32>]) -> usize {
+    blocks
+        .iter()
+        .filter(|(address, _)| !lists.iter().any(|list| list.contains(address)))
+        .count()
+}
+
+/// Whether both evict the next stash alike.
+fn is_alike(alloc: Global, round: u32, state: &mut u64) -> Result<bool, RowFault> {
+    let slots = u64::from(1 + round % 4);
+    let Ok(device) = Device::new(u64::from(LEAVES), 16, slots, u64::from(LEAVES), 1) else {
+        return Err(RowFault::NoRow);
+    };
+    let leaf = next(state) % LEAVES;
+    let blocks = next_blocks(alloc, state)?;
+    let (lists, stays) = eviction(alloc, &device, leaf, &blocks)?;
+    let plain = plain_eviction(alloc, &device, leaf, &blocks)?;
+    Ok(lists == plain && stays == left_over(&blocks, &plain))
+}
+
+/// How many of so many stashes are evicted alike, up to the first that isn't.
+fn alike(alloc: Global, count: u32, seed: u64) -> Result<u32, RowFault> {
+    let mut state = seed;
+    for round in 0..count {
+        if !is_alike(alloc, round, &mut state)? {
+            return Ok(round);
+        }
+    }
+    Ok(count)
+}
+
+/// `stash random COUNT SEED`: how many of so many stashes are evicted as the plain eviction does it, with 1 to 4 slots in
+/// turn, up to the first that isn't.
+pub fn evictions(alloc: Global, words: &mut Words, page: &mut Page) -> Result<(), RowFault> {
+    let alike = alike(alloc, words.short()?, words.number()?)?;
+    page.number(alloc, u64::from(alike))?;
+    page.word("alike")?;
+    Ok(())
+}

@@ -1,0 +1,165 @@
+//! Rows of places of the tape. Addresses and words are written as lists in one word each.
+ghost use Rattle.std.specs.Prelude.{◌≡◌, ◌<◌, ◌≤◌, ◌^◌, All, IfOk, length, true};
+ghost use Rattle.oram_geometry.specs.Sizes.{blocks_in};
+
+use crate::lists;
+use oram_geometry::Device;
+use oram_trace::{Entry, MOST_ADDRESSES, RearrangeFault, entry, place, rearrange};
+use rows::{Page, RowFault, Words};
+use std::alloc::{AllocError, Global};
+
+/// Whether these are addresses of the device, and few enough.
+fn are_addresses(device: &Device, addresses: &[u32]) -> bool
+    ensures within { result ≡ true → All (λ a. a < blocks_in device.now 0) addresses.now }
+    ensures few { result ≡ true → length addresses.now ≤ 1000000 }
+{
+    prove!(device.trees() > 0);
+    let blocks = device.blocks_in(0);
+    addresses.len() <= 1_000_000 && addresses.iter().all(|address| *address < blocks)
+}
+
+/// `trace places TREE ADDRESSES`: the place that each ticket shows in a tree.
+fn places(
+    alloc: Global,
+    device: &Device,
+    words: &mut Words,
+    page: &mut Page,
+) -> Result<(), RowFault> {
+    let tree = words.byte()?;
+    let addresses = lists::shorts(alloc, words)?;
+    if tree >= device.trees() || !are_addresses(device, &addresses) {
+        return Err(RowFault::NoRow);
+    }
+    for ticket in 0..addresses.len() {
+        page.number(alloc, place(device, &addresses, tree, ticket as u64))?;
+    }
+    Ok(())
+}
+
+/// Writes an entry.
+fn show_entry(alloc: Global, entry: Entry, page: &mut Page) -> Result<(), AllocError> {
+    page.part()?;
+    page.word(if entry.fetch { "fetch" } else { "store" })?;
+    page.number(alloc, u64::from(entry.tree))?;
+    page.number(alloc, u64::from(entry.leaf))
+}
+
+/// `trace entries ADDRESSES TAPE`: the path of each entry.
+fn entries(
+    alloc: Global,
+    device: &Device,
+    words: &mut Words,
+    page: &mut Page,
+) -> Result<(), RowFault> {
+    let addresses = lists::shorts(alloc, words)?;
+    let tape = lists::numbers(alloc, words)?;
+    if !are_addresses(device, &addresses) {
+        return Err(RowFault::NoRow);
+    }
+    let count = 2 * usize::from(device.trees()) * addresses.len();
+    if tape.len() != count {
+        return Err(RowFault::NoRow);
+    }
+    for number in 0..count {
+        show_entry(alloc, entry(device, &addresses, &tape, number as u64), page)?;
+    }
+    Ok(())
+}
+
+/// The name of a fault.
+fn fault_name(fault: RearrangeFault) -> &'static str {
+    match fault {
+        RearrangeFault::Lengths => "lengths",
+        RearrangeFault::Address => "address",
+        RearrangeFault::TooLong => "too-long",
+        RearrangeFault::OutOfMemory => "memory",
+    }
+}
+
+/// `trace fault NAME`: the number of a fault.
+fn fault(alloc: Global, words: &mut Words, page: &mut Page) -> Result<(), RowFault> {
+    let name = words.text()?;
+    let faults = [
+        RearrangeFault::Lengths,
+        RearrangeFault::Address,
+        RearrangeFault::TooLong,
+        RearrangeFault::OutOfMemory,
+    ];
+    let Some(fault) = faults.iter().find(|fault| fault_name(**fault) == name) else {
+        return Err(RowFault::NoRow);
+    };
+    match fault.number() {
+        Some(number) => page.number(alloc, u64::from(number))?,
+        None => page.word("none")?,
+    }
+    Ok(())
+}
+
+/// The order that two lists of addresses ask for, or the fault.
+fn order(
+    alloc: Global,
+    device: &Device,
+    words: &mut Words,
+) -> Result<Result<Vec<u64>, RearrangeFault>, RowFault> {
+    let first = lists::shorts(alloc, words)?;
+    let second = lists::shorts(alloc, words)?;
+    match rearrange(alloc, device, &first, &second) {
+        Err(RearrangeFault::OutOfMemory) => Err(RowFault::OutOfMemory),
+        made => Ok(made),
+    }
+}
+
+/// `trace rearrange ADDRESSES ADDRESSES`: the order, or the fault.
+fn rearranged(
+    alloc: Global,
+    device: &Device,
+    words: &mut Words,
+    page: &mut Page,
+) -> Result<(), RowFault> {
+    match order(alloc, device, words)? {
+        Ok(order) => lists::show(alloc, &order, page)?,
+        Err(fault) => {
+            page.word("fault")?;
+            page.word(fault_name(fault))?;
+        }
+    }
+    Ok(())
+}
+
+/// `trace tape ADDRESSES ADDRESSES TAPE`: the tape in that order.
+fn tape(
+    alloc: Global,
+    device: &Device,
+    words: &mut Words,
+    page: &mut Page,
+) -> Result<(), RowFault> {
+    let Ok(order) = order(alloc, device, words)? else {
+        return Err(RowFault::NoRow);
+    };
+    let tape = lists::numbers(alloc, words)?;
+    for place in &order {
+        match tape.get(*place as usize) {
+            Some(word) => page.number(alloc, *word)?,
+            None => return Err(RowFault::NoRow),
+        }
+    }
+    Ok(())
+}
+
+/// Makes a call: `most` is how long lists may be that are rearranged.
+pub fn answer(
+    alloc: Global,
+    device: &Device,
+    words: &mut Words,
+    page: &mut Page,
+) -> Result<(), RowFault> {
+    match words.text()? {
+        "places" => places(alloc, device, words, page),
+        "entries" => entries(alloc, device, words, page),
+        "fault" => fault(alloc, words, page),
+        "most" => Ok(page.number(alloc, MOST_ADDRESSES as u64)?),
+        "rearrange" => rearranged(alloc, device, words, page),
+        "tape" => tape(alloc, device, words, page),
+        _ => Err(RowFault::NoRow),
+    }
+}

@@ -1,0 +1,142 @@
+//! Many accesses to a tree, beside a plain map.
+ghost use Rattle.std.specs.Prelude.{◌≢◌, ◌<◌};
+
+use super::accesses::{Asked, Reached, access};
+use super::{host_of, row_fault};
+use crate::stashes::next;
+use oram_bucket::{ChaChaSeal, PlainSeal, Sealer};
+use oram_geometry::Device;
+use oram_host::Server;
+use oram_tree::{Edit, Tree, TreeParts};
+use oram_wire::ListSink;
+use rows::{Page, RowFault, Words};
+use std::alloc::Global;
+
+/// Blocks of the map, each of this many bytes.
+const BLOCKS: usize = 8;
+
+const BLOCK_BYTES: usize = 16;
+
+/// What the plain map has at an address: the block's leaf, none where it is absent, and the byte that fills its data.
+#[derive(Clone, Copy)]
+struct Held {
+    leaf: Option<u32>,
+    fill: u8,
+}
+
+/// A tree with its host, and the plain map.
+#[derive(Drop)]
+struct Pair {
+    parts: TreeParts,
+    host: Server,
+    plain: [Held; BLOCKS],
+}
+
+/// A tree just formatted, and a map without blocks.
+fn formatted<S: Sealer>(alloc: Global, device: &Device, sealer: &S) -> Result<Pair, RowFault> {
+    prove!(device.trees() > 0 && device.depth(0) <= 24);
+    let mut sink = ListSink::new(alloc);
+    let tree = Tree::format(alloc, device, 0, sealer, 7, &mut sink).map_err(row_fault)?;
+    let absent = Held {
+        leaf: None,
+        fill: 0,
+    };
+    Ok(Pair {
+        parts: tree.parts(alloc)?,
+        host: host_of(alloc, sink.bodies())?,
+        plain: [absent; BLOCKS],
+    })
+}
+
+/// The access that the generator chooses, on the path that the map names, and the byte of which the edit is made.
+fn choose(leaves: u32, plain: &[Held; BLOCKS], state: &mut u64) -> (Asked, u8)
+    requires { leaves ≢ 0 }
+    ensures { result.0.address < 8 }
+{
+    let address = next(state) % BLOCKS as u32;
+    let asked = Asked {
+        address,
+        old_leaf: plain[address as usize].leaf.unwrap_or(next(state) % leaves),
+        new_leaf: next(state) % leaves,
+        nonce: next(state),
+    };
+    (asked, (next(state) % 256) as u8)
+}
+
+/// The next access, and the same to the map: the tree and the map afterwards, and whether both had the same data. An even
+/// byte stands for no change, and an odd one fills the block.
+fn step<S: Sealer>(
+    alloc: Global,
+    device: &Device,
+    sealer: &S,
+    pair: Pair,
+    state: &mut u64,
+) -> Result<(Pair, bool), RowFault> {
+    prove!(device.trees() > 0 && device.depth(0) <= 24);
+    let Pair {
+        parts,
+        mut host,
+        mut plain,
+    } = pair;
+    let (asked, byte) = choose(1u32 << device.depth(0), &plain, state);
+    let place = asked.address as usize;
+    let Held { leaf, fill } = plain[place];
+    let content = [byte; BLOCK_BYTES];
+    let (edit, after) = if byte % 2 == 0 {
+        (Edit::Keep, fill)
+    } else {
+        (Edit::Replace(&content), byte)
+    };
+    let Reached { lookup, parts, .. } = access(
+        alloc, device, sealer, 0, parts, &mut host, asked, edit,
+    )?;
+    plain[place] = Held {
+        leaf: Some(asked.new_leaf),
+        fill: after,
+    };
+    let same = lookup.before.as_slice() == [fill; BLOCK_BYTES].as_slice();
+    let is_alike = same && lookup.found == leaf.is_some();
+    Ok((Pair { parts, host, plain }, is_alike))
+}
+
+/// How many of so many accesses are as the plain map's, up to the first that isn't.
+fn alike<S: Sealer>(
+    alloc: Global,
+    device: &Device,
+    sealer: &S,
+    count: u32,
+    seed: u64,
+) -> Result<u32, RowFault> {
+    let mut pair = formatted(alloc, device, sealer)?;
+    let mut state = seed;
+    for number in 0..count {
+        let (next, is_alike) = step(alloc, device, sealer, pair, &mut state)?;
+        if !is_alike {
+            return Ok(number);
+        }
+        pair = next;
+    }
+    Ok(count)
+}
+
+/// `tree random COUNT SEED SEALER`: how many of so many accesses to a tree of eight blocks find what a plain map has, up to
+/// the first that doesn't. The sealer is `plain` or `chacha KEY`.
+pub fn accesses(
+    alloc: Global,
+    device: &Device,
+    words: &mut Words,
+    page: &mut Page,
+) -> Result<(), RowFault> {
+    let (count, seed) = (words.short()?, words.number()?);
+    let alike = match words.text()? {
+        "plain" => alike(alloc, device, &PlainSeal, count, seed)?,
+        "chacha" => {
+            let key = words.array(alloc)?;
+            alike(alloc, device, &ChaChaSeal { key }, count, seed)?
+        }
+        _ => return Err(RowFault::NoRow),
+    };
+    page.number(alloc, u64::from(alike))?;
+    page.word("alike")?;
+    Ok(())
+}
