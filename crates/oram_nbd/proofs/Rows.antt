@@ -67,20 +67,16 @@ unfolding held
 read_row = refl
 
 -- a write in a part of each of two blocks
-write_row : after Write 4 held 3 2 (9 ∷ 10 ∷ []) ≡ 1 ∷ 2 ∷ 3 ∷ 9 ∷ 10 ∷ 6 ∷ 7 ∷ 8 ∷ []
+write_row : after Write held 3 2 (9 ∷ 10 ∷ []) ≡ 1 ∷ 2 ∷ 3 ∷ 9 ∷ 10 ∷ 6 ∷ 7 ∷ 8 ∷ []
 unfolding held
 write_row = refl
 
--- a trim that covers the second block, and one that covers none
-trim_row : after Trim 4 held 2 6 [] ≡ 1 ∷ 2 ∷ 3 ∷ 4 ∷ 0 ∷ 0 ∷ 0 ∷ 0 ∷ []
+-- a trim that covers the second block
+trim_row : after Trim held 2 6 [] ≡ held
 unfolding held
 trim_row = refl
 
-no_trim_row : after Trim 4 held 1 6 [] ≡ held
-unfolding held
-no_trim_row = refl
-
-zeroes_row : after WriteZeroes 4 held 1 6 [] ≡ 1 ∷ 0 ∷ 0 ∷ 0 ∷ 0 ∷ 0 ∷ 0 ∷ 8 ∷ []
+zeroes_row : after WriteZeroes held 1 6 [] ≡ 1 ∷ 0 ∷ 0 ∷ 0 ∷ 0 ∷ 0 ∷ 0 ∷ 8 ∷ []
 unfolding held
 zeroes_row = refl
 

@@ -1,16 +1,16 @@
 -- Requests that were answered, one after another.
-use Rattle.std.proofs.Common.{◌≡◌, inr, ℕ, ◌+◌, ◌*◌, ◌<◌, List, [], ◌∷◌, ◌++◌, length, Option, None, refl, sym, ap, ◌∙◌, subst, arith, length-append, take}
+use Rattle.std.proofs.Common.{◌≡◌, ◌⊎◌, inr, ℕ, ◌+◌, ◌<◌, List, [], ◌∷◌, ◌++◌, length, Option, None, refl, sym, ap, ◌∙◌, subst, arith, length-append, take}
 use Rattle.std.proofs.lemmas.List.{append-nil}
 use Rattle.std.proofs.lemmas.List.Elements.{All-push, All-nil}
 use Rattle.std.proofs.lemmas.Grind.{flat_map-append}
 use Rattle.std.specs.Io.KnownBytes.{Appends, Consumes}
 use Rattle.std.proofs.KnownBytes.{Appends-nil, Appends-trans, Consumes-nil, Consumes-trans}
 use Rattle.oram_nbd.specs.Holding.{Leads}
-use Rattle.oram_nbd.specs.Trimming.{first_block}
 use Rattle.oram_nbd.specs.Messages.{payload_len, request_text, IsRequest}
 use Rattle.oram_nbd.specs.Streams.{ComesShort, IsBegunText, Misses}
-use Rattle.oram_nbd.specs.Serving.{asking, refusal_of, replying, said, told, IsAnswer, IsPartly, IsReplied, IsService, IsTurn, NeverFails, Turn}
+use Rattle.oram_nbd.specs.Serving.{asking, refusal_of, replying, said, told, IsAnswer, IsPartly, IsReplied, IsService, IsRefusal, IsTurn, NeverFails, RefusesAll, Turn}
 use Rattle.oram_nbd.specs.Transmission.{HasExchanged, HasServed, IsNoRequest, IsUnfinished, StopsServing}
+use Rattle.oram_nbd.specs.declared.faults.NbdError.{NbdError}
 use Rattle.oram_nbd.specs.declared.faults.NbdError.TheVariants.{Io, NoMemory}
 use Rattle.oram_nbd.specs.declared.faults.NbdFault.{NbdFault}
 use Rattle.oram_nbd.specs.declared.faults.NbdFault.TheVariants as fault
@@ -22,47 +22,52 @@ use Rattle.oram_nbd.specs.declared.replies.SimpleReply.TheVariants.{Refused}
 use Rattle.oram_nbd.proofs.Splices.{written_none}
 
 -- nothing of a command was done
-pub partly_none : (c : Command) (len : ℕ) (bytes : List ℕ) (at n : ℕ) (payload : List ℕ) → IsPartly c len bytes at n payload bytes
-partly_none Read len bytes at n payload = refl
-partly_none Write len bytes at n payload = (0, omega arith, sym (written_none bytes at))
-partly_none Disconnect len bytes at n payload = refl
-partly_none Flush len bytes at n payload = refl
-partly_none Trim len bytes at n payload = (0, omega arith, sym (written_none bytes (len * first_block len at)))
-partly_none WriteZeroes len bytes at n payload = (0, omega arith, sym (written_none bytes at))
-partly_none (Other code) len bytes at n payload = refl
+pub partly_none : (c : Command) (bytes : List ℕ) (at n : ℕ) (payload : List ℕ) → IsPartly c bytes at n payload bytes
+partly_none Read bytes at n payload = refl
+partly_none Write bytes at n payload = (0, omega arith, sym (written_none bytes at))
+partly_none Disconnect bytes at n payload = refl
+partly_none Flush bytes at n payload = refl
+partly_none Trim bytes at n payload = refl
+partly_none WriteZeroes bytes at n payload = (0, omega arith, sym (written_none bytes at))
+partly_none (Other code) bytes at n payload = refl
 
-service_more : (len : ℕ) (old mid : List ℕ) (turns : List Turn) (turn : Turn) (new : List ℕ) → IsService len old turns mid → IsTurn len mid turn new → IsService len old (turns ++ turn ∷ []) new
-service_more len old mid [] turn new is more = (new, subst (λ (l : List ℕ). IsTurn len l turn new) is more, refl)
-service_more len old mid (t ∷ turns) turn new (next, first, rest) more = (next, first, service_more len next mid turns turn new rest more)
+service_more : (old mid : List ℕ) (turns : List Turn) (turn : Turn) (new : List ℕ) → IsService old turns mid → IsTurn mid turn new → IsService old (turns ++ turn ∷ []) new
+service_more old mid [] turn new is more = (new, subst (λ (l : List ℕ). IsTurn l turn new) is more, refl)
+service_more old mid (t ∷ turns) turn new (next, first, rest) more = (next, first, service_more next mid turns turn new rest more)
 
 never_more : (turns : List Turn) (turn : Turn) → NeverFails turns → (turn.reply ≡ Refused Io → ⊥) → NeverFails (turns ++ turn ∷ [])
 never_more [] turn h last = (last, tt)
 never_more (t ∷ turns) turn (first, rest) last = (first, never_more turns turn rest last)
 
+refuses_more : (turns : List Turn) (turn : Turn) → RefusesAll turns → IsRefusal turn.reply → RefusesAll (turns ++ turn ∷ [])
+refuses_more [] turn h last = (last, tt)
+refuses_more (t ∷ turns) turn (first, rest) last = (first, refuses_more turns turn rest last)
+
 abbrev pub turn_of : Request → List ℕ → SimpleReply → Turn
 turn_of r bytes reply = record { request = r; payload = bytes; reply = reply }
 
-module _ (sound : Type 0) (len size : ℕ) (held : List ℕ → Type 0) where
-  served_none : HasServed sound len size held held []
-  served_none = record { fits = All-nil (λ turn. IsReplied size turn); never = λ _. tt; service = λ bytes h. (bytes, refl, h) }
+module _ (sound failed : Type 0) (size : ℕ) (held : List ℕ → Type 0) where
+  served_none : HasServed sound failed size held held []
+  served_none = record { fits = All-nil (λ turn. IsReplied size turn); never = λ _. tt; refused = λ _. tt; service = λ bytes h. (bytes, refl, h) }
 
   -- one turn more
-  pub served_more : (held' held'' : List ℕ → Type 0) (turns : List Turn) (turn : Turn) → HasServed sound len size held held' turns → IsReplied size turn → (sound → turn.reply ≡ Refused Io → ⊥) →
-      Leads held' (λ old new. IsAnswer len old turn.request turn.payload turn.reply new) held'' → HasServed sound len size held held'' (turns ++ turn ∷ [])
-  served_more held' held'' turns turn s is works answer = record {
+  pub served_more : (held' held'' : List ℕ → Type 0) (turns : List Turn) (turn : Turn) → HasServed sound failed size held held' turns → IsReplied size turn → (sound → turn.reply ≡ Refused Io → ⊥) → (failed → IsRefusal turn.reply) →
+      Leads held' (λ old new. IsAnswer old turn.request turn.payload turn.reply new) held'' → HasServed sound failed size held held'' (turns ++ turn ∷ [])
+  served_more held' held'' turns turn s is works refuses answer = record {
     fits = All-push (λ t. IsReplied size t) turns turn s.fits is;
     never = λ h. never_more turns turn (s.never h) (works h);
+    refused = λ h. refuses_more turns turn (s.refused h) (refuses h);
     service = λ bytes h.
         let so_far = s.service bytes h in
         let more = answer so_far.0 so_far.2 in
-        (more.0, service_more len bytes so_far.0 turns turn more.0 so_far.1 (record { request = is.request; payload = is.payload; answer = more.1 }), more.2);
+        (more.0, service_more bytes so_far.0 turns turn more.0 so_far.1 (record { request = is.request; payload = is.payload; answer = more.1 }), more.2);
   }
 
   -- as far as the loop has come
   pub record Served (from text : Option (List ℕ)) (count : ℕ) (held' : List ℕ → Type 0) (to told' : Option (List ℕ)) : Type 0 where
     pub turns : List Turn
     pub many : length turns ≡ count
-    pub served : HasServed sound len size held held' turns
+    pub served : HasServed sound failed size held held' turns
     pub read : Consumes from to (said turns)
     pub wrote : Appends text told' (told turns)
 
@@ -70,7 +75,7 @@ module _ (sound : Type 0) (len size : ℕ) (held : List ℕ → Type 0) where
   begin from text = record { turns = []; many = refl; served = served_none; read = Consumes-nil from; wrote = Appends-nil text }
 
   pub next : (from text : Option (List ℕ)) (count : ℕ) (held' held'' : List ℕ → Type 0) (to told' later told'' : Option (List ℕ)) (turn : Turn) →
-      (s : Served from text count held' to told') → HasServed sound len size held held'' (s.turns ++ turn ∷ []) → Consumes to later (asking turn) → Appends told' told'' (replying turn) →
+      (s : Served from text count held' to told') → HasServed sound failed size held held'' (s.turns ++ turn ∷ []) → Consumes to later (asking turn) → Appends told' told'' (replying turn) →
       Served from text (count + 1) held'' later told''
   next from text count held' held'' to told' later told'' turn s served came wrote = record {
     turns = s.turns ++ turn ∷ [];
@@ -90,7 +95,7 @@ module _ (sound : Type 0) (len size : ℕ) (held : List ℕ → Type 0) where
 
   -- no whole request came
   pub stopped_at_head : (from text : Option (List ℕ)) (count : ℕ) (held' : List ℕ → Type 0) (to told' later : Option (List ℕ)) (f : NbdFault) →
-      Served from text count held' to told' → Misses IsUnfinished IsNoRequest f to later → StopsServing sound len size held held' f from later text told'
+      Served from text count held' to told' → Misses IsUnfinished IsNoRequest f to later → StopsServing sound failed size held held' f from later text told'
   stopped_at_head from text count held' to told' later fault.Read s (part, cut, came) =
       (s.turns, part, s.served, exchanged from text count held' to told' later told' part [] s came (Appends-nil told'), cut)
   stopped_at_head from text count held' to told' later fault.Truncated s (part, cut, came, some, ended) =
@@ -109,7 +114,7 @@ module _ (sound : Type 0) (len size : ℕ) (held : List ℕ → Type 0) where
 
   -- not all came that a request writes
   pub stopped_at_payload : (from text : Option (List ℕ)) (count : ℕ) (held' : List ℕ → Type 0) (to told' mid later : Option (List ℕ)) (r : Request) (f : NbdFault) →
-      Served from text count held' to told' → IsRequest r → Consumes to mid (request_text r) → ComesShort 0 (payload_len r.command r.length) f mid later → StopsServing sound len size held held' f from later text told'
+      Served from text count held' to told' → IsRequest r → Consumes to mid (request_text r) → ComesShort 0 (payload_len r.command r.length) f mid later → StopsServing sound failed size held held' f from later text told'
   stopped_at_payload from text count held' to told' mid later r fault.Read s is head (part, few, came) = (
     s.turns,
     request_text r ++ part,
@@ -136,16 +141,16 @@ module _ (sound : Type 0) (len size : ℕ) (held : List ℕ → Type 0) where
 
   -- not all of a reply was written
   pub stopped_at_reply : (from text : Option (List ℕ)) (count : ℕ) (held' held'' : List ℕ → Type 0) (to told' later told'' : Option (List ℕ)) (turn : Turn) →
-      (s : Served from text count held' to told') → HasServed sound len size held held'' (s.turns ++ turn ∷ []) → Consumes to later (asking turn) → IsBegunText told' told'' (replying turn) →
-      StopsServing sound len size held held'' fault.Write from later text told''
+      (s : Served from text count held' to told') → HasServed sound failed size held held'' (s.turns ++ turn ∷ []) → Consumes to later (asking turn) → IsBegunText told' told'' (replying turn) →
+      StopsServing sound failed size held held'' fault.Write from later text told''
   stopped_at_reply from text count held' held'' to told' later told'' turn s served came (n, wrote) =
       (s.turns, turn, n, served, exchanged from text count held' to told' later told'' (asking turn) (take n (replying turn)) s came wrote)
 
   -- the device stopped at a request
   pub stopped_at_request : (from text : Option (List ℕ)) (count : ℕ) (held' held'' : List ℕ → Type 0) (to told' later : Option (List ℕ)) (r : Request) (payload : List ℕ) →
       Served from text count held' to told' → IsRequest r → length payload ≡ payload_len r.command r.length → refusal_of size r ≡ None →
-      Leads held' (λ old new. IsPartly r.command len old r.offset r.length payload new) held'' → Consumes to later (request_text r ++ payload) →
-      StopsServing sound len size held held'' fault.Stopped from later text told'
+      Leads held' (λ old new. IsPartly r.command old r.offset r.length payload new) held'' → Consumes to later (request_text r ++ payload) →
+      StopsServing sound failed size held held'' fault.Stopped from later text told'
   stopped_at_request from text count held' held'' to told' later r payload s is whole fits partly came = (
     s.turns,
     r,
@@ -153,6 +158,7 @@ module _ (sound : Type 0) (len size : ℕ) (held : List ℕ → Type 0) where
     record {
       fits = s.served.fits;
       never = s.served.never;
+      refused = s.served.refused;
       request = is;
       whole = whole;
       accepted = fits;
@@ -164,8 +170,8 @@ module _ (sound : Type 0) (len size : ℕ) (held : List ℕ → Type 0) where
     exchanged from text count held' to told' later told' (request_text r ++ payload) [] s came (Appends-nil told'),
   )
 
--- a request whose bytes there was no memory for
-pub refused_later : (held : List ℕ → Type 0) (len size : ℕ) → ((bytes : List ℕ) → held bytes → length bytes ≡ size) → (r : Request) (text : List ℕ) → refusal_of size r ≡ None →
-    Leads held (λ old new. IsAnswer len old r text (Refused NoMemory) new) held
-refused_later held len size sized r text fits = λ bytes h.
-    (bytes, inr (subst (λ (n : ℕ). refusal_of n r ≡ None) (sym (sized bytes h)) fits, inr refl, partly_none r.command len bytes r.offset r.length text), h)
+-- a request that is refused without being carried out, for want of memory or since the device has failed
+pub refused_later : (held : List ℕ → Type 0) (size : ℕ) → ((bytes : List ℕ) → held bytes → length bytes ≡ size) → (r : Request) (text : List ℕ) (e : NbdError) → (e ≡ Io) ⊎ (e ≡ NoMemory) → refusal_of size r ≡ None →
+    Leads held (λ old new. IsAnswer old r text (Refused e) new) held
+refused_later held size sized r text e why fits = λ bytes h.
+    (bytes, inr (subst (λ (n : ℕ). refusal_of n r ≡ None) (sym (sized bytes h)) fits, why, partly_none r.command bytes r.offset r.length text), h)

@@ -11,19 +11,19 @@ use Rattle.oram_nbd.specs.declared.handshake.Agreement.TheVariants.{Transmission
 abbrev pub preferred_of : ℕ → ℕ
 preferred_of len = if is_power_of_two len && nat_le 512 len && nat_le len 33554432 then len else 4096
 
--- over a device of so many bytes, in blocks of len bytes, which may be sound, told of by this name; by the arrays that it held before, and
+-- over a device of so many bytes, in blocks of len bytes, which may be sound, or have failed, told of by this name; by the arrays that it held before, and
 -- those that it holds
-module _ (sound : Type 0) (len size : ℕ) (held held' : List ℕ → Type 0) (name : List ℕ) where
+module _ (sound failed : Type 0) (len size : ℕ) (held held' : List ℕ → Type 0) (name : List ℕ) where
   -- The client went in the handshake; or requests followed, and so many were answered.
   abbrev pub HasConnected : ℕ → Option (List ℕ) → Option (List ℕ) → Option (List ℕ) → Option (List ℕ) → Type 0
   HasConnected count unread unread' written written' =
       (HasAgreed name size (preferred_of len) Gone unread unread' written written' × (count ≡ 0) × StillHolds held held')
       ⊎ ((midread midwritten : Option (List ℕ)) × HasAgreed name size (preferred_of len) Transmission unread midread written midwritten
-      × HasTransmitted sound len size held held' count midread unread' midwritten written')
+      × HasTransmitted sound failed size held held' count midread unread' midwritten written')
 
   -- It stopped in the handshake, and the device was left alone; or behind it.
   abbrev pub StopsConnection : NbdFault → Option (List ℕ) → Option (List ℕ) → Option (List ℕ) → Option (List ℕ) → Type 0
   StopsConnection fault unread unread' written written' =
       (StopsNegotiating name size (preferred_of len) fault unread unread' written written' × StillHolds held held')
       ⊎ ((midread midwritten : Option (List ℕ)) × HasAgreed name size (preferred_of len) Transmission unread midread written midwritten
-      × StopsServing sound len size held held' fault midread unread' midwritten written')
+      × StopsServing sound failed size held held' fault midread unread' midwritten written')

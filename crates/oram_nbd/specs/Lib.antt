@@ -1,6 +1,5 @@
 pub mod Bytes
 pub mod Holding
-pub mod Trimming
 pub mod MemBlocks
 pub mod Errors
 pub mod Streams

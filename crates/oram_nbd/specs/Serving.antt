@@ -1,8 +1,7 @@
 -- What the service of requests is: each is answered as an array of bytes answers it.
-use Rattle.std.specs.Prelude.{◌≡◌, ◌⊎◌, ℕ, ◌+◌, ◌*◌, List, [], ◌∷◌, ◌++◌, length, Option, Some, None, nat_lt, if◌then◌else◌}
+use Rattle.std.specs.Prelude.{◌≡◌, ◌⊎◌, ℕ, ◌+◌, List, [], ◌∷◌, ◌++◌, length, Option, Some, None, nat_lt, if◌then◌else◌}
 use Rattle.std.specs.List.{flat_map}
 use Rattle.oram_nbd.specs.Bytes.{bytes_at, written, zeroes, IsBegun}
-use Rattle.oram_nbd.specs.Trimming.{first_block, trim_len, trimmed}
 use Rattle.oram_nbd.specs.Messages.{payload_len, request_text, reply_text, IsRequest}
 use Rattle.oram_nbd.specs.declared.faults.NbdError.{NbdError}
 use Rattle.oram_nbd.specs.declared.faults.NbdError.TheVariants.{Io, NoMemory, Invalid, NoSpace}
@@ -49,27 +48,25 @@ abbrev pub given_len : Command → ℕ → ℕ
 given_len Read n = n
 given_len _ n = 0
 
--- what it is after the command, where a trim goes by blocks of len bytes
-abbrev pub after : Command → ℕ → List ℕ → ℕ → ℕ → List ℕ → List ℕ
-after Write len bytes at n payload = written bytes at payload
-after Trim len bytes at n payload = trimmed len bytes at n
-after WriteZeroes len bytes at n payload = written bytes at (zeroes n)
-after _ len bytes at n payload = bytes
+-- what it is after the command; a trim leaves it as it is
+abbrev pub after : Command → List ℕ → ℕ → ℕ → List ℕ → List ℕ
+after Write bytes at n payload = written bytes at payload
+after WriteZeroes bytes at n payload = written bytes at (zeroes n)
+after _ bytes at n payload = bytes
 
 -- what it is where the device failed in the middle: the command came as far as some byte of its range
-abbrev pub IsPartly : Command → ℕ → List ℕ → ℕ → ℕ → List ℕ → List ℕ → Type 0
-IsPartly Write len old at n payload new = IsBegun old at payload new
-IsPartly Trim len old at n payload new = IsBegun old (len * first_block len at) (zeroes (trim_len len at n)) new
-IsPartly WriteZeroes len old at n payload new = IsBegun old at (zeroes n) new
-IsPartly _ len old at n payload new = new ≡ old
+abbrev pub IsPartly : Command → List ℕ → ℕ → ℕ → List ℕ → List ℕ → Type 0
+IsPartly Write old at n payload new = IsBegun old at payload new
+IsPartly WriteZeroes old at n payload new = IsBegun old at (zeroes n) new
+IsPartly _ old at n payload new = new ≡ old
 
 -- the reply is that of the array of bytes, or an error
-abbrev pub IsAnswer : ℕ → List ℕ → Request → List ℕ → SimpleReply → List ℕ → Type 0
-IsAnswer len old r payload (Done bytes) new =
-    (refusal_of (length old) r ≡ None) × (bytes ≡ given r.command old r.offset r.length) × (new ≡ after r.command len old r.offset r.length payload)
-IsAnswer len old r payload (Refused e) new =
+abbrev pub IsAnswer : List ℕ → Request → List ℕ → SimpleReply → List ℕ → Type 0
+IsAnswer old r payload (Done bytes) new =
+    (refusal_of (length old) r ≡ None) × (bytes ≡ given r.command old r.offset r.length) × (new ≡ after r.command old r.offset r.length payload)
+IsAnswer old r payload (Refused e) new =
     ((refusal_of (length old) r ≡ Some e) × (new ≡ old))
-    ⊎ ((refusal_of (length old) r ≡ None) × ((e ≡ Io) ⊎ (e ≡ NoMemory)) × IsPartly r.command len old r.offset r.length payload new)
+    ⊎ ((refusal_of (length old) r ≡ None) × ((e ≡ Io) ⊎ (e ≡ NoMemory)) × IsPartly r.command old r.offset r.length payload new)
 
 -- a reply that fits the request, whatever a device of so many bytes holds
 abbrev pub IsReply : ℕ → Request → SimpleReply → Type 0
@@ -89,15 +86,15 @@ pub record IsReplied (size : ℕ) (turn : Turn) : Type 0 where
   pub reply : IsReply size turn.request turn.reply
 
 -- the turn on an array of bytes
-pub record IsTurn (len : ℕ) (old : List ℕ) (turn : Turn) (new : List ℕ) : Type 0 where
+pub record IsTurn (old : List ℕ) (turn : Turn) (new : List ℕ) : Type 0 where
   pub request : IsRequest turn.request
   pub payload : length turn.payload ≡ payload_len turn.request.command turn.request.length
-  pub answer : IsAnswer len old turn.request turn.payload turn.reply new
+  pub answer : IsAnswer old turn.request turn.payload turn.reply new
 
 -- the turns, one after another, on an array of bytes
-abbrev pub IsService : ℕ → List ℕ → List Turn → List ℕ → Type 0
-IsService len old [] new = new ≡ old
-IsService len old (turn ∷ turns) new = (mid : List ℕ) × IsTurn len old turn mid × IsService len mid turns new
+abbrev pub IsService : List ℕ → List Turn → List ℕ → Type 0
+IsService old [] new = new ≡ old
+IsService old (turn ∷ turns) new = (mid : List ℕ) × IsTurn old turn mid × IsService mid turns new
 
 -- what the client said at a turn, and what it was told
 abbrev pub asking : Turn → List ℕ
@@ -116,3 +113,13 @@ told turns = flat_map replying turns
 abbrev pub NeverFails : List Turn → Type 0
 NeverFails [] = Unit {0}
 NeverFails (turn ∷ turns) = (turn.reply ≡ Refused Io → ⊥) × NeverFails turns
+
+-- the reply acknowledges nothing
+abbrev pub IsRefusal : SimpleReply → Type 0
+IsRefusal (Done bytes) = ⊥
+IsRefusal (Refused e) = Unit {0}
+
+-- no reply acknowledges anything
+abbrev pub RefusesAll : List Turn → Type 0
+RefusesAll [] = Unit {0}
+RefusesAll (turn ∷ turns) = IsRefusal turn.reply × RefusesAll turns

@@ -3,7 +3,7 @@ use Rattle.std.specs.Prelude.{◌≡◌, ◌⊎◌, ℕ, ◌<◌, List, [], ◌�
 use Rattle.std.specs.Io.KnownBytes.{Appends, Consumes, IsAtEnd}
 use Rattle.oram_nbd.specs.Messages.{payload_len, request_text, IsRequest}
 use Rattle.oram_nbd.specs.Holding.{Leads}
-use Rattle.oram_nbd.specs.Serving.{asking, refusal_of, replying, said, told, IsPartly, IsReplied, IsService, NeverFails, Turn}
+use Rattle.oram_nbd.specs.Serving.{asking, refusal_of, replying, said, told, IsPartly, IsReplied, IsService, NeverFails, RefusesAll, Turn}
 use Rattle.oram_nbd.specs.declared.faults.NbdFault.{NbdFault}
 use Rattle.oram_nbd.specs.declared.faults.NbdFault.TheVariants.{Read, Truncated, Magic, Write, OldClient, UnknownExport, TooManyOptions, OutOfMemory, Stopped}
 use Rattle.oram_nbd.specs.declared.requests.Command.TheVariants.{Disconnect}
@@ -29,22 +29,24 @@ pub record HasExchanged (turns : List Turn) (unread unread' : Option (List ℕ))
   pub read : Consumes unread unread' (said turns ++ part)
   pub wrote : Appends written written' (told turns ++ more)
 
--- of a device of so many bytes, in blocks of len bytes, which may be sound; by the arrays that it held before, and those that it holds
-module _ (sound : Type 0) (len size : ℕ) (held held' : List ℕ → Type 0) where
+-- of a device of so many bytes, which may be sound, or have failed; by the arrays that it held before, and those that it holds
+module _ (sound failed : Type 0) (size : ℕ) (held held' : List ℕ → Type 0) where
   -- The turns were made. Whichever array was held, they lead from it to one that is held.
   pub record HasServed (turns : List Turn) : Type 0 where
     pub fits : All (λ turn. IsReplied size turn) turns
     pub never : sound → NeverFails turns
-    pub service : Leads held (λ old new. IsService len old turns new) held'
+    pub refused : failed → RefusesAll turns
+    pub service : Leads held (λ old new. IsService old turns new) held'
 
   -- The turns were made, and then a request came that the device stopped at, with these bytes.
   pub record HasStopped (turns : List Turn) (r : Request) (payload : List ℕ) : Type 0 where
     pub fits : All (λ turn. IsReplied size turn) turns
     pub never : sound → NeverFails turns
+    pub refused : failed → RefusesAll turns
     pub request : IsRequest r
     pub whole : length payload ≡ payload_len r.command r.length
     pub accepted : refusal_of size r ≡ None
-    pub service : Leads held (λ old new. (mid : List ℕ) × IsService len old turns mid × IsPartly r.command len mid r.offset r.length payload new) held'
+    pub service : Leads held (λ old new. (mid : List ℕ) × IsService old turns mid × IsPartly r.command mid r.offset r.length payload new) held'
 
   -- so many requests were answered, and then they ended
   pub record HasTransmitted (count : ℕ) (unread unread' written written' : Option (List ℕ)) : Type 0 where

@@ -35,12 +35,13 @@ pub fn serve<R: Read, W: Write, D: Disk>(
     name: &[u8],
 ) -> Result<u64, NbdFault>
     requires { length name.now ≤ 4096 }
-    ensures ok { IfOk result (λ count. HasConnected (D.is_sound disk.old) (D.block_len disk.old) (D.size disk.old) (D.holds disk.old) (D.holds disk.new) name.now count
+    ensures ok { IfOk result (λ count. HasConnected (D.is_sound disk.old) (D.failed disk.old) (D.block_len disk.old) (D.size disk.old) (D.holds disk.old) (D.holds disk.new) name.now count
         (R.remaining reader.old) (R.remaining reader.new) (W.contents writer.old) (W.contents writer.new)) }
-    ensures err { IfErr result (λ fault. StopsConnection (D.is_sound disk.old) (D.block_len disk.old) (D.size disk.old) (D.holds disk.old) (D.holds disk.new) name.now fault
+    ensures err { IfErr result (λ fault. StopsConnection (D.is_sound disk.old) (D.failed disk.old) (D.block_len disk.old) (D.size disk.old) (D.holds disk.old) (D.holds disk.new) name.now fault
         (R.remaining reader.old) (R.remaining reader.new) (W.contents writer.old) (W.contents writer.new)) }
     ensures stopped { IfErr result (λ fault. fault ≡ NbdFault.Stopped → IsStopped D.stops disk.new) }
     ensures keeps { D.is_sound disk.old → D.is_sound disk.new }
+    ensures lasting { D.failed disk.old → D.failed disk.new }
     ensures shape { (D.block_len disk.new ≡ D.block_len disk.old) × (D.size disk.new ≡ D.size disk.old) }
 {
     let block_bytes = disk.block_bytes();

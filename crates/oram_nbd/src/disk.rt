@@ -1,6 +1,6 @@
 //! A device of whole blocks.
 
-ghost use Rattle.std.specs.Prelude.{◌≡◌, ◌⊎◌, ℕ, List, ◌+◌, ◌*◌, ◌<◌, ◌≤◌, ◌^◌, length, IfOk, OnOk, OnErr, IsErrOf};
+ghost use Rattle.std.specs.Prelude.{◌≡◌, ◌⊎◌, ℕ, List, ◌+◌, ◌*◌, ◌<◌, ◌≤◌, ◌^◌, ◌↔◌, length, IfOk, OnOk, OnErr, IsErrOf, IsTrue};
 ghost use Rattle.oram_nbd.specs.Bytes.{bytes_at, written, zeroes};
 
 use crate::faults::DiskFault;
@@ -22,8 +22,16 @@ pub trait Disk {
     /// It does not fail, unless memory is refused. It may stop.
     ghost is_sound: { Self → Type 0 };
 
+    /// It has failed, for good: it acknowledges nothing.
+    ghost failed: { Self → Type 0 };
+
     /// A call that found the first and left the second met what stops the device.
     ghost stops: { Self → Self → Type 0 };
+
+    /// Whether it has failed.
+    fn has_failed(&self) -> bool
+        ensures value { IsTrue result ↔ failed self.now }
+        ensures sound { is_sound self.now → failed self.now → ⊥ };
 
     fn block_bytes(&self) -> u32
         ensures value { result ≡ block_len self.now }
@@ -44,6 +52,8 @@ pub trait Disk {
         ensures sound { IsErrOf result DiskFault.Failed → is_sound self.old → ⊥ }
         ensures stopped { IsErrOf result DiskFault.Stopped → stops self.old self.new }
         ensures keeps { is_sound self.old → is_sound self.new }
+        ensures refused { OnOk result (failed self.old → ⊥) }
+        ensures lasting { failed self.old → failed self.new }
         ensures shape { (block_len self.new ≡ block_len self.old) × (size self.new ≡ size self.old) };
 
     /// Replaces a block. After an `Err` it is as before, or replaced.
@@ -57,6 +67,8 @@ pub trait Disk {
         ensures sound { IsErrOf result DiskFault.Failed → is_sound self.old → ⊥ }
         ensures stopped { IsErrOf result DiskFault.Stopped → stops self.old self.new }
         ensures keeps { is_sound self.old → is_sound self.new }
+        ensures refused { OnOk result (failed self.old → ⊥) }
+        ensures lasting { failed self.old → failed self.new }
         ensures shape { (block_len self.new ≡ block_len self.old) × (size self.new ≡ size self.old) };
 
     /// Lets a block's bytes go: they are zeroes from then on. After an `Err` they are, or are as
@@ -70,5 +82,7 @@ pub trait Disk {
         ensures sound { IsErrOf result DiskFault.Failed → is_sound self.old → ⊥ }
         ensures stopped { IsErrOf result DiskFault.Stopped → stops self.old self.new }
         ensures keeps { is_sound self.old → is_sound self.new }
+        ensures refused { OnOk result (failed self.old → ⊥) }
+        ensures lasting { failed self.old → failed self.new }
         ensures shape { (block_len self.new ≡ block_len self.old) × (size self.new ≡ size self.old) };
 }

@@ -2,7 +2,7 @@
 //!
 //! The protocol is the public one (NetworkBlockDevice/nbd, doc/proto.md): the fixed newstyle handshake, simple replies, and the
 //! commands READ, WRITE, FLUSH, TRIM, WRITE_ZEROES and DISC. A [`Disk`] is what is served: an array of bytes that is read and
-//! written by whole blocks. [`read_range`], [`write_range`], [`zero_range`] and [`trim_range`] carry out a byte range on it.
+//! written by whole blocks. [`read_range`], [`write_range`] and [`zero_range`] carry out a byte range on it.
 //! [`negotiate`] is the handshake, [`transmit`] the requests behind it, and [`serve`] a whole connection.
 #![tactic(auto)]
 
@@ -28,7 +28,7 @@ pub use handshake::{Agreement, Export};
 pub use mem_disk::MemDisk;
 pub use negotiating::negotiate;
 pub use options::{HandshakeOption, OptionHead, ReplyKind, wanted_name};
-pub use ranges::{read_range, trim_range, write_range, zero_range};
+pub use ranges::{read_range, write_range, zero_range};
 pub use replies::SimpleReply;
 pub use requests::{Command, Request};
 pub use transmitting::transmit;

@@ -53,7 +53,13 @@ impl Disk for MemDisk {
 
     ghost is_sound = { λ _. Unit {0} };
 
+    ghost failed = { λ _. ⊥ };
+
     ghost stops = { λ _ _. ⊥ };
+
+    fn has_failed(&self) -> bool {
+        false
+    }
 
     fn block_bytes(&self) -> u32 {
         self.block_bytes

@@ -3,7 +3,6 @@
 ghost use Rattle.std.specs.Prelude.{◌≡◌, ◌⊎◌, ℕ, List, ◌+◌, ◌-◌, ◌*◌, ◌<◌, ◌≤◌, ◌++◌, length, take, IfOk, OnOk, OnErr, IsErrOf};
 ghost use Rattle.oram_nbd.specs.Bytes.{bytes_at, written, zeroes, IsBegun};
 ghost use Rattle.oram_nbd.specs.Holding.{IsStopped, Leads, StillHolds};
-ghost use Rattle.oram_nbd.specs.Trimming.{trimmed, first_block, trim_len};
 
 use crate::disk::Disk;
 use crate::faults::DiskFault;
@@ -55,6 +54,7 @@ fn read_part<D: Disk>(
     ensures sound { IsErrOf result DiskFault.Failed → D.is_sound disk.old → ⊥ }
     ensures stopped { IsErrOf result DiskFault.Stopped → IsStopped D.stops disk.new }
     ensures keeps { D.is_sound disk.old → D.is_sound disk.new }
+    ensures lasting { D.failed disk.old → D.failed disk.new }
     ensures shape { (D.block_len disk.new ≡ D.block_len disk.old) × (D.size disk.new ≡ D.size disk.old) }
 {
     let _blocks = disk.blocks();
@@ -78,6 +78,7 @@ pub fn read_range<D: Disk>(
     ensures sound { IsErrOf result DiskFault.Failed → D.is_sound disk.old → ⊥ }
     ensures stopped { IsErrOf result DiskFault.Stopped → IsStopped D.stops disk.new }
     ensures keeps { D.is_sound disk.old → D.is_sound disk.new }
+    ensures lasting { D.failed disk.old → D.failed disk.new }
     ensures shape { (D.block_len disk.new ≡ D.block_len disk.old) × (D.size disk.new ≡ D.size disk.old) }
 {
     let _blocks = disk.blocks();
@@ -119,6 +120,7 @@ fn write_in_block<D: Disk>(
     ensures sound { IsErrOf result DiskFault.Failed → D.is_sound disk.old → ⊥ }
     ensures stopped { IsErrOf result DiskFault.Stopped → IsStopped D.stops disk.new }
     ensures keeps { D.is_sound disk.old → D.is_sound disk.new }
+    ensures lasting { D.failed disk.old → D.failed disk.new }
     ensures shape { (D.block_len disk.new ≡ D.block_len disk.old) × (D.size disk.new ≡ D.size disk.old) }
 {
     let _blocks = disk.blocks();
@@ -146,6 +148,7 @@ fn write_part<D: Disk>(
     ensures sound { IsErrOf result DiskFault.Failed → D.is_sound disk.old → ⊥ }
     ensures stopped { IsErrOf result DiskFault.Stopped → IsStopped D.stops disk.new }
     ensures keeps { D.is_sound disk.old → D.is_sound disk.new }
+    ensures lasting { D.failed disk.old → D.failed disk.new }
     ensures shape { (D.block_len disk.new ≡ D.block_len disk.old) × (D.size disk.new ≡ D.size disk.old) }
 {
     let _blocks = disk.blocks();
@@ -168,6 +171,7 @@ pub fn write_range<D: Disk>(
     ensures sound { IsErrOf result DiskFault.Failed → D.is_sound disk.old → ⊥ }
     ensures stopped { IsErrOf result DiskFault.Stopped → IsStopped D.stops disk.new }
     ensures keeps { D.is_sound disk.old → D.is_sound disk.new }
+    ensures lasting { D.failed disk.old → D.failed disk.new }
     ensures shape { (D.block_len disk.new ≡ D.block_len disk.old) × (D.size disk.new ≡ D.size disk.old) }
 {
     let _blocks = disk.blocks();
@@ -190,6 +194,7 @@ fn zero_part<D: Disk>(alloc: Global, disk: &mut D, at: u64, most: u64) -> Result
     ensures sound { IsErrOf result DiskFault.Failed → D.is_sound disk.old → ⊥ }
     ensures stopped { IsErrOf result DiskFault.Stopped → IsStopped D.stops disk.new }
     ensures keeps { D.is_sound disk.old → D.is_sound disk.new }
+    ensures lasting { D.failed disk.old → D.failed disk.new }
     ensures shape { (D.block_len disk.new ≡ D.block_len disk.old) × (D.size disk.new ≡ D.size disk.old) }
 {
     let _blocks = disk.blocks();
@@ -217,6 +222,7 @@ pub fn zero_range<D: Disk>(
     ensures sound { IsErrOf result DiskFault.Failed → D.is_sound disk.old → ⊥ }
     ensures stopped { IsErrOf result DiskFault.Stopped → IsStopped D.stops disk.new }
     ensures keeps { D.is_sound disk.old → D.is_sound disk.new }
+    ensures lasting { D.failed disk.old → D.failed disk.new }
     ensures shape { (D.block_len disk.new ≡ D.block_len disk.old) × (D.size disk.new ≡ D.size disk.old) }
 {
     let _blocks = disk.blocks();
@@ -225,31 +231,4 @@ pub fn zero_range<D: Disk>(
         done += zero_part(alloc, disk, offset + done, count - done)?;
     }
     Ok(())
-}
-
-/// Discards the whole blocks of a range, and leaves the rest of it.
-pub fn trim_range<D: Disk>(
-    alloc: Global,
-    disk: &mut D,
-    offset: u64,
-    count: u32,
-) -> Result<(), DiskFault>
-    requires { offset + count ≤ D.size disk.old }
-    ensures ok { OnOk result ((bytes : List ℕ) → D.holds disk.old bytes → D.holds disk.new (trimmed (D.block_len disk.old) bytes offset count)) }
-    ensures err { OnErr result (Leads (D.holds disk.old)
-        (λ old new. IsBegun old (D.block_len disk.old * first_block (D.block_len disk.old) offset) (zeroes (trim_len (D.block_len disk.old) offset count)) new)
-        (D.holds disk.new)) }
-    ensures sound { IsErrOf result DiskFault.Failed → D.is_sound disk.old → ⊥ }
-    ensures stopped { IsErrOf result DiskFault.Stopped → IsStopped D.stops disk.new }
-    ensures keeps { D.is_sound disk.old → D.is_sound disk.new }
-    ensures shape { (D.block_len disk.new ≡ D.block_len disk.old) × (D.size disk.new ≡ D.size disk.old) }
-{
-    let _blocks = disk.blocks();
-    let len = u64::from(disk.block_bytes());
-    let first = (offset + (len - 1)) / len;
-    let end = (offset + u64::from(count)) / len;
-    if end <= first {
-        return Ok(());
-    }
-    zero_range(alloc, disk, len * first, len * (end - first))
 }

@@ -3,12 +3,12 @@
 ghost use Rattle.std.specs.Prelude.{◌≡◌, ℕ, List, ◌+◌, length, IfOk, IfSome, IfNone, OnOk, OnErr, IsErrOf, None, nat_le};
 ghost use Rattle.oram_nbd.specs.Holding.{IsStopped, Leads};
 ghost use Rattle.oram_nbd.specs.Messages.{payload_len};
-ghost use Rattle.oram_nbd.specs.Serving.{after, given, given_len, refusal_of, IsAnswer, IsPartly, IsReply};
+ghost use Rattle.oram_nbd.specs.Serving.{after, given, given_len, refusal_of, IsAnswer, IsPartly, IsRefusal, IsReply};
 
 use crate::LONGEST_PAYLOAD;
 use crate::disk::Disk;
 use crate::faults::{DiskFault, NbdError};
-use crate::ranges::{read_range, trim_range, write_range, zero_range};
+use crate::ranges::{read_range, write_range, zero_range};
 use crate::replies::SimpleReply;
 use crate::requests::{Command, Request};
 use oram_bytes::Bytes;
@@ -58,12 +58,13 @@ fn carry_out<D: Disk>(
     ensures given { IfOk result (λ v. (bytes : List ℕ) → D.holds disk.old bytes
         → v.items ≡ given request.now.command bytes request.now.offset request.now.length) }
     ensures ok { OnOk result ((bytes : List ℕ) → D.holds disk.old bytes
-        → D.holds disk.new (after request.now.command (D.block_len disk.old) bytes request.now.offset request.now.length payload.now)) }
+        → D.holds disk.new (after request.now.command bytes request.now.offset request.now.length payload.now)) }
     ensures err { OnErr result (Leads (D.holds disk.old)
-        (λ old new. IsPartly request.now.command (D.block_len disk.old) old request.now.offset request.now.length payload.now new) (D.holds disk.new)) }
+        (λ old new. IsPartly request.now.command old request.now.offset request.now.length payload.now new) (D.holds disk.new)) }
     ensures sound { IsErrOf result DiskFault.Failed → D.is_sound disk.old → ⊥ }
     ensures stopped { IsErrOf result DiskFault.Stopped → IsStopped D.stops disk.new }
     ensures keeps { D.is_sound disk.old → D.is_sound disk.new }
+    ensures lasting { D.failed disk.old → D.failed disk.new }
     ensures shape { (D.block_len disk.new ≡ D.block_len disk.old) × (D.size disk.new ≡ D.size disk.old) }
 {
     let offset = request.offset;
@@ -75,19 +76,16 @@ fn carry_out<D: Disk>(
             write_range(alloc, disk, offset, payload)?;
             Ok(none)
         }
-        Command::Trim => {
-            trim_range(alloc, disk, offset, length)?;
-            Ok(none)
-        }
         Command::WriteZeroes => {
             zero_range(alloc, disk, offset, u64::from(length))?;
             Ok(none)
         }
-        Command::Flush | Command::Disconnect | Command::Other(_) => Ok(none),
+        // The protocol allows that a trim lets nothing go, and no access is also what tells the host least.
+        Command::Trim | Command::Flush | Command::Disconnect | Command::Other(_) => Ok(none),
     }
 }
 
-/// The reply to a request, or none where the device has stopped. The bytes that it writes are missing where there was no memory for
+/// The reply to a request, or none where the device has stopped. A device that has failed acknowledges nothing. The bytes that it writes are missing where there was no memory for
 /// them, or where they are too many.
 pub(crate) fn answer<D: Disk>(
     alloc: Global,
@@ -98,18 +96,23 @@ pub(crate) fn answer<D: Disk>(
     requires { IfSome payload (λ p. length p.items ≡ payload_len request.now.command request.now.length) }
     ensures reply { IfSome result (λ reply. IsReply (D.size disk.old) request.now reply) }
     ensures answer { (text : List ℕ) → IfSome payload (λ p. p.items ≡ text) → IfSome result (λ reply. Leads (D.holds disk.old)
-        (λ old new. IsAnswer (D.block_len disk.old) old request.now text reply new) (D.holds disk.new)) }
+        (λ old new. IsAnswer old request.now text reply new) (D.holds disk.new)) }
     ensures refusal { IfNone result (refusal_of (D.size disk.old) request.now ≡ None) }
     ensures stopped { (text : List ℕ) → IfSome payload (λ p. p.items ≡ text) → IfNone result (Leads (D.holds disk.old)
-        (λ old new. IsPartly request.now.command (D.block_len disk.old) old request.now.offset request.now.length text new) (D.holds disk.new)) }
+        (λ old new. IsPartly request.now.command old request.now.offset request.now.length text new) (D.holds disk.new)) }
     ensures met { IfNone result (IsStopped D.stops disk.new) }
     ensures sound { IfSome result (λ reply. reply ≡ SimpleReply.Refused NbdError.Io → D.is_sound disk.old → ⊥) }
+    ensures refused { D.failed disk.old → IfSome result IsRefusal }
     ensures keeps { D.is_sound disk.old → D.is_sound disk.new }
+    ensures lasting { D.failed disk.old → D.failed disk.new }
     ensures shape { (D.block_len disk.new ≡ D.block_len disk.old) × (D.size disk.new ≡ D.size disk.old) }
 {
     let size = u64::from(disk.block_bytes()) * disk.blocks();
     if let Some(error) = refusal(request, size) {
         return Some(SimpleReply::Refused(error));
+    }
+    if disk.has_failed() {
+        return Some(SimpleReply::Refused(NbdError::Io));
     }
     let Some(payload) = payload else {
         return Some(SimpleReply::Refused(NbdError::NoMemory));

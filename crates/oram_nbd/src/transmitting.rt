@@ -88,12 +88,13 @@ pub fn transmit<R: Read, W: Write, D: Disk>(
     writer: &mut W,
     disk: &mut D,
 ) -> Result<u64, NbdFault>
-    ensures ok { IfOk result (λ count. HasTransmitted (D.is_sound disk.old) (D.block_len disk.old) (D.size disk.old) (D.holds disk.old) (D.holds disk.new) count
+    ensures ok { IfOk result (λ count. HasTransmitted (D.is_sound disk.old) (D.failed disk.old) (D.size disk.old) (D.holds disk.old) (D.holds disk.new) count
         (R.remaining reader.old) (R.remaining reader.new) (W.contents writer.old) (W.contents writer.new)) }
-    ensures err { IfErr result (λ fault. StopsServing (D.is_sound disk.old) (D.block_len disk.old) (D.size disk.old) (D.holds disk.old) (D.holds disk.new) fault
+    ensures err { IfErr result (λ fault. StopsServing (D.is_sound disk.old) (D.failed disk.old) (D.size disk.old) (D.holds disk.old) (D.holds disk.new) fault
         (R.remaining reader.old) (R.remaining reader.new) (W.contents writer.old) (W.contents writer.new)) }
     ensures stopped { IfErr result (λ fault. fault ≡ NbdFault.Stopped → IsStopped D.stops disk.new) }
     ensures keeps { D.is_sound disk.old → D.is_sound disk.new }
+    ensures lasting { D.failed disk.old → D.failed disk.new }
     ensures shape { (D.block_len disk.new ≡ D.block_len disk.old) × (D.size disk.new ≡ D.size disk.old) }
 {
     for served in 0..u64::MAX {

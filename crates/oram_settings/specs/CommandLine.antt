@@ -2,12 +2,13 @@
 use Rattle.std.specs.Prelude.{ℕ, List, [], ◌∷◌, map, true, false, Option, Some, None, codes, if◌then◌else◌, option_and_then, string_bytes}
 use Rattle.std.specs.Str.{bytes_eq}
 use Rattle.clap.specs.Walk.{Row, Text, first_of}
-use Rattle.clap.specs.Simple.{App, Shape, new_rule, new_shape, subcommand_of}
+use Rattle.clap.specs.Simple.{App, Shape, new_rule, new_shape, on_top, subcommand_of}
+use Rattle.clap.specs.Words.{new_app}
 use Rattle.clap.specs.Kinds.{Kinds}
 use Rattle.clap.specs.Faults.{fault_of}
 use Rattle.oram_edge.specs.Words.{word_taker}
 use Rattle.oram_settings.specs.declared.command_line.Words.{Words}
-use Rattle.oram_settings.specs.declared.command_line.Words.TheVariants.{Format, Host, New, Serve, Status}
+use Rattle.oram_settings.specs.declared.command_line.Words.TheVariants.{Format, Host, New, Retry, Serve, Status}
 
 -- what a command line asks for: a host, a folder for a disk of a size, or something of a disk, with the file of its settings
 pub data Request : Type 0 where
@@ -16,6 +17,7 @@ pub data Request : Type 0 where
   format : List ℕ → Request
   serve : List ℕ → Request
   status : List ℕ → Request
+  retry : List ℕ → Request
 
 -- without where texts lie in memory
 abbrev pub shown : Words → Request
@@ -24,6 +26,7 @@ shown (New name size) = folder (string_bytes name) (string_bytes size)
 shown (Format name) = format (string_bytes name)
 shown (Serve name) = serve (string_bytes name)
 shown (Status name) = status (string_bytes name)
+shown (Retry name) = retry (string_bytes name)
 
 -- the subcommand that takes a word, and a size by its name
 abbrev pub folder_maker : Shape
@@ -31,11 +34,15 @@ folder_maker = record (new_shape (codes "new")) {
   rules = record (new_rule (codes "word")) { required = true } ∷ record (new_rule (codes "size")) { long = Some (codes "size"); required = true } ∷ [];
 }
 
--- the command line as clap is told of it: one of five subcommands, with its word
+-- the command without its subcommands
+abbrev pub bare : App
+bare = on_top (λ s. record s { subcommand_required = true }) (new_app (codes "oramdisk"))
+
+-- the command line as clap is told of it: one of six subcommands, with its word
 abbrev pub program : App
 program = record {
   top = record (new_shape (codes "oramdisk")) { is_leaf = false; subcommand_required = true };
-  subs = word_taker (codes "host") ∷ folder_maker ∷ map word_taker (codes "format" ∷ codes "serve" ∷ codes "status" ∷ []);
+  subs = word_taker (codes "host") ∷ folder_maker ∷ map word_taker (codes "format" ∷ codes "serve" ∷ codes "status" ∷ codes "retry" ∷ []);
 }
 
 -- what a subcommand asks for, with its word and perhaps a size
@@ -45,6 +52,7 @@ request_of name word None =
     else if bytes_eq name (codes "format") then Some (format word)
     else if bytes_eq name (codes "serve") then Some (serve word)
     else if bytes_eq name (codes "status") then Some (status word)
+    else if bytes_eq name (codes "retry") then Some (retry word)
     else None
 request_of name word (Some size) = if bytes_eq name (codes "new") then Some (folder word size) else None
 

@@ -5,7 +5,7 @@ ghost use Rattle.clap.specs.Walk.{texts};
 ghost use Rattle.clap.specs.Words.{app_of, kind_of, shape_of};
 ghost use Rattle.clap.specs.declared.builder.command.Command.TheViews.{out-Command as fields_of};
 ghost use Rattle.oram_settings.specs.CommandLine as spec;
-ghost use Rattle.oram_settings.specs.CommandLine.{program, request_in, request_of, shown};
+ghost use Rattle.oram_settings.specs.CommandLine.{bare, program, request_in, request_of, shown};
 
 use clap::error::ErrorKind;
 use clap::{Arg, Command, Error};
@@ -23,8 +23,10 @@ pub enum Words {
     Format(String),
     /// .. is served, ..
     Serve(String),
-    /// .. or tells how it stands.
+    /// .. tells how it stands, ..
     Status(String),
+    /// .. or is to be tried again once it has failed.
+    Retry(String),
 }
 
 /// The subcommand that makes a folder.
@@ -36,17 +38,24 @@ fn folder_maker<'a>(alloc: Global) -> Result<Command<'a>, AllocError>
     word_taker(alloc, "new")?.arg(size)
 }
 
+/// The command without its subcommands.
+fn bare_command<'a>(alloc: Global) -> Command<'a>
+    ensures { app_of result ≡ bare }
+{
+    Command::new(alloc, "oramdisk").subcommand_required(true)
+}
+
 /// The command line as clap is told of it.
 fn command<'a>(alloc: Global) -> Result<Command<'a>, AllocError>
     ensures { IfOk result (λ c. app_of c ≡ program) }
 {
-    Command::new(alloc, "oramdisk")
-        .subcommand_required(true)
+    bare_command(alloc)
         .subcommand(word_taker(alloc, "host")?)?
         .subcommand(folder_maker(alloc)?)?
         .subcommand(word_taker(alloc, "format")?)?
         .subcommand(word_taker(alloc, "serve")?)?
-        .subcommand(word_taker(alloc, "status")?)
+        .subcommand(word_taker(alloc, "status")?)?
+        .subcommand(word_taker(alloc, "retry")?)
 }
 
 /// What a subcommand asks for, with its word and perhaps a size.
@@ -61,6 +70,7 @@ fn asked(alloc: Global, name: &str, word: &str, size: Option<&str>) -> Result<Wo
             "format" => Ok(Words::Format(word)),
             "serve" => Ok(Words::Serve(word)),
             "status" => Ok(Words::Status(word)),
+            "retry" => Ok(Words::Retry(word)),
             _ => Err(InputFault::Bad),
         },
         Some(size) => match name {

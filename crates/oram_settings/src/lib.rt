@@ -19,4 +19,4 @@ pub use disk_file::{
 pub use names::beside;
 pub use progress::{Meter, percent, progress_text};
 pub use sizes::read_size;
-pub use status::{Status, report, status_of};
+pub use status::{Status, failure_text, report, status_of};

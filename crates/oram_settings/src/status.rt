@@ -40,8 +40,8 @@ pub fn status_of<S: Sealer>(core: &Core<S>) -> Status
     }
 }
 
-/// What is told of a failure.
-fn failing(alloc: Global, failure: Option<Reason>) -> Result<String, AllocError>
+/// What is told of a failure, or that there is none.
+pub fn failure_text(alloc: Global, failure: Option<Reason>) -> Result<String, AllocError>
     ensures { IfOk result (λ text. string_bytes text ≡ spec.failing failure) }
 {
     match failure {
@@ -69,7 +69,7 @@ pub fn report(alloc: Global, status: &Status) -> Result<String, AllocError>
     let accesses = status.accesses;
     let left = status.lifetime.saturating_sub(accesses);
     let waiting = status.waiting;
-    let failing = failing(alloc, status.failure)?;
+    let failing = failure_text(alloc, status.failure)?;
     let failing = failing.as_str();
     format!(in alloc;
         "size: {size} bytes, {blocks} blocks of {block_bytes}\ntrees: {trees}\naccesses: {accesses} made, {left} left\nwaiting: {waiting}\nstate: {failing}\n"

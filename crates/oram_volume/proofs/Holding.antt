@@ -63,6 +63,14 @@ alive v calls s l array settled h = elim (holds_now false v h.host_of s l array 
   | inr lost ↦ absurd (let lies = lost.0 in cc)
 ]
 
+-- also where a command is at work
+pub unfailed : (v : Shape) {L : Type 0} (calls : L → List ℕ → Outcome → L → Type 0) (s : State) (l : L) (array : ℕ → List ℕ)
+    → HoldsArray false v calls s l array → s.failure ≡ None
+unfailed v calls s l array h = elim h.recovers [
+  | inl rests ↦ elim rests [ inl held ↦ held.alive | inr lost ↦ absurd (let lies = lost.0 in cc) ]
+  | inr busy ↦ busy.2.alive
+]
+
 module _ (may_lie : Bool) (v : Shape) {L : Type 0} (calls : L → List ℕ → Outcome → L → Type 0) where
   pub still_holds : (s t : State) (l m : L) (array : ℕ → List ℕ) → t ≡ s → m ≡ l → HoldsArray may_lie v calls s l array → HoldsArray may_lie v calls t m array
   still_holds s t l m array core link h =

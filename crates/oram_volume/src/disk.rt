@@ -14,6 +14,7 @@ use std::alloc::Global;
 impl<S: Sealer, L: Link, K: Keeper, T: Tape> Disk for Volume<S, L, K, T> {
     ghost use Rattle.oram_core.specs.Core.{shape_of};
     ghost use Rattle.oram_run.specs.declared.events.Command.{Command};
+    ghost use Rattle.oram_session.specs.Honesty.{HasFailed};
     ghost use Rattle.oram_volume.specs.Holding.{IsSound, Keeps};
     ghost use Rattle.oram_volume.specs.Stopping.{StopsAt};
 
@@ -25,8 +26,14 @@ impl<S: Sealer, L: Link, K: Keeper, T: Tape> Disk for Volume<S, L, K, T> {
 
     ghost is_sound = { λ d. IsSound (shape_of S.overhead S.sealing S.opening d.core) L.calls d.core.state d.link };
 
+    ghost failed = { λ d. HasFailed d.core.state };
+
     ghost stops = { λ d e. (command : Command) × StopsAt (shape_of S.overhead S.sealing S.opening d.core) L.calls K.keeps (T.words d.tape) command
         d.core.state d.link d.keeper e.core.state e.link e.keeper };
+
+    fn has_failed(&self) -> bool {
+        self.core.failure().is_some()
+    }
 
     fn block_bytes(&self) -> u32 {
         self.core.device().block_bytes() as u32
@@ -39,6 +46,9 @@ impl<S: Sealer, L: Link, K: Keeper, T: Tape> Disk for Volume<S, L, K, T> {
     }
 
     fn read(&mut self, alloc: Global, block: u64) -> Result<Vec<u8>, DiskFault> {
+        if self.has_failed() {
+            return Err(DiskFault::Failed);
+        }
         let address = self.address_of(block);
         match self.carry_out(alloc, Command::Read(address))? {
             ReplyBody::Data(bytes) => Ok(bytes.into_vec()),
@@ -47,6 +57,9 @@ impl<S: Sealer, L: Link, K: Keeper, T: Tape> Disk for Volume<S, L, K, T> {
     }
 
     fn write(&mut self, alloc: Global, block: u64, payload: &[u8]) -> Result<(), DiskFault> {
+        if self.has_failed() {
+            return Err(DiskFault::Failed);
+        }
         let address = self.address_of(block);
         let bytes = Bytes::copy(alloc, payload)?;
         self.carry_out(alloc, Command::Write(address, bytes))?;
@@ -54,6 +67,9 @@ impl<S: Sealer, L: Link, K: Keeper, T: Tape> Disk for Volume<S, L, K, T> {
     }
 
     fn discard(&mut self, alloc: Global, block: u64) -> Result<(), DiskFault> {
+        if self.has_failed() {
+            return Err(DiskFault::Failed);
+        }
         let address = self.address_of(block);
         self.carry_out(alloc, Command::Discard(address))?;
         Ok(())

@@ -5,11 +5,11 @@ use Rattle.oram_edge.specs.declared.files.FileFault.TheVariants as file
 use Rattle.oram_store.specs.declared.faults.StoreFault.{StoreFault}
 use Rattle.oram_store.specs.declared.faults.StoreFault.TheVariants as store
 use Rattle.oramdisk.specs.declared.faults.Fault.{Fault}
-use Rattle.oramdisk.specs.declared.faults.Fault.TheVariants.{CommandLine, Settings, DiskSettings, Device, Size, OutOfMemory, File, Address, Accept, NotOurs, Damaged, Busy, Exists, Formatted, NotADisk, OutOfReach, HostRefused, Unkept, UsedUp, Random}
+use Rattle.oramdisk.specs.declared.faults.Fault.TheVariants.{CommandLine, Settings, DiskSettings, Device, Size, OutOfMemory, File, Address, Accept, NotOurs, Damaged, Busy, Exists, Formatted, NotADisk, OutOfReach, HostRefused, Unkept, UsedUp, Random, InUse, Failed, NotFailed}
 
 -- what happened and to what, and what to do
 abbrev pub line_of : Fault → List ℕ
-line_of CommandLine = codes "oramdisk: " ++ codes "bad command line" ++ codes ": say new FOLDER --size 1GiB, or host, format, serve or status and the name of a settings file\n"
+line_of CommandLine = codes "oramdisk: " ++ codes "bad command line" ++ codes ": say new FOLDER --size 1GiB, or host, format, serve, status or retry and the name of a settings file\n"
 line_of (Settings name) = codes "oramdisk: bad settings in " ++ string_bytes name ++ codes ": they have to be listen = \"127.0.0.1:PORT\" and file = \"NAME\", and nothing else\n"
 line_of (DiskSettings name) = codes "oramdisk: bad settings in " ++ string_bytes name ++ codes ": its keys have to be those that oramdisk new writes, with values like those\n"
 line_of (Device name) = codes "oramdisk: bad numbers in " ++ string_bytes name ++ codes ": size has to be from 1 to 16777216 blocks, block from 16 to 4096 and a multiple of 4, slots from 1 to 8, and table from 1 to 16777216\n"
@@ -28,10 +28,14 @@ line_of (OutOfReach address) = codes "oramdisk: can't reach the host at " ++ str
 line_of (HostRefused address) = codes "oramdisk: the host at " ++ string_bytes address ++ codes " doesn't take this disk: name a new file at the host\n"
 line_of (Unkept name) = codes "oramdisk: can't keep the state in " ++ string_bytes name ++ codes ": see that its folder may be written and has room, and start again\n"
 line_of (UsedUp name) = codes "oramdisk: the disk of " ++ string_bytes name ++ codes " has made all its accesses: move what is in it to a new one\n"
+line_of (InUse name) = codes "oramdisk: the disk of " ++ string_bytes name ++ codes " is in use by another process: end that one first\n"
+line_of (Failed name) = codes "oramdisk: the disk of " ++ string_bytes name ++ codes " has failed, and oramdisk status says why: see that its own host is reached, with its own file, and then say oramdisk retry\n"
+line_of (NotFailed name) = codes "oramdisk: the disk of " ++ string_bytes name ++ codes " has not failed, and is left as it is\n"
 line_of Random = codes "oramdisk: " ++ codes "the system gives no random bytes" ++ codes ": start it again\n"
 
 -- 2: words or settings; 3: memory; 4: a file; 5: a socket; 6 to 8: a host's file that is none, damaged, or held; 9: what is there already;
--- 10: a state that is none; 11, 12: a host out of reach, or that refuses; 13: a state that can't be kept; 14: no access left; 15: no random bytes
+-- 10: a state that is none; 11, 12: a host out of reach, or that refuses; 13: a state that can't be kept; 14: no access left; 15: no random bytes;
+-- 16: a disk in use; 17: a disk that has failed; 18: one that has not
 abbrev pub status_of : Fault → ℕ
 status_of CommandLine = 2
 status_of (Settings name) = 2
@@ -53,6 +57,9 @@ status_of (HostRefused address) = 12
 status_of (Unkept name) = 13
 status_of (UsedUp name) = 14
 status_of Random = 15
+status_of (InUse name) = 16
+status_of (Failed name) = 17
+status_of (NotFailed name) = 18
 
 abbrev pub file_fault : FileFault → Fault
 file_fault (file.File name) = File name

@@ -51,6 +51,12 @@ pub enum Fault {
     UsedUp(String),
     /// The system gives no random bytes.
     Random,
+    /// Another process has the disk whose state is in the file of this name.
+    InUse(String),
+    /// The disk whose state is in the file of this name has failed.
+    Failed(String),
+    /// The disk whose state is in the file of this name has not failed.
+    NotFailed(String),
 }
 
 impl From<AllocError> for Fault {
@@ -101,7 +107,7 @@ impl Fault {
             Fault::CommandLine => (
                 "oramdisk: ",
                 "bad command line",
-                ": say new FOLDER --size 1GiB, or host, format, serve or status and the name of a settings file\n",
+                ": say new FOLDER --size 1GiB, or host, format, serve, status or retry and the name of a settings file\n",
             ),
             Fault::Settings(name) => (
                 "oramdisk: bad settings in ",
@@ -189,6 +195,21 @@ impl Fault {
                 name.as_str(),
                 " has made all its accesses: move what is in it to a new one\n",
             ),
+            Fault::InUse(name) => (
+                "oramdisk: the disk of ",
+                name.as_str(),
+                " is in use by another process: end that one first\n",
+            ),
+            Fault::Failed(name) => (
+                "oramdisk: the disk of ",
+                name.as_str(),
+                " has failed, and oramdisk status says why: see that its own host is reached, with its own file, and then say oramdisk retry\n",
+            ),
+            Fault::NotFailed(name) => (
+                "oramdisk: the disk of ",
+                name.as_str(),
+                " has not failed, and is left as it is\n",
+            ),
             Fault::Random => (
                 "oramdisk: ",
                 "the system gives no random bytes",
@@ -220,6 +241,9 @@ impl Fault {
             Fault::Unkept(_) => 13,
             Fault::UsedUp(_) => 14,
             Fault::Random => 15,
+            Fault::InUse(_) => 16,
+            Fault::Failed(_) => 17,
+            Fault::NotFailed(_) => 18,
         }
     }
 }

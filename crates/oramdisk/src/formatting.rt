@@ -2,6 +2,7 @@
 
 use crate::disk_files::disk_settings_in;
 use crate::faults::Fault;
+use crate::state_lock::lock_state;
 use oram_bucket::{ChaChaSeal, PlainSeal, Sealer};
 use oram_client::{
     Ahead, DiskKey, FileKeeper, FilePlace, FormattingFault, Progress, Salt, format_ahead,
@@ -153,6 +154,7 @@ pub(crate) fn format_disk(rt: &HostRuntime, name: String) -> Result<(), Fault> {
     ) else {
         return Err(Fault::Device(name));
     };
+    let _lock = lock_state(rt, alloc, settings.state.as_str())?;
     if let Some(found) = kept_name(rt, alloc, settings.state.as_str())? {
         return Err(Fault::Formatted(found));
     }

@@ -9,6 +9,7 @@ use crate::visits::{Visit, line};
 use jiff::Timestamp;
 use oram_answering::{ServeFault, host_serve};
 use oram_edge::{InputFault, SocketFault, buffered, bytes_in, listen};
+use oram_settings::beside;
 use oram_store::{Store, StoreFault, open_store};
 use sqlite::Alter;
 use std::alloc::{AllocError, Global};
@@ -17,15 +18,19 @@ use std::net::{Net, OpenListener, OpenStream, SocketAddr};
 use std::rt::{Clock, Files};
 use std::str;
 
-/// The settings in the file of this name.
+/// The settings in the file of this name, where the name of the file of buckets is as seen from here.
 fn settings_in<R: Files + AllocGlobal>(rt: &R, name: String) -> Result<HostSettings, Fault> {
+    let alloc = rt.alloc();
     let bytes = bytes_in(rt, name.as_str())?;
     let read = match str::from_utf8(bytes.as_slice()) {
-        Ok(text) => read_host_settings(rt.alloc(), text),
+        Ok(text) => read_host_settings(alloc, text),
         Err(_) => Err(InputFault::Bad),
     };
     match read {
-        Ok(settings) => Ok(settings),
+        Ok(mut settings) => {
+            settings.file = beside(alloc, name.as_str(), settings.file.as_str())?;
+            Ok(settings)
+        }
         Err(InputFault::Bad) => Err(Fault::Settings(name)),
         Err(InputFault::OutOfMemory) => Err(Fault::OutOfMemory),
     }

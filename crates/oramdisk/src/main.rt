@@ -3,6 +3,7 @@
 
 mod creating;
 mod disk_files;
+mod failures;
 mod faults;
 mod formatting;
 mod hosted;
@@ -10,8 +11,10 @@ mod hosting;
 mod serving;
 mod settings_file;
 mod standing;
+mod state_lock;
 mod tallies;
 mod visits;
+mod watched_disk;
 
 pub use faults::{Fault, report, store_fault};
 pub use hosted::Hosted;
@@ -38,6 +41,7 @@ fn run(rt: &HostRuntime) -> Result<(), Fault> {
         Ok(Words::Format(name)) => formatting::format_disk(rt, name),
         Ok(Words::Serve(name)) => serving::serve_disk(rt, name),
         Ok(Words::Status(name)) => standing::tell(rt, name),
+        Ok(Words::Retry(name)) => standing::retry(rt, name),
         Err(InputFault::Bad) => Err(Fault::CommandLine),
         Err(InputFault::OutOfMemory) => Err(Fault::OutOfMemory),
     }

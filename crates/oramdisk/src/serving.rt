@@ -1,24 +1,26 @@
 //! A disk is served to clients of NBD, one connection after the other.
 
 use crate::disk_files::{core_in, disk_settings_in};
+use crate::failures::{keep_failure, kept_failure};
 use crate::faults::Fault;
 use crate::hosting::{listen_at, not_accepted, time};
+use crate::state_lock::lock_state;
+use crate::watched_disk::{FailureKeeper, WatchedDisk};
 use oram_bucket::{ChaChaSeal, PlainSeal, Sealer};
 use oram_client::{
     DiskKey, FileKeeper, FilePlace, PatientLink, Salt, TcpDialer, Watch, kept_bytes,
     read_kept_file, sealer_key, tape_key,
 };
-use oram_core::Core;
+use oram_core::{Core, Reason};
 use oram_edge::buffered;
 use oram_keep::Keeper;
 use oram_nbd::{Disk, DiskFault, NbdFault, serve};
 use oram_session::{ChaChaTape, Link, Tape};
-use oram_settings::{DiskSettings, Sealing};
-use oram_state::encode_state;
+use oram_settings::{DiskSettings, Sealing, failure_text};
 use oram_volume::Volume;
 use std::alloc::{AllocError, Global};
 use std::io::{ErrorKind, Read, Write};
-use std::net::{OpenListener, OpenStream, SocketAddr};
+use std::net::{OpenListener, OpenStream, SocketAddr, TcpListener};
 use std::rt::Clock;
 
 /// The name of the one export. Clients may also ask for it by no name.
@@ -82,55 +84,58 @@ fn receive<T: Read + Write + OpenStream + Drop, D: Disk>(
     }
 }
 
-/// Keeps that a disk has failed, and why, so that it can be told of without its host.
-fn keep_failure<S: Sealer, L: Link, K: Keeper, T: Tape>(
-    alloc: Global,
-    volume: &mut Volume<S, L, K, T>,
-) -> Result<(), AllocError> {
-    if volume.core.failure().is_some() {
-        let state = encode_state(alloc, &volume.core)?;
-        let _found_out_again = volume.keeper.keep(state.as_slice());
-    }
-    Ok(())
+/// Keeps why a disk failed in a file beside its state, and tells it on standard error.
+#[derive(Drop)]
+struct FailureFile<'a> {
+    rt: &'a HostRuntime,
+    state: String,
 }
 
-/// Serves one connection, and tells of it once it is kept what became of the disk. That may go on, or has stopped.
-fn visit<
-    R: Clock + Eprint + AllocGlobal,
-    N: Read + Write + OpenStream + Drop,
-    S: Sealer,
-    L: Link,
-    K: Keeper,
-    T: Tape,
->(
+impl<'a> FailureFile<'a> {
+    fn keep(&self, reason: Reason) -> Result<(), Fault> {
+        keep_failure(self.rt, self.state.as_str(), reason)?;
+        let why = failure_text(self.rt.alloc(), Some(reason))?;
+        let line = format!(in self.rt.alloc(); "oramdisk: the disk: {why}\n")?;
+        let _passed_over = self.rt.eprint(line.as_str());
+        Ok(())
+    }
+}
+
+impl<'a, S: Sealer, L: Link, K: Keeper, T: Tape> FailureKeeper<Volume<S, L, K, T>>
+    for FailureFile<'a> {
+    fn keep_failure(&mut self, volume: &Volume<S, L, K, T>) {
+        if let Some(reason) = volume.core.failure() {
+            // Where it can't be kept, the next process finds the failure again.
+            let _found_again = self.keep(reason);
+        }
+    }
+}
+
+/// Serves one connection, and tells of it. The disk may go on, or has stopped.
+fn visit<R: Clock + Eprint + AllocGlobal, N: Read + Write + OpenStream + Drop, D: Disk>(
     rt: &R,
     stream: N,
     peer: SocketAddr,
-    volume: &mut Volume<S, L, K, T>,
+    disk: &mut D,
 ) -> Result<bool, AllocError> {
-    let alloc = rt.alloc();
     let from = time(rt)?;
-    let ended = receive(alloc, stream, volume);
-    keep_failure(alloc, volume)?;
+    let ended = receive(rt.alloc(), stream, disk);
     tell_visit(rt, &peer, from.as_str(), ended)?;
     Ok(ended != Err(NbdFault::Stopped))
 }
 
 /// Serves connections, one after the other, until the disk stops.
-fn serve_all<
-    R: Clock + Eprint + AllocGlobal,
-    N: OpenListener,
-    S: Sealer,
-    L: Link,
-    K: Keeper,
-    T: Tape,
->(rt: &R, listener: &N, volume: &mut Volume<S, L, K, T>) -> Result<(), Fault>
+fn serve_all<R: Clock + Eprint + AllocGlobal, N: OpenListener, D: Disk>(
+    rt: &R,
+    listener: &N,
+    disk: &mut D,
+) -> Result<(), Fault>
 where
     N::Stream: Read + Write + OpenStream,
 {
     for _ in 0..u64::MAX {
         match listener.accept() {
-            Ok((stream, peer)) => match visit(rt, stream, peer, volume) {
+            Ok((stream, peer)) => match visit(rt, stream, peer, disk) {
                 Ok(true) => {}
                 Ok(false) => return Ok(()),
                 Err(_) => {
@@ -160,25 +165,34 @@ fn stopped<S: Sealer, L: Link>(volume: &DiskVolume<'_, S, L>, settings: DiskSett
 }
 
 /// Serves a disk until it stops, and tells why. What waits from before is carried out first.
-fn serve_volume<S: Sealer, L: Link>(
+fn serve_volume<S: Sealer, L: Link + Drop>(
     rt: &HostRuntime,
     settings: DiskSettings,
-    volume: &mut DiskVolume<'_, S, L>,
+    listener: &TcpListener,
+    mut volume: DiskVolume<'_, S, L>,
 ) -> Result<(), Fault> {
     let alloc = rt.alloc();
-    let listener = listen_at(rt, String::from_str(alloc, settings.listen.as_str())?)?;
-    match volume.settle(alloc) {
-        Ok(()) => serve_all(rt, &listener, volume)?,
+    let settled = volume.settle(alloc);
+    let state = String::from_str(alloc, settings.state.as_str())?;
+    let mut disk = WatchedDisk {
+        disk: volume,
+        keeper: FailureFile { rt, state },
+        is_kept: false,
+    };
+    disk.watch();
+    match settled {
+        Ok(()) => serve_all(rt, listener, &mut disk)?,
         Err(DiskFault::Failed | DiskFault::Stopped) => {}
         Err(DiskFault::OutOfMemory) => return Err(Fault::OutOfMemory),
     }
-    Err(stopped(volume, settings))
+    Err(stopped(&disk.disk, settings))
 }
 
 /// Serves the disk of a core over this link.
 fn serve_over<S: Sealer, L: Link>(
     rt: &HostRuntime,
     settings: DiskSettings,
+    listener: &TcpListener,
     salt: Salt,
     core: Core<S>,
     link: L,
@@ -191,19 +205,20 @@ where
     let keeper = FileKeeper::new(place, salt, settings.sync);
     let key = tape_key(&DiskKey(settings.key), &salt).0;
     let trees = core.device().trees();
-    let mut volume = Volume {
+    let volume = Volume {
         core,
         link,
         keeper,
         tape: ChaChaTape { key, trees },
     };
-    serve_volume(rt, settings, &mut volume)
+    serve_volume(rt, settings, listener, volume)
 }
 
 /// Serves the disk of a core, until it stops.
 fn serve_core<S: Sealer>(
     rt: &HostRuntime,
     settings: DiskSettings,
+    listener: &TcpListener,
     salt: Salt,
     core: Core<S>,
 ) -> Result<(), Fault> {
@@ -215,13 +230,20 @@ fn serve_core<S: Sealer>(
         host: String::from_str(alloc, host)?,
     };
     let link = PatientLink::new(alloc, dialer, watch, settings.patience);
-    serve_over(rt, settings, salt, core, link)
+    serve_over(rt, settings, listener, salt, core, link)
 }
 
 /// Serves the disk whose settings are in the file of this name, until it stops. What waits from before is carried out first.
+///
+/// No other process has the disk meanwhile, and the port is taken before the state is read: else an older state could be gone on from.
 pub(crate) fn serve_disk(rt: &HostRuntime, name: String) -> Result<(), Fault> {
     let alloc = rt.alloc();
     let settings = disk_settings_in(rt, name)?;
+    let _lock = lock_state(rt, alloc, settings.state.as_str())?;
+    if kept_failure(rt, settings.state.as_str())?.is_some() {
+        return Err(Fault::Failed(settings.state));
+    }
+    let listener = listen_at(rt, String::from_str(alloc, settings.listen.as_str())?)?;
     let file = kept_bytes(rt, settings.state.as_str())?;
     let Ok(kept) = read_kept_file(file.as_slice()) else {
         return Err(Fault::NotADisk(settings.state));
@@ -231,12 +253,12 @@ pub(crate) fn serve_disk(rt: &HostRuntime, name: String) -> Result<(), Fault> {
     match sealing {
         Sealing::Plain => {
             let core = core_in(alloc, PlainSeal, kept.state, state)?;
-            serve_core(rt, settings, kept.salt, core)
+            serve_core(rt, settings, &listener, kept.salt, core)
         }
         Sealing::ChaCha => {
             let key = sealer_key(&DiskKey(settings.key), &kept.salt).0;
             let core = core_in(alloc, ChaChaSeal { key }, kept.state, state)?;
-            serve_core(rt, settings, kept.salt, core)
+            serve_core(rt, settings, &listener, kept.salt, core)
         }
     }
 }

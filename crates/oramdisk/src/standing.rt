@@ -1,10 +1,26 @@
 //! How a disk stands.
 
 use crate::disk_files::{core_in, disk_settings_in};
+use crate::failures::{forget_failure, kept_failure};
 use crate::faults::Fault;
+use crate::state_lock::lock_state;
 use oram_bucket::{ChaChaSeal, PlainSeal};
 use oram_client::{kept_bytes, read_kept_file};
 use oram_settings::{Sealing, report, status_of};
+use std::alloc::{AllocError, Global};
+use std::str;
+
+/// What is told of a kept failure that is no text.
+const UNREADABLE: &str = "it has failed\n";
+
+/// A report with why the disk failed in the place of how its kept state is.
+fn with_failure(alloc: Global, report: &str, why: &str) -> Result<String, AllocError> {
+    let front = match report.rsplit_once("state: ") {
+        Some((front, _)) => front,
+        None => report,
+    };
+    format!(in alloc; "{front}state: {why}")
+}
 
 /// Tells how the disk stands whose settings are in the file of this name, as its kept state has it. It asks no host.
 pub(crate) fn tell(rt: &HostRuntime, name: String) -> Result<(), Fault> {
@@ -25,6 +41,28 @@ pub(crate) fn tell(rt: &HostRuntime, name: String) -> Result<(), Fault> {
         }
     };
     let text = report(alloc, &status)?;
+    let text = match kept_failure(rt, name)? {
+        Some(why) => with_failure(
+            alloc,
+            text.as_str(),
+            str::from_utf8(&why).unwrap_or(UNREADABLE),
+        )?,
+        None => text,
+    };
     let _passed_over = rt.print(text.as_str());
     Ok(())
+}
+
+/// Has the disk tried again that has failed and whose settings are in the file of this name: the next process that serves it goes on
+/// from its kept state.
+pub(crate) fn retry(rt: &HostRuntime, name: String) -> Result<(), Fault> {
+    let alloc = rt.alloc();
+    let settings = disk_settings_in(rt, name)?;
+    let _lock = lock_state(rt, alloc, settings.state.as_str())?;
+    if forget_failure(rt, settings.state.as_str())? {
+        let _passed_over = rt.print("oramdisk serve goes on from the kept state\n");
+        Ok(())
+    } else {
+        Err(Fault::NotFailed(settings.state))
+    }
 }

@@ -38,7 +38,13 @@ impl Disk for StoppingDisk {
 
     ghost is_sound = { λ d. ⟦<MemDisk as Disk>⟧.is_sound d.disk };
 
+    ghost failed = { λ _. ⊥ };
+
     ghost stops = { λ d e. (d.calls_left ≡ 0) × (e.calls_left ≡ 0) };
+
+    fn has_failed(&self) -> bool {
+        false
+    }
 
     fn block_bytes(&self) -> u32 {
         self.disk.block_bytes()

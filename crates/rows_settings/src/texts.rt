@@ -45,6 +45,7 @@ fn put_asked(asked: &CommandWords, page: &mut Page) -> Result<(), RowFault> {
         CommandWords::Format(name) => put_both(page, "format", name),
         CommandWords::Serve(name) => put_both(page, "serve", name),
         CommandWords::Status(name) => put_both(page, "status", name),
+        CommandWords::Retry(name) => put_both(page, "retry", name),
         CommandWords::New { folder, size } => {
             put_both(page, "new", folder)?;
             page.word(size.as_str())?;

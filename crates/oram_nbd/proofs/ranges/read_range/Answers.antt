@@ -14,6 +14,7 @@ loop-done-preserved g c =
       so_far = λ bytes h. call.ok bytes (inv.same bytes h) ∙ ap (λ (l : List ℕ). l ++ bytes_at bytes (c.args.offset + c.loop-done.done) n) (inv.so_far bytes h) ∙ bytes_at_more bytes c.args.offset c.loop-done.done n;
       same = λ bytes h. call.same bytes (inv.same bytes h);
       keeps = λ s. call.keeps (inv.keeps s);
+      lasting = λ s. call.lasting (inv.lasting s);
       block = call.shape.0 ∙ inv.block;
       size = call.shape.1 ∙ inv.size;
     }

@@ -9,6 +9,7 @@ loop-done-init g c = record {
   within = omega arith;
   so_far = λ bytes h. subst (g.D.Disk.holds c.args.disk.now) (sym (written_none bytes c.args.offset)) h;
   keeps = λ s. s;
+  lasting = λ s. s;
   block = refl;
   size = refl;
 }
@@ -22,6 +23,7 @@ loop-done-preserved g c = record {
   within = let h = c.in_ok-done.ensures.most in omega arith;
   so_far = wrote_more (g.D.Disk.holds c.args.disk.now) (g.D.Disk.holds c.loop-done.disk) (g.D.Disk.holds c.write_part.new.disk) _ c.blocks-blocks.ensures.held _ c.args.payload.now c.args.offset c.loop-done.done c.in_ok-done.field-0 c.requires c.loop-done.invariant.within (take_rest c.args.payload.now c.loop-done.done) c.loop-done.invariant.so_far c.in_ok-done.ensures.ok;
   keeps = λ s. c.in_ok-done.ensures.keeps (c.loop-done.invariant.keeps s);
+  lasting = λ s. c.in_ok-done.ensures.lasting (c.loop-done.invariant.lasting s);
   block = c.in_ok-done.ensures.shape.0 ∙ c.loop-done.invariant.block;
   size = c.in_ok-done.ensures.shape.1 ∙ c.loop-done.invariant.size;
 }

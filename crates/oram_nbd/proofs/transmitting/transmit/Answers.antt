@@ -1,9 +1,8 @@
 use Rattle.std.proofs.Common.{◌≡◌, ℕ, [], None, inl, inr, refl, rules, ◌∙◌, subst}
 use Rattle.std.proofs.KnownBytes.{Appends-nil, Consumes-trans}
 use Rattle.std.proofs.lemmas.Result.{err_from_is_err_and}
-use Rattle.oram_nbd.specs.Holding.{Leads}
 use Rattle.oram_nbd.specs.Messages.{request_text}
-use Rattle.oram_nbd.specs.Serving.{refusal_of, IsAnswer, IsPartly, IsReplied, IsReply}
+use Rattle.oram_nbd.specs.Serving.{refusal_of, IsReplied, IsReply}
 use Rattle.oram_nbd.specs.Streams.{ComesShort}
 use Rattle.oram_nbd.specs.declared.requests.Command.TheVariants.{Disconnect}
 use Rattle.oram_nbd.proofs.Pieces.{if_err}
@@ -11,7 +10,7 @@ use Rattle.oram_nbd.proofs.Served.{begin, exchanged, next, served_more, stopped_
 use Rattle.oram_nbd.proofs.transmitting.transmit.Goals as goal
 
 pub loop-served-init : goal.loop-served-init
-loop-served-init g c = record { served = begin _ _ _ _ _ _; keeps = λ h. h; block = refl; size = refl }
+loop-served-init g c = record { served = begin _ _ _ _ _ _; keeps = λ h. h; lasting = λ h. h; block = refl; size = refl }
 
 -- the client goes
 
@@ -50,7 +49,7 @@ returns-in_default-answer-clause-err g c =
     let held = g.D.Disk.holds c.loop-served.disk in
     let held' = g.D.Disk.holds c.answer.new.disk in
     let fits = subst (λ (n : ℕ). refusal_of n r ≡ None) inv.size call.refusal in
-    let step = subst (λ (n : ℕ). Leads held (λ old new. IsPartly r.command n old r.offset r.length got.0 new) held') inv.block (call.stopped got.0 got.3) in
+    let step = call.stopped got.0 got.3 in
     stopped_at_request _ _ _ _ _ _ _ held held' _ _ _ r got.0 inv.served came.0 (got.1 ∙ c.payload_len.ensures) fits step (Consumes-trans _ _ _ (request_text r) got.0 came.1 got.2)
 
 pub returns-in_err-put_reply-clause-err : goal.returns-in_err-put_reply-clause-err
@@ -69,8 +68,8 @@ returns-in_err-put_reply-clause-err g c =
       payload = got.1 ∙ c.payload_len.ensures;
       reply = subst (λ (n : ℕ). IsReply n r reply) inv.size call.reply;
     } in
-    let step = subst (λ (n : ℕ). Leads held (λ old new. IsAnswer n old r got.0 reply new) held') inv.block (call.answer got.0 got.3) in
-    let served = served_more _ _ _ _ held held' inv.served.turns (turn_of r got.0 reply) inv.served.served is (λ h e. call.sound e (inv.keeps h)) step in
+    let step = call.answer got.0 got.3 in
+    let served = served_more _ _ _ _ held held' inv.served.turns (turn_of r got.0 reply) inv.served.served is (λ h e. call.sound e (inv.keeps h)) (λ h. call.refused (inv.lasting h)) step in
     if_err _ _ _ _ p.1 (p.2 ∙ c.in_err-put_reply.ensures.err.0)
     (stopped_at_reply _ _ _ _ _ _ _ held held' _ _ _ _ (turn_of r got.0 reply) inv.served served (Consumes-trans _ _ _ (request_text r) got.0 came.1 got.2) c.in_err-put_reply.ensures.err.1)
 
@@ -91,11 +90,12 @@ loop-served-preserved g c =
       payload = got.1 ∙ c.payload_len.ensures;
       reply = subst (λ (n : ℕ). IsReply n r reply) inv.size call.reply;
     } in
-    let step = subst (λ (n : ℕ). Leads held (λ old new. IsAnswer n old r got.0 reply new) held') inv.block (call.answer got.0 got.3) in
-    let served = served_more _ _ _ _ held held' inv.served.turns (turn_of r got.0 reply) inv.served.served is (λ h e. call.sound e (inv.keeps h)) step in
+    let step = call.answer got.0 got.3 in
+    let served = served_more _ _ _ _ held held' inv.served.turns (turn_of r got.0 reply) inv.served.served is (λ h e. call.sound e (inv.keeps h)) (λ h. call.refused (inv.lasting h)) step in
     record {
       served = next _ _ _ _ _ _ _ held held' _ _ _ _ (turn_of r got.0 reply) inv.served served (Consumes-trans _ _ _ (request_text r) got.0 came.1 got.2) c.in_ok-put_reply.ensures.ok;
       keeps = λ h. call.keeps (inv.keeps h);
+      lasting = λ h. call.lasting (inv.lasting h);
       block = call.shape.0 ∙ inv.block;
       size = call.shape.1 ∙ inv.size;
     }

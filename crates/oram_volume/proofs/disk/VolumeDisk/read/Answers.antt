@@ -69,5 +69,7 @@ returns-in-Done g c =
       stopped = λ e. cc;
       keeps = sound_made g.S.Sealer.overhead g.S.Sealer.sealing g.S.Sealer.opening now.core new.core c.carry_out.ensures.kept g.L.Link.calls now.link new.link
           (Read c.address_of-address.result) (λ bytes. bytes) (laid_after_read now.core.device c.address_of-address.result) (λ lie array hold. (c.in_ok-bytes.ensures.ok lie array hold).1);
+      refused = tt;
+      lasting = λ failed. absurd (let is = c.has_failed.ensures.value.1 failed in let not = c.if-has_failed.false in cc);
       shape = (ap (λ (e : Sizes). e.block_bytes) c.carry_out.ensures.kept.0, ap (λ (e : Sizes). e.block_bytes * e.blocks) c.carry_out.ensures.kept.0);
     }

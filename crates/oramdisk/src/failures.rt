@@ -1,0 +1,54 @@
+//! Why a disk failed, in a file beside its state. The state itself stays as it was kept, so that the disk can be tried again.
+
+use crate::faults::Fault;
+use crate::hosting::time;
+use oram_core::Reason;
+use oram_edge::{FileFault, KeptFile, bytes_in};
+use oram_settings::failure_text;
+use std::alloc::{AllocError, Global};
+use std::fs;
+use std::io::ErrorKind;
+use std::rt::{Clock, Files};
+
+/// The name of the file that tells why the disk of a state failed.
+fn failure_name(alloc: Global, state: &str) -> Result<String, AllocError> {
+    format!(in alloc; "{state}.failed")
+}
+
+/// Keeps why the disk of a state failed, and when.
+pub(crate) fn keep_failure<R: Files + Clock + AllocGlobal>(
+    rt: &R,
+    state: &str,
+    reason: Reason,
+) -> Result<(), FileFault> {
+    let alloc = rt.alloc();
+    let why = failure_text(alloc, Some(reason))?;
+    let when = time(rt)?;
+    let text = format!(in alloc; "{why}, at {when}\n")?;
+    KeptFile::new(alloc, failure_name(alloc, state)?)?.save_bytes(rt, text.as_bytes())
+}
+
+/// Why the disk of a state failed, and when, in a line; none where it has not.
+pub(crate) fn kept_failure<R: Files + AllocGlobal>(
+    rt: &R,
+    state: &str,
+) -> Result<Option<Vec<u8>>, Fault> {
+    let name = failure_name(rt.alloc(), state)?;
+    match fs::exists(rt, name.as_str()) {
+        Ok(false) => Ok(None),
+        Ok(true) => Ok(Some(bytes_in(rt, name.as_str())?)),
+        Err(error) if error.kind() == ErrorKind::OutOfMemory => Err(Fault::OutOfMemory),
+        Err(_) => Err(Fault::File(name)),
+    }
+}
+
+/// Takes away what is kept of a failure. Tells whether there was any.
+pub(crate) fn forget_failure<R: Files + AllocGlobal>(rt: &R, state: &str) -> Result<bool, Fault> {
+    let name = failure_name(rt.alloc(), state)?;
+    match fs::remove_file(rt, name.as_str()) {
+        Ok(()) => Ok(true),
+        Err(error) if error.kind() == ErrorKind::NotFound => Ok(false),
+        Err(error) if error.kind() == ErrorKind::OutOfMemory => Err(Fault::OutOfMemory),
+        Err(_) => Err(Fault::File(name)),
+    }
+}
