@@ -11,8 +11,8 @@ use Rattle.oram_nbd.specs.declared.handshake.Agreement.TheVariants.{Transmission
 abbrev pub preferred_of : ℕ → ℕ
 preferred_of len = if is_power_of_two len && nat_le 512 len && nat_le len 33554432 then len else 4096
 
--- over a device of so many bytes, in blocks of len bytes, which may be sound, or have failed, told of by this name; by the arrays that it held before, and
--- those that it holds
+-- Over a device of `size` bytes, in blocks of `len` bytes, whose export has this name. `sound` says that it is sound, and `failed` that it had
+-- failed before. `held` are the arrays that it held before, and `held'` those that it holds now.
 module _ (sound failed : Type 0) (len size : ℕ) (held held' : List ℕ → Type 0) (name : List ℕ) where
   -- The client went in the handshake; or requests followed, and so many were answered.
   abbrev pub HasConnected : ℕ → Option (List ℕ) → Option (List ℕ) → Option (List ℕ) → Option (List ℕ) → Type 0

@@ -29,7 +29,8 @@ pub record HasExchanged (turns : List Turn) (unread unread' : Option (List ℕ))
   pub read : Consumes unread unread' (said turns ++ part)
   pub wrote : Appends written written' (told turns ++ more)
 
--- of a device of so many bytes, which may be sound, or have failed; by the arrays that it held before, and those that it holds
+-- Of a device of `size` bytes. `sound` says that it is sound, and `failed` that it had failed before. `held` are the arrays that it held before,
+-- and `held'` those that it holds now.
 module _ (sound failed : Type 0) (size : ℕ) (held held' : List ℕ → Type 0) where
   -- The turns were made. Whichever array was held, they lead from it to one that is held.
   pub record HasServed (turns : List Turn) : Type 0 where

@@ -53,7 +53,7 @@ impl Pace {
         }
     }
 
-    /// How many bytes go over in the next call, of so many that could.
+    /// Counts a call, and tells how many bytes it gives or takes, where `ready` could be. A call that is interrupted is an error.
     fn next(&mut self, ready: usize) -> io::Result<usize> {
         self.calls = self.calls.saturating_add(1);
         self.is_interrupted = self.interrupts && !self.is_interrupted;

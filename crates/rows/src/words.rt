@@ -109,7 +109,7 @@ impl<'a> Words<'a> {
         Ok(bytes)
     }
 
-    /// The next word as bytes that are so many as an array has.
+    /// The next word as 32 bytes. With another number of bytes the row is not one.
     pub fn array(&mut self, alloc: Global) -> Result<[u8; 32], RowFault> {
         let bytes = self.bytes(alloc)?;
         let mut array = [0; 32];
