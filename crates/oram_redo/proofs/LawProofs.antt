@@ -1,0 +1,31 @@
+-- The laws of the definitions.
+use Rattle.std.proofs.Common.{◌≡◌, ℕ, ◌+◌, List, [], ◌∷◌, length, refl, sym, ◌∙◌, ap, arith}
+use Rattle.oram_redo.specs.Content.{Content, Agrees}
+use Rattle.oram_redo.specs.FilePair.{Contents}
+use Rattle.oram_redo.specs.Log.{Patch, IsLog, AgreesBut, StandsFor, entry, entries, put_all}
+use Rattle.oram_redo.specs.declared.bounds.Bounds.{Bounds}
+use Rattle.oram_redo.specs.declared.file_pair.FileKind.{FileKind}
+use Rattle.oram_redo.specs.declared.file_pair.FileKind.TheVariants.{Records, Log}
+use Rattle.oram_redo.proofs.Bytes.{has_front}
+use Rattle.oram_redo.proofs.Heal.{put_all_heals}
+use Rattle.oram_redo.proofs.Logs.{entry_gate}
+use Rattle.oram_redo.proofs.Reading.{all_read}
+
+pub logs_are_one : (bounds : Bounds) (ps qs : List Patch) (log : Content) → IsLog bounds ps log → IsLog bounds qs log → ps ≡ qs
+logs_are_one bounds ps qs log p q =
+    all_read bounds log qs ps (bounds.log_start + length (entries qs)) (record { stands = q.stands; ends = refl; each = q.each }) (record { shut = q.shut; room = q.within }) p
+
+pub files_stand_for_one : (bounds : Bounds) (loose : List Patch) (r s : Content) (files : Contents) → StandsFor bounds [] r files → StandsFor bounds loose s files → AgreesBut loose r s
+files_stand_for_one bounds loose r s files a b i spared =
+    let same : a.patches ≡ b.patches = logs_are_one bounds a.patches b.patches (files Log) a.log b.log in
+    sym (a.gives i tt) ∙ ap (λ (ps : List Patch). put_all ps (files Records) i) same ∙ b.gives i spared
+
+pub replay_heals : (ps : List Patch) (c d : Content) → AgreesBut ps c d → Agrees (put_all ps c) (put_all ps d)
+replay_heals ps c d same i = put_all_heals ps c d i (same i)
+
+-- files of zeros stand for zeros
+pub empty_stands : (bounds : Bounds) (ps : List Patch) (files : Contents) → ((file : FileKind) (i : ℕ) → files file i ≡ 0) → IsLog bounds ps (files Log) → (i : ℕ) → put_all ps (files Records) i ≡ 0
+empty_stands bounds [] files empty log i = empty Records i
+empty_stands bounds (p ∷ ps) files empty log i =
+    let open_gate : files Log bounds.log_start ≡ 1 = entry_gate p bounds.log_start (files Log) (has_front (entry p) (entries ps) bounds.log_start (files Log) log.stands) in
+    absurd (omega (arith, open_gate, empty Log bounds.log_start))

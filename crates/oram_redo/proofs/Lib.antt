@@ -1,0 +1,17 @@
+pub mod Batches
+pub mod Bytes
+pub mod Heal
+pub mod Logs
+pub mod Moments
+pub mod Smears
+pub mod Settled
+pub mod Commit
+pub mod Reading
+pub mod Replay
+pub mod Recovered
+pub mod Memories
+pub mod Kept
+pub mod LawProofs
+pub mod Tearing
+pub mod Recorded
+pub mod Rows

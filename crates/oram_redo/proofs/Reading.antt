@@ -1,0 +1,156 @@
+-- What recovery has read of a log so far.
+use Rattle.std.proofs.Common.{◌≡◌, ◌⊎◌, ⊎_elim, ℕ, zero, suc, ◌+◌, ◌^◌, ◌<◌, ◌≤◌, List, [], ◌∷◌, ◌++◌, length, refl, sym, ◌∙◌, ap, subst, arith, length-append}
+use Rattle.std.proofs.lemmas.List.{append-nil}
+use Rattle.std.proofs.lemmas.List.Elements.{All-append}
+use Rattle.std.specs.Prelude.{All}
+use Rattle.oram_redo.specs.Content.{Content, Agrees, Has, bytes_at}
+use Rattle.oram_redo.specs.Log.{Patch, Fits, IsLog, entry, entries, place_and_length, put_all}
+use Rattle.oram_redo.specs.FilePair.{Contents}
+use Rattle.oram_redo.specs.Recovery.{IsEntryAt, IsDamagedAt, IsEndAt}
+use Rattle.oram_redo.specs.declared.file_pair.FileKind.TheVariants.{Records, Log}
+use Rattle.oram_redo.specs.declared.bounds.Bounds.{Bounds}
+use Rattle.oram_redo.specs.declared.recovery.Entry.{Entry}
+use Rattle.oram_redo.proofs.Bytes.{has_along, has_front, has_back, has-append, has_one, has_read}
+use Rattle.oram_redo.proofs.Moments.{same_content}
+use Rattle.oram_redo.proofs.Logs.{length-entry, length-place_and_length, place_and_length_one, entries-append, entry_gate, entry_head, entry_read, entry_one, all_first, all_rest, follows}
+
+-- the entries of these patches stand in the log, up to this place
+pub record Opens (bounds : Bounds) (done : List Patch) (log : Content) (at : ℕ) : Type 0 where
+  pub stands : Has (entries done) bounds.log_start log
+  pub ends : at ≡ bounds.log_start + length (entries done)
+  pub each : All (Fits bounds) done
+
+gate_of : (at a b : ℕ) (log : Content) → bytes_at 13 at log ≡ 1 ∷ place_and_length a b → log at ≡ 1
+gate_of at a b log is = cc
+
+pub damaged_head : (bounds : Bounds) (log : Content) (at a b : ℕ) → bytes_at 13 at log ≡ 1 ∷ place_and_length a b → a < 2 ^ 64 → b < 2 ^ 32
+    → (bounds.log_end ≤ at + 13 + b ⊎ bounds.records_end < a + b) → IsDamagedAt bounds log at
+damaged_head bounds log at a b is ha hb bad = record {
+  no_end = λ shut low. shut (gate_of at a b log is);
+  no_entry = λ p fits has room.
+      let first : Has (1 ∷ place_and_length a b) at log = has_read 13 at log (1 ∷ place_and_length a b) (sym is) in
+      let heads : place_and_length p.0 (length p.1) ≡ place_and_length a b = has_one _ _ (suc at) log
+      (length-place_and_length p.0 (length p.1) ∙ sym (length-place_and_length a b)) (entry_head p at log has) (rest first) in
+      let parts = place_and_length_one p.0 (length p.1) a b fits.place_fits fits.length_fits ha hb heads in
+      ⊎_elim (λ long. absurd (omega (arith, long, room, length-entry p, parts.1))) (λ far. absurd (omega (arith, far, fits.within, parts.0, parts.1))) bad;
+}
+  where
+    rest : Has (1 ∷ place_and_length a b) at log → Has (place_and_length a b) (suc at) log
+    rest h = cc
+
+pub past_end : (bounds : Bounds) (log : Content) (at : ℕ) → bounds.log_end ≤ at → IsDamagedAt bounds log at
+past_end bounds log at past = record { no_end = λ shut low. omega arith; no_entry = λ p fits has room. omega arith }
+
+module _ (bounds : Bounds) (log : Content) where
+  pub opens_none : Opens bounds [] log bounds.log_start
+  opens_none = record { stands = refl; ends = omega arith; each = λ k d h. absurd (omega arith) }
+
+  -- the patch of an entry that was found
+  abbrev pub patch_at : ℕ → Entry → Patch
+  patch_at at found = (found.at, bytes_at found.len (at + 13) log)
+
+  pub patch_stands : (at : ℕ) (found : Entry) → IsEntryAt bounds log at found → (length (patch_at at found).1 ≡ found.len) × Has (entry (patch_at at found)) at log
+  patch_stands at found is = entry_read found.at found.len at (bytes_at 13 at log) (bytes_at found.len (at + 13) log) log refl is.head refl
+
+  pub patch_fits : (at : ℕ) (found : Entry) → IsEntryAt bounds log at found → Fits bounds (patch_at at found)
+  patch_fits at found is = record {
+    within = omega (arith, is.within, (patch_stands at found is).0);
+    place_fits = is.place_fits;
+    length_fits = omega (arith, is.length_fits, (patch_stands at found is).0);
+  }
+
+  pub opens_more : (done : List Patch) (at : ℕ) (found : Entry) → Opens bounds done log at → IsEntryAt bounds log at found → Opens bounds (done ++ patch_at at found ∷ []) log found.next
+  opens_more done at found so_far is =
+      let p : Patch = patch_at at found in
+      let one = patch_stands at found is in
+      let last : entries (done ++ p ∷ []) ≡ entries done ++ entry p = entries-append done (p ∷ []) ∙ ap (λ (l : List ℕ). entries done ++ l) (append-nil (entry p)) in
+      let both : Has (entries done ++ entry p) bounds.log_start log = has-append (entries done) (entry p) bounds.log_start log so_far.stands (has_along (entry p) at _ log so_far.ends one.1) in
+      record {
+        stands = subst (λ (l : List ℕ). Has l bounds.log_start log) (sym last) both;
+        ends = omega (arith, is.next, so_far.ends, ap length last, length-append (entries done) (entry p), length-entry p, one.0);
+        each = All-append (Fits bounds) done (p ∷ []) so_far.each (λ k d h. only p (patch_fits at found is) k d h);
+      }
+    where
+      only : (p : Patch) → Fits bounds p → All (Fits bounds) (p ∷ [])
+      only p fits zero d h = fits
+      only p fits (suc k) d h = absurd (omega arith)
+
+  pub opens_end : (done : List Patch) (at : ℕ) → Opens bounds done log at → IsEndAt bounds log at → IsLog bounds done log
+  opens_end done at so_far end = record {
+    stands = so_far.stands;
+    shut = λ gate. end.shut (ap log so_far.ends ∙ gate);
+    within = omega (arith, so_far.ends, end.room);
+    each = so_far.each;
+  }
+
+  -- the patches that are still to be read
+  pub opens_rest : (done ps : List Patch) (at : ℕ) → Opens bounds done log at → IsLog bounds ps log → (rest : List Patch) × (ps ≡ done ++ rest)
+  opens_rest done ps at so_far is = follows bounds done ps bounds.log_start log so_far.each is.each so_far.stands is.stands is.shut
+
+  rest_log : (done rest : List Patch) (at : ℕ) → Opens bounds done log at → IsLog bounds (done ++ rest) log → Has (entries rest) at log
+  rest_log done rest at so_far is =
+      let whole : Has (entries done ++ entries rest) bounds.log_start log = subst (λ (l : List ℕ). Has l bounds.log_start log) (entries-append done rest) is.stands in
+      has_along (entries rest) _ at log (sym so_far.ends) (has_back (entries done) (entries rest) bounds.log_start log whole)
+
+  rest_end : (done rest : List Patch) (at : ℕ) → Opens bounds done log at → bounds.log_start + length (entries (done ++ rest)) ≡ at + length (entries rest)
+  rest_end done rest at so_far = omega (arith, so_far.ends, ap length (entries-append done rest), length-append (entries done) (entries rest))
+
+  fits_rest : (done rest : List Patch) → All (Fits bounds) (done ++ rest) → All (Fits bounds) rest
+  fits_rest [] rest all = all
+  fits_rest (d ∷ ds) rest all = fits_rest ds rest (all_rest (Fits bounds) d (ds ++ rest) all)
+
+  opens_damaged_rest : (done rest : List Patch) (at : ℕ) → Opens bounds done log at → IsDamagedAt bounds log at → IsLog bounds (done ++ rest) log → ⊥
+  opens_damaged_rest done [] at so_far bad is =
+      let end = rest_end done [] at so_far in
+      bad.no_end (λ gate. is.shut (ap log (omega (arith, end)) ∙ gate)) (omega (arith, end, is.within))
+  opens_damaged_rest done (p ∷ rest) at so_far bad is =
+      let end = rest_end done (p ∷ rest) at so_far in
+      bad.no_entry p (all_first (Fits bounds) p rest (fits_rest done (p ∷ rest) is.each)) (has_front (entry p) (entries rest) at log (rest_log done (p ∷ rest) at so_far is))
+      (omega (arith, end, is.within, length-append (entry p) (entries rest)))
+
+  pub opens_damaged : (done ps : List Patch) (at : ℕ) → Opens bounds done log at → IsDamagedAt bounds log at → IsLog bounds ps log → ⊥
+  opens_damaged done ps at so_far bad is =
+      let rest = opens_rest done ps at so_far is in
+      opens_damaged_rest done rest.0 at so_far bad (subst (λ (qs : List Patch). IsLog bounds qs log) rest.1 is)
+
+  -- the entry that was found is that of the next patch
+  next_rest : (done rest : List Patch) (at : ℕ) (found : Entry) → Opens bounds done log at → IsEntryAt bounds log at found → IsLog bounds (done ++ rest) log → (more : List Patch) × (rest ≡ patch_at at found ∷ more)
+  next_rest done [] at found so_far one is =
+      let end = rest_end done [] at so_far in
+      absurd (is.shut (ap log (omega (arith, end)) ∙ gate_of at found.at found.len log one.head))
+  next_rest done (p ∷ rest) at found so_far one is =
+      let same : p ≡ patch_at at found = entry_one bounds p (patch_at at found) at log (all_first (Fits bounds) p rest (fits_rest done (p ∷ rest) is.each)) (patch_fits at found one)
+      (has_front (entry p) (entries rest) at log (rest_log done (p ∷ rest) at so_far is)) (patch_stands at found one).1 in
+      (rest, (λ i. same i ∷ rest))
+
+  pub next_patch : (done ps : List Patch) (at : ℕ) (found : Entry) → Opens bounds done log at → IsEntryAt bounds log at found → IsLog bounds ps log → (more : List Patch) × (ps ≡ done ++ patch_at at found ∷ more)
+  next_patch done ps at found so_far one is =
+      let rest = opens_rest done ps at so_far is in
+      let next = next_rest done rest.0 at found so_far one (subst (λ (qs : List Patch). IsLog bounds qs log) rest.1 is) in
+      (next.0, rest.1 ∙ ap (λ (qs : List Patch). done ++ qs) next.1)
+
+  -- at the end, all have been read
+  end_rest : (done rest : List Patch) (at : ℕ) → Opens bounds done log at → IsEndAt bounds log at → IsLog bounds (done ++ rest) log → rest ≡ []
+  end_rest done [] at so_far end is = refl
+  end_rest done (p ∷ rest) at so_far end is = absurd (end.shut (entry_gate p at log (has_front (entry p) (entries rest) at log (rest_log done (p ∷ rest) at so_far is))))
+
+  pub all_read : (done ps : List Patch) (at : ℕ) → Opens bounds done log at → IsEndAt bounds log at → IsLog bounds ps log → ps ≡ done
+  all_read done ps at so_far end is =
+      let rest = opens_rest done ps at so_far is in
+      rest.1 ∙ ap (λ (qs : List Patch). done ++ qs) (end_rest done rest.0 at so_far end (subst (λ (qs : List Patch). IsLog bounds qs log) rest.1 is)) ∙ append-nil done
+
+-- the same of a log that agrees
+pub entry_along : (bounds : Bounds) (log other : Content) (at : ℕ) (found : Entry) → Agrees other log → IsEntryAt bounds other at found → IsEntryAt bounds log at found
+entry_along bounds log other at found same is = subst (λ (l : Content). IsEntryAt bounds l at found) (same_content other log same) is
+
+pub damaged_along : (bounds : Bounds) (log other : Content) (at : ℕ) → Agrees other log → IsDamagedAt bounds other at → IsDamagedAt bounds log at
+damaged_along bounds log other at same is = subst (λ (l : Content). IsDamagedAt bounds l at) (same_content other log same) is
+
+pub end_along : (bounds : Bounds) (log other : Content) (at : ℕ) → Agrees other log → IsEndAt bounds other at → IsEndAt bounds log at
+end_along bounds log other at same is = subst (λ (l : Content). IsEndAt bounds l at) (same_content other log same) is
+
+-- The patches that have been read are in their places.
+pub record Replayed (bounds : Bounds) (old new : Contents) (at : ℕ) : Type 0 where
+  pub done : List Patch
+  pub opens : Opens bounds done (old Log) at
+  pub records : Agrees (new Records) (put_all done (old Records))

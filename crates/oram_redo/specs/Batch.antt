@@ -1,0 +1,10 @@
+-- A batch of the program's as patches of the definitions.
+use Rattle.std.specs.Prelude.{List, map}
+use Rattle.oram_redo.specs.Log as model
+use Rattle.oram_redo.specs.declared.batch.Patch.{Patch}
+
+abbrev pub patch_of : Patch → model.Patch
+patch_of patch = (patch.at, patch.bytes.now)
+
+abbrev pub patches_of : List Patch → List model.Patch
+patches_of batch = map patch_of batch

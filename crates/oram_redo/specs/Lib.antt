@@ -1,0 +1,12 @@
+pub mod Content
+pub mod FilePair
+pub mod Log
+pub mod Memory
+pub mod Batch
+pub mod Recovery
+pub mod Redo
+pub mod Steps
+pub mod Laws
+pub mod Note
+pub mod System
+pub mod Fresh

@@ -1,0 +1,21 @@
+-- A call of a pair of files, as the record has it.
+use Rattle.std.specs.Prelude.{ℕ, Bool, List, slice_index, ◌==◌, if◌then◌else◌}
+use Rattle.oram_redo.specs.declared.file_pair.FileKind.{FileKind}
+use Rattle.oram_redo.specs.declared.file_pair.FileKind.TheVariants.{Records, Log}
+
+-- Which call (1 a write, 2 a read, 3 a sync), of which file, from which place on, whether it answered `Ok`, and the bytes.
+pub record Call : Type 0 where
+  pub kind : ℕ
+  pub file : FileKind
+  pub at : ℕ
+  pub is_ok : Bool
+  pub bytes : List ℕ
+
+abbrev pub call_of : List ℕ → List ℕ → Call
+call_of numbers bytes = record {
+  kind = slice_index numbers 0;
+  file = (if slice_index numbers 1 == 1 then Log else Records);
+  at = slice_index numbers 2;
+  is_ok = slice_index numbers 3 == 1;
+  bytes = bytes;
+}

@@ -1,0 +1,34 @@
+-- The state of a redo log between two calls.
+use Rattle.std.specs.Prelude.{◌≡◌, ◌≤◌, ℕ, ◌+◌, List, length, Result, Ok, Err}
+use Rattle.oram_redo.specs.FilePair.{Contents}
+use Rattle.oram_redo.specs.Log.{Patch, IsLog, AgreesBut, entries, put_all}
+use Rattle.oram_redo.specs.declared.file_pair.FileKind.TheVariants.{Records, Log}
+use Rattle.oram_redo.specs.declared.bounds.Bounds.{Bounds}
+use Rattle.oram_redo.specs.declared.faults.RedoError.{RedoError}
+use Rattle.oram_redo.specs.declared.faults.RedoError.TheVariants.{Memory, NoRoom, Failed, LogFull, Damaged}
+use Rattle.oram_redo.specs.declared.redo.Redo.{Redo}
+
+abbrev pub bounds_of : Redo → Bounds
+bounds_of redo = redo.bounds
+
+-- where the next entry will stand
+abbrev pub end_of : Redo → ℕ
+end_of redo = redo.end
+
+-- The log is sure up to the shut gate behind its last entry, and whatever a crash leaves stands for the records that are read, but
+-- for the places of `loose`.
+pub record IsSettled (redo : Redo) (loose : List Patch) (seen : Contents) (may_leave : Contents → Type 0) : Type 0 where
+  pub patches : List Patch
+  pub log : IsLog (bounds_of redo) patches (seen Log)
+  pub end : end_of redo ≡ redo.bounds.log_start + length (entries patches)
+  pub sure : (c : Contents) → may_leave c → (i : ℕ) → i ≤ end_of redo → c Log i ≡ seen Log i
+  pub stands : (c : Contents) → may_leave c → AgreesBut loose (put_all patches (c Records)) (seen Records)
+
+-- The call was refused: it did nothing, and the next may be made.
+abbrev pub IsRefused : Result Unit RedoError → Type 0
+IsRefused (Ok _) = ⊥
+IsRefused (Err Memory) = Unit {0}
+IsRefused (Err NoRoom) = Unit {0}
+IsRefused (Err LogFull) = Unit {0}
+IsRefused (Err Failed) = ⊥
+IsRefused (Err Damaged) = ⊥

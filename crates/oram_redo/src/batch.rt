@@ -1,0 +1,77 @@
+//! Patches, and how the log spells them.
+ghost use Rattle.std.specs.Prelude.{◌≡◌, ◌<◌, ◌^◌, ◌++◌, [], ◌∷◌, All, length, IfNone, IfOk, IfSome, slice_index};
+ghost use Rattle.oram_redo.specs.Batch.{patches_of};
+ghost use Rattle.oram_redo.specs.Log.{entries, length_bytes, place_and_length, place_bytes};
+
+use std::alloc::{AllocError, Global};
+
+/// The bytes of an entry before its patch's: the gate, the place and the length.
+pub const HEAD_LEN: usize = 13;
+
+/// The gate of an entry that counts.
+pub const OPEN: u8 = 1;
+
+/// The gate behind the last entry. Any byte but `OPEN` would do.
+pub const SHUT: u8 = 0;
+
+/// Bytes for a place of the records' file.
+#[derive(Clone, Copy, Debug)]
+pub struct Patch<'a> {
+    pub at: u64,
+    pub bytes: &'a [u8],
+}
+
+/// What stands in an entry before its patch's bytes.
+#[derive(Clone, Copy, Debug)]
+pub struct Head {
+    pub at: u64,
+    pub len: u32,
+}
+
+/// The batch's entries, and a shut gate behind them.
+pub fn body_of(alloc: Global, batch: &[Patch]) -> Result<Vec<u8>, AllocError>
+    requires { All (λ p. length p.1 < 2 ^ 32) (patches_of batch.now) }
+    ensures { IfOk result (λ body. body.items ≡ entries (patches_of batch.now) ++ 0 ∷ []) }
+{
+    let mut body = Vec::new(alloc);
+    for patch in batch {
+        body.push(OPEN)?;
+        body.extend_from_slice(&patch.at.to_le_bytes())?;
+        body.extend_from_slice(&(patch.bytes.len() as u32).to_le_bytes())?;
+        body.extend_from_slice(patch.bytes)?;
+    }
+    body.push(SHUT)?;
+    Ok(body)
+}
+
+/// The head in the first bytes of an entry, or `None` where its gate is shut.
+pub fn head_of(bytes: &[u8]) -> Option<Head>
+    requires { length bytes.now ≡ HEAD_LEN }
+    ensures shut { IfNone result (slice_index bytes.now 0 ≡ 1 → ⊥) }
+    ensures open { IfSome result (λ head. bytes.now ≡ 1 ∷ place_and_length head.at head.len) }
+    ensures in_range { IfSome result (λ head. (head.at < 2 ^ 64) × (head.len < 2 ^ 32)) }
+{
+    if bytes[0] != OPEN {
+        return None;
+    }
+    Some(Head {
+        at: place_in(&bytes[1..9]),
+        len: length_in(&bytes[9..13]),
+    })
+}
+
+fn place_in(bytes: &[u8]) -> u64
+    requires { length bytes.now ≡ 8 }
+    ensures { place_bytes result ≡ bytes.now }
+{
+    u64::from_le_bytes([
+        bytes[0], bytes[1], bytes[2], bytes[3], bytes[4], bytes[5], bytes[6], bytes[7],
+    ])
+}
+
+fn length_in(bytes: &[u8]) -> u32
+    requires { length bytes.now ≡ 4 }
+    ensures { length_bytes result ≡ bytes.now }
+{
+    u32::from_le_bytes([bytes[0], bytes[1], bytes[2], bytes[3]])
+}

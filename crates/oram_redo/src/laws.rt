@@ -1,0 +1,43 @@
+//! Laws of the definitions, as contracts of functions that do nothing, and one run whose promise no premise makes empty.
+ghost use Rattle.std.specs.Prelude.{◌≡◌, ℕ, [], All, OnOk};
+ghost use Rattle.oram_redo.specs.Batch.{patches_of};
+ghost use Rattle.oram_redo.specs.FilePair.{Contents};
+ghost use Rattle.oram_redo.specs.Laws.{FilesStandForOne, LogsAreOne, ReplayHeals};
+ghost use Rattle.oram_redo.specs.Log.{Fits, Keeps, StandsFor, put_all};
+ghost use Rattle.oram_redo.specs.Redo.{IsSettled, bounds_of};
+
+use crate::{Bounds, FilePair, Patch, Redo, RedoError, recover};
+use std::alloc::Global;
+
+/// A log holds one list of patches, so files stand for one content of the records, but for loose places.
+pub fn one_reading()
+    ensures log { LogsAreOne }
+    ensures records { FilesStandForOne }
+{}
+
+/// A log that is replayed gives the same records, whatever a crash made of the places that it writes to.
+pub fn replay_heals()
+    ensures { ReplayHeals }
+{}
+
+/// Between two calls, whatever a crash leaves stands for the records that are read, but for loose places.
+pub fn settled_keeps<F: FilePair>(redo: &Redo, files: &F)
+    ensures { (loose : _) (c : Contents) → IsSettled redo.now loose (F.seen files.now) (F.may_leave files.now)
+        → F.may_leave files.now c → Keeps (bounds_of redo.now) loose (F.seen files.now) c }
+{}
+
+/// Opens empty files and commits one batch: each crash from then on leaves files that have the batch, and nothing else.
+pub fn first_commit<F: FilePair>(
+    alloc: Global,
+    files: &mut F,
+    bounds: Bounds,
+    batch: &[Patch],
+) -> Result<Redo, RedoError>
+    requires fits { All (Fits bounds) (patches_of batch.now) }
+    requires empty { (file : _) (i : ℕ) → F.seen files.old file i ≡ 0 }
+    ensures { OnOk result (F.is_honest files.new → (c : Contents) → F.may_leave files.new c → StandsFor bounds [] (put_all (patches_of batch.now) (λ i. 0)) c) }
+{
+    let mut redo = recover(alloc, files, bounds)?;
+    redo.commit(alloc, files, batch)?;
+    Ok(redo)
+}

@@ -1,0 +1,115 @@
+//! Reading a log that a crash may have left.
+ghost use Rattle.std.specs.Prelude.{◌≡◌, ◌⊎◌, ◌<◌, ◌≤◌, ◌+◌, List, None, Ok, Some, length, IfErr, IfNone, IfOk, IfSome, IsErrOf, OnOk};
+ghost use Rattle.oram_redo.specs.Content.{Agrees, Content};
+ghost use Rattle.oram_redo.specs.FilePair.{Contents, Follows, ComesAfter, HasFailed, LeavesOnly, WritesNothing};
+ghost use Rattle.oram_redo.specs.Log.{IsLog, Smeared, entries, put_all};
+ghost use Rattle.oram_redo.specs.Recovery.{IsDamagedAt, IsEndAt, IsEntryAt};
+ghost use Rattle.oram_redo.specs.Steps.{Smears};
+
+use crate::batch::{HEAD_LEN, Head, head_of};
+use crate::steps::read;
+use crate::{Bounds, FileKind, FilePair, RedoError};
+use std::alloc::Global;
+
+/// An entry with an open gate: its patch's place and length, and where the next entry begins.
+#[derive(Clone, Copy, Debug)]
+pub struct Entry {
+    pub at: u64,
+    pub len: u32,
+    pub next: u64,
+}
+
+// The entry at a place of the log that has this head, if it has room.
+fn entry_of(bounds: Bounds, at: u64, head: Head) -> Option<Entry>
+    ensures some { IfSome result (λ found. (found.at ≡ head.at) × (found.len ≡ head.len) × (found.next ≡ at + 13 + head.len)
+        × (found.next < bounds.log_end) × (found.at + found.len ≤ bounds.records_end)) }
+    ensures none { IfNone result ((bounds.log_end ≤ at + 13 + head.len) ⊎ (bounds.records_end < head.at + head.len)) }
+{
+    let len = u64::from(head.len);
+    let next = at.checked_add(len + HEAD_LEN as u64)?;
+    let records_end = head.at.checked_add(len)?;
+    if next >= bounds.log_end || records_end > bounds.records_end {
+        return None;
+    }
+    Some(Entry {
+        at: head.at,
+        len: head.len,
+        next,
+    })
+}
+
+// Reads the entry at a place of the log; `None` where its gate is shut.
+fn find_entry<F: FilePair>(
+    alloc: Global,
+    files: &mut F,
+    bounds: Bounds,
+    at: u64,
+) -> Result<Option<Entry>, RedoError>
+    ensures nothing_written { WritesNothing F.seen F.may_leave F.moment F.left_since files.old files.new }
+    ensures found { IfOk result (λ found. F.is_honest files.new → IfSome found (IsEntryAt bounds (F.seen files.old FileKind.Log) at)) }
+    ensures next { IfOk result (λ found. IfSome found (λ entry. (entry.next ≡ at + 13 + entry.len) × (entry.next < bounds.log_end))) }
+    ensures end { F.is_honest files.new → result ≡ Ok None → IsEndAt bounds (F.seen files.old FileKind.Log) at }
+    ensures damaged { F.is_honest files.new → IsErrOf result RedoError.Damaged → IsDamagedAt bounds (F.seen files.old FileKind.Log) at }
+    ensures failed { IsErrOf result RedoError.Failed → HasFailed F.failures F.shortages files.old files.new }
+    ensures after { ComesAfter F.failures F.shortages F.is_honest files.old files.new }
+    ensures errors { IfErr result (λ e. (e ≡ RedoError.Memory) ⊎ (e ≡ RedoError.Failed) ⊎ (e ≡ RedoError.Damaged)) }
+{
+    if at >= bounds.log_end {
+        return Err(RedoError::Damaged);
+    }
+    let bytes = read(alloc, files, FileKind::Log, at, HEAD_LEN)?;
+    let Some(head) = head_of(&bytes) else {
+        return Ok(None);
+    };
+    match entry_of(bounds, at, head) {
+        Some(found) => Ok(Some(found)),
+        None => Err(RedoError::Damaged),
+    }
+}
+
+/// Where the log's last entry ends.
+pub fn end_of_log<F: FilePair>(
+    alloc: Global,
+    files: &mut F,
+    bounds: Bounds,
+) -> Result<u64, RedoError>
+    ensures nothing_written { WritesNothing F.seen F.may_leave F.moment F.left_since files.old files.new }
+    ensures end { IfOk result (λ end. F.is_honest files.new → (patches : _) × IsLog bounds patches (F.seen files.old FileKind.Log)
+        × (end ≡ bounds.log_start + length (entries patches))) }
+    ensures damaged { F.is_honest files.new → IsErrOf result RedoError.Damaged → (patches : _) → IsLog bounds patches (F.seen files.old FileKind.Log) → ⊥ }
+    ensures failed { IsErrOf result RedoError.Failed → HasFailed F.failures F.shortages files.old files.new }
+    ensures after { ComesAfter F.failures F.shortages F.is_honest files.old files.new }
+    ensures errors { IfErr result (λ e. (e ≡ RedoError.Memory) ⊎ (e ≡ RedoError.Failed) ⊎ (e ≡ RedoError.Damaged)) }
+{
+    let mut at = bounds.log_start;
+    while let Some(found) = find_entry(alloc, files, bounds, at)? {
+        at = found.next;
+    }
+    Ok(at)
+}
+
+/// Puts the log's patches into their places, without a sync. The log is as [`end_of_log`] has found it, so it isn't damaged.
+pub fn replay<F: FilePair>(alloc: Global, files: &mut F, bounds: Bounds) -> Result<(), RedoError>
+    ensures log { Agrees (F.seen files.new FileKind.Log) (F.seen files.old FileKind.Log) }
+    ensures records { F.is_honest files.new → (patches : _) → IsLog bounds patches (F.seen files.old FileKind.Log)
+        → OnOk result (Agrees (F.seen files.new FileKind.Records) (put_all patches (F.seen files.old FileKind.Records))) }
+    ensures crash { F.is_honest files.new → (patches : _) → IsLog bounds patches (F.seen files.old FileKind.Log)
+        → Follows (Smeared patches) (F.may_leave files.old) (F.may_leave files.new) }
+    ensures moments { F.is_honest files.new → (patches : _) → IsLog bounds patches (F.seen files.old FileKind.Log)
+        → LeavesOnly F.moment F.left_since files.old files.new (Smears patches (F.may_leave files.old)) }
+    ensures damaged { F.is_honest files.new → (patches : _) → IsLog bounds patches (F.seen files.old FileKind.Log) → IsErrOf result RedoError.Damaged → ⊥ }
+    ensures failed { IsErrOf result RedoError.Failed → HasFailed F.failures F.shortages files.old files.new }
+    ensures after { ComesAfter F.failures F.shortages F.is_honest files.old files.new }
+    ensures errors { IfErr result (λ e. (e ≡ RedoError.Memory) ⊎ (e ≡ RedoError.Failed) ⊎ (e ≡ RedoError.Damaged)) }
+{
+    let mut at = bounds.log_start;
+    while let Some(found) = find_entry(alloc, files, bounds, at)? {
+        let body_at = at + HEAD_LEN as u64;
+        let bytes = read(alloc, files, FileKind::Log, body_at, found.len as usize)?;
+        if files.write_at(FileKind::Records, found.at, &bytes).is_err() {
+            return Err(RedoError::Failed);
+        }
+        at = found.next;
+    }
+    Ok(())
+}

@@ -1,0 +1,191 @@
+//! The redo log. The form of its entries is in `specs/Log.antt`.
+//!
+//! A batch goes into the log in two writes, each with a sync: all but its first gate, and then that gate. So a crash finds the whole
+//! batch behind an open gate, or a gate that is shut. Then the batch goes to its places, without a sync: the log heals them.
+ghost use Rattle.std.specs.Prelude.{◌≡◌, ◌⊎◌, ◌<◌, ◌≤◌, ◌+◌, ◌^◌, ◌++◌, ◌∷◌, [], List, ℕ, All, length, IfNone, IfOk, IfSome, IfErr, IsErrOf, OnOk};
+ghost use Rattle.oram_redo.specs.Batch.{patches_of};
+ghost use Rattle.oram_redo.specs.Content.{Content, Agrees, bytes_at, put};
+ghost use Rattle.oram_redo.specs.FilePair.{ComesAfter, Contents, HasFailed, LeavesOnly, Rises, Torn, WritesNothing};
+ghost use Rattle.oram_redo.specs.Log.{AllOrNothing, Fits, Keeps, StandsAlike, StandsFor, entries, put_all};
+ghost use Rattle.oram_redo.specs.Redo.{IsRefused, IsSettled, bounds_of, end_of};
+
+use crate::batch::{OPEN, SHUT, body_of};
+use crate::recovery::{end_of_log, replay};
+use crate::steps::{put_in_place, read, set_gate, sync_both, write_synced};
+use crate::{Bounds, FileKind, FilePair, Patch, RedoError};
+use std::alloc::Global;
+
+/// A log's bounds, and where its next entry will stand.
+///
+/// Where a call answers `Failed`, the files are in some state that a crash may leave: open them again, by [`recover`].
+#[derive(Clone, Copy, Debug)]
+pub struct Redo {
+    bounds: Bounds,
+    end: u64,
+}
+
+/// Syncs both files, and puts the log's patches into their places. A crash meanwhile does no harm, and the log stays as it is.
+/// A log that stands for nothing is `Damaged`: it isn't touched.
+pub fn recover<F: FilePair>(alloc: Global, files: &mut F, bounds: Bounds) -> Result<Redo, RedoError>
+    // What is read is what the files stood for.
+    ensures records { OnOk result (F.is_honest files.new → StandsFor bounds [] (F.seen files.new FileKind.Records) (F.seen files.old)) }
+    ensures settled { IfOk result (λ redo. F.is_honest files.new → IsSettled redo [] (F.seen files.new) (F.may_leave files.new)) }
+    ensures bounds { IfOk result (λ redo. bounds_of redo ≡ bounds) }
+    ensures log { Agrees (F.seen files.new FileKind.Log) (F.seen files.old FileKind.Log) }
+
+    // A crash at any moment leaves what one before the call might have left, or files that stand for the same records.
+    ensures any_moment { F.is_honest files.new → LeavesOnly F.moment F.left_since files.old files.new
+        (λ c. F.may_leave files.old c ⊎ StandsAlike bounds (F.seen files.old) c) }
+
+    ensures damaged { F.is_honest files.new → IsErrOf result RedoError.Damaged → (records : Content) → StandsFor bounds [] records (F.seen files.old) → ⊥ }
+    ensures untouched { F.is_honest files.new → IsErrOf result RedoError.Damaged → WritesNothing F.seen F.may_leave F.moment F.left_since files.old files.new }
+    ensures after { ComesAfter F.failures F.shortages F.is_honest files.old files.new }
+    ensures failed { IsErrOf result RedoError.Failed → HasFailed F.failures F.shortages files.old files.new }
+    ensures errors { IfErr result (λ e. (e ≡ RedoError.Memory) ⊎ (e ≡ RedoError.Failed) ⊎ (e ≡ RedoError.Damaged)) }
+{
+    sync_both(files)?;
+    let end = end_of_log(alloc, files, bounds)?;
+    replay(alloc, files, bounds)?;
+    Ok(Redo { bounds, end })
+}
+
+impl Redo {
+    /// Reads `len` bytes of the records.
+    pub fn read<F: FilePair>(
+        &self,
+        alloc: Global,
+        files: &mut F,
+        at: u64,
+        len: usize,
+    ) -> Result<Vec<u8>, RedoError>
+        ensures len { IfOk result (λ bytes. length bytes.items ≡ len) }
+        ensures bytes { IfOk result (λ bytes. F.is_honest files.new → bytes.items ≡ bytes_at len at (F.seen files.old FileKind.Records)) }
+        ensures settled { (loose : _) → IsSettled self.now loose (F.seen files.old) (F.may_leave files.old)
+            → IsSettled self.now loose (F.seen files.new) (F.may_leave files.new) }
+        ensures nothing_written { WritesNothing F.seen F.may_leave F.moment F.left_since files.old files.new }
+        ensures after { ComesAfter F.failures F.shortages F.is_honest files.old files.new }
+        ensures failed { IsErrOf result RedoError.Failed → HasFailed F.failures F.shortages files.old files.new }
+        ensures errors { IfErr result (λ e. (e ≡ RedoError.Memory) ⊎ (e ≡ RedoError.Failed)) }
+    {
+        read(alloc, files, FileKind::Records, at, len)
+    }
+
+    /// Commits a batch: all of it or, at a crash before `Ok`, maybe nothing. Loose patches stay loose.
+    /// At `Memory`, `NoRoom` and `LogFull` nothing is done.
+    pub fn commit<F: FilePair>(
+        &mut self,
+        alloc: Global,
+        files: &mut F,
+        batch: &[Patch],
+    ) -> Result<(), RedoError>
+        requires { All (Fits (bounds_of self.old)) (patches_of batch.now) }
+
+        // At Ok the batch is acknowledged: from then on each crash leaves files that have it.
+        ensures acknowledged { OnOk result ((loose : _) → IsSettled self.old loose (F.seen files.old) (F.may_leave files.old)
+            → IsSettled self.new loose (F.seen files.new) (F.may_leave files.new)) }
+        ensures records { OnOk result (Agrees (F.seen files.new FileKind.Records) (put_all (patches_of batch.now) (F.seen files.old FileKind.Records))) }
+
+        // A crash at any moment of the call leaves what was there before it, with the whole batch or with none of it.
+        ensures any_moment { (loose : _) → IsSettled self.old loose (F.seen files.old) (F.may_leave files.old)
+            → LeavesOnly F.moment F.left_since files.old files.new
+            (AllOrNothing (bounds_of self.old) loose (F.seen files.old) (patches_of batch.now)) }
+
+        // A call that is refused has done nothing: at no moment does a crash leave the batch.
+        ensures refused { IsRefused result → (loose : _) → IsSettled self.old loose (F.seen files.old) (F.may_leave files.old)
+            → IsSettled self.new loose (F.seen files.new) (F.may_leave files.new)
+            × LeavesOnly F.moment F.left_since files.old files.new (Keeps (bounds_of self.old) loose (F.seen files.old)) }
+        ensures refused_records { IsRefused result → Agrees (F.seen files.new FileKind.Records) (F.seen files.old FileKind.Records) }
+
+        ensures bounds { bounds_of self.new ≡ bounds_of self.old }
+        ensures full { IsErrOf result RedoError.LogFull → (bounds_of self.old).log_end ≤ end_of self.old + length (entries (patches_of batch.now)) }
+        ensures no_room { IsErrOf result RedoError.NoRoom → Rises F.shortages files.old files.new }
+        ensures after { ComesAfter F.failures F.shortages F.is_honest files.old files.new }
+        ensures failed { IsErrOf result RedoError.Failed → HasFailed F.failures F.shortages files.old files.new }
+        ensures damaged { IsErrOf result RedoError.Damaged → ⊥ }
+    {
+        if batch.is_empty() {
+            return Ok(());
+        }
+        let (body, end) = self.spell(alloc, batch)?;
+        // All but the first gate, and the shut gate behind: what stands there doesn't count yet.
+        write_synced(files, FileKind::Log, self.end + 1, &body[1..])?;
+        set_gate(files, self.end, OPEN)?;
+        put_in_place(files, batch)?;
+        self.end = end;
+        Ok(())
+    }
+
+    // The batch's entries with a shut gate behind them, and where that gate will stand.
+    fn spell(&self, alloc: Global, batch: &[Patch]) -> Result<(Vec<u8>, u64), RedoError>
+        requires { All (Fits (bounds_of self.now)) (patches_of batch.now) }
+        ensures body { IfOk result (λ spelled. spelled.0.items ≡ entries (patches_of batch.now) ++ 0 ∷ []) }
+        ensures end { IfOk result (λ spelled. spelled.1 ≡ self.now.end + length (entries (patches_of batch.now))) }
+        ensures within { IfOk result (λ spelled. spelled.1 < self.now.bounds.log_end) }
+        ensures in_range { IfOk result (λ spelled. spelled.1 < 2 ^ 64) }
+        ensures full { IsErrOf result RedoError.LogFull → self.now.bounds.log_end ≤ self.now.end + length (entries (patches_of batch.now)) }
+        ensures errors { IfErr result (λ e. (e ≡ RedoError.Memory) ⊎ (e ≡ RedoError.LogFull)) }
+    {
+        let body = body_of(alloc, batch)?;
+        match end_behind(self.end, body.len() - 1, self.bounds.log_end) {
+            Some(end) => Ok((body, end)),
+            None => Err(RedoError::LogFull),
+        }
+    }
+
+    /// Writes a patch that doesn't count yet: a crash before the next [`Redo::restart`] may leave any bytes in its place.
+    pub fn write_loose<F: FilePair>(
+        &self,
+        files: &mut F,
+        at: u64,
+        bytes: &[u8],
+    ) -> Result<(), RedoError>
+        ensures loose { (loose : _) → IsSettled self.now loose (F.seen files.old) (F.may_leave files.old)
+            → IsSettled self.now ((at, bytes.now) ∷ loose) (F.seen files.new) (F.may_leave files.new) }
+        ensures bytes { OnOk result (Agrees (F.seen files.new FileKind.Records) (put bytes.now at (F.seen files.old FileKind.Records))) }
+        ensures any_moment { (loose : _) → IsSettled self.now loose (F.seen files.old) (F.may_leave files.old)
+            → LeavesOnly F.moment F.left_since files.old files.new
+            (Keeps (bounds_of self.now) ((at, bytes.now) ∷ loose) (F.seen files.old)) }
+        ensures elsewhere { Torn FileKind.Records at (length bytes.now) (F.seen files.old) (F.seen files.new) }
+        ensures no_room { IsErrOf result RedoError.NoRoom → Rises F.shortages files.old files.new }
+        ensures after { ComesAfter F.failures F.shortages F.is_honest files.old files.new }
+        ensures failed { IsErrOf result RedoError.Failed → HasFailed F.failures F.shortages files.old files.new }
+        ensures errors { IfErr result (λ e. (e ≡ RedoError.NoRoom) ⊎ (e ≡ RedoError.Failed)) }
+    {
+        files.write_at(FileKind::Records, at, bytes)
+    }
+
+    /// Syncs the records, so that loose patches are sure, and begins the log anew. The places have to be on the disk first: a log that
+    /// is forgotten heals nothing.
+    pub fn restart<F: FilePair>(&mut self, files: &mut F) -> Result<(), RedoError>
+        ensures settled { OnOk result ((loose : _) → IsSettled self.old loose (F.seen files.old) (F.may_leave files.old)
+            → IsSettled self.new [] (F.seen files.new) (F.may_leave files.new)) }
+        ensures empty { OnOk result (end_of self.new ≡ (bounds_of self.old).log_start) }
+        ensures records { Agrees (F.seen files.new FileKind.Records) (F.seen files.old FileKind.Records) }
+
+        // A crash at any moment leaves the same records.
+        ensures any_moment { (loose : _) → IsSettled self.old loose (F.seen files.old) (F.may_leave files.old)
+            → LeavesOnly F.moment F.left_since files.old files.new (Keeps (bounds_of self.old) loose (F.seen files.old)) }
+
+        ensures bounds { bounds_of self.new ≡ bounds_of self.old }
+        ensures after { ComesAfter F.failures F.shortages F.is_honest files.old files.new }
+        ensures failed { IfErr result (λ e. (e ≡ RedoError.Failed) × HasFailed F.failures F.shortages files.old files.new) }
+    {
+        files.sync(FileKind::Records)?;
+        // A gate that is shut is not shut again: torn, that write could open it over what was left behind it.
+        if self.end == self.bounds.log_start {
+            return Ok(());
+        }
+        set_gate(files, self.bounds.log_start, SHUT)?;
+        self.end = self.bounds.log_start;
+        Ok(())
+    }
+}
+
+// Where `size` bytes from `end` on end, if a byte more has room before `room_end`.
+fn end_behind(end: u64, size: usize, room_end: u64) -> Option<u64>
+    ensures some { IfSome result (λ next. (next ≡ end + size) × (next < room_end)) }
+    ensures none { IfNone result (room_end ≤ end + size) }
+{
+    let next = end.checked_add(size as u64)?;
+    if next < room_end { Some(next) } else { None }
+}

@@ -1,0 +1,97 @@
+//! Steps of a few calls of a pair each.
+ghost use Rattle.std.specs.Prelude.{◌≡◌, ◌⊎◌, ◌∷◌, [], length, IfErr, IfOk, IsErrOf, OnOk};
+ghost use Rattle.oram_redo.specs.Batch.{patches_of};
+ghost use Rattle.oram_redo.specs.Content.{Agrees, bytes_at};
+ghost use Rattle.oram_redo.specs.FilePair.{Contents, Follows, ComesAfter, HasCause, HasFailed, IsSure, LeavesOnly, Torn, WritesNothing, Wrote};
+ghost use Rattle.oram_redo.specs.Log.{Smeared, put_all};
+ghost use Rattle.oram_redo.specs.Steps.{Smears, Tears};
+
+use crate::batch::Patch;
+use crate::{FileKind, FilePair, RedoError};
+use std::alloc::Global;
+
+/// Reads `len` bytes of a file.
+pub fn read<F: FilePair>(
+    alloc: Global,
+    files: &mut F,
+    file: FileKind,
+    at: u64,
+    len: usize,
+) -> Result<Vec<u8>, RedoError>
+    ensures len { IfOk result (λ bytes. length bytes.items ≡ len) }
+    ensures bytes { IfOk result (λ bytes. F.is_honest files.new → bytes.items ≡ bytes_at len at (F.seen files.old file)) }
+    ensures nothing_written { WritesNothing F.seen F.may_leave F.moment F.left_since files.old files.new }
+    ensures failed { IsErrOf result RedoError.Failed → HasFailed F.failures F.shortages files.old files.new }
+    ensures after { ComesAfter F.failures F.shortages F.is_honest files.old files.new }
+    ensures errors { IfErr result (λ e. (e ≡ RedoError.Memory) ⊎ (e ≡ RedoError.Failed)) }
+{
+    files.read_at(alloc, file, at, len)
+}
+
+/// Syncs both files: at `Ok`, a crash leaves what a read returns.
+pub fn sync_both<F: FilePair>(files: &mut F) -> Result<(), RedoError>
+    ensures log { OnOk result (IsSure FileKind.Log (F.seen files.new) (F.may_leave files.new)) }
+    ensures records { OnOk result (IsSure FileKind.Records (F.seen files.new) (F.may_leave files.new)) }
+    ensures nothing_written { WritesNothing F.seen F.may_leave F.moment F.left_since files.old files.new }
+    ensures failed { IfErr result (λ e. (e ≡ RedoError.Failed) × HasFailed F.failures F.shortages files.old files.new) }
+    ensures after { ComesAfter F.failures F.shortages F.is_honest files.old files.new }
+{
+    files.sync(FileKind::Log)?;
+    files.sync(FileKind::Records)
+}
+
+/// Writes the bytes and syncs the file.
+pub fn write_synced<F: FilePair>(
+    files: &mut F,
+    file: FileKind,
+    at: u64,
+    bytes: &[u8],
+) -> Result<(), RedoError>
+    ensures written { OnOk result (Wrote file at bytes.now (F.seen files.old) (F.seen files.new)) }
+    ensures sure { OnOk result (IsSure file (F.seen files.new) (F.may_leave files.new)) }
+    ensures torn { Torn file at (length bytes.now) (F.seen files.old) (F.seen files.new) }
+    ensures crash { Follows (Torn file at (length bytes.now)) (F.may_leave files.old) (F.may_leave files.new) }
+    ensures moments { LeavesOnly F.moment F.left_since files.old files.new (Tears file at (length bytes.now) (F.may_leave files.old)) }
+    ensures after { ComesAfter F.failures F.shortages F.is_honest files.old files.new }
+    ensures cause { HasCause F.failures F.shortages files.old files.new result }
+    ensures errors { IfErr result (λ e. (e ≡ RedoError.NoRoom) ⊎ (e ≡ RedoError.Failed)) }
+{
+    files.write_at(file, at, bytes)?;
+    files.sync(file)
+}
+
+/// Writes a byte over a gate of the log and syncs the log. That can't be taken back, so it fails where it finds no room.
+pub fn set_gate<F: FilePair>(files: &mut F, at: u64, gate: u8) -> Result<(), RedoError>
+    ensures written { OnOk result (Wrote FileKind.Log at (gate ∷ []) (F.seen files.old) (F.seen files.new)) }
+    ensures sure { OnOk result (IsSure FileKind.Log (F.seen files.new) (F.may_leave files.new)) }
+    ensures torn { Torn FileKind.Log at 1 (F.seen files.old) (F.seen files.new) }
+    ensures crash { Follows (Torn FileKind.Log at 1) (F.may_leave files.old) (F.may_leave files.new) }
+    ensures moments { LeavesOnly F.moment F.left_since files.old files.new (Tears FileKind.Log at 1 (F.may_leave files.old)) }
+    ensures failed { IfErr result (λ e. (e ≡ RedoError.Failed) × HasFailed F.failures F.shortages files.old files.new) }
+    ensures after { ComesAfter F.failures F.shortages F.is_honest files.old files.new }
+{
+    match write_synced(files, FileKind::Log, at, &[gate]) {
+        Ok(()) => Ok(()),
+        Err(_) => Err(RedoError::Failed),
+    }
+}
+
+/// Writes each patch to its place, without a sync.
+pub fn put_in_place<F: FilePair>(files: &mut F, batch: &[Patch]) -> Result<(), RedoError>
+    ensures records { OnOk result (Agrees (F.seen files.new FileKind.Records) (put_all (patches_of batch.now) (F.seen files.old FileKind.Records))) }
+    ensures log { Agrees (F.seen files.new FileKind.Log) (F.seen files.old FileKind.Log) }
+    ensures crash { Follows (Smeared (patches_of batch.now)) (F.may_leave files.old) (F.may_leave files.new) }
+    ensures moments { LeavesOnly F.moment F.left_since files.old files.new (Smears (patches_of batch.now) (F.may_leave files.old)) }
+    ensures failed { IfErr result (λ e. (e ≡ RedoError.Failed) × HasFailed F.failures F.shortages files.old files.new) }
+    ensures after { ComesAfter F.failures F.shortages F.is_honest files.old files.new }
+{
+    for patch in batch {
+        if files
+            .write_at(FileKind::Records, patch.at, patch.bytes)
+            .is_err()
+        {
+            return Err(RedoError::Failed);
+        }
+    }
+    Ok(())
+}
