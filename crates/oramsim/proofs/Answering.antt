@@ -32,10 +32,10 @@ heard_stands r m n bytes f h = record {
   copy = h.snapshot ∙ f.copy;
 }
 
-honest_at : (r : Running) (m n : Machine) (bytes : List ℕ) → IsWholeMachine m → IsAtRun r m → IsHeard m n bytes → IsHonest (status_in n.core.state) n.core.state.last (Answer bytes) r.host n.server
+pub honest_at : (r : Running) (m n : Machine) (bytes : List ℕ) → IsWholeMachine m → IsAtRun r m → IsHeard m n bytes → IsHonest (status_in n.core.state) n.core.state.last (Answer bytes) r.host n.server
 honest_at r m n bytes w f h = rw h.core (reply_honest m.core.state m.outstanding bytes r.host n.server w.waits w.latest (subst (λ (k : Host). HostAnswers k m.outstanding bytes n.server) f.host h.replies))
 
-late_at : (r : Running) (m n : Machine) (bytes : List ℕ) → IsWholeMachine m → IsAtRun r m → IsHeard m n bytes → IsHonest (status_in n.core.state) n.core.state.last Lost r.host n.server
+pub late_at : (r : Running) (m n : Machine) (bytes : List ℕ) → IsWholeMachine m → IsAtRun r m → IsHeard m n bytes → IsHonest (status_in n.core.state) n.core.state.last Lost r.host n.server
 late_at r m n bytes w f h = rw h.core (late_honest m.core.state m.outstanding bytes r.host n.server w.waits w.latest (subst (λ (k : Host). HostAnswers k m.outstanding bytes n.server) f.host h.replies))
 
 pub answered : (r : Running) (m n k : Machine) (bytes : List ℕ) (old new : Option (List ℕ)) → IsWholeMachine m → IsAtRun r m → IsHeard m n bytes

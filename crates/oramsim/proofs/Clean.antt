@@ -1,9 +1,10 @@
 -- Texts in which no line tells of a failure.
-use Rattle.std.proofs.Common.{◌≡◌, ◌≢◌, ℕ, zero, suc, ◌/◌, ◌%◌, Bool, true, false, List, [], ◌∷◌, ◌++◌, get_or, map, take, refl, sym, ap, ◌∙◌, subst, arith, append_assoc, append-nil}
+use Rattle.std.proofs.Common.{◌≡◌, ◌≢◌, ◌≤◌, ℕ, zero, suc, ◌/◌, ◌%◌, Bool, true, false, List, [], ◌∷◌, ◌++◌, get_or, map, take, refl, sym, ap, ◌∙◌, subst, arith, append_assoc, append-nil}
 use Rattle.std.specs.Prelude.{◌==◌, not, nat_le, nat_lt, if◌then◌else◌, codes, length, slice_index, slice_range}
 use Rattle.std.specs.Fmt.{decimal, digits, digits_onto, digit_glyph}
 use Rattle.std.specs.List.{AllByRecursion, flat_map, list_all}
 use Rattle.std.proofs.lemmas.Bool.{eqb-true, eqb-false, false_from_ne_true}
+use Rattle.std.proofs.lemmas.List.{length-take}
 use Rattle.byteorder.specs.Endian.{big_number}
 use Rattle.hex.specs.Hex.{encode_with, encode_lower, lower_digits}
 use Rattle.oram_geometry.specs.declared.ShapeFault.{ShapeFault}
@@ -16,9 +17,9 @@ use Rattle.oram_run.specs.declared.events.Refusal.TheVariants as refusal
 use Rattle.oram_run.specs.declared.events.Reply.{Reply}
 use Rattle.oram_run.specs.declared.events.ReplyBody.{ReplyBody}
 use Rattle.oram_run.specs.declared.events.ReplyBody.TheVariants as body
-use Rattle.oramsim.specs.Printing.{newline, space, refusal_text, note_text, body_text, reply_text, send_text, reaction_text, ready_text, shape_text, error_text}
-use Rattle.oramsim.specs.Reading.{lines_of}
-use Rattle.oramsim.specs.Script.{HasNoFailure, Turn}
+use Rattle.oramsim.specs.Printing.{newline, space, refusal_text, note_text, body_text, reply_text, send_text, reaction_text, ready_text, shape_text, error_text, memory_text}
+use Rattle.oramsim.specs.Reading.{lines_of, onto_line}
+use Rattle.oramsim.specs.Script.{HasNoFailure, IsBeginning, Turn}
 use Rattle.oramsim.proofs.Numbers.{both_true}
 
 -- no line ends in these bytes
@@ -172,3 +173,51 @@ shape_clean f = clean_line (codes "shape " ++ decimal (fault_number f)) 104 (joi
 
 pub error_clean : (n : ℕ) → Clean (error_text n)
 error_clean n = clean_line (codes "error line " ++ decimal n) 114 (joined (said (codes "error line ") refl) (number n)) refl (omega arith)
+
+pub memory_clean : Clean memory_text
+memory_clean = clean_line (codes "out of memory") 117 (said (codes "out of memory") refl) refl (omega arith)
+
+-- each of these lines is a beginning of one of those, in their order
+abbrev Begin : List (List ℕ) → List (List ℕ) → Type 0
+Begin [] whole = Unit {0}
+Begin (line ∷ lines) [] = ⊥
+Begin (line ∷ lines) (full ∷ whole) = ((k : ℕ) × (line ≡ take k full)) × Begin lines whole
+
+begin_onto : (x : ℕ) (lines whole : List (List ℕ)) → Begin lines whole → Begin (onto_line x lines) (onto_line x whole)
+begin_onto x [] [] h = ((1, refl), tt)
+begin_onto x [] (full ∷ whole) h = ((1, refl), tt)
+begin_onto x (line ∷ lines) [] h = absurd h
+begin_onto x (line ∷ lines) (full ∷ whole) h = ((suc h.0.0, ap (λ l. x ∷ l) h.0.1), h.1)
+
+begin_next : (x : ℕ) (b : Bool) (lines whole : List (List ℕ)) → Begin lines whole → Begin (if b then [] ∷ lines else onto_line x lines) (if b then [] ∷ whole else onto_line x whole)
+begin_next x true lines whole h = ((0, refl), h)
+begin_next x false lines whole h = begin_onto x lines whole h
+
+begin_lines : (k : ℕ) (text : List ℕ) → Begin (lines_of (take k text)) (lines_of text)
+begin_lines zero text = tt
+begin_lines (suc k) [] = tt
+begin_lines (suc k) (x ∷ text) = begin_next x (x == 10) (lines_of (take k text)) (lines_of text) (begin_lines k text)
+
+-- a beginning of a beginning
+shorter : (n k : ℕ) (l : List ℕ) → n ≤ k → take n (take k l) ≡ take n l
+shorter zero k l h = refl
+shorter (suc n) zero l h = absurd (omega (arith, h))
+shorter (suc n) (suc k) [] h = refl
+shorter (suc n) (suc k) (x ∷ l) h = ap (λ r. x ∷ r) (shorter n k l (omega (arith, h)))
+
+long_enough : (k : ℕ) (full : List ℕ) → take 6 (take k full) ≡ codes "failed" → 6 ≤ k
+long_enough k full e = omega (arith, ap length e, length-take 6 (take k full), length-take k full)
+
+begins_unfailed : (lines whole : List (List ℕ)) → Begin lines whole → AllByRecursion (λ l. take 6 l ≢ codes "failed") whole → AllByRecursion (λ l. take 6 l ≢ codes "failed") lines
+begins_unfailed [] whole h all = tt
+begins_unfailed (line ∷ lines) [] h all = absurd h
+begins_unfailed (line ∷ lines) (full ∷ whole) h all = (
+  (λ e.
+      let cut : take 6 (take h.0.0 full) ≡ codes "failed" = subst (λ (l : List ℕ). take 6 l ≡ codes "failed") h.0.1 e in
+      all.0 (sym (shorter 6 h.0.0 full (long_enough h.0.0 full cut)) ∙ cut)),
+  begins_unfailed lines whole h.1 all.1,
+)
+
+-- no failure is told by a beginning of a text that tells none
+pub beginning_unfailed : (text whole : List ℕ) → IsBeginning text whole → HasNoFailure whole → HasNoFailure text
+beginning_unfailed text whole b h = subst HasNoFailure (sym b.1) (begins_unfailed (lines_of (take b.0 whole)) (lines_of whole) (begin_lines b.0 whole) h)

@@ -1,9 +1,9 @@
 -- The run of a script that is given up.
-use Rattle.std.proofs.Common.{◌≡◌, ◌⊎◌, inl, inr, ℕ, ◌+◌, ◌<◌, Bool, false, List, [], ◌∷◌, ◌++◌, length, take, take_all, Option, Some, None, Result, Ok, Err, IfSome, refl, sym, ap, ◌∙◌, subst, append_assoc, append-nil, arith}
-use Rattle.std.specs.Prelude.{◌==◌, IfOk, IfErr}
+use Rattle.std.proofs.Common.{◌≡◌, ◌≢◌, ◌⊎◌, inl, inr, ℕ, ◌+◌, ◌<◌, Bool, false, List, [], ◌∷◌, ◌++◌, length, take, take_all, Option, Some, None, Result, Ok, Err, IfSome, refl, sym, ap, ◌∙◌, subst, append_assoc, append-nil, arith}
+use Rattle.std.specs.Prelude.{◌==◌, IfOk, IfErr, ⊤}
 use Rattle.std.specs.Io.BufRead.{take_through, drop_through, strip_last, DropsThrough}
 use Rattle.std.specs.Io.KnownBytes.{Appends, Keeps}
-use Rattle.std.specs.List.{FoldsTo}
+use Rattle.std.specs.List.{AllByRecursion, FoldsTo}
 use Rattle.std.proofs.KnownBytes.{Appends-trans}
 use Rattle.std.proofs.Math.Seq.{take-append-add}
 use Rattle.std.proofs.lemmas.Fn.{FoldsTo-push}
@@ -12,8 +12,8 @@ use Rattle.oram_geometry.specs.declared.ShapeFault.{ShapeFault}
 use Rattle.oram_geometry.specs.Sizes.{device_of, trees_of}
 use Rattle.oramsim.specs.Printing.{error_text, memory_text, ready_text, shape_text}
 use Rattle.oramsim.specs.Reading.{lines_of, line_of}
-use Rattle.oramsim.specs.Script.{HasPassed, HasRun, IsBad, IsBeginning, IsCutText, IsDue, IsNewRun, IsPassed, IsScriptText, IsWithin, Point, GetsTo, Running, Stage, Starts, start, text_at}
-use Rattle.oramsim.specs.Standing.{GivesUp, GivesUpAt, IsFaithful, IsWrittenAt, IsCutAt, IsUnder, IsUntold, IsAtRun, StandsAt}
+use Rattle.oramsim.specs.Script.{HasNoFailure, HasPassed, HasRun, IsBad, IsBeginning, IsCutText, IsDue, IsHarmless, IsHarmlessScript, IsNewRun, IsPassed, IsScriptText, IsWithin, Point, GetsTo, Running, Stage, Starts, start, text_at}
+use Rattle.oramsim.specs.Standing.{GivesUp, GivesUpAt, HasEnded, HasGivenUp, IsCalmAt, IsFaithful, IsFaithfulAt, IsGivingUp, IsCutAt, IsUnder, IsUntold, IsAtRun, StandsAt, told_at}
 use Rattle.oramsim.specs.declared.line.Line.{Line}
 use Rattle.oramsim.specs.declared.line.Line.TheVariants.{Device}
 use Rattle.oramsim.specs.declared.machine.Machine.{Machine}
@@ -23,52 +23,58 @@ use Rattle.oramsim.specs.declared.script.SimFault.{SimFault}
 use Rattle.oramsim.specs.declared.script.SimFault.TheVariants.{OutOfMemory, Read, Write}
 use Rattle.oramsim.proofs.Faithful.{run_right}
 use Rattle.oramsim.proofs.FirstLine.{lines_first}
-use Rattle.oramsim.proofs.GivenUp.{none_told, told_behind}
-use Rattle.oramsim.proofs.Passing.{Came, passes_line, read_rest, run_done}
+use Rattle.oramsim.proofs.Clean.{Clean, beginning_unfailed, clean_append, clean_text, error_clean, memory_clean}
+use Rattle.oramsim.proofs.GivenUp.{IsUnmeddled, none_told, told_behind}
+use Rattle.oramsim.proofs.Passing.{Came, all_split, came_clean, head_passed, passes_line, point_clean, read_rest, run_done}
 use Rattle.oramsim.proofs.Started.{nothing_shown}
 use Rattle.oramsim.proofs.Writes.{Appends-kept}
 
 -- memory ran out before anything of a line was written
-pub stays_at : (p : Point) (m : Option Machine) (To : Point → Type 0) (old new : Option (List ℕ)) → StandsAt p.stage m → To p → new ≡ old → GivesUpAt p To OutOfMemory old new
-stays_at p m To old new f to same = (p, to, run_done p.stage m f, none_told (text_at p) old new same)
+pub stays_at : (p : Point) (m : Option Machine) (Unmeddled : Type 0) (To : Point → Type 0) (old new : Option (List ℕ)) → StandsAt p.stage m → (Unmeddled → IsCalmAt p.stage) → To p → new ≡ old
+    → GivesUpAt p Unmeddled To OutOfMemory old new
+stays_at p m Unmeddled To old new f calm to same = (p, to, run_done p.stage m f, calm, none_told (text_at p) old new same)
 
 -- the point before a device
 abbrev pub behind : List ℕ → Point
 behind head = record { stage = None; head = head }
 
-pub unbegun : (head : List ℕ) (made : Result Sizes ShapeFault) (old new : Option (List ℕ)) → new ≡ old → GivesUpAt (behind head) (λ q. (q ≡ behind head) ⊎ Starts head made q) OutOfMemory old new
-unbegun head made old new same = (behind head, inl refl, tt, none_told (text_at (behind head)) old new same)
+pub unbegun : (head : List ℕ) (made : Result Sizes ShapeFault) (old new : Option (List ℕ)) → new ≡ old → GivesUpAt (behind head) ⊤ (λ q. (q ≡ behind head) ⊎ Starts head made q) OutOfMemory old new
+unbegun head made old new same = (behind head, inl refl, tt, (λ on. tt), none_told (text_at (behind head)) old new same)
 
 pub begun_cut : (head : List ℕ) (made : Result Sizes ShapeFault) (d : Sizes) (trees : ℕ) (m : Machine) (e : SimFault) (old new : Option (List ℕ)) → made ≡ Ok d → trees ≡ trees_of d
     → (r : Running) × IsNewRun d r × IsAtRun r m × IsFaithful r m.core.state → (k : ℕ) × Appends old new (take k (ready_text trees)) → e ≡ Write
-    → GivesUpAt (behind head) (λ q. (q ≡ behind head) ⊎ Starts head made q) e old new
+    → GivesUpAt (behind head) ⊤ (λ q. (q ≡ behind head) ⊎ Starts head made q) e old new
 begun_cut head made d trees m e old new is count p wrote write =
     let text = ready_text (trees_of d) in
     let q : Point = record { stage = Some p.0; head = head ++ text } in
     let to = subst (λ (o : Result Sizes ShapeFault). Starts head o q) (sym is) (p.0, p.1, refl) in
     let more : text_at q ≡ text_at (behind head) ++ text = ap (λ l. (head ++ text) ++ l) (nothing_shown p.0 p.1.turns) ∙ (append-nil (head ++ text) ∙ ap (λ l. l ++ text) (sym (append-nil head))) in
-    let cut : GivesUpAt (behind head) (λ u. (u ≡ behind head) ⊎ Starts head made u) Write old new = (q, inr to, run_right p.0 m p.2, (text, take wrote.0 text, more, (wrote.0, refl), rw count at wrote.1)) in
-    subst (λ (f : SimFault). GivesUpAt (behind head) (λ u. (u ≡ behind head) ⊎ Starts head made u) f old new) (sym write) cut
+    let cut : GivesUpAt (behind head) ⊤ (λ u. (u ≡ behind head) ⊎ Starts head made u) Write old new = (q, inr to, run_right p.0 m p.2, (λ on. p.3.calm), (text, take wrote.0 text, more, (wrote.0, refl), rw count at wrote.1)) in
+    subst (λ (f : SimFault). GivesUpAt (behind head) ⊤ (λ u. (u ≡ behind head) ⊎ Starts head made u) f old new) (sym write) cut
 
 pub faulted_cut : (head : List ℕ) (made : Result Sizes ShapeFault) (fault : ShapeFault) (e : SimFault) (old new : Option (List ℕ)) → made ≡ Err fault → (k : ℕ) × Appends old new (take k (shape_text fault)) → e ≡ Write
-    → GivesUpAt (behind head) (λ q. (q ≡ behind head) ⊎ Starts head made q) e old new
+    → GivesUpAt (behind head) ⊤ (λ q. (q ≡ behind head) ⊎ Starts head made q) e old new
 faulted_cut head made fault e old new is wrote write =
     let text = shape_text fault in
     let q : Point = record { stage = None; head = head ++ text } in
     let to = subst (λ (o : Result Sizes ShapeFault). Starts head o q) (sym is) refl in
     let more : text_at q ≡ text_at (behind head) ++ text = append-nil (head ++ text) ∙ ap (λ l. l ++ text) (sym (append-nil head)) in
-    let cut : GivesUpAt (behind head) (λ u. (u ≡ behind head) ⊎ Starts head made u) Write old new = (q, inr to, tt, (text, take wrote.0 text, more, (wrote.0, refl), wrote.1)) in
-    subst (λ (f : SimFault). GivesUpAt (behind head) (λ u. (u ≡ behind head) ⊎ Starts head made u) f old new) (sym write) cut
+    let cut : GivesUpAt (behind head) ⊤ (λ u. (u ≡ behind head) ⊎ Starts head made u) Write old new = (q, inr to, tt, (λ on. tt), (text, take wrote.0 text, more, (wrote.0, refl), wrote.1)) in
+    subst (λ (f : SimFault). GivesUpAt (behind head) ⊤ (λ u. (u ≡ behind head) ⊎ Starts head made u) f old new) (sym write) cut
 
 -- where a line may lead to before it is passed, and where it leads to then
 abbrev pub Leads : Point → List ℕ → Point → Type 0
 Leads p bytes q = IsPassed p bytes q ⊎ IsWithin p (bytes ∷ []) q
 
+-- nothing meddled up to the line, nor does the line
+abbrev pub IsUnmeddledAt : Point → Option Machine → List ℕ → Type 0
+IsUnmeddledAt p from bytes = IsHarmless (line_of bytes) × IsFaithfulAt p.stage from
+
 -- a device gave up within a line
 obeyed_at : (stage : Stage) (head : List ℕ) (m : Machine) (bytes : List ℕ) (line : Line) (result : Result Bool SimFault) (old new : Option (List ℕ)) →
-    ((r : Running) → IsAtRun r m → IfErr result (λ e. GivesUp r (IsUnder r line) e old new))
+    ((r : Running) → IsAtRun r m → IfErr result (λ e. GivesUp r (IsUnmeddled r m.core.state line) (IsUnder r line) e old new))
     → (length bytes == 0) ≡ false → line_of bytes ≡ Some line → StandsAt stage (Some m)
-    → IfErr result (λ e. GivesUpAt (record { stage = stage; head = head }) (Leads (record { stage = stage; head = head }) bytes) e old new)
+    → IfErr result (λ e. GivesUpAt (record { stage = stage; head = head }) (IsUnmeddledAt (record { stage = stage; head = head }) (Some m) bytes) (Leads (record { stage = stage; head = head }) bytes) e old new)
 obeyed_at None head m bytes line result old new cut some e f = absurd f
 obeyed_at (Some r) head m bytes line (Ok b) old new cut some e f = tt
 obeyed_at (Some r) head m bytes line (Err fault) old new cut some e f =
@@ -82,33 +88,36 @@ obeyed_at (Some r) head m bytes line (Err fault) old new cut some e f =
         | inr drained ↦ inr (inr (r, c.0, drained.0, e ∙ ap (λ (l : Line). Some l) drained.1, refl, drained.2, refl))
       ]
     ] in
-    (q, leads, c.2, told_behind fault head _ _ old new c.3)
+    (q, leads, c.2, (λ on. c.3 (subst IsHarmless e on.0, on.1)), told_behind fault head _ _ old new c.4)
 
-pub obeyed_cut : (p : Point) (m : Machine) (bytes : List ℕ) (line : Line) (result : Result Bool SimFault) (old new : Option (List ℕ)) →
-    ((r : Running) → IsAtRun r m → IfErr result (λ e. GivesUp r (IsUnder r line) e old new))
-    → (length bytes == 0) ≡ false → line_of bytes ≡ Some line → StandsAt p.stage (Some m) → IfErr result (λ e. GivesUpAt p (Leads p bytes) e old new)
-obeyed_cut p m bytes line result old new cut some e f = obeyed_at p.stage p.head m bytes line result old new cut some e f
+pub obeyed_cut : (p : Point) (from : Option Machine) (m : Machine) (bytes : List ℕ) (line : Line) (result : Result Bool SimFault) (old new : Option (List ℕ)) →
+    ((r : Running) → IsAtRun r m → IfErr result (λ e. GivesUp r (IsUnmeddled r m.core.state line) (IsUnder r line) e old new))
+    → (length bytes == 0) ≡ false → line_of bytes ≡ Some line → from ≡ Some m → StandsAt p.stage from → IfErr result (λ e. GivesUpAt p (IsUnmeddledAt p from bytes) (Leads p bytes) e old new)
+obeyed_cut p from m bytes line result old new cut some e is f =
+    subst (λ (o : Option Machine). IfErr result (λ u. GivesUpAt p (IsUnmeddledAt p o bytes) (Leads p bytes) u old new)) (sym is)
+    (obeyed_at p.stage p.head m bytes line result old new cut some e (subst (StandsAt p.stage) is f))
 
 -- no device came of a line
-started_at : (stage : Stage) (head bytes : List ℕ) (blocks block_bytes slots top lifetime : ℕ) (made : Result Sizes ShapeFault) (fault : SimFault) (old new : Option (List ℕ)) →
+started_at : (stage : Stage) (head : List ℕ) (from : Option Machine) (bytes : List ℕ) (blocks block_bytes slots top lifetime : ℕ) (made : Result Sizes ShapeFault) (fault : SimFault) (old new : Option (List ℕ)) →
     made ≡ device_of (record { blocks = blocks; block_bytes = block_bytes; slots = slots; top = top; lifetime = lifetime })
-    → ((h : List ℕ) → GivesUpAt (behind h) (λ q. (q ≡ behind h) ⊎ Starts h made q) fault old new)
+    → ((h : List ℕ) → GivesUpAt (behind h) ⊤ (λ q. (q ≡ behind h) ⊎ Starts h made q) fault old new)
     → (length bytes == 0) ≡ false → line_of bytes ≡ Some (Device blocks block_bytes slots top lifetime) → StandsAt stage None
-    → GivesUpAt (record { stage = stage; head = head }) (Leads (record { stage = stage; head = head }) bytes) fault old new
-started_at (Some r) head bytes blocks block_bytes slots top lifetime made fault old new is cut some e f = absurd f
-started_at None head bytes blocks block_bytes slots top lifetime made fault old new is cut some e f =
+    → GivesUpAt (record { stage = stage; head = head }) (IsUnmeddledAt (record { stage = stage; head = head }) from bytes) (Leads (record { stage = stage; head = head }) bytes) fault old new
+started_at (Some r) head from bytes blocks block_bytes slots top lifetime made fault old new is cut some e f = absurd f
+started_at None head from bytes blocks block_bytes slots top lifetime made fault old new is cut some e f =
     let c = cut head in
     let leads : Leads (behind head) bytes c.0 = elim c.1 [
       | inl same ↦ inr (inl same)
       | inr starts ↦ inl (passes_line (behind head) c.0 bytes (Device blocks block_bytes slots top lifetime) some e (subst (λ (o : Result Sizes ShapeFault). Starts head o c.0) is starts))
     ] in
-    (c.0, leads, c.2, c.3)
+    (c.0, leads, c.2, (λ on. c.3 tt), c.4)
 
-pub started_cut : (p : Point) (bytes : List ℕ) (blocks block_bytes slots top lifetime : ℕ) (made : Result Sizes ShapeFault) (fault : SimFault) (old new : Option (List ℕ)) →
+pub started_cut : (p : Point) (from : Option Machine) (bytes : List ℕ) (blocks block_bytes slots top lifetime : ℕ) (made : Result Sizes ShapeFault) (fault : SimFault) (old new : Option (List ℕ)) →
     made ≡ device_of (record { blocks = blocks; block_bytes = block_bytes; slots = slots; top = top; lifetime = lifetime })
-    → ((h : List ℕ) → GivesUpAt (behind h) (λ q. (q ≡ behind h) ⊎ Starts h made q) fault old new)
-    → (length bytes == 0) ≡ false → line_of bytes ≡ Some (Device blocks block_bytes slots top lifetime) → StandsAt p.stage None → GivesUpAt p (Leads p bytes) fault old new
-started_cut p bytes blocks block_bytes slots top lifetime made fault old new is cut some e f = started_at p.stage p.head bytes blocks block_bytes slots top lifetime made fault old new is cut some e f
+    → ((h : List ℕ) → GivesUpAt (behind h) ⊤ (λ q. (q ≡ behind h) ⊎ Starts h made q) fault old new)
+    → (length bytes == 0) ≡ false → line_of bytes ≡ Some (Device blocks block_bytes slots top lifetime) → StandsAt p.stage None
+    → GivesUpAt p (IsUnmeddledAt p from bytes) (Leads p bytes) fault old new
+started_cut p from bytes blocks block_bytes slots top lifetime made fault old new is cut some e f = started_at p.stage p.head from bytes blocks block_bytes slots top lifetime made fault old new is cut some e f
 
 within_self : (p : Point) (ls : List (List ℕ)) → IsWithin p ls p
 within_self p [] = refl
@@ -121,20 +130,34 @@ passed_reaches input rest q h = (q, rest, h, within_self q rest, h.right)
 whole_due : (input text : List ℕ) → IsDue input text → IsCutText input text Write
 whole_due input text due = (text, due, (length text, sym (take_all (length text) text (omega arith))))
 
-front_of : (input : List ℕ) (rest : List (List ℕ)) (q : Point) (e : SimFault) → HasPassed input rest q → IsWrittenAt input (text_at q) e
+front_of : (input : List ℕ) (rest : List (List ℕ)) (q : Point) (e : SimFault) → HasPassed input rest q → IsCutText input (told_at e (text_at q)) e
 front_of input rest q OutOfMemory h = (q, passed_reaches input rest q h, refl)
 front_of input rest q Read h = (rest, q, h, refl)
 front_of input rest q Write h = whole_due input (text_at q) (inl (q, passed_reaches input rest q h, inl refl))
 
+-- no failure is told by a clean text, nor behind it that memory ran out
+clean_front : (e : SimFault) (text : List ℕ) → Clean text → HasNoFailure (told_at e text)
+clean_front OutOfMemory text clean = clean_text (text ++ memory_text) (clean_append text memory_text clean memory_clean)
+clean_front Read text clean = clean_text text clean
+clean_front Write text clean = clean_text text clean
+
 here : (input : List ℕ) (left old new : Option (List ℕ)) (number : ℕ) (m : Option Machine) → (came : Came input left old new number m) → HasPassed input (lines_of came.rest) came.point
 here input left old new number m came = record { lines = came.lines; split = came.split; passed = came.passed; right = run_done came.point.stage m came.stands }
 
+-- the lines that were passed meddle no more than the script
+before_rest : (input : List ℕ) (lines rest : List (List ℕ)) → lines_of input ≡ lines ++ rest → IsHarmlessScript input → AllByRecursion (λ bytes. IsHarmless (line_of bytes)) lines
+before_rest input lines rest split harmless = (all_split (λ b. IsHarmless (line_of b)) lines rest (subst (AllByRecursion (λ b. IsHarmless (line_of b))) split harmless)).0
+
 -- the run was given up between two lines
 pub cut_here : (all left old mid new : Option (List ℕ)) (number : ℕ) (m : Option Machine) (e : SimFault) → IfSome all (λ input. Came input left old mid number m) → Keeps mid new
-    → IfSome all (λ input. (text : List ℕ) × IsWrittenAt input text e × Appends old new text)
+    → IsGivingUp all old new e
 cut_here None left old mid new number m e came keeps = tt
-cut_here (Some input) left old mid new number m e came keeps =
-    (text_at came.point, front_of input (lines_of came.rest) came.point e (here input left old mid number m came), Appends-kept old mid new (text_at came.point) came.wrote keeps)
+cut_here (Some input) left old mid new number m e came keeps = (
+  text_at came.point,
+  front_of input (lines_of came.rest) came.point e (here input left old mid number m came),
+  (λ harmless. clean_front e (text_at came.point) (came_clean input left old mid number m came (before_rest input came.lines (lines_of came.rest) came.split harmless))),
+  Appends-kept old mid new (text_at came.point) came.wrote keeps,
+)
 
 -- what was written is written out
 pub came_kept : (all left old mid new : Option (List ℕ)) (number : ℕ) (m : Option Machine) → IfSome all (λ input. Came input left old mid number m) → Keeps mid new → IfSome all (λ input. Came input left old new number m)
@@ -157,10 +180,22 @@ came_kept (Some input) left old mid new number m came keeps = record {
 beginning_behind : (a b part out : List ℕ) → b ≡ a ++ out → IsBeginning part out → IsBeginning (a ++ part) b
 beginning_behind a b part out e h = (length a + h.0, ap (λ l. a ++ l) h.1 ∙ (sym (take-append-add a out h.0) ∙ ap (take (length a + h.0)) (sym e)))
 
-front_part : (input : List ℕ) (p q : Point) (e : SimFault) (out part : List ℕ) → GetsTo input q → text_at q ≡ text_at p ++ out → IsCutAt e out part → IsWrittenAt input (text_at p ++ part) e
-front_part input p q OutOfMemory out part reached eq left = (q, reached, ap (λ l. text_at p ++ l) left ∙ sym eq)
+front_part : (input : List ℕ) (p q : Point) (e : SimFault) (out part : List ℕ) → GetsTo input q → text_at q ≡ text_at p ++ out → IsCutAt e out part → IsCutText input (told_at e (text_at p ++ part)) e
+front_part input p q OutOfMemory out part reached eq left = (q, reached, ap (λ l. l ++ memory_text) (ap (λ l. text_at p ++ l) left ∙ sym eq))
 front_part input p q Read out part reached eq left = absurd left
 front_part input p q Write out part reached eq left = (text_at q, inl (q, reached, inl refl), beginning_behind (text_at p) (text_at q) part out eq left)
+
+clean_part : (p q : Point) (e : SimFault) (out part : List ℕ) → Clean (text_at q) → text_at q ≡ text_at p ++ out → IsCutAt e out part → HasNoFailure (told_at e (text_at p ++ part))
+clean_part p q OutOfMemory out part clean eq left = clean_front OutOfMemory (text_at p ++ part) (subst Clean (eq ∙ ap (λ l. text_at p ++ l) (sym left)) clean)
+clean_part p q Read out part clean eq left = absurd left
+clean_part p q Write out part clean eq left =
+    beginning_unfailed (text_at p ++ part) (text_at q) (beginning_behind (text_at p) (text_at q) part out eq left) (clean_text (text_at q) clean)
+
+-- what was printed before the device's turns is clean wherever a line leads
+head_leads : (p q : Point) (bytes : List ℕ) → Leads p bytes q → Clean p.head → Clean q.head
+head_leads p q bytes (inl passes) clean = head_passed p q bytes passes clean
+head_leads p q bytes (inr (inl same)) clean = subst (λ (u : Point). Clean u.head) (sym same) clean
+head_leads p q bytes (inr (inr within)) clean = subst (λ (u : Point). Clean u.head) (sym within.6) clean
 
 -- the lines before this one are passed
 abbrev Split : List ℕ → List (List ℕ) → List ℕ → List ℕ → Type 0
@@ -183,26 +218,37 @@ split_at input left later old mid number m line bytes came e drops some cut =
 -- the run was given up within a line
 pub cut_within : (all left later old mid new : Option (List ℕ)) (number : ℕ) (m : Option Machine) (line bytes : List ℕ) (e : SimFault) →
     IfSome all (λ input. Came input left old mid number m) → IfSome left (λ xs. line ≡ take_through 10 xs) → DropsThrough left later 10 → 0 < length line → bytes ≡ strip_last 10 line
-    → ((p : Point) → StandsAt p.stage m → GivesUpAt p (Leads p bytes) e mid new)
-    → IfSome all (λ input. (text : List ℕ) × IsWrittenAt input text e × Appends old new text)
+    → ((p : Point) → StandsAt p.stage m → GivesUpAt p (IsUnmeddledAt p m bytes) (Leads p bytes) e mid new)
+    → IsGivingUp all old new e
 cut_within None left later old mid new number m line bytes e came has drops some cut gives = tt
 cut_within (Some input) left later old mid new number m line bytes e came has drops some cut gives =
     let p = came.point in
     let g = gives p came.stands in
     let split = split_at input left later old mid number m line bytes came has drops some cut in
-    let reached = reaches_by input came.lines p g.0 bytes (drop_through 10 came.rest) split came.passed (run_done p.stage m came.stands) g.1 g.2 in
-    (text_at p ++ g.3.1, front_part input p g.0 e g.3.0 g.3.1 reached g.3.2 g.3.3, Appends-trans old mid new (text_at p) g.3.1 came.wrote g.3.4)
+    let reached = reaches_by input came.lines p g.0 bytes (drop_through 10 came.rest) split came.passed (run_done p.stage m came.stands) g.1 g.2 in (
+      text_at p ++ g.4.1,
+      front_part input p g.0 e g.4.0 g.4.1 reached g.4.2 g.4.3,
+      (λ harmless.
+          let parts = all_split (λ b. IsHarmless (line_of b)) came.lines (bytes ∷ lines_of (drop_through 10 came.rest)) (subst (AllByRecursion (λ b. IsHarmless (line_of b))) split harmless) in
+          let clean = point_clean g.0 (head_leads p g.0 bytes g.1 came.neat) (g.3 (parts.1.0, came.faithful parts.0)) in
+          clean_part p g.0 e g.4.0 g.4.1 clean g.4.2 g.4.3),
+      Appends-trans old mid new (text_at p) g.4.1 came.wrote g.4.4,
+    )
 
 -- the line of an error was told in part
 pub cut_error : (all left later old mid next new : Option (List ℕ)) (number : ℕ) (m : Option Machine) (line bytes : List ℕ) (e : SimFault) →
     IfSome all (λ input. Came input left old mid number m) → IfSome left (λ xs. line ≡ take_through 10 xs) → DropsThrough left later 10 → 0 < length line → bytes ≡ strip_last 10 line
     → ((p : Point) → StandsAt p.stage m → IsBad p.stage bytes × (next ≡ mid)) → IsUntold e (error_text (number + 1)) next new
-    → IfSome all (λ input. (text : List ℕ) × IsWrittenAt input text e × Appends old new text)
+    → IsGivingUp all old new e
 cut_error None left later old mid next new number m line bytes e came has drops some cut bad told = tt
 cut_error (Some input) left later old mid next new number m line bytes Read came has drops some cut bad told = absurd told
 cut_error (Some input) left later old mid next new number m line bytes OutOfMemory came has drops some cut bad told =
-    let b = bad came.point came.stands in
-    (text_at came.point, front_of input (lines_of came.rest) came.point OutOfMemory (here input left old mid number m came), subst (λ w. Appends old w (text_at came.point)) (sym (told ∙ b.1)) came.wrote)
+    let b = bad came.point came.stands in (
+      text_at came.point,
+      front_of input (lines_of came.rest) came.point OutOfMemory (here input left old mid number m came),
+      (λ harmless. clean_front OutOfMemory (text_at came.point) (came_clean input left old mid number m came (before_rest input came.lines (lines_of came.rest) came.split harmless))),
+      subst (λ w. Appends old w (text_at came.point)) (sym (told ∙ b.1)) came.wrote,
+    )
 cut_error (Some input) left later old mid next new number m line bytes Write came has drops some cut bad told =
     let b = bad came.point came.stands in
     let p = came.point in
@@ -210,29 +256,44 @@ cut_error (Some input) left later old mid next new number m line bytes Write cam
     let whole = text_at p ++ error_text (number + 1) in
     let due : IsScriptText input whole (BadLine (number + 1)) =
     (came.lines, lines_of (drop_through 10 came.rest), bytes, p, split, came.passed, run_done p.stage m came.stands, b.0, ap (λ k. k + 1) (sym came.count), refl) in
-    (text_at p ++ told.0, (whole, inr (number + 1, due), beginning_behind (text_at p) whole told.0 (error_text (number + 1)) refl told.1), Appends-trans old next new (text_at p) told.0 (subst (λ w. Appends old w (text_at p)) (sym b.1) came.wrote) told.2)
+    let begins = beginning_behind (text_at p) whole told.0 (error_text (number + 1)) refl told.1 in (
+      text_at p ++ told.0,
+      (whole, inr (number + 1, due), begins),
+      (λ harmless.
+          let clean = came_clean input left old mid number m came (before_rest input came.lines (lines_of came.rest) came.split harmless) in
+          beginning_unfailed (text_at p ++ told.0) whole begins (clean_text whole (clean_append (text_at p) (error_text (number + 1)) clean (error_clean (number + 1))))),
+      Appends-trans old next new (text_at p) told.0 (subst (λ w. Appends old w (text_at p)) (sym b.1) came.wrote) told.2,
+    )
 
--- a front at a fault that is known
-pub front_as : (all old new : Option (List ℕ)) (e : SimFault) → e ≡ OutOfMemory → IfSome all (λ input. (text : List ℕ) × IsWrittenAt input text e × Appends old new text)
-    → IfSome all (λ input. (text : List ℕ) × IsWrittenAt input text OutOfMemory × Appends old new text)
-front_as all old new e same front = subst (λ (f : SimFault). IfSome all (λ input. (text : List ℕ) × IsWrittenAt input text f × Appends old new text)) same front
+-- at a fault that is known
+pub giving_up_as : (all old new : Option (List ℕ)) (e : SimFault) → e ≡ OutOfMemory → IsGivingUp all old new e → IsGivingUp all old new OutOfMemory
+giving_up_as all old new e same front = subst (IsGivingUp all old new) same front
+
+-- nothing more is to be told at the other faults
+pub all_told : (all old new : Option (List ℕ)) (e : SimFault) → e ≢ OutOfMemory → IsGivingUp all old new e → HasGivenUp all old new e
+all_told None old new e other front = tt
+all_told (Some input) old new OutOfMemory other front = absurd (other refl)
+all_told (Some input) old new Read other front = front
+all_told (Some input) old new Write other front = front
 
 -- that memory ran out was told
-pub memory_told : (all old mid new : Option (List ℕ)) → IfSome all (λ input. (text : List ℕ) × IsWrittenAt input text OutOfMemory × Appends old mid text) → Appends mid new memory_text
-    → IfSome all (λ input. (text : List ℕ) × IsCutText input text OutOfMemory × Appends old new text)
+pub memory_told : (all old mid new : Option (List ℕ)) → IsGivingUp all old mid OutOfMemory → Appends mid new memory_text → HasGivenUp all old new OutOfMemory
 memory_told None old mid new front told = tt
-memory_told (Some input) old mid new front told =
-    (front.0 ++ memory_text, (front.1.0, front.1.1, ap (λ l. l ++ memory_text) front.1.2), Appends-trans old mid new front.0 memory_text front.2 told)
+memory_told (Some input) old mid new front told = (front.0 ++ memory_text, front.1, front.2, Appends-trans old mid new front.0 memory_text front.3 told)
 
 -- or a beginning of it
-pub memory_cut : (all old mid new : Option (List ℕ)) (e : SimFault) → IfSome all (λ input. (text : List ℕ) × IsWrittenAt input text OutOfMemory × Appends old mid text) → (k : ℕ) × Appends mid new (take k memory_text) → e ≡ Write
-    → IfSome all (λ input. (text : List ℕ) × IsCutText input text e × Appends old new text)
+pub memory_cut : (all old mid new : Option (List ℕ)) (e : SimFault) → IsGivingUp all old mid OutOfMemory → (k : ℕ) × Appends mid new (take k memory_text) → e ≡ Write → HasGivenUp all old new e
 memory_cut None old mid new e front told write = tt
 memory_cut (Some input) old mid new e front told write =
     let whole = front.0 ++ memory_text in
     let part = take told.0 memory_text in
-    let cut : IsCutText input (front.0 ++ part) Write = (whole, inl (front.1.0, front.1.1, inr (ap (λ l. l ++ memory_text) front.1.2)), beginning_behind front.0 whole part memory_text refl (told.0, refl)) in
-    (front.0 ++ part, subst (IsCutText input (front.0 ++ part)) (sym write) cut, Appends-trans old mid new front.0 part front.2 told.1)
+    let begins = beginning_behind front.0 whole part memory_text refl (told.0, refl) in
+    let cut : IsCutText input (front.0 ++ part) Write = (whole, inl (front.1.0, front.1.1, inr front.1.2), begins) in (
+      front.0 ++ part,
+      subst (IsCutText input (front.0 ++ part)) (sym write) cut,
+      (λ harmless. beginning_unfailed (front.0 ++ part) whole begins (front.2 harmless)),
+      Appends-trans old mid new front.0 part front.3 told.1,
+    )
 
 cut_due : (input text : List ℕ) (e : SimFault) → IsCutText input text e → IsCutText input text Write
 cut_due input text OutOfMemory c = whole_due input text (inl (c.0, c.1, inr c.2))
@@ -245,15 +306,13 @@ script_due input text End c =
 script_due input text (BadLine n) c = whole_due input text (inr (n, c))
 
 -- what was written can't be written out
-pub unflushed : (all old mid new : Option (List ℕ)) (ended : Result Ending SimFault) (e : SimFault) (Q : List ℕ → List ℕ → Type 0) →
-    IfOk ended (λ ending. IfSome all (λ input. (text : List ℕ) × IsScriptText input text ending × Q input text × Appends old mid text))
-    → IfErr ended (λ f. IfSome all (λ input. (text : List ℕ) × IsCutText input text f × Appends old mid text)) → Keeps mid new → e ≡ Write
-    → IfSome all (λ input. (text : List ℕ) × IsCutText input text e × Appends old new text)
-unflushed None old mid new ended e Q ok err keeps write = tt
-unflushed (Some input) old mid new (Ok ending) e Q ok err keeps write =
-    (ok.0, subst (IsCutText input ok.0) (sym write) (script_due input ok.0 ending ok.1), Appends-kept old mid new ok.0 ok.3 keeps)
-unflushed (Some input) old mid new (Err f) e Q ok err keeps write =
-    (err.0, subst (IsCutText input err.0) (sym write) (cut_due input err.0 f err.1), Appends-kept old mid new err.0 err.2 keeps)
+pub unflushed : (all old mid new : Option (List ℕ)) (ended : Result Ending SimFault) (e : SimFault) → IfOk ended (λ ending. HasEnded all old mid ending) → IfErr ended (λ f. HasGivenUp all old mid f)
+    → Keeps mid new → e ≡ Write → HasGivenUp all old new e
+unflushed None old mid new ended e ok err keeps write = tt
+unflushed (Some input) old mid new (Ok ending) e ok err keeps write =
+    (ok.0, subst (IsCutText input ok.0) (sym write) (script_due input ok.0 ending ok.1), ok.2, Appends-kept old mid new ok.0 ok.3 keeps)
+unflushed (Some input) old mid new (Err f) e ok err keeps write =
+    (err.0, subst (IsCutText input err.0) (sym write) (cut_due input err.0 f err.1), err.2, Appends-kept old mid new err.0 err.3 keeps)
 
 -- a text that was given up in writing
 pub untold : {T : Type 0} (result : Result T SimFault) (shown text : List ℕ) (old new : Option (List ℕ)) → shown ≡ text → (k : ℕ) × Appends old new (take k shown) → IfErr result (λ e. e ≡ Write)

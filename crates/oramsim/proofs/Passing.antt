@@ -17,7 +17,7 @@ use Rattle.oramsim.proofs.Clean.{Clean, clean_append, clean_nil, clean_text, err
 use Rattle.oramsim.specs.Printing.{error_text, ready_text, shape_text}
 use Rattle.oramsim.specs.Reading.{lines_of, line_of}
 use Rattle.oramsim.specs.Script.{HasNoFailure, HasRun, IsBad, IsDone, IsHarmless, IsHarmlessScript, IsPassed, IsRefusedLine, IsScriptText, IsUnfit, Point, Running, Stage, Starts, stage_text, start, text_at}
-use Rattle.oramsim.specs.Standing.{RunsOnAt, IsFaithfulAt, IsAtRun, StandsAt, Prints}
+use Rattle.oramsim.specs.Standing.{RunsOnAt, IsCalmAt, IsFaithfulAt, IsAtRun, StandsAt, Prints}
 use Rattle.oramsim.specs.declared.line.Line.{Line}
 use Rattle.oramsim.specs.declared.line.Line.TheVariants.{Device, Told, Answer, Drain, Late, Reopen, Tamper, Swap, Snapshot, Restore}
 use Rattle.oramsim.specs.declared.machine.Machine.{Machine}
@@ -110,19 +110,23 @@ head_done None p q (Swap tree_a node_a tree_b node_b) k clean = absurd k
 head_done None p q Snapshot k clean = absurd k
 head_done None p q Restore k clean = absurd k
 
-head_passed : (p q : Point) (bytes : List ℕ) → IsPassed p bytes q → Clean p.head → Clean q.head
+pub head_passed : (p q : Point) (bytes : List ℕ) → IsPassed p bytes q → Clean p.head → Clean q.head
 head_passed p q [] k clean = subst (λ (u : Point). Clean u.head) (sym k) clean
 head_passed p q (b ∷ bytes) k clean = head_done p.stage p q k.0 k.2 clean
 
-stage_clean : (stage : Stage) (m : Option Machine) → IsFaithfulAt stage m → Clean (stage_text stage)
-stage_clean None m h = clean_nil
-stage_clean (Some r) None h = absurd h
-stage_clean (Some r) (Some m) h = turns_clean r.turns h.calm
+pub calm_at : (stage : Stage) (m : Option Machine) → IsFaithfulAt stage m → IsCalmAt stage
+calm_at None m h = tt
+calm_at (Some r) None h = absurd h
+calm_at (Some r) (Some m) h = h.calm
 
-point_clean : (p : Point) (m : Option Machine) → Clean p.head → IsFaithfulAt p.stage m → Clean (text_at p)
-point_clean p m clean h = clean_append p.head (stage_text p.stage) clean (stage_clean p.stage m h)
+stage_clean : (stage : Stage) → IsCalmAt stage → Clean (stage_text stage)
+stage_clean None calm = clean_nil
+stage_clean (Some r) calm = turns_clean r.turns calm
 
-all_split : {A : Type 0} (P : A → Type 0) (xs ys : List A) → AllByRecursion P (xs ++ ys) → AllByRecursion P xs × AllByRecursion P ys
+pub point_clean : (p : Point) → Clean p.head → IsCalmAt p.stage → Clean (text_at p)
+point_clean p clean calm = clean_append p.head (stage_text p.stage) clean (stage_clean p.stage calm)
+
+pub all_split : {A : Type 0} (P : A → Type 0) (xs ys : List A) → AllByRecursion P (xs ++ ys) → AllByRecursion P xs × AllByRecursion P ys
 all_split P [] ys h = (tt, h)
 all_split P (x ∷ xs) ys h = let q = all_split P xs ys h.1 in ((h.0, q.0), q.1)
 
@@ -144,6 +148,10 @@ pub record Came (input : List ℕ) (left old new : Option (List ℕ)) (number : 
   pub wrote : Appends old new (text_at point)
   pub neat : Clean point.head
   pub faithful : AllByRecursion (λ bytes. IsHarmless (line_of bytes)) lines → IsFaithfulAt point.stage machine
+
+pub came_clean : (input : List ℕ) (left old new : Option (List ℕ)) (number : ℕ) (m : Option Machine) → (came : Came input left old new number m) → AllByRecursion (λ bytes. IsHarmless (line_of bytes)) came.lines
+    → Clean (text_at came.point)
+came_clean input left old new number m came harmless = point_clean came.point came.neat (calm_at came.point.stage m (came.faithful harmless))
 
 pub came_none : (all text : Option (List ℕ)) → IfSome all (λ input. Came input all text text 0 None)
 came_none None text = tt
@@ -184,7 +192,7 @@ came_end (Some input) left old new number m came end =
     let all : lines_of input ≡ came.lines = came.split ∙ (ap (λ l. came.lines ++ lines_of l) over ∙ append-nil came.lines) in (
       text_at came.point,
       (came.point, subst (λ l. FoldsTo IsPassed start l came.point) (sym all) came.passed, run_done came.point.stage m came.stands, refl),
-      (λ harmless. clean_text (text_at came.point) (point_clean came.point m came.neat (came.faithful (subst (AllByRecursion (λ b. IsHarmless (line_of b))) all harmless)))),
+      (λ harmless. clean_text (text_at came.point) (came_clean input left old new number m came (subst (AllByRecursion (λ b. IsHarmless (line_of b))) all harmless))),
       came.wrote,
     )
 
@@ -213,7 +221,7 @@ came_bad (Some input) left later old mid next new number m line bytes came e dro
       ),
       (λ harmless.
           let parts = all_split (λ b. IsHarmless (line_of b)) came.lines (bytes ∷ lines_of (drop_through 10 came.rest)) (subst (AllByRecursion (λ b. IsHarmless (line_of b))) split harmless) in
-          clean_text (text_at came.point ++ error_text (number + 1)) (clean_append (text_at came.point) (error_text (number + 1)) (point_clean came.point m came.neat (came.faithful parts.0)) (error_clean (number + 1)))),
+          clean_text (text_at came.point ++ error_text (number + 1)) (clean_append (text_at came.point) (error_text (number + 1)) (came_clean input left old mid number m came parts.0) (error_clean (number + 1)))),
       Appends-trans _ _ _ _ _ (subst (λ w. Appends old w (text_at came.point)) (sym p.1) came.wrote) told,
     )
 

@@ -15,8 +15,8 @@ use Rattle.oram_run.specs.declared.events.Event.{Event}
 use Rattle.oram_core.specs.Steps.{Steps}
 use Rattle.oram_honest.specs.Honest.{IsHonest}
 use Rattle.oram_honest.specs.Hosting.{Hosts}
-use Rattle.oramsim.specs.Printing.{reaction_text}
-use Rattle.oramsim.specs.Script.{HasNoFailure, HasPassed, HasRun, IsBeginning, IsCutText, IsDrained, IsDue, IsHarmlessScript, IsScriptText, Obeys, Point, GetsTo, Running, Stage, Turn, after_turn, newest_of, plain_shape, stage_text, text_at, with_host}
+use Rattle.oramsim.specs.Printing.{memory_text, reaction_text}
+use Rattle.oramsim.specs.Script.{HasNoFailure, HasRun, IsBeginning, IsCutText, IsDrained, IsHarmlessScript, IsScriptText, Obeys, Point, Running, Stage, Turn, after_turn, newest_of, plain_shape, stage_text, text_at, with_host}
 use Rattle.oramsim.specs.declared.line.Line.{Line}
 use Rattle.oramsim.specs.declared.line.Line.TheVariants.{Drain}
 use Rattle.oramsim.specs.declared.script.Ending.{Ending}
@@ -59,9 +59,17 @@ pub record IsAtRun (r : Running) (m : Machine) : Type 0 where
   pub host : m.server ≡ r.host
   pub copy : m.snapshot ≡ r.copy
 
+-- the device never failed
+abbrev pub IsCalm : Running → Type 0
+IsCalm r = AllByRecursion (λ t. fails_now t.shown.note ≡ false) r.turns
+
+abbrev pub IsCalmAt : Stage → Type 0
+IsCalmAt None = ⊤
+IsCalmAt (Some r) = IsCalm r
+
 -- The device never failed, its core serves an array, and the host keeps what it serves it from.
 pub record IsFaithful (r : Running) (s : State) : Type 0 where
-  pub calm : AllByRecursion (λ t. fails_now t.shown.note ≡ false) r.turns
+  pub calm : IsCalm r
   pub alive : s.failure ≡ None
   pub world : World
   pub array : ℕ → List ℕ
@@ -76,6 +84,10 @@ IsFaithfulAt (Some r) (Some m) = IsFaithful r m.core.state
 -- a run goes on so where the host was `before`, and is now, what an honest one is
 abbrev pub StaysFaithful : Running → State → Event → Shown → State → Type 0
 StaysFaithful r s e x t = (before : Host) → IsHonest (status_in s) s.last e before r.host → IsFaithful (with_host r before) s → IsFaithful (after_turn r e x) t
+
+-- At this event the host does what an honest one does, and before it the run was faithful.
+abbrev pub IsHonestAt : Running → State → Event → Type 0
+IsHonestAt r s e = (before : Host) × IsHonest (status_in s) s.last e before r.host × IsFaithful (with_host r before) s
 
 abbrev pub AreWhole : Option Machine → Type 0
 AreWhole None = ⊤
@@ -108,22 +120,24 @@ IsCutAt Read out part = ⊥
 abbrev pub TellsPart : SimFault → List ℕ → List ℕ → Option (List ℕ) → Option (List ℕ) → Type 0
 TellsPart fault before after old new = (out part : List ℕ) × (after ≡ before ++ out) × IsCutAt fault out part × Appends old new part
 
--- the run was given up on its way to some such point
-abbrev pub GivesUp : Running → (Running → Type 0) → SimFault → Option (List ℕ) → Option (List ℕ) → Type 0
-GivesUp r To fault old new = (later : Running) × To later × HasRun (Some later) × TellsPart fault (stage_text (Some r)) (stage_text (Some later)) old new
+-- The run was given up on its way to some such point. Where nothing meddled, the device never failed up to there.
+abbrev pub GivesUp : Running → Type 0 → (Running → Type 0) → SimFault → Option (List ℕ) → Option (List ℕ) → Type 0
+GivesUp r Unmeddled To fault old new =
+    (later : Running) × To later × HasRun (Some later) × (Unmeddled → IsCalm later) × TellsPart fault (stage_text (Some r)) (stage_text (Some later)) old new
 
-abbrev pub GivesUpAt : Point → (Point → Type 0) → SimFault → Option (List ℕ) → Option (List ℕ) → Type 0
-GivesUpAt p To fault old new = (q : Point) × To q × HasRun q.stage × TellsPart fault (text_at p) (text_at q) old new
+abbrev pub GivesUpAt : Point → Type 0 → (Point → Type 0) → SimFault → Option (List ℕ) → Option (List ℕ) → Type 0
+GivesUpAt p Unmeddled To fault old new =
+    (q : Point) × To q × HasRun q.stage × (Unmeddled → IsCalmAt q.stage) × TellsPart fault (text_at p) (text_at q) old new
 
 -- where a device may stand within a line
 abbrev pub IsUnder : Running → Line → Running → Type 0
 IsUnder r line later = (later ≡ r) ⊎ (Obeys r line later ⊎ ((xs : List Shown) × (line ≡ Drain) × FoldsTo IsDrained r xs later))
 
--- What is written of the input's text at a fault, but for the line that memory ran out.
-abbrev pub IsWrittenAt : List ℕ → List ℕ → SimFault → Type 0
-IsWrittenAt input text OutOfMemory = (q : Point) × GetsTo input q × (text ≡ text_at q)
-IsWrittenAt input text Read = (rest : List (List ℕ)) × (q : Point) × HasPassed input rest q × (text ≡ text_at q)
-IsWrittenAt input text Write = (whole : List ℕ) × IsDue input whole × IsBeginning text whole
+-- a text, and behind it, where memory ran out, the line that tells of it
+abbrev pub told_at : SimFault → List ℕ → List ℕ
+told_at OutOfMemory text = text ++ memory_text
+told_at Read text = text
+told_at Write text = text
 
 -- What a step that was given up has left: without memory nothing was written, and where writing failed the step was made.
 abbrev pub IsHalted : SimFault → Sizes → State → Event → State → Option (List ℕ) → Option (List ℕ) → Type 0
@@ -143,6 +157,12 @@ abbrev pub HasEnded : Option (List ℕ) → Option (List ℕ) → Option (List �
 HasEnded unread old new ending =
     IfSome unread (λ input. (text : List ℕ) × IsScriptText input text ending × (IsHarmlessScript input → HasNoFailure text) × Appends old new text)
 
--- What was written is what a run prints that is given up.
+-- What was written is what a run prints that is given up, and no failure is told where no line meddles.
 abbrev pub HasGivenUp : Option (List ℕ) → Option (List ℕ) → Option (List ℕ) → SimFault → Type 0
-HasGivenUp unread old new fault = IfSome unread (λ input. (text : List ℕ) × IsCutText input text fault × Appends old new text)
+HasGivenUp unread old new fault =
+    IfSome unread (λ input. (text : List ℕ) × IsCutText input text fault × (IsHarmlessScript input → HasNoFailure text) × Appends old new text)
+
+-- The same, where the line that tells of want of memory is still to be written behind the text.
+abbrev pub IsGivingUp : Option (List ℕ) → Option (List ℕ) → Option (List ℕ) → SimFault → Type 0
+IsGivingUp unread old new fault =
+    IfSome unread (λ input. (text : List ℕ) × IsCutText input (told_at fault text) fault × (IsHarmlessScript input → HasNoFailure (told_at fault text)) × Appends old new text)

@@ -1,5 +1,5 @@
 //! A device at work, with its host.
-ghost use Rattle.std.specs.Prelude.{◌≡◌, ◌⊎◌, ◌++◌, ℕ, ◌<◌, true, false, List, take, is_some, IfOk, IfErr, OnOk, IsErrOf, MatchBool, Some, None};
+ghost use Rattle.std.specs.Prelude.{◌≡◌, ◌⊎◌, ◌++◌, ℕ, ◌<◌, true, false, List, take, is_some, IfOk, IfErr, OnOk, IsErrOf, MatchBool, Some, None, ⊤};
 ghost use Rattle.std.specs.Io.KnownBytes.{Appends};
 ghost use Rattle.std.specs.List.{FoldsTo};
 ghost use Rattle.oram_geometry.specs.Sizes.{IsDevice};
@@ -9,7 +9,7 @@ ghost use Rattle.oram_run.specs.Run.{Shown};
 ghost use Rattle.oramsim.specs.Printing as printing;
 ghost use Rattle.oramsim.specs.Script.{Point, Running, IsAnswered, IsDrained, IsNewRun, IsUnfit, Obeys, HostAnswers, Starts, after_turn};
 ghost use Rattle.oramsim.specs.Script as spec;
-ghost use Rattle.oramsim.specs.Standing.{AreWhole, GivesUp, GivesUpAt, RunsOn, RunsOnAt, IsFaithful, IsFaithfulAt, IsHalted, IsPlayed, IsUnder, IsWholeMachine, IsAtRun, StaysFaithful, still_wanted};
+ghost use Rattle.oramsim.specs.Standing.{AreWhole, GivesUp, GivesUpAt, RunsOn, RunsOnAt, IsFaithful, IsFaithfulAt, IsHalted, IsHonestAt, IsPlayed, IsUnder, IsWholeMachine, IsAtRun, StaysFaithful, still_wanted};
 
 use crate::line::Line;
 use crate::printing::{FaultText, ReadyText, reaction_text};
@@ -114,7 +114,8 @@ impl Machine {
         ensures left { OnOk result (spec.is_answer event.now ≡ true → is_some self.old.outstanding ≡ true → still_wanted self.new < still_wanted self.old) }
         ensures ok { (r : Running) → IsAtRun r self.old → OnOk result ((x : Shown) × RunsOn r (after_turn r event.now x) self.new (W.contents writer.old) (W.contents writer.new)
             × StaysFaithful r self.old.core.state event.now x self.new.core.state) }
-        ensures err { (r : Running) → IsAtRun r self.old → IfErr result (λ e. GivesUp r (λ later. (later ≡ r) ⊎ spec.AtEvent r event.now later) e (W.contents writer.old) (W.contents writer.new)) }
+        ensures err { (r : Running) → IsAtRun r self.old → IfErr result (λ e. GivesUp r (IsHonestAt r self.old.core.state event.now) (λ later. (later ≡ r) ⊎ spec.AtEvent r event.now later) e
+            (W.contents writer.old) (W.contents writer.new)) }
     {
         let sent = play(alloc, writer, &mut self.core, event)?;
         let left = left_at(event, self.outstanding.take());
@@ -143,7 +144,7 @@ impl Machine {
         ensures left { OnOk result (is_some self.old.outstanding ≡ true → still_wanted self.new < still_wanted self.old) }
         ensures ok { (r : Running) → IsAtRun r self.old → OnOk result ((x : Shown) × (later : Running) × IsAnswered r x later
             × RunsOn r later self.new (W.contents writer.old) (W.contents writer.new) × (IsFaithful r self.old.core.state → IsFaithful later self.new.core.state)) }
-        ensures err { (r : Running) → IsAtRun r self.old → IfErr result (λ e. GivesUp r (λ later. (later ≡ r) ⊎ ((x : Shown) × IsAnswered r x later)) e
+        ensures err { (r : Running) → IsAtRun r self.old → IfErr result (λ e. GivesUp r (IsFaithful r self.old.core.state) (λ later. (later ≡ r) ⊎ ((x : Shown) × IsAnswered r x later)) e
             (W.contents writer.old) (W.contents writer.new)) }
     {
         let bytes = self.answer_of_host(alloc)?;
@@ -157,7 +158,7 @@ impl Machine {
         ensures ok { (r : Running) → IsAtRun r self.old → OnOk result ((xs : List Shown) × (later : Running)
             × FoldsTo IsDrained r xs later × (later.message ≡ None)
             × RunsOn r later self.new (W.contents writer.old) (W.contents writer.new) × (IsFaithful r self.old.core.state → IsFaithful later self.new.core.state)) }
-        ensures err { (r : Running) → IsAtRun r self.old → IfErr result (λ e. GivesUp r (λ later. (xs : List Shown) × FoldsTo IsDrained r xs later) e
+        ensures err { (r : Running) → IsAtRun r self.old → IfErr result (λ e. GivesUp r (IsFaithful r self.old.core.state) (λ later. (xs : List Shown) × FoldsTo IsDrained r xs later) e
             (W.contents writer.old) (W.contents writer.new)) }
     {
         while self.outstanding.is_some() {
@@ -172,7 +173,7 @@ impl Machine {
         ensures whole { OnOk result (IsWholeMachine self.new) }
         ensures ok { (r : Running) → IsAtRun r self.old → OnOk result ((later : Running) × Obeys r Line.Late later
             × RunsOn r later self.new (W.contents writer.old) (W.contents writer.new) × (IsFaithful r self.old.core.state → IsFaithful later self.new.core.state)) }
-        ensures err { (r : Running) → IsAtRun r self.old → IfErr result (λ e. GivesUp r (λ later. (later ≡ r) ⊎ Obeys r Line.Late later) e
+        ensures err { (r : Running) → IsAtRun r self.old → IfErr result (λ e. GivesUp r (IsFaithful r self.old.core.state) (λ later. (later ≡ r) ⊎ Obeys r Line.Late later) e
             (W.contents writer.old) (W.contents writer.new)) }
     {
         let _unheard = self.answer_of_host(alloc)?;
@@ -185,7 +186,7 @@ impl Machine {
         ensures whole { OnOk result (IsWholeMachine self.new) }
         ensures ok { (r : Running) → IsAtRun r self.old → OnOk result ((later : Running) × Obeys r Line.Reopen later
             × RunsOn r later self.new (W.contents writer.old) (W.contents writer.new) × (IsFaithful r self.old.core.state → IsFaithful later self.new.core.state)) }
-        ensures err { (r : Running) → IsAtRun r self.old → IfErr result (λ e. GivesUp r (λ later. (later ≡ r) ⊎ Obeys r Line.Reopen later) e
+        ensures err { (r : Running) → IsAtRun r self.old → IfErr result (λ e. GivesUp r (IsFaithful r self.old.core.state) (λ later. (later ≡ r) ⊎ Obeys r Line.Reopen later) e
             (W.contents writer.old) (W.contents writer.new)) }
     {
         self.core = read_back(alloc, &self.core)?;
@@ -251,7 +252,8 @@ impl Machine {
         ensures ok { (r : Running) → IsAtRun r self.old → result ≡ Ok true → (later : Running) × Obeys r line later
             × RunsOn r later self.new (W.contents writer.old) (W.contents writer.new) × (spec.is_meddling line ≡ false → IsFaithful r self.old.core.state → IsFaithful later self.new.core.state) }
         ensures bad { (r : Running) → IsAtRun r self.old → result ≡ Ok false → IsUnfit r line × (W.contents writer.new ≡ W.contents writer.old) }
-        ensures err { (r : Running) → IsAtRun r self.old → IfErr result (λ e. GivesUp r (IsUnder r line) e (W.contents writer.old) (W.contents writer.new)) }
+        ensures err { (r : Running) → IsAtRun r self.old → IfErr result (λ e. GivesUp r ((spec.is_meddling line ≡ false) × IsFaithful r self.old.core.state) (IsUnder r line) e
+            (W.contents writer.old) (W.contents writer.new)) }
     {
         match line {
             Line::Told(event) => {
@@ -317,7 +319,7 @@ pub fn begin<W: Write>(
     ensures whole { IfOk result (λ machine. AreWhole machine) }
     ensures ok { (head : List ℕ) → IfOk result (λ machine. (q : Point) × Starts head device q
         × RunsOnAt (record { stage = None; head = head }) q machine (W.contents writer.old) (W.contents writer.new) × IsFaithfulAt q.stage machine) }
-    ensures err { (head : List ℕ) → IfErr result (λ e. GivesUpAt (record { stage = None; head = head }) (λ q. (q ≡ record { stage = None; head = head }) ⊎ Starts head device q) e
+    ensures err { (head : List ℕ) → IfErr result (λ e. GivesUpAt (record { stage = None; head = head }) ⊤ (λ q. (q ≡ record { stage = None; head = head }) ⊎ Starts head device q) e
         (W.contents writer.old) (W.contents writer.new)) }
 {
     match device {

@@ -6,7 +6,7 @@ ghost use Rattle.oramsim.specs.declared.script.SimFault.TheVariants.{OutOfMemory
 ghost use Rattle.oramsim.specs.Printing.{error_text};
 ghost use Rattle.oramsim.specs.Reading.{line_of};
 ghost use Rattle.oramsim.specs.Script.{Point, IsBad, IsHarmless, IsPassed, IsWithin};
-ghost use Rattle.oramsim.specs.Standing.{AreWhole, GivesUpAt, HasEnded, HasGivenUp, RunsOnAt, IsFaithfulAt, IsWrittenAt, IsUntold, StandsAt};
+ghost use Rattle.oramsim.specs.Standing.{AreWhole, GivesUpAt, HasEnded, HasGivenUp, IsGivingUp, RunsOnAt, IsFaithfulAt, IsUntold, StandsAt};
 
 use crate::line::Line;
 use crate::lines::{flush, next_line};
@@ -68,7 +68,7 @@ fn pass<W: Write>(
         × RunsOnAt p q machine.new (W.contents writer.old) (W.contents writer.new)
         × (IsHarmless (line_of bytes.now) → IsFaithfulAt p.stage machine.old → IsFaithfulAt q.stage machine.new) }
     ensures bad { (p : Point) → StandsAt p.stage machine.old → result ≡ Ok false → IsBad p.stage bytes.now × (W.contents writer.new ≡ W.contents writer.old) }
-    ensures err { (p : Point) → StandsAt p.stage machine.old → IfErr result (λ e. GivesUpAt p (λ q. IsPassed p bytes.now q ⊎ IsWithin p (bytes.now ∷ []) q) e
+    ensures err { (p : Point) → StandsAt p.stage machine.old → IfErr result (λ e. GivesUpAt p (IsHarmless (line_of bytes.now) × IsFaithfulAt p.stage machine.old) (λ q. IsPassed p bytes.now q ⊎ IsWithin p (bytes.now ∷ []) q) e
         (W.contents writer.old) (W.contents writer.new)) }
 {
     if bytes.is_empty() {
@@ -114,7 +114,7 @@ fn run_lines<R: BufRead, W: Write>(
 ) -> Result<Ending, SimFault>
     ensures ok { IfOk result (λ ending. HasEnded (R.remaining reader.old) (W.contents writer.old) (W.contents writer.new) ending) }
     ensures end { result ≡ Ok Ending.End → IfSome (R.remaining reader.old) (λ _. IsAtEnd (R.remaining reader.new)) }
-    ensures err { IfErr result (λ e. IfSome (R.remaining reader.old) (λ input. (text : List ℕ) × IsWrittenAt input text e × Appends (W.contents writer.old) (W.contents writer.new) text)) }
+    ensures err { IfErr result (λ e. IsGivingUp (R.remaining reader.old) (W.contents writer.old) (W.contents writer.new) e) }
 {
     let mut machine = None;
     let mut line = Vec::new(alloc);

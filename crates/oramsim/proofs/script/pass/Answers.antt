@@ -4,7 +4,7 @@ use Rattle.oramsim.specs.declared.line.Line.{Line}
 use Rattle.oramsim.specs.declared.script.SimFault.TheVariants.{OutOfMemory}
 use Rattle.oramsim.proofs.Cut.{obeyed_cut, started_cut, stays_at}
 use Rattle.oramsim.proofs.GivenUp.{raised}
-use Rattle.oramsim.proofs.Passing.{empty_passed, passed_some, refused_some, started}
+use Rattle.oramsim.proofs.Passing.{calm_at, empty_passed, passed_some, refused_some, started}
 use Rattle.oramsim.proofs.script.pass.Goals as goal
 
 pub returns-then-is_empty-clause-ok : goal.returns-then-is_empty-clause-ok
@@ -24,14 +24,14 @@ returns-in_ok-machine-in-None-clause-ok g c = λ p f e.
     c.in_ok-machine-in-None.ensures.ok (sym c.if-is_empty.ensures) (sym c.in_ok-line.ensures ∙ (c.in-Some.is ∙ ap (λ (l : Line). Some l) c.in-Device.is)) (subst (StandsAt p.stage) c.in-None.is f)
 
 pub returns-in_err-line-clause-err : goal.returns-in_err-line-clause-err
-returns-in_err-line-clause-err g c = λ p f. raised _ _ OutOfMemory c.from_residual.ensures.1 (stays_at p _ _ _ _ f (inr (inl refl)) refl)
+returns-in_err-line-clause-err g c = λ p f. raised _ _ OutOfMemory c.from_residual.ensures.1 (stays_at p _ _ _ _ _ f (λ on. calm_at p.stage _ on.1) (inr (inl refl)) refl)
 
 pub returns-in-Some-machine-clause-err : goal.returns-in-Some-machine-clause-err
 returns-in-Some-machine-clause-err g c = λ p f.
-    obeyed_cut p c.in-Some-machine.machine c.args.bytes.now c.in-Some.line c.obey.result _ _ c.obey.ensures.err (sym c.if-is_empty.ensures) (sym c.in_ok-line.ensures ∙ c.in-Some.is) (subst (StandsAt p.stage) c.in-Some-machine.is f)
+    obeyed_cut p _ c.in-Some-machine.machine c.args.bytes.now c.in-Some.line c.obey.result _ _ c.obey.ensures.err (sym c.if-is_empty.ensures) (sym c.in_ok-line.ensures ∙ c.in-Some.is) c.in-Some-machine.is f
 
 pub returns-in_err-machine-in-None-clause-err : goal.returns-in_err-machine-in-None-clause-err
 returns-in_err-machine-in-None-clause-err g c = λ p f.
     let e = c.in_err-machine-in-None.field-0.0 in
-    raised _ _ e c.from_residual-in_err-machine-in-None.ensures.1 (started_cut p c.args.bytes.now _ _ _ _ _ c.new-device.result e _ _ c.new-device.ensures c.in_err-machine-in-None.ensures.err
+    raised _ _ e c.from_residual-in_err-machine-in-None.ensures.1 (started_cut p _ c.args.bytes.now _ _ _ _ _ c.new-device.result e _ _ c.new-device.ensures c.in_err-machine-in-None.ensures.err
     (sym c.if-is_empty.ensures) (sym c.in_ok-line.ensures ∙ (c.in-Some.is ∙ ap (λ (l : Line). Some l) c.in-Device.is)) (subst (StandsAt p.stage) c.in-None.is f))

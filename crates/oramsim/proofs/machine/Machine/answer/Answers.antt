@@ -19,11 +19,11 @@ returns-clause-ok g c = λ r f.
     on_ok _ _ c.tell.result (λ q. answered r m n c.tell.new.self c.in_ok-bytes.bytes _ _ c.requires f h q) (c.tell.ensures.ok _ (heard_stands r m n c.in_ok-bytes.bytes f h))
 
 pub returns-in_err-bytes-clause-err : goal.returns-in_err-bytes-clause-err
-returns-in_err-bytes-clause-err g c = λ r f. raised _ _ OutOfMemory c.from_residual.ensures.1 (stays r c.args.self.now _ _ _ f (inl refl) refl)
+returns-in_err-bytes-clause-err g c = λ r f. raised _ _ OutOfMemory c.from_residual.ensures.1 (stays r c.args.self.now _ _ _ _ f (λ h. h.calm) (inl refl) refl)
 
 pub returns-clause-err : goal.returns-clause-err
 returns-clause-err g c = λ r f.
     let m = c.args.self.now in
     let n = c.answer_of_host.new.self in
     let h : IsHeard m n c.in_ok-bytes.bytes = record { replies = c.in_ok-bytes.ensures.bytes; core = c.answer_of_host.ensures.core; outstanding = c.answer_of_host.ensures.outstanding; snapshot = c.answer_of_host.ensures.snapshot } in
-    if_err _ _ c.tell.result (λ e q. answer_cut r m n c.in_ok-bytes.bytes e _ _ f h q) (c.tell.ensures.err _ (heard_stands r m n c.in_ok-bytes.bytes f h))
+    if_err _ _ c.tell.result (λ e q. answer_cut r m n c.in_ok-bytes.bytes e _ _ c.requires f h q) (c.tell.ensures.err _ (heard_stands r m n c.in_ok-bytes.bytes f h))

@@ -25,4 +25,4 @@ pub returns-in_err-answer-clause-err : goal.returns-in_err-answer-clause-err
 returns-in_err-answer-clause-err g c = λ r f.
     let p = c.loop-alloc.invariant.so_far r f in
     let e = c.in_err-answer.field-0.0 in
-    raised _ _ e c.from_residual.ensures.1 (drain_cut r p.1 c.loop-alloc.self e _ _ _ p.0 p.2 p.3 (sym c.loop-alloc-test.ensures) (c.in_err-answer.ensures.err p.1 p.3.0))
+    raised _ _ e c.from_residual.ensures.1 (drain_cut r p.1 c.args.self.now.core.state c.loop-alloc.self e _ _ _ p.0 p.2 p.3 (sym c.loop-alloc-test.ensures) p.4 (c.in_err-answer.ensures.err p.1 p.3.0))

@@ -1,7 +1,7 @@
 use Rattle.std.proofs.Common.{refl}
-use Rattle.oramsim.specs.declared.line.Line.TheVariants.{Late, Reopen, Told}
+use Rattle.oramsim.specs.declared.line.Line.TheVariants.{Late, Reopen}
 use Rattle.oramsim.specs.declared.script.SimFault.TheVariants.{OutOfMemory}
-use Rattle.oramsim.proofs.GivenUp.{line_answered, line_cut, line_drained, line_stays, raised}
+use Rattle.oramsim.proofs.GivenUp.{line_answered, line_cut, line_drained, line_stays, line_told, raised}
 use Rattle.oramsim.proofs.Obeyed.{answer_obeyed, drain_obeyed, restore_obeyed, restore_unfit, snapshot_obeyed, spoken_obeyed, swap_obeyed, swap_unfit, tamper_obeyed, tamper_unfit, told_obeyed, when_false, when_true}
 use Rattle.oramsim.proofs.machine.Machine.obey.Goals as goal
 
@@ -48,19 +48,19 @@ returns-in_ok-restore-in-Restore-clause-bad g c = λ r f e.
     (restore_unfit r c.args.line c.in-Restore.is (when_false _ _ c.in_ok-restore-in-Restore.field-0 _ refl (c.in_ok-restore-in-Restore.ensures.ok r f) e), refl)
 
 pub returns-in_err-tell-in-Told-clause-err : goal.returns-in_err-tell-in-Told-clause-err
-returns-in_err-tell-in-Told-clause-err g c = λ r f. raised _ _ c.in_err-tell-in-Told.field-0.0 c.from_residual.ensures.1 (line_cut r c.args.line (Told c.in-Told.event) c.in_err-tell-in-Told.field-0.0 _ _ c.in-Told.is (c.in_err-tell-in-Told.ensures.err r f))
+returns-in_err-tell-in-Told-clause-err g c = λ r f. raised _ _ c.in_err-tell-in-Told.field-0.0 c.from_residual.ensures.1 (line_told r c.args.self.now.core.state c.args.line c.in-Told.event c.in_err-tell-in-Told.field-0.0 _ _ c.in-Told.is (c.in_err-tell-in-Told.ensures.err r f))
 
 pub returns-in_err-answer-in-Answer-clause-err : goal.returns-in_err-answer-in-Answer-clause-err
-returns-in_err-answer-in-Answer-clause-err g c = λ r f. raised _ _ c.in_err-answer-in-Answer.field-0.0 c.from_residual-in_err-answer-in-Answer.ensures.1 (line_answered r c.args.line c.in_err-answer-in-Answer.field-0.0 _ _ c.in-Answer.is (c.in_err-answer-in-Answer.ensures.err r f))
+returns-in_err-answer-in-Answer-clause-err g c = λ r f. raised _ _ c.in_err-answer-in-Answer.field-0.0 c.from_residual-in_err-answer-in-Answer.ensures.1 (line_answered r c.args.self.now.core.state c.args.line c.in_err-answer-in-Answer.field-0.0 _ _ c.in-Answer.is (c.in_err-answer-in-Answer.ensures.err r f))
 
 pub returns-in_err-drain-in-Drain-clause-err : goal.returns-in_err-drain-in-Drain-clause-err
-returns-in_err-drain-in-Drain-clause-err g c = λ r f. raised _ _ c.in_err-drain-in-Drain.field-0.0 c.from_residual-in_err-drain-in-Drain.ensures.1 (line_drained r c.args.line c.in_err-drain-in-Drain.field-0.0 _ _ c.in-Drain.is (c.in_err-drain-in-Drain.ensures.err r f))
+returns-in_err-drain-in-Drain-clause-err g c = λ r f. raised _ _ c.in_err-drain-in-Drain.field-0.0 c.from_residual-in_err-drain-in-Drain.ensures.1 (line_drained r c.args.self.now.core.state c.args.line c.in_err-drain-in-Drain.field-0.0 _ _ c.in-Drain.is (c.in_err-drain-in-Drain.ensures.err r f))
 
 pub returns-in_err-lose_answer-in-Late-clause-err : goal.returns-in_err-lose_answer-in-Late-clause-err
-returns-in_err-lose_answer-in-Late-clause-err g c = λ r f. raised _ _ c.in_err-lose_answer-in-Late.field-0.0 c.from_residual-in_err-lose_answer-in-Late.ensures.1 (line_cut r c.args.line Late c.in_err-lose_answer-in-Late.field-0.0 _ _ c.in-Late.is (c.in_err-lose_answer-in-Late.ensures.err r f))
+returns-in_err-lose_answer-in-Late-clause-err g c = λ r f. raised _ _ c.in_err-lose_answer-in-Late.field-0.0 c.from_residual-in_err-lose_answer-in-Late.ensures.1 (line_cut r c.args.self.now.core.state c.args.line Late c.in_err-lose_answer-in-Late.field-0.0 _ _ c.in-Late.is (c.in_err-lose_answer-in-Late.ensures.err r f))
 
 pub returns-in_err-reopen-in-Reopen-clause-err : goal.returns-in_err-reopen-in-Reopen-clause-err
-returns-in_err-reopen-in-Reopen-clause-err g c = λ r f. raised _ _ c.in_err-reopen-in-Reopen.field-0.0 c.from_residual-in_err-reopen-in-Reopen.ensures.1 (line_cut r c.args.line Reopen c.in_err-reopen-in-Reopen.field-0.0 _ _ c.in-Reopen.is (c.in_err-reopen-in-Reopen.ensures.err r f))
+returns-in_err-reopen-in-Reopen-clause-err g c = λ r f. raised _ _ c.in_err-reopen-in-Reopen.field-0.0 c.from_residual-in_err-reopen-in-Reopen.ensures.1 (line_cut r c.args.self.now.core.state c.args.line Reopen c.in_err-reopen-in-Reopen.field-0.0 _ _ c.in-Reopen.is (c.in_err-reopen-in-Reopen.ensures.err r f))
 
 pub returns-in_err-keep-in-Snapshot-clause-err : goal.returns-in_err-keep-in-Snapshot-clause-err
 returns-in_err-keep-in-Snapshot-clause-err g c = λ r f. raised _ _ OutOfMemory c.from_residual-in_err-keep-in-Snapshot.ensures.1 (line_stays r c.args.self.now c.args.line _ _ f refl)
