@@ -2,7 +2,7 @@
 
 use crate::requests::{Access, BLOCK_BYTES, BLOCKS, REQUESTS, said, some_accesses};
 use oram_bucket::ChaChaSeal;
-use oram_client::{FileKeeper, FilePlace, Salt};
+use oram_client::{DiskKey, FileKeeper, FilePlace, Head, Salt, SealerKind};
 use oram_core::Core;
 use oram_geometry::Device;
 use oram_host::Server;
@@ -138,7 +138,8 @@ pub(crate) fn measure<R: Files + Clock + Print + Alloc<A = Global>>(
         ("requests, kept and synced", true),
     ] {
         let place = FilePlace::new(rt, alloc, name.as_str())?;
-        let keeper = FileKeeper::new(place, Salt([4; 32]), sync);
+        let head = Head::new(&DiskKey([4; 32]), Salt([4; 32]), SealerKind::ChaCha20);
+        let keeper = FileKeeper::new(place, head, sync);
         report(rt, line, by_requests(rt, keeper, &said)?, core)?;
     }
     fs::remove_file(rt, name.as_str())

@@ -1,5 +1,5 @@
 -- Messages that went ahead of their answers, by the bytes that were written and read.
-use Rattle.std.proofs.Common.{◌≡◌, ℕ, ◌+◌, ◌<◌, List, [], ◌∷◌, ◌++◌, Option, sym, ap, ◌∙◌, subst, arith}
+use Rattle.std.proofs.Common.{◌≡◌, ℕ, ◌+◌, ◌<◌, List, [], ◌∷◌, ◌++◌, length, Option, refl, sym, ap, ◌∙◌, subst, arith}
 use Rattle.std.specs.Prelude.{replicate}
 use Rattle.std.proofs.lemmas.Grind.{flat_map-append}
 use Rattle.std.proofs.lemmas.List.{append-nil, replicate-append-replicate}
@@ -8,7 +8,7 @@ use Rattle.std.specs.List.{flat_map}
 use Rattle.std.proofs.KnownBytes.{Appends-kept, Appends-nil, Appends-trans, Consumes-nil, Consumes-trans}
 use Rattle.oram_wire.specs.FrameStream.{frame}
 use Rattle.oram_tree.specs.Format.{PutsAll}
-use Rattle.oram_client.specs.Ahead.{ToHost, ArePut, IsDrained, IsPut, dones, most_due}
+use Rattle.oram_client.specs.Ahead.{ToHost, ArePut, AreTaken, IsDrained, IsPut, dones, most_due}
 
 pub dones_more : (m n : ℕ) → dones m ++ dones n ≡ dones (m + n)
 dones_more m n = sym (flat_map-append frame (replicate m (128 ∷ [])) (replicate n (128 ∷ []))) ∙ ap (flat_map frame) (replicate-append-replicate m n (128 ∷ []))
@@ -64,3 +64,19 @@ module _ {R W : Type 0} (remaining : R → Option (List ℕ)) (contents : W → 
         read = subst (Consumes (remaining a.reader) (remaining b.reader)) (dones_more first.count rest.count)
             (Consumes-trans (remaining a.reader) (remaining next.reader) (remaining b.reader) (dones first.count) (dones rest.count) first.read rest.read);
       }
+
+  -- messages that were put, once the answers are read
+  pub taken_whole : (a b c : ToHost R W) (bodies : List (List ℕ)) → ArePut remaining contents a bodies b → IsDrained remaining contents b b.due c → AreTaken remaining contents a bodies c
+  taken_whole a b c bodies put drained = record {
+    due = (let e = drained.due in omega arith);
+    wrote = subst (Appends (contents a.writer) (contents c.writer)) (append-nil (flat_map frame bodies))
+        (Appends-trans (contents a.writer) (contents b.writer) (contents c.writer) (flat_map frame bodies) [] put.wrote drained.wrote);
+    read = (let all : put.count + b.due ≡ a.due + length bodies = (let e = put.due in omega arith) in
+        subst (λ (n : ℕ). Consumes (remaining a.reader) (remaining c.reader) (dones n)) all
+        (subst (Consumes (remaining a.reader) (remaining c.reader)) (dones_more put.count b.due)
+        (Consumes-trans (remaining a.reader) (remaining b.reader) (remaining c.reader) (dones put.count) (dones b.due) put.read drained.read)));
+  }
+
+  -- two messages that were put behind one another
+  pub put_both : (a b c : ToHost R W) (first second : List ℕ) → IsPut remaining contents a first b → IsPut remaining contents b second c → ArePut remaining contents a (first ∷ second ∷ []) c
+  put_both a b c first second one two = puts_all a (first ∷ second ∷ []) c (b, one, (c, two, refl))

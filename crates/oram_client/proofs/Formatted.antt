@@ -24,10 +24,13 @@ use Rattle.oram_run.specs.Formatting.{IsFormatBegun}
 use Rattle.oram_run.specs.Shape.{Shape}
 use Rattle.oram_run.specs.State.{State, no_tree}
 use Rattle.oram_core.specs.Formatting.{IsNew}
-use Rattle.oram_client.specs.declared.formatting.FormattingFault.{FormattingFault}
-use Rattle.oram_client.specs.declared.formatting.FormattingFault.TheVariants.{OutOfMemory}
-use Rattle.oram_client.specs.Ahead.{ToHost, ArePut, IsAsked, IsDrained, IsPut, IsStopped, IsUnput, dones}
-use Rattle.oram_client.specs.Formatting.{Collects, AreGenuine, AreSeen, IsFormattedAhead, IsFormattedInPart, IsUnheld, IsUnseen, fetches, format_told, paths, sink_told}
+use Rattle.oram_client.specs.declared.faults.FormattingFault.{FormattingFault}
+use Rattle.oram_client.specs.declared.naming.TheConstants.{IDENTITY_TREE}
+use Rattle.oram_client.specs.declared.refusals.Refusal.{Refusal}
+use Rattle.oram_client.specs.Ahead.{ToHost, ArePut, AreTaken, IsAsked, IsDrained, IsPut, IsStopped, IsUnput, dones}
+use Rattle.oram_client.specs.Formatting.{Collects, AreGenuine, AreSeen, AreTreesMade, AreTreesMadeInPart, IsFormattedAhead, IsUnheld, IsUnseen, fetches, paths}
+use Rattle.oram_client.specs.Faults.{format_told, sink_told}
+use Rattle.oram_client.specs.Naming.{identity_messages}
 use Rattle.oram_client.proofs.Answered.{dones_more, puts_all}
 
 -- the root digest of a tree is that of its parts
@@ -60,10 +63,13 @@ genuine_more v s n answers records d overhead root count before accepted device 
     (subst (λ (r : List ℕ). IsAccepted (path_of v.device n 0 v.overhead (slice_index_or (answers ++ records ∷ []) n [])) r) stands c)
 
 -- a fault of the connection is told as such, whoever tells it first
-told_once : (why : SinkFault) → format_told (format_fault why) ≡ sink_told why
-told_once sink.Refused = refl
-told_once sink.Link = refl
-told_once sink.OutOfMemory = refl
+told_once : (read : Option Refusal) (why : SinkFault) → format_told read (format_fault why) ≡ sink_told read why
+told_once read sink.Refused = refl
+told_once read sink.Link = refl
+told_once read sink.OutOfMemory = refl
+
+regrouped : (a b c d : List ℕ) → a ++ ((b ++ c) ++ d) ≡ ((a ++ b) ++ c) ++ d
+regrouped a b c d = sym (simp append_assoc)
 
 module _ {R W : Type 0} (remaining : R → Option (List ℕ)) (contents : W → Option (List ℕ)) where
   -- the same messages, in a list
@@ -96,9 +102,9 @@ module _ {R W : Type 0} (remaining : R → Option (List ℕ)) (contents : W → 
   )
 
   -- all of them were answered then, and a path of each tree fetched
-  pub formatted_ahead : (u v : Shape) → u ≡ v → (a b c d : ToHost R W) (s : State) (count : ℕ) → IsNew v (IsPut remaining contents) a s b → IsDrained remaining contents b b.due c
-      → count ≡ trees_of v.device → AreSeen remaining contents u s count c d → IsFormattedAhead remaining contents v a s d
-  formatted_ahead u v same a b c d s count new drained is seen_so =
+  pub trees_made : (u v : Shape) → u ≡ v → (a b c d : ToHost R W) (s : State) (count : ℕ) → IsNew v (IsPut remaining contents) a s b → IsDrained remaining contents b b.due c
+      → count ≡ trees_of v.device → AreSeen remaining contents u s count c d → AreTreesMade remaining contents v a s d
+  trees_made u v same a b c d s count new drained is seen_so =
       let seen = subst (λ (w : Shape). AreSeen remaining contents w s count c d) same seen_so in
       let made = made_ahead v a s b new in
       let put = made.2 in
@@ -142,7 +148,7 @@ module _ {R W : Type 0} (remaining : R → Option (List ℕ)) (contents : W → 
 
   -- it was broken off while messages were put
   pub unmade : (v : Shape) (a : ToHost R W) (fault : FormatFault) (b : ToHost R W) → IsBrokenOff (IsPut remaining contents) (IsUnput remaining contents) (IsFormatBegun v) a fault b
-      → IsFormattedInPart remaining contents v a (format_told fault) b
+      → AreTreesMadeInPart remaining contents v a (format_told b.refusal fault) b
   unmade v a fault b h = record {
     messages = h.taken;
     mid = h.mid;
@@ -150,23 +156,51 @@ module _ {R W : Type 0} (remaining : R → Option (List ℕ)) (contents : W → 
     ended = inl (
       h.begun,
       elim h.ended [
-        | inl e ↦ inl (ap format_told e.0, e.1)
-        | inr r ↦ inr (r.body, r.why, r.begun, r.refused, ap format_told r.told ∙ told_once r.why)
+        | inl e ↦ inl (ap (format_told b.refusal) e.0, e.1)
+        | inr r ↦ inr (r.body, r.why, r.begun, r.refused, ap (format_told b.refusal) r.told ∙ told_once b.refusal r.why)
       ],
     );
   }
 
   -- or while answers were read
   pub unsettled : (v : Shape) (a b c : ToHost R W) (s : State) (why : SinkFault) → IsNew v (IsPut remaining contents) a s b → IsStopped remaining contents b b.due why c
-      → IsFormattedInPart remaining contents v a (sink_told why) c
+      → AreTreesMadeInPart remaining contents v a (sink_told c.refusal why) c
   unsettled v a b c s why new stopped =
       let made = made_ahead v a s b new in
       record { messages = made.0; mid = b; put = made.2; ended = inr (s, made.1, inl (why, stopped, refl)) }
 
   -- or while paths were fetched
   pub unchecked : (u v : Shape) → u ≡ v → (a b c d : ToHost R W) (s : State) (fault : FormattingFault) → IsNew v (IsPut remaining contents) a s b → IsDrained remaining contents b b.due c
-      → IsUnseen remaining contents u s c fault d → IsFormattedInPart remaining contents v a fault d
+      → IsUnseen remaining contents u s c fault d → AreTreesMadeInPart remaining contents v a fault d
   unchecked u v same a b c d s fault new drained unseen =
       let made = made_ahead v a s b new in
       let there = subst (λ (w : Shape). IsUnseen remaining contents w s c fault d) same unseen in
       record { messages = made.0; mid = b; put = made.2; ended = inr (s, made.1, inr (c, drained, there)) }
+
+  -- The identity was put, the trees were made and the identity was given back.
+  pub formatted_ahead : (v : Shape) (identity : List ℕ) (a b c d : ToHost R W) (s : State) → AreTaken remaining contents a (identity_messages identity) b → AreTreesMade remaining contents v b s c
+      → IsAsked remaining contents c (fetch_body IDENTITY_TREE 0) (128 ∷ identity) d → IsFormattedAhead remaining contents v identity a s d
+  formatted_ahead v identity a b c d s named made asked =
+      let ids = identity_messages identity in
+      let asking = frame (fetch_body IDENTITY_TREE 0) in
+      let giving = frame (128 ∷ identity) in
+      let messages = flat_map frame made.messages in
+      let all : a.due + length ids + (b.due + length made.messages) ≡ a.due + length (ids ++ made.messages) =
+      (let e = named.due in omega (arith, length-append ids made.messages)) in
+      let written = Appends-trans (contents a.writer) (contents b.writer) (contents d.writer) (flat_map frame ids) ((messages ++ fetches (trees_of v.device)) ++ asking) named.wrote
+      (Appends-trans (contents b.writer) (contents c.writer) (contents d.writer) (messages ++ fetches (trees_of v.device)) asking made.wrote asked.wrote) in
+      let reading = Consumes-trans (remaining a.reader) (remaining b.reader) (remaining d.reader) (dones (a.due + length ids)) ((dones (b.due + length made.messages) ++ paths made.answers) ++ giving) named.read
+      (Consumes-trans (remaining b.reader) (remaining c.reader) (remaining d.reader) (dones (b.due + length made.messages) ++ paths made.answers) giving made.read asked.read) in
+      record {
+        messages = made.messages;
+        new = made.new;
+        answers = made.answers;
+        answers_count = made.answers_count;
+        due = asked.due ∙ made.due;
+        wrote = subst (Appends (contents a.writer) (contents d.writer))
+            (regrouped (flat_map frame ids) messages (fetches (trees_of v.device)) asking ∙ ap (λ l. (l ++ fetches (trees_of v.device)) ++ asking) (sym (flat_map-append frame ids made.messages))) written;
+        read = subst (Consumes (remaining a.reader) (remaining d.reader))
+            (regrouped (dones (a.due + length ids)) (dones (b.due + length made.messages)) (paths made.answers) giving
+            ∙ ap (λ l. (l ++ paths made.answers) ++ giving) (dones_more (a.due + length ids) (b.due + length made.messages) ∙ ap dones all)) reading;
+        genuine = made.genuine;
+      }

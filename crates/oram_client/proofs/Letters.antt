@@ -1,13 +1,19 @@
--- A file that begins with the letters.
-use Rattle.std.proofs.Common.{◌≡◌, ℕ, true, List, ◌++◌, sym, ap, ◌∙◌, take, drop, take-append-drop}
-use Rattle.std.specs.Prelude.{codes}
-use Rattle.std.specs.Str.{bytes_eq}
-use Rattle.std.proofs.lemmas.Slice.Eq.{bytes_eq-Decides}
-use Rattle.oram_client.specs.KeptFile.{kept_file}
+-- The parts of a disk's file, behind one another.
+use Rattle.std.proofs.Common.{◌≡◌, ℕ, List, ◌∷◌, ◌++◌, sym, ap, ◌∙◌, take, drop, take-append-drop}
+use Rattle.std.proofs.lemmas.List.{drop_at}
+use Rattle.oram_client.specs.declared.kept_file.Head.{Head}
+use Rattle.oram_client.specs.KeptFile.{IsHead, behind_letters, sealer_byte}
 
-pub opened : (file rest salt state : List ℕ) → bytes_eq (take 8 file) (codes "VIDLAQE1") ≡ true → rest ≡ drop 8 file → salt ≡ take 32 rest → state ≡ drop 32 rest → file ≡ kept_file salt state
-opened file rest salt state begins after first others =
-    let letters : take 8 file ≡ codes "VIDLAQE1" = (bytes_eq-Decides (take 8 file) (codes "VIDLAQE1")).0 begins in
-    let joined : take 32 rest ++ drop 32 rest ≡ rest = take-append-drop 32 rest in
-    let both : drop 8 file ≡ salt ++ state = cc in
-    sym (take-append-drop 8 file) ∙ ap (λ l. l ++ drop 8 file) letters ∙ ap (λ l. codes "VIDLAQE1" ++ l) both
+-- two parts of 32 bytes, and what is behind them
+pub joined : (rest salt behind check others : List ℕ) → salt ≡ take 32 rest → behind ≡ drop 32 rest → check ≡ take 32 behind → others ≡ drop 32 behind → rest ≡ salt ++ (check ++ others)
+joined rest salt behind check others first after second last =
+    let inner : check ++ others ≡ behind = ap (λ l. l ++ others) second ∙ ap (λ l. take 32 behind ++ l) last ∙ take-append-drop 32 behind in
+    sym (ap (λ l. salt ++ l) (inner ∙ after) ∙ ap (λ l. l ++ drop 32 rest) first ∙ take-append-drop 32 rest)
+
+-- the byte of the sealer and the state stand behind the salt and the key check
+pub parted : (head : Head) (state rest behind others : List ℕ) → IsHead head → rest ≡ behind_letters head state → behind ≡ drop 32 rest → others ≡ drop 32 behind
+    → others ≡ sealer_byte head.sealer ∷ state
+parted head state rest behind others is whole after last =
+    let tail = sealer_byte head.sealer ∷ state in
+    let one : behind ≡ head.key_check.0 ++ tail = after ∙ ap (drop 32) whole ∙ drop_at head.salt.0 (head.key_check.0 ++ tail) 32 is.salt in
+    last ∙ ap (drop 32) one ∙ drop_at head.key_check.0 tail 32 is.key_check

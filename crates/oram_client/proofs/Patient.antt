@@ -1,91 +1,114 @@
--- Tries to open a way, one after the other.
-use Rattle.std.proofs.Common.{◌≡◌, ℕ, ◌-◌, ◌*◌, ◌<◌, ◌≤◌, min, List, [], ◌∷◌, ◌++◌, Option, None, Some, Ok, Err, ◌⊎◌, inr, sym, ap, ◌∙◌, subst, arith}
+-- Tries to have an answer, one after the other.
+use Rattle.std.proofs.Common.{◌≡◌, ℕ, List, [], ◌∷◌, ◌++◌, Option, None, Some, sym, ap, ◌∙◌, subst}
+use Rattle.std.specs.Prelude.{MatchOption}
+use Rattle.std.specs.List.{FoldsTo}
 use Rattle.std.proofs.lemmas.Fn.{FoldsTo-push}
-use Rattle.oram_session.specs.declared.link.LinkFault.{LinkFault}
 use Rattle.oram_session.specs.Outcome.{Outcome}
-use Rattle.oram_client.specs.Patience.{Patient, IsDelayed, AreDelays, IsOpened, IsGivenUp, HasLine, IsOutOfReach, IsCalled, waiting}
+use Rattle.oram_client.specs.declared.dialing.Limits.{Limits}
+use Rattle.oram_client.specs.declared.dialing.Trouble.{Trouble}
+use Rattle.oram_client.specs.Patience.{Patient, Attempt, IsTroubleIn, IsDelayed, IsPaused, IsTried, IsUsedUp, Persists, Waiting, first_pause, limits, told}
 
-some_left : (next held_left now_left pause : ℕ) → held_left ≡ now_left → pause ≡ min next held_left → (pause ≡ 0 → ⊥) → 0 < now_left
-some_left next held_left now_left pause left_is pause_is some = omega arith
-
-none_left : (next left : ℕ) → 100 ≤ next → min next left ≡ 0 → left ≡ 0
-none_left next left some none = omega arith
-
--- all but what opens ways and the patience that is left
-pub same_but : {D L : Type 0} (dialer : D) (left : ℕ) (line line' : Option L) (patience patience' faults faults' : ℕ) → line ≡ line' → patience ≡ patience' → faults ≡ faults'
-    → (let x : Patient D L = record { dialer = dialer; line = line; patience = patience; left = left; faults = faults } in
-    let y : Patient D L = record { dialer = dialer; line = line'; patience = patience'; left = left; faults = faults' } in x ≡ y)
-same_but dialer left line line' patience patience' faults faults' a b c = λ k. record { dialer = dialer; line = a k; patience = b k; left = left; faults = c k }
-
-module _ {D L : Type 0} (opens : D → L → D → Type 0) (fails : D → LinkFault → D → Type 0) (pauses : D → ℕ → D → Type 0) where
+module _ {D L : Type 0} (opens : D → Limits → L → D → Type 0) (fails : D → Limits → Trouble → D → Type 0) (pauses : D → ℕ → D → Type 0)
+    (reads : D → Option ℕ → D → Type 0) (calls : L → List ℕ → Outcome → L → Type 0) where
   -- the tries up to here
-  abbrev pub Delayed : D → ℕ → D → ℕ → ℕ → Type 0
-  Delayed dialer left now next now_left =
-      (whys : List LinkFault) × AreDelays opens fails pauses (waiting dialer left) whys (record { dialer = now; pause = next; left = now_left })
+  abbrev pub Delayed : ℕ → Option ℕ → List ℕ → D → Option L → D → Option L → ℕ → ℕ → Type 0
+  Delayed patience begin body first line now now_line pause left =
+      (troubles : List Trouble) × FoldsTo {P = Waiting D L} (IsDelayed opens fails pauses reads calls patience begin body)
+      (record { dialer = first; line = line; pause = first_pause; left = patience }) troubles (record { dialer = now; line = now_line; pause = pause; left = left })
 
-  -- one more, and its pause
-  pub delayed_more : (dialer : D) (left : ℕ) (now : D) (next now_left : ℕ) (why : LinkFault) (held mid mid_held : D) (held_left : ℕ) (later : D) (pause after_next : ℕ)
-      → Delayed dialer left now next now_left → held ≡ now → fails held why mid → mid_held ≡ mid → held_left ≡ now_left → pause ≡ min next held_left → (pause ≡ 0 → ⊥)
-      → pauses mid_held pause later → after_next ≡ min (2 * next) 5000 → Delayed dialer left later after_next (held_left - pause)
-  delayed_more dialer left now next now_left why held mid mid_held held_left later pause after_next (whys, before) is failed mid_is left_is pause_is some paused next_is = (
-    whys ++ why ∷ [],
-    FoldsTo-push (IsDelayed opens fails pauses) _ whys _ why _ before (record {
-      dialer = mid;
-      failed = subst (λ (d : D). fails d why mid) is failed;
-      more = some_left next held_left now_left pause left_is pause_is some;
-      paused = subst (λ (d : D). pauses d (min next now_left) later) mid_is (subst (λ (n : ℕ). pauses mid_held n later) (pause_is ∙ ap (min next) left_is) paused);
-      pause = next_is;
-      left = (λ k. left_is k - (pause_is ∙ ap (min next) left_is) k);
+  -- none
+  pub delayed_none : (begin : Option ℕ) (body : List ℕ) (l a : Patient D L) (left : ℕ) → a ≡ record l { dialer = a.dialer } → left ≡ a.patience
+      → Delayed l.patience begin body a.dialer l.line a.dialer a.line first_pause left
+  delayed_none begin body l a left same is = (
+    [],
+    (λ k. record {
+      dialer = a.dialer;
+      line = ap (λ (p : Patient D L). p.line) (sym same) k;
+      pause = first_pause;
+      left = (ap (λ (p : Patient D L). p.patience) (sym same) ∙ sym is) k;
     }),
   )
 
-  -- a way is opened behind them
-  pub opened_behind : (dialer : D) (left : ℕ) (now : D) (next now_left : ℕ) (held : D) (held_left : ℕ) (line : L) (after : D)
-      → Delayed dialer left now next now_left → held ≡ now → held_left ≡ now_left → opens held line after → IsOpened opens fails pauses dialer left line after held_left
-  opened_behind dialer left now next now_left held held_left line after (whys, before) is left_is opened = record {
-    whys = whys;
-    last = record { dialer = now; pause = next; left = now_left };
-    delays = before;
-    opened = subst (λ (d : D). opens d line after) is opened;
-    left_over = left_is;
-  }
+  -- one more: a link `a` tries, which leaves `b`, tells of it, which leaves `t`, and pauses, which leaves `w`
+  pub delayed_more : (patience : ℕ) (begin : Option ℕ) (body : List ℕ) (first : D) (line : Option L) (a b t w : Patient D L) (pause left pause' left' : ℕ)
+      (came : Attempt) (trouble : Trouble) → Delayed patience begin body first line a.dialer a.line pause left → a.patience ≡ patience
+      → IsTried opens fails calls a.dialer a.line (limits a.patience left) body came b.dialer b.line → b ≡ record a { dialer = b.dialer; line = b.line }
+      → IsTroubleIn came (Some trouble) → t ≡ b → IsPaused pauses reads t.patience begin t.dialer pause left trouble w.dialer pause' left' → w ≡ record t { dialer = w.dialer }
+      → Delayed patience begin body first line w.dialer w.line pause' left'
+  delayed_more patience begin body first line a b t w pause left pause' left' came trouble (troubles, before) whole tried after shows told_of paused later = (
+    troubles ++ trouble ∷ [],
+    FoldsTo-push (IsDelayed opens fails pauses reads calls patience begin body) _ troubles _ trouble _ before (record {
+      came = came;
+      mid = b.dialer;
+      tried = subst (λ (o : Option L). IsTried opens fails calls a.dialer a.line (limits patience left) body came b.dialer o)
+          (sym (ap (λ (p : Patient D L). p.line) later ∙ ap (λ (p : Patient D L). p.line) told_of))
+          (subst (λ (n : ℕ). IsTried opens fails calls a.dialer a.line (limits n left) body came b.dialer b.line) whole tried);
+      shows = shows;
+      paused = subst (λ (n : ℕ). IsPaused pauses reads n begin b.dialer pause left trouble w.dialer pause' left') (ap (λ (p : Patient D L). p.patience) after ∙ whole)
+          (subst (λ (p : Patient D L). IsPaused pauses reads p.patience begin p.dialer pause left trouble w.dialer pause' left') told_of paused);
+    }),
+  )
 
-  -- or none is, and no patience is left
-  pub given_up_behind : (dialer : D) (left : ℕ) (now : D) (next now_left : ℕ) (held : D) (held_left : ℕ) (why : LinkFault) (mid after : D) (after_left pause : ℕ)
-      → Delayed dialer left now next now_left → held ≡ now → held_left ≡ now_left → fails held why mid → after ≡ mid → after_left ≡ held_left
-      → 100 ≤ next → pause ≡ min next held_left → pause ≡ 0 → IsGivenUp opens fails pauses dialer left why after after_left
-  given_up_behind dialer left now next now_left held held_left why mid after after_left pause (whys, before) is left_is failed after_is after_left_is some pause_is none =
-      let used : held_left ≡ 0 = none_left next held_left some (sym pause_is ∙ none) in
+  -- the rest of the link is as before
+  pub rest_same : (patience faults : ℕ) (a b t w : Patient D L) → a.patience ≡ patience → a.trouble ≡ None → a.faults ≡ faults
+      → b ≡ record a { dialer = b.dialer; line = b.line } → t ≡ b → w ≡ record t { dialer = w.dialer }
+      → (w.patience ≡ patience) × (w.trouble ≡ None) × (w.faults ≡ faults)
+  rest_same patience faults a b t w whole none counted after told_of later = (
+    ap (λ (p : Patient D L). p.patience) later ∙ ap (λ (p : Patient D L). p.patience) told_of ∙ ap (λ (p : Patient D L). p.patience) after ∙ whole,
+    ap (λ (p : Patient D L). p.trouble) later ∙ ap (λ (p : Patient D L). p.trouble) told_of ∙ ap (λ (p : Patient D L). p.trouble) after ∙ none,
+    ap (λ (p : Patient D L). p.faults) later ∙ ap (λ (p : Patient D L). p.faults) told_of ∙ ap (λ (p : Patient D L). p.faults) after ∙ counted,
+  )
+
+  -- an answer ends them
+  pub answered_behind : (begin : Option ℕ) (body : List ℕ) (first : D) (l a b m : Patient D L) (pause left : ℕ) (came : Attempt) (outcome : Outcome)
+      → reads l.dialer begin first → Delayed l.patience begin body first l.line a.dialer a.line pause left → a.patience ≡ l.patience → a.trouble ≡ None
+      → IsTried opens fails calls a.dialer a.line (limits a.patience left) body came b.dialer b.line → b ≡ record a { dialer = b.dialer; line = b.line }
+      → IsTroubleIn came None → m ≡ b → outcome ≡ told came → Persists opens fails pauses reads calls l body outcome m.dialer m.line m.trouble
+  answered_behind begin body first l a b m pause left came outcome read (troubles, before) whole none tried after shows told_of says =
+      let none_here : m.trouble ≡ None = ap (λ (p : Patient D L). p.trouble) told_of ∙ ap (λ (p : Patient D L). p.trouble) after ∙ none in
       record {
-        whys = whys;
-        last = record { dialer = now; pause = next; left = now_left };
+        begin = begin;
+        first = first;
+        read = read;
+        troubles = troubles;
+        last = record { dialer = a.dialer; line = a.line; pause = pause; left = left };
         delays = before;
-        failed = subst (λ (d : D). fails now why d) (sym after_is) (subst (λ (d : D). fails d why mid) is failed);
-        used_up = sym left_is ∙ used;
-        none_left = after_left_is ∙ used;
+        came = came;
+        mid = b.dialer;
+        tried = subst (λ (o : Option L). IsTried opens fails calls a.dialer a.line (limits l.patience left) body came b.dialer o)
+            (ap (λ (p : Patient D L). p.line) (sym told_of))
+            (subst (λ (n : ℕ). IsTried opens fails calls a.dialer a.line (limits n left) body came b.dialer b.line) whole tried);
+        shows = subst (λ (o : Option Trouble). IsTroubleIn came o) (sym none_here) shows;
+        ends = subst (λ (o : Option Trouble). MatchOption o (m.dialer ≡ b.dialer) (λ trouble. IsUsedUp pauses reads l.patience begin b.dialer left trouble m.dialer))
+            (sym none_here) (ap (λ (p : Patient D L). p.dialer) told_of);
+        says = says;
       }
 
-  module _ (calls : L → List ℕ → Outcome → L → Type 0) where
-    pub called_ok : (l t m : Patient D L) (body bytes : List ℕ) (line line' : L) → HasLine opens fails pauses l line t.dialer t.left
-        → t ≡ record l { dialer = t.dialer; left = t.left; line = None } → calls line body (Ok bytes) line' → m ≡ record t { line = Some line'; left = t.patience }
-        → IsOutOfReach opens fails pauses l (Ok bytes) m ⊎ IsCalled opens fails pauses calls l body (Ok bytes) m
-    called_ok l t m body bytes line line' had same called is = inr (record {
-      line = line;
-      left = t.left;
-      had = subst (λ (d : D). HasLine opens fails pauses l line d t.left) (sym (ap (λ (p : Patient D L). p.dialer) is)) had;
-      line' = line';
-      called = called;
-      after = (ap (λ (p : Patient D L). p.line) is, ap (λ (p : Patient D L). p.left) is ∙ ap (λ (p : Patient D L). p.patience) same);
-    })
-
-    pub called_err : (l t m : Patient D L) (body : List ℕ) (fault : LinkFault) (line line' : L) → HasLine opens fails pauses l line t.dialer t.left
-        → t ≡ record l { dialer = t.dialer; left = t.left; line = None } → calls line body (Err fault) line' → m ≡ t
-        → IsOutOfReach opens fails pauses l (Err fault) m ⊎ IsCalled opens fails pauses calls l body (Err fault) m
-    called_err l t m body fault line line' had same called is = inr (record {
-      line = line;
-      left = t.left;
-      had = subst (λ (d : D). HasLine opens fails pauses l line d t.left) (sym (ap (λ (p : Patient D L). p.dialer) is)) had;
-      line' = line';
-      called = called;
-      after = (ap (λ (p : Patient D L). p.line) is ∙ ap (λ (p : Patient D L). p.line) same, ap (λ (p : Patient D L). p.left) is);
-    })
+  -- or no patience is left: a link `a` tries, which leaves `b`, tells of it, which leaves `t`, reads the clock, which leaves `w`, and gives up
+  pub given_up_behind : (begin : Option ℕ) (body : List ℕ) (first : D) (l a b t w m : Patient D L) (pause left : ℕ) (came : Attempt) (trouble : Trouble) (outcome : Outcome)
+      → reads l.dialer begin first → Delayed l.patience begin body first l.line a.dialer a.line pause left → a.patience ≡ l.patience
+      → IsTried opens fails calls a.dialer a.line (limits a.patience left) body came b.dialer b.line → b ≡ record a { dialer = b.dialer; line = b.line }
+      → IsTroubleIn came (Some trouble) → t ≡ b → IsUsedUp pauses reads t.patience begin t.dialer left trouble w.dialer → w ≡ record t { dialer = w.dialer }
+      → m ≡ record w { trouble = Some trouble } → outcome ≡ told came → Persists opens fails pauses reads calls l body outcome m.dialer m.line m.trouble
+  given_up_behind begin body first l a b t w m pause left came trouble outcome read (troubles, before) whole tried after shows told_of used later is says =
+      let used_here : IsUsedUp pauses reads l.patience begin b.dialer left trouble m.dialer =
+      subst (λ (d : D). IsUsedUp pauses reads l.patience begin b.dialer left trouble d) (ap (λ (p : Patient D L). p.dialer) (sym is))
+      (subst (λ (n : ℕ). IsUsedUp pauses reads n begin b.dialer left trouble w.dialer) (ap (λ (p : Patient D L). p.patience) after ∙ whole)
+      (subst (λ (p : Patient D L). IsUsedUp pauses reads p.patience begin p.dialer left trouble w.dialer) told_of used)) in
+      record {
+        begin = begin;
+        first = first;
+        read = read;
+        troubles = troubles;
+        last = record { dialer = a.dialer; line = a.line; pause = pause; left = left };
+        delays = before;
+        came = came;
+        mid = b.dialer;
+        tried = subst (λ (o : Option L). IsTried opens fails calls a.dialer a.line (limits l.patience left) body came b.dialer o)
+            (sym (ap (λ (p : Patient D L). p.line) is ∙ ap (λ (p : Patient D L). p.line) later ∙ ap (λ (p : Patient D L). p.line) told_of))
+            (subst (λ (n : ℕ). IsTried opens fails calls a.dialer a.line (limits n left) body came b.dialer b.line) whole tried);
+        shows = subst (λ (o : Option Trouble). IsTroubleIn came o) (ap (λ (p : Patient D L). p.trouble) (sym is)) shows;
+        ends = subst (λ (o : Option Trouble). MatchOption o (m.dialer ≡ b.dialer) (λ why. IsUsedUp pauses reads l.patience begin b.dialer left why m.dialer))
+            (ap (λ (p : Patient D L). p.trouble) (sym is)) used_here;
+        says = says;
+      }

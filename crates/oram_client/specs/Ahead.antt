@@ -1,5 +1,5 @@
 -- Messages that go to a host ahead of its answers.
-use Rattle.std.specs.Prelude.{◌≡◌, ◌≢◌, ℕ, ◌+◌, ◌<◌, ◌≤◌, List, [], ◌∷◌, Option, ◌⊎◌, length, replicate}
+use Rattle.std.specs.Prelude.{◌≡◌, ◌≢◌, ℕ, ◌+◌, ◌<◌, ◌≤◌, List, [], ◌∷◌, Option, Some, ◌⊎◌, length, replicate}
 use Rattle.std.specs.Io.KnownBytes.{Appends, Consumes}
 use Rattle.std.specs.List.{flat_map}
 use Rattle.oram_wire.specs.FrameStream.{frame}
@@ -7,12 +7,17 @@ use Rattle.oram_wire.specs.Streaming.{GivesBrokenHead, GivesHead, GivesPart, Tak
 use Rattle.oram_wire.specs.declared.TheConstants.{LONGEST_BODY}
 use Rattle.oram_wire.specs.declared.sinks.SinkFault.{SinkFault}
 use Rattle.oram_wire.specs.declared.sinks.SinkFault.TheVariants.{Refused, Link, OutOfMemory}
+use Rattle.oram_host.specs.Refusals.{code_of}
+use Rattle.oram_host.specs.declared.refusals.HostRefusal.TheVariants as host
+use Rattle.oram_client.specs.declared.refusals.Refusal.{Refusal}
+use Rattle.oram_client.specs.declared.refusals.Refusal.TheVariants.{Taken, NoRoom, Other}
 
 -- a connection to a host
 pub record ToHost (R W : Type 0) : Type 0 where
   pub reader : R
   pub writer : W
   pub due : ℕ  -- how many messages have no answer yet
+  pub refusal : Option Refusal  -- what an answer meant that wasn't that the host is done, once there was one
 
 -- the most that may have none
 abbrev pub most_due : ℕ
@@ -28,11 +33,20 @@ GivesNone old new Refused = ⊥
 GivesNone old new Link = GivesPart old new ⊎ GivesBrokenHead old new
 GivesNone old new OutOfMemory = GivesHead old new
 
+-- what an answer means that isn't that the host is done: the tree has a shape already, the host has no room, or anything else
+abbrev pub Means : List ℕ → Refusal → Type 0
+Means answer Taken = answer ≡ 129 ∷ code_of host.ShapeTaken ∷ []
+Means answer NoRoom = answer ≡ 129 ∷ code_of host.OutOfMemory ∷ []
+Means answer Other = (answer ≢ 129 ∷ code_of host.ShapeTaken ∷ []) × (answer ≢ 129 ∷ code_of host.OutOfMemory ∷ [])
+
 -- an answer is read, and it isn't that the host is done
-pub record GivesOther (old new : Option (List ℕ)) (fault : SinkFault) : Type 0 where
+pub record GivesOther (old new : Option (List ℕ)) (refusal : Option Refusal) (fault : SinkFault) : Type 0 where
   pub answer : List ℕ
   pub other : answer ≢ 128 ∷ []
   pub read : Consumes old new (frame answer)
+  pub meaning : Refusal
+  pub means : Means answer meaning
+  pub kept : refusal ≡ Some meaning
   pub told : fault ≡ Refused
 
 -- over readers and writers that tell their bytes so
@@ -47,7 +61,7 @@ module _ {R W : Type 0} (remaining : R → Option (List ℕ)) (contents : W → 
   pub record IsUndone (a : ToHost R W) (fault : SinkFault) (b : ToHost R W) : Type 0 where
     pub due : b.due ≡ a.due
     pub wrote : b.writer ≡ a.writer
-    pub read : GivesNone (remaining a.reader) (remaining b.reader) fault ⊎ GivesOther (remaining a.reader) (remaining b.reader) fault
+    pub read : GivesNone (remaining a.reader) (remaining b.reader) fault ⊎ GivesOther (remaining a.reader) (remaining b.reader) b.refusal fault
 
   -- So many answers were to be read. Fewer were, each that the host is done; the next one isn't. Or what was written before couldn't be
   -- flushed, and nothing was read.
@@ -97,3 +111,14 @@ module _ {R W : Type 0} (remaining : R → Option (List ℕ)) (contents : W → 
     pub due : b.due + count ≡ a.due + length bodies
     pub wrote : Appends (contents a.writer) (contents b.writer) (flat_map frame bodies)
     pub read : Consumes (remaining a.reader) (remaining b.reader) (dones count)
+
+  -- So they were, and every answer that was due was read.
+  pub record AreTaken (a : ToHost R W) (bodies : List (List ℕ)) (b : ToHost R W) : Type 0 where
+    pub due : b.due ≡ 0
+    pub wrote : Appends (contents a.writer) (contents b.writer) (flat_map frame bodies)
+    pub read : Consumes (remaining a.reader) (remaining b.reader) (dones (a.due + length bodies))
+
+  -- One of the messages wasn't put, behind those before it. Or all were, and one of the answers that were due isn't that the host is done.
+  abbrev pub AreUntaken : ToHost R W → List (List ℕ) → SinkFault → ToHost R W → Type 0
+  AreUntaken a [] fault b = IsStopped a a.due fault b
+  AreUntaken a (body ∷ bodies) fault b = IsUnput a body fault b ⊎ ((mid : ToHost R W) × IsPut a body mid × AreUntaken mid bodies fault b)

@@ -1,10 +1,69 @@
--- A way that a host answers.
-use Rattle.std.specs.Prelude.{◌≡◌, ℕ, List, [], Option, Ok}
+-- What can be wrong with a host, and a way over which the host of a disk has answered.
+use Rattle.std.specs.Prelude.{◌≡◌, ◌≢◌, ℕ, Bool, true, false, List, [], ◌∷◌, Option, Ok, MatchResult, ◌⊎◌}
+use Rattle.oram_wire.specs.HostMessages.{fetch_body, answer_body}
+use Rattle.oram_wire.specs.declared.host_messages.HostAnswer.TheVariants.{Payload, Refused}
+use Rattle.oram_host.specs.Refusals.{code_of}
+use Rattle.oram_host.specs.declared.refusals.HostRefusal.TheVariants as refusal
+use Rattle.oram_session.specs.Outcome.{Outcome}
 use Rattle.oram_session.specs.Streams.{StreamCall, ToStreams}
+use Rattle.oram_session.specs.declared.link.LinkFault.{LinkFault}
+use Rattle.oram_session.specs.declared.link.LinkFault.TheVariants.{Io, Closed, OutOfMemory}
+use Rattle.oram_client.specs.declared.dialing.Trouble.{Trouble}
+use Rattle.oram_client.specs.declared.dialing.Trouble.TheVariants.{OutOfReach, NoRoom, AnotherDisk, NoDisk}
 
--- A link without a fault was called with a message of no bytes, over streams that tell their bytes so, and there was an answer.
-pub record IsGreeted {S : Type 0} (remaining contents : S → Option (List ℕ)) (line : ToStreams S S) : Type 0 where
-  pub before : ToStreams S S
-  pub faultless : before.faults ≡ 0
-  pub answer : List ℕ
-  pub answered : StreamCall remaining contents before [] (Ok answer) line
+-- a trouble that may pass while one waits
+abbrev pub may_pass : Trouble → Bool
+may_pass (OutOfReach fault) = true
+may_pass NoRoom = true
+may_pass AnotherDisk = false
+may_pass NoDisk = false
+
+-- what the caller of a link is told of it
+abbrev pub fault_of : Trouble → LinkFault
+fault_of (OutOfReach fault) = fault
+fault_of NoRoom = Closed
+fault_of AnotherDisk = Closed
+fault_of NoDisk = Closed
+
+-- the answer of a host that has no room
+abbrev pub no_room : List ℕ
+no_room = answer_body (Refused (code_of refusal.OutOfMemory))
+
+-- the host of a disk, and the identity of the disk that it has to keep
+pub record Destination : Type 0 where
+  pub address : List ℕ
+  pub identity : List ℕ
+
+-- the message that asks for a disk's identity: the one record of tree 255
+abbrev pub greeting : List ℕ
+greeting = fetch_body 255 0
+
+-- what is wrong with the answer to it
+abbrev pub Shows : List ℕ → List ℕ → Trouble → Type 0
+Shows identity answer (OutOfReach fault) = (fault ≡ Io) × (answer ≡ [] ⊎ (first : ℕ) × (rest : List ℕ) × (answer ≡ first ∷ rest) × (first ≢ 128) × (first ≢ 129))
+Shows identity answer NoRoom = answer ≡ no_room
+Shows identity answer AnotherDisk = (other : List ℕ) × (answer ≡ answer_body (Payload other)) × (other ≢ identity)
+Shows identity answer NoDisk = (rest : List ℕ) × (answer ≡ 129 ∷ rest) × (answer ≢ no_room)
+
+-- over streams that tell their bytes so
+module _ {S : Type 0} (remaining contents : S → Option (List ℕ)) where
+  -- the first call over a connection asks for the identity
+  abbrev pub Asks : S → S → Outcome → ToStreams S S → Type 0
+  Asks reader writer outcome line = StreamCall remaining contents (record { reader = reader; writer = writer; faults = 0 }) greeting outcome line
+
+  -- The answer was this identity.
+  abbrev pub IsGreetedOver : S → S → List ℕ → ToStreams S S → Type 0
+  IsGreetedOver reader writer identity line = Asks reader writer (Ok (answer_body (Payload identity))) line
+
+  -- There was no memory to ask, or the call had a fault, or the answer was another.
+  abbrev pub IsUngreetedOver : S → S → List ℕ → Trouble → Type 0
+  IsUngreetedOver reader writer identity trouble = (trouble ≡ OutOfReach OutOfMemory)
+      ⊎ ((outcome : Outcome) × (line : ToStreams S S) × Asks reader writer outcome line × MatchResult outcome (λ answer. Shows identity answer trouble) (λ fault. trouble ≡ OutOfReach fault))
+
+  -- over some connection
+  abbrev pub IsGreeted : List ℕ → ToStreams S S → Type 0
+  IsGreeted identity line = (reader : S) × (writer : S) × IsGreetedOver reader writer identity line
+
+  -- there was no connection, or it was so over one
+  abbrev pub IsUngreeted : List ℕ → Trouble → Type 0
+  IsUngreeted identity trouble = ((fault : LinkFault) × (trouble ≡ OutOfReach fault)) ⊎ ((reader : S) × (writer : S) × IsUngreetedOver reader writer identity trouble)

@@ -2,11 +2,12 @@
 use Rattle.std.specs.Prelude.{◌≡◌, ℕ, Bool, false, List, Option, None, IsSomeAnd, MatchBool, MatchOption}
 use Rattle.oram_client.specs.KeptFile.{kept_file}
 use Rattle.oram_client.specs.Placing.{Deed, DoesAll, IsBrokenOff, deeds_of}
+use Rattle.oram_client.specs.declared.kept_file.Head.{Head}
 use Rattle.oram_client.specs.declared.file_step.FileFailure.{FileFailure}
 
 pub record FileKeeping (P : Type 0) : Type 0 where
   pub place : P
-  pub salt : List ℕ  -- stands in each file, in front of the state
+  pub head : Head  -- stands in each file, in front of the state
   pub sync : Bool
   pub failure : Option FileFailure  -- why a state was not kept, once one wasn't
 
@@ -15,11 +16,11 @@ module _ {P : Type 0} (does : P → Deed → Bool → P → Type 0) where
   -- The deeds are done that put the state's file in its place; or one fails, and why is known from then on.
   abbrev pub PutsFile : FileKeeping P → List ℕ → Bool → FileKeeping P → Type 0
   PutsFile k state done m =
-      let deeds = deeds_of k.sync (kept_file k.salt state) in
+      let deeds = deeds_of k.sync (kept_file k.head state) in
       MatchBool done (DoesAll does k.place deeds m.place × (m.failure ≡ None)) (IsSomeAnd m.failure (λ why. IsBrokenOff does k.place deeds why.step m.place))
 
   -- Once a state was not kept, none is.
   pub record KeepsFile (k : FileKeeping P) (state : List ℕ) (done : Bool) (m : FileKeeping P) : Type 0 where
-    pub salt : m.salt ≡ k.salt
+    pub head : m.head ≡ k.head
     pub sync : m.sync ≡ k.sync
     pub kept : MatchOption k.failure (PutsFile k state done m) (λ _. (done ≡ false) × (m ≡ k))

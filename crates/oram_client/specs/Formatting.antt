@@ -7,27 +7,17 @@ use Rattle.oram_geometry.specs.Sizes.{trees_of}
 use Rattle.oram_wire.specs.FrameStream.{frame}
 use Rattle.oram_wire.specs.HostMessages.{fetch_body}
 use Rattle.oram_wire.specs.declared.sinks.SinkFault.{SinkFault}
-use Rattle.oram_wire.specs.declared.sinks.SinkFault.TheVariants as sink
 use Rattle.oram_hash.specs.Path.{IsAccepted, path_of}
-use Rattle.oram_tree.specs.declared.faults.FormatFault.{FormatFault}
-use Rattle.oram_tree.specs.declared.faults.FormatFault.TheVariants as making
 use Rattle.oram_run.specs.Formatting.{IsFormatBegun}
 use Rattle.oram_run.specs.Shape.{Shape}
 use Rattle.oram_run.specs.State.{State, no_tree}
 use Rattle.oram_core.specs.Formatting.{IsNew}
-use Rattle.oram_client.specs.declared.formatting.FormattingFault.{FormattingFault}
-use Rattle.oram_client.specs.declared.formatting.FormattingFault.TheVariants.{Refused, Link, Unheld, OutOfMemory}
-use Rattle.oram_client.specs.Ahead.{ToHost, ArePut, IsAsked, IsDrained, IsStopped, IsUnasked, IsUnput, dones}
-
--- a fault of the connection, as a formatting tells it
-abbrev pub sink_told : SinkFault → FormattingFault
-sink_told sink.Refused = Refused
-sink_told sink.Link = Link
-sink_told sink.OutOfMemory = OutOfMemory
-
-abbrev pub format_told : FormatFault → FormattingFault
-format_told (making.Sink why) = sink_told why
-format_told making.OutOfMemory = OutOfMemory
+use Rattle.oram_client.specs.declared.faults.FormattingFault.{FormattingFault}
+use Rattle.oram_client.specs.declared.faults.FormattingFault.TheVariants.{Unheld, OutOfMemory}
+use Rattle.oram_client.specs.declared.naming.TheConstants.{IDENTITY_TREE}
+use Rattle.oram_client.specs.Ahead.{ToHost, ArePut, AreTaken, IsAsked, IsDrained, IsStopped, IsUnasked, IsUnput, dones}
+use Rattle.oram_client.specs.Faults.{sink_told}
+use Rattle.oram_client.specs.Naming.{IsUnnamed, IsUnrecognized, identity_messages}
 
 -- one more message
 abbrev pub Collects : List (List ℕ) → List ℕ → List (List ℕ) → Type 0
@@ -65,7 +55,7 @@ module _ {R W : Type 0} (remaining : R → Option (List ℕ)) (contents : W → 
   -- The path of a tree was asked for and not had: there was no answer, or one that isn't genuine.
   abbrev pub IsUnheld : Sizes → ℕ → List ℕ → ℕ → ToHost R W → FormattingFault → ToHost R W → Type 0
   IsUnheld d overhead root tree a fault b =
-      ((why : SinkFault) × IsUnasked remaining contents a (fetch_body tree 0) why b × (fault ≡ sink_told why))
+      ((why : SinkFault) × IsUnasked remaining contents a (fetch_body tree 0) why b × (fault ≡ sink_told b.refusal why))
       ⊎ ((answer : List ℕ) × IsAsked remaining contents a (fetch_body tree 0) answer b × IsFalse d overhead root tree answer × (fault ≡ Unheld))
 
   -- A path of each of the first trees was fetched. Then memory was refused elsewhere, or the path of the next one wasn't had.
@@ -78,7 +68,7 @@ module _ {R W : Type 0} (remaining : R → Option (List ℕ)) (contents : W → 
 
   -- The messages that make the device's trees were written, and those that fetch a path of each. Each of the former was answered as
   -- done, and the paths are genuine.
-  pub record IsFormattedAhead (v : Shape) (a : ToHost R W) (s : State) (b : ToHost R W) : Type 0 where
+  pub record AreTreesMade (v : Shape) (a : ToHost R W) (s : State) (b : ToHost R W) : Type 0 where
     pub messages : List (List ℕ)
     pub new : IsNew v Collects [] s messages
     pub answers : List (List ℕ)
@@ -94,17 +84,38 @@ module _ {R W : Type 0} (remaining : R → Option (List ℕ)) (contents : W → 
       IsFormatBegun v messages
       × (((fault ≡ OutOfMemory) × (b ≡ a))
       ⊎ ((body : List ℕ) × (why : SinkFault) × IsFormatBegun v (messages ++ body ∷ []) × IsUnput remaining contents a body why b
-      × (fault ≡ sink_told why)))
+      × (fault ≡ sink_told b.refusal why)))
 
   -- All of them were written. Then one of the answers that were due isn't that the host is done; or all are, and a path wasn't had.
   abbrev pub IsUnchecked : Shape → State → ToHost R W → FormattingFault → ToHost R W → Type 0
   IsUnchecked v s a fault b =
-      ((why : SinkFault) × IsStopped remaining contents a a.due why b × (fault ≡ sink_told why))
+      ((why : SinkFault) × IsStopped remaining contents a a.due why b × (fault ≡ sink_told b.refusal why))
       ⊎ ((mid : ToHost R W) × IsDrained remaining contents a a.due mid × IsUnseen v s mid fault b)
 
-  -- A formatting was broken off, while its messages were put or behind them.
-  pub record IsFormattedInPart (v : Shape) (a : ToHost R W) (fault : FormattingFault) (b : ToHost R W) : Type 0 where
+  -- That was broken off, while the messages were put or behind them.
+  pub record AreTreesMadeInPart (v : Shape) (a : ToHost R W) (fault : FormattingFault) (b : ToHost R W) : Type 0 where
     pub messages : List (List ℕ)
     pub mid : ToHost R W
     pub put : ArePut remaining contents a messages mid
     pub ended : IsUnmade v messages mid fault b ⊎ ((s : State) × IsNew v Collects [] s messages × IsUnchecked v s mid fault b)
+
+  -- The messages of the identity were written, those that make the device's trees, those that fetch a path of each, and the one that
+  -- fetches the identity. Those that put something were answered as done, the paths are genuine, and the identity was given back.
+  pub record IsFormattedAhead (v : Shape) (identity : List ℕ) (a : ToHost R W) (s : State) (b : ToHost R W) : Type 0 where
+    pub messages : List (List ℕ)
+    pub new : IsNew v Collects [] s messages
+    pub answers : List (List ℕ)
+    pub answers_count : length answers ≡ trees_of v.device
+    pub due : b.due ≡ 0
+    pub wrote : Appends (contents a.writer) (contents b.writer)
+        (flat_map frame (identity_messages identity ++ messages) ++ fetches (trees_of v.device) ++ frame (fetch_body IDENTITY_TREE 0))
+    pub read : Consumes (remaining a.reader) (remaining b.reader)
+        (dones (a.due + length (identity_messages identity ++ messages)) ++ paths answers ++ frame (128 ∷ identity))
+    pub genuine : AreGenuine v s (trees_of v.device) answers
+
+  -- A formatting was broken off: while the identity was put, while the trees were made, or when the identity was fetched.
+  abbrev pub IsFormattedInPart : Shape → List ℕ → ToHost R W → FormattingFault → ToHost R W → Type 0
+  IsFormattedInPart v identity a fault b =
+      IsUnnamed remaining contents identity a fault b
+      ⊎ ((named : ToHost R W) × AreTaken remaining contents a (identity_messages identity) named × AreTreesMadeInPart v named fault b)
+      ⊎ ((named : ToHost R W) × (made : ToHost R W) × (s : State) × AreTaken remaining contents a (identity_messages identity) named × AreTreesMade v named s made × IsUnrecognized remaining contents identity made fault b)

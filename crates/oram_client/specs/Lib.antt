@@ -4,5 +4,8 @@ pub mod FileKeeping
 pub mod Patience
 pub mod Dialing
 pub mod Ahead
+pub mod Faults
+pub mod Naming
 pub mod Formatting
 pub mod Placing
+pub mod PowerLoss

@@ -1,16 +1,41 @@
--- A link that opens its way to the host again, for as long as its patience lasts.
-use Rattle.std.specs.Prelude.{◌≡◌, ℕ, ◌-◌, ◌*◌, ◌<◌, min, List, Option, None, Some, Err, MatchOption, MatchResult, ◌⊎◌}
+-- A link that tries until its host answers, for as long as its patience lasts.
+use Rattle.std.specs.Prelude.{◌≡◌, ◌≢◌, ℕ, ◌-◌, ◌*◌, ◌<◌, min, max, cond, List, Option, None, Some, Result, Ok, Err, MatchOption, MatchResult, ◌⊎◌}
+use Rattle.std.specs.Global.{Vec}
 use Rattle.std.specs.List.{FoldsTo}
 use Rattle.oram_session.specs.Outcome.{Outcome, faults_after}
-use Rattle.oram_session.specs.declared.link.LinkFault.{LinkFault}
+use Rattle.oram_session.specs.declared.link.LinkFault.TheVariants.{Closed}
+use Rattle.oram_client.specs.Dialing.{may_pass, fault_of, no_room}
+use Rattle.oram_client.specs.declared.dialing.Limits.{Limits}
+use Rattle.oram_client.specs.declared.dialing.Trouble.{Trouble}
+use Rattle.oram_client.specs.declared.dialing.Trouble.TheVariants.{OutOfReach, NoRoom}
 
 -- what opens ways, the way that is open, and times in milliseconds
 pub record Patient (D L : Type 0) : Type 0 where
   pub dialer : D
   pub line : Option L
   pub patience : ℕ
-  pub left : ℕ  -- of the patience, since the last good answer
+  pub trouble : Option Trouble  -- why it gave up, once it has
   pub faults : ℕ  -- how many calls had a fault
+
+-- what comes of a try: an answer of the host, or why there is none
+abbrev pub Attempt : Type 0
+Attempt = Result (List ℕ) Trouble
+
+-- without where the bytes lie in memory
+abbrev pub attempt_of : Result (Vec ℕ) Trouble → Attempt
+attempt_of (Ok answer) = Ok answer.items
+attempt_of (Err trouble) = Err trouble
+
+-- Why this is nothing to give to the caller; none where it is an answer to give.
+abbrev pub IsTroubleIn : Attempt → Option Trouble → Type 0
+IsTroubleIn (Ok answer) None = answer ≢ no_room
+IsTroubleIn (Ok answer) (Some trouble) = (answer ≡ no_room) × (trouble ≡ NoRoom)
+IsTroubleIn (Err why) trouble = trouble ≡ Some why
+
+-- what the caller is told of it
+abbrev pub told : Attempt → Outcome
+told (Ok answer) = Ok answer
+told (Err trouble) = Err (fault_of trouble)
 
 -- the first pause, and the longest
 abbrev pub first_pause : ℕ
@@ -19,71 +44,109 @@ first_pause = 100
 abbrev pub most_pause : ℕ
 most_pause = 5000
 
--- while no way is open
-pub record Waiting (D : Type 0) : Type 0 where
-  pub dialer : D
-  pub pause : ℕ  -- the next one
-  pub left : ℕ
+-- how long a try may take, by the whole patience and what is left of it
+abbrev pub limits : ℕ → ℕ → Limits
+limits patience left = record { opening = max left 1; silence = max 1000 (min patience 60000); answering = max patience 1000 }
 
-abbrev pub waiting : {D : Type 0} → D → ℕ → Waiting D
-waiting dialer left = record { dialer = dialer; pause = first_pause; left = left }
+-- from one reading of the clock to another; where one of them failed, no time is known to have passed
+abbrev pub elapsed : Option ℕ → Option ℕ → ℕ
+elapsed (Some from) (Some to) = to - from
+elapsed (Some from) None = 0
+elapsed None to = 0
 
--- ways are opened, tries fail and pauses end so
-module _ {D L : Type 0} (opens : D → L → D → Type 0) (fails : D → LinkFault → D → Type 0) (pauses : D → ℕ → D → Type 0) where
-  -- A try fails, and there is a pause. The next one is twice as long, and none is longer than what is left.
-  pub record IsDelayed (w : Waiting D) (why : LinkFault) (x : Waiting D) : Type 0 where
-    pub dialer : D
-    pub failed : fails w.dialer why dialer
-    pub more : 0 < w.left
-    pub paused : pauses dialer (min w.pause w.left) x.dialer
-    pub pause : x.pause ≡ min (2 * w.pause) most_pause
-    pub left : x.left ≡ w.left - min w.pause w.left
+-- what is left of the patience after this trouble, at this reading. A pause counts even where the clock can't be read, and nothing is left
+-- where the trouble won't pass.
+abbrev pub left_at : (patience : ℕ) (begin : Option ℕ) (left : ℕ) → Trouble → (now : Option ℕ) → ℕ
+left_at patience begin left trouble now = cond (may_pass trouble) (min left (patience - elapsed begin now)) 0
 
-  abbrev pub AreDelays : Waiting D → List LinkFault → Waiting D → Type 0
-  AreDelays w whys x = FoldsTo {P = Waiting D} IsDelayed w whys x
-
-  -- A way is opened behind tries that failed.
-  pub record IsOpened (dialer : D) (left : ℕ) (line : L) (dialer' : D) (left' : ℕ) : Type 0 where
-    pub whys : List LinkFault
-    pub last : Waiting D
-    pub delays : AreDelays (waiting dialer left) whys last
-    pub opened : opens last.dialer line dialer'
-    pub left_over : left' ≡ last.left
-
-  -- The last try fails, once all patience is used.
-  pub record IsGivenUp (dialer : D) (left : ℕ) (fault : LinkFault) (dialer' : D) (left' : ℕ) : Type 0 where
-    pub whys : List LinkFault
-    pub last : Waiting D
-    pub delays : AreDelays (waiting dialer left) whys last
-    pub failed : fails last.dialer fault dialer'
-    pub used_up : last.left ≡ 0
-    pub none_left : left' ≡ 0
-
+-- ways are opened, tries to open one fail, and calls go over ways so
+module _ {D L : Type 0} (opens : D → Limits → L → D → Type 0) (fails : D → Limits → Trouble → D → Type 0) (calls : L → List ℕ → Outcome → L → Type 0) where
   -- the way that is open, or a new one
-  abbrev pub HasLine : Patient D L → L → D → ℕ → Type 0
-  HasLine l line dialer left =
-      MatchOption l.line (IsOpened l.dialer l.left line dialer left) (λ held. (line ≡ held) × (dialer ≡ l.dialer) × (left ≡ l.left))
+  abbrev pub HasLine : D → Option L → Limits → L → D → Type 0
+  HasLine dialer line limits way dialer' = MatchOption line (opens dialer limits way dialer') (λ held. (way ≡ held) × (dialer' ≡ dialer))
 
-  -- No way is to be had, and nothing was sent.
-  pub record IsOutOfReach (l : Patient D L) (outcome : Outcome) (m : Patient D L) : Type 0 where
-    pub none : l.line ≡ None
-    pub fault : LinkFault
-    pub given_up : IsGivenUp l.dialer l.left fault m.dialer m.left
-    pub told : outcome ≡ Err fault
-    pub still_none : m.line ≡ None
+  -- No way is to be had, and nothing is sent.
+  pub record IsUnopened (dialer : D) (line : Option L) (limits : Limits) (came : Attempt) (dialer' : D) (line' : Option L) : Type 0 where
+    pub none : line ≡ None
+    pub why : Trouble
+    pub failed : fails dialer limits why dialer'
+    pub says : came ≡ Err why
+    pub still_none : line' ≡ None
 
-  -- over ways whose calls meet this relation
-  module _ (calls : L → List ℕ → Outcome → L → Type 0) where
-    -- A way was called, once. It stays open and all patience is back, or it is closed for its fault.
-    pub record IsCalled (l : Patient D L) (body : List ℕ) (outcome : Outcome) (m : Patient D L) : Type 0 where
-      pub line : L
-      pub left : ℕ
-      pub had : HasLine l line m.dialer left
-      pub line' : L
-      pub called : calls line body outcome line'
-      pub after : MatchResult outcome (λ _. (m.line ≡ Some line') × (m.left ≡ l.patience)) (λ _. (m.line ≡ None) × (m.left ≡ left))
+  -- The message goes over a way, once. Where that has a fault, the way is closed.
+  pub record IsCalled (dialer : D) (line : Option L) (limits : Limits) (body : List ℕ) (came : Attempt) (dialer' : D) (line' : Option L) : Type 0 where
+    pub way : L
+    pub had : HasLine dialer line limits way dialer'
+    pub outcome : Outcome
+    pub way' : L
+    pub called : calls way body outcome way'
+    pub after : MatchResult outcome (λ answer. (came ≡ Ok answer) × (line' ≡ Some way')) (λ fault. (came ≡ Err (OutOfReach fault)) × (line' ≡ None))
 
-    pub record PatientCall (l : Patient D L) (body : List ℕ) (outcome : Outcome) (m : Patient D L) : Type 0 where
-      pub faults : m.faults ≡ faults_after l.faults outcome
-      pub patience : m.patience ≡ l.patience
-      pub answer : IsOutOfReach l outcome m ⊎ IsCalled l body outcome m
+  abbrev pub IsTried : D → Option L → Limits → List ℕ → Attempt → D → Option L → Type 0
+  IsTried dialer line limits body came dialer' line' = IsUnopened dialer line limits came dialer' line' ⊎ IsCalled dialer line limits body came dialer' line'
+
+-- Pauses end and the clock is read so, with this much patience from this reading of the clock on.
+module _ {D : Type 0} (pauses : D → ℕ → D → Type 0) (reads : D → Option ℕ → D → Type 0) (patience : ℕ) (begin : Option ℕ) where
+  -- There is a pause. The next one is twice as long, and none is longer than what is left.
+  pub record IsPaused (dialer : D) (pause left : ℕ) (trouble : Trouble) (dialer' : D) (pause' left' : ℕ) : Type 0 where
+    pub now : Option ℕ
+    pub mid : D
+    pub read : reads dialer now mid
+    pub more : 0 < left_at patience begin left trouble now
+    pub paused : pauses mid (min pause (left_at patience begin left trouble now)) dialer'
+    pub next : pause' ≡ min (2 * pause) most_pause
+    pub less : left' ≡ left_at patience begin left trouble now - min pause (left_at patience begin left trouble now)
+
+  -- No patience is left.
+  pub record IsUsedUp (dialer : D) (left : ℕ) (trouble : Trouble) (dialer' : D) : Type 0 where
+    pub now : Option ℕ
+    pub read : reads dialer now dialer'
+    pub none_left : left_at patience begin left trouble now ≡ 0
+
+-- what the next try begins with
+pub record Waiting (D L : Type 0) : Type 0 where
+  pub dialer : D
+  pub line : Option L
+  pub pause : ℕ  -- the next one
+  pub left : ℕ  -- of the patience
+
+-- all of these go so
+module _ {D L : Type 0} (opens : D → Limits → L → D → Type 0) (fails : D → Limits → Trouble → D → Type 0) (pauses : D → ℕ → D → Type 0)
+    (reads : D → Option ℕ → D → Type 0) (calls : L → List ℕ → Outcome → L → Type 0) where
+  -- A try brings nothing to give, and there is a pause.
+  pub record IsDelayed (patience : ℕ) (begin : Option ℕ) (body : List ℕ) (w : Waiting D L) (trouble : Trouble) (x : Waiting D L) : Type 0 where
+    pub came : Attempt
+    pub mid : D
+    pub tried : IsTried opens fails calls w.dialer w.line (limits patience w.left) body came mid x.line
+    pub shows : IsTroubleIn came (Some trouble)
+    pub paused : IsPaused pauses reads patience begin mid w.pause w.left trouble x.dialer x.pause x.left
+
+  -- The same message is tried again and again, with a pause behind each try but the last. That one brings an answer to give, or no patience is left behind it.
+  pub record Persists (l : Patient D L) (body : List ℕ) (outcome : Outcome) (dialer : D) (line : Option L) (trouble : Option Trouble) : Type 0 where
+    pub begin : Option ℕ
+    pub first : D
+    pub read : reads l.dialer begin first
+    pub troubles : List Trouble
+    pub last : Waiting D L
+    pub delays : FoldsTo (IsDelayed l.patience begin body) (record { dialer = first; line = l.line; pause = first_pause; left = l.patience }) troubles last
+    pub came : Attempt
+    pub mid : D
+    pub tried : IsTried opens fails calls last.dialer last.line (limits l.patience last.left) body came mid line
+    pub shows : IsTroubleIn came trouble
+    pub ends : MatchOption trouble (dialer ≡ mid) (λ why. IsUsedUp pauses reads l.patience begin mid last.left why dialer)
+    pub says : outcome ≡ told came
+
+  -- A link that has given up tries nothing.
+  pub record IsGivenUp (l : Patient D L) (outcome : Outcome) (dialer : D) (line : Option L) (trouble : Option Trouble) : Type 0 where
+    pub says : outcome ≡ Err Closed
+    pub same_dialer : dialer ≡ l.dialer
+    pub same_line : line ≡ l.line
+    pub same_trouble : trouble ≡ l.trouble
+
+  abbrev pub Passes : Patient D L → List ℕ → Outcome → Patient D L → Type 0
+  Passes l body outcome m = MatchOption l.trouble (Persists l body outcome m.dialer m.line m.trouble) (λ why. IsGivenUp l outcome m.dialer m.line m.trouble)
+
+  pub record PatientCall (l : Patient D L) (body : List ℕ) (outcome : Outcome) (m : Patient D L) : Type 0 where
+    pub answer : Passes l body outcome m
+    pub patience : m.patience ≡ l.patience
+    pub faults : m.faults ≡ faults_after l.faults outcome

@@ -1,10 +1,11 @@
 //! Messages that go to a host ahead of its answers.
-ghost use Rattle.std.specs.Prelude.{◌≡◌, ◌↔◌, ◌+◌, ◌<◌, ◌≤◌, ℕ, [], ◌∷◌, IfErr, IfOk, IsTrue, MatchBool, OnOk};
+ghost use Rattle.std.specs.Prelude.{◌≡◌, ◌↔◌, ◌+◌, ◌<◌, ◌≤◌, ℕ, [], ◌∷◌, None, IfErr, IfOk, IsTrue, MatchBool, OnOk};
 ghost use Rattle.std.specs.Io.KnownBytes.{Appends, Consumes, Keeps};
 ghost use Rattle.oram_wire.specs.FrameStream.{frame};
 ghost use Rattle.oram_wire.specs.HostMessages.{fetch_body};
 ghost use Rattle.oram_client.specs.Ahead.{GivesNone, IsAsked, IsDrained, IsStopped, IsUnasked, IsUndone, IsUnsent, most_due};
 
+use crate::refusals::Refusal;
 use oram_geometry::Device;
 use oram_wire::{
     FrameFault, GOOD, LONGEST_BODY, Sink, SinkFault, WriteFault, fetch_header, next_frame,
@@ -33,6 +34,7 @@ pub struct Ahead<R, W, P> {
     writer: W,
     progress: P,
     due: u64,
+    refusal: Option<Refusal>,
     answered: u64,
     of: u64,
 }
@@ -43,14 +45,14 @@ impl<R, W, P> Model for Ahead<R, W, P> {
 
     ghost Value = { ToHost R W };
 
-    ghost view = { λ a. record { reader = a.reader; writer = a.writer; due = a.due } };
+    ghost view = { λ a. record { reader = a.reader; writer = a.writer; due = a.due; refusal = a.refusal } };
 
     ghost invariant = { λ a. a.due ≤ most_due };
 }
 
-/// How many messages make a device: for each tree a SHAPE, and a PUT for each of its nodes.
+/// How many messages make a disk: for each tree a SHAPE, and a PUT for each of its nodes, and these two for the disk's identity.
 fn messages_of(device: &Device) -> u64 {
-    let mut messages = 0u64;
+    let mut messages = 2u64;
     for tree in 0..device.trees() {
         messages = messages.saturating_add(2 << device.depth(tree));
     }
@@ -67,7 +69,7 @@ fn is_done(answer: &[u8]) -> bool
 impl<R, W, P> Ahead<R, W, P> {
     /// For the formatting of this device. It takes no memory.
     pub fn new(alloc: Global, device: &Device, reader: R, writer: W, progress: P) -> Ahead<R, W, P>
-        ensures { result ≡ record { reader = reader; writer = writer; due = 0 } }
+        ensures { result ≡ record { reader = reader; writer = writer; due = 0; refusal = None } }
     {
         Ahead {
             alloc,
@@ -75,9 +77,17 @@ impl<R, W, P> Ahead<R, W, P> {
             writer,
             progress,
             due: 0,
+            refusal: None,
             answered: 0,
             of: messages_of(device),
         }
+    }
+
+    /// What an answer meant that wasn't that the host is done, once there was one.
+    pub(crate) fn refusal(&self) -> Option<Refusal>
+        ensures { result ≡ self.now.refusal }
+    {
+        self.refusal
     }
 
     /// Whether as many messages are without an answer as may be.
@@ -155,6 +165,7 @@ impl<R: Read, W: Write, P: Progress> Ahead<R, W, P> {
     {
         let answer = self.receive()?;
         if !is_done(&answer) {
+            self.refusal = Some(Refusal::of(&answer));
             return Err(SinkFault::Refused);
         }
         self.due -= 1;

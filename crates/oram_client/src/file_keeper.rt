@@ -2,19 +2,19 @@
 ghost use Rattle.std.specs.Prelude.{◌≡◌, None};
 
 use crate::file_step::FileFailure;
-use crate::kept_file::Salt;
+use crate::kept_file::Head;
 use crate::placing::{Place, put_file};
 use oram_keep::{Keeper, Unkept};
 use std::marker::Model;
 
-/// Keeps states in a file's place, each behind the salt: in a new file beside it, which takes its place once it is whole.
+/// Keeps states in a file's place, each behind the disk's head: in a new file beside it, which takes its place once it is whole.
 ///
 /// With `sync`, a state that is kept is on the disk, so that it outlives the machine and not only the process. Once a state was not
 /// kept, none is, since what the file then holds may be that state or the one before it.
 #[derive(Debug, Drop)]
 pub struct FileKeeper<P> {
     place: P,
-    salt: Salt,
+    head: Head,
     sync: bool,
     failure: Option<FileFailure>,
 }
@@ -24,17 +24,17 @@ impl<P> Model for FileKeeper<P> {
 
     ghost Value = { FileKeeping P };
 
-    ghost view = { λ k. record { place = k.place; salt = k.salt.0; sync = k.sync; failure = k.failure } };
+    ghost view = { λ k. record { place = k.place; head = k.head; sync = k.sync; failure = k.failure } };
 }
 
 impl<P> FileKeeper<P> {
     /// Nothing is made or opened yet.
-    pub fn new(place: P, salt: Salt, sync: bool) -> FileKeeper<P>
-        ensures { result ≡ record { place = place; salt = salt.0; sync = sync; failure = None } }
+    pub fn new(place: P, head: Head, sync: bool) -> FileKeeper<P>
+        ensures { result ≡ record { place = place; head = head; sync = sync; failure = None } }
     {
         FileKeeper {
             place,
-            salt,
+            head,
             sync,
             failure: None,
         }
@@ -57,7 +57,7 @@ impl<P: Place> Keeper for FileKeeper<P> {
         if self.failure.is_some() {
             return Err(Unkept);
         }
-        match put_file(&mut self.place, &self.salt, file, self.sync) {
+        match put_file(&mut self.place, &self.head, file, self.sync) {
             Ok(()) => Ok(()),
             Err(failure) => {
                 self.failure = Some(failure);

@@ -2,7 +2,7 @@
 ghost use Rattle.std.specs.Prelude.{◌≡◌, ◌⊎◌, ◌++◌, codes, string_bytes, IfOk, IfSome};
 
 use crate::file_step::{FileFailure, FileStep, stepped};
-use crate::kept_file::{Salt, put_kept_file};
+use crate::kept_file::{Head, put_kept_file};
 use crate::placing::Place;
 use oram_edge::{FileFault, call_fault};
 use std::alloc::{AllocError, Global};
@@ -120,9 +120,9 @@ impl<R: Files> Place for FilePlace<R> {
     // What the system does to its files can't be said.
     ghost does = { λ p _ _ q. q ≡ p };
 
-    fn write(&mut self, salt: &Salt, state: &[u8], sync: bool) -> Result<(), FileFailure> {
+    fn write(&mut self, head: &Head, state: &[u8], sync: bool) -> Result<(), FileFailure> {
         let mut file = stepped(FileStep::Create, self.create())?;
-        let written = put_kept_file(&mut file, salt, state);
+        let written = put_kept_file(&mut file, head, state);
         stepped(FileStep::Write, written)?;
         if sync {
             stepped(FileStep::Sync, file.sync_all())?;

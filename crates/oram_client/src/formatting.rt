@@ -5,70 +5,20 @@ ghost use Rattle.oram_wire.specs.HostMessages.{fetch_body};
 ghost use Rattle.oram_hash.specs.Path.{IsAccepted, path_of};
 ghost use Rattle.oram_core.specs.Core.{shape_of, shape_with};
 ghost use Rattle.oram_client.specs.Ahead.{IsAsked};
-ghost use Rattle.oram_client.specs.Formatting.{AreSeen, IsFormattedAhead, IsFormattedInPart, IsUnheld, IsUnseen};
+ghost use Rattle.oram_client.specs.Formatting.{AreSeen, AreTreesMade, AreTreesMadeInPart, IsFormattedAhead, IsFormattedInPart, IsUnheld, IsUnseen};
 
 use crate::ahead::{Ahead, Progress};
+use crate::faults::FormattingFault;
+use crate::keys::Identity;
+use crate::naming::{check_identity, put_identity};
 use oram_bucket::Sealer;
 use oram_core::Core;
 use oram_geometry::Device;
 use oram_hash::check_path;
-use oram_tree::{FormatFault, TreeParts};
-use oram_wire::{GOOD, SinkFault};
-use std::alloc::{AllocError, Global};
+use oram_tree::TreeParts;
+use oram_wire::GOOD;
+use std::alloc::Global;
 use std::io::{Read, Write};
-use thiserror::Error;
-
-/// Why a disk wasn't formatted. What the host has taken of it stays there, so it is to be formatted anew on a host without records.
-#[derive(Clone, Copy, Debug, PartialEq, Eq, Error)]
-pub enum FormattingFault {
-    /// An answer was another than that the host is done. A host that has records already refuses, and one without room.
-    #[error("the host refused a message of the formatting")]
-    Refused,
-    #[error("the connection to the host failed")]
-    Link,
-    /// The path that was fetched at the end isn't the one that was put there.
-    #[error("the host doesn't hold what it was given")]
-    Unheld,
-    #[error("out of memory")]
-    OutOfMemory,
-}
-
-impl From<AllocError> for FormattingFault {
-    ghost use Rattle.oram_client.specs.declared.formatting.FormattingFault.TheVariants.{OutOfMemory};
-
-    ghost from_gives = { λ _ fault. fault ≡ OutOfMemory };
-
-    fn from(_error: AllocError) -> FormattingFault {
-        FormattingFault::OutOfMemory
-    }
-}
-
-impl From<SinkFault> for FormattingFault {
-    ghost use Rattle.oram_client.specs.Formatting.{sink_told};
-
-    ghost from_gives = { λ why fault. fault ≡ sink_told why };
-
-    fn from(fault: SinkFault) -> FormattingFault {
-        match fault {
-            SinkFault::Refused => FormattingFault::Refused,
-            SinkFault::Link => FormattingFault::Link,
-            SinkFault::OutOfMemory => FormattingFault::OutOfMemory,
-        }
-    }
-}
-
-impl From<FormatFault> for FormattingFault {
-    ghost use Rattle.oram_client.specs.Formatting.{format_told};
-
-    ghost from_gives = { λ why fault. fault ≡ format_told why };
-
-    fn from(fault: FormatFault) -> FormattingFault {
-        match fault {
-            FormatFault::Sink(fault) => FormattingFault::from(fault),
-            FormatFault::OutOfMemory => FormattingFault::OutOfMemory,
-        }
-    }
-}
 
 /// Fetches the path to leaf 0 of a tree, and checks it against the tree's root digest.
 fn check_tree<R: Read, W: Write, P>(
@@ -84,7 +34,10 @@ fn check_tree<R: Read, W: Write, P>(
         × IsAccepted (path_of device.now tree 0 overhead records) root.now) }
     ensures err { IfErr result (λ fault. IsUnheld R.remaining W.contents device.now overhead root.now tree ahead.old fault ahead.new) }
 {
-    let answer = ahead.fetch(tree)?;
+    let answer = match ahead.fetch(tree) {
+        Ok(answer) => answer,
+        Err(fault) => return Err(ahead.formatting_fault(fault)),
+    };
     let Some((&GOOD, records)) = answer.split_first() else {
         return Err(FormattingFault::Unheld);
     };
@@ -114,12 +67,8 @@ fn check_trees<S: Sealer, R: Read, W: Write, P>(
     Ok(())
 }
 
-/// Formats a device on the host at the other end of a connection, and gives its core.
-///
-/// Messages go ahead of their answers, which are checked as they come: whichever is another than `80` fails the formatting as a whole.
-/// At the end a path of each tree is fetched and checked under its root digest. A host may gather the PUTs and make them last in
-/// groups, but it has to be done with all of them before it answers anything else: so behind that, the formatting is on its disk.
-pub fn format_ahead<S: Sealer, R: Read, W: Write, P: Progress>(
+/// Makes the trees of a device on the host at the other end of a connection, and gives their core.
+fn format_trees<S: Sealer, R: Read, W: Write, P: Progress>(
     alloc: Global,
     device: Device,
     sealer: S,
@@ -128,14 +77,45 @@ pub fn format_ahead<S: Sealer, R: Read, W: Write, P: Progress>(
     ensures device { IfOk result (λ c. c.device ≡ device) }
     ensures sealer { IfOk result (λ c. c.sealer ≡ sealer) }
     ensures made { let v = shape_with S.overhead S.sealing S.opening device sealer in
-        IfOk result (λ c. IsFormattedAhead R.remaining W.contents v ahead.old c.state ahead.new) }
+        IfOk result (λ c. AreTreesMade R.remaining W.contents v ahead.old c.state ahead.new) }
+    ensures broken_off { let v = shape_with S.overhead S.sealing S.opening device sealer in
+        IfErr result (λ fault. AreTreesMadeInPart R.remaining W.contents v ahead.old fault ahead.new) }
+{
+    let core = match Core::format(alloc, device, sealer, ahead) {
+        Ok(core) => core,
+        Err(fault) => return Err(ahead.trees_fault(fault)),
+    };
+    if let Err(fault) = ahead.settle() {
+        return Err(ahead.formatting_fault(fault));
+    }
+    check_trees(alloc, &core, ahead)?;
+    Ok(core)
+}
+
+/// Formats a disk of this identity on the host at the other end of a connection, and gives its core.
+///
+/// The identity goes first, so that a host that keeps a disk already refuses at once. The messages of the trees go ahead of their
+/// answers, which are checked as they come: whichever is another than `80` fails the formatting as a whole. At the end a path of each tree
+/// is fetched and checked under its root digest, and the identity is fetched. A host may gather the PUTs and make them last in groups, but
+/// it has to be done with all of them before it answers anything else: so behind that, the formatting is on its disk.
+pub fn format_ahead<S: Sealer, R: Read, W: Write, P: Progress>(
+    alloc: Global,
+    device: Device,
+    sealer: S,
+    identity: &Identity,
+    ahead: &mut Ahead<R, W, P>,
+) -> Result<Core<S>, FormattingFault>
+    ensures device { IfOk result (λ c. c.device ≡ device) }
+    ensures sealer { IfOk result (λ c. c.sealer ≡ sealer) }
+    ensures made { let v = shape_with S.overhead S.sealing S.opening device sealer in
+        IfOk result (λ c. IsFormattedAhead R.remaining W.contents v identity.now.0 ahead.old c.state ahead.new) }
 
     // What was written and read up to a fault, and which fault it is.
     ensures broken_off { let v = shape_with S.overhead S.sealing S.opening device sealer in
-        IfErr result (λ fault. IsFormattedInPart R.remaining W.contents v ahead.old fault ahead.new) }
+        IfErr result (λ fault. IsFormattedInPart R.remaining W.contents v identity.now.0 ahead.old fault ahead.new) }
 {
-    let core = Core::format(alloc, device, sealer, ahead)?;
-    ahead.settle()?;
-    check_trees(alloc, &core, ahead)?;
+    put_identity(alloc, identity, ahead)?;
+    let core = format_trees(alloc, device, sealer, ahead)?;
+    check_identity(identity, ahead)?;
     Ok(core)
 }

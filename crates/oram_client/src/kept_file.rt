@@ -1,54 +1,143 @@
 //! The file that a client keeps of a disk.
-ghost use Rattle.std.specs.Prelude.{◌≡◌, ◌≢◌, ℕ, List, length, IfOk, OnOk, OnErr};
+ghost use Rattle.std.specs.Prelude.{◌≡◌, ◌≢◌, ◌↔◌, ℕ, List, None, IfOk, IfSome, IsErrOf, IsTrue, OnOk};
 ghost use Rattle.std.specs.Io.KnownBytes.{Appends};
-ghost use Rattle.oram_client.specs.KeptFile.{kept_file};
+ghost use Rattle.oram_client.specs.Keys as keys;
+ghost use Rattle.oram_client.specs.KeptFile.{IsHead, IsOlder, behind_letters, kept_file, sealer_byte};
+ghost use Rattle.oram_client.specs.declared.kept_file.Head.{Head};
+ghost use Rattle.oram_client.specs.declared.kept_file.SealerKind.{SealerKind};
 
+use crate::keys::{DiskKey, KeyCheck, Salt, key_check};
 use std::io;
 use std::io::Write;
 use thiserror::Error;
 
 /// What each file begins with.
-const LETTERS: &[u8; 8] = b"VIDLAQE1";
+const LETTERS: &[u8; 8] = b"VIDLAQE2";
 
-/// Drawn once at a formatting, so that no two of them have keys in common.
+/// What the files of the older form begin with.
+const OLDER_LETTERS: &[u8; 8] = b"VIDLAQE1";
+
+/// What seals the buckets of a disk.
 #[derive(Clone, Copy, Debug, PartialEq, Eq)]
-pub struct Salt(pub [u8; 32]);
+pub enum SealerKind {
+    /// Nothing: the host reads what it keeps.
+    Plain,
+    /// The stream of ChaCha20 (RFC 8439).
+    ChaCha20,
+}
+
+impl SealerKind {
+    /// The byte that names it in a file.
+    fn byte(self) -> u8
+        ensures { result ≡ sealer_byte self }
+    {
+        match self {
+            SealerKind::Plain => 0,
+            SealerKind::ChaCha20 => 1,
+        }
+    }
+
+    /// The sealer that a byte names.
+    fn of(byte: u8) -> Option<SealerKind>
+        ensures some { IfSome result (λ kind. byte ≡ sealer_byte kind) }
+        ensures none { result ≡ None → (kind : SealerKind) → byte ≢ sealer_byte kind }
+    {
+        match byte {
+            0 => Some(SealerKind::Plain),
+            1 => Some(SealerKind::ChaCha20),
+            _ => None,
+        }
+    }
+}
+
+/// What a file keeps of a disk in front of the core's state.
+#[derive(Clone, Copy, Debug, PartialEq, Eq)]
+pub struct Head {
+    pub salt: Salt,
+    pub key_check: KeyCheck,
+    pub sealer: SealerKind,
+}
+
+impl Head {
+    /// The head of a disk that is formatted with this key, salt and sealer.
+    pub fn new(key: &DiskKey, salt: Salt, sealer: SealerKind) -> Head
+        ensures salt { result.salt ≡ salt }
+        ensures key_check { result.key_check.0 ≡ keys.key_check key.now.0 salt.0 }
+        ensures sealer { result.sealer ≡ sealer }
+    {
+        Head {
+            salt,
+            key_check: key_check(key, &salt),
+            sealer,
+        }
+    }
+}
 
 /// What a file keeps of a disk.
 #[derive(Clone, Copy, Debug)]
 pub struct KeptFile<'a> {
-    pub salt: Salt,
+    pub head: Head,
     /// The core's state file.
     pub state: &'a [u8],
 }
 
-/// The bytes are no file of a disk.
+/// Why bytes are no file of a disk.
 #[derive(Clone, Copy, Debug, PartialEq, Eq, Error)]
-#[error("no file of a disk")]
-pub struct NotOurs;
+pub enum KeptFault {
+    /// They are of the older form, which had no key check and no sealer.
+    #[error("a file of an older disk")]
+    Older,
+    #[error("no file of a disk")]
+    NotOurs,
+}
 
 /// Writes the file of a disk. The state isn't copied. Where the writer fails, nothing is known of what it took.
-pub fn put_kept_file<W: Write>(writer: &mut W, salt: &Salt, state: &[u8]) -> io::Result<()>
-    ensures { OnOk result (Appends (W.contents writer.old) (W.contents writer.new) (kept_file salt.now.0 state.now)) }
+pub fn put_kept_file<W: Write>(writer: &mut W, head: &Head, state: &[u8]) -> io::Result<()>
+    ensures { OnOk result (Appends (W.contents writer.old) (W.contents writer.new) (kept_file head.now state.now)) }
 {
     writer.write_all(LETTERS)?;
-    writer.write_all(&salt.0)?;
+    writer.write_all(&head.salt.0)?;
+    writer.write_all(&head.key_check.0)?;
+    writer.write_all(&[head.sealer.byte()])?;
     writer.write_all(state)
 }
 
-/// Reads the file of a disk. What stands where the state is due isn't looked at.
-pub fn read_kept_file(file: &[u8]) -> Result<KeptFile<'_>, NotOurs>
-    ensures ok { IfOk result (λ kept. file.now ≡ kept_file kept.salt.0 kept.state.now) }
-    ensures err { OnErr result ((salt state : List ℕ) → length salt ≡ 32 → file.now ≢ kept_file salt state) }
+/// Whether a file begins as those of the older form do.
+fn is_older(file: &[u8]) -> bool
+    ensures { IsTrue result ↔ IsOlder file.now }
 {
-    let Some(rest) = file.strip_prefix(LETTERS) else {
-        return Err(NotOurs);
-    };
-    let Some((salt, state)) = rest.split_first_chunk::<32>() else {
-        return Err(NotOurs);
-    };
-    Ok(KeptFile {
+    file.starts_with(OLDER_LETTERS)
+}
+
+/// The head and the state behind the letters of a file.
+fn read_parts(rest: &[u8]) -> Option<KeptFile<'_>>
+    ensures some { IfSome result (λ kept. rest.now ≡ behind_letters kept.head kept.state.now) }
+    ensures none { result ≡ None → (head : Head) (state : List ℕ) → IsHead head → rest.now ≢ behind_letters head state }
+{
+    let (salt, rest) = rest.split_first_chunk::<32>()?;
+    let (check, rest) = rest.split_first_chunk::<32>()?;
+    let (byte, state) = rest.split_first()?;
+    let head = Head {
         salt: Salt(*salt),
-        state,
-    })
+        key_check: KeyCheck(*check),
+        sealer: SealerKind::of(*byte)?,
+    };
+    Some(KeptFile { head, state })
+}
+
+/// Reads the file of a disk. What stands where the state is due isn't looked at.
+pub fn read_kept_file(file: &[u8]) -> Result<KeptFile<'_>, KeptFault>
+    ensures ok { IfOk result (λ kept. file.now ≡ kept_file kept.head kept.state.now) }
+    ensures older { IsErrOf result KeptFault.Older ↔ IsOlder file.now }
+    ensures not_ours { IsErrOf result KeptFault.NotOurs → (head : Head) (state : List ℕ) → IsHead head → file.now ≢ kept_file head state }
+{
+    let parts = match file.strip_prefix(LETTERS) {
+        Some(rest) => read_parts(rest),
+        None => None,
+    };
+    match parts {
+        Some(kept) => Ok(kept),
+        None if is_older(file) => Err(KeptFault::Older),
+        None => Err(KeptFault::NotOurs),
+    }
 }

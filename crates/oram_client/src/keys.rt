@@ -1,10 +1,14 @@
-//! The keys of a formatting.
+//! The keys of a formatting, and what names its disk.
 ghost use Rattle.std.specs.Prelude.{◌≡◌, codes};
 ghost use Rattle.oram_client.specs.Keys.{derived_key};
+ghost use Rattle.oram_client.specs.Keys as spec;
 
-use crate::kept_file::Salt;
 use sha2::{Digest, Sha256};
 use std::fmt;
+
+/// Drawn once at a formatting, so that no two of them have keys in common.
+#[derive(Clone, Copy, Debug, PartialEq, Eq)]
+pub struct Salt(pub [u8; 32]);
 
 /// The key of a disk, from its settings.
 #[derive(Clone, Copy)]
@@ -39,6 +43,14 @@ impl fmt::Debug for TapeKey {
     }
 }
 
+/// Tells whether a key is the one that a disk was formatted with. The key can't be computed from it.
+#[derive(Clone, Copy, Debug, PartialEq, Eq)]
+pub struct KeyCheck(pub [u8; 32]);
+
+/// Names a disk at its host. It is new with each formatting, and no key can be computed from it.
+#[derive(Clone, Copy, Debug, PartialEq, Eq)]
+pub struct Identity(pub [u8; 32]);
+
 /// The key for a purpose: one step of SHA-256 (NIST SP 800-56C rev. 2, 4.1, option 1).
 fn derived(key: &DiskKey, purpose: &[u8], salt: &Salt) -> [u8; 32]
     ensures { result ≡ derived_key key.now.0 purpose.now salt.now.0 }
@@ -53,14 +65,28 @@ fn derived(key: &DiskKey, purpose: &[u8], salt: &Salt) -> [u8; 32]
 
 /// The key that seals the buckets of the formatting with this salt.
 pub fn sealer_key(key: &DiskKey, salt: &Salt) -> SealerKey
-    ensures { result.0 ≡ derived_key key.now.0 (codes "vidlaqe bucket key") salt.now.0 }
+    ensures { result.0 ≡ spec.bucket_key key.now.0 salt.now.0 }
 {
     SealerKey(derived(key, b"vidlaqe bucket key", salt))
 }
 
 /// The key of the tape of the formatting with this salt.
 pub fn tape_key(key: &DiskKey, salt: &Salt) -> TapeKey
-    ensures { result.0 ≡ derived_key key.now.0 (codes "vidlaqe tape key") salt.now.0 }
+    ensures { result.0 ≡ spec.tape_key key.now.0 salt.now.0 }
 {
     TapeKey(derived(key, b"vidlaqe tape key", salt))
+}
+
+/// The key check of the formatting with this salt.
+pub fn key_check(key: &DiskKey, salt: &Salt) -> KeyCheck
+    ensures { result.0 ≡ spec.key_check key.now.0 salt.now.0 }
+{
+    KeyCheck(derived(key, b"vidlaqe key check", salt))
+}
+
+/// The identity of the disk of the formatting with this salt.
+pub fn disk_identity(key: &DiskKey, salt: &Salt) -> Identity
+    ensures { result.0 ≡ spec.identity key.now.0 salt.now.0 }
+{
+    Identity(derived(key, b"vidlaqe disk identity", salt))
 }

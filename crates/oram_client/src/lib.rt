@@ -1,32 +1,46 @@
 //! What a client of a disk keeps, and how it reaches its host.
 //!
-//! [`put_kept_file`] and [`read_kept_file`] are for the file that is kept of a disk: a salt and the core's state. [`sealer_key`] and
-//! [`tape_key`] give the keys of one formatting, of the disk's key and that salt. A [`FileKeeper`] keeps a core's state in such a file, in a [`FilePlace`], by
-//! steps ([`put_file`]) of which none leaves the file in part; [`kept_bytes`] reads it back, wherever the process ended.
-//! A [`PatientLink`] opens its way to the host again when it was lost, by a [`TcpDialer`].
+//! [`put_kept_file`] and [`read_kept_file`] are for the file that is kept of a disk: a [`Head`] and the core's state. [`keys_for`] gives
+//! the keys of the disk of a head, where the key that is given is the one that the disk was formatted with.
+//! A [`FileKeeper`] keeps a core's state in such a file, in a [`FilePlace`], by steps ([`put_file`]) of which none leaves the file in
+//! part; [`kept_bytes`] reads it back, wherever the process ended.
+//! A [`PatientLink`] tries until the host answers, for as long as its patience lasts; a [`TcpDialer`] opens its ways, and only to a host that
+//! keeps the disk.
 //! [`format_ahead`] formats a disk over an [`Ahead`], a connection on which messages go ahead of their answers.
 #![tactic(auto)]
 
 mod ahead;
 mod dialing;
+mod faults;
 mod file_keeper;
 mod file_place;
 mod file_step;
 mod formatting;
 mod kept_file;
 mod keys;
+mod naming;
+mod opening;
 mod patient_link;
 mod placing;
+mod refusals;
 mod tcp_dialer;
+mod timed_link;
 
 pub use ahead::{Ahead, Progress};
-pub use dialing::{Dial, Watch};
+pub use dialing::{Dial, Limits, Trouble, Watch};
+pub use faults::FormattingFault;
 pub use file_keeper::FileKeeper;
 pub use file_place::{FilePlace, kept_bytes, kept_name};
 pub use file_step::{FileFailure, FileReason, FileStep};
-pub use formatting::{FormattingFault, format_ahead};
-pub use kept_file::{KeptFile, NotOurs, Salt, put_kept_file, read_kept_file};
-pub use keys::{DiskKey, SealerKey, TapeKey, sealer_key, tape_key};
+pub use formatting::format_ahead;
+pub use kept_file::{Head, KeptFault, KeptFile, SealerKind, put_kept_file, read_kept_file};
+pub use keys::{
+    DiskKey, Identity, KeyCheck, Salt, SealerKey, TapeKey, disk_identity, key_check, sealer_key,
+    tape_key,
+};
+pub use naming::{IDENTITY_LEN, IDENTITY_TREE};
+pub use opening::{Keys, WrongKey, keys_for};
 pub use patient_link::PatientLink;
-pub use placing::{Place, files_stay_whole, put_file};
+pub use placing::{Place, files_stay_whole, put_file, synced_files_last};
 pub use tcp_dialer::TcpDialer;
+pub use timed_link::TimedLink;

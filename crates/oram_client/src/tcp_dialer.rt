@@ -1,77 +1,152 @@
-//! Ways to a host over TCP.
-ghost use Rattle.std.specs.Prelude.{◌≡◌, string_bytes};
+//! Ways to the host of a disk over TCP.
+ghost use Rattle.std.specs.Prelude.{◌≡◌, OnOk, IfOk, IfErr, string_bytes};
+ghost use Rattle.oram_wire.specs.HostMessages.{answer_body};
+ghost use Rattle.oram_wire.specs.declared.host_messages.HostAnswer.TheVariants.{Payload};
+ghost use Rattle.oram_client.specs.Dialing.{Shows, IsGreetedOver, IsUngreetedOver};
 
-use crate::dialing::Dial;
-use oram_edge::connect;
-use oram_session::{Link, LinkFault, StreamLink};
+use crate::dialing::{Dial, Limits, Trouble};
+use crate::naming::IDENTITY_TREE;
+use crate::patient_link::elapsed;
+use crate::timed_link::{TimedLink, milliseconds};
+use oram_edge::connect_within;
+use oram_host::HostRefusal;
+use oram_session::{Link, LinkFault};
+use oram_wire::{GOOD, REFUSED, fetch_header};
 use std::alloc::Global;
+use std::io::{Read, Write};
 use std::marker::Model;
 use std::net::{Net, OpenStream};
 use std::rt::Clock;
 use std::time::Duration;
 use std::{io, thread};
 
-/// The longest that a host may take to read or to answer before its connection counts as lost, in seconds.
-const LONGEST_SILENCE: u64 = 60;
+/// The longest that connecting to a host may take, in milliseconds.
+const LONGEST_CONNECTING: u64 = 10_000;
 
-/// Connects to an address.
+/// Connects to the host of a disk.
 ///
-/// A connection is a way once the host has answered a message of no bytes over it, which it refuses. So a tunnel to it that is up while
-/// the host isn't is no way.
+/// A connection is a way to it once the host has answered over it with the identity of that disk. Nothing else is asked before.
 #[derive(Debug, Drop)]
 pub struct TcpDialer<R> {
     rt: R,
     address: String,
+    identity: [u8; 32],
 }
 
 impl<R> Model for TcpDialer<R> {
-    ghost use Rattle.std.specs.Prelude.{List, ℕ, string_bytes};
+    ghost use Rattle.std.specs.Prelude.{string_bytes};
+    ghost use Rattle.oram_client.specs.Dialing.{Destination};
 
-    /// The address.
-    ghost Value = { List ℕ };
+    ghost Value = { Destination };
 
-    ghost view = { λ d. string_bytes d.address };
+    ghost view = { λ d. record { address = string_bytes d.address; identity = d.identity } };
 }
 
 impl<R> TcpDialer<R> {
-    pub fn new(rt: R, address: String) -> TcpDialer<R>
-        ensures { result ≡ string_bytes address }
+    /// Connects to the host at this address, a name or an IP address and a port, if it keeps the disk of this identity.
+    pub fn new(rt: R, address: String, identity: [u8; 32]) -> TcpDialer<R>
+        ensures { result ≡ record { address = string_bytes address; identity = identity } }
     {
-        TcpDialer { rt, address }
+        TcpDialer {
+            rt,
+            address,
+            identity,
+        }
     }
 }
 
-/// Sets how long the other side may be silent. Both halves of a connection have it then.
-fn limit_silence<S: OpenStream>(stream: &S) -> io::Result<()> {
-    let silence = Some(Duration::from_secs(LONGEST_SILENCE));
+/// Sets how many milliseconds the other side may be silent. Both halves of a connection have it then.
+fn limit_silence<S: OpenStream>(stream: &S, milliseconds: u64) -> io::Result<()> {
+    let silence = Some(Duration::from_millis(milliseconds));
     stream.set_read_timeout(silence)?;
     stream.set_write_timeout(silence)
 }
 
-impl<R: Net + Clock> Dial for TcpDialer<R> {
+/// Compares the answer to a greeting with the identity that the host has to keep.
+fn judge(answer: &[u8], identity: &[u8; 32]) -> Result<(), Trouble>
+    ensures ok { OnOk result (answer.now ≡ answer_body (Payload identity.now)) }
+    ensures err { IfErr result (λ trouble. Shows identity.now answer.now trouble) }
+{
+    let Some((first, rest)) = answer.split_first() else {
+        return Err(Trouble::OutOfReach(LinkFault::Io));
+    };
+    match *first {
+        GOOD if rest == identity.as_slice() => Ok(()),
+        GOOD => Err(Trouble::AnotherDisk),
+        REFUSED if rest == [HostRefusal::OutOfMemory.code()].as_slice() => Err(Trouble::NoRoom),
+        REFUSED => Err(Trouble::NoDisk),
+        _ => Err(Trouble::OutOfReach(LinkFault::Io)),
+    }
+}
+
+/// Asks the host over a new connection for the identity of its disk, which it has to give within so many milliseconds. The connection is a way to
+/// the host if that is this one.
+fn greet<S: Read + Write, C: Clock + Copy>(
+    alloc: Global,
+    reader: S,
+    writer: S,
+    clock: C,
+    limit: u64,
+    identity: &[u8; 32],
+) -> Result<TimedLink<S, C>, Trouble>
+where
+    S: Drop,
+    ensures ok { IfOk result (λ line. IsGreetedOver S.remaining S.contents reader writer identity.now line) }
+    ensures err { IfErr result (λ trouble. IsUngreetedOver S.remaining S.contents reader writer identity.now trouble) }
+{
+    let mut line = TimedLink::new(alloc, reader, writer, clock, limit)?;
+    match line.call(alloc, &fetch_header(IDENTITY_TREE, 0)) {
+        Ok(answer) => match judge(&answer, identity) {
+            Ok(()) => Ok(line),
+            Err(trouble) => Err(trouble),
+        },
+        Err(fault) => Err(Trouble::OutOfReach(fault)),
+    }
+}
+
+impl<R: Net + Clock + Copy> Dial for TcpDialer<R> {
     ghost use Rattle.std.specs.Prelude.{◌≡◌};
-    ghost use Rattle.oram_client.specs.Dialing.{IsGreeted};
+    ghost use Rattle.oram_client.specs.Dialing.{IsGreeted, IsUngreeted};
 
-    type Line = StreamLink<R::Stream, R::Stream>;
+    type Line = TimedLink<R::Stream, R>;
 
-    ghost opens = { λ d line e. IsGreeted R.Stream.remaining R.Stream.contents line × (e ≡ d) };
+    ghost opens = { λ d _ line e. IsGreeted R.Stream.remaining R.Stream.contents d.identity line × (e ≡ d) };
 
-    ghost fails = { λ d _ e. e ≡ d };
+    ghost fails = { λ d _ trouble e. IsUngreeted R.Stream.remaining R.Stream.contents d.identity trouble × (e ≡ d) };
 
-    // How long it was can't be said.
+    // How long it was can't be said, nor what the clock reads.
     ghost pauses = { λ d _ e. e ≡ d };
 
-    fn dial(&mut self, alloc: Global) -> Result<StreamLink<R::Stream, R::Stream>, LinkFault> {
-        let Ok((reader, writer)) = connect(&self.rt, self.address.as_str()) else {
-            return Err(LinkFault::Io);
+    ghost reads = { λ d _ e. e ≡ d };
+
+    fn dial(&mut self, alloc: Global, limits: Limits) -> Result<TimedLink<R::Stream, R>, Trouble> {
+        let begin = self.now();
+        let connecting = Duration::from_millis(limits.opening.min(LONGEST_CONNECTING));
+        let Ok((reader, writer)) = connect_within(&self.rt, self.address.as_str(), connecting)
+        else {
+            return Err(Trouble::OutOfReach(LinkFault::Io));
         };
-        limit_silence(&reader)?;
-        let mut line = StreamLink::new(alloc, reader, writer);
-        line.call(alloc, &[])?;
-        Ok(line)
+        let both = reader.try_clone()?;
+        let left = limits
+            .opening
+            .saturating_sub(elapsed(begin, self.now()))
+            .max(1);
+        limit_silence(&both, left.min(limits.silence))?;
+        match greet(alloc, reader, writer, self.rt, left, &self.identity) {
+            Ok(mut line) => {
+                limit_silence(&both, limits.silence)?;
+                line.set_limit(limits.answering);
+                Ok(line)
+            }
+            Err(trouble) => Err(trouble),
+        }
     }
 
     fn pause(&mut self, milliseconds: u64) {
         thread::sleep(&self.rt, Duration::from_millis(milliseconds));
+    }
+
+    fn now(&mut self) -> Option<u64> {
+        milliseconds(&self.rt)
     }
 }

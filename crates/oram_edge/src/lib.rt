@@ -3,7 +3,8 @@
 //!
 //! [`read_named`] reads a command line of subcommands with a word each. [`table_of`] reads a TOML document, and the functions named
 //! for what stands at a key, as [`address_at`], read its table. [`put`] and those named after it write texts, or tell that a
-//! beginning of them was written. A [`KeptFile`] is written as a whole. [`listen`], [`connect`] and [`buffered`] are for sockets.
+//! beginning of them was written. A [`KeptFile`] is written as a whole. [`listen`], [`connect`], [`connect_within`] and
+//! [`buffered`] are for sockets.
 #![tactic(auto)]
 
 mod files;
@@ -15,7 +16,7 @@ mod writing;
 
 pub use files::{FileFault, KeptFile, bytes_in, call_fault};
 pub use input::InputFault;
-pub use sockets::{SocketFault, buffered, connect, listen};
+pub use sockets::{SocketFault, buffered, connect, connect_within, listen};
 pub use tables::{address_at, count_at, has_only, key_at, name_at, number_at, sealer_in, table_of};
 pub use words::{arguments, read_named, texts_of, word_taker};
 pub use writing::{put, put_between, put_both, put_number};

@@ -3,7 +3,9 @@
 use std::alloc::Global;
 use std::io;
 use std::io::{BufReader, BufWriter, ErrorKind, Read, Write};
-use std::net::{Net, OpenStream, TcpListener, TcpStream};
+use std::net::{Net, OpenStream, TcpListener, TcpStream, ToSocketAddrs};
+use std::rt::Clock;
+use std::time::{Duration, Instant};
 use thiserror::Error;
 
 /// Why a socket can't be used.
@@ -40,6 +42,36 @@ fn halves<S: OpenStream + Drop>(stream: S) -> io::Result<(S, S)> {
 /// Connects to an address, and gives what reads from it and what writes to it.
 pub fn connect<R: Net>(rt: &R, address: &str) -> Result<(R::Stream, R::Stream), SocketFault> {
     Ok(halves(TcpStream::connect(rt, address)?)?)
+}
+
+/// The least time in which a connection is tried, in milliseconds.
+const SHORTEST_TRY: u64 = 1;
+
+/// What is left of a time, as far as the clock can be read, and no less than a try takes.
+fn left_of<R: Clock>(rt: &R, begin: Option<Instant>, limit: Duration) -> Duration {
+    let passed = begin
+        .and_then(|begin| begin.elapsed(rt).ok())
+        .unwrap_or(Duration::ZERO);
+    limit
+        .saturating_sub(passed)
+        .max(Duration::from_millis(SHORTEST_TRY))
+}
+
+/// Connects to an address within this time, and gives what reads from it and what writes to it. Where a name stands for several addresses, each
+/// is tried in turn, with the time that the ones before have left. How long it takes to look a name up is not limited.
+pub fn connect_within<R: Net + Clock>(
+    rt: &R,
+    address: &str,
+    limit: Duration,
+) -> Result<(R::Stream, R::Stream), SocketFault> {
+    let found = address.to_socket_addrs(rt)?;
+    let begin = Instant::now(rt).ok();
+    for place in found {
+        if let Ok(stream) = TcpStream::connect_timeout(rt, &place, left_of(rt, begin, limit)) {
+            return Ok(halves(stream)?);
+        }
+    }
+    Err(SocketFault::Failed)
 }
 
 /// What reads from a stream and what writes to it, each by way of a buffer.

@@ -1,3 +1,4 @@
+pub mod Failing
 pub mod Deeds
 pub mod Begun
 pub mod Surviving

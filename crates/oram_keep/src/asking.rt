@@ -1,10 +1,11 @@
 //! A command, from its words to its reply.
-ghost use Rattle.std.specs.Prelude.{◌≡◌, ◌⊎◌, [], ◌∷◌, length, IfErr, IfOk, IsErrOf, OnOk};
+ghost use Rattle.std.specs.Prelude.{◌≡◌, ◌⊎◌, [], ◌∷◌, length, Ok, IfErr, IfOk, IsErrOf, OnOk};
 ghost use Rattle.oram_run.specs.State.{State};
 ghost use Rattle.oram_run.specs.declared.events.Reply.{Reply};
 ghost use Rattle.oram_run.specs.declared.events.ReplyBody.{ReplyBody};
 ghost use Rattle.oram_core.specs.Core.{IsSameDevice, shape_of};
 ghost use Rattle.oram_core.specs.Doing.{done};
+ghost use Rattle.oram_session.specs.Honesty.{HasFailed};
 ghost use Rattle.oram_session.specs.Settled.{IsBodyOf, IsSettled, IsUnderWay};
 ghost use Rattle.oram_keep.specs.Asking.{HasRunOutAt, HasStalledAt, IsAccepted, HasGivenAll, IsCarriedOut, IsSame, IsUnkeptAt};
 
@@ -41,6 +42,7 @@ fn reply_of<S: Sealer, L: Link, K: Keeper>(
     ensures kept { IsSameDevice core.old core.new }
     ensures settled { OnOk result (IsSettled core.new.state) }
     ensures block { IfOk result (λ reply. IsBodyOf core.old.device reply.body) }
+    ensures failed { IfOk result (λ reply. reply.body ≡ ReplyBody.Failed → HasFailed core.new.state) }
     ensures ok { let v = shape_of S.overhead S.sealing S.opening core.old in
         IfOk result (λ reply. (kept : State) → HasGivenAll v L.calls K.keeps IsSame
         core.old.state link.old keeper.old core.new.state link.new keeper.new kept (reply ∷ [])) }
@@ -81,6 +83,9 @@ pub fn ask<S: Sealer, L: Link, K: Keeper, T: Tape>(
 
     // Data that is replied is a block, whatever the host is.
     ensures block { IfOk result (λ asked. (body : ReplyBody) → asked ≡ Asked.Replied body → IsBodyOf core.old.device body) }
+
+    // A reply that says that the device has failed comes from a core that has.
+    ensures failed { result ≡ Ok (Asked.Replied ReplyBody.Failed) → HasFailed core.new.state }
 
     // A command that is accepted has one reply.
     ensures ok { let v = shape_of S.overhead S.sealing S.opening core.old in

@@ -3,10 +3,12 @@ ghost use Rattle.std.specs.Prelude.{◌≡◌, ◌⊎◌, ◌<◌, ℕ, [], ◌�
 ghost use Rattle.oram_run.specs.Progress.Status.{Waiting};
 ghost use Rattle.oram_run.specs.State.{State, status_in};
 ghost use Rattle.oram_run.specs.declared.events.Reply.{Reply};
+ghost use Rattle.oram_run.specs.declared.events.ReplyBody.{ReplyBody};
 ghost use Rattle.oram_core.specs.Core.{IsSameDevice, shape_of};
 ghost use Rattle.oram_core.specs.Doing.{done};
 ghost use Rattle.oram_core.specs.Steps.{Heard};
 ghost use Rattle.oram_session.specs.Exchanges.{Sending, IsAnswered, IsCutOff, IsGivenUp, IsSent};
+ghost use Rattle.oram_session.specs.Honesty.{HasFailed};
 ghost use Rattle.oram_session.specs.Settled.{IsBodyOf, IsSettled, IsUnderWay};
 ghost use Rattle.oram_session.specs.Turns.{most_retries};
 ghost use Rattle.oram_keep.specs.Asking.{HasGivenAll, HasRunOutAt, HasStalledAt, IsSame, IsUnkeptAt};
@@ -69,6 +71,7 @@ pub(crate) fn exchange_all<S: Sealer, L: Link, K: Keeper>(
     ensures settled { OnOk result (IsSettled core.new.state) }
     ensures replied { IfOk result (λ r. 0 < length r.replies.items) }
     ensures block { IfOk result (λ r. All (λ reply. IsBodyOf core.old.device reply.body) r.replies.items) }
+    ensures failed { IfOk result (λ r. All (λ reply. reply.body ≡ ReplyBody.Failed → HasFailed core.new.state) r.replies.items) }
     ensures stalled { let v = shape_of S.overhead S.sealing S.opening core.old in
         IsErrOf result KeepFault.Stalled → (kept : State) → HasStalledAt v L.calls K.keeps IsSame
         core.old.state link.old keeper.old core.new.state link.new keeper.new kept }

@@ -1,5 +1,5 @@
 -- Requests that were answered, one after another.
-use Rattle.std.proofs.Common.{◌≡◌, ◌⊎◌, inr, ℕ, ◌+◌, ◌<◌, List, [], ◌∷◌, ◌++◌, length, Option, None, refl, sym, ap, ◌∙◌, subst, arith, length-append, take}
+use Rattle.std.proofs.Common.{◌≡◌, ◌⊎◌, inl, inr, ℕ, ◌+◌, ◌<◌, List, [], ◌∷◌, ◌++◌, length, Option, None, refl, sym, ap, ◌∙◌, subst, arith, length-append, take}
 use Rattle.std.proofs.lemmas.List.{append-nil}
 use Rattle.std.proofs.lemmas.List.Elements.{All-push, All-nil}
 use Rattle.std.proofs.lemmas.Grind.{flat_map-append}
@@ -8,7 +8,7 @@ use Rattle.std.proofs.KnownBytes.{Appends-nil, Appends-trans, Consumes-nil, Cons
 use Rattle.oram_nbd.specs.Holding.{Leads}
 use Rattle.oram_nbd.specs.Messages.{payload_len, request_text, IsRequest}
 use Rattle.oram_nbd.specs.Streams.{ComesShort, IsBegunText, Misses}
-use Rattle.oram_nbd.specs.Serving.{asking, refusal_of, replying, said, told, IsAnswer, IsPartly, IsReplied, IsService, IsRefusal, IsTurn, NeverFails, RefusesAll, Turn}
+use Rattle.oram_nbd.specs.Serving.{asking, refusal_of, replying, said, told, IsAnswer, IsPartly, IsReplied, IsService, IsRefusal, IsTurn, NeverFails, FailsForGood, SaysFailed, Turn}
 use Rattle.oram_nbd.specs.Transmission.{HasExchanged, HasServed, IsNoRequest, IsUnfinished, StopsServing}
 use Rattle.oram_nbd.specs.declared.faults.NbdError.{NbdError}
 use Rattle.oram_nbd.specs.declared.faults.NbdError.TheVariants.{Io, NoMemory}
@@ -39,24 +39,34 @@ never_more : (turns : List Turn) (turn : Turn) → NeverFails turns → (turn.re
 never_more [] turn h last = (last, tt)
 never_more (t ∷ turns) turn (first, rest) last = (first, never_more turns turn rest last)
 
-refuses_more : (turns : List Turn) (turn : Turn) → RefusesAll turns → IsRefusal turn.reply → RefusesAll (turns ++ turn ∷ [])
-refuses_more [] turn h last = (last, tt)
-refuses_more (t ∷ turns) turn (first, rest) last = (first, refuses_more turns turn rest last)
+refuses_more : (failed : Type 0) (turns : List Turn) (turn : Turn) → FailsForGood failed turns → (failed ⊎ SaysFailed turns → IsRefusal turn.reply) → FailsForGood failed (turns ++ turn ∷ [])
+refuses_more failed [] turn h last = (λ f. last (inl f), tt)
+refuses_more failed (t ∷ turns) turn (first, rest) last =
+    (first, refuses_more (failed ⊎ (t.reply ≡ Refused Io)) turns turn rest (λ e. last (elim e [ inl d ↦ elim d [ inl f ↦ inl f | inr io ↦ inr (inl io) ] | inr later ↦ inr (inr later) ])))
+
+-- what holds once the device has failed holds behind one turn more
+pub still_failed : (failed now later : Type 0) (turns : List Turn) (turn : Turn) → (failed ⊎ SaysFailed turns → now) → (now → later) → (turn.reply ≡ Refused Io → later) → failed ⊎ SaysFailed (turns ++ turn ∷ []) → later
+still_failed failed now later turns turn so_far keeps fails (inl f) = keeps (so_far (inl f))
+still_failed failed now later [] turn so_far keeps fails (inr (inl io)) = fails io
+still_failed failed now later [] turn so_far keeps fails (inr (inr none)) = absurd none
+still_failed failed now later (t ∷ turns) turn so_far keeps fails (inr (inl io)) = keeps (so_far (inr (inl io)))
+still_failed failed now later (t ∷ turns) turn so_far keeps fails (inr (inr more)) =
+    still_failed failed now later turns turn (λ e. so_far (elim e [ inl f ↦ inl f | inr said ↦ inr (inr said) ])) keeps fails (inr more)
 
 abbrev pub turn_of : Request → List ℕ → SimpleReply → Turn
 turn_of r bytes reply = record { request = r; payload = bytes; reply = reply }
 
 module _ (sound failed : Type 0) (size : ℕ) (held : List ℕ → Type 0) where
-  served_none : HasServed sound failed size held held []
-  served_none = record { fits = All-nil (λ turn. IsReplied size turn); never = λ _. tt; refused = λ _. tt; service = λ bytes h. (bytes, refl, h) }
+  pub served_none : HasServed sound failed size held held []
+  served_none = record { fits = All-nil (λ turn. IsReplied size turn); never = λ _. tt; refused = tt; service = λ bytes h. (bytes, refl, h) }
 
   -- one turn more
-  pub served_more : (held' held'' : List ℕ → Type 0) (turns : List Turn) (turn : Turn) → HasServed sound failed size held held' turns → IsReplied size turn → (sound → turn.reply ≡ Refused Io → ⊥) → (failed → IsRefusal turn.reply) →
+  pub served_more : (held' held'' : List ℕ → Type 0) (turns : List Turn) (turn : Turn) → HasServed sound failed size held held' turns → IsReplied size turn → (sound → turn.reply ≡ Refused Io → ⊥) → (failed ⊎ SaysFailed turns → IsRefusal turn.reply) →
       Leads held' (λ old new. IsAnswer old turn.request turn.payload turn.reply new) held'' → HasServed sound failed size held held'' (turns ++ turn ∷ [])
   served_more held' held'' turns turn s is works refuses answer = record {
     fits = All-push (λ t. IsReplied size t) turns turn s.fits is;
     never = λ h. never_more turns turn (s.never h) (works h);
-    refused = λ h. refuses_more turns turn (s.refused h) (refuses h);
+    refused = refuses_more failed turns turn s.refused refuses;
     service = λ bytes h.
         let so_far = s.service bytes h in
         let more = answer so_far.0 so_far.2 in
@@ -71,10 +81,10 @@ module _ (sound failed : Type 0) (size : ℕ) (held : List ℕ → Type 0) where
     pub read : Consumes from to (said turns)
     pub wrote : Appends text told' (told turns)
 
-  pub begin : (from text : Option (List ℕ)) → Served from text 0 held from text
+  unfoldable pub begin : (from text : Option (List ℕ)) → Served from text 0 held from text
   begin from text = record { turns = []; many = refl; served = served_none; read = Consumes-nil from; wrote = Appends-nil text }
 
-  pub next : (from text : Option (List ℕ)) (count : ℕ) (held' held'' : List ℕ → Type 0) (to told' later told'' : Option (List ℕ)) (turn : Turn) →
+  unfoldable pub next : (from text : Option (List ℕ)) (count : ℕ) (held' held'' : List ℕ → Type 0) (to told' later told'' : Option (List ℕ)) (turn : Turn) →
       (s : Served from text count held' to told') → HasServed sound failed size held held'' (s.turns ++ turn ∷ []) → Consumes to later (asking turn) → Appends told' told'' (replying turn) →
       Served from text (count + 1) held'' later told''
   next from text count held' held'' to told' later told'' turn s served came wrote = record {

@@ -119,7 +119,12 @@ abbrev pub IsRefusal : SimpleReply → Type 0
 IsRefusal (Done bytes) = ⊥
 IsRefusal (Refused e) = Unit {0}
 
--- no reply acknowledges anything
-abbrev pub RefusesAll : List Turn → Type 0
-RefusesAll [] = Unit {0}
-RefusesAll (turn ∷ turns) = IsRefusal turn.reply × RefusesAll turns
+-- some reply says that the device has failed
+abbrev pub SaysFailed : List Turn → Type 0
+SaysFailed [] = ⊥
+SaysFailed (turn ∷ turns) = (turn.reply ≡ Refused Io) ⊎ SaysFailed turns
+
+-- From when the device has failed, before these turns or at one of them that says so, no reply acknowledges anything.
+abbrev pub FailsForGood : Type 0 → List Turn → Type 0
+FailsForGood failed [] = Unit {0}
+FailsForGood failed (turn ∷ turns) = (failed → IsRefusal turn.reply) × FailsForGood (failed ⊎ (turn.reply ≡ Refused Io)) turns

@@ -3,7 +3,7 @@ use Rattle.std.specs.Prelude.{◌≡◌, ◌⊎◌, ℕ, ◌<◌, List, [], ◌�
 use Rattle.std.specs.Io.KnownBytes.{Appends, Consumes, IsAtEnd}
 use Rattle.oram_nbd.specs.Messages.{payload_len, request_text, IsRequest}
 use Rattle.oram_nbd.specs.Holding.{Leads}
-use Rattle.oram_nbd.specs.Serving.{asking, refusal_of, replying, said, told, IsPartly, IsReplied, IsService, NeverFails, RefusesAll, Turn}
+use Rattle.oram_nbd.specs.Serving.{asking, refusal_of, replying, said, told, IsPartly, IsReplied, IsService, NeverFails, FailsForGood, Turn}
 use Rattle.oram_nbd.specs.declared.faults.NbdFault.{NbdFault}
 use Rattle.oram_nbd.specs.declared.faults.NbdFault.TheVariants.{Read, Truncated, Magic, Write, OldClient, UnknownExport, TooManyOptions, OutOfMemory, Stopped}
 use Rattle.oram_nbd.specs.declared.requests.Command.TheVariants.{Disconnect}
@@ -36,14 +36,14 @@ module _ (sound failed : Type 0) (size : ℕ) (held held' : List ℕ → Type 0)
   pub record HasServed (turns : List Turn) : Type 0 where
     pub fits : All (λ turn. IsReplied size turn) turns
     pub never : sound → NeverFails turns
-    pub refused : failed → RefusesAll turns
+    pub refused : FailsForGood failed turns
     pub service : Leads held (λ old new. IsService old turns new) held'
 
   -- The turns were made, and then a request came that the device stopped at, with these bytes.
   pub record HasStopped (turns : List Turn) (r : Request) (payload : List ℕ) : Type 0 where
     pub fits : All (λ turn. IsReplied size turn) turns
     pub never : sound → NeverFails turns
-    pub refused : failed → RefusesAll turns
+    pub refused : FailsForGood failed turns
     pub request : IsRequest r
     pub whole : length payload ≡ payload_len r.command r.length
     pub accepted : refusal_of size r ≡ None

@@ -24,15 +24,22 @@ fn preferred(block_bytes: u32) -> u32
     }
 }
 
+/// Hears when the handshake of a connection is done, as one does who gives a client only so long for it.
+pub trait HandshakeWatch {
+    /// The client has agreed with the server, and its requests follow.
+    fn agreed(&self);
+}
+
 /// Serves one connection, from its greeting until its client goes, and tells how many requests were answered.
 ///
-/// The device is the one export, under this name and under none.
-pub fn serve<R: Read, W: Write, D: Disk>(
+/// The device is the one export, under this name and under none. `watch` hears when the handshake is done.
+pub fn serve<R: Read, W: Write, D: Disk, H: HandshakeWatch>(
     alloc: Global,
     reader: &mut R,
     writer: &mut W,
     disk: &mut D,
     name: &[u8],
+    watch: &H,
 ) -> Result<u64, NbdFault>
     requires { length name.now ≤ 4096 }
     ensures ok { IfOk result (λ count. HasConnected (D.is_sound disk.old) (D.failed disk.old) (D.block_len disk.old) (D.size disk.old) (D.holds disk.old) (D.holds disk.new) name.now count
@@ -52,6 +59,9 @@ pub fn serve<R: Read, W: Write, D: Disk>(
     };
     match negotiate(alloc, reader, writer, &export)? {
         Agreement::Gone => Ok(0),
-        Agreement::Transmission => transmit(alloc, reader, writer, disk),
+        Agreement::Transmission => {
+            watch.agreed();
+            transmit(alloc, reader, writer, disk)
+        }
     }
 }

@@ -50,6 +50,7 @@ pub trait Disk {
             → v.items ≡ bytes_at bytes (block_len self.old * block) (block_len self.old)) }
         ensures same { (bytes : List ℕ) → holds self.old bytes → holds self.new bytes }
         ensures sound { IsErrOf result DiskFault.Failed → is_sound self.old → ⊥ }
+        ensures failing { IsErrOf result DiskFault.Failed → failed self.new }
         ensures stopped { IsErrOf result DiskFault.Stopped → stops self.old self.new }
         ensures keeps { is_sound self.old → is_sound self.new }
         ensures refused { OnOk result (failed self.old → ⊥) }
@@ -65,6 +66,7 @@ pub trait Disk {
         ensures err { OnErr result ((bytes : List ℕ) → holds self.old bytes
             → holds self.new bytes ⊎ holds self.new (written bytes (block_len self.old * block) payload.now)) }
         ensures sound { IsErrOf result DiskFault.Failed → is_sound self.old → ⊥ }
+        ensures failing { IsErrOf result DiskFault.Failed → failed self.new }
         ensures stopped { IsErrOf result DiskFault.Stopped → stops self.old self.new }
         ensures keeps { is_sound self.old → is_sound self.new }
         ensures refused { OnOk result (failed self.old → ⊥) }
@@ -80,6 +82,7 @@ pub trait Disk {
         ensures err { OnErr result ((bytes : List ℕ) → holds self.old bytes
             → holds self.new bytes ⊎ holds self.new (written bytes (block_len self.old * block) (zeroes (block_len self.old)))) }
         ensures sound { IsErrOf result DiskFault.Failed → is_sound self.old → ⊥ }
+        ensures failing { IsErrOf result DiskFault.Failed → failed self.new }
         ensures stopped { IsErrOf result DiskFault.Stopped → stops self.old self.new }
         ensures keeps { is_sound self.old → is_sound self.new }
         ensures refused { OnOk result (failed self.old → ⊥) }

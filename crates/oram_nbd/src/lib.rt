@@ -21,7 +21,7 @@ mod serving;
 mod streams;
 mod transmitting;
 
-pub use connecting::serve;
+pub use connecting::{HandshakeWatch, serve};
 pub use disk::Disk;
 pub use faults::{DiskFault, NbdError, NbdFault};
 pub use handshake::{Agreement, Export};

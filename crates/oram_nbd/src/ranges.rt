@@ -52,6 +52,7 @@ fn read_part<D: Disk>(
     ensures ok { IfOk result (λ n. (bytes : List ℕ) → D.holds disk.old bytes → out.new.items ≡ out.old.items ++ bytes_at bytes at n) }
     ensures same { StillHolds (D.holds disk.old) (D.holds disk.new) }
     ensures sound { IsErrOf result DiskFault.Failed → D.is_sound disk.old → ⊥ }
+    ensures failing { IsErrOf result DiskFault.Failed → D.failed disk.new }
     ensures stopped { IsErrOf result DiskFault.Stopped → IsStopped D.stops disk.new }
     ensures keeps { D.is_sound disk.old → D.is_sound disk.new }
     ensures lasting { D.failed disk.old → D.failed disk.new }
@@ -76,6 +77,7 @@ pub fn read_range<D: Disk>(
     ensures ok { IfOk result (λ v. (bytes : List ℕ) → D.holds disk.old bytes → v.items ≡ bytes_at bytes offset count) }
     ensures same { StillHolds (D.holds disk.old) (D.holds disk.new) }
     ensures sound { IsErrOf result DiskFault.Failed → D.is_sound disk.old → ⊥ }
+    ensures failing { IsErrOf result DiskFault.Failed → D.failed disk.new }
     ensures stopped { IsErrOf result DiskFault.Stopped → IsStopped D.stops disk.new }
     ensures keeps { D.is_sound disk.old → D.is_sound disk.new }
     ensures lasting { D.failed disk.old → D.failed disk.new }
@@ -118,6 +120,7 @@ fn write_in_block<D: Disk>(
     ensures err { OnErr result ((bytes : List ℕ) → D.holds disk.old bytes
         → D.holds disk.new bytes ⊎ D.holds disk.new (written bytes (D.block_len disk.old * block + start) payload.now)) }
     ensures sound { IsErrOf result DiskFault.Failed → D.is_sound disk.old → ⊥ }
+    ensures failing { IsErrOf result DiskFault.Failed → D.failed disk.new }
     ensures stopped { IsErrOf result DiskFault.Stopped → IsStopped D.stops disk.new }
     ensures keeps { D.is_sound disk.old → D.is_sound disk.new }
     ensures lasting { D.failed disk.old → D.failed disk.new }
@@ -146,6 +149,7 @@ fn write_part<D: Disk>(
     ensures ok { IfOk result (λ n. (bytes : List ℕ) → D.holds disk.old bytes → D.holds disk.new (written bytes at (take n payload.now))) }
     ensures err { OnErr result (Leads (D.holds disk.old) (λ old new. IsBegun old at payload.now new) (D.holds disk.new)) }
     ensures sound { IsErrOf result DiskFault.Failed → D.is_sound disk.old → ⊥ }
+    ensures failing { IsErrOf result DiskFault.Failed → D.failed disk.new }
     ensures stopped { IsErrOf result DiskFault.Stopped → IsStopped D.stops disk.new }
     ensures keeps { D.is_sound disk.old → D.is_sound disk.new }
     ensures lasting { D.failed disk.old → D.failed disk.new }
@@ -169,6 +173,7 @@ pub fn write_range<D: Disk>(
     // As far as it came.
     ensures err { OnErr result (Leads (D.holds disk.old) (λ old new. IsBegun old offset payload.now new) (D.holds disk.new)) }
     ensures sound { IsErrOf result DiskFault.Failed → D.is_sound disk.old → ⊥ }
+    ensures failing { IsErrOf result DiskFault.Failed → D.failed disk.new }
     ensures stopped { IsErrOf result DiskFault.Stopped → IsStopped D.stops disk.new }
     ensures keeps { D.is_sound disk.old → D.is_sound disk.new }
     ensures lasting { D.failed disk.old → D.failed disk.new }
@@ -192,6 +197,7 @@ fn zero_part<D: Disk>(alloc: Global, disk: &mut D, at: u64, most: u64) -> Result
     ensures ok { IfOk result (λ n. (bytes : List ℕ) → D.holds disk.old bytes → D.holds disk.new (written bytes at (zeroes n))) }
     ensures err { OnErr result (Leads (D.holds disk.old) (λ old new. IsBegun old at (zeroes most) new) (D.holds disk.new)) }
     ensures sound { IsErrOf result DiskFault.Failed → D.is_sound disk.old → ⊥ }
+    ensures failing { IsErrOf result DiskFault.Failed → D.failed disk.new }
     ensures stopped { IsErrOf result DiskFault.Stopped → IsStopped D.stops disk.new }
     ensures keeps { D.is_sound disk.old → D.is_sound disk.new }
     ensures lasting { D.failed disk.old → D.failed disk.new }
@@ -220,6 +226,7 @@ pub fn zero_range<D: Disk>(
     ensures ok { OnOk result ((bytes : List ℕ) → D.holds disk.old bytes → D.holds disk.new (written bytes offset (zeroes count))) }
     ensures err { OnErr result (Leads (D.holds disk.old) (λ old new. IsBegun old offset (zeroes count) new) (D.holds disk.new)) }
     ensures sound { IsErrOf result DiskFault.Failed → D.is_sound disk.old → ⊥ }
+    ensures failing { IsErrOf result DiskFault.Failed → D.failed disk.new }
     ensures stopped { IsErrOf result DiskFault.Stopped → IsStopped D.stops disk.new }
     ensures keeps { D.is_sound disk.old → D.is_sound disk.new }
     ensures lasting { D.failed disk.old → D.failed disk.new }

@@ -62,6 +62,7 @@ fn carry_out<D: Disk>(
     ensures err { OnErr result (Leads (D.holds disk.old)
         (λ old new. IsPartly request.now.command old request.now.offset request.now.length payload.now new) (D.holds disk.new)) }
     ensures sound { IsErrOf result DiskFault.Failed → D.is_sound disk.old → ⊥ }
+    ensures failing { IsErrOf result DiskFault.Failed → D.failed disk.new }
     ensures stopped { IsErrOf result DiskFault.Stopped → IsStopped D.stops disk.new }
     ensures keeps { D.is_sound disk.old → D.is_sound disk.new }
     ensures lasting { D.failed disk.old → D.failed disk.new }
@@ -85,8 +86,8 @@ fn carry_out<D: Disk>(
     }
 }
 
-/// The reply to a request, or none where the device has stopped. A device that has failed acknowledges nothing. The bytes that it writes are missing where there was no memory for
-/// them, or where they are too many.
+/// The reply to a request, or none where the device has stopped. A device that has failed acknowledges nothing. The bytes that it writes are
+/// missing where there was no memory for them, or where they are too many.
 pub(crate) fn answer<D: Disk>(
     alloc: Global,
     disk: &mut D,
@@ -102,6 +103,7 @@ pub(crate) fn answer<D: Disk>(
         (λ old new. IsPartly request.now.command old request.now.offset request.now.length text new) (D.holds disk.new)) }
     ensures met { IfNone result (IsStopped D.stops disk.new) }
     ensures sound { IfSome result (λ reply. reply ≡ SimpleReply.Refused NbdError.Io → D.is_sound disk.old → ⊥) }
+    ensures failing { IfSome result (λ reply. reply ≡ SimpleReply.Refused NbdError.Io → D.failed disk.new) }
     ensures refused { D.failed disk.old → IfSome result IsRefusal }
     ensures keeps { D.is_sound disk.old → D.is_sound disk.new }
     ensures lasting { D.failed disk.old → D.failed disk.new }

@@ -1,5 +1,5 @@
 -- From clap's answer to what its matches ask for.
-use Rattle.std.proofs.Common.{◌≡◌, ◌∙◌, sym, ap, ap₂, refl, List, [], ◌∷◌, Option, Some, None, true, inl, inr, option_map, codes}
+use Rattle.std.proofs.Common.{◌≡◌, ◌∙◌, sym, ap, ap₂, refl, Bool, List, [], ◌∷◌, Option, Some, None, true, inl, inr, option_map, codes}
 use Rattle.std.specs.Prelude.{◌≢◌, Box, option_and_then}
 use Rattle.std.specs.Box.{box_value}
 use Rattle.std.proofs.lemmas.Option.{same_Some}
@@ -15,7 +15,7 @@ use Rattle.clap.specs.declared.parser.matches.SubCommand.{SubCommand}
 use Rattle.clap.specs.declared.parser.matches.ArgMatches.TheViews.{out-SubCommand}
 use Rattle.clap.specs.declared.error.Error.{Error}
 use Rattle.clap.specs.declared.error.kind.ErrorKind.TheVariants.{OutOfMemory}
-use Rattle.oram_settings.specs.CommandLine.{Request, program, request_by, request_in, request_of, unless_faulty}
+use Rattle.oram_settings.specs.CommandLine.{Request, is_given, program, request_by, request_in, request_of, unless_faulty}
 use Rattle.oram_settings.proofs.Program.{is_free}
 
 -- a subcommand of this name, with these rows
@@ -51,12 +51,13 @@ module _ (a : App) (same : a ≡ program) (words : List Text) where
         sym (ap (λ (b : App). unless_faulty (fault_of b words) (option_and_then request_by (subcommand_of b words))) same)
         ∙ ap₂ (λ kinds t. unless_faulty kinds (option_and_then request_by t)) (sound free) entered
 
-    pub asked_is : (name : Text) (rows : List Row) (word size : Option Text) → Some name ≡ subcommand_name_of m
-        → Some rows ≡ option_map (λ (p : Text × List Row). p.1) (subcommand_rows_of m) → word ≡ first_of (codes "word") rows → size ≡ first_of (codes "size") rows
-        → request_in words ≡ option_and_then (λ (w : Text). request_of name w size) word
-    asked_is name rows word size named found read sized =
+    pub asked_is : (name : Text) (rows : List Row) (word size : Option Text) (is_new : Bool) → Some name ≡ subcommand_name_of m
+        → Some rows ≡ option_map (λ (p : Text × List Row). p.1) (subcommand_rows_of m) → word ≡ first_of (codes "word") rows → is_new ≡ is_given (first_of (codes "new") rows) → size ≡ first_of (codes "size") rows
+        → request_in words ≡ option_and_then (λ (w : Text). request_of name w is_new size) word
+    asked_is name rows word size is_new named found read said sized =
         by_entered (Some (name, rows)) (sym (matches simple).1 ∙ entered_is _ name rows (sym named) (sym found))
-        ∙ ap₂ (λ (s : Option Text) (w : Option Text). option_and_then (λ (x : Text). request_of name x s) w) (sym sized) (sym read)
+        ∙ ap (λ (n : Bool). option_and_then (λ (x : Text). request_of name x n (first_of (codes "size") rows)) (first_of (codes "word") rows)) (sym said)
+        ∙ ap₂ (λ (s : Option Text) (w : Option Text). option_and_then (λ (x : Text). request_of name x is_new s) w) (sym sized) (sym read)
 
     no_rows : (s : Option (Text × List Row)) → None ≡ option_map (λ (p : Text × List Row). p.1) s → s ≡ None
     no_rows None e = refl

@@ -1,18 +1,19 @@
 -- The command line of oramdisk, by clap's own account of it.
-use Rattle.std.specs.Prelude.{ℕ, List, [], ◌∷◌, map, true, false, Option, Some, None, codes, if◌then◌else◌, option_and_then, string_bytes}
+use Rattle.std.specs.Prelude.{ℕ, Bool, List, [], ◌∷◌, map, true, false, Option, Some, None, codes, if◌then◌else◌, option_and_then, string_bytes}
 use Rattle.std.specs.Str.{bytes_eq}
 use Rattle.clap.specs.Walk.{Row, Text, first_of}
 use Rattle.clap.specs.Simple.{App, Shape, new_rule, new_shape, on_top, subcommand_of}
 use Rattle.clap.specs.Words.{new_app}
 use Rattle.clap.specs.Kinds.{Kinds}
 use Rattle.clap.specs.Faults.{fault_of}
+use Rattle.clap.specs.declared.builder.action.ArgAction.TheVariants.{SetTrue}
 use Rattle.oram_edge.specs.Words.{word_taker}
 use Rattle.oram_settings.specs.declared.command_line.Words.{Words}
 use Rattle.oram_settings.specs.declared.command_line.Words.TheVariants.{Format, Host, New, Retry, Serve, Status}
 
--- what a command line asks for: a host, a folder for a disk of a size, or something of a disk, with the file of its settings
+-- what a command line asks for: a host, which is said to be new or not, a folder for a disk of a size, or something of a disk, with the file of its settings
 pub data Request : Type 0 where
-  host : List ℕ → Request
+  host : List ℕ → Bool → Request
   folder : List ℕ → List ℕ → Request
   format : List ℕ → Request
   serve : List ℕ → Request
@@ -21,12 +22,18 @@ pub data Request : Type 0 where
 
 -- without where texts lie in memory
 abbrev pub shown : Words → Request
-shown (Host name) = host (string_bytes name)
+shown (Host name is_new) = host (string_bytes name) is_new
 shown (New name size) = folder (string_bytes name) (string_bytes size)
 shown (Format name) = format (string_bytes name)
 shown (Serve name) = serve (string_bytes name)
 shown (Status name) = status (string_bytes name)
 shown (Retry name) = retry (string_bytes name)
+
+-- the subcommand that takes a word, and a flag
+abbrev pub host_runner : Shape
+host_runner = record (new_shape (codes "host")) {
+  rules = record (new_rule (codes "word")) { required = true } ∷ record (new_rule (codes "new")) { long = Some (codes "new"); action = Some SetTrue } ∷ [];
+}
 
 -- the subcommand that takes a word, and a size by its name
 abbrev pub folder_maker : Shape
@@ -42,23 +49,28 @@ bare = on_top (λ s. record s { subcommand_required = true }) (new_app (codes "o
 abbrev pub program : App
 program = record {
   top = record (new_shape (codes "oramdisk")) { is_leaf = false; subcommand_required = true };
-  subs = word_taker (codes "host") ∷ folder_maker ∷ map word_taker (codes "format" ∷ codes "serve" ∷ codes "status" ∷ codes "retry" ∷ []);
+  subs = host_runner ∷ folder_maker ∷ map word_taker (codes "format" ∷ codes "serve" ∷ codes "status" ∷ codes "retry" ∷ []);
 }
 
--- what a subcommand asks for, with its word and perhaps a size
-abbrev pub request_of : Text → Text → Option Text → Option Request
-request_of name word None =
-    if bytes_eq name (codes "host") then Some (host word)
+-- clap has this text of a flag that is given, and another one where it isn't
+abbrev pub is_given : Option Text → Bool
+is_given (Some text) = bytes_eq text (codes "true")
+is_given None = false
+
+-- what a subcommand asks for, with its word, whether it is said to be new, and perhaps a size
+abbrev pub request_of : Text → Text → Bool → Option Text → Option Request
+request_of name word is_new None =
+    if bytes_eq name (codes "host") then Some (host word is_new)
     else if bytes_eq name (codes "format") then Some (format word)
     else if bytes_eq name (codes "serve") then Some (serve word)
     else if bytes_eq name (codes "status") then Some (status word)
     else if bytes_eq name (codes "retry") then Some (retry word)
     else None
-request_of name word (Some size) = if bytes_eq name (codes "new") then Some (folder word size) else None
+request_of name word is_new (Some size) = if bytes_eq name (codes "new") then Some (folder word size) else None
 
 -- what the matches of a subcommand ask for
 abbrev pub request_by : Text × List Row → Option Request
-request_by matches = option_and_then (λ word. request_of matches.0 word (first_of (codes "size") matches.1)) (first_of (codes "word") matches.1)
+request_by matches = option_and_then (λ word. request_of matches.0 word (is_given (first_of (codes "new") matches.1)) (first_of (codes "size") matches.1)) (first_of (codes "word") matches.1)
 
 -- nothing where clap finds a fault
 abbrev pub unless_faulty : Kinds → Option Request → Option Request

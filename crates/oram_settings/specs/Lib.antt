@@ -3,3 +3,4 @@ pub mod Status
 pub mod Progress
 pub mod CommandLine
 pub mod Sizes
+pub mod Differences

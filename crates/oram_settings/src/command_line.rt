@@ -8,15 +8,15 @@ ghost use Rattle.oram_settings.specs.CommandLine as spec;
 ghost use Rattle.oram_settings.specs.CommandLine.{bare, program, request_in, request_of, shown};
 
 use clap::error::ErrorKind;
-use clap::{Arg, Command, Error};
+use clap::{Arg, ArgAction, Command, Error};
 use oram_edge::{InputFault, word_taker};
 use std::alloc::{AllocError, Global};
 
 /// What the words of a command line ask for.
 #[derive(Debug, Drop)]
 pub enum Words {
-    /// A bucket host, with the settings in the file of this name.
-    Host(String),
+    /// A bucket host, with the settings in the file of this name. It may be said to be new.
+    Host { settings: String, is_new: bool },
     /// A folder of this name, with settings to begin with, for a disk of this size.
     New { folder: String, size: String },
     /// The disk whose settings are in the file of this name is formatted, ..
@@ -27,6 +27,17 @@ pub enum Words {
     Status(String),
     /// .. or is to be tried again once it has failed.
     Retry(String),
+}
+
+/// The subcommand that runs a host.
+fn host_runner<'a>(alloc: Global) -> Result<Command<'a>, AllocError>
+    ensures local { IfOk result (λ c. (fields_of c).has_globals ≡ false) }
+    ensures shape { IfOk result (λ c. shape_of c ≡ spec.host_runner) }
+{
+    let new = Arg::new(alloc, "new")
+        .long("new")
+        .action(ArgAction::SetTrue);
+    word_taker(alloc, "host")?.arg(new)
 }
 
 /// The subcommand that makes a folder.
@@ -50,7 +61,7 @@ fn command<'a>(alloc: Global) -> Result<Command<'a>, AllocError>
     ensures { IfOk result (λ c. app_of c ≡ program) }
 {
     bare_command(alloc)
-        .subcommand(word_taker(alloc, "host")?)?
+        .subcommand(host_runner(alloc)?)?
         .subcommand(folder_maker(alloc)?)?
         .subcommand(word_taker(alloc, "format")?)?
         .subcommand(word_taker(alloc, "serve")?)?
@@ -58,15 +69,34 @@ fn command<'a>(alloc: Global) -> Result<Command<'a>, AllocError>
         .subcommand(word_taker(alloc, "retry")?)
 }
 
-/// What a subcommand asks for, with its word and perhaps a size.
-fn asked(alloc: Global, name: &str, word: &str, size: Option<&str>) -> Result<Words, InputFault>
-    ensures ok { IfOk result (λ w. request_of name.now word.now (option_map (λ s. s.now) size.entry) ≡ Some (shown w)) }
-    ensures bad { IsErrOf result InputFault.Bad → request_of name.now word.now (option_map (λ s. s.now) size.entry) ≡ None }
+/// Whether a flag was given, by what clap has of it.
+fn is_given(flag: Option<&str>) -> bool
+    ensures { result ≡ spec.is_given (option_map (λ s. s.now) flag.entry) }
+{
+    match flag {
+        Some(text) => text == "true",
+        None => false,
+    }
+}
+
+/// What a subcommand asks for, with its word, whether it is said to be new, and perhaps a size.
+fn asked(
+    alloc: Global,
+    name: &str,
+    word: &str,
+    is_new: bool,
+    size: Option<&str>,
+) -> Result<Words, InputFault>
+    ensures ok { IfOk result (λ w. request_of name.now word.now is_new (option_map (λ s. s.now) size.entry) ≡ Some (shown w)) }
+    ensures bad { IsErrOf result InputFault.Bad → request_of name.now word.now is_new (option_map (λ s. s.now) size.entry) ≡ None }
 {
     let word = String::from_str(alloc, word)?;
     match size {
         None => match name {
-            "host" => Ok(Words::Host(word)),
+            "host" => Ok(Words::Host {
+                settings: word,
+                is_new,
+            }),
             "format" => Ok(Words::Format(word)),
             "serve" => Ok(Words::Serve(word)),
             "status" => Ok(Words::Status(word)),
@@ -111,5 +141,6 @@ pub fn read_words(alloc: Global, words: &[&str]) -> Result<Words, InputFault>
     let Some(word) = inner.get_str("word") else {
         return Err(InputFault::Bad);
     };
-    asked(alloc, name, word, inner.get_str("size"))
+    let is_new = is_given(inner.get_str("new"));
+    asked(alloc, name, word, is_new, inner.get_str("size"))
 }

@@ -52,7 +52,8 @@ impl<S: Sealer, L: Link, K: Keeper, T: Tape> Disk for Volume<S, L, K, T> {
         let address = self.address_of(block);
         match self.carry_out(alloc, Command::Read(address))? {
             ReplyBody::Data(bytes) => Ok(bytes.into_vec()),
-            ReplyBody::Done | ReplyBody::Failed => Err(DiskFault::Failed),
+            // A read is replied to by its bytes. Another reply never comes; this one acknowledges nothing, and doesn't fail the disk.
+            ReplyBody::Done | ReplyBody::Failed => Err(DiskFault::OutOfMemory),
         }
     }
 

@@ -5,6 +5,7 @@ ghost use Rattle.oram_run.specs.Blocks.{body_from};
 ghost use Rattle.oram_run.specs.Events.{address_of as address_in};
 ghost use Rattle.oram_run.specs.Serving.{array_after};
 ghost use Rattle.oram_core.specs.Core.{IsSameDevice, shape_of};
+ghost use Rattle.oram_session.specs.Honesty.{HasFailed};
 ghost use Rattle.oram_session.specs.Settled.{IsBodyOf, IsSettled};
 ghost use Rattle.oram_keep.specs.Asking.{IsReopened};
 ghost use Rattle.oram_volume.specs.Holding.{HoldsArray};
@@ -93,6 +94,7 @@ impl<S: Sealer, L: Link, K: Keeper, T: Tape> Volume<S, L, K, T> {
             ⊎ HoldsArray may_lie v L.calls self.new.core.state self.new.link (array_after v.device command array)) }
         ensures sound { let v = shape_of S.overhead S.sealing S.opening self.old.core in
             IsErrOf result DiskFault.Failed → (array : ℕ → List ℕ) → HoldsArray false v L.calls self.old.core.state self.old.link array → ⊥ }
+        ensures failing { IsErrOf result DiskFault.Failed → HasFailed self.new.core.state }
         ensures stopped { let v = shape_of S.overhead S.sealing S.opening self.old.core in
             IsErrOf result DiskFault.Stopped → StopsAt v L.calls K.keeps (T.words self.old.tape) command
             self.old.core.state self.old.link self.old.keeper self.new.core.state self.new.link self.new.keeper }

@@ -9,6 +9,7 @@ mod formatting;
 mod loading;
 mod looping;
 mod roles;
+mod room;
 mod settings_file;
 
 pub use command_line::{Role, Words, read_words};

@@ -9,6 +9,7 @@ use crate::files::{load_image, save_image};
 use crate::formatting::{format_state, made_device};
 use crate::loading::load_core;
 use crate::looping::{answer_frames, bytes_of};
+use crate::room::RoomyTape;
 use crate::settings_file::{Settings, read_settings};
 use oram_bucket::{ChaChaSeal, PlainSeal, Sealer};
 use oram_core::Core;
@@ -150,10 +151,11 @@ fn proxy<R: Files + Net + AllocGlobal, S: Sealer>(
     let bytes = bytes_in(rt, file.name())?;
     let mut core = load_core(rt.alloc(), sealer, &bytes)?;
     let trees = core.device().trees();
-    let mut tape = ChaChaTape {
+    let tape = ChaChaTape {
         key: tape_key,
         trees,
     };
+    let mut tape = RoomyTape::new(rt.alloc(), tape, &core)?;
     let listener = listen(rt, address.as_str())?;
     let (reader, writer) = connect(rt, host.as_str())?;
     let mut link = StreamLink::new(rt.alloc(), reader, writer);
@@ -165,6 +167,8 @@ fn proxy<R: Files + Net + AllocGlobal, S: Sealer>(
         &mut link,
         &mut tape,
     );
+    // Its room is for what follows.
+    drop(tape);
     let bytes = encode_state(rt.alloc(), &core)?;
     file.save_bytes(rt, &bytes)?;
     ending(&core, served)

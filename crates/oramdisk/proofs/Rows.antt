@@ -8,6 +8,7 @@ use Rattle.oramdisk.specs.Faults.{line_of}
 use Rattle.oramdisk.specs.Tallies.{frame_len}
 use Rattle.oramdisk.specs.Visits.{ending}
 use Rattle.oramdisk.specs.declared.faults.Fault.TheVariants.{OutOfMemory}
+use Rattle.oramdisk.specs.declared.visits.EarlyEnd.TheVariants.{Displaced, Fault}
 
 -- what a new folder's settings say
 the_first_settings : parse_document (codes "listen = \"127.0.0.1:7001\"\nfile = \"buckets.sqlite\"\n") ≡ Some (member (codes "file") (string (codes "buckets.sqlite")) (member (codes "listen") (string (codes "127.0.0.1:7001")) no_members))
@@ -17,8 +18,11 @@ the_first_settings = refl
 a_line : line_of OutOfMemory ≡ codes "oramdisk: out of memory\n"
 a_line = refl
 
-too_long : ending (Some Frame) ≡ codes ", a frame was too long"
+too_long : ending (Some (Fault Frame)) ≡ codes ", a frame was too long"
 too_long = refl
+
+displaced : ending (Some Displaced) ≡ codes ", a newer connection took its place"
+displaced = refl
 
 a_frame : frame_len (1 ∷ 2 ∷ []) ≡ 6
 a_frame = refl

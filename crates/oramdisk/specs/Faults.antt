@@ -1,11 +1,23 @@
 -- How the program ends where it can't go on: a line, and its exit status.
-use Rattle.std.specs.Prelude.{◌≡◌, ◌⊎◌, ℕ, List, ◌++◌, codes, string_bytes}
+use Rattle.std.specs.Prelude.{◌≡◌, ◌⊎◌, ℕ, List, ◌++◌, Option, Some, None, codes, string_bytes}
 use Rattle.oram_edge.specs.declared.files.FileFault.{FileFault}
 use Rattle.oram_edge.specs.declared.files.FileFault.TheVariants as file
+use Rattle.oram_client.specs.declared.dialing.Trouble.{Trouble}
+use Rattle.oram_client.specs.declared.dialing.Trouble.TheVariants as trouble
+use Rattle.oram_settings.specs.declared.differences.FixedKey.{FixedKey}
+use Rattle.oram_settings.specs.declared.differences.FixedKey.TheVariants as fixed
 use Rattle.oram_store.specs.declared.faults.StoreFault.{StoreFault}
 use Rattle.oram_store.specs.declared.faults.StoreFault.TheVariants as store
 use Rattle.oramdisk.specs.declared.faults.Fault.{Fault}
-use Rattle.oramdisk.specs.declared.faults.Fault.TheVariants.{CommandLine, Settings, DiskSettings, Device, Size, OutOfMemory, File, Address, Accept, NotOurs, Damaged, Busy, Exists, Formatted, NotADisk, OutOfReach, HostRefused, Unkept, UsedUp, Random, InUse, Failed, NotFailed}
+use Rattle.oramdisk.specs.declared.faults.Fault.TheVariants.{CommandLine, Settings, DiskSettings, Device, Size, OutOfMemory, File, Address, Accept, NotOurs, Damaged, Busy, NoFile, FileExists, Exists, Formatted, NotADisk, OlderState, WrongKey, Changed, OutOfReach, HostFull, AnotherDisk, NoDisk, HostTaken, HostRefused, Unkept, UsedUp, Random, InUse, Failed, NotFailed}
+
+-- what a line begins with that tells of a changed value
+abbrev pub changed : FixedKey → List ℕ
+changed fixed.Size = codes "oramdisk: size in "
+changed fixed.Block = codes "oramdisk: block in "
+changed fixed.Slots = codes "oramdisk: slots in "
+changed fixed.Table = codes "oramdisk: table in "
+changed fixed.Sealer = codes "oramdisk: sealer in "
 
 -- what happened and to what, and what to do
 abbrev pub line_of : Fault → List ℕ
@@ -21,9 +33,18 @@ line_of Accept = codes "oramdisk: " ++ codes "can't accept connections" ++ codes
 line_of (NotOurs name) = codes "oramdisk: " ++ string_bytes name ++ codes " isn't a file of buckets, and is left as it is: name another file\n"
 line_of (Damaged name) = codes "oramdisk: " ++ string_bytes name ++ codes " is damaged, and is left as it is: name another file, and format anew\n"
 line_of (Busy name) = codes "oramdisk: " ++ string_bytes name ++ codes " is held by another process: end that one first\n"
+line_of (NoFile name) = codes "oramdisk: there is no file " ++ string_bytes name ++ codes ": see that the settings are those of the right host, or say oramdisk host --new to make it\n"
+line_of (FileExists name) = codes "oramdisk: " ++ string_bytes name ++ codes " is there already, and is left as it is: leave --new out to serve it\n"
 line_of (Exists name) = codes "oramdisk: " ++ string_bytes name ++ codes " is there already, and is left as it is: name another folder\n"
 line_of (Formatted name) = codes "oramdisk: " ++ string_bytes name ++ codes " is there already, and is left as it is: to format anew, take it away, and name a new file at the host\n"
-line_of (NotADisk name) = codes "oramdisk: " ++ string_bytes name ++ codes " isn't the state of a disk with these settings, and is left as it is\n"
+line_of (NotADisk name) = codes "oramdisk: " ++ string_bytes name ++ codes " isn't the state of a disk, and is left as it is\n"
+line_of (OlderState name) = codes "oramdisk: " ++ string_bytes name ++ codes " is the state of a disk of an older version, and is left as it is: serve it with that version, and copy what is in it to a new disk\n"
+line_of (WrongKey name) = codes "oramdisk: the key in " ++ string_bytes name ++ codes " isn't this disk's: put the one back that it was formatted with\n"
+line_of (Changed key name) = changed key ++ string_bytes name ++ codes " isn't what it was when the disk was formatted: put it back\n"
+line_of (HostFull address) = codes "oramdisk: the host at " ++ string_bytes address ++ codes " has no room: make room on its disk, and start again\n"
+line_of (AnotherDisk address) = codes "oramdisk: the host at " ++ string_bytes address ++ codes " keeps another disk, and nothing was sent to it: see that the settings name the right host, and that it was started with its own file\n"
+line_of (NoDisk address) = codes "oramdisk: the host at " ++ string_bytes address ++ codes " keeps no disk, and nothing was sent to it: see that the settings name the right host, and that it was started with its own file\n"
+line_of (HostTaken address) = codes "oramdisk: the host at " ++ string_bytes address ++ codes " keeps a disk already: name a new file at the host\n"
 line_of (OutOfReach address) = codes "oramdisk: can't reach the host at " ++ string_bytes address ++ codes ": see that it runs and that the way to it is open, and start again\n"
 line_of (HostRefused address) = codes "oramdisk: the host at " ++ string_bytes address ++ codes " doesn't take this disk: name a new file at the host\n"
 line_of (Unkept name) = codes "oramdisk: can't keep the state in " ++ string_bytes name ++ codes ": see that its folder may be written and has room, and start again\n"
@@ -35,7 +56,8 @@ line_of Random = codes "oramdisk: " ++ codes "the system gives no random bytes" 
 
 -- 2: words or settings; 3: memory; 4: a file; 5: a socket; 6 to 8: a host's file that is none, damaged, or held; 9: what is there already;
 -- 10: a state that is none; 11, 12: a host out of reach, or that refuses; 13: a state that can't be kept; 14: no access left; 15: no random bytes;
--- 16: a disk in use; 17: a disk that has failed; 18: one that has not
+-- 16: a disk in use; 17: a disk that has failed; 18: one that has not; 19: a host's file that is missing;
+-- 20 to 22: a host with another disk, with none, or without room; 23, 24: a key or another value that isn't the formatting's
 abbrev pub status_of : Fault → ℕ
 status_of CommandLine = 2
 status_of (Settings name) = 2
@@ -49,17 +71,26 @@ status_of Accept = 5
 status_of (NotOurs name) = 6
 status_of (Damaged name) = 7
 status_of (Busy name) = 8
+status_of (FileExists name) = 9
 status_of (Exists name) = 9
 status_of (Formatted name) = 9
 status_of (NotADisk name) = 10
+status_of (OlderState name) = 10
 status_of (OutOfReach address) = 11
 status_of (HostRefused address) = 12
+status_of (HostTaken address) = 12
 status_of (Unkept name) = 13
 status_of (UsedUp name) = 14
 status_of Random = 15
 status_of (InUse name) = 16
 status_of (Failed name) = 17
 status_of (NotFailed name) = 18
+status_of (NoFile name) = 19
+status_of (AnotherDisk address) = 20
+status_of (NoDisk address) = 21
+status_of (HostFull address) = 22
+status_of (WrongKey name) = 23
+status_of (Changed key name) = 24
 
 abbrev pub file_fault : FileFault → Fault
 file_fault (file.File name) = File name
@@ -78,3 +109,12 @@ Tells name why told = ⊥
 -- or that there is no memory
 abbrev pub IsStoreFault : List ℕ → StoreFault → Fault → Type 0
 IsStoreFault name why told = Tells name why told ⊎ (told ≡ OutOfMemory)
+
+-- of the host at this address, the link's trouble is told so
+abbrev pub IsGivenUp : Option Trouble → List ℕ → Fault → Type 0
+IsGivenUp (Some trouble.NoRoom) address (HostFull told) = string_bytes told ≡ address
+IsGivenUp (Some trouble.AnotherDisk) address (AnotherDisk told) = string_bytes told ≡ address
+IsGivenUp (Some trouble.NoDisk) address (NoDisk told) = string_bytes told ≡ address
+IsGivenUp (Some (trouble.OutOfReach why)) address (OutOfReach told) = string_bytes told ≡ address
+IsGivenUp None address (OutOfReach told) = string_bytes told ≡ address
+IsGivenUp trouble address told = ⊥

@@ -1,20 +1,23 @@
 -- The line of a connection.
 use Rattle.std.specs.Prelude.{ℕ, List, [], ◌++◌, Option, Some, None, codes, decimal, string_bytes}
-use Rattle.oram_answering.specs.declared.faults.ServeFault.{ServeFault}
 use Rattle.oram_answering.specs.declared.faults.ServeFault.TheVariants as serve
 use Rattle.oram_store.specs.declared.faults.StoreFault.{StoreFault}
 use Rattle.oram_store.specs.declared.faults.StoreFault.TheVariants as store
+use Rattle.oramdisk.specs.declared.visits.EarlyEnd.{EarlyEnd}
+use Rattle.oramdisk.specs.declared.visits.EarlyEnd.TheVariants as early
 use Rattle.oramdisk.specs.declared.visits.Visit.{Visit}
 
 -- what is told of an early end
-abbrev pub ending : Option ServeFault → List ℕ
+abbrev pub ending : Option EarlyEnd → List ℕ
 ending None = []
-ending (Some serve.Read) = codes ", reading failed"
-ending (Some serve.Write) = codes ", writing failed"
-ending (Some serve.Frame) = codes ", a frame was too long"
-ending (Some serve.Truncated) = codes ", a frame was cut short"
-ending (Some serve.Stalled) = codes ", it stalled"
-ending (Some serve.OutOfMemory) = codes ", out of memory"
+ending (Some early.Displaced) = codes ", a newer connection took its place"
+ending (Some early.Silent) = codes ", it was silent for a minute"
+ending (Some (early.Fault serve.Read)) = codes ", reading failed"
+ending (Some (early.Fault serve.Write)) = codes ", writing failed"
+ending (Some (early.Fault serve.Frame)) = codes ", a frame was too long"
+ending (Some (early.Fault serve.Truncated)) = codes ", a frame was cut short"
+ending (Some (early.Fault serve.Stalled)) = codes ", it stalled"
+ending (Some (early.Fault serve.OutOfMemory)) = codes ", out of memory"
 
 -- what is told of a file that had no room
 abbrev pub failing : Option StoreFault → List ℕ

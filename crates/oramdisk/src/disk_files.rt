@@ -2,9 +2,13 @@
 
 use crate::faults::Fault;
 use oram_bucket::Sealer;
+use oram_client::{
+    DiskKey, Head, KeptFault, KeptFile, Keys, SealerKind, WrongKey, keys_for, read_kept_file,
+};
 use oram_core::Core;
 use oram_edge::{InputFault, bytes_in};
-use oram_settings::{DiskSettings, beside, read_disk_settings};
+use oram_geometry::Device;
+use oram_settings::{DiskSettings, Sealing, beside, first_difference, read_disk_settings};
 use oram_state::{StateFault, decode_state};
 use std::alloc::Global;
 use std::rt::Files;
@@ -50,5 +54,60 @@ pub(crate) fn core_in<S: Sealer>(
         Ok(core) => Ok(core),
         Err(StateFault::OutOfMemory) => Err(Fault::OutOfMemory),
         Err(_) => Err(not_a_disk(alloc, name)),
+    }
+}
+
+/// What the bytes of the file of this name keep of a disk.
+pub(crate) fn kept_in<'a>(
+    alloc: Global,
+    file: &'a [u8],
+    name: &str,
+) -> Result<KeptFile<'a>, Fault> {
+    match read_kept_file(file) {
+        Ok(kept) => Ok(kept),
+        Err(KeptFault::Older) => Err(Fault::OlderState(String::from_str(alloc, name)?)),
+        Err(KeptFault::NotOurs) => Err(not_a_disk(alloc, name)),
+    }
+}
+
+/// The keys of the disk of this head, by the settings in the file of this name.
+pub(crate) fn keys_in(
+    alloc: Global,
+    settings: &DiskSettings,
+    head: &Head,
+    name: &str,
+) -> Result<Keys, Fault> {
+    match keys_for(&DiskKey(settings.key), head) {
+        Ok(keys) => Ok(keys),
+        Err(WrongKey) => Err(Fault::WrongKey(String::from_str(alloc, name)?)),
+    }
+}
+
+/// How a disk is sealed, in the words of its settings.
+pub(crate) fn sealing_of(sealer: SealerKind) -> Sealing {
+    match sealer {
+        SealerKind::Plain => Sealing::Plain,
+        SealerKind::ChaCha20 => Sealing::ChaCha,
+    }
+}
+
+/// What seals a disk whose settings say so.
+pub(crate) fn sealer_of(sealing: Sealing) -> SealerKind {
+    match sealing {
+        Sealing::Plain => SealerKind::Plain,
+        Sealing::ChaCha => SealerKind::ChaCha20,
+    }
+}
+
+/// Refuses the settings in the file of this name where they aren't those that the disk of this device was formatted with.
+pub(crate) fn check_settings(
+    settings: &DiskSettings,
+    device: &Device,
+    sealer: SealerKind,
+    name: String,
+) -> Result<(), Fault> {
+    match first_difference(settings, device, sealing_of(sealer)) {
+        None => Ok(()),
+        Some(key) => Err(Fault::Changed(key, name)),
     }
 }

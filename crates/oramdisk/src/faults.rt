@@ -3,8 +3,10 @@
 ghost use Rattle.std.specs.Prelude.{◌≡◌, ◌++◌};
 ghost use Rattle.oram_host.specs.Transfers.{Begins};
 ghost use Rattle.oramdisk.specs.Faults.{IsStoreFault, line_of, status_of};
+ghost use Rattle.oramdisk.specs.Faults.{changed};
 
 use oram_edge::{FileFault, put_between};
+use oram_settings::FixedKey;
 use oram_store::StoreFault;
 use std::alloc::{AllocError, Global};
 use std::io::Write;
@@ -35,15 +37,33 @@ pub enum Fault {
     Damaged(String),
     /// Another process has the file of this name open.
     Busy(String),
+    /// There is no file of buckets of this name.
+    NoFile(String),
+    /// There is a file of this name, where a new one was asked for.
+    FileExists(String),
     /// There is something of this name already.
     Exists(String),
     /// The file of this name holds the state of a disk, or something else.
     Formatted(String),
     /// The file of this name isn't a disk's state.
     NotADisk(String),
-    /// The host at this address can't be reached.
+    /// The file of this name is the state of a disk, in an older form.
+    OlderState(String),
+    /// The key in the settings of this name isn't the one that the disk was formatted with.
+    WrongKey(String),
+    /// The value of a key in the settings of this name isn't the one that the disk was formatted with.
+    Changed(FixedKey, String),
+    /// The host at this address can't be reached, or doesn't answer.
     OutOfReach(String),
-    /// The host at this address answered something else than that it is done, as where it keeps a disk already.
+    /// The host at this address has no room.
+    HostFull(String),
+    /// The host at this address keeps another disk.
+    AnotherDisk(String),
+    /// The host at this address keeps no disk.
+    NoDisk(String),
+    /// The host at this address keeps a disk already, and another one was to be formatted there.
+    HostTaken(String),
+    /// The host at this address refused a message of a formatting, or didn't hold what it was given.
     HostRefused(String),
     /// The state can't be kept in the file of this name.
     Unkept(String),
@@ -95,6 +115,19 @@ pub fn store_fault(alloc: Global, name: &str, why: StoreFault) -> Fault
         StoreFault::Damaged => Fault::Damaged(name),
         StoreFault::NoRoom | StoreFault::Io | StoreFault::Closed => Fault::File(name),
         StoreFault::OutOfMemory => Fault::OutOfMemory,
+    }
+}
+
+/// What a line begins with that tells of a changed value.
+fn changed(key: FixedKey) -> &'static str
+    ensures { result.now ≡ changed key }
+{
+    match key {
+        FixedKey::Size => "oramdisk: size in ",
+        FixedKey::Block => "oramdisk: block in ",
+        FixedKey::Slots => "oramdisk: slots in ",
+        FixedKey::Table => "oramdisk: table in ",
+        FixedKey::Sealer => "oramdisk: sealer in ",
     }
 }
 
@@ -160,6 +193,16 @@ impl Fault {
                 name.as_str(),
                 " is held by another process: end that one first\n",
             ),
+            Fault::NoFile(name) => (
+                "oramdisk: there is no file ",
+                name.as_str(),
+                ": see that the settings are those of the right host, or say oramdisk host --new to make it\n",
+            ),
+            Fault::FileExists(name) => (
+                "oramdisk: ",
+                name.as_str(),
+                " is there already, and is left as it is: leave --new out to serve it\n",
+            ),
             Fault::Exists(name) => (
                 "oramdisk: ",
                 name.as_str(),
@@ -173,7 +216,42 @@ impl Fault {
             Fault::NotADisk(name) => (
                 "oramdisk: ",
                 name.as_str(),
-                " isn't the state of a disk with these settings, and is left as it is\n",
+                " isn't the state of a disk, and is left as it is\n",
+            ),
+            Fault::OlderState(name) => (
+                "oramdisk: ",
+                name.as_str(),
+                " is the state of a disk of an older version, and is left as it is: serve it with that version, and copy what is in it to a new disk\n",
+            ),
+            Fault::WrongKey(name) => (
+                "oramdisk: the key in ",
+                name.as_str(),
+                " isn't this disk's: put the one back that it was formatted with\n",
+            ),
+            Fault::Changed(key, name) => (
+                changed(*key),
+                name.as_str(),
+                " isn't what it was when the disk was formatted: put it back\n",
+            ),
+            Fault::HostFull(address) => (
+                "oramdisk: the host at ",
+                address.as_str(),
+                " has no room: make room on its disk, and start again\n",
+            ),
+            Fault::AnotherDisk(address) => (
+                "oramdisk: the host at ",
+                address.as_str(),
+                " keeps another disk, and nothing was sent to it: see that the settings name the right host, and that it was started with its own file\n",
+            ),
+            Fault::NoDisk(address) => (
+                "oramdisk: the host at ",
+                address.as_str(),
+                " keeps no disk, and nothing was sent to it: see that the settings name the right host, and that it was started with its own file\n",
+            ),
+            Fault::HostTaken(address) => (
+                "oramdisk: the host at ",
+                address.as_str(),
+                " keeps a disk already: name a new file at the host\n",
             ),
             Fault::OutOfReach(address) => (
                 "oramdisk: can't reach the host at ",
@@ -234,16 +312,22 @@ impl Fault {
             Fault::NotOurs(_) => 6,
             Fault::Damaged(_) => 7,
             Fault::Busy(_) => 8,
-            Fault::Exists(_) | Fault::Formatted(_) => 9,
-            Fault::NotADisk(_) => 10,
+            Fault::Exists(_) | Fault::FileExists(_) | Fault::Formatted(_) => 9,
+            Fault::NotADisk(_) | Fault::OlderState(_) => 10,
             Fault::OutOfReach(_) => 11,
-            Fault::HostRefused(_) => 12,
+            Fault::HostRefused(_) | Fault::HostTaken(_) => 12,
             Fault::Unkept(_) => 13,
             Fault::UsedUp(_) => 14,
             Fault::Random => 15,
             Fault::InUse(_) => 16,
             Fault::Failed(_) => 17,
             Fault::NotFailed(_) => 18,
+            Fault::NoFile(_) => 19,
+            Fault::AnotherDisk(_) => 20,
+            Fault::NoDisk(_) => 21,
+            Fault::HostFull(_) => 22,
+            Fault::WrongKey(_) => 23,
+            Fault::Changed(_, _) => 24,
         }
     }
 }

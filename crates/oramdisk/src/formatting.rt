@@ -1,18 +1,19 @@
 //! A disk is formatted on its host.
 
-use crate::disk_files::disk_settings_in;
+use crate::disk_files::{disk_settings_in, keys_in, sealer_of};
+use crate::failures::forget_failure;
 use crate::faults::Fault;
 use crate::state_lock::lock_state;
 use oram_bucket::{ChaChaSeal, PlainSeal, Sealer};
 use oram_client::{
-    Ahead, DiskKey, FileKeeper, FilePlace, FormattingFault, Progress, Salt, format_ahead,
-    kept_name, sealer_key,
+    Ahead, DiskKey, FileKeeper, FilePlace, FormattingFault, Head, Identity, Progress, Salt,
+    SealerKind, format_ahead, kept_name,
 };
 use oram_core::Core;
 use oram_edge::buffered;
 use oram_geometry::Device;
 use oram_keep::Keeper;
-use oram_settings::{DiskSettings, Meter, Sealing, device_of, percent, progress_text};
+use oram_settings::{DiskSettings, Meter, device_of, percent, progress_text};
 use oram_state::encode_state;
 use std::alloc::{AllocError, Global};
 use std::io;
@@ -72,6 +73,8 @@ impl<'a, R: Clock + Eprint + AllocGlobal> Progress for Teller<'a, R> {
 fn formatting_fault(fault: FormattingFault, host: String) -> Fault {
     match fault {
         FormattingFault::Link => Fault::OutOfReach(host),
+        FormattingFault::NoRoom => Fault::HostFull(host),
+        FormattingFault::Taken => Fault::HostTaken(host),
         FormattingFault::Refused | FormattingFault::Unheld => Fault::HostRefused(host),
         FormattingFault::OutOfMemory => Fault::OutOfMemory,
     }
@@ -91,6 +94,7 @@ fn formatted<S: Sealer>(
     rt: &HostRuntime,
     device: Device,
     sealer: S,
+    identity: &Identity,
     host: String,
 ) -> Result<Core<S>, Fault> {
     let alloc = rt.alloc();
@@ -107,7 +111,7 @@ fn formatted<S: Sealer>(
         Err(error) => return Err(unreached(&error, host)),
     };
     let mut ahead = Ahead::new(alloc, &device, reader, writer, teller);
-    match format_ahead(alloc, device, sealer, &mut ahead) {
+    match format_ahead(alloc, device, sealer, identity, &mut ahead) {
         Ok(core) => Ok(core),
         Err(fault) => Err(formatting_fault(fault, host)),
     }
@@ -118,14 +122,15 @@ fn format_with<S: Sealer>(
     rt: &HostRuntime,
     device: Device,
     sealer: S,
-    salt: Salt,
+    head: Head,
+    identity: &Identity,
     settings: DiskSettings,
 ) -> Result<(), Fault> {
     let alloc = rt.alloc();
     let name = settings.state.as_str();
     let place = FilePlace::new(rt, alloc, name)?;
-    let mut keeper = FileKeeper::new(place, salt, settings.sync);
-    let core = formatted(rt, device, sealer, settings.host)?;
+    let mut keeper = FileKeeper::new(place, head, settings.sync);
+    let core = formatted(rt, device, sealer, identity, settings.host)?;
     let state = encode_state(alloc, &core)?;
     match keeper.keep(state.as_slice()) {
         Ok(()) => Ok(()),
@@ -158,12 +163,16 @@ pub(crate) fn format_disk(rt: &HostRuntime, name: String) -> Result<(), Fault> {
     if let Some(found) = kept_name(rt, alloc, settings.state.as_str())? {
         return Err(Fault::Formatted(found));
     }
-    let salt = new_salt(rt)?;
-    match settings.sealer {
-        Sealing::Plain => format_with(rt, device, PlainSeal, salt, settings),
-        Sealing::ChaCha => {
-            let key = sealer_key(&DiskKey(settings.key), &salt).0;
-            format_with(rt, device, ChaChaSeal { key }, salt, settings)
+    // One that a disk left which was taken away since says nothing of this one.
+    forget_failure(rt, settings.state.as_str())?;
+    let sealer = sealer_of(settings.sealer);
+    let head = Head::new(&DiskKey(settings.key), new_salt(rt)?, sealer);
+    let keys = keys_in(alloc, &settings, &head, name.as_str())?;
+    match sealer {
+        SealerKind::Plain => { format_with(rt, device, PlainSeal, head, &keys.identity, settings) }
+        SealerKind::ChaCha20 => {
+            let sealer = ChaChaSeal { key: keys.sealer.0 };
+            format_with(rt, device, sealer, head, &keys.identity, settings)
         }
     }
 }

@@ -2,21 +2,24 @@
 
 ghost use Rattle.std.specs.Prelude.{◌≡◌};
 
+use crate::attending::HostAttendant;
 use crate::faults::{Fault, store_fault};
 use crate::hosted::Hosted;
 use crate::settings_file::{HostSettings, read_host_settings};
-use crate::visits::{Visit, line};
+use crate::visits::{EarlyEnd, Visit, line};
 use jiff::Timestamp;
 use oram_answering::{ServeFault, host_serve};
-use oram_edge::{InputFault, SocketFault, buffered, bytes_in, listen};
+use oram_edge::{InputFault, SocketFault, bytes_in, call_fault, listen};
 use oram_settings::beside;
+use oram_sockets::{MarkedReader, MarkedWriter, watch};
 use oram_store::{Store, StoreFault, open_store};
 use sqlite::Alter;
-use std::alloc::{AllocError, Global};
+use std::alloc::AllocError;
 use std::io::{Error, ErrorKind, Read, Write};
 use std::net::{Net, OpenListener, OpenStream, SocketAddr};
+use std::os::fd::{AsRawFd, RawFd};
 use std::rt::{Clock, Files};
-use std::str;
+use std::{fs, str};
 
 /// The settings in the file of this name, where the name of the file of buckets is as seen from here.
 fn settings_in<R: Files + AllocGlobal>(rt: &R, name: String) -> Result<HostSettings, Fault> {
@@ -55,30 +58,40 @@ pub(crate) fn time<R: Clock + AllocGlobal>(rt: &R) -> Result<String, AllocError>
 }
 
 /// Serves a connection to its end, and tells why that came early.
-fn serve<T: Read + Write + OpenStream + Drop, S: Alter>(
-    alloc: Global,
+fn serve<R: Net + Clock + AllocGlobal, T: Read + Write + OpenStream + AsRawFd + Drop, S: Alter>(
+    rt: &R,
+    listener: RawFd,
     stream: T,
     hosted: &mut Hosted<S>,
-) -> Option<ServeFault>
+) -> Option<EarlyEnd>
     // No record of a formatting waits for a commit behind it.
     ensures { hosted.old.store.taken ≡ 0 → hosted.new.store.taken ≡ 0 }
 {
+    let alloc = rt.alloc();
     hosted.begin();
-    let (mut reader, mut writer) = match buffered(alloc, stream) {
+    let attendant = HostAttendant::new();
+    let (reader, writer) = match watch(rt, alloc, stream, listener, &attendant) {
         Ok(halves) => halves,
         Err(error) if error.kind() == ErrorKind::OutOfMemory => {
-            return Some(ServeFault::OutOfMemory);
+            return Some(EarlyEnd::Fault(ServeFault::OutOfMemory));
         }
-        Err(_) => return Some(ServeFault::Read),
+        Err(_) => return Some(EarlyEnd::Fault(ServeFault::Read)),
     };
-    let ended = host_serve(alloc, &mut reader, &mut writer, hosted);
+    let mut reader = MarkedReader::new(reader, &attendant);
+    let mut writer = MarkedWriter::new(writer, &attendant);
+    let served = host_serve(alloc, &mut reader, &mut writer, hosted);
     hosted.settle();
-    ended.err()
+    attendant.early_end(served)
 }
 
 /// Serves a connection, and writes its line.
-fn receive<R: Clock + Eprint + AllocGlobal, T: Read + Write + OpenStream + Drop, S: Alter>(
+fn receive<
+    R: Net + Clock + Eprint + AllocGlobal,
+    T: Read + Write + OpenStream + AsRawFd + Drop,
+    S: Alter,
+>(
     rt: &R,
+    listener: RawFd,
     stream: T,
     peer: SocketAddr,
     hosted: &mut Hosted<S>,
@@ -88,7 +101,7 @@ fn receive<R: Clock + Eprint + AllocGlobal, T: Read + Write + OpenStream + Drop,
     let alloc = rt.alloc();
     let peer = format!(in alloc; "{peer}")?;
     let from = time(rt)?;
-    let ended = serve(alloc, stream, hosted);
+    let ended = serve(rt, listener, stream, hosted);
     let visit = Visit {
         peer,
         from,
@@ -125,18 +138,18 @@ pub(crate) fn not_accepted(error: &Error) -> Result<(), Fault> {
 }
 
 /// Serves connections, one after the other, until the store has to be opened again.
-fn serve_all<R: Clock + Eprint + AllocGlobal, L: OpenListener, S: Alter + Drop>(
+fn serve_all<R: Net + Clock + Eprint + AllocGlobal, L: OpenListener + AsRawFd, S: Alter + Drop>(
     rt: &R,
     listener: &L,
     mut hosted: Hosted<S>,
 ) -> Result<(), Fault>
 where
-    L::Stream: Read + Write + OpenStream,
+    L::Stream: Read + Write + OpenStream + AsRawFd,
 {
     for _ in 0..u64::MAX {
         match listener.accept() {
             Ok((stream, peer)) => {
-                if receive(rt, stream, peer, &mut hosted).is_err() {
+                if receive(rt, listener.as_raw_fd(), stream, peer, &mut hosted).is_err() {
                     let _passed_over = rt.eprint(
                         "oramdisk: no memory for a connection, or for its line\n",
                     );
@@ -152,14 +165,14 @@ where
 }
 
 /// Serves a store that was opened, until it has to be opened again.
-fn serve_opened<R: Clock + Eprint + AllocGlobal, L: OpenListener, S: Alter + Drop>(
+fn serve_opened<R: Net + Clock + Eprint + AllocGlobal, L: OpenListener + AsRawFd, S: Alter + Drop>(
     rt: &R,
     listener: &L,
     opened: Result<Store<S>, StoreFault>,
     file: &str,
 ) -> Result<(), Fault>
 where
-    L::Stream: Read + Write + OpenStream,
+    L::Stream: Read + Write + OpenStream + AsRawFd,
 {
     match opened {
         Ok(store) => serve_all(rt, listener, Hosted::new(store)),
@@ -167,23 +180,52 @@ where
     }
 }
 
-/// Opens the file and serves it, until it has to be opened again.
-fn serve_file<L: OpenListener>(rt: &HostRuntime, listener: &L, file: &str) -> Result<(), Fault>
+/// Refuses a file that is missing, and, where a new one is asked for, one that is there. So a host that was started in the wrong folder
+/// says so, in place of serving an empty file.
+fn check_presence<R: Files + AllocGlobal>(rt: &R, file: &str, is_new: bool) -> Result<(), Fault> {
+    let alloc = rt.alloc();
+    let is_there = match fs::exists(rt, file) {
+        Ok(is_there) => is_there,
+        Err(error) => return Err(call_fault(alloc, file, &error).into()),
+    };
+    if is_there != is_new {
+        Ok(())
+    } else if is_there {
+        Err(Fault::FileExists(String::from_str(alloc, file)?))
+    } else {
+        Err(Fault::NoFile(String::from_str(alloc, file)?))
+    }
+}
+
+/// Opens the file, or makes a new one, and serves it, until it has to be opened again.
+fn serve_file<L: OpenListener + AsRawFd>(
+    rt: &HostRuntime,
+    listener: &L,
+    file: &str,
+    is_new: bool,
+) -> Result<(), Fault>
 where
-    L::Stream: Read + Write + OpenStream,
+    L::Stream: Read + Write + OpenStream + AsRawFd,
 {
-    serve_opened(rt, listener, open_store(rt, rt.alloc(), file), file)
+    check_presence(rt, file, is_new)?;
+    let opened = open_store(rt, rt.alloc(), file);
+    if is_new && opened.is_ok() {
+        let line = format!(in rt.alloc(); "oramdisk: made {file}\n")?;
+        let _passed_over = rt.eprint(line.as_str());
+    }
+    serve_opened(rt, listener, opened, file)
 }
 
 /// Keeps buckets for others, until it is ended. It listens before it opens the file, so a port that is taken leaves the file alone.
-pub(crate) fn host(rt: &HostRuntime, name: String) -> Result<(), Fault> {
+pub(crate) fn host(rt: &HostRuntime, name: String, is_new: bool) -> Result<(), Fault> {
     let HostSettings {
         listen: address,
         file,
     } = settings_in(rt, name)?;
     let listener = listen_at(rt, address)?;
+    serve_file(rt, &listener, file.as_str(), is_new)?;
     for _ in 0..u64::MAX {
-        serve_file(rt, &listener, file.as_str())?;
+        serve_file(rt, &listener, file.as_str(), false)?;
     }
     Ok(())
 }

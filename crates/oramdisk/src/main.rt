@@ -1,6 +1,8 @@
 //! A disk on a rented machine: the host that keeps its buckets in a file, and its client, which formats and serves it.
 #![tactic(auto)]
 
+mod attending;
+mod clients;
 mod creating;
 mod disk_files;
 mod failures;
@@ -24,7 +26,7 @@ pub use settings_file::{HostSettings, read_host_settings};
 use std::process::ExitCode;
 use std::rt::Env;
 pub use tallies::Tally;
-pub use visits::{Visit, line};
+pub use visits::{EarlyEnd, Visit, line};
 
 /// What the words of the command line ask for.
 fn asked<R: Env + AllocGlobal>(rt: &R) -> Result<Words, InputFault> {
@@ -36,7 +38,7 @@ fn asked<R: Env + AllocGlobal>(rt: &R) -> Result<Words, InputFault> {
 /// Does what the words of the command line ask for.
 fn run(rt: &HostRuntime) -> Result<(), Fault> {
     match asked(rt) {
-        Ok(Words::Host(name)) => hosting::host(rt, name),
+        Ok(Words::Host { settings, is_new }) => hosting::host(rt, settings, is_new),
         Ok(Words::New { folder, size }) => creating::make_folder(rt, folder, size.as_str()),
         Ok(Words::Format(name)) => formatting::format_disk(rt, name),
         Ok(Words::Serve(name)) => serving::serve_disk(rt, name),

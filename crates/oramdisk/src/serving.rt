@@ -1,6 +1,10 @@
 //! A disk is served to clients of NBD, one connection after the other.
 
-use crate::disk_files::{core_in, disk_settings_in};
+ghost use Rattle.std.specs.Prelude.{◌≡◌, ◌↔◌, Err, IsTrue, string_bytes};
+ghost use Rattle.oramdisk.specs.Faults.{IsGivenUp};
+
+use crate::clients::{ClientAttendant, Parting};
+use crate::disk_files::{check_settings, core_in, disk_settings_in, kept_in, keys_in};
 use crate::failures::{keep_failure, kept_failure};
 use crate::faults::Fault;
 use crate::hosting::{listen_at, not_accepted, time};
@@ -8,25 +12,26 @@ use crate::state_lock::lock_state;
 use crate::watched_disk::{FailureKeeper, WatchedDisk};
 use oram_bucket::{ChaChaSeal, PlainSeal, Sealer};
 use oram_client::{
-    DiskKey, FileKeeper, FilePlace, PatientLink, Salt, TcpDialer, Watch, kept_bytes,
-    read_kept_file, sealer_key, tape_key,
+    FileKeeper, FilePlace, Head, Keys, PatientLink, SealerKind, TcpDialer, Trouble, Watch,
+    kept_bytes,
 };
 use oram_core::{Core, Reason};
-use oram_edge::buffered;
 use oram_keep::Keeper;
 use oram_nbd::{Disk, DiskFault, NbdFault, serve};
 use oram_session::{ChaChaTape, Link, Tape};
-use oram_settings::{DiskSettings, Sealing, failure_text};
+use oram_settings::{DiskSettings, failure_text};
+use oram_sockets::watch;
 use oram_volume::Volume;
 use std::alloc::{AllocError, Global};
 use std::io::{ErrorKind, Read, Write};
-use std::net::{OpenListener, OpenStream, SocketAddr, TcpListener};
+use std::net::{Net, OpenListener, OpenStream, SocketAddr, TcpListener};
+use std::os::fd::AsRawFd;
 use std::rt::Clock;
 
 /// The name of the one export. Clients may also ask for it by no name.
 const EXPORT: &[u8] = b"disk";
 
-/// Tells on standard error when the host is lost and when it is back.
+/// Tells on standard error when the host is lost or has no room, and when it answers again.
 #[derive(Drop)]
 struct Teller<'a, R> {
     rt: &'a R,
@@ -47,8 +52,36 @@ impl<'a, R: Eprint + AllocGlobal> Watch for Teller<'a, R> {
         self.tell("is out of reach");
     }
 
+    fn full(&mut self) {
+        self.tell("has no room");
+    }
+
     fn back(&mut self) {
         self.tell("answers again");
+    }
+}
+
+/// How the service of a client ended.
+#[derive(Clone, Copy)]
+struct Ended {
+    served: Result<u64, NbdFault>,
+    parting: Option<Parting>,
+}
+
+impl Ended {
+    /// Before anything was served.
+    fn by(fault: NbdFault) -> Ended {
+        Ended {
+            served: Err(fault),
+            parting: None,
+        }
+    }
+
+    /// The disk stopped.
+    fn is_stop(&self) -> bool
+        ensures { IsTrue result ↔ (self.now.served ≡ Err NbdFault.Stopped) }
+    {
+        self.served == Err(NbdFault::Stopped)
     }
 }
 
@@ -57,31 +90,70 @@ fn tell_visit<R: Clock + Eprint + AllocGlobal>(
     rt: &R,
     peer: &SocketAddr,
     from: &str,
-    ended: Result<u64, NbdFault>,
+    ended: &Ended,
 ) -> Result<(), AllocError> {
     let alloc = rt.alloc();
     let until = time(rt)?;
-    let line = match ended {
-        Ok(requests) => format!(in alloc;
+    let line = match (ended.served, ended.parting) {
+        (_, Some(parting)) => format!(in alloc;
+            "oramdisk: {peer} from {from} until {until}, {parting}\n"
+        )?,
+        (Ok(requests), None) => format!(in alloc;
             "oramdisk: {peer} from {from} until {until}, {requests} requests\n"
         )?,
-        Err(fault) => format!(in alloc; "oramdisk: {peer} from {from} until {until}, {fault}\n")?,
+        (Err(fault), None) => format!(in alloc;
+            "oramdisk: {peer} from {from} until {until}, {fault}\n"
+        )?,
     };
     let _passed_over = rt.eprint(line.as_str());
     Ok(())
 }
 
-/// Serves one connection to its end.
-fn receive<T: Read + Write + OpenStream + Drop, D: Disk>(
-    alloc: Global,
-    stream: T,
-    disk: &mut D,
-) -> Result<u64, NbdFault> {
-    match buffered(alloc, stream) {
-        Ok((mut reader, mut writer)) => serve(alloc, &mut reader, &mut writer, disk, EXPORT),
-        Err(error) if error.kind() == ErrorKind::OutOfMemory => Err(NbdFault::OutOfMemory),
-        Err(_) => Err(NbdFault::Read),
+/// Serves one client to its end, and turns others away meanwhile.
+fn receive<
+    R: Net + Clock + Eprint + AllocGlobal,
+    N: OpenListener + AsRawFd,
+    T: Read + Write + OpenStream + AsRawFd + Drop,
+    D: Disk,
+>(rt: &R, listener: &N, stream: T, disk: &mut D) -> Ended {
+    let alloc = rt.alloc();
+    let attendant = match ClientAttendant::new(rt, listener) {
+        Ok(attendant) => attendant,
+        Err(_) => return Ended::by(NbdFault::Read),
+    };
+    let (mut reader, mut writer) = match watch(
+        rt,
+        alloc,
+        stream,
+        listener.as_raw_fd(),
+        &attendant,
+    ) {
+        Ok(halves) => halves,
+        Err(error) if error.kind() == ErrorKind::OutOfMemory => {
+            return Ended::by(NbdFault::OutOfMemory);
+        }
+        Err(_) => return Ended::by(NbdFault::Read),
+    };
+    let served = serve(alloc, &mut reader, &mut writer, disk, EXPORT, &attendant);
+    Ended {
+        served,
+        parting: attendant.parting(),
     }
+}
+
+/// Serves one client while the listener doesn't block, so that those who come meanwhile can be turned away.
+fn receive_alone<
+    R: Net + Clock + Eprint + AllocGlobal,
+    N: OpenListener + AsRawFd,
+    T: Read + Write + OpenStream + AsRawFd + Drop,
+    D: Disk,
+>(rt: &R, listener: &N, stream: T, disk: &mut D) -> Ended {
+    if listener.set_nonblocking(true).is_err() {
+        return Ended::by(NbdFault::Read);
+    }
+    let ended = receive(rt, listener, stream, disk);
+    let _blocks_again = listener.set_nonblocking(false);
+    ended
 }
 
 /// Keeps why a disk failed in a file beside its state, and tells it on standard error.
@@ -111,67 +183,93 @@ impl<'a, S: Sealer, L: Link, K: Keeper, T: Tape> FailureKeeper<Volume<S, L, K, T
     }
 }
 
-/// Serves one connection, and tells of it. The disk may go on, or has stopped.
-fn visit<R: Clock + Eprint + AllocGlobal, N: Read + Write + OpenStream + Drop, D: Disk>(
-    rt: &R,
-    stream: N,
-    peer: SocketAddr,
-    disk: &mut D,
-) -> Result<bool, AllocError> {
-    let from = time(rt)?;
-    let ended = receive(rt.alloc(), stream, disk);
-    tell_visit(rt, &peer, from.as_str(), ended)?;
-    Ok(ended != Err(NbdFault::Stopped))
+/// Serves one client, and tells of it. Tells whether the disk has stopped.
+fn visit<
+    R: Net + Clock + Eprint + AllocGlobal,
+    N: OpenListener + AsRawFd,
+    T: Read + Write + OpenStream + AsRawFd + Drop,
+    D: Disk,
+>(rt: &R, listener: &N, stream: T, peer: SocketAddr, disk: &mut D) -> bool {
+    let from = time(rt);
+    let ended = receive_alone(rt, listener, stream, disk);
+    let told = match from {
+        Ok(from) => tell_visit(rt, &peer, from.as_str(), &ended),
+        Err(error) => Err(error),
+    };
+    if told.is_err() {
+        let _passed_over = rt.eprint("oramdisk: no memory for the line of a connection\n");
+    }
+    ended.is_stop()
 }
 
-/// Serves connections, one after the other, until the disk stops.
-fn serve_all<R: Clock + Eprint + AllocGlobal, N: OpenListener, D: Disk>(
+/// Serves clients, one after the other, until the disk stops.
+fn serve_all<R: Net + Clock + Eprint + AllocGlobal, N: OpenListener + AsRawFd, D: Disk>(
     rt: &R,
     listener: &N,
     disk: &mut D,
 ) -> Result<(), Fault>
 where
-    N::Stream: Read + Write + OpenStream,
+    N::Stream: Read + Write + OpenStream + AsRawFd,
 {
     for _ in 0..u64::MAX {
         match listener.accept() {
-            Ok((stream, peer)) => match visit(rt, stream, peer, disk) {
-                Ok(true) => {}
-                Ok(false) => return Ok(()),
-                Err(_) => {
-                    let _passed_over = rt.eprint(
-                        "oramdisk: no memory for a connection, or for its line\n",
-                    );
+            Ok((stream, peer)) => {
+                if visit(rt, listener, stream, peer, disk) {
+                    return Ok(());
                 }
-            },
+            }
             Err(error) => not_accepted(&error)?,
         }
     }
     Ok(())
 }
 
+/// The way to a disk's host.
+type HostLink<'a> = PatientLink<TcpDialer<&'a HostRuntime>, Teller<'a, HostRuntime>>;
+
 /// A core behind its file, and behind a link to its host.
-type DiskVolume<'a, S, L> = Volume<S, L, FileKeeper<FilePlace<&'a HostRuntime>>, ChaChaTape>;
+type DiskVolume<'a, S> = Volume<
+    S,
+    HostLink<'a>,
+    FileKeeper<FilePlace<&'a HostRuntime>>,
+    ChaChaTape,
+>;
+
+/// What it is to the program that a link to the host at this address gave up.
+fn given_up(trouble: Option<Trouble>, host: String) -> Fault
+    ensures { IsGivenUp trouble (string_bytes host) result }
+{
+    match trouble {
+        Some(Trouble::NoRoom) => Fault::HostFull(host),
+        Some(Trouble::AnotherDisk) => Fault::AnotherDisk(host),
+        Some(Trouble::NoDisk) => Fault::NoDisk(host),
+        Some(Trouble::OutOfReach(_)) | None => Fault::OutOfReach(host),
+    }
+}
 
 /// Why a disk stopped.
-fn stopped<S: Sealer, L: Link>(volume: &DiskVolume<'_, S, L>, settings: DiskSettings) -> Fault {
+fn stopped<S: Sealer>(volume: &DiskVolume<'_, S>, settings: DiskSettings) -> Fault {
     if volume.keeper.failure().is_some() {
         Fault::Unkept(settings.state)
     } else if volume.core.next_ticket() >= volume.core.device().lifetime() {
         Fault::UsedUp(settings.state)
     } else {
-        Fault::OutOfReach(settings.host)
+        given_up(volume.link.trouble(), settings.host)
     }
 }
 
-/// Serves a disk until it stops, and tells why. What waits from before is carried out first.
-fn serve_volume<S: Sealer, L: Link + Drop>(
+/// Serves a disk until it stops, and tells why. Before anything else the host is asked whether it keeps this disk; then what waits from
+/// before is carried out.
+fn serve_volume<S: Sealer>(
     rt: &HostRuntime,
     settings: DiskSettings,
     listener: &TcpListener,
-    mut volume: DiskVolume<'_, S, L>,
+    mut volume: DiskVolume<'_, S>,
 ) -> Result<(), Fault> {
     let alloc = rt.alloc();
+    if let Err(trouble) = volume.link.reach(alloc) {
+        return Err(given_up(Some(trouble), settings.host));
+    }
     let settled = volume.settle(alloc);
     let state = String::from_str(alloc, settings.state.as_str())?;
     let mut disk = WatchedDisk {
@@ -188,30 +286,20 @@ fn serve_volume<S: Sealer, L: Link + Drop>(
     Err(stopped(&disk.disk, settings))
 }
 
-/// Serves the disk of a core over this link.
-fn serve_over<S: Sealer, L: Link>(
-    rt: &HostRuntime,
-    settings: DiskSettings,
-    listener: &TcpListener,
-    salt: Salt,
-    core: Core<S>,
-    link: L,
-) -> Result<(), Fault>
-where
-    L: Drop,
-{
+/// The link to the host that the settings name, where it keeps this disk.
+fn link_to<'a>(
+    rt: &'a HostRuntime,
+    settings: &DiskSettings,
+    keys: &Keys,
+) -> Result<HostLink<'a>, AllocError> {
     let alloc = rt.alloc();
-    let place = FilePlace::new(rt, alloc, settings.state.as_str())?;
-    let keeper = FileKeeper::new(place, salt, settings.sync);
-    let key = tape_key(&DiskKey(settings.key), &salt).0;
-    let trees = core.device().trees();
-    let volume = Volume {
-        core,
-        link,
-        keeper,
-        tape: ChaChaTape { key, trees },
+    let host = settings.host.as_str();
+    let dialer = TcpDialer::new(rt, String::from_str(alloc, host)?, keys.identity.0);
+    let watch = Teller {
+        rt,
+        host: String::from_str(alloc, host)?,
     };
-    serve_volume(rt, settings, listener, volume)
+    Ok(PatientLink::new(alloc, dialer, watch, settings.patience))
 }
 
 /// Serves the disk of a core, until it stops.
@@ -219,18 +307,26 @@ fn serve_core<S: Sealer>(
     rt: &HostRuntime,
     settings: DiskSettings,
     listener: &TcpListener,
-    salt: Salt,
+    head: Head,
+    keys: &Keys,
     core: Core<S>,
 ) -> Result<(), Fault> {
     let alloc = rt.alloc();
-    let host = settings.host.as_str();
-    let dialer = TcpDialer::new(rt, String::from_str(alloc, host)?);
-    let watch = Teller {
-        rt,
-        host: String::from_str(alloc, host)?,
+    let link = link_to(rt, &settings, keys)?;
+    let place = FilePlace::new(rt, alloc, settings.state.as_str())?;
+    let keeper = FileKeeper::new(place, head, settings.sync);
+    let trees = core.device().trees();
+    let tape = ChaChaTape {
+        key: keys.tape.0,
+        trees,
     };
-    let link = PatientLink::new(alloc, dialer, watch, settings.patience);
-    serve_over(rt, settings, listener, salt, core, link)
+    let volume = Volume {
+        core,
+        link,
+        keeper,
+        tape,
+    };
+    serve_volume(rt, settings, listener, volume)
 }
 
 /// Serves the disk whose settings are in the file of this name, until it stops. What waits from before is carried out first.
@@ -238,27 +334,27 @@ fn serve_core<S: Sealer>(
 /// No other process has the disk meanwhile, and the port is taken before the state is read: else an older state could be gone on from.
 pub(crate) fn serve_disk(rt: &HostRuntime, name: String) -> Result<(), Fault> {
     let alloc = rt.alloc();
-    let settings = disk_settings_in(rt, name)?;
+    let settings = disk_settings_in(rt, String::from_str(alloc, name.as_str())?)?;
     let _lock = lock_state(rt, alloc, settings.state.as_str())?;
     if kept_failure(rt, settings.state.as_str())?.is_some() {
         return Err(Fault::Failed(settings.state));
     }
     let listener = listen_at(rt, String::from_str(alloc, settings.listen.as_str())?)?;
     let file = kept_bytes(rt, settings.state.as_str())?;
-    let Ok(kept) = read_kept_file(file.as_slice()) else {
-        return Err(Fault::NotADisk(settings.state));
-    };
-    let sealing = settings.sealer;
+    let kept = kept_in(alloc, file.as_slice(), settings.state.as_str())?;
+    let keys = keys_in(alloc, &settings, &kept.head, name.as_str())?;
     let state = settings.state.as_str();
-    match sealing {
-        Sealing::Plain => {
+    match kept.head.sealer {
+        SealerKind::Plain => {
             let core = core_in(alloc, PlainSeal, kept.state, state)?;
-            serve_core(rt, settings, &listener, kept.salt, core)
+            check_settings(&settings, core.device(), kept.head.sealer, name)?;
+            serve_core(rt, settings, &listener, kept.head, &keys, core)
         }
-        Sealing::ChaCha => {
-            let key = sealer_key(&DiskKey(settings.key), &kept.salt).0;
-            let core = core_in(alloc, ChaChaSeal { key }, kept.state, state)?;
-            serve_core(rt, settings, &listener, kept.salt, core)
+        SealerKind::ChaCha20 => {
+            let sealer = ChaChaSeal { key: keys.sealer.0 };
+            let core = core_in(alloc, sealer, kept.state, state)?;
+            check_settings(&settings, core.device(), kept.head.sealer, name)?;
+            serve_core(rt, settings, &listener, kept.head, &keys, core)
         }
     }
 }

@@ -1,12 +1,12 @@
 //! How a disk stands.
 
-use crate::disk_files::{core_in, disk_settings_in};
+use crate::disk_files::{core_in, disk_settings_in, kept_in};
 use crate::failures::{forget_failure, kept_failure};
 use crate::faults::Fault;
 use crate::state_lock::lock_state;
 use oram_bucket::{ChaChaSeal, PlainSeal};
-use oram_client::{kept_bytes, read_kept_file};
-use oram_settings::{Sealing, report, status_of};
+use oram_client::{SealerKind, kept_bytes};
+use oram_settings::{report, status_of};
 use std::alloc::{AllocError, Global};
 use std::str;
 
@@ -26,16 +26,13 @@ fn with_failure(alloc: Global, report: &str, why: &str) -> Result<String, AllocE
 pub(crate) fn tell(rt: &HostRuntime, name: String) -> Result<(), Fault> {
     let alloc = rt.alloc();
     let settings = disk_settings_in(rt, name)?;
-    let sealing = settings.sealer;
     let name = settings.state.as_str();
     let file = kept_bytes(rt, name)?;
-    let Ok(kept) = read_kept_file(file.as_slice()) else {
-        return Err(Fault::NotADisk(settings.state));
-    };
-    let status = match sealing {
-        Sealing::Plain => status_of(&core_in(alloc, PlainSeal, kept.state, name)?),
+    let kept = kept_in(alloc, file.as_slice(), name)?;
+    let status = match kept.head.sealer {
+        SealerKind::Plain => status_of(&core_in(alloc, PlainSeal, kept.state, name)?),
         // Nothing is opened, so any key will do.
-        Sealing::ChaCha => {
+        SealerKind::ChaCha20 => {
             let sealer = ChaChaSeal { key: [0; 32] };
             status_of(&core_in(alloc, sealer, kept.state, name)?)
         }

@@ -8,6 +8,16 @@ use oram_answering::ServeFault;
 use oram_store::StoreFault;
 use std::alloc::{AllocError, Global};
 
+/// Why a connection ended before its input did.
+#[derive(Clone, Copy, Debug, PartialEq, Eq)]
+pub enum EarlyEnd {
+    Fault(ServeFault),
+    /// A newer connection took its place.
+    Displaced,
+    /// It was silent in the middle of a message, or left an answer unread.
+    Silent,
+}
+
 /// A connection that has ended.
 #[derive(Debug, Drop)]
 pub struct Visit {
@@ -17,22 +27,23 @@ pub struct Visit {
     pub from: String,
     pub until: String,
     pub tally: Tally,
-    /// Why it ended before its input did.
-    pub ended: Option<ServeFault>,
+    pub ended: Option<EarlyEnd>,
 }
 
 /// What is told of an early end.
-fn ending(ended: Option<ServeFault>) -> &'static str
+fn ending(ended: Option<EarlyEnd>) -> &'static str
     ensures { result.now ≡ spec.ending ended }
 {
     match ended {
         None => "",
-        Some(ServeFault::Read) => ", reading failed",
-        Some(ServeFault::Write) => ", writing failed",
-        Some(ServeFault::Frame) => ", a frame was too long",
-        Some(ServeFault::Truncated) => ", a frame was cut short",
-        Some(ServeFault::Stalled) => ", it stalled",
-        Some(ServeFault::OutOfMemory) => ", out of memory",
+        Some(EarlyEnd::Displaced) => ", a newer connection took its place",
+        Some(EarlyEnd::Silent) => ", it was silent for a minute",
+        Some(EarlyEnd::Fault(ServeFault::Read)) => ", reading failed",
+        Some(EarlyEnd::Fault(ServeFault::Write)) => ", writing failed",
+        Some(EarlyEnd::Fault(ServeFault::Frame)) => ", a frame was too long",
+        Some(EarlyEnd::Fault(ServeFault::Truncated)) => ", a frame was cut short",
+        Some(EarlyEnd::Fault(ServeFault::Stalled)) => ", it stalled",
+        Some(EarlyEnd::Fault(ServeFault::OutOfMemory)) => ", out of memory",
     }
 }
 

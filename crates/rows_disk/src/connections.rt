@@ -2,7 +2,7 @@
 
 use crate::endings::{with_memory, write_ended};
 use crate::stopping;
-use oram_nbd::{MemDisk, NbdFault, serve, transmit};
+use oram_nbd::{HandshakeWatch, MemDisk, NbdFault, serve, transmit};
 use rows::{Pace, Page, RowFault, Source, Target, Words};
 use std::alloc::Global;
 use std::io;
@@ -21,6 +21,13 @@ pub struct Connections {
 /// How a connection ended, and what the client was told.
 type Talk = (Result<u64, NbdFault>, Target);
 
+/// Takes no notice of when a handshake is done.
+struct NoWatch;
+
+impl HandshakeWatch for NoWatch {
+    fn agreed(&self) {}
+}
+
 /// A connection of a client that says what a reader gives, and takes no more bytes than there is room for.
 fn talked<R: Read>(
     alloc: Global,
@@ -30,7 +37,7 @@ fn talked<R: Read>(
 ) -> Result<Talk, RowFault> {
     let mut target = Target::new(alloc, room, pace)?;
     let mut disk = MemDisk::new(alloc, 4, 4)?;
-    let ended = serve(alloc, reader, &mut target, &mut disk, b"disk");
+    let ended = serve(alloc, reader, &mut target, &mut disk, b"disk", &NoWatch);
     Ok((with_memory(ended, target.bytes())?, target))
 }
 

@@ -10,6 +10,21 @@ use std::io::{ErrorKind, Read, Write};
 /// The answer of a host that found no memory.
 const NO_ROOM: [u8; 2] = [0x81, 8];
 
+/// The bytes of an answer that gives back an identity.
+const IDENTITY_ANSWER_LEN: usize = 33;
+
+/// How a host answers otherwise than an honest one.
+#[derive(Clone, Copy, Debug)]
+pub enum Conduct {
+    Honest,
+    /// A byte of each path is another.
+    AltersPaths,
+    /// A byte of the identity is another.
+    AltersIdentity,
+    /// Behind so many messages it refuses one by this code.
+    Refuses { behind: u64, code: u8 },
+}
+
 /// A host, and what is on its way to it and from it.
 #[derive(Drop)]
 pub struct FarEnd {
@@ -21,15 +36,15 @@ pub struct FarEnd {
     answer: Vec<u8>,
     /// How many bytes of the answer were read.
     taken: usize,
-    /// How many messages it answers before the connection ends.
+    /// How many messages it has answered, of how many before the connection ends.
+    answered: u64,
     most: u64,
-    /// Whether a byte of each path is another than the host's.
-    alters: bool,
+    conduct: Conduct,
     lacks_memory: bool,
 }
 
 impl FarEnd {
-    pub fn new(alloc: Global, most: u64, alters: bool) -> FarEnd {
+    pub fn new(alloc: Global, most: u64, conduct: Conduct) -> FarEnd {
         FarEnd {
             alloc,
             server: Server::new(alloc),
@@ -37,8 +52,9 @@ impl FarEnd {
             heard: 0,
             answer: Vec::new(alloc),
             taken: 0,
+            answered: 0,
             most,
-            alters,
+            conduct,
             lacks_memory: false,
         }
     }
@@ -58,14 +74,30 @@ impl FarEnd {
         Ok(body)
     }
 
-    /// The host's answer to a message.
-    fn answer_to(&mut self, body: &[u8]) -> io::Result<Vec<u8>> {
-        let mut answer = self.server.answer(self.alloc, body)?;
+    /// The answer of an honest host to a message.
+    pub fn honest_answer(&mut self, body: &[u8]) -> io::Result<Vec<u8>> {
+        let answer = self.server.answer(self.alloc, body)?;
         if answer.as_slice() == NO_ROOM.as_slice() {
             return Err(io::Error::from(ErrorKind::OutOfMemory));
         }
+        Ok(answer)
+    }
+
+    /// The answer to a message.
+    fn answer_to(&mut self, body: &[u8]) -> io::Result<Vec<u8>> {
+        if let Conduct::Refuses { behind, code } = self.conduct
+            && behind == self.answered
+        {
+            return Ok([0x81, code].to_vec(self.alloc)?);
+        }
+        let mut answer = self.honest_answer(body)?;
+        let alters = match self.conduct {
+            Conduct::AltersPaths => answer.len() > IDENTITY_ANSWER_LEN,
+            Conduct::AltersIdentity => answer.len() == IDENTITY_ANSWER_LEN,
+            Conduct::Honest | Conduct::Refuses { .. } => false,
+        };
         if let Some(byte) = answer.get_mut(9)
-            && self.alters
+            && alters
         {
             *byte ^= 1;
         }
@@ -74,12 +106,12 @@ impl FarEnd {
 
     /// Answers the next message, if there is to be an answer.
     fn serve(&mut self) -> io::Result<()> {
-        if self.most == 0 {
+        if self.answered == self.most {
             return Ok(());
         }
-        self.most -= 1;
         let body = self.next_message()?;
         let answer = self.answer_to(&body)?;
+        self.answered = self.answered.saturating_add(1);
         self.answer.clear();
         self.taken = 0;
         if answer.len() > LONGEST_BODY || put_frame(&mut self.answer, &answer).is_err() {

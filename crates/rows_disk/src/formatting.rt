@@ -1,13 +1,15 @@
 //! The formatting of a disk over a connection.
 
-use crate::far_end::{Answers, FarEnd, Messages};
+use crate::far_end::{Answers, Conduct, FarEnd, Messages};
 use oram_bucket::PlainSeal;
-use oram_client::{Ahead, FormattingFault, Progress, format_ahead};
+use oram_client::{Ahead, FormattingFault, Identity, Progress, format_ahead};
 use oram_geometry::Device;
 use rows::{Page, RowFault, Words};
 use std::alloc::Global;
 use std::cell::{Cell, RefCell};
 use std::io::BufWriter;
+
+const IDENTITY: Identity = Identity([0x1d; 32]);
 
 /// What was told last.
 #[derive(Drop)]
@@ -60,7 +62,7 @@ fn formatted(
 ) -> Result<bool, FormattingFault> {
     let mut is_idle = true;
     for _ in 0..times {
-        is_idle &= format_ahead(alloc, device.copy(), PlainSeal, ahead)?.is_idle();
+        is_idle &= format_ahead(alloc, device.copy(), PlainSeal, &IDENTITY, ahead)?.is_idle();
     }
     Ok(is_idle)
 }
@@ -83,29 +85,64 @@ fn write_made(
     Ok(())
 }
 
-/// `format ahead TIMES MOST same|altered SIZES`: what comes of so many formattings of a device over a connection, on which so many
-/// messages are answered and paths are the host's own or others; and how many messages of how many were done.
-fn ahead(alloc: Global, words: &mut Words, page: &mut Page) -> Result<(), RowFault> {
-    let times = words.short()?;
-    let most = words.number()?;
-    let alters = match words.text()? {
-        "same" => false,
-        "altered" => true,
-        _ => return Err(RowFault::NoRow),
-    };
-    let device = device_in(words)?;
-    let far = RefCell::new(FarEnd::new(alloc, most, alters));
+/// Writes what comes of so many formattings of a device over a connection, and how many messages of how many were done.
+fn write_formatted(
+    alloc: Global,
+    page: &mut Page,
+    device: &Device,
+    far: &RefCell<FarEnd>,
+    times: u32,
+) -> Result<(), RowFault> {
     let told = Told {
         messages: Cell::new(0),
         of: Cell::new(0),
     };
-    let mut ahead = connection(alloc, &device, &far, &told)?;
-    let made = formatted(alloc, &device, &mut ahead, times);
+    let mut ahead = connection(alloc, device, far, &told)?;
+    let made = formatted(alloc, device, &mut ahead, times);
     let lacks_memory = far.try_borrow().is_ok_and(|far| far.lacks_memory());
     write_made(alloc, page, made, lacks_memory)?;
     page.number(alloc, told.messages.get())?;
     page.number(alloc, told.of.get())?;
     Ok(())
+}
+
+/// `format ahead TIMES MOST same|paths|identity SIZES`: what comes of so many formattings of a device over a connection, on which so many
+/// messages are answered, and where the paths or the identity that are fetched are others than the host's; and how many messages of how
+/// many were done.
+fn ahead(alloc: Global, words: &mut Words, page: &mut Page) -> Result<(), RowFault> {
+    let times = words.short()?;
+    let most = words.number()?;
+    let conduct = match words.text()? {
+        "same" => Conduct::Honest,
+        "paths" => Conduct::AltersPaths,
+        "identity" => Conduct::AltersIdentity,
+        _ => return Err(RowFault::NoRow),
+    };
+    let device = device_in(words)?;
+    let far = RefCell::new(FarEnd::new(alloc, most, conduct));
+    write_formatted(alloc, page, &device, &far, times)
+}
+
+/// `format refused BEHIND CODE SIZES`: the same of one formatting, of which the message behind so many others is refused by this code.
+fn refused(alloc: Global, words: &mut Words, page: &mut Page) -> Result<(), RowFault> {
+    let conduct = Conduct::Refuses {
+        behind: words.number()?,
+        code: words.byte()?,
+    };
+    let device = device_in(words)?;
+    let far = RefCell::new(FarEnd::new(alloc, u64::MAX, conduct));
+    write_formatted(alloc, page, &device, &far, 1)
+}
+
+/// `format meets BODY SIZES`: the same over a host that was given this message before.
+fn meets(alloc: Global, words: &mut Words, page: &mut Page) -> Result<(), RowFault> {
+    let body = words.bytes(alloc)?;
+    let device = device_in(words)?;
+    let mut far = FarEnd::new(alloc, u64::MAX, Conduct::Honest);
+    if far.honest_answer(&body).is_err() {
+        return Err(RowFault::OutOfMemory);
+    }
+    write_formatted(alloc, page, &device, &RefCell::new(far), 1)
 }
 
 /// Answers a row about formattings.
@@ -117,6 +154,8 @@ pub fn answer(
 ) -> Result<(), RowFault> {
     match name {
         "ahead" => ahead(alloc, words, page),
+        "refused" => refused(alloc, words, page),
+        "meets" => meets(alloc, words, page),
         _ => Err(RowFault::NoRow),
     }
 }

@@ -1,32 +1,53 @@
 //! What a client keeps of a disk: its file, its keys, and how a keeper fails.
 
 use oram_client::{
-    DiskKey, FileFailure, FileKeeper, FileReason, FileStep, Place, Salt, put_kept_file,
-    read_kept_file, sealer_key, tape_key,
+    DiskKey, FileFailure, FileKeeper, FileReason, FileStep, Head, KeyCheck, Place, Salt,
+    SealerKind, disk_identity, key_check, keys_for, put_kept_file, read_kept_file, sealer_key,
+    tape_key,
 };
 use oram_keep::Keeper;
 use rows::{Page, RowFault, Target, Words, pace_in};
 use std::alloc::Global;
 use std::cell::Cell;
 
-/// `disk put ROOM PACE SALT STATE`: whether the file of a disk is written, and the bytes that were.
+fn sealer_in(words: &mut Words) -> Result<SealerKind, RowFault> {
+    match words.text()? {
+        "plain" => Ok(SealerKind::Plain),
+        "chacha20" => Ok(SealerKind::ChaCha20),
+        _ => Err(RowFault::NoRow),
+    }
+}
+
+/// Writes a salt, a key check and a sealer.
+fn write_head(alloc: Global, page: &mut Page, head: &Head) -> Result<(), RowFault> {
+    page.bytes(alloc, &head.salt.0)?;
+    page.bytes(alloc, &head.key_check.0)?;
+    page.show(alloc, &head.sealer)?;
+    Ok(())
+}
+
+/// `disk put ROOM PACE SALT CHECK SEALER STATE`: whether the file of a disk is written, and the bytes that were.
 fn put(alloc: Global, words: &mut Words, page: &mut Page) -> Result<(), RowFault> {
     let room = words.size()?;
     let mut target = Target::new(alloc, room, pace_in(words)?)?;
-    let salt = Salt(words.array(alloc)?);
+    let head = Head {
+        salt: Salt(words.array(alloc)?),
+        key_check: KeyCheck(words.array(alloc)?),
+        sealer: sealer_in(words)?,
+    };
     let state = words.bytes(alloc)?;
-    let written = put_kept_file(&mut target, &salt, &state);
+    let written = put_kept_file(&mut target, &head, &state);
     page.word(if written.is_ok() { "done" } else { "failed" })?;
     page.bytes(alloc, target.bytes())?;
     Ok(())
 }
 
-/// `disk read FILE`: the salt and the state of a disk's file.
+/// `disk read FILE`: the salt, the key check, the sealer and the state of a disk's file.
 fn read(alloc: Global, words: &mut Words, page: &mut Page) -> Result<(), RowFault> {
     let file = words.bytes(alloc)?;
     match read_kept_file(&file) {
         Ok(kept) => {
-            page.bytes(alloc, &kept.salt.0)?;
+            write_head(alloc, page, &kept.head)?;
             page.bytes(alloc, kept.state)?;
         }
         Err(fault) => page.show(alloc, &fault)?,
@@ -34,12 +55,46 @@ fn read(alloc: Global, words: &mut Words, page: &mut Page) -> Result<(), RowFaul
     Ok(())
 }
 
-/// `disk keys KEY SALT`: the sealer's key and the tape's.
+/// `disk keys KEY SALT`: the sealer's key, the tape's, the key check and the identity.
 fn keys(alloc: Global, words: &mut Words, page: &mut Page) -> Result<(), RowFault> {
     let key = DiskKey(words.array(alloc)?);
     let salt = Salt(words.array(alloc)?);
     page.bytes(alloc, &sealer_key(&key, &salt).0)?;
     page.bytes(alloc, &tape_key(&key, &salt).0)?;
+    page.bytes(alloc, &key_check(&key, &salt).0)?;
+    page.bytes(alloc, &disk_identity(&key, &salt).0)?;
+    Ok(())
+}
+
+/// `disk opens KEY SALT CHECK`: what a key opens a disk of this salt and key check with: the sealer's key, the tape's and the identity.
+fn opens(alloc: Global, words: &mut Words, page: &mut Page) -> Result<(), RowFault> {
+    let key = DiskKey(words.array(alloc)?);
+    let head = Head {
+        salt: Salt(words.array(alloc)?),
+        key_check: KeyCheck(words.array(alloc)?),
+        sealer: SealerKind::ChaCha20,
+    };
+    match keys_for(&key, &head) {
+        Ok(keys) => {
+            page.bytes(alloc, &keys.sealer.0)?;
+            page.bytes(alloc, &keys.tape.0)?;
+            page.bytes(alloc, &keys.identity.0)?;
+        }
+        Err(fault) => page.show(alloc, &fault)?,
+    }
+    Ok(())
+}
+
+/// `disk head KEY SALT SEALER OTHER`: the head of a disk that is formatted with a key, and whether another key opens it.
+fn head(alloc: Global, words: &mut Words, page: &mut Page) -> Result<(), RowFault> {
+    let key = DiskKey(words.array(alloc)?);
+    let salt = Salt(words.array(alloc)?);
+    let head = Head::new(&key, salt, sealer_in(words)?);
+    write_head(alloc, page, &head)?;
+    match keys_for(&DiskKey(words.array(alloc)?), &head) {
+        Ok(_) => page.word("opens")?,
+        Err(fault) => page.show(alloc, &fault)?,
+    }
     Ok(())
 }
 
@@ -115,7 +170,7 @@ impl<'a> Place for Desk<'a> {
 
     ghost does = { λ _ _ _ _. ⊤ };
 
-    fn write(&mut self, _salt: &Salt, _state: &[u8], _sync: bool) -> Result<(), FileFailure> {
+    fn write(&mut self, _head: &Head, _state: &[u8], _sync: bool) -> Result<(), FileFailure> {
         self.next(FileStep::Create)
     }
 
@@ -162,7 +217,12 @@ fn keeps(alloc: Global, words: &mut Words, page: &mut Page) -> Result<(), RowFau
         fails_behind: words.number()?,
         reason: reason_in(words)?,
     };
-    let mut keeper = FileKeeper::new(desk, Salt([7; 32]), sync);
+    let head = Head {
+        salt: Salt([7; 32]),
+        key_check: KeyCheck([10; 32]),
+        sealer: SealerKind::Plain,
+    };
+    let mut keeper = FileKeeper::new(desk, head, sync);
     keep_states(page, &mut keeper, count)?;
     page.number(alloc, deeds.get())?;
     match keeper.failure() {
@@ -182,6 +242,8 @@ pub fn answer(
         "put" => put(alloc, words, page),
         "read" => read(alloc, words, page),
         "keys" => keys(alloc, words, page),
+        "opens" => opens(alloc, words, page),
+        "head" => head(alloc, words, page),
         "failure" => failure(alloc, words, page),
         "keeps" => keeps(alloc, words, page),
         _ => Err(RowFault::NoRow),

@@ -1,147 +1,270 @@
-//! A link that opens its way to the host again.
+//! A link that tries until its host answers.
 
-use oram_client::{Dial, PatientLink, Watch};
-use oram_host::Server;
-use oram_session::{Direct, FaultLink, Link, LinkFault};
+use oram_client::{Dial, Limits, PatientLink, Trouble, Watch};
+use oram_host::HostRefusal;
+use oram_session::{Link, LinkFault};
+use oram_wire::REFUSED;
 use rows::{Page, RowFault, Words};
 use std::alloc::Global;
 use std::cell::Cell;
 
-/// What is counted while a link is at work.
+/// How many milliseconds pass before a try that is slow fails.
+const SLOW: u64 = 350;
+
+/// How many milliseconds nobody uses the link at an `idle`.
+const IDLE: u64 = 1_000_000;
+
+/// What is to happen to a link, a letter for each try to open a way and for each call over one, in order; and what is counted meanwhile.
 #[derive(Drop)]
-struct Counts {
-    tries: Cell<usize>,
-    /// In milliseconds.
+struct Play<'a> {
+    letters: &'a [u8],
+    place: Cell<usize>,
+    /// Whether the clock can be read.
+    has_clock: bool,
+    /// In milliseconds, what the clock reads.
+    time: Cell<u64>,
     paused: Cell<u64>,
+    tries: Cell<u64>,
+    calls: Cell<u64>,
     lost: Cell<u64>,
+    full: Cell<u64>,
     back: Cell<u64>,
 }
 
-impl Counts {
-    fn new() -> Counts {
-        Counts {
-            tries: Cell::new(0),
+/// Adds to a count, which stays at its greatest number.
+fn add(count: &Cell<u64>, more: u64) {
+    let before = count.get();
+    count.set(before.saturating_add(more));
+}
+
+impl<'a> Play<'a> {
+    fn new(letters: &'a [u8], has_clock: bool) -> Play<'a> {
+        Play {
+            letters,
+            place: Cell::new(0),
+            has_clock,
+            time: Cell::new(0),
             paused: Cell::new(0),
+            tries: Cell::new(0),
+            calls: Cell::new(0),
             lost: Cell::new(0),
+            full: Cell::new(0),
             back: Cell::new(0),
+        }
+    }
+
+    /// The next letter. Behind the last one everything fails.
+    fn next(&self) -> u8 {
+        let place = self.place.get();
+        self.place.set(place.saturating_add(1));
+        self.letters.get(place).copied().unwrap_or(b'f')
+    }
+}
+
+/// A way whose calls go by the letters: `a` is answered with a refusal of an empty message, `r` by a host without room; `s` has no answer while
+/// the host may be silent, `t` no whole one while it may give one, `w` fails after some time, and any other at once.
+#[derive(Drop)]
+struct Way<'a> {
+    play: &'a Play<'a>,
+    limits: Limits,
+    faults: u64,
+}
+
+impl<'a> Way<'a> {
+    fn outcome(&self, alloc: Global) -> Result<Vec<u8>, LinkFault> {
+        match self.play.next() {
+            b'a' => Ok([REFUSED, HostRefusal::BadOp.code()].to_vec(alloc)?),
+            b'r' => Ok([REFUSED, HostRefusal::OutOfMemory.code()].to_vec(alloc)?),
+            b's' => {
+                add(&self.play.time, self.limits.silence);
+                Err(LinkFault::Io)
+            }
+            b't' => {
+                add(&self.play.time, self.limits.answering);
+                Err(LinkFault::Io)
+            }
+            b'w' => {
+                add(&self.play.time, SLOW);
+                Err(LinkFault::Io)
+            }
+            _ => Err(LinkFault::Io),
         }
     }
 }
 
-/// Opens ways that answer one call each, at the tries that have an `o`, and fails at the others.
-#[derive(Drop)]
-struct Script<'a> {
-    tries: &'a [u8],
-    counts: &'a Counts,
+impl<'a> Link for Way<'a> {
+    ghost use Rattle.std.specs.Prelude.{◌≡◌};
+    ghost use Rattle.oram_session.specs.Outcome.{faults_after};
+
+    ghost calls = { λ l _ outcome m. m.faults ≡ faults_after l.faults outcome };
+
+    ghost fault_count = { λ l. l.faults };
+
+    fn call(&mut self, alloc: Global, _body: &[u8]) -> Result<Vec<u8>, LinkFault> {
+        add(&self.play.calls, 1);
+        let outcome = self.outcome(alloc);
+        if outcome.is_err() {
+            self.faults = self.faults.saturating_add(1);
+        }
+        outcome
+    }
+
+    fn faults(&self) -> u64 {
+        self.faults
+    }
+
+    ghost counts = { λ l m body outcome h. h };
 }
+
+/// Opens ways by the letters: `o` opens one, `d` leads to another disk, `n` to a host without one, `r` to one without room; `s` has no answer
+/// within the limit, `w` fails after some time, and any other at once.
+#[derive(Drop)]
+struct Script<'a>(&'a Play<'a>);
 
 impl<'a> Dial for Script<'a> {
     ghost use Rattle.std.specs.Prelude.{⊤};
 
-    type Line = FaultLink<Direct>;
+    type Line = Way<'a>;
 
-    ghost opens = { λ _ _ _. ⊤ };
+    ghost opens = { λ _ _ _ _. ⊤ };
 
-    ghost fails = { λ _ _ _. ⊤ };
+    ghost fails = { λ _ _ _ _. ⊤ };
 
     ghost pauses = { λ _ _ _. ⊤ };
 
-    fn dial(&mut self, alloc: Global) -> Result<FaultLink<Direct>, LinkFault> {
-        let place = self.counts.tries.get();
-        self.counts.tries.set(place.saturating_add(1));
-        if self.tries.get(place) != Some(&b'o') {
-            return Err(LinkFault::Io);
+    ghost reads = { λ _ _ _. ⊤ };
+
+    fn dial(&mut self, _alloc: Global, limits: Limits) -> Result<Way<'a>, Trouble> {
+        add(&self.0.tries, 1);
+        match self.0.next() {
+            b'o' => Ok(Way {
+                play: self.0,
+                limits,
+                faults: 0,
+            }),
+            b'd' => Err(Trouble::AnotherDisk),
+            b'n' => Err(Trouble::NoDisk),
+            b'r' => Err(Trouble::NoRoom),
+            b's' => {
+                add(&self.0.time, limits.opening);
+                Err(Trouble::OutOfReach(LinkFault::Io))
+            }
+            b'w' => {
+                add(&self.0.time, SLOW);
+                Err(Trouble::OutOfReach(LinkFault::Io))
+            }
+            _ => Err(Trouble::OutOfReach(LinkFault::Io)),
         }
-        let server = Direct::new(alloc, Server::new(alloc));
-        Ok(FaultLink::new(server, 1, 1, false))
     }
 
     fn pause(&mut self, milliseconds: u64) {
-        let paused = self.counts.paused.get();
-        self.counts.paused.set(paused.saturating_add(milliseconds));
+        add(&self.0.time, milliseconds);
+        add(&self.0.paused, milliseconds);
+    }
+
+    fn now(&mut self) -> Option<u64> {
+        self.0.has_clock.then_some(self.0.time.get())
     }
 }
 
-/// Counts how often the host was lost, and was back.
+/// Counts how often the host was lost, had no room, and was back.
 #[derive(Drop)]
-struct News<'a>(&'a Counts);
+struct News<'a>(&'a Play<'a>);
 
 impl<'a> Watch for News<'a> {
     fn lost(&mut self) {
-        let lost = self.0.lost.get();
-        self.0.lost.set(lost.saturating_add(1));
+        add(&self.0.lost, 1);
+    }
+
+    fn full(&mut self) {
+        add(&self.0.full, 1);
     }
 
     fn back(&mut self) {
-        let back = self.0.back.get();
-        self.0.back.set(back.saturating_add(1));
+        add(&self.0.back, 1);
     }
 }
 
-fn write_fault(alloc: Global, page: &mut Page, fault: LinkFault) -> Result<(), RowFault> {
-    if fault == LinkFault::OutOfMemory {
-        return Err(RowFault::OutOfMemory);
-    }
-    page.show(alloc, &fault)?;
-    Ok(())
-}
-
-/// Does with the link what a word says: a `call` of an empty message, or to `reach` the host.
-fn ask<D: Dial, W: Watch>(
+/// Does with the link what a word says: a `call` of an empty message, to `reach` the host, or to stay `idle` for a thousand seconds.
+fn ask<'a>(
     alloc: Global,
-    link: &mut PatientLink<D, W>,
+    link: &mut PatientLink<Script<'a>, News<'a>>,
+    play: &Play<'a>,
     word: &str,
     page: &mut Page,
 ) -> Result<(), RowFault> {
     match word {
         "call" => match link.call(alloc, &[]) {
-            Ok(answer) => Ok(page.bytes(alloc, &answer)?),
-            Err(fault) => write_fault(alloc, page, fault),
+            Ok(answer) => page.bytes(alloc, &answer)?,
+            Err(LinkFault::OutOfMemory) => return Err(RowFault::OutOfMemory),
+            Err(fault) => page.show(alloc, &fault)?,
         },
         "reach" => match link.reach(alloc) {
-            Ok(()) => Ok(page.word("reached")?),
-            Err(fault) => write_fault(alloc, page, fault),
+            Ok(()) => page.word("reached")?,
+            Err(trouble) => page.show(alloc, &trouble)?,
         },
-        _ => Err(RowFault::NoRow),
+        "idle" => add(&play.time, IDLE),
+        _ => return Err(RowFault::NoRow),
     }
+    Ok(())
 }
 
-/// What a link answers to these words, and how many faults it then has had.
-fn play(
+/// A count with its name.
+fn write_count(
     alloc: Global,
-    counts: &Counts,
+    page: &mut Page,
+    name: &str,
+    count: &Cell<u64>,
+) -> Result<(), RowFault> {
+    page.word(name)?;
+    page.number(alloc, count.get())?;
+    Ok(())
+}
+
+/// What the link answers to the words, and then how many faults it had and why it gave up.
+fn perform(
+    alloc: Global,
+    play: &Play,
+    seconds: u64,
     words: &mut Words,
     page: &mut Page,
 ) -> Result<(), RowFault> {
-    let seconds = words.number()?;
-    let tries = words.text()?.as_bytes();
-    let script = Script { tries, counts };
-    let mut link = PatientLink::new(alloc, script, News(counts), seconds);
+    let mut link = PatientLink::new(alloc, Script(play), News(play), seconds);
     for _ in 0..u64::MAX {
         if words.is_empty() {
             break;
         }
-        ask(alloc, &mut link, words.text()?, page)?;
+        ask(alloc, &mut link, play, words.text()?, page)?;
     }
     page.word("faults")?;
     page.number(alloc, link.faults())?;
+    match link.trouble() {
+        Some(trouble) => page.show(alloc, &trouble)?,
+        None => page.word("patient")?,
+    }
     Ok(())
 }
 
-/// `link plays SECONDS TRIES WORDS`: what a link of so much patience answers to the words, where it may open a way at the
-/// tries that have an `o`; how many faults it had, how often it tried and how many milliseconds it waited, and how often the
-/// host was lost and was back.
+/// `link plays SECONDS CLOCK LETTERS WORDS`: what a link of so much patience answers to the words, by a clock that `ticks` or `fails`, where
+/// the letters say what comes of its tries and calls; how many faults it had, and why it gave up, or that it is `patient`; how many ways it
+/// tried to open and how many calls went over them, how many milliseconds it paused and how many passed; how often the host was lost, had no
+/// room, and was back.
 fn plays(alloc: Global, words: &mut Words, page: &mut Page) -> Result<(), RowFault> {
-    let counts = Counts::new();
-    play(alloc, &counts, words, page)?;
-    page.word("tries")?;
-    page.number(alloc, counts.tries.get() as u64)?;
-    page.word("paused")?;
-    page.number(alloc, counts.paused.get())?;
-    page.word("lost")?;
-    page.number(alloc, counts.lost.get())?;
-    page.word("back")?;
-    page.number(alloc, counts.back.get())?;
+    let seconds = words.number()?;
+    let has_clock = match words.text()? {
+        "ticks" => true,
+        "fails" => false,
+        _ => return Err(RowFault::NoRow),
+    };
+    let play = Play::new(words.text()?.as_bytes(), has_clock);
+    perform(alloc, &play, seconds, words, page)?;
+    write_count(alloc, page, "tries", &play.tries)?;
+    write_count(alloc, page, "calls", &play.calls)?;
+    write_count(alloc, page, "paused", &play.paused)?;
+    write_count(alloc, page, "passed", &play.time)?;
+    write_count(alloc, page, "lost", &play.lost)?;
+    write_count(alloc, page, "full", &play.full)?;
+    write_count(alloc, page, "back", &play.back)?;
     Ok(())
 }
 

@@ -1,7 +1,9 @@
 //! The settings of a disk.
 
 use crate::tables::read_or_bad;
-use oram_settings::{DiskSettings, Sealing, device_of, disk_text, read_disk_settings};
+use oram_settings::{
+    DiskSettings, Sealing, device_of, disk_text, first_difference, read_disk_settings,
+};
 use rows::{Page, RowFault, Words};
 use std::alloc::Global;
 
@@ -66,4 +68,46 @@ pub fn first_settings(alloc: Global, words: &mut Words, page: &mut Page) -> Resu
     };
     put_numbers(alloc, &settings, page)?;
     put_names(alloc, &settings, page)
+}
+
+fn sealing_in(words: &mut Words) -> Result<Sealing, RowFault> {
+    match words.text()? {
+        "plain" => Ok(Sealing::Plain),
+        "chacha" => Ok(Sealing::ChaCha),
+        _ => Err(RowFault::NoRow),
+    }
+}
+
+/// `differs SIZE BLOCK SLOTS TABLE SEALER SIZE BLOCK SLOTS TABLE SEALER`: at which key the first settings differ first from the second, which
+/// a disk was formatted with.
+pub fn differs(alloc: Global, words: &mut Words, page: &mut Page) -> Result<(), RowFault> {
+    let settings = DiskSettings {
+        size: words.number()?,
+        block: words.number()?,
+        slots: words.number()?,
+        table: words.number()?,
+        sealer: sealing_in(words)?,
+        key: [0; 32],
+        host: String::new(alloc),
+        listen: String::new(alloc),
+        state: String::new(alloc),
+        sync: false,
+        patience: 1,
+    };
+    let size = words.number()?;
+    let block = words.number()?;
+    let slots = words.number()?;
+    let table = words.number()?;
+    let Some(device) = device_of(size, block, slots, table) else {
+        return Err(RowFault::NoRow);
+    };
+    let sealing = sealing_in(words)?;
+    match first_difference(&settings, &device, sealing) {
+        Some(key) => {
+            let key = format!(in alloc; "{key}")?;
+            page.word(key.as_str())?;
+        }
+        None => page.word("none")?,
+    }
+    Ok(())
 }

@@ -36,6 +36,7 @@ impl Table for Calls {
             "words" => texts::command_line(alloc, words, page),
             "disk" => disks::disk(alloc, words, page),
             "device" => disks::device(alloc, words, page),
+            "differs" => disks::differs(alloc, words, page),
             "first-settings" => disks::first_settings(alloc, words, page),
             "progress" => reports::progress(alloc, words, page),
             "meter" => reports::meter(&mut self.meter, words, page),

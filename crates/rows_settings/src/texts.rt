@@ -41,7 +41,11 @@ pub fn command_line(alloc: Global, words: &mut Words, page: &mut Page) -> Result
 
 fn put_asked(asked: &CommandWords, page: &mut Page) -> Result<(), RowFault> {
     match asked {
-        CommandWords::Host(name) => put_both(page, "host", name),
+        CommandWords::Host { settings, is_new } => {
+            put_both(page, "host", settings)?;
+            page.word(if *is_new { "new" } else { "old" })?;
+            Ok(())
+        }
         CommandWords::Format(name) => put_both(page, "format", name),
         CommandWords::Serve(name) => put_both(page, "serve", name),
         CommandWords::Status(name) => put_both(page, "status", name),

@@ -4,6 +4,7 @@ use Rattle.oram_run.specs.declared.events.Reply.{Reply}
 use Rattle.oram_core.specs.Core.{shape_of}
 use Rattle.oram_session.proofs.Resumed.{HasBody, only_one}
 use Rattle.oram_keep.specs.Asking.{HasGivenAll, IsSame}
+use Rattle.oram_keep.proofs.Failing.{IsOfFailed}
 use Rattle.oram_keep.proofs.asking.reply_of.Goals as goal
 
 pub returns-clause-ok : goal.returns-clause-ok
@@ -18,3 +19,7 @@ returns-clause-ok g c = λ kept.
 
 pub returns-clause-block : goal.returns-clause-block
 returns-clause-block g c = (All-pop (HasBody c.args.core.now.device) _ c.pop.new.self.items (Some c.in-Some.reply) c.in-Some.ensures.items c.in_ok-last.ensures.block).1
+
+pub returns-clause-failed : goal.returns-clause-failed
+returns-clause-failed g c =
+    (All-pop (IsOfFailed c.exchange_all.new.core.state) _ c.pop.new.self.items (Some c.in-Some.reply) c.in-Some.ensures.items c.in_ok-last.ensures.failed).1

@@ -18,6 +18,7 @@ use Rattle.oram_keep.specs.Ends.{HasRunOut}
 use Rattle.oram_keep.specs.Keeping.{at, replies_of}
 use Rattle.oram_keep.specs.declared.faults.KeepFault.TheVariants.{Stalled, Unkept, OutOfMemory}
 use Rattle.oram_keep.proofs.Deeds.{SoFar, begun, cut_here, kept_then, refused_first, refused_then, saved_under, stalled_here, unkept_first, unkept_then, went_on}
+use Rattle.oram_keep.proofs.Failing.{IsOfFailed, heard_failures}
 use Rattle.oram_keep.proofs.exchanges.exchange_all.Goals as goal
 use Rattle.oram_keep.proofs.exchanges.exchange_all.Goals.{then-is_to_be_kept+in_ok-keep-2, else-is_to_be_kept}
 
@@ -60,6 +61,7 @@ loop-message-init g c =
       kept = (refl, refl);
       going = inl (c.requires.waits, c.requires.sends);
       block = subst (All (HasBody c.args.core.now.device)) (sym c.requires.none) (All-nil (HasBody c.args.core.now.device));
+      failed = subst (All (IsOfFailed c.args.core.now.state)) (sym c.requires.none) (All-nil (IsOfFailed c.args.core.now.state));
       so_far = λ kept. begun v g.L.Link.calls g.K.Keeper.keeps c.args.core.now.state c.args.link.now c.args.keeper.now kept c.args.reaction.replies.items c.keep.new.keeper c.requires.none (w.0, w.1, w.2);
     }
 
@@ -172,6 +174,7 @@ loop-message-preserved g c =
       kept = kept;
       going = heard_going u now.state d waits c.in_ok-reaction.ensures.heard;
       block = subst (λ (e : Sizes). All (HasBody e) d.replies) c.loop-message.invariant.kept.0 (heard_bodies u now.state d c.in_ok-reaction.ensures.heard);
+      failed = heard_failures u now.state d c.in_ok-reaction.ensures.heard;
       so_far = λ before.
           let so = c.loop-message.invariant.so_far before in
           elim c.if-is_to_be_kept.branch [

@@ -6,11 +6,12 @@ use Rattle.oram_nbd.specs.Serving.{refusal_of, IsReplied, IsReply}
 use Rattle.oram_nbd.specs.Streams.{ComesShort}
 use Rattle.oram_nbd.specs.declared.requests.Command.TheVariants.{Disconnect}
 use Rattle.oram_nbd.proofs.Pieces.{if_err}
-use Rattle.oram_nbd.proofs.Served.{begin, exchanged, next, served_more, stopped_at_payload, stopped_at_reply, stopped_at_request, turn_of}
+use Rattle.oram_nbd.proofs.Served.{begin, exchanged, next, served_more, still_failed, stopped_at_payload, stopped_at_reply, stopped_at_request, turn_of}
 use Rattle.oram_nbd.proofs.transmitting.transmit.Goals as goal
 
 pub loop-served-init : goal.loop-served-init
-loop-served-init g c = record { served = begin _ _ _ _ _ _; keeps = λ h. h; lasting = λ h. h; block = refl; size = refl }
+unfolding begin
+loop-served-init g c = record { served = begin _ _ _ _ _ _; keeps = λ h. h; lasting = λ h. elim h [ inl f ↦ f | inr none ↦ absurd none ]; block = refl; size = refl }
 
 -- the client goes
 
@@ -76,6 +77,7 @@ returns-in_err-put_reply-clause-err g c =
 -- or it goes on
 
 pub loop-served-preserved : goal.loop-served-preserved
+unfolding next
 loop-served-preserved g c =
     let r = c.in-Some.request in
     let reply = c.in-Some-answer.reply in
@@ -95,7 +97,7 @@ loop-served-preserved g c =
     record {
       served = next _ _ _ _ _ _ _ held held' _ _ _ _ (turn_of r got.0 reply) inv.served served (Consumes-trans _ _ _ (request_text r) got.0 came.1 got.2) c.in_ok-put_reply.ensures.ok;
       keeps = λ h. call.keeps (inv.keeps h);
-      lasting = λ h. call.lasting (inv.lasting h);
+      lasting = still_failed _ _ _ inv.served.turns (turn_of r got.0 reply) inv.lasting call.lasting call.failing;
       block = call.shape.0 ∙ inv.block;
       size = call.shape.1 ∙ inv.size;
     }

@@ -1,8 +1,13 @@
-use Rattle.std.proofs.Common.{refl, ap}
+use Rattle.std.proofs.Common.{◌≡◌, ◌∙◌, subst}
+use Rattle.oram_client.specs.Dialing.{Destination, IsUngreetedOver}
+use Rattle.oram_client.proofs.Greeted.{somewhere}
 use Rattle.oram_client.proofs.tcp_dialer.TcpDialerDial.dial.Goals as goal
 
-pub returns-clause-ok : goal.returns-clause-ok
-returns-clause-ok g c = (
-  record { before = c.new-line.result; faultless = ap (λ l. l.faults) c.new-line.ensures; answer = c.in_ok-call.field-0.items; answered = c.in_ok-call.ensures },
-  refl,
-)
+pub returns-clause-err : goal.returns-clause-err
+returns-clause-err g c =
+    let same : c.now.new.self ≡ c.args.self.now = c.now.ensures ∙ c.now-begin.ensures in (
+      somewhere g.R.Stream.Read.remaining g.R.Stream.Write.contents c.in-Ok.reader c.in-Ok.writer c.args.self.now.identity c.in-Err.trouble
+          (subst (λ (d : Destination). IsUngreetedOver g.R.Stream.Read.remaining g.R.Stream.Write.contents c.in-Ok.reader c.in-Ok.writer d.identity c.in-Err.trouble)
+          (c.self-2.view_is ∙ same) c.in-Err.ensures.err),
+      same,
+    )

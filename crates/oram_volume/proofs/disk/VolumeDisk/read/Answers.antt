@@ -65,7 +65,8 @@ returns-in-Done g c =
       ok = tt;
       same = bytes_made g.S.Sealer.overhead g.S.Sealer.sealing g.S.Sealer.opening now.core new.core c.carry_out.ensures.kept g.L.Link.calls now.link new.link
           (Read c.address_of-address.result) (λ bytes. bytes) (laid_after_read now.core.device c.address_of-address.result) (λ lie array hold. (c.in_ok-bytes.ensures.ok lie array hold).1);
-      sound = λ e h. let body = (c.in_ok-bytes.ensures.ok false h.1.array h.1.holds).0 in elim c.in-Done.is [ inl done ↦ absurd (let both = sym done ∙ body in cc) | inr failed ↦ absurd (let both = sym failed ∙ body in cc) ];
+      sound = λ e h. cc;
+      failing = λ e. cc;
       stopped = λ e. cc;
       keeps = sound_made g.S.Sealer.overhead g.S.Sealer.sealing g.S.Sealer.opening now.core new.core c.carry_out.ensures.kept g.L.Link.calls now.link new.link
           (Read c.address_of-address.result) (λ bytes. bytes) (laid_after_read now.core.device c.address_of-address.result) (λ lie array hold. (c.in_ok-bytes.ensures.ok lie array hold).1);

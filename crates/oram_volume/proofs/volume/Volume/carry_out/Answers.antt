@@ -38,6 +38,7 @@ returns-in-Ok-Replied-Data g c =
       ok = λ lie array h. let r = right lie array h in (elim r.0 [ inl as_told ↦ as_told | inr lied ↦ absurd (let no = lied.1 in cc) ], r.1);
       err = tt;
       sound = λ e array h. cc;
+      failing = λ e. cc;
       stopped = λ e. cc;
     }
 
@@ -55,6 +56,7 @@ returns-in-Ok-Replied-Done g c =
       ok = λ lie array h. let r = right lie array h in (elim r.0 [ inl as_told ↦ as_told | inr lied ↦ absurd (let no = lied.1 in cc) ], r.1);
       err = tt;
       sound = λ e array h. cc;
+      failing = λ e. cc;
       stopped = λ e. cc;
     }
 

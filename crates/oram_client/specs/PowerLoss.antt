@@ -1,0 +1,83 @@
+-- What is found of a file once the machine has lost its power.
+use Rattle.std.specs.Prelude.{◌≡◌, ◌⊎◌, ℕ, Bool, true, false, List, [], ◌∷◌, Option, None, Some, ⊤, MatchBool}
+use Rattle.oram_client.specs.Placing.{Deed, Writes, SetsAside, Settles, SyncsFolder, Clears, Names, deeds_of, found}
+
+-- a file: once it is synced, its bytes are on the disk
+pub record File : Type 0 where
+  pub synced : Bool
+  pub bytes : List ℕ
+
+-- the files that the names stand for
+pub record Folder : Type 0 where
+  pub kept : Option File
+  pub fresh : Option File
+  pub aside : Option File
+
+-- the folder as processes see it, and as it was since it was last synced
+pub record Disk : Type 0 where
+  pub now : Folder
+  pub before : List Folder
+
+-- what may be read of a file after a loss of power: anything, and even nothing, where it wasn't synced
+abbrev pub MayRead : Option File → Option (List ℕ) → Type 0
+MayRead None read = read ≡ None
+MayRead (Some file) read = MatchBool file.synced (read ≡ Some file.bytes) ⊤
+
+-- A name stands for what it did at one of these moments.
+abbrev pub MayStand : (Folder → Option File) → List Folder → Option (List ℕ) → Type 0
+MayStand name [] read = ⊥
+MayStand name (moment ∷ moments) read = MayRead (name moment) read ⊎ MayStand name moments read
+
+-- After a loss of power each name stands for what it did at any moment since the folder was synced, whatever the others stand for.
+pub record IsLeftByLoss (d : Disk) (m : Names) : Type 0 where
+  pub kept : MayStand (λ f. f.kept) (d.now ∷ d.before) m.kept
+  pub fresh : MayStand (λ f. f.fresh) (d.now ∷ d.before) m.fresh
+  pub aside : MayStand (λ f. f.aside) (d.now ∷ d.before) m.aside
+
+-- After a loss of power this is found, and nothing else.
+abbrev pub IsSure : Disk → Option (List ℕ) → Type 0
+IsSure d file = (m : Names) → IsLeftByLoss d m → found m ≡ file
+
+abbrev pub changed : Disk → Folder → Disk
+changed d folder = record { now = folder; before = d.now ∷ d.before }
+
+abbrev pub first_file : Option File → Option File → Option File
+first_file None aside = aside
+first_file (Some file) aside = Some file
+
+-- a disk once a deed is done
+abbrev pub behind : Disk → Deed → Disk
+behind d (Writes sync bytes) = changed d (record d.now { fresh = Some (record { synced = sync; bytes = bytes }) })
+behind d SetsAside = changed d (record d.now { kept = None; aside = first_file d.now.kept d.now.aside })
+behind d Settles = changed d (record d.now { kept = d.now.fresh; fresh = None })
+behind d SyncsFolder = record d { before = [] }
+behind d Clears = changed d (record d.now { aside = None })
+
+abbrev pub behind_all : Disk → List Deed → Disk
+behind_all d [] = d
+behind_all d (deed ∷ deeds) = behind_all (behind d deed) deeds
+
+-- and while it is done: a file that is written isn't synced before it is whole
+abbrev pub amid : Disk → Deed → Disk
+amid d (Writes sync bytes) = behind d (Writes false bytes)
+amid d deed = d
+
+-- The machine loses its power in one of the deeds, or behind them, and leaves this.
+abbrev pub LosesPowerIn : Disk → List Deed → Names → Type 0
+LosesPowerIn d [] m = IsLeftByLoss d m
+LosesPowerIn d (deed ∷ deeds) m = IsLeftByLoss (amid d deed) m ⊎ LosesPowerIn (behind d deed) deeds m
+
+-- By these deeds a file is kept whenever the machine loses its power: meanwhile what is found is what was sure before or the new file, and
+-- behind them it is the new file.
+pub record AreLasting (file : List ℕ) (deeds : List Deed) : Type 0 where
+  pub meanwhile : (old : Option (List ℕ)) (d : Disk) → IsSure d old → (m : Names) → LosesPowerIn d deeds m → (found m ≡ old) ⊎ (found m ≡ Some file)
+  pub afterwards : (d : Disk) → IsSure (behind_all d deeds) (Some file)
+
+-- The deeds of a file that is synced are such.
+abbrev pub SyncedFilesLast : Type 0
+SyncedFilesLast = (file : List ℕ) → AreLasting file (deeds_of true file)
+
+-- Without one of the two syncs they are not.
+abbrev pub SyncsAreNeeded : Type 0
+SyncsAreNeeded = (file : List ℕ) → (¬ AreLasting file (Writes false file ∷ Settles ∷ SyncsFolder ∷ Clears ∷ []))
+    × (¬ AreLasting file (Writes true file ∷ Settles ∷ Clears ∷ []))

@@ -1,0 +1,39 @@
+//! Which keys a disk is opened with.
+ghost use Rattle.std.specs.Prelude.{◌≡◌, ◌↔◌, IfOk, IsOk};
+ghost use Rattle.oram_client.specs.Keys as spec;
+
+use crate::kept_file::Head;
+use crate::keys::{
+    DiskKey, Identity, SealerKey, TapeKey, disk_identity, key_check, sealer_key, tape_key,
+};
+use thiserror::Error;
+
+/// The keys of a formatting, and the identity of its disk.
+#[derive(Clone, Copy, Debug)]
+pub struct Keys {
+    pub sealer: SealerKey,
+    pub tape: TapeKey,
+    pub identity: Identity,
+}
+
+/// The disk was formatted with another key.
+#[derive(Clone, Copy, Debug, PartialEq, Eq, Error)]
+#[error("the key is not the disk's")]
+pub struct WrongKey;
+
+/// The keys of the disk of this head, where this key is the one that it was formatted with.
+pub fn keys_for(key: &DiskKey, head: &Head) -> Result<Keys, WrongKey>
+    ensures right { IsOk result ↔ (spec.key_check key.now.0 head.now.salt.0 ≡ head.now.key_check.0) }
+    ensures sealer { IfOk result (λ keys. keys.sealer.0 ≡ spec.bucket_key key.now.0 head.now.salt.0) }
+    ensures tape { IfOk result (λ keys. keys.tape.0 ≡ spec.tape_key key.now.0 head.now.salt.0) }
+    ensures identity { IfOk result (λ keys. keys.identity.0 ≡ spec.identity key.now.0 head.now.salt.0) }
+{
+    if key_check(key, &head.salt) != head.key_check {
+        return Err(WrongKey);
+    }
+    Ok(Keys {
+        sealer: sealer_key(key, &head.salt),
+        tape: tape_key(key, &head.salt),
+        identity: disk_identity(key, &head.salt),
+    })
+}

@@ -1,0 +1,153 @@
+//! A connection over which each call has to end in time.
+ghost use Rattle.std.specs.Prelude.{◌≡◌, IfOk, IfErr};
+
+use oram_session::{Link, LinkFault, StreamLink};
+use std::alloc::Global;
+use std::cell::Cell;
+use std::io;
+use std::io::{ErrorKind, Read, Write};
+use std::marker::Model;
+use std::rc::Rc;
+use std::rt::Clock;
+
+/// The milliseconds since some moment, by a clock that isn't set. `None` where it can't be read.
+pub(crate) fn milliseconds<C: Clock>(clock: &C) -> Option<u64> {
+    let since_start = clock.monotonic().ok()?;
+    u64::try_from(since_start.as_millis()).ok()
+}
+
+/// A half of a connection. Once the time of a call is over it takes and gives nothing more.
+#[derive(Drop)]
+pub(crate) struct Timed<S, C> {
+    stream: S,
+    clock: C,
+    /// When the time of the call is over, in milliseconds by the clock.
+    ends: Rc<Cell<u64>>,
+}
+
+impl<S, C> Model for Timed<S, C> {
+    /// The stream.
+    ghost Value = { S };
+
+    ghost view = { λ t. t.stream };
+}
+
+impl<S, C: Clock> Timed<S, C> {
+    fn check_time(&self) -> io::Result<()> {
+        match milliseconds(&self.clock) {
+            Some(now) if now > self.ends.get() => Err(io::Error::from(ErrorKind::TimedOut)),
+            _ => Ok(()),
+        }
+    }
+}
+
+impl<S: Read, C: Clock> Read for Timed<S, C> {
+    ghost remaining = { λ t. S.remaining t };
+
+    fn read(&mut self, buf: &mut [u8]) -> io::Result<usize> {
+        match self.check_time() {
+            Ok(()) => self.stream.read(buf),
+            Err(error) => Err(error),
+        }
+    }
+}
+
+impl<S: Write, C: Clock> Write for Timed<S, C> {
+    ghost contents = { λ t. S.contents t };
+
+    fn write(&mut self, buf: &[u8]) -> io::Result<usize> {
+        match self.check_time() {
+            Ok(()) => self.stream.write(buf),
+            Err(error) => Err(error),
+        }
+    }
+
+    fn flush(&mut self) -> io::Result<()> {
+        self.stream.flush()
+    }
+}
+
+/// A link over both halves of a connection, whose calls have a time to end in. A host that gives its answer a byte at a time doesn't
+/// hold a call for longer, but for the time that it may be silent before the last of them.
+#[derive(Drop)]
+pub struct TimedLink<S, C> {
+    line: StreamLink<Timed<S, C>, Timed<S, C>>,
+    clock: C,
+    /// What a call may take, in milliseconds.
+    limit: u64,
+    ends: Rc<Cell<u64>>,
+}
+
+impl<S, C> Model for TimedLink<S, C> {
+    ghost use Rattle.oram_session.specs.Streams.{ToStreams};
+
+    ghost Value = { ToStreams S S };
+
+    ghost view = { λ l. l.line };
+}
+
+impl<S, C: Copy> TimedLink<S, C> {
+    /// A link over these halves, whose calls may take so many milliseconds.
+    pub fn new(
+        alloc: Global,
+        reader: S,
+        writer: S,
+        clock: C,
+        limit: u64,
+    ) -> Result<TimedLink<S, C>, LinkFault>
+    where
+        S: Drop,
+        ensures ok { IfOk result (λ l. l ≡ record { reader = reader; writer = writer; faults = 0 }) }
+        ensures err { IfErr result (λ fault. fault ≡ LinkFault.OutOfMemory) }
+    {
+        let Ok(ends) = Rc::new(alloc, Cell::new(u64::MAX)) else {
+            return Err(LinkFault::OutOfMemory);
+        };
+        let reader = Timed {
+            stream: reader,
+            clock,
+            ends: ends.clone()?,
+        };
+        let writer = Timed {
+            stream: writer,
+            clock,
+            ends: ends.clone()?,
+        };
+        Ok(TimedLink {
+            line: StreamLink::new(alloc, reader, writer),
+            clock,
+            limit,
+            ends,
+        })
+    }
+
+    /// Sets how many milliseconds a call may take.
+    pub fn set_limit(&mut self, limit: u64)
+        ensures { self.new ≡ self.old }
+    {
+        self.limit = limit;
+    }
+}
+
+impl<S: Read + Write, C: Clock> Link for TimedLink<S, C> {
+    ghost use Rattle.oram_session.specs.Streams.{StreamCall};
+
+    ghost calls = { λ l body outcome m. StreamCall S.remaining S.contents l body outcome m };
+
+    ghost fault_count = { λ l. l.faults };
+
+    fn call(&mut self, alloc: Global, body: &[u8]) -> Result<Vec<u8>, LinkFault> {
+        let ends = match milliseconds(&self.clock) {
+            Some(now) => now.saturating_add(self.limit),
+            None => u64::MAX,
+        };
+        self.ends.set(ends);
+        self.line.call(alloc, body)
+    }
+
+    fn faults(&self) -> u64 {
+        self.line.faults()
+    }
+
+    ghost counts = { λ l m body outcome h. h.faults };
+}

@@ -1,0 +1,24 @@
+-- Settings that aren't those that a disk was formatted with.
+use Rattle.std.specs.Prelude.{◌≡◌, ◌*◌, ◌⊎◌, List, [], ◌∷◌, Option, None, Some}
+use Rattle.oram_geometry.specs.declared.Sizes.{Sizes}
+use Rattle.oram_settings.specs.declared.differences.FixedKey.{FixedKey}
+use Rattle.oram_settings.specs.declared.differences.FixedKey.TheVariants.{Size, Block, Slots, Table, Sealer}
+use Rattle.oram_settings.specs.declared.disk_file.DiskSettings.{DiskSettings}
+use Rattle.oram_settings.specs.declared.disk_file.Sealing.{Sealing}
+
+-- at this key the settings are what the disk was formatted with: a device, and how its buckets are sealed
+abbrev pub AgreeAt : DiskSettings → Sizes → Sealing → FixedKey → Type 0
+AgreeAt s device sealing Size = s.size ≡ device.blocks * device.block_bytes
+AgreeAt s device sealing Block = s.block ≡ device.block_bytes
+AgreeAt s device sealing Slots = s.slots ≡ device.slots
+AgreeAt s device sealing Table = s.table ≡ device.top
+AgreeAt s device sealing Sealer = s.sealer ≡ sealing
+
+-- the first of these keys at which they differ, or none
+abbrev pub IsFirstDifference : (FixedKey → Type 0) → List FixedKey → Option FixedKey → Type 0
+IsFirstDifference agree [] first = first ≡ None
+IsFirstDifference agree (key ∷ keys) first = ((first ≡ Some key) × ¬ agree key) ⊎ (agree key × IsFirstDifference agree keys first)
+
+-- in the order in which they stand in a first file
+abbrev pub fixed_keys : List FixedKey
+fixed_keys = Size ∷ Block ∷ Slots ∷ Table ∷ Sealer ∷ []

@@ -1,0 +1,61 @@
+//! Settings that aren't those that a disk was formatted with.
+
+ghost use Rattle.std.specs.Prelude.{◌≡◌, None};
+ghost use Rattle.oram_settings.specs.Differences.{AgreeAt, IsFirstDifference, fixed_keys};
+ghost use Rattle.oram_settings.specs.Settings.{IsDeviceOf};
+
+use crate::disk_file::{DiskSettings, Sealing};
+use oram_geometry::Device;
+use std::fmt;
+
+/// A key of the settings that is fixed once the disk is formatted.
+#[derive(Clone, Copy, Debug, PartialEq, Eq)]
+pub enum FixedKey {
+    Size,
+    Block,
+    Slots,
+    Table,
+    Sealer,
+}
+
+// As it stands in the settings file.
+impl fmt::Display for FixedKey {
+    fn fmt<W: fmt::Write>(&self, f: &mut fmt::Formatter<W>) -> fmt::Result {
+        f.write_str(match self {
+            FixedKey::Size => "size",
+            FixedKey::Block => "block",
+            FixedKey::Slots => "slots",
+            FixedKey::Table => "table",
+            FixedKey::Sealer => "sealer",
+        })
+    }
+}
+
+/// The first key at which settings differ from what a disk was formatted with: its device, and how its buckets are sealed.
+pub fn first_difference(
+    settings: &DiskSettings,
+    device: &Device,
+    sealing: Sealing,
+) -> Option<FixedKey>
+    ensures first { IsFirstDifference (AgreeAt settings.now device.now sealing) fixed_keys result }
+
+    // A disk that was formatted with these settings doesn't differ from them.
+    ensures same { IsDeviceOf settings.now.size settings.now.block settings.now.slots settings.now.table device.now
+        → settings.now.sealer ≡ sealing → result ≡ None }
+{
+    prove!(0 < device.trees());
+    let size = u64::from(device.blocks_in(0)) * device.block_bytes() as u64;
+    if settings.size != size {
+        Some(FixedKey::Size)
+    } else if settings.block != device.block_bytes() as u64 {
+        Some(FixedKey::Block)
+    } else if settings.slots != device.slots() as u64 {
+        Some(FixedKey::Slots)
+    } else if settings.table != device.top() {
+        Some(FixedKey::Table)
+    } else if settings.sealer != sealing {
+        Some(FixedKey::Sealer)
+    } else {
+        None
+    }
+}

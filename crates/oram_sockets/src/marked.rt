@@ -1,0 +1,66 @@
+//! Whether a connection is within a message: something of it was read, and its answer isn't flushed yet.
+
+use std::io;
+use std::io::{Read, Write};
+
+/// Hears where the messages of a connection begin and where their answers end.
+pub trait Marks {
+    /// Bytes of a message were read.
+    fn within_message(&self);
+
+    /// The answer to a message was flushed.
+    fn answered(&self);
+}
+
+/// Reads messages, and marks that one has begun. What it reads from is buffered below it, so it is asked for no byte of the next message
+/// before the answer to the last one is flushed.
+#[derive(Drop)]
+pub struct MarkedReader<'a, R, M> {
+    reader: R,
+    marks: &'a M,
+}
+
+impl<'a, R: Drop, M> MarkedReader<'a, R, M> {
+    pub fn new(reader: R, marks: &'a M) -> MarkedReader<'a, R, M> {
+        MarkedReader { reader, marks }
+    }
+}
+
+impl<'a, R: Read, M: Marks> Read for MarkedReader<'a, R, M> {
+    ghost remaining = { λ r. R.remaining r.reader };
+
+    fn read(&mut self, buf: &mut [u8]) -> io::Result<usize> {
+        let count = self.reader.read(buf)?;
+        if count > 0 {
+            self.marks.within_message();
+        }
+        Ok(count)
+    }
+}
+
+/// Writes answers, and marks where each of them is flushed.
+#[derive(Drop)]
+pub struct MarkedWriter<'a, W, M> {
+    writer: W,
+    marks: &'a M,
+}
+
+impl<'a, W: Drop, M> MarkedWriter<'a, W, M> {
+    pub fn new(writer: W, marks: &'a M) -> MarkedWriter<'a, W, M> {
+        MarkedWriter { writer, marks }
+    }
+}
+
+impl<'a, W: Write, M: Marks> Write for MarkedWriter<'a, W, M> {
+    ghost contents = { λ w. W.contents w.writer };
+
+    fn write(&mut self, buf: &[u8]) -> io::Result<usize> {
+        self.writer.write(buf)
+    }
+
+    fn flush(&mut self) -> io::Result<()> {
+        self.writer.flush()?;
+        self.marks.answered();
+        Ok(())
+    }
+}

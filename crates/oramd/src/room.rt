@@ -1,0 +1,77 @@
+//! Memory for saving a state, taken before there is anything to save.
+
+ghost use Rattle.std.specs.Prelude.{◌≡◌, OnOk};
+
+use oram_bucket::Sealer;
+use oram_core::Core;
+use oram_session::Tape;
+use oram_state::encode_state;
+use std::alloc::{AllocError, Global};
+
+/// For how many commands room is taken at once.
+const COMMANDS: u32 = 64;
+
+/// Bytes for what doesn't grow: a message and the command that waits for its answer, and what the allocator needs.
+const MARGIN: usize = 3 << 20;
+
+/// The bytes that the allocator needs for each of two copies of a block, beside it.
+const BESIDE_A_BLOCK: usize = 64;
+
+/// A tape that holds room for saving the state of its device, and takes more before a command that may need it.
+///
+/// A proxy saves its state at its end, also at an end for want of memory: without that, the next one would go on from a state that
+/// its host has left behind. So a command for which there is no such room gets no words, and isn't accepted.
+#[derive(Drop)]
+pub(crate) struct RoomyTape<T> {
+    tape: T,
+    held: Vec<u8>,
+    /// For how many commands there is room.
+    commands: u32,
+    /// What a command may add to what is saved, and to its copy, in bytes.
+    growth: usize,
+}
+
+impl<T: Drop> RoomyTape<T> {
+    /// Takes the room that the state of this core needs.
+    pub(crate) fn new<S: Sealer>(
+        alloc: Global,
+        tape: T,
+        core: &Core<S>,
+    ) -> Result<RoomyTape<T>, AllocError> {
+        let device = core.device();
+        let block = device.block_bytes().saturating_add(BESIDE_A_BLOCK);
+        let file = encode_state(alloc, core)?;
+        // The file, and the copy of the core's parts that it is written from.
+        let need = file.len().saturating_mul(4).saturating_add(MARGIN);
+        Ok(RoomyTape {
+            tape,
+            held: Vec::with_capacity(alloc, need)?,
+            commands: 0,
+            // A command leaves at most one block more in the stash of each tree.
+            growth: usize::from(device.trees()).saturating_mul(2 * block),
+        })
+    }
+
+    /// Takes the room for further commands.
+    fn grow(&mut self, alloc: Global) -> Result<(), AllocError>
+        ensures tape { self.new.tape ≡ self.old.tape }
+        ensures room { OnOk result (self.new.commands ≡ COMMANDS) }
+    {
+        let more = self.growth.saturating_mul(COMMANDS as usize);
+        self.held = Vec::with_capacity(alloc, self.held.capacity().saturating_add(more))?;
+        self.commands = COMMANDS;
+        Ok(())
+    }
+}
+
+impl<T: Tape + Drop> Tape for RoomyTape<T> {
+    ghost words = { λ t. T.words t.tape };
+
+    fn draw(&mut self, alloc: Global, ticket: u64, count: usize) -> Result<Vec<u64>, AllocError> {
+        if self.commands == 0 {
+            self.grow(alloc)?;
+        }
+        self.commands -= 1;
+        self.tape.draw(alloc, ticket, count)
+    }
+}

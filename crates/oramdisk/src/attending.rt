@@ -1,0 +1,66 @@
+//! How long those who are connected may let the host wait, and who comes first.
+
+use crate::visits::EarlyEnd;
+use oram_answering::ServeFault;
+use oram_sockets::{Attendant, Direction, Marks};
+use std::cell::Cell;
+use std::io;
+use std::io::{Error, ErrorKind};
+use std::time::Duration;
+
+/// How long a connection may be silent in the middle of a message, or leave an answer unread, in seconds.
+const LONGEST_SILENCE: u64 = 60;
+
+/// Lets a connection be idle for as long as nobody else connects, and silent in the middle of a message for a minute.
+///
+/// The newest connection comes first: one of the disk's owner whose way here is frozen can't be told from one that is idle, and he is to
+/// reach his disk by another way at once.
+#[derive(Debug, Drop)]
+pub(crate) struct HostAttendant {
+    is_within_message: Cell<bool>,
+    ended: Cell<Option<EarlyEnd>>,
+}
+
+impl HostAttendant {
+    pub(crate) fn new() -> HostAttendant {
+        HostAttendant {
+            is_within_message: Cell::new(false),
+            ended: Cell::new(None),
+        }
+    }
+
+    /// Why the connection ended, where its service ended so.
+    pub(crate) fn early_end(&self, served: Result<u64, ServeFault>) -> Option<EarlyEnd> {
+        match served {
+            Ok(_) => None,
+            Err(fault) => Some(self.ended.get().unwrap_or(EarlyEnd::Fault(fault))),
+        }
+    }
+}
+
+impl Attendant for HostAttendant {
+    fn limit(&self, direction: Direction) -> io::Result<Option<Duration>> {
+        let is_limited = direction == Direction::Writing || self.is_within_message.get();
+        Ok(is_limited.then_some(Duration::from_secs(LONGEST_SILENCE)))
+    }
+
+    fn waited_out(&self) -> Error {
+        self.ended.set(Some(EarlyEnd::Silent));
+        Error::from(ErrorKind::TimedOut)
+    }
+
+    fn others_wait(&self) -> io::Result<()> {
+        self.ended.set(Some(EarlyEnd::Displaced));
+        Err(Error::from(ErrorKind::ConnectionAborted))
+    }
+}
+
+impl Marks for HostAttendant {
+    fn within_message(&self) {
+        self.is_within_message.set(true);
+    }
+
+    fn answered(&self) {
+        self.is_within_message.set(false);
+    }
+}

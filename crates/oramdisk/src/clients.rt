@@ -1,0 +1,111 @@
+//! One client of NBD at a time has the disk, and doesn't keep it from the next by silence.
+
+use crate::hosting::time;
+use oram_nbd::HandshakeWatch;
+use oram_sockets::{Attendant, Direction};
+use std::cell::Cell;
+use std::io::{Error, ErrorKind};
+use std::net::{OpenListener, SocketAddr};
+use std::rt::Clock;
+use std::time::{Duration, Instant};
+use std::{fmt, io};
+
+/// How long a client may take for its handshake, in seconds.
+const LONGEST_HANDSHAKE: u64 = 10;
+
+/// How long a client may leave a reply unread, in seconds.
+const LONGEST_UNREAD: u64 = 60;
+
+/// Why a client was let go.
+#[derive(Clone, Copy, Debug, PartialEq, Eq)]
+pub(crate) enum Parting {
+    NoHandshake,
+    Unread,
+}
+
+impl fmt::Display for Parting {
+    fn fmt<W: fmt::Write>(&self, f: &mut fmt::Formatter<W>) -> fmt::Result {
+        f.write_str(match self {
+            Parting::NoHandshake => "it made no handshake within ten seconds",
+            Parting::Unread => "it left a reply unread for a minute",
+        })
+    }
+}
+
+/// Attends to a client: it has ten seconds for its handshake, and is then idle for as long as it likes. Other clients are turned away
+/// meanwhile, at once and with a line on standard error.
+#[derive(Drop)]
+pub(crate) struct ClientAttendant<'r, 'l, R, L> {
+    rt: &'r R,
+    listener: &'l L,
+    handshake_until: Cell<Option<Instant>>,
+    parting: Cell<Option<Parting>>,
+}
+
+impl<'r, 'l, R: Clock, L> ClientAttendant<'r, 'l, R, L> {
+    /// For a client that has just connected. It takes no memory.
+    pub(crate) fn new(rt: &'r R, listener: &'l L) -> io::Result<ClientAttendant<'r, 'l, R, L>> {
+        let until = Instant::now(rt)?.checked_add(Duration::from_secs(LONGEST_HANDSHAKE));
+        Ok(ClientAttendant {
+            rt,
+            listener,
+            handshake_until: Cell::new(until),
+            parting: Cell::new(None),
+        })
+    }
+
+    /// Why the client was let go, if it was.
+    pub(crate) fn parting(&self) -> Option<Parting> {
+        self.parting.get()
+    }
+}
+
+impl<'r, 'l, R: Clock + Eprint + AllocGlobal, L> ClientAttendant<'r, 'l, R, L> {
+    /// Tells of a client that is turned away.
+    fn tell(&self, peer: &SocketAddr) -> io::Result<()> {
+        let at = time(self.rt)?;
+        let line = format!(in self.rt.alloc();
+            "oramdisk: {peer} at {at}, turned away: the disk has a client\n"
+        )?;
+        self.rt.eprint(line.as_str())
+    }
+}
+
+impl<'r, 'l, R: Clock + Eprint + AllocGlobal, L: OpenListener> Attendant
+    for ClientAttendant<'r, 'l, R, L> {
+    fn limit(&self, direction: Direction) -> io::Result<Option<Duration>> {
+        match (self.handshake_until.get(), direction) {
+            (Some(until), _) => {
+                Ok(Some(until.saturating_duration_since(Instant::now(self.rt)?)))
+            }
+            (None, Direction::Reading) => Ok(None),
+            (None, Direction::Writing) => Ok(Some(Duration::from_secs(LONGEST_UNREAD))),
+        }
+    }
+
+    fn waited_out(&self) -> Error {
+        let parting = match self.handshake_until.get() {
+            Some(_) => Parting::NoHandshake,
+            None => Parting::Unread,
+        };
+        self.parting.set(Some(parting));
+        Error::from(ErrorKind::TimedOut)
+    }
+
+    // The listener doesn't block meanwhile.
+    fn others_wait(&self) -> io::Result<()> {
+        for _ in 0..u64::MAX {
+            let Ok((_closed, peer)) = self.listener.accept() else {
+                return Ok(());
+            };
+            let _passed_over = self.tell(&peer);
+        }
+        Ok(())
+    }
+}
+
+impl<'r, 'l, R, L> HandshakeWatch for ClientAttendant<'r, 'l, R, L> {
+    fn agreed(&self) {
+        self.handshake_until.set(None);
+    }
+}
