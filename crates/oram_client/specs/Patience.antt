@@ -65,7 +65,7 @@ module _ {D L : Type 0} (opens : D → Limits → L → D → Type 0) (fails : D
   abbrev pub HasLine : D → Option L → Limits → L → D → Type 0
   HasLine dialer line limits way dialer' = MatchOption line (opens dialer limits way dialer') (λ held. (way ≡ held) × (dialer' ≡ dialer))
 
-  -- No way is to be had, and nothing is sent.
+  -- The dialer opens no way to the host, so nothing is sent.
   pub record IsUnopened (dialer : D) (line : Option L) (limits : Limits) (came : Attempt) (dialer' : D) (line' : Option L) : Type 0 where
     pub none : line ≡ None
     pub why : Trouble

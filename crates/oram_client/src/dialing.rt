@@ -94,7 +94,7 @@ pub trait Dial {
     /// What a pause of so many milliseconds leaves.
     ghost pauses: { Self → ℕ → Self → Type 0 };
 
-    /// From the first value the clock may read so many milliseconds, or not be read, and leave the second.
+    /// Reading the clock turns the first value into the second, and may give this number of milliseconds, or none where it fails.
     ghost reads: { Self → Option ℕ → Self → Type 0 };
 
     /// Tries to open a way, once.

@@ -2,8 +2,8 @@
 //!
 //! [`put_kept_file`] and [`read_kept_file`] are for the file that is kept of a disk: a [`Head`] and the core's state. [`keys_for`] gives
 //! the keys of the disk of a head, where the key that is given is the one that the disk was formatted with.
-//! A [`FileKeeper`] keeps a core's state in such a file, in a [`FilePlace`], by steps ([`put_file`]) of which none leaves the file in
-//! part; [`kept_bytes`] reads it back, wherever the process ended.
+//! A [`FileKeeper`] keeps a core's state in such a file, in a [`FilePlace`]. It does so by steps ([`put_file`]), and wherever the process
+//! ends among them, the file is found whole; [`kept_bytes`] reads it back.
 //! A [`PatientLink`] tries until the host answers, for as long as its patience lasts; a [`TcpDialer`] opens its ways, and only to a host that
 //! keeps the disk.
 //! [`format_ahead`] formats a disk over an [`Ahead`], a connection on which messages go ahead of their answers.

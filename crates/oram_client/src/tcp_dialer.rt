@@ -79,8 +79,8 @@ fn judge(answer: &[u8], identity: &[u8; 32]) -> Result<(), Trouble>
     }
 }
 
-/// Asks the host over a new connection for the identity of its disk, which it has to give within so many milliseconds. The connection is a way to
-/// the host if that is this one.
+/// Asks the host over a new connection for the identity of its disk. The host has `limit` milliseconds to answer. If it answers with `identity`,
+/// the connection is a way to the disk's host.
 fn greet<S: Read + Write, C: Clock + Copy>(
     alloc: Global,
     reader: S,

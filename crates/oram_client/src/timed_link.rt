@@ -87,7 +87,7 @@ impl<S, C> Model for TimedLink<S, C> {
 }
 
 impl<S, C: Copy> TimedLink<S, C> {
-    /// A link over these halves, whose calls may take so many milliseconds.
+    /// A link over the two halves of a connection. Each call may take `limit` milliseconds, and fails after that.
     pub fn new(
         alloc: Global,
         reader: S,

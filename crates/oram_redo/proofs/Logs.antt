@@ -90,7 +90,7 @@ entry_one bounds p q at log fp fq hp hq =
     let bytes : p.1 ≡ q.1 = has_one p.1 q.1 (at + 13) log parts.1 (entry_bytes p at log hp) (entry_bytes q at log hq) in
     (λ i. (parts.0 i, bytes i))
 
--- an entry of which the head was read, and then the bytes
+-- an entry, read in two steps: its head, and then its bytes
 pub entry_read : (place len at : ℕ) (head bytes : List ℕ) (log : Content) → head ≡ bytes_at 13 at log → head ≡ 1 ∷ place_and_length place len → bytes ≡ bytes_at len (at + 13) log
     → (length bytes ≡ len) × Has (entry (place, bytes)) at log
 entry_read place len at head bytes log head_is spelled bytes_are =
