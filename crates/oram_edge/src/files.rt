@@ -94,9 +94,22 @@ impl KeptFile {
 
     /// That there is such a file is the fault of this name.
     pub fn check_absent<R: Files + AllocGlobal>(&self, rt: &R) -> Result<(), FileFault> {
+        self.check_presence(rt, false)
+    }
+
+    /// That there is no such file is the fault of this name.
+    pub fn check_present<R: Files + AllocGlobal>(&self, rt: &R) -> Result<(), FileFault> {
+        self.check_presence(rt, true)
+    }
+
+    fn check_presence<R: Files + AllocGlobal>(
+        &self,
+        rt: &R,
+        wanted: bool,
+    ) -> Result<(), FileFault> {
         match fs::exists(rt, self.name.as_str()) {
-            Ok(false) => Ok(()),
-            Ok(true) => Err(file_fault(rt.alloc(), self.name.as_str())),
+            Ok(found) if found == wanted => Ok(()),
+            Ok(_) => Err(file_fault(rt.alloc(), self.name.as_str())),
             Err(error) => Err(self.fault(rt.alloc(), &error)),
         }
     }

@@ -3,12 +3,14 @@
 //!
 //! [`read_named`] reads a command line of subcommands with a word each. [`table_of`] reads a TOML document, and the functions named
 //! for what stands at a key, as [`address_at`], read its table. [`put`] and those named after it write texts, or tell that a
-//! beginning of them was written. A [`KeptFile`] is written as a whole. [`listen`], [`connect`], [`connect_within`] and
+//! beginning of them was written. A [`KeptFile`] is written as a whole, and [`lock_state`]
+//! keeps other processes from what it holds. [`listen`], [`connect`], [`connect_within`] and
 //! [`buffered`] are for sockets.
 #![tactic(auto)]
 
 mod files;
 mod input;
+mod locks;
 mod sockets;
 mod tables;
 mod words;
@@ -16,6 +18,7 @@ mod writing;
 
 pub use files::{FileFault, KeptFile, bytes_in, call_fault};
 pub use input::InputFault;
+pub use locks::{LockFault, StateLock, lock_state};
 pub use sockets::{SocketFault, buffered, connect, connect_within, listen};
 pub use tables::{address_at, count_at, has_only, key_at, name_at, number_at, sealer_in, table_of};
 pub use words::{arguments, read_named, texts_of, word_taker};

@@ -6,7 +6,7 @@ ghost use Rattle.oram_host.specs.Transfers.{Begins};
 ghost use Rattle.oramd.specs.Faults.{IsFileFault, line_of, message_of, status_of};
 ghost use Rattle.oramd.specs.declared.faults.Fault.TheVariants.{OutOfMemory};
 
-use oram_edge::{FileFault, SocketFault, put, put_both, put_number};
+use oram_edge::{FileFault, LockFault, SocketFault, put, put_both, put_number};
 use oram_geometry::ShapeFault;
 use oram_state::StateFault;
 use oram_tree::FormatFault;
@@ -122,6 +122,16 @@ pub(crate) fn file_fault(alloc: Global, name: &str) -> Fault
     match String::from_str(alloc, name) {
         Ok(name) => Fault::File(name),
         Err(_) => Fault::OutOfMemory,
+    }
+}
+
+/// Why a process doesn't get the state in the file of this name for itself.
+pub(crate) fn lock_fault(alloc: Global, name: &str, why: &LockFault) -> Fault
+    ensures { IsFileFault name.now result }
+{
+    match why {
+        LockFault::InUse | LockFault::File(FileFault::File(_)) => file_fault(alloc, name),
+        LockFault::File(FileFault::OutOfMemory) => Fault::OutOfMemory,
     }
 }
 

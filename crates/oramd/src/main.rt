@@ -21,9 +21,8 @@ pub use looping::{answer_frames, bytes_of};
 pub use oram_edge::InputFault;
 use oram_edge::{arguments, texts_of};
 pub use settings_file::{Settings, read_settings};
-use std::net::Net;
 use std::process::ExitCode;
-use std::rt::{Env, Files};
+use std::rt::Env;
 
 /// What the words of the command line ask for.
 fn asked<R: Env + AllocGlobal>(rt: &R) -> Result<Words, InputFault> {
@@ -33,7 +32,7 @@ fn asked<R: Env + AllocGlobal>(rt: &R) -> Result<Words, InputFault> {
 }
 
 /// Does what the words of the command line ask for.
-fn run<R: Env + Files + Net + Print + AllocGlobal>(rt: &R) -> Result<(), Fault> {
+fn run(rt: &HostRuntime) -> Result<(), Fault> {
     match asked(rt) {
         Ok(Words::Run(role, name)) => roles::run(rt, role, name.as_str()),
         Ok(Words::Loop(digits)) => roles::loop_frames(rt, digits.as_str()),

@@ -4,7 +4,7 @@ ghost use Rattle.oram_core.specs.Core.{IsSameDevice};
 
 use crate::command_line::Role;
 use crate::endings::{after_serving, ending};
-use crate::faults::Fault;
+use crate::faults::{Fault, lock_fault};
 use crate::files::{load_image, save_image};
 use crate::formatting::{format_state, made_device};
 use crate::loading::load_core;
@@ -14,7 +14,8 @@ use crate::settings_file::{Settings, read_settings};
 use oram_bucket::{ChaChaSeal, PlainSeal, Sealer};
 use oram_core::Core;
 use oram_edge::{
-    InputFault, KeptFile, SocketFault, buffered, bytes_in, call_fault, connect, listen,
+    InputFault, KeptFile, SocketFault, StateLock, buffered, bytes_in, call_fault, connect, listen,
+    lock_state,
 };
 use oram_geometry::Device;
 use oram_host::Server;
@@ -134,12 +135,16 @@ struct Serving {
     tape_key: [u8; 32],
 }
 
+/// Takes the lock of the state in the file of this name, so that no other proxy goes on from that state too.
+fn take_lock(rt: &HostRuntime, state: &str) -> Result<StateLock, Fault> {
+    match lock_state(rt, state) {
+        Ok(lock) => Ok(lock),
+        Err(why) => Err(lock_fault(rt.alloc(), state, &why)),
+    }
+}
+
 /// Answers the sessions of a device. Its state is saved however that ends.
-fn proxy<R: Files + Net + AllocGlobal, S: Sealer>(
-    rt: &R,
-    serving: Serving,
-    sealer: S,
-) -> Result<(), Fault> {
+fn proxy<S: Sealer>(rt: &HostRuntime, serving: Serving, sealer: S) -> Result<(), Fault> {
     let Serving {
         address,
         connections,
@@ -148,6 +153,8 @@ fn proxy<R: Files + Net + AllocGlobal, S: Sealer>(
         tape_key,
     } = serving;
     let file = KeptFile::new(rt.alloc(), state)?;
+    file.check_present(rt)?;
+    let _lock = take_lock(rt, file.name())?;
     let bytes = bytes_in(rt, file.name())?;
     let mut core = load_core(rt.alloc(), sealer, &bytes)?;
     let trees = core.device().trees();
@@ -175,11 +182,7 @@ fn proxy<R: Files + Net + AllocGlobal, S: Sealer>(
 }
 
 /// The same, sealed under a key, if there is one.
-fn proxy_under<R: Files + Net + AllocGlobal>(
-    rt: &R,
-    serving: Serving,
-    key: Option<[u8; 32]>,
-) -> Result<(), Fault> {
+fn proxy_under(rt: &HostRuntime, serving: Serving, key: Option<[u8; 32]>) -> Result<(), Fault> {
     match key {
         None => proxy(rt, serving, PlainSeal),
         Some(key) => proxy(rt, serving, ChaChaSeal { key }),
@@ -200,11 +203,7 @@ fn settings_in<R: Files + AllocGlobal>(rt: &R, role: Role, name: &str) -> Result
 }
 
 /// Does what a role does, with the settings in the file of this name.
-pub(crate) fn run<R: Files + Net + AllocGlobal>(
-    rt: &R,
-    role: Role,
-    name: &str,
-) -> Result<(), Fault> {
+pub(crate) fn run(rt: &HostRuntime, role: Role, name: &str) -> Result<(), Fault> {
     match settings_in(rt, role, name)? {
         Settings::Host {
             listen,
