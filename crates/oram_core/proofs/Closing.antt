@@ -1,5 +1,5 @@
 -- What a method owes at its end: the fields as it leaves them are sound, and what it has done is what it was to do.
-use Rattle.std.proofs.Common.{◌≡◌, ℕ, ◌+◌, ◌-◌, ◌*◌, ◌%◌, ◌^◌, ◌<◌, ◌≤◌, ◌==◌, ◌&&◌, ◌||◌, not, nat_lt, Bool, true, false, inl, inr, if◌then◌else◌, List, [], ◌∷◌, length, drop, slice_set, refl, ap, sym, ◌∙◌, subst, arith}
+use Rattle.std.proofs.Common.{◌≡◌, ℕ, ◌+◌, ◌-◌, ◌*◌, ◌%◌, ◌^◌, ◌<◌, ◌≤◌, ◌==◌, ◌&&◌, ◌||◌, not, nat_lt, Bool, true, false, inl, inr, if◌then◌else◌, List, [], ◌∷◌, ◌++◌, length, drop, Result, IfOk, slice_set, refl, ap, sym, ◌∙◌, subst, arith}
 use Rattle.std.proofs.lemmas.Bool.{cases_eq}
 use Rattle.std.proofs.lemmas.Bool.Decides.{nat_tests}
 use Rattle.oram_geometry.specs.declared.Sizes.{Sizes}
@@ -13,11 +13,13 @@ use Rattle.oram_run.specs.Blocks.{next_named, kept_of, body_from}
 use Rattle.oram_run.specs.Shape.{Shape}
 use Rattle.oram_run.specs.Progress.Status.{Waiting}
 use Rattle.oram_run.specs.State.{State, status_in, named_now}
-use Rattle.oram_run.specs.declared.events.Note.TheVariants.{Taken}
+use Rattle.oram_run.specs.declared.events.Note.TheVariants.{Accepted, Taken}
+use Rattle.oram_run.specs.declared.events.Reaction.{Reaction}
 use Rattle.oram_run.specs.declared.events.Reply.{Reply}
 use Rattle.oram_run.specs.declared.events.Submission.{Submission}
 use Rattle.oram_core.specs.Core.{IsSound, IsPathStore}
-use Rattle.oram_core.specs.Doing.{Done, fetch_of, first_message, first_messages, fetched_by, finished_by, stored_by, is_misled}
+use Rattle.oram_core.specs.Doing.{Done, done, accepted_by, sent_if_idle, fetch_of, first_message, first_messages, fetched_by, finished_by, stored_by, is_misled}
+use Rattle.oram_core.proofs.Heard.{if_ok}
 use Rattle.oram_core.proofs.Small.{named_none}
 use Rattle.oram_core.proofs.Sound.{HasOldest, has_oldest, stage_within, fetched_as, finished_as, stored_as}
 
@@ -155,3 +157,31 @@ led_right v s x found before tree named right t m =
       | inr some ↦ let positive : nat_lt 0 i ≡ true = grind (arith, nat_tests) in let small : nat_lt (2 ^ depth_of v.device (i - 1)) n ≡ false = not_both (nat_lt 0 i) _ positive low in grind (arith, nat_tests)
     ] in
     subst (λ (z : ℕ). z ≤ 2 ^ depth_of v.device (tree - 1)) (sym (m ∙ ap (λ j. next_named v.device j x before) t)) (subst (λ (j : ℕ). n ≤ 2 ^ depth_of v.device (j - 1)) (sym t) fits)
+
+first_sent : (queue : List Submission) (m : List ℕ) → length queue ≡ 0 → sent_if_idle queue m ≡ m ∷ []
+first_sent [] m none = refl
+first_sent (x ∷ rest) m none = absurd (omega arith)
+
+none_sent : (queue : List Submission) (m : List ℕ) → 0 < length queue → sent_if_idle queue m ≡ []
+none_sent [] m some = absurd (omega arith)
+none_sent (x ∷ rest) m some = refl
+
+-- what is done of a command that joins the queue, by what is sent
+abbrev joined : State → Submission → List (List ℕ) → Done
+joined s x sends = record { note = Accepted x.ticket; replies = []; sends = sends; state = record s { next = s.next + 1; queue = s.queue ++ x ∷ []; last = latest sends s.last } }
+
+-- an idle core fetches the first path of a command,
+pub begun_so : {E : Type 0} (v : Shape) (s t : State) (x y : Submission) (r : Result Reaction E) → length s.queue ≡ 0 → y ≡ x → y.ticket ≡ s.next →
+    IfOk r (λ a. done a t ≡ (let m = first_message v.device s y in record { note = Accepted s.next; replies = []; sends = m ∷ []; state = record s { next = s.next + 1; queue = s.queue ++ y ∷ []; last = m } })) → IfOk r (λ a. done a t ≡ accepted_by v s x)
+begun_so v s t x y r none same ticket h =
+    let m : List ℕ = first_message v.device s y in
+    let numbered = ap (λ (n : ℕ). let d : Done = record { note = Accepted n; replies = []; sends = m ∷ []; state = record s { next = s.next + 1; queue = s.queue ++ y ∷ []; last = m } } in d) (sym ticket) in
+    if_ok _ _ r (λ a e. e ∙ numbered ∙ ap (joined s y) (sym (first_sent s.queue m none)) ∙ ap (accepted_by v s) same) h
+
+-- and in one that isn't the command waits
+pub enqueued_so : {E : Type 0} (v : Shape) (s t : State) (x y : Submission) (r : Result Reaction E) → 0 < length s.queue → y ≡ x → y.ticket ≡ s.next →
+    IfOk r (λ a. done a t ≡ record { note = Accepted s.next; replies = []; sends = []; state = record s { next = s.next + 1; queue = s.queue ++ y ∷ [] } }) → IfOk r (λ a. done a t ≡ accepted_by v s x)
+enqueued_so v s t x y r some same ticket h =
+    let m : List ℕ = first_message v.device s y in
+    let numbered = ap (λ (n : ℕ). let d : Done = record { note = Accepted n; replies = []; sends = []; state = record s { next = s.next + 1; queue = s.queue ++ y ∷ [] } } in d) (sym ticket) in
+    if_ok _ _ r (λ a e. e ∙ numbered ∙ ap (joined s y) (sym (none_sent s.queue m some)) ∙ ap (accepted_by v s) same) h

@@ -1,5 +1,6 @@
 -- What becomes of an answer that is waited for, whoever gives it.
-use Rattle.std.proofs.Common.{◌∙◌, ◌≡◌, ℕ, ◌+◌, ◌*◌, ◌%◌, ◌<◌, Bool, true, false, if◌then◌else◌, List, ◌∷◌, map, Result, Ok, Err, IfOk, refl, ap, sym, subst, arith, inl, inr}
+use Rattle.std.proofs.Common.{◌∙◌, ◌≡◌, ℕ, ◌+◌, ◌*◌, ◌%◌, ◌<◌, Bool, true, false, if◌then◌else◌, List, ◌∷◌, map, Result, Ok, Err, IfOk, IsOk, OnErr, refl, ap, sym, subst, arith, inl, inr}
+use Rattle.std.specs.Result.{IsErr}
 use Rattle.oram_geometry.specs.Sizes.{trees_of}
 use Rattle.oram_tree.specs.State.{State as Tree}
 use Rattle.oram_run.specs.Events.{failed_reply}
@@ -18,6 +19,16 @@ use Rattle.oram_core.proofs.Sound.{HasOldest, has_oldest}
 pub if_ok : {A E : Type 0} (P Q : A → Type 0) (r : Result A E) → ((a : A) → P a → Q a) → IfOk r P → IfOk r Q
 if_ok P Q (Ok a) f h = f a h
 if_ok P Q (Err e) f h = h
+
+-- what holds anyway holds at an Err
+pub on_err : {A E : Type 0} (P : Type 0) (r : Result A E) → P → OnErr r P
+on_err P (Ok a) h = tt
+on_err P (Err e) h = h
+
+-- and an Err is no Ok
+pub no_ok : {A E : Type 0} (P : Type 0) (r : Result A E) → IsErr r → IsOk r → P
+no_ok P (Ok a) err ok = absurd (let no_way : false ≡ true = err in cc)
+no_ok P (Err e) err ok = absurd (let no_way : false ≡ true = ok in cc)
 
 finished_heard : (v : Shape) (s : State) (o : HasOldest v.device s) → s.stage + 1 ≡ 2 * trees_of v.device → Heard v s (finished_by v s o.oldest o.rest)
 finished_heard v s o end = inr (inr (record { oldest = o.oldest; rest = o.rest; queue = o.queue; does = refl; long = o.work.before end }))

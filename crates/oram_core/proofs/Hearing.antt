@@ -154,6 +154,15 @@ lends overhead sealing opening inside now t i tree same sound waiting from of re
     let at : IsTreeAt v now.state t = tree_at v now.state t i tree here waiting from of (subst (λ (u : CoreValue _). t ≡ slice_index_or u.state.trees i t) same read) in
     record { sound = here; at = at; number = at.number ∙ sym of }
 
+-- The tree at work is one of them.
+pub lent_within : {S : Type 0} (overhead : S → ℕ) (inside now : CoreValue S) (i tree count : ℕ) → inside ≡ now → IsSound inside.device (overhead inside.sealer) inside.state → status_in now.state ≡ Waiting → i ≡ tree → tree < trees_of now.device →
+    count ≡ length inside.state.trees → i < count
+lent_within overhead inside now i tree count same sound waiting from within all =
+    let here : IsSound now.device (overhead now.sealer) now.state = subst (λ (u : CoreValue _). IsSound u.device (overhead u.sealer) u.state) same sound in
+    let whole : length now.state.trees ≡ trees_of now.device = (healthy_of now.device (overhead now.sealer) now.state here (waits now.state waiting).healthy).count in
+    let kept : length inside.state.trees ≡ length now.state.trees = ap (λ (u : CoreValue _). length u.state.trees) same in
+    omega (arith, whole, kept, all, from, within)
+
 -- It is sound again with another tree in the place of that one.
 pub gives_back : {S : Type 0} (overhead : S → ℕ) (inside now : CoreValue S) (t new : Tree) (i tree : ℕ) → inside ≡ now → IsSound inside.device (overhead inside.sealer) inside.state → status_in now.state ≡ Waiting →
     i ≡ tree → tree < trees_of now.device → t.number ≡ tree → new.number ≡ t.number → All (IsBlockOf inside.device t.number) new.stash →

@@ -10,5 +10,6 @@ pub mod Again
 pub mod Closing
 pub mod Fits
 pub mod Heard
+pub mod Lengths
 pub mod Made
 pub mod Running

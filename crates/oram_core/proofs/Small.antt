@@ -1,5 +1,5 @@
 -- Small facts of a step.
-use Rattle.std.proofs.Common.{◌≡◌, Bool, true, false, not, nat_le, if◌then◌else◌, Some, None, length, ◌==◌, ℕ, zero, suc, ◌+◌, ◌-◌, ◌*◌, ◌%◌, ◌^◌, ◌<◌, List, replicate, slice_range, refl, ap, sym, ◌∙◌, arith}
+use Rattle.std.proofs.Common.{◌≡◌, Bool, true, false, not, nat_le, if◌then◌else◌, Option, Some, None, length, ◌==◌, ℕ, zero, suc, ◌+◌, ◌-◌, ◌*◌, ◌%◌, ◌^◌, ◌<◌, List, replicate, slice_range, refl, ap, sym, ◌∙◌, arith}
 use Rattle.std.proofs.lemmas.Bool.Decides.{nat_tests}
 use Rattle.std.specs.Int.{w32, from_be_bytes}
 use Rattle.oram_geometry.specs.declared.Sizes.{Sizes}
@@ -10,11 +10,13 @@ use Rattle.oram_run.specs.Content.{block_of, new_leaf}
 use Rattle.oram_run.specs.Blocks.{entry_in, next_named, block_after, left_by}
 use Rattle.oram_run.specs.Events.{address_of}
 use Rattle.oram_run.specs.Messages.{asked, message_place}
-use Rattle.oram_run.specs.Run.{refusal_of, has_bad_length}
+use Rattle.oram_run.specs.Run.{refusal_of, has_bad_length, is_over}
+use Rattle.oram_run.specs.State.{State, status_by, status_in}
 use Rattle.oram_run.proofs.Bounds.{depth_small}
 use Rattle.oram_run.proofs.Maps.{block_after-zero, block_after-suc}
 use Rattle.oram_run.specs.declared.events.Command.{Command}
 use Rattle.oram_run.specs.declared.events.Command.TheVariants.{Read, Write, Discard}
+use Rattle.oram_run.specs.declared.events.Reason.{Reason}
 use Rattle.oram_run.specs.declared.events.Refusal.TheVariants as refusal
 use Rattle.oram_run.specs.declared.events.Submission.{Submission}
 use Rattle.oram_geometry.proofs.Measuring.{blocks_in-zero}
@@ -67,6 +69,23 @@ fine d false waiting taken c words free =
 
 pub fine_allowed : (d : Sizes) (waiting taken session ticket : ℕ) (c : Command) (words : List ℕ) → IsFine d waiting taken c words → IsAllowed d (record { session = session; ticket = ticket; command = c; words = words })
 fine_allowed d waiting taken session ticket c words f = record { address = f.address; words = f.words_count; data_length = f.bytes }
+
+-- a core whose state refuses nothing allows a command,
+pub granted : (d : Sizes) (s : State) (c : Command) (words : List ℕ) → refusal_of d (is_over (status_in s)) (length s.queue) s.next c words ≡ None → IsFine d (length s.queue) s.next c words
+granted d s c words free = (fine d (is_over (status_in s)) (length s.queue) s.next c words free).1
+
+not_over : (failure : Option Reason) (queue : List Submission) (lost : Bool) → is_over (status_by failure queue lost) ≡ false → failure ≡ None
+not_over None queue lost h = refl
+not_over (Some e) queue lost h = absurd (let no_way : true ≡ false = h in cc)
+
+-- and has not failed
+pub unfailed : (d : Sizes) (s : State) (c : Command) (words : List ℕ) → refusal_of d (is_over (status_in s)) (length s.queue) s.next c words ≡ None → s.failure ≡ None
+unfailed d s c words free = not_over s.failure s.queue s.lost (fine d (is_over (status_in s)) (length s.queue) s.next c words free).0
+
+-- a copied command is the same
+pub copied : (session n m : ℕ) (c d : Command) (w u x : List ℕ) → n ≡ m → d ≡ c → u ≡ w → w ≡ x →
+    (let y : Submission = record { session = session; ticket = n; command = d; words = u } in let z : Submission = record { session = session; ticket = m; command = c; words = x } in y ≡ z)
+copied session n m c d w u x ticket command words whole = cc
 
 -- a read leaves its block,
 pub block_read : (d : Sizes) (i : ℕ) (x : Submission) (a : ℕ) (bytes : List ℕ) → i ≡ 0 → x.command ≡ Read a → bytes ≡ block_after d i x bytes

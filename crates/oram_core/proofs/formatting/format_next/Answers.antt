@@ -9,6 +9,7 @@ use Rattle.oram_run.specs.Nonces.{formatted_below}
 use Rattle.oram_run.proofs.NoncesApart.{formatted_small, node_count-small}
 use Rattle.oram_run.proofs.Bounds.{depth_small}
 use Rattle.oram_core.proofs.Made.{below_next, whole_begun}
+use Rattle.std.proofs.lemmas.Result.{IfOk-from_err}
 use Rattle.oram_core.proofs.formatting.format_next.Goals as goal
 
 pub format-requires-clause-nonces : goal.format-requires-clause-nonces
@@ -62,3 +63,9 @@ returns-clause-made g c =
       empty = c.in_ok-made.ensures.stash;
       joined = c.in_default.ensures.items;
     }
+
+pub returns-in_err-made-clause-nonce : goal.returns-in_err-made-clause-nonce
+returns-in_err-made-clause-nonce g c = IfOk-from_err c.from_residual.result _ c.from_residual.ensures.0
+
+pub returns-in_err-made-clause-made : goal.returns-in_err-made-clause-made
+returns-in_err-made-clause-made g c = IfOk-from_err c.from_residual.result _ c.from_residual.ensures.0

@@ -7,6 +7,7 @@ use Rattle.oram_core.specs.Formatting.{AreMade}
 use Rattle.oram_core.specs.Core.{shape_with}
 use Rattle.oram_tree.proofs.Puts.{if_err, broken_told}
 use Rattle.oram_core.proofs.Made.{below_none, none_made, next_made, broken_between, broken_within}
+use Rattle.std.proofs.lemmas.Result.{IfOk-from_err}
 use Rattle.oram_core.proofs.formatting.format_trees.Goals as goal
 
 pub returns-in_err-with_capacity-clause-broken_off : goal.returns-in_err-with_capacity-clause-broken_off
@@ -49,3 +50,15 @@ returns-clause-made g c =
     let all : c.loop-tree.tree ≡ trees_of c.args.device.now = omega (arith, c.trees-tree-end.ensures.count) in
     let M = λ (n : ℕ). AreMade v g.K.Sink.putting c.args.sink.now n c.loop-tree.so_far.trees.items c.loop-tree.sink in
     subst M all c.loop-tree.invariant.made
+
+pub returns-in_err-with_capacity-clause-nonce : goal.returns-in_err-with_capacity-clause-nonce
+returns-in_err-with_capacity-clause-nonce g c = IfOk-from_err c.from_residual.result _ c.from_residual.ensures.0
+
+pub returns-in_err-with_capacity-clause-made : goal.returns-in_err-with_capacity-clause-made
+returns-in_err-with_capacity-clause-made g c = IfOk-from_err c.from_residual.result _ c.from_residual.ensures.0
+
+pub returns-in_err-format_next-clause-nonce : goal.returns-in_err-format_next-clause-nonce
+returns-in_err-format_next-clause-nonce g c = IfOk-from_err c.from_residual-in_err-format_next.result _ c.from_residual-in_err-format_next.ensures.0
+
+pub returns-in_err-format_next-clause-made : goal.returns-in_err-format_next-clause-made
+returns-in_err-format_next-clause-made g c = IfOk-from_err c.from_residual-in_err-format_next.result _ c.from_residual-in_err-format_next.ensures.0

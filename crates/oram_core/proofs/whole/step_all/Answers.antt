@@ -5,6 +5,7 @@ use Rattle.oram_run.specs.Shape.{Shape}
 use Rattle.oram_run.specs.declared.events.Reaction.{Reaction}
 use Rattle.oram_core.specs.Core.{shape_of}
 use Rattle.oram_core.proofs.Running.{along_none, along_next, along_all, same_shape}
+use Rattle.std.proofs.lemmas.Result.{IfOk-from_err}
 use Rattle.oram_core.proofs.whole.step_all.Goals as goal
 
 pub loop-event-init : goal.loop-event-init
@@ -38,3 +39,9 @@ loop-event-preserved g c =
 
 pub returns-clause-along : goal.returns-clause-along
 returns-clause-along g c = along_all _ _ _ _ _ _ c.loop-event.invariant.along
+
+pub returns-in_err-reaction-clause-complete : goal.returns-in_err-reaction-clause-complete
+returns-in_err-reaction-clause-complete g c = IfOk-from_err c.from_residual.result _ c.from_residual.ensures.0
+
+pub returns-in_err-push-clause-complete : goal.returns-in_err-push-clause-complete
+returns-in_err-push-clause-complete g c = IfOk-from_err c.from_residual-in_err-push.result _ c.from_residual-in_err-push.ensures.0

@@ -1,6 +1,6 @@
 use Rattle.std.proofs.Common.{◌++◌, refl}
 use Rattle.std.proofs.KnownBytes.{Appends-kept, Appends-trans}
-use Rattle.std.proofs.lemmas.Result.{err_from_is_err_and}
+use Rattle.std.proofs.lemmas.Result.{err_from_is_err_and, IfOk-from_err}
 use Rattle.oram_nbd.proofs.Pieces.{begun_all, begun_second, if_err}
 use Rattle.oram_nbd.proofs.streams.send.Goals as goal
 
@@ -12,3 +12,9 @@ returns-in_err-write-2-clause-err g c =
 pub returns-then-is_err-clause-err : goal.returns-then-is_err-clause-err
 returns-then-is_err-clause-err g c =
     (refl, begun_all _ _ (c.args.head.now ++ c.args.rest.now) (Appends-kept _ _ _ _ (Appends-trans _ _ _ _ _ c.in_ok-write.ensures.ok c.in_ok-write-2.ensures.ok) c.flush.ensures.bytes))
+
+pub returns-in_err-write-clause-ok : goal.returns-in_err-write-clause-ok
+returns-in_err-write-clause-ok g c = IfOk-from_err c.from_residual.result _ c.from_residual.ensures.0
+
+pub returns-in_err-write-2-clause-ok : goal.returns-in_err-write-2-clause-ok
+returns-in_err-write-2-clause-ok g c = IfOk-from_err c.from_residual-in_err-write-2.result _ c.from_residual-in_err-write-2.ensures.0

@@ -1,11 +1,12 @@
-use Rattle.std.proofs.Common.{◌≡◌, ◌^◌, ◌<◌, IfOk, ap, sym, ◌∙◌, subst}
-use Rattle.oram_geometry.specs.Sizes.{depth_of}
+use Rattle.std.proofs.Common.{◌≡◌, ◌^◌, ◌<◌, IfOk, ap, sym, ◌∙◌, subst, ◌≤◌, length}
+use Rattle.oram_geometry.specs.Sizes.{depth_of, trees_of}
 use Rattle.oram_hash.specs.Path.{Path}
 use Rattle.oram_run.specs.Messages.{asked, message_place}
-use Rattle.oram_core.specs.Core.{CoreValue, shape_of}
+use Rattle.oram_core.specs.Core.{CoreValue, shape_of, IsSound}
 use Rattle.oram_core.proofs.Small.{asked_leaf}
 use Rattle.oram_core.proofs.Closing.{leaf_here}
-use Rattle.oram_core.proofs.Hearing.{lends, path_same, checked_as}
+use Rattle.oram_core.proofs.Hearing.{lends, path_same, checked_as, lent_within}
+use Rattle.oram_core.proofs.Sound.{has_oldest}
 use Rattle.oram_core.proofs.machine.Core.checked.Goals as goal
 
 pub check-requires-clause-leaf : goal.check-requires-clause-leaf
@@ -35,3 +36,24 @@ returns-clause-view g c =
     let device_is : c.self.inside.device ≡ now.device = ap (λ (u : CoreValue g.row.S.Denot). u.device) c.self.view_is in
     let overhead_is : c.overhead-overhead.result ≡ v.overhead = c.overhead-overhead.ensures ∙ ap (λ (u : CoreValue g.row.S.Denot). g.S.Sealer.overhead u.sealer) c.self.view_is in
     subst (λ (p : Path). IfOk c.check.result (λ q. q ≡ p)) (path_same v now.state c.index.result.now.number c.leaf_named-leaf.result c.overhead-overhead.result c.self.inside.device c.args.records.now device_is h.at.number leaf_is overhead_is) c.check.ensures.view
+
+pub leaf_named-leaf-requires : goal.leaf_named-leaf-requires
+leaf_named-leaf-requires g c =
+    let now = c.args.self.now in
+    let sound = subst (λ (u : CoreValue g.row.S.Denot). IsSound u.device (g.S.Sealer.overhead u.sealer) u.state) c.self.view_is c.self.invariant in
+    rw c.as_slice.ensures (subst (λ (u : CoreValue g.row.S.Denot). 6 ≤ length u.state.last) (sym c.self.view_is) (has_oldest now.device (g.S.Sealer.overhead now.sealer) now.state sound c.requires).work.header)
+
+pub check-requires-clause-overhead : goal.check-requires-clause-overhead
+check-requires-clause-overhead g c = rw c.overhead-overhead.ensures c.self.invariant.small
+
+pub returns-clause-sound : goal.returns-clause-sound
+returns-clause-sound g c = subst (λ (u : CoreValue g.row.S.Denot). IsSound u.device (g.S.Sealer.overhead u.sealer) u.state) c.self.view_is c.self.invariant
+
+pub index-requires : goal.index-requires
+index-requires g c = lent_within g.S.Sealer.overhead _ c.args.self.now c.from.result c.tree_at_work-tree.result _ c.self.view_is c.self.invariant c.requires c.from.ensures c.tree_at_work-tree.ensures.range c.self.inside.trees.ok.0
+
+pub check-requires-clause-number : goal.check-requires-clause-number
+check-requires-clause-number g c =
+    let now = c.args.self.now in
+    let h = lends g.S.Sealer.overhead g.S.Sealer.sealing g.S.Sealer.opening _ now c.index.result.now c.from.result c.tree_at_work-tree.result c.self.view_is c.self.invariant c.requires c.from.ensures c.tree_at_work-tree.ensures.value c.index.ensures in
+    subst (λ (u : CoreValue g.row.S.Denot). c.index.result.now.number < trees_of u.device) (sym c.self.view_is) (rw h.number c.tree_at_work-tree.ensures.range)

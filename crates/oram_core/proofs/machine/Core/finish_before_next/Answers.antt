@@ -1,4 +1,4 @@
-use Rattle.std.proofs.Common.{◌≡◌, ◌+◌, ◌*◌, ◌<◌, ◌∷◌, List, length, sym, subst}
+use Rattle.std.proofs.Common.{◌≡◌, ◌+◌, ◌*◌, ◌<◌, ◌∷◌, List, length, sym, subst, ap}
 use Rattle.oram_geometry.specs.Sizes.{trees_of}
 use Rattle.oram_run.specs.Progress.Status.{Waiting}
 use Rattle.oram_run.specs.State.{status_in}
@@ -6,6 +6,7 @@ use Rattle.oram_run.specs.declared.events.Submission.{Submission}
 use Rattle.oram_core.specs.Core.{CoreValue, shape_with}
 use Rattle.oram_core.specs.Doing.{first_message}
 use Rattle.oram_core.proofs.Closing.{pass_sound, passed_by}
+use Rattle.std.proofs.lemmas.Result.{IfOk-from_err}
 use Rattle.oram_core.proofs.machine.Core.finish_before_next.Goals as goal
 
 pub invariant_of-self-2 : goal.invariant_of-self-2
@@ -24,3 +25,12 @@ returns-clause-ok g c = λ x rest q.
     let next = subst (λ (v : CoreValue g.row.S.Denot). (x y : Submission) (rest : List Submission) → v.state.queue ≡ x ∷ y ∷ rest → c.args.sending.kept ≡ first_message v.device v.state y) same c.requires.next in
     let queue = subst (λ (v : CoreValue g.row.S.Denot). v.state.queue ≡ x ∷ rest) same q in
     rw (← c.self.view_is) (passed_by (shape_with g.S.Sealer.overhead g.S.Sealer.sealing g.S.Sealer.opening c.self.inside.device c.self.inside.sealer) _ x rest _ _ _ _ _ c.self.invariant queue more next (c.in_ok-replies.ensures.replies x rest queue) c.requires.sends c.in_ok-replies.ensures.queue c.in_ok-replies.ensures.ok)
+
+pub returns-in_err-replies-clause-kept : goal.returns-in_err-replies-clause-kept
+returns-in_err-replies-clause-kept g c = (ap (λ (u : CoreValue g.row.S.Denot). u.device) c.self.view_is, ap (λ (u : CoreValue g.row.S.Denot). u.sealer) c.self.view_is)
+
+pub returns-in_err-replies-clause-ok : goal.returns-in_err-replies-clause-ok
+returns-in_err-replies-clause-ok g c = λ x rest q. IfOk-from_err c.from_residual.result _ c.from_residual.ensures.0
+
+pub returns-clause-kept : goal.returns-clause-kept
+returns-clause-kept g c = (ap (λ (u : CoreValue g.row.S.Denot). u.device) c.self.view_is, ap (λ (u : CoreValue g.row.S.Denot). u.sealer) c.self.view_is)

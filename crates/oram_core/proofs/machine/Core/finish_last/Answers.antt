@@ -1,9 +1,10 @@
-use Rattle.std.proofs.Common.{◌≡◌, ◌+◌, ◌*◌, ◌∷◌, length, sym, subst, ◌∙◌}
+use Rattle.std.proofs.Common.{◌≡◌, ◌+◌, ◌*◌, ◌∷◌, length, sym, subst, ◌∙◌, ap}
 use Rattle.oram_geometry.specs.Sizes.{trees_of}
 use Rattle.oram_run.specs.Progress.Status.{Waiting}
 use Rattle.oram_run.specs.State.{status_in}
 use Rattle.oram_core.specs.Core.{CoreValue, shape_with}
 use Rattle.oram_core.proofs.Closing.{end_sound, ended_by}
+use Rattle.std.proofs.lemmas.Result.{IfOk-from_err}
 use Rattle.oram_core.proofs.machine.Core.finish_last.Goals as goal
 
 pub invariant_of-self-2 : goal.invariant_of-self-2
@@ -20,3 +21,12 @@ returns-clause-ok g c = λ x rest q.
     let alone = subst (λ (v : CoreValue g.row.S.Denot). length v.state.queue ≡ 1) same c.requires.alone in
     let queue = subst (λ (v : CoreValue g.row.S.Denot). v.state.queue ≡ x ∷ rest) same q in
     rw (← c.self.view_is) (ended_by (shape_with g.S.Sealer.overhead g.S.Sealer.sealing g.S.Sealer.opening c.self.inside.device c.self.inside.sealer) _ x rest _ _ _ _ _ c.self.invariant queue alone (c.in_ok-replies.ensures.replies x rest queue) c.new-2.ensures.items c.in_ok-replies.ensures.queue c.in_ok-replies.ensures.ok (c.from_vec.ensures ∙ c.new.ensures.items))
+
+pub returns-in_err-replies-clause-kept : goal.returns-in_err-replies-clause-kept
+returns-in_err-replies-clause-kept g c = (ap (λ (u : CoreValue g.row.S.Denot). u.device) c.self.view_is, ap (λ (u : CoreValue g.row.S.Denot). u.sealer) c.self.view_is)
+
+pub returns-in_err-replies-clause-ok : goal.returns-in_err-replies-clause-ok
+returns-in_err-replies-clause-ok g c = λ x rest q. IfOk-from_err c.from_residual.result _ c.from_residual.ensures.0
+
+pub returns-clause-kept : goal.returns-clause-kept
+returns-clause-kept g c = (ap (λ (u : CoreValue g.row.S.Denot). u.device) c.self.view_is, ap (λ (u : CoreValue g.row.S.Denot). u.sealer) c.self.view_is)

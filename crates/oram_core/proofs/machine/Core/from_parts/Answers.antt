@@ -1,4 +1,4 @@
-use Rattle.std.proofs.Common.{◌≡◌, ◌≤◌, ◌<◌, ◌*◌, ℕ, Err, refl, ap, sym, ◌∙◌, subst, arith}
+use Rattle.std.proofs.Common.{◌≡◌, ◌≤◌, ◌<◌, ◌*◌, ℕ, Err, refl, ap, sym, ◌∙◌, subst, arith, true, false}
 use mathlib.Core.Bool.{false≢true}
 use Rattle.oram_geometry.specs.Sizes.{IsDevice, trees_of}
 use Rattle.oram_geometry.proofs.Measuring.{trees_of-few}
@@ -8,6 +8,8 @@ use Rattle.oram_core.specs.Parts.{Parts, AreParts, state_of}
 use Rattle.oram_tree.specs.declared.faults.PartsFault.{PartsFault}
 use Rattle.oram_core.proofs.Fits.{parts_by, fits_of, told_err, trees_of_parts}
 use Rattle.oram_core.proofs.Sound.{stage_within}
+use Rattle.std.proofs.lemmas.Result.{IfOk-from_err}
+use Rattle.oram_core.proofs.Heard.{no_ok}
 use Rattle.oram_core.proofs.machine.Core.from_parts.Goals as goal
 
 pub returns-then-not-is_fitting-clause-content : goal.returns-then-not-is_fitting-clause-content
@@ -51,3 +53,39 @@ returns-clause-fits g c = λ whole.
     let trees = subst (λ (p : Parts). AreTrees p.device 0 p.trees) c.parts.view_is (c.in_ok-trees.ensures.fits refl) in
     let next : c.args.parts.tickets ≤ c.args.parts.device.lifetime = subst (λ (p : Parts). p.tickets ≤ p.device.lifetime) c.parts.view_is (omega (arith, c.if-parts-lifetime.false, c.lifetime.ensures.value)) in
     parts_by o c.args.parts ranges (g.met.S.Sealer.small c.args.sealer) next fits trees
+
+pub returns-in_err-trees-clause-device : goal.returns-in_err-trees-clause-device
+returns-in_err-trees-clause-device g c = IfOk-from_err c.from_residual.result _ c.from_residual.ensures.0
+
+pub returns-in_err-trees-clause-sealer : goal.returns-in_err-trees-clause-sealer
+returns-in_err-trees-clause-sealer g c = IfOk-from_err c.from_residual.result _ c.from_residual.ensures.0
+
+pub returns-in_err-trees-clause-state : goal.returns-in_err-trees-clause-state
+returns-in_err-trees-clause-state g c = IfOk-from_err c.from_residual.result _ c.from_residual.ensures.0
+
+pub returns-in_err-trees-clause-fits : goal.returns-in_err-trees-clause-fits
+returns-in_err-trees-clause-fits g c = no_ok _ c.from_residual.result c.from_residual.ensures.0
+
+pub returns-in_err-queue_of-clause-device : goal.returns-in_err-queue_of-clause-device
+returns-in_err-queue_of-clause-device g c = IfOk-from_err c.from_residual-in_err-queue_of.result _ c.from_residual-in_err-queue_of.ensures.0
+
+pub returns-in_err-queue_of-clause-sealer : goal.returns-in_err-queue_of-clause-sealer
+returns-in_err-queue_of-clause-sealer g c = IfOk-from_err c.from_residual-in_err-queue_of.result _ c.from_residual-in_err-queue_of.ensures.0
+
+pub returns-in_err-queue_of-clause-state : goal.returns-in_err-queue_of-clause-state
+returns-in_err-queue_of-clause-state g c = IfOk-from_err c.from_residual-in_err-queue_of.result _ c.from_residual-in_err-queue_of.ensures.0
+
+pub returns-in_err-queue_of-clause-fits : goal.returns-in_err-queue_of-clause-fits
+returns-in_err-queue_of-clause-fits g c = no_ok _ c.from_residual-in_err-queue_of.result c.from_residual-in_err-queue_of.ensures.0
+
+pub same-held_data : goal.same-held_data
+same-held_data g c = refl
+
+pub same-message : goal.same-message
+same-message g c = refl
+
+pub returns-then-parts-lifetime-clause-fits : goal.returns-then-parts-lifetime-clause-fits
+returns-then-parts-lifetime-clause-fits g c = λ ok. absurd (let no_way : false ≡ true = ok in cc)
+
+pub returns-then-not-is_fitting-clause-fits : goal.returns-then-not-is_fitting-clause-fits
+returns-then-not-is_fitting-clause-fits g c = λ ok. absurd (let no_way : false ≡ true = ok in cc)

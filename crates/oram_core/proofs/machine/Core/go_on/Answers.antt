@@ -1,4 +1,4 @@
-use Rattle.std.proofs.Common.{◌≡◌, ◌≢◌, ◌+◌, ◌*◌, ◌<◌, ap, sym, ◌∙◌, subst, arith}
+use Rattle.std.proofs.Common.{◌≡◌, ◌≢◌, ◌+◌, ◌*◌, ◌<◌, ap, sym, ◌∙◌, subst, arith, refl}
 use Rattle.oram_geometry.specs.Sizes.{trees_of}
 use Rattle.oram_core.specs.Core.{CoreValue, IsSound, shape_of}
 use Rattle.oram_core.proofs.Sound.{stage_within}
@@ -51,3 +51,30 @@ returns-else-from-clause-taken g c =
     let now = c.args.self.now in
     let o : Waits now.state = waits now.state c.requires.waiting in
     if_ok _ _ c.fetch_next.result (λ y e. ap (λ (d : Done). d.note) e) (c.fetch_next.ensures.ok o.oldest o.rest o.queue)
+
+pub same-self : goal.same-self
+same-self g c = refl
+
+pub same-self-else-from : goal.same-self-else-from
+same-self-else-from g c = refl
+
+pub finish-requires-clause-waiting : goal.finish-requires-clause-waiting
+finish-requires-clause-waiting g c = c.requires.waiting
+
+pub fetch_next-requires-clause-waiting : goal.fetch_next-requires-clause-waiting
+fetch_next-requires-clause-waiting g c = c.requires.waiting
+
+pub fetch_next-requires-clause-stage : goal.fetch_next-requires-clause-stage
+fetch_next-requires-clause-stage g c = c.requires.stage
+
+pub returns-then-from-clause-kept : goal.returns-then-from-clause-kept
+returns-then-from-clause-kept g c = c.finish.ensures.kept
+
+pub returns-then-from-clause-err : goal.returns-then-from-clause-err
+returns-then-from-clause-err g c = c.finish.ensures.err
+
+pub returns-else-from-clause-kept : goal.returns-else-from-clause-kept
+returns-else-from-clause-kept g c = c.fetch_next.ensures.kept
+
+pub returns-else-from-clause-err : goal.returns-else-from-clause-err
+returns-else-from-clause-err g c = c.fetch_next.ensures.err

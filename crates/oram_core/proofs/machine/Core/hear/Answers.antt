@@ -1,11 +1,12 @@
-use Rattle.std.proofs.Common.{sym, subst}
+use Rattle.std.proofs.Common.{sym, subst, refl}
 use Rattle.oram_core.specs.Core.{shape_of}
 use Rattle.oram_core.specs.Judging.{IsVerdict}
 use Rattle.oram_core.specs.Verdicts.{Means, Tells}
 use Rattle.oram_run.specs.Answers.Outcome.{Good}
-use Rattle.oram_core.proofs.Heard.{if_ok}
+use Rattle.oram_core.proofs.Heard.{if_ok, on_err}
 use Rattle.oram_core.proofs.Judged.{use_told, stored_told}
 use Rattle.oram_core.proofs.Meeting.{moves_by}
+use Rattle.std.proofs.lemmas.Result.{IfOk-from_err}
 use Rattle.oram_core.proofs.machine.Core.hear.Goals as goal
 
 pub returns-in-Path-clause-verdict : goal.returns-in-Path-clause-verdict
@@ -35,3 +36,75 @@ returns-in-Stored-clause-moves g c = λ w fits apart.
     let s = c.args.self.now.state in
     let m = subst (Means v s w c.args.bytes.now) c.in-Stored.is (c.verdict.ensures.means w fits apart) in
     moves_by v s w c.args.bytes.now Good c.go_on.result c.go_on.new.self.state m (c.go_on.ensures.moves w fits)
+
+pub verdict-requires : goal.verdict-requires
+verdict-requires g c = c.requires
+
+pub store-requires-clause-waiting : goal.store-requires-clause-waiting
+store-requires-clause-waiting g c = c.requires
+
+pub go_on-requires-clause-waiting : goal.go_on-requires-clause-waiting
+go_on-requires-clause-waiting g c = c.requires
+
+pub stall-requires : goal.stall-requires
+stall-requires g c = c.requires
+
+pub same-self : goal.same-self
+same-self g c = refl
+
+pub same-self-in-Stored : goal.same-self-in-Stored
+same-self-in-Stored g c = refl
+
+pub same-self-in-NoRoom : goal.same-self-in-NoRoom
+same-self-in-NoRoom g c = refl
+
+pub same-self-in_err-replies-in-Bad : goal.same-self-in_err-replies-in-Bad
+same-self-in_err-replies-in-Bad g c = refl
+
+pub same-self-in-Bad : goal.same-self-in-Bad
+same-self-in-Bad g c = refl
+
+pub returns-in_err-replies-in-Bad-clause-kept : goal.returns-in_err-replies-in-Bad-clause-kept
+returns-in_err-replies-in-Bad-clause-kept g c = (refl, refl)
+
+pub returns-in_err-replies-in-Bad-clause-moves : goal.returns-in_err-replies-in-Bad-clause-moves
+returns-in_err-replies-in-Bad-clause-moves g c = λ w fits apart. IfOk-from_err c.from_residual.result _ c.from_residual.ensures.0
+
+pub returns-in_err-replies-in-Bad-clause-heard : goal.returns-in_err-replies-in-Bad-clause-heard
+returns-in_err-replies-in-Bad-clause-heard g c = λ other. IfOk-from_err c.from_residual.result _ c.from_residual.ensures.0
+
+pub returns-in_err-replies-in-Bad-clause-verdict : goal.returns-in_err-replies-in-Bad-clause-verdict
+returns-in_err-replies-in-Bad-clause-verdict g c = λ other. IfOk-from_err c.from_residual.result _ c.from_residual.ensures.0
+
+pub returns-in_err-replies-in-Bad-clause-no_room : goal.returns-in_err-replies-in-Bad-clause-no_room
+returns-in_err-replies-in-Bad-clause-no_room g c = λ is. IfOk-from_err c.from_residual.result _ c.from_residual.ensures.0
+
+pub returns-in_err-replies-in-Bad-clause-err : goal.returns-in_err-replies-in-Bad-clause-err
+returns-in_err-replies-in-Bad-clause-err g c = on_err _ c.from_residual.result refl
+
+pub returns-in-Path-clause-kept : goal.returns-in-Path-clause-kept
+returns-in-Path-clause-kept g c = c.store.ensures.kept
+
+pub returns-in-Path-clause-heard : goal.returns-in-Path-clause-heard
+returns-in-Path-clause-heard g c = λ other. c.store.ensures.heard
+
+pub returns-in-Path-clause-err : goal.returns-in-Path-clause-err
+returns-in-Path-clause-err g c = c.store.ensures.err
+
+pub returns-in-Stored-clause-kept : goal.returns-in-Stored-clause-kept
+returns-in-Stored-clause-kept g c = c.go_on.ensures.kept
+
+pub returns-in-Stored-clause-heard : goal.returns-in-Stored-clause-heard
+returns-in-Stored-clause-heard g c = λ other. c.go_on.ensures.heard
+
+pub returns-in-Stored-clause-err : goal.returns-in-Stored-clause-err
+returns-in-Stored-clause-err g c = c.go_on.ensures.err
+
+pub returns-in-NoRoom-clause-kept : goal.returns-in-NoRoom-clause-kept
+returns-in-NoRoom-clause-kept g c = c.stall.ensures.kept
+
+pub returns-in-NoRoom-clause-no_room : goal.returns-in-NoRoom-clause-no_room
+returns-in-NoRoom-clause-no_room g c = λ is. c.stall.ensures.ok
+
+pub returns-in_ok-replies-in-Bad-clause-kept : goal.returns-in_ok-replies-in-Bad-clause-kept
+returns-in_ok-replies-in-Bad-clause-kept g c = c.fail.ensures.kept

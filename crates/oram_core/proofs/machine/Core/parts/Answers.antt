@@ -3,6 +3,7 @@ use Rattle.oram_bucket.specs.Cell.{IsRising}
 use Rattle.oram_tree.specs.Parts.{Parts as TreeParts, parts_of as tree_parts}
 use Rattle.oram_core.specs.Core.{CoreValue, IsSound}
 use Rattle.oram_core.proofs.Again.{right_if, again_if}
+use Rattle.std.proofs.lemmas.Result.{IfOk-from_err}
 use Rattle.oram_core.proofs.machine.Core.parts.Goals as goal
 
 pub returns-clause-right : goal.returns-clause-right
@@ -17,3 +18,12 @@ returns-clause-again g c =
     let now = c.args.self.now in
     let sound = subst (λ (u : CoreValue g.row.S.Denot). IsSound u.device (g.S.Sealer.overhead u.sealer) u.state) c.self.view_is c.self.invariant in
     again_if now.device (g.S.Sealer.overhead now.sealer) now.state _ c.parts_beside.result sound c.parts_beside.ensures
+
+pub returns-in_err-trees-clause-same : goal.returns-in_err-trees-clause-same
+returns-in_err-trees-clause-same g c = IfOk-from_err c.from_residual.result _ c.from_residual.ensures.0
+
+pub returns-in_err-trees-clause-right : goal.returns-in_err-trees-clause-right
+returns-in_err-trees-clause-right g c = IfOk-from_err c.from_residual.result _ c.from_residual.ensures.0
+
+pub returns-in_err-trees-clause-again : goal.returns-in_err-trees-clause-again
+returns-in_err-trees-clause-again g c = IfOk-from_err c.from_residual.result _ c.from_residual.ensures.0

@@ -1,4 +1,4 @@
-use Rattle.std.proofs.Common.{◌≡◌, Some, IfOk, sym, ◌∙◌, subst}
+use Rattle.std.proofs.Common.{◌≡◌, Some, IfOk, sym, ◌∙◌, subst, refl}
 use Rattle.oram_run.specs.Run.{shown}
 use Rattle.oram_run.specs.declared.events.Event.{Event}
 use Rattle.oram_run.specs.declared.events.Note.TheVariants as note
@@ -85,3 +85,39 @@ returns-in-Answer-2-clause-promise g c =
       | in-Lost+else-is_waiting-2 w ↦ loss_ignored v now.state c.args.event.now only.result now.state (means_loss v now.state c.args.event.now w.in-Lost.is) (sym w.if-is_waiting-2.ensures) does
       | in-Retry+else-is_stalled w ↦ subst (λ (e : Event). Steps v now.state e (shown only.result) now.state) (sym w.in-Retry.is) (retry_ignored v now.state only.result now.state (sym w.is_stalled.ensures ∙ w.if-is_stalled.false) does)
     ]
+
+pub returns-in-Some-clause-kept : goal.returns-in-Some-clause-kept
+returns-in-Some-clause-kept g c = (refl, refl)
+
+pub returns-in-Answer-2-clause-kept : goal.returns-in-Answer-2-clause-kept
+returns-in-Answer-2-clause-kept g c = (refl, refl)
+
+pub returns-in-Lost-clause-kept : goal.returns-in-Lost-clause-kept
+returns-in-Lost-clause-kept g c = c.stall.ensures.kept
+
+pub returns-in-Some-clause-free : goal.returns-in-Some-clause-free
+returns-in-Some-clause-free g c = λ d is free. refl
+
+pub returns-in-Lost-clause-free : goal.returns-in-Lost-clause-free
+returns-in-Lost-clause-free g c = λ d is free. refl
+
+pub returns-in-Answer-2-clause-free : goal.returns-in-Answer-2-clause-free
+returns-in-Answer-2-clause-free g c = λ d is free. refl
+
+pub returns-in-None-clause-kept : goal.returns-in-None-clause-kept
+returns-in-None-clause-kept g c = c.accept.ensures.kept
+
+pub returns-in-None-clause-err : goal.returns-in-None-clause-err
+returns-in-None-clause-err g c = c.accept.ensures.err
+
+pub returns-in-Answer-clause-kept : goal.returns-in-Answer-clause-kept
+returns-in-Answer-clause-kept g c = c.hear.ensures.kept
+
+pub returns-in-Answer-clause-err : goal.returns-in-Answer-clause-err
+returns-in-Answer-clause-err g c = c.hear.ensures.err
+
+pub returns-in-Retry-clause-kept : goal.returns-in-Retry-clause-kept
+returns-in-Retry-clause-kept g c = c.resend.ensures.kept
+
+pub returns-in-Retry-clause-err : goal.returns-in-Retry-clause-err
+returns-in-Retry-clause-err g c = c.resend.ensures.err

@@ -1,6 +1,6 @@
-use Rattle.std.proofs.Common.{◌≡◌, ◌++◌, if◌then◌else◌, ℕ, slice_set, ◌+◌, ◌*◌, ◌^◌, ◌<◌, length, ap, MatchResult, OnOk, Err, ◌∷◌, List, slice_index_or, refl, sym, ◌∙◌, subst}
+use Rattle.std.proofs.Common.{◌≡◌, ◌++◌, if◌then◌else◌, ℕ, slice_set, ◌+◌, ◌*◌, ◌^◌, ◌<◌, length, ap, MatchResult, OnOk, Err, ◌∷◌, List, slice_index_or, refl, sym, ◌∙◌, subst, ◌%◌}
 use Rattle.std.specs.List.{All}
-use Rattle.oram_geometry.specs.Sizes.{depth_of}
+use Rattle.oram_geometry.specs.Sizes.{depth_of, trees_of, blocks_in}
 use Rattle.oram_bucket.specs.Bucket.{IsBlockOf}
 use Rattle.oram_run.specs.Content.{block_of, new_leaf}
 use Rattle.oram_run.specs.declared.events.Submission.{Submission}
@@ -10,10 +10,10 @@ use Rattle.oram_run.specs.Content.{stage_tree}
 use Rattle.oram_run.specs.declared.events.Reason.TheVariants as reason
 use Rattle.oram_core.specs.Doing.{done, failed_by, stored_by, is_misled}
 use Rattle.oram_core.specs.Steps.{Heard}
-use Rattle.oram_core.proofs.Heard.{taken_heard, failed_heard}
+use Rattle.oram_core.proofs.Heard.{taken_heard, failed_heard, on_err}
 use Rattle.oram_core.proofs.Judged.{access_used, unreadable_used, readable_now, readable_told, looked_now}
 use Rattle.oram_core.proofs.Meeting.{Waits, waits}
-use Rattle.oram_core.proofs.Hearing.{lends, gives_back}
+use Rattle.oram_core.proofs.Hearing.{lends, gives_back, lent_within}
 use Rattle.oram_core.proofs.Accessing.{access_moves, ready_tree}
 use Rattle.oram_hash.specs.Path.{Path, with_bytes}
 use Rattle.oram_bucket.specs.Cell.{Cell}
@@ -28,6 +28,10 @@ use Rattle.oram_run.specs.Blocks.{block_after}
 use Rattle.oram_wire.specs.HostMessages.{store_body}
 use Rattle.oram_run.specs.Messages.{asked}
 use Rattle.oram_run.specs.Shape.{record_len}
+use Rattle.std.proofs.lemmas.Result.{IfOk-from_err}
+use Rattle.oram_run.specs.Progress.Status.{Waiting}
+use Rattle.oram_run.specs.State.{status_in}
+use Rattle.oram_core.proofs.Lengths.{levels_fit, path_fits, message_fits, store_fits}
 use Rattle.oram_core.proofs.machine.Core.store.Goals as goal
 
 pub access_to-looked-requires-clause-old_leaf : goal.access_to-looked-requires-clause-old_leaf
@@ -210,3 +214,105 @@ returns-in-Unreadable-clause-uses g c =
     let does = subst (λ (u : CoreValue g.row.S.Denot). done c.fail.result c.fail.new.self.state ≡ failed_by (record u.state { trees = slice_set u.state.trees c.from.result new }) e) c.self.view_is c.fail.ensures.ok in
     unreadable_used v now.state (record now.state { trees = slice_set now.state.trees c.from.result new }) c.fail.new.self.state c.errand-errand.result.tree path c.fail.result c.errand-errand.ensures.tree
     (λ so. unreadable (c.in-Err.is ∙ ap Err c.in-Unreadable.is) (readable_told v now.state told path h.at so)) does
+
+pub errand-errand-requires : goal.errand-errand-requires
+errand-errand-requires g c = c.requires.waiting
+
+pub depth-requires : goal.depth-requires
+depth-requires g c = subst (λ (u : CoreValue g.row.S.Denot). c.errand-errand.result.tree < trees_of u.device) (sym c.self.view_is) c.errand-errand.ensures.ranges.0
+
+pub overflow_add-levels : goal.overflow_add-levels
+overflow_add-levels g c = record { fits = levels_fit _ _ c.from-levels.ensures c.depth.ensures.range }
+
+pub record_len-requires : goal.record_len-requires
+record_len-requires g c = rw c.overhead.ensures c.self.invariant.small
+
+pub overflow_mul-path_len : goal.overflow_mul-path_len
+overflow_mul-path_len g c = record { fits = path_fits _ _ _ c.from-levels.ensures c.depth.ensures.range c.record_len.ensures.range }
+
+pub overflow_add-path_len : goal.overflow_add-path_len
+overflow_add-path_len g c = record { fits = message_fits _ _ _ c.from-levels.ensures c.depth.ensures.range c.record_len.ensures.range }
+
+pub begun_store-requires : goal.begun_store-requires
+begun_store-requires g c = store_fits _ _ _ c.from-levels.ensures c.depth.ensures.range c.record_len.ensures.range
+
+pub same-self : goal.same-self
+same-self g c = refl
+
+pub returns-in_err-room-clause-kept : goal.returns-in_err-room-clause-kept
+returns-in_err-room-clause-kept g c = (refl, refl)
+
+pub returns-in_err-room-clause-moves : goal.returns-in_err-room-clause-moves
+returns-in_err-room-clause-moves g c = λ w fits on_path. IfOk-from_err c.from_residual.result _ c.from_residual.ensures.0
+
+pub returns-in_err-room-clause-heard : goal.returns-in_err-room-clause-heard
+returns-in_err-room-clause-heard g c = IfOk-from_err c.from_residual.result _ c.from_residual.ensures.0
+
+pub returns-in_err-room-clause-uses : goal.returns-in_err-room-clause-uses
+returns-in_err-room-clause-uses g c = IfOk-from_err c.from_residual.result _ c.from_residual.ensures.0
+
+pub returns-in_err-room-clause-err : goal.returns-in_err-room-clause-err
+returns-in_err-room-clause-err g c = on_err _ c.from_residual.result refl
+
+pub same-self-in_err-message : goal.same-self-in_err-message
+same-self-in_err-message g c = refl
+
+pub returns-in_err-message-clause-kept : goal.returns-in_err-message-clause-kept
+returns-in_err-message-clause-kept g c = (refl, refl)
+
+pub returns-in_err-message-clause-moves : goal.returns-in_err-message-clause-moves
+returns-in_err-message-clause-moves g c = λ w fits on_path. IfOk-from_err c.from_residual-in_err-message.result _ c.from_residual-in_err-message.ensures.0
+
+pub returns-in_err-message-clause-heard : goal.returns-in_err-message-clause-heard
+returns-in_err-message-clause-heard g c = IfOk-from_err c.from_residual-in_err-message.result _ c.from_residual-in_err-message.ensures.0
+
+pub returns-in_err-message-clause-uses : goal.returns-in_err-message-clause-uses
+returns-in_err-message-clause-uses g c = IfOk-from_err c.from_residual-in_err-message.result _ c.from_residual-in_err-message.ensures.0
+
+pub returns-in_err-message-clause-err : goal.returns-in_err-message-clause-err
+returns-in_err-message-clause-err g c = on_err _ c.from_residual-in_err-message.result refl
+
+pub edit_for-requires-clause-tree : goal.edit_for-requires-clause-tree
+edit_for-requires-clause-tree g c = subst (λ (u : CoreValue g.row.S.Denot). c.errand-errand.result.tree < trees_of u.device) (sym c.self.view_is) c.errand-errand.ensures.ranges.0
+
+pub take_over-requires-clause-waiting : goal.take_over-requires-clause-waiting
+take_over-requires-clause-waiting g c = subst (λ (u : CoreValue g.row.S.Denot). status_in u.state ≡ Waiting) (sym c.self.view_is) c.requires.waiting
+
+pub take_over-requires-clause-stage : goal.take_over-requires-clause-stage
+take_over-requires-clause-stage g c = subst (λ (u : CoreValue g.row.S.Denot). u.state.stage % 2 ≡ 0) (sym c.self.view_is) c.requires.stage
+
+pub take_over-requires-clause-tree : goal.take_over-requires-clause-tree
+take_over-requires-clause-tree g c = subst (λ (u : CoreValue g.row.S.Denot). c.errand-errand.result.tree ≡ stage_tree u.device u.state.stage) (sym c.self.view_is) c.errand-errand.ensures.tree
+
+pub take_over-requires-clause-leaf : goal.take_over-requires-clause-leaf
+take_over-requires-clause-leaf g c = subst (λ (u : CoreValue g.row.S.Denot). c.errand-errand.result.leaf ≡ (asked u.state.last).leaf) (sym c.self.view_is) c.errand-errand.ensures.leaf
+
+pub take_over-requires-clause-ranges : goal.take_over-requires-clause-ranges
+take_over-requires-clause-ranges g c = subst (λ (u : CoreValue g.row.S.Denot). (c.errand-errand.result.tree < trees_of u.device) × (c.errand-errand.result.block < blocks_in u.device c.errand-errand.result.tree) × (c.errand-errand.result.leaf < 2 ^ depth_of u.device c.errand-errand.result.tree) × (c.errand-errand.result.new_leaf < 2 ^ depth_of u.device c.errand-errand.result.tree)) (sym c.self.view_is) c.errand-errand.ensures.ranges
+
+pub invariant_of-self-in-Err : goal.invariant_of-self-in-Err
+invariant_of-self-in-Err g c =
+    let h = lends g.S.Sealer.overhead g.S.Sealer.sealing g.S.Sealer.opening _ c.args.self.now c.index_mut.result.now c.from.result c.errand-errand.result.tree c.self.view_is c.self.invariant c.requires.waiting c.from.ensures c.errand-errand.ensures.tree c.index_mut.ensures.value in
+    gives_back g.S.Sealer.overhead _ c.args.self.now c.index_mut.result.now c.access_to-looked.new.self c.from.result c.errand-errand.result.tree c.self.view_is c.self.invariant c.requires.waiting c.from.ensures c.errand-errand.ensures.ranges.0 h.number c.access_to-looked.ensures.number c.access_to-looked.ensures.blocks
+
+pub returns-in-Ok-clause-kept : goal.returns-in-Ok-clause-kept
+returns-in-Ok-clause-kept g c = (c.take_over.ensures.kept.0 ∙ ap (λ (u : CoreValue g.row.S.Denot). u.device) c.self.view_is, c.take_over.ensures.kept.1 ∙ ap (λ (u : CoreValue g.row.S.Denot). u.sealer) c.self.view_is)
+
+pub returns-in-Unreadable-clause-kept : goal.returns-in-Unreadable-clause-kept
+returns-in-Unreadable-clause-kept g c = (c.fail.ensures.kept.0 ∙ ap (λ (u : CoreValue g.row.S.Denot). u.device) c.self.view_is, c.fail.ensures.kept.1 ∙ ap (λ (u : CoreValue g.row.S.Denot). u.sealer) c.self.view_is)
+
+pub returns-in-OutOfMemory-clause-kept : goal.returns-in-OutOfMemory-clause-kept
+returns-in-OutOfMemory-clause-kept g c = (ap (λ (u : CoreValue g.row.S.Denot). u.device) c.self.view_is, ap (λ (u : CoreValue g.row.S.Denot). u.sealer) c.self.view_is)
+
+pub index_mut-requires : goal.index_mut-requires
+index_mut-requires g c = lent_within g.S.Sealer.overhead _ c.args.self.now c.from.result c.errand-errand.result.tree _ c.self.view_is c.self.invariant c.requires.waiting c.from.ensures c.errand-errand.ensures.ranges.0 c.self.inside.trees.ok.0
+
+pub access_to-looked-requires-clause-number : goal.access_to-looked-requires-clause-number
+access_to-looked-requires-clause-number g c =
+    let h = lends g.S.Sealer.overhead g.S.Sealer.sealing g.S.Sealer.opening _ c.args.self.now c.index_mut.result.now c.from.result c.errand-errand.result.tree c.self.view_is c.self.invariant c.requires.waiting c.from.ensures c.errand-errand.ensures.tree c.index_mut.ensures.value in
+    subst (λ (u : CoreValue g.row.S.Denot). c.index_mut.result.now.number < trees_of u.device) (sym c.self.view_is) (rw h.number c.errand-errand.ensures.ranges.0)
+
+pub access_to-looked-requires-clause-address : goal.access_to-looked-requires-clause-address
+access_to-looked-requires-clause-address g c =
+    let h = lends g.S.Sealer.overhead g.S.Sealer.sealing g.S.Sealer.opening _ c.args.self.now c.index_mut.result.now c.from.result c.errand-errand.result.tree c.self.view_is c.self.invariant c.requires.waiting c.from.ensures c.errand-errand.ensures.tree c.index_mut.ensures.value in
+    subst (λ (u : CoreValue g.row.S.Denot). c.errand-errand.result.block < blocks_in u.device c.index_mut.result.now.number) (sym c.self.view_is) (rw h.number c.errand-errand.ensures.ranges.1)

@@ -1,4 +1,4 @@
-use Rattle.std.proofs.Common.{◌≡◌, ℕ, Bool, true, false, if◌then◌else◌, ap, sym, ◌∙◌}
+use Rattle.std.proofs.Common.{◌≡◌, ℕ, Bool, true, false, if◌then◌else◌, ap, sym, ◌∙◌, ◌<◌, refl, subst}
 use Rattle.oram_run.specs.Content.{stage_tree}
 use Rattle.oram_run.specs.Messages.{asked}
 use Rattle.oram_run.specs.Blocks.{next_named}
@@ -9,6 +9,7 @@ use Rattle.oram_core.specs.Core.{CoreValue, shape_of}
 use Rattle.oram_core.specs.Doing.{failed_by, stored_by, is_misled}
 use Rattle.oram_core.proofs.Meeting.{Waits, waits}
 use Rattle.oram_core.proofs.Closing.{stored_so, led_right}
+use Rattle.oram_geometry.specs.Sizes.{trees_of}
 use Rattle.oram_core.proofs.machine.Core.take_over.Goals as goal
 
 pub returns-then-is_misled-clause-ok : goal.returns-then-is_misled-clause-ok
@@ -71,3 +72,45 @@ returns-clause-ok g c = λ x rest records q m.
     let kept : c.send.result.kept ≡ store_body tree (asked now.state.last).leaf records = c.send.ensures.kept ∙ m ∙ ap (λ (l : ℕ). store_body tree l records) c.requires.leaf in
     c.commit.ensures.ok ∙ stored_so v now.state x tree c.args.errand.block c.args.errand.new_leaf c.named_below-named.result before records c.send.result.kept c.requires.tree of.0 of.1 named kept
     ∙ sym (ap (λ (b : Bool). if b then failed_by now.state (reason.Tampered (stage_tree now.device now.state.stage) 0) else stored_by v now.state x before records) no)
+
+pub named_below-named-requires-clause-tree : goal.named_below-named-requires-clause-tree
+named_below-named-requires-clause-tree g c = subst (λ (u : CoreValue g.row.S.Denot). c.args.errand.tree < trees_of u.device) (sym c.self.view_is) c.requires.ranges.0
+
+pub is_misled-requires-clause-tree : goal.is_misled-requires-clause-tree
+is_misled-requires-clause-tree g c = c.requires.tree
+
+pub is_misled-requires-clause-range : goal.is_misled-requires-clause-range
+is_misled-requires-clause-range g c = c.requires.ranges.0
+
+pub is_misled-requires-clause-block : goal.is_misled-requires-clause-block
+is_misled-requires-clause-block g c = c.requires.ranges.1
+
+pub same-self : goal.same-self
+same-self g c = refl
+
+pub same-self-else-is_misled : goal.same-self-else-is_misled
+same-self-else-is_misled g c = refl
+
+pub returns-then-is_misled-clause-kept : goal.returns-then-is_misled-clause-kept
+returns-then-is_misled-clause-kept g c = c.fail.ensures.kept
+
+pub returns-clause-kept : goal.returns-clause-kept
+returns-clause-kept g c = c.commit.ensures.kept
+
+pub commit-requires-clause-waiting : goal.commit-requires-clause-waiting
+commit-requires-clause-waiting g c = c.requires.waiting
+
+pub commit-requires-clause-stage : goal.commit-requires-clause-stage
+commit-requires-clause-stage g c = c.requires.stage
+
+pub commit-requires-clause-tree : goal.commit-requires-clause-tree
+commit-requires-clause-tree g c = c.requires.tree
+
+pub commit-requires-clause-whole : goal.commit-requires-clause-whole
+commit-requires-clause-whole g c = c.requires.whole
+
+pub commit-requires-clause-block : goal.commit-requires-clause-block
+commit-requires-clause-block g c = c.requires.ranges.1
+
+pub commit-requires-clause-leaf : goal.commit-requires-clause-leaf
+commit-requires-clause-leaf g c = c.requires.ranges.3
