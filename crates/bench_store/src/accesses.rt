@@ -7,11 +7,11 @@ use crate::times::{Summary, Times, ratio};
 use oram_bytes::Bytes;
 use oram_geometry::Device;
 use oram_host::Server;
+use oram_redo::FilePair;
 use oram_store::Store;
 use oram_wire::{GOOD, HostRequest};
 use rand_chacha::ChaCha20Rng;
 use rand_core::{Rng, SeedableRng};
-use sqlite::Alter;
 use std::alloc::{AllocError, Global};
 use std::fs::OpenFile;
 use std::io::{Seek, Write};
@@ -19,7 +19,8 @@ use std::rt::{Clock, Files};
 use std::time::{Duration, Instant};
 use std::{fs, io};
 
-const ACCESSES: u32 = 500;
+/// Those whose STOREs fill the log, so that it begins anew meanwhile.
+const ACCESSES: u32 = 600;
 
 /// A tree of records.
 #[derive(Clone, Copy)]
@@ -40,7 +41,7 @@ impl Takes for Server {
     }
 }
 
-impl<S: Alter> Takes for Store<S> {
+impl<F: FilePair> Takes for Store<F> {
     fn take(&mut self, alloc: Global, body: &[u8]) -> io::Result<Vec<u8>> {
         Ok(self.answer(alloc, body)?)
     }
@@ -48,9 +49,9 @@ impl<S: Alter> Takes for Store<S> {
 
 /// A file whose first bytes are overwritten by each body, and synced.
 #[derive(Drop)]
-struct Plain<F>(F);
+struct Plain<W>(W);
 
-impl<F: OpenFile + Write + Seek> Takes for Plain<F> {
+impl<W: OpenFile + Write + Seek> Takes for Plain<W> {
     fn take(&mut self, alloc: Global, body: &[u8]) -> io::Result<Vec<u8>> {
         self.0.rewind()?;
         self.0.write_all(body)?;
@@ -106,7 +107,7 @@ fn timed<T: Takes>(
     Ok(answer)
 }
 
-fn shape_body(alloc: Global, shape: Shape) -> Result<Vec<u8>, AllocError> {
+pub(crate) fn shape_body(alloc: Global, shape: Shape) -> Result<Vec<u8>, AllocError> {
     HostRequest::Shape {
         tree: 0,
         depth: shape.depth,
@@ -140,7 +141,7 @@ pub(crate) fn format<T: Takes>(alloc: Global, taker: &mut T, shape: Shape) -> io
 }
 
 /// A FETCH of a leaf, and a STORE of bytes drawn at random to it.
-fn bodies(
+pub(crate) fn bodies(
     alloc: Global,
     shape: Shape,
     random: &mut ChaCha20Rng,
@@ -161,12 +162,12 @@ fn bodies(
 }
 
 /// Hands each access to the store, the server and the plain file in turn. Tells how many answers differ.
-fn compare<S: Alter, F: OpenFile + Write + Seek>(
+fn compare<F: FilePair, W: OpenFile + Write + Seek>(
     rt: &(impl Alloc<A = Global> + Clock),
     shape: Shape,
-    store: &mut Store<S>,
+    store: &mut Store<F>,
     server: &mut Server,
-    plain: &mut Plain<F>,
+    plain: &mut Plain<W>,
     times: &mut Compared,
 ) -> io::Result<u32> {
     let mut random = ChaCha20Rng::from_seed([1; 32]);
@@ -222,10 +223,10 @@ fn report(rt: &impl Print, times: &mut Compared, differing: u32) -> io::Result<(
 }
 
 /// Formats a tree in a new file and in memory, and makes accesses to both.
-fn measure_shape<R: Files + Clock + Print + Alloc<A = Global>, S: Alter>(
+fn measure_shape<R: Files + Clock + Print + Alloc<A = Global>, F: FilePair>(
     rt: &R,
     shape: Shape,
-    store: &mut Store<S>,
+    store: &mut Store<F>,
     file: &str,
 ) -> io::Result<()>
 where

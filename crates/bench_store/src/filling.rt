@@ -1,10 +1,12 @@
 //! A file of some size, filled and opened again.
 
-use crate::accesses::{Shape, first_shape, format};
+use crate::accesses::{Shape, bodies, first_shape, format, shape_body};
 use crate::system::{close, new_store, opened, report_memory};
+use oram_redo::FilePair;
 use oram_store::Store;
-use oram_wire::fetch_header;
-use sqlite::Alter;
+use oram_wire::{GOOD, fetch_header};
+use rand_chacha::ChaCha20Rng;
+use rand_core::SeedableRng;
 use std::alloc::{AllocError, Global};
 use std::io;
 use std::time::{Duration, Instant};
@@ -42,8 +44,41 @@ pub(crate) fn fill(rt: &HostRuntime, file: &str, depth: &str) -> io::Result<()> 
     report_memory(rt)
 }
 
+/// How many STOREs to leaves drawn at random are done.
+fn store_paths<F: FilePair>(
+    alloc: Global,
+    store: &mut Store<F>,
+    shape: Shape,
+    stores: u32,
+) -> Result<u32, AllocError> {
+    let mut random = ChaCha20Rng::from_seed([2; 32]);
+    let mut done = 0u32;
+    for _ in 0..stores {
+        let (_, body) = bodies(alloc, shape, &mut random)?;
+        if store.answer(alloc, &body)?.as_slice() == [GOOD].as_slice() {
+            done = done.saturating_add(1);
+        }
+    }
+    Ok(done)
+}
+
+/// Makes a new file with one tree, and stores random paths in it. It doesn't close the file, as if the process were killed: the paths that
+/// were stored last stand in the log.
+pub(crate) fn scatter(rt: &HostRuntime, file: &str, depth: &str, stores: &str) -> io::Result<()> {
+    let (Some(shape), Ok(stores)) = (shape_of(depth), stores.parse()) else {
+        return Err(io::ErrorKind::InvalidInput.into());
+    };
+    let mut store = new_store(rt, file)?;
+    let _ = store.answer(rt.alloc(), &shape_body(rt.alloc(), shape)?)?;
+    let done = store_paths(rt.alloc(), &mut store, shape, stores)?;
+    println!(rt;
+        "{done} paths of a tree of depth {} stored, and not closed",
+        shape.depth
+    )
+}
+
 /// How many of the paths of the first leaves are answered with records.
-fn fetch_paths<S: Alter>(alloc: Global, store: &mut Store<S>) -> Result<u32, AllocError> {
+fn fetch_paths<F: FilePair>(alloc: Global, store: &mut Store<F>) -> Result<u32, AllocError> {
     let mut found = 0u32;
     for leaf in 0..FETCHES {
         if store.answer(alloc, &fetch_header(0, leaf))?.len() > 2 {
@@ -54,9 +89,9 @@ fn fetch_paths<S: Alter>(alloc: Global, store: &mut Store<S>) -> Result<u32, All
 }
 
 /// Tells how long the opening took, and the fetching.
-fn fetch_first<S: Alter>(
+fn fetch_first<F: FilePair>(
     rt: &HostRuntime,
-    store: &mut Store<S>,
+    store: &mut Store<F>,
     opening: Duration,
 ) -> io::Result<()> {
     println!(rt; "opened in {} ms", opening.as_millis())?;

@@ -1,3 +1,13 @@
-pub mod Found
+pub mod Recovering
+pub mod Lives
+pub mod Closing
+pub mod Finding
+pub mod Sound
 pub mod Levels
+pub mod Spelling
+pub mod Settling
+pub mod Served
+pub mod Adding
+pub mod Putting
+pub mod Shaping
 pub mod Told

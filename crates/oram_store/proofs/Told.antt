@@ -6,8 +6,9 @@ use Rattle.oram_wire.specs.declared.host_messages.HostRequest.{HostRequest}
 use Rattle.oram_wire.specs.declared.host_messages.HostRequest.TheVariants as request
 use Rattle.oram_host.specs.Path.{FitsAnswer, IsBehind}
 use Rattle.oram_store.specs.Serving.{StandsBehind, StandsFor}
-use Rattle.oram_store.specs.Shapes.{IsTold, Leads, Shapes, refusal_by}
-use Rattle.oram_store.specs.declared.storing.Served.TheVariants as served
+use Rattle.oram_store.specs.Refusals.{IsTold, Leads, refusal_by}
+use Rattle.oram_layout.specs.Trees.{Trees}
+use Rattle.oram_store.specs.declared.answering.Served.TheVariants as served
 
 pub records_behind : (front : List ℕ) (message : HostRequest) (bytes : _) → StandsBehind front message (served.Records bytes) → IsBehind front FitsAnswer bytes.items
 records_behind front (request.Fetch tree leaf) bytes h = h
@@ -15,7 +16,7 @@ records_behind front (request.Store tree leaf records) bytes h = absurd h
 records_behind front (request.Put tree node sent) bytes h = absurd h
 records_behind front (request.Shape tree depth record_len) bytes h = absurd h
 
-module _ (old new : Shapes) (front : List ℕ) where
+module _ (old new : Trees) (front : List ℕ) where
   pub told_records : (message : HostRequest) (bytes : _) (records : List ℕ) → StandsBehind front message (served.Records bytes) → refusal_by old message ≡ None
       → Leads old message new → IsTold old message (Payload records) new
   told_records (request.Fetch tree leaf) bytes records h allowed leads = (allowed, leads)

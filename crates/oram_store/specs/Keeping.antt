@@ -1,30 +1,75 @@
 -- What a store keeps.
-use Rattle.std.specs.Prelude.{◌≡◌, ℕ, List, Option, ⊤}
-use Rattle.sqlite_trees.specs.View.{View, IsClean}
-use Rattle.oram_wire.specs.declared.host_messages.HostRequest.{HostRequest}
-use Rattle.oram_wire.specs.declared.host_messages.HostRequest.TheVariants as request
-use Rattle.oram_store.specs.Shapes.{Shapes}
+use Rattle.std.specs.Prelude.{◌≡◌, ◌⊎◌, ℕ, false, List, Option, Some, All, OnErr, OnOk, Result}
+use Rattle.oram_redo.specs.Content.{Content}
+use Rattle.oram_redo.specs.FilePair.{Contents, LeavesOnly}
+use Rattle.oram_redo.specs.Log.{Patch, put_all}
+use Rattle.oram_redo.specs.declared.file_pair.FileKind.TheVariants.{Records as OfRecords}
+use Rattle.oram_layout.specs.BucketFile.{IsBucketFile}
+use Rattle.oram_layout.specs.Changes.{IsCell, IsOffRecords, marks}
+use Rattle.oram_layout.specs.Limits.{TreeShape}
+use Rattle.oram_layout.specs.Records.{AreKept, IsPathOf, KeepsOffPath, KeepsOthers, Records, records_in}
+use Rattle.oram_layout.specs.Trees.{Trees}
+use Rattle.oram_store.specs.RecordFile.{FileValue, Finds, IsSteady}
 use Rattle.oram_store.specs.declared.faults.StoreFault.{StoreFault}
 
-pub record StoreValue (S : Type 0) : Type 0 where
-  pub database : S
-  pub tables : List ℕ  -- those of the records
-  pub shapes : Shapes
-  pub taken : ℕ  -- how many records of a formatting aren't committed yet
+pub record StoreValue (F : Type 0) : Type 0 where
+  pub file : FileValue F
+  pub trees : Trees
+  pub pending : List ℕ  -- the cells whose records were PUT and whose first bytes aren't set yet
   pub failure : Option StoreFault  -- why there was no room, the last time that there was none
 
--- all that was written is committed: it is found again, wherever the process ends
-abbrev pub IsCommitted : View → Type 0
-IsCommitted v = IsClean v → v.committed ≡ v.trees
+-- the content of the file, and the one that answers go by
+abbrev pub sure_content : {F : Type 0} → (F → Contents) → StoreValue F → Content
+sure_content seen s = seen s.file.files OfRecords
 
--- where a database has not failed: it holds what it held
-pub record StaysSame (old new : View) : Type 0 where
-  pub clean : IsClean new → IsClean old
-  pub trees : IsClean new → new.trees ≡ old.trees
+abbrev pub content_of : {F : Type 0} → (F → Contents) → StoreValue F → Content
+content_of seen s = put_all (marks s.pending) (sure_content seen s)
 
--- a request that is committed before it is answered as done
-abbrev pub IsKeptAtOnce : HostRequest → Type 0
-IsKeptAtOnce (request.Store tree leaf records) = ⊤
-IsKeptAtOnce (request.Shape tree depth record_len) = ⊤
-IsKeptAtOnce (request.Put tree node bytes) = ⊥
-IsKeptAtOnce (request.Fetch tree leaf) = ⊥
+-- the records that are found again if a crash comes now
+abbrev pub sure_records : {F : Type 0} → (F → Contents) → StoreValue F → Records
+sure_records seen s = records_in s.trees (sure_content seen s)
+
+-- the records that answers go by
+abbrev pub records_of : {F : Type 0} → (F → Contents) → StoreValue F → Records
+records_of seen s = records_in s.trees (content_of seen s)
+
+-- the content is a bucket file's with these trees and records
+pub record Holds (trees : Trees) (records : Records) (c : Content) : Type 0 where
+  pub file : IsBucketFile trees c
+  pub kept : AreKept records (records_in trees c)
+
+-- The file is a bucket file with these trees, and what a crash may change in it is no record.
+pub record IsSoundFile {F : Type 0} (seen : F → Contents) (may_leave : F → Contents → Type 0) (trees : Trees) (v : FileValue F) : Type 0 where
+  pub loose : List Patch
+  pub steady : IsSteady seen may_leave v loose
+  pub off : All (IsOffRecords trees (seen v.files OfRecords)) loose
+  pub file : IsBucketFile trees (seen v.files OfRecords)
+
+-- A store whose file is as it has left it.
+pub record IsSound {F : Type 0} (seen : F → Contents) (may_leave : F → Contents → Type 0) (s : StoreValue F) : Type 0 where
+  pub file : IsSoundFile seen may_leave s.trees s.file
+  pub cells : All (IsCell s.trees) s.pending
+
+-- no record was changed, and none would be by a crash at any moment
+pub record LeavesRecords {F : Type 0} (seen : F → Contents) (may_leave : F → Contents → Type 0) (moment : F → ℕ) (left_since : F → ℕ → Contents → Type 0)
+    (trees : Trees) (old new : FileValue F) : Type 0 where
+  pub sound : new.has_stopped ≡ false → IsSoundFile seen may_leave trees new
+  pub kept : new.has_stopped ≡ false → AreKept (records_in trees (seen old.files OfRecords)) (records_in trees (seen new.files OfRecords))
+  pub moments : LeavesOnly moment left_since old.files new.files (Finds (seen old.files) (Holds trees (records_in trees (seen old.files OfRecords))))
+
+-- The records are changed so, or not at all, whenever a crash comes.
+pub record Changes {F : Type 0} (seen : F → Contents) (may_leave : F → Contents → Type 0) (moment : F → ℕ) (left_since : F → ℕ → Contents → Type 0)
+    (trees : Trees) (change : Records → Records → Type 0) (result : Result Unit StoreFault) (old new : FileValue F) : Type 0 where
+  pub sound : new.has_stopped ≡ false → IsSoundFile seen may_leave trees new
+  pub done : OnOk result (new.has_stopped ≡ false → change (records_in trees (seen old.files OfRecords)) (records_in trees (seen new.files OfRecords)))
+  pub undone : OnErr result (new.has_stopped ≡ false → AreKept (records_in trees (seen old.files OfRecords)) (records_in trees (seen new.files OfRecords)))
+  pub moments : LeavesOnly moment left_since old.files new.files (Finds (seen old.files) (λ c. Holds trees (records_in trees (seen old.files OfRecords)) c
+      ⊎ (IsBucketFile trees c × change (records_in trees (seen old.files OfRecords)) (records_in trees c))))
+
+-- the records of a path are these now, and all others are as they were
+abbrev pub Stores : ℕ → TreeShape → ℕ → List ℕ → Records → Records → Type 0
+Stores tree s leaf bytes old new = IsPathOf new tree s leaf bytes × KeepsOffPath old tree s leaf new
+
+-- the record of a node is this now, and all others are as they were
+abbrev pub Puts : ℕ → ℕ → List ℕ → Records → Records → Type 0
+Puts tree node bytes old new = (new tree node ≡ Some bytes) × KeepsOthers old tree node new

@@ -1,6 +1,12 @@
+pub mod Opening
+pub mod Closing
+pub mod Laws
+pub mod Faults
+pub mod RecordFile
+pub mod Batches
+pub mod Refusals
+pub mod Answers
+pub mod Pending
 pub mod Keeping
-pub mod Limits
-pub mod Records
+pub mod Crashes
 pub mod Serving
-pub mod Shapes
-pub mod TableNumbers

@@ -1,21 +1,35 @@
 //! Why a store can't be opened, or has no room.
 
-use sqlite::{Error, ErrorCode};
-use sqlite_std_file::OpenError;
-use sqlite_trees::error::StoreError;
+use oram_layout::LayoutFault;
+use oram_redo::RedoError;
 use std::alloc::{AllocError, AllocFailed};
 use std::io;
-use thiserror::Error as Fault;
+use thiserror::Error;
 
 /// Why a store can't be opened, or didn't do what it was asked.
-#[derive(Clone, Copy, Debug, PartialEq, Eq, Fault)]
+#[derive(Clone, Copy, Debug, PartialEq, Eq, Error)]
 pub enum StoreFault {
     /// Another process has the file open, or another store of this one.
     #[error("another process has it open")]
     Busy,
-    /// It is no database, or one with other tables.
+    /// It is no file of buckets.
     #[error("it isn't a file of buckets")]
     NotOurs,
+    /// It is of the kind that an earlier version wrote.
+    #[error("it is of the kind that an earlier version wrote: format the disk anew over a new file")]
+    OldKind,
+    /// It is of a later version.
+    #[error("a later version wrote it: serve it with that version")]
+    NewerKind,
+    /// The log beside it isn't there.
+    #[error("its log, the file beside it with -log behind its name, isn't there: the two belong together, so put back the log that it was served with last")]
+    WithoutLog,
+    /// The log beside it is another file's.
+    #[error("the file beside it with -log behind its name isn't its log: the two belong together, so put back the log that it was served with last")]
+    OthersLog,
+    /// There is a log that holds records, and no file of buckets beside it.
+    #[error("it isn't there, but its log is, the file beside it with -log behind its name: the two belong together, so put the file back, or move the log away for a new one")]
+    LogAlone,
     /// It holds what no store writes.
     #[error("it is damaged")]
     Damaged,
@@ -33,12 +47,22 @@ pub enum StoreFault {
 }
 
 impl From<AllocError> for StoreFault {
+    ghost use Rattle.std.specs.Prelude.{◌≡◌};
+    ghost use Rattle.oram_store.specs.declared.faults.StoreFault.TheVariants.{OutOfMemory};
+
+    ghost from_gives = { λ _ fault. fault ≡ OutOfMemory };
+
     fn from(_error: AllocError) -> StoreFault {
         StoreFault::OutOfMemory
     }
 }
 
 impl<T: Drop> From<AllocFailed<T>> for StoreFault {
+    ghost use Rattle.std.specs.Prelude.{◌≡◌};
+    ghost use Rattle.oram_store.specs.declared.faults.StoreFault.TheVariants.{OutOfMemory};
+
+    ghost from_gives = { λ _ fault. fault ≡ OutOfMemory };
+
     fn from(_error: AllocFailed<T>) -> StoreFault {
         StoreFault::OutOfMemory
     }
@@ -46,48 +70,40 @@ impl<T: Drop> From<AllocFailed<T>> for StoreFault {
 
 impl From<io::Error> for StoreFault {
     fn from(error: io::Error) -> StoreFault {
-        if error.kind() == io::ErrorKind::OutOfMemory {
-            StoreFault::OutOfMemory
-        } else {
-            StoreFault::Io
+        match error.kind() {
+            io::ErrorKind::OutOfMemory => StoreFault::OutOfMemory,
+            io::ErrorKind::StorageFull | io::ErrorKind::QuotaExceeded => StoreFault::NoRoom,
+            _ => StoreFault::Io,
         }
     }
 }
 
-impl From<Error> for StoreFault {
-    fn from(error: Error) -> StoreFault {
+impl From<RedoError> for StoreFault {
+    ghost use Rattle.std.specs.Prelude.{◌≡◌};
+    ghost use Rattle.oram_store.specs.Faults.{fault_of};
+
+    ghost from_gives = { λ error fault. fault ≡ fault_of error };
+
+    fn from(error: RedoError) -> StoreFault {
         match error {
-            Error::SqliteFailure(ErrorCode::OutOfMemory) => StoreFault::OutOfMemory,
-            Error::SqliteFailure(ErrorCode::DatabaseBusy) => StoreFault::Busy,
-            Error::SqliteFailure(ErrorCode::DiskFull) => StoreFault::NoRoom,
-            Error::SqliteFailure(ErrorCode::Closed) => StoreFault::Closed,
-            Error::SqliteFailure(ErrorCode::SystemIoFailure | ErrorCode::CannotOpen) => {
-                StoreFault::Io
-            }
-            _ => StoreFault::Damaged,
+            RedoError::Memory => StoreFault::OutOfMemory,
+            RedoError::NoRoom => StoreFault::NoRoom,
+            RedoError::Damaged => StoreFault::Damaged,
+            RedoError::Failed | RedoError::LogFull => StoreFault::Io,
         }
     }
 }
 
-impl From<StoreError> for StoreFault {
-    fn from(error: StoreError) -> StoreFault {
-        match error {
-            StoreError::OutOfMemory => StoreFault::OutOfMemory,
-            StoreError::Io => StoreFault::Io,
-            StoreError::Full => StoreFault::NoRoom,
-            StoreError::Broken => StoreFault::Closed,
-            StoreError::Corrupt | StoreError::Unstorable => StoreFault::Damaged,
-        }
-    }
-}
+impl From<LayoutFault> for StoreFault {
+    ghost use Rattle.std.specs.Prelude.{◌≡◌};
+    ghost use Rattle.oram_store.specs.Faults.{fault_in};
 
-impl From<OpenError> for StoreFault {
-    fn from(error: OpenError) -> StoreFault {
+    ghost from_gives = { λ error fault. fault ≡ fault_in error };
+
+    fn from(error: LayoutFault) -> StoreFault {
         match error {
-            OpenError::OutOfMemory => StoreFault::OutOfMemory,
-            OpenError::Busy => StoreFault::Busy,
-            OpenError::Io(error) => error.into(),
-            OpenError::HotJournal => StoreFault::Io,
+            LayoutFault::Damaged => StoreFault::Damaged,
+            LayoutFault::OutOfMemory => StoreFault::OutOfMemory,
         }
     }
 }

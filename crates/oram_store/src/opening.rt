@@ -1,40 +1,211 @@
-//! A store in a file.
+//! A store in a file of the system's, with its log beside it.
+//!
+//! What stands at a path is looked at before anything is written there.
+ghost use Rattle.std.specs.Prelude.{◌≤◌, length, IfOk};
 
 use crate::faults::StoreFault;
-use crate::looking::look;
+use crate::making::create;
+use crate::record_file::BOUNDS;
 use crate::storing::Store;
-use sqlite::{Connection, File, FileStore, Options, Unknown};
-use std::alloc::Global;
-use std::hash::{BuildHasher, RandomState};
+use oram_layout::{FRONT_LEN, Front, Identity, read_front, read_log_front};
+use oram_redo::{SystemPair, Unknown};
+use std::alloc::{AllocError, Global};
+use std::fs::{File, OpenFile, OpenOptions, TryLockError};
+use std::io::ErrorKind;
+use std::os::unix::fs::{FileExt, OpenOptionsExt};
+use std::path::Path;
+use std::random::RandomSource;
+use std::{fs, io};
 
 /// A store in a file.
-pub type BucketFile = Store<FileStore<File>>;
+pub type BucketFile = Store<SystemPair<Unknown>>;
 
-/// How many pages the log takes before they are copied into the file: 64 MB. A longer log is copied less often, and a page
-/// that was written many times since, as those of a tree's top are, is copied once.
-const LOGGED_PAGES: usize = 16_384;
+/// For the owner alone.
+const OWNERS_ALONE: u32 = 0o600;
 
-/// How many pages that were read or written are kept in memory: 32 MB.
-const CACHED_PAGES: usize = 8_192;
-
-/// Opens the file of a store, or makes it where there is none, or an empty one. Beside it lies its log, under the same name
-/// and `-wal`: the two belong together.
+/// Opens the file of a store, or makes it where there is none. Beside it lies its log, under the same name and `-log`: the two belong
+/// together.
 ///
-/// A file that isn't a store's, is damaged or is held by another process is refused and keeps its bytes. What is in it is read
-/// once, some seconds for a GB, with memory for a 256th of it.
+/// What isn't a store's, is damaged or is held by another process is refused and keeps its bytes. Of the file its front alone is read; the
+/// log, 64 MiB at the most, is read once, and is empty after a clean end.
 ///
-/// After the disk failed (`StoreFault::Closed`) the store is dropped, and its file opened again by this call: all that was
-/// acknowledged and settled is there.
+/// After the disk failed (`StoreFault::Io`, `StoreFault::Closed`) the store is dropped, and its file opened again by this call: all that
+/// was acknowledged and settled is there.
 pub fn open_store(rt: &HostRuntime, alloc: Global, path: &str) -> Result<BucketFile, StoreFault> {
-    look(rt, path)?;
-    let files = sqlite_std_file::open(rt, path, Unknown)?;
-    let options = Options {
-        cache_pages: CACHED_PAGES,
-        checkpoint_frames: LOGGED_PAGES,
-        ..Options::new(RandomState::new(rt)?.hash_one(&0u8))
+    let files = if is_there(rt, path)? {
+        open_files(rt, alloc, path)?
+    } else {
+        make_files(rt, alloc, path)?
     };
-    match Connection::open_files(alloc, files, options) {
-        Ok(conn) => Store::over(alloc, conn),
-        Err((error, _)) => Err(error.into()),
+    Store::over(alloc, files)
+}
+
+/// Something stands at a path. A link that leads nowhere is something.
+fn is_there(rt: &HostRuntime, path: &str) -> io::Result<bool> {
+    match fs::symlink_metadata(rt, path) {
+        Ok(_) => Ok(true),
+        Err(error) if error.kind() == ErrorKind::NotFound => Ok(false),
+        Err(error) => Err(error),
     }
+}
+
+/// The name of a file's log.
+fn log_name(alloc: Global, path: &str) -> Result<String, AllocError> {
+    format!(in alloc; "{path}-log")
+}
+
+/// The name under which a file is made.
+fn new_name(alloc: Global, path: &str) -> Result<String, AllocError> {
+    format!(in alloc; "{path}.new")
+}
+
+/// Opens a plain file for reading and writing. A path that leads to nothing or to anything else gives that fault.
+fn open_plain(rt: &HostRuntime, path: &str, not_plain: StoreFault) -> Result<File, StoreFault> {
+    match fs::metadata(rt, path) {
+        Ok(found) if found.is_file() => {}
+        Ok(_) => return Err(not_plain),
+        Err(error) if error.kind() == ErrorKind::NotFound => return Err(not_plain),
+        Err(error) => return Err(error.into()),
+    }
+    let mut options = OpenOptions::new();
+    options.read(true).write(true);
+    Ok(options.open(rt, path)?)
+}
+
+/// Takes the lock of a file. It is held as long as the file is open.
+fn lock(file: &File) -> Result<(), StoreFault> {
+    match file.try_lock() {
+        Ok(()) => Ok(()),
+        Err(TryLockError::WouldBlock) => Err(StoreFault::Busy),
+        Err(TryLockError::Error(error)) => Err(error.into()),
+    }
+}
+
+/// The bytes at a place of a file, as many as there are.
+fn bytes_at(file: &File, at: u64, bytes: &mut [u8]) -> io::Result<usize>
+    ensures { IfOk result (λ len. len ≤ length bytes.new) }
+{
+    let mut got = 0;
+    while got < bytes.len() {
+        let Some(from) = at.checked_add(got as u64) else {
+            break;
+        };
+        match file.read_at(&mut bytes[got..], from)? {
+            0 => break,
+            n => got += n,
+        }
+    }
+    Ok(got)
+}
+
+/// The identity of a file of buckets.
+fn identity_of(records: &File) -> Result<Identity, StoreFault> {
+    let mut front = [0; FRONT_LEN];
+    let len = bytes_at(records, 0, &mut front)?;
+    match read_front(&front[..len]) {
+        Front::Ours(identity) => Ok(identity),
+        Front::NewerVersion => Err(StoreFault::NewerKind),
+        Front::Sqlite => Err(StoreFault::OldKind),
+        Front::Another | Front::Empty => Err(StoreFault::NotOurs),
+    }
+}
+
+/// The identity in the front of a log, if it has one.
+fn identity_of_log(log: &File) -> io::Result<Option<Identity>> {
+    let mut front = [0; FRONT_LEN];
+    let len = bytes_at(log, 0, &mut front)?;
+    Ok(read_log_front(&front[..len]))
+}
+
+/// Opens the file of a store, and its log.
+fn open_files(
+    rt: &HostRuntime,
+    alloc: Global,
+    path: &str,
+) -> Result<SystemPair<Unknown>, StoreFault> {
+    let records = open_plain(rt, path, StoreFault::NotOurs)?;
+    let identity = identity_of(&records)?;
+    lock(&records)?;
+    let real = fs::canonicalize(rt, path)?;
+    let log_name = log_name(alloc, real.as_str())?;
+    if !is_there(rt, log_name.as_str())? {
+        return Err(StoreFault::WithoutLog);
+    }
+    let log = open_plain(rt, log_name.as_str(), StoreFault::OthersLog)?;
+    if identity_of_log(&log)? != Some(identity) {
+        return Err(StoreFault::OthersLog);
+    }
+    Ok(SystemPair::new(Unknown, records, log)?)
+}
+
+/// Opens a file that is being made, for its owner alone. One that an earlier attempt has left is taken.
+fn open_new(rt: &HostRuntime, name: &str) -> io::Result<File> {
+    let mut options = OpenOptions::new();
+    options
+        .read(true)
+        .write(true)
+        .create(true)
+        .mode(OWNERS_ALONE);
+    options.open(rt, name)
+}
+
+/// A log whose first gate is open holds what was acknowledged.
+fn holds_entries(log: &File) -> io::Result<bool> {
+    let mut gate = [0];
+    let len = bytes_at(log, BOUNDS.log_start, &mut gate)?;
+    Ok(len > 0 && gate[0] == 1)
+}
+
+/// Refuses a log that stands where a new one would, unless it is one that an attempt to make a store has left.
+fn check_no_log(rt: &HostRuntime, log_name: &str) -> Result<(), StoreFault> {
+    if !is_there(rt, log_name)? {
+        return Ok(());
+    }
+    let log = open_plain(rt, log_name, StoreFault::LogAlone)?;
+    if identity_of_log(&log)?.is_none() || holds_entries(&log)? {
+        return Err(StoreFault::LogAlone);
+    }
+    Ok(())
+}
+
+fn new_identity(rt: &HostRuntime) -> io::Result<Identity> {
+    let mut identity = [0; 16];
+    rt.fill_bytes(&mut identity)?;
+    Ok(Identity(identity))
+}
+
+/// Gives a file that was made its own name, and syncs its folder.
+fn rename_new(rt: &HostRuntime, from: &str, to: &str) -> io::Result<()> {
+    fs::rename(rt, from, to)?;
+    let folder = match Path::new(to).parent() {
+        Some(folder) if folder.as_str() != "" => folder.as_str(),
+        _ => ".",
+    };
+    File::open(rt, folder)?.sync_all()
+}
+
+/// Makes the file of a store and its log under other names, and renames them: so no half of one is ever met. The new file is locked
+/// before it has its name.
+fn make_files(
+    rt: &HostRuntime,
+    alloc: Global,
+    path: &str,
+) -> Result<SystemPair<Unknown>, StoreFault> {
+    let log_name = log_name(alloc, path)?;
+    check_no_log(rt, log_name.as_str())?;
+    let (new_file, new_log) = (new_name(alloc, path)?, new_name(alloc, log_name.as_str())?);
+    let records = open_new(rt, new_file.as_str())?;
+    lock(&records)?;
+    // Another process may have made it just now.
+    if is_there(rt, path)? {
+        return Err(StoreFault::Busy);
+    }
+    let log = open_new(rt, new_log.as_str())?;
+    records.set_len(0)?;
+    log.set_len(0)?;
+    let mut files = SystemPair::new(Unknown, records, log)?;
+    create(&mut files, &new_identity(rt)?)?;
+    rename_new(rt, new_log.as_str(), log_name.as_str())?;
+    rename_new(rt, new_file.as_str(), path)?;
+    Ok(files)
 }

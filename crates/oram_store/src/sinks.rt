@@ -2,11 +2,11 @@
 
 use crate::storing::Store;
 use oram_host::HostRefusal;
+use oram_redo::FilePair;
 use oram_wire::{HostAnswer, Sink, SinkFault};
-use sqlite::Alter;
 
 // A sink that hands each body to the store. What it leaves isn't told.
-impl<S: Alter> Sink for Store<S> {
+impl<F: FilePair> Sink for Store<F> {
     ghost use Rattle.std.specs.Prelude.{⊤};
 
     ghost putting = { λ _ _ _. ⊤ };

@@ -1,97 +1,186 @@
-//! The store.
-
-ghost use Rattle.std.specs.Prelude.{◌≡◌, ◌≤◌, length, false, None, Some, IfErr, IfOk, IsOk, IsSome, MatchResult, OnErr, OnOk};
+//! The store: its trees, and what each request does to their records.
+ghost use Rattle.std.specs.Prelude.{◌≡◌, ◌≢◌, Contains, MatchOption, ◌⊎◌, ◌≤◌, ◌<◌, ◌+◌, ◌*◌, ◌^◌, ◌∷◌, [], ℕ, length, false, None, Some, IfErr, IfOk, IfSome, IsOk, IsSome, IsSomeAnd, MatchResult, OnErr, OnOk};
 ghost use Rattle.oram_host.specs.Path.{FitsAnswer, IsBehind};
 ghost use Rattle.oram_host.specs.Refusals.{code_of};
-ghost use Rattle.oram_store.specs.Keeping.{IsCommitted, IsKeptAtOnce, StaysSame};
-ghost use Rattle.oram_store.specs.Limits.{TreeShape};
-ghost use Rattle.oram_store.specs.Records.{Answers, AreKept, IsPathOf, KeepsOffPath, KeepsOthers, LacksOn, Puts, records_in};
-ghost use Rattle.oram_store.specs.Serving.{StandsBehind, StandsFor};
-ghost use Rattle.oram_store.specs.Shapes.{IsRefused, IsTold, Leads, refusal_by, seen, shape_at};
-ghost use Rattle.sqlite_trees.specs.View.{IsClean};
-ghost use Rattle.oram_wire.specs.FrameStream.{IsBody};
-ghost use Rattle.oram_wire.specs.HostMessages.{answer_body, request_body};
-ghost use Rattle.oram_wire.specs.HostReading.{HasNumbers, IsAnswer, IsMisfit, names_request, request_of};
+ghost use Rattle.oram_layout.specs.Changes.{IsCell, marks, path_patches, record_patch};
+ghost use Rattle.oram_layout.specs.Header.{entry_at, entry_bytes};
+ghost use Rattle.oram_layout.specs.Limits.{nodes_of};
+ghost use Rattle.oram_layout.specs.Records.{AreKept};
+ghost use Rattle.oram_layout.specs.Trees.{Trees, cell_at, next_of, sizes_of, tree_at};
+ghost use Rattle.oram_redo.specs.FilePair.{Contents, Rises};
+ghost use Rattle.oram_store.specs.Answers.{answer_by};
+ghost use Rattle.oram_store.specs.Closing.{Closes};
+ghost use Rattle.oram_store.specs.Crashes.{Serves, Settles};
+ghost use Rattle.oram_store.specs.Keeping.{Changes, IsSound, IsSoundFile, Puts, Stores, records_of};
+ghost use Rattle.oram_store.specs.Pending.{AreCells};
+ghost use Rattle.oram_store.specs.Refusals.{IsRefused, Leads, refusal_by};
+ghost use Rattle.oram_store.specs.RecordFile.{Calls, Commits, FileValue, IsReason, Runs};
+ghost use Rattle.oram_wire.specs.declared.host_messages.HostAnswer.{HostAnswer};
+ghost use Rattle.oram_wire.specs.declared.host_messages.HostRequest.{HostRequest};
 
+use crate::batches::{cells_of, marks_of, path_batch};
+use crate::cells::{THERE, has_record, read_path, write_missing};
 use crate::faults::StoreFault;
-use crate::records::{commit, read_path, write_path, write_record, write_shape};
-use crate::shapes::{Place, Shape};
-use crate::statements::{read_shapes, roll_back};
-use crate::tables::{Tables, prepare};
-use oram_bytes::Bytes;
+use crate::record_file::RecordFile;
 use oram_host::HostRefusal;
-use oram_wire::{GOOD, HostAnswer, HostView, REFUSED, WireFault};
-use sqlite::{Alter, Connection, FileStore};
-use sqlite_disk::Disk;
-use sqlite_value::row::Row;
-use std::alloc::{AllocError, Global};
+use oram_layout::{Shape, Tree, entry_place, next_base};
+use oram_redo::{FileKind, FilePair, Patch};
+use std::alloc::Global;
 use std::marker::Model;
 
-/// How many records of a formatting are committed together.
-const GROUP: u32 = 1_000;
+/// How many records of a formatting are settled together at the most.
+const MOST_PENDING: usize = 4_096;
 
-/// A bucket server whose records lie in a database.
+/// A bucket server whose records lie in a file.
 #[derive(Drop)]
-pub struct Store<S: Alter> {
+pub struct Store<F: FilePair> {
     alloc: Global,
-    database: S,
-    tables: Tables,
-    /// By tree, as the table of shapes has them.
-    shapes: Vec<Option<Shape>>,
-    /// How many records of a formatting aren't committed yet.
-    taken: u32,
+    file: RecordFile<F>,
+    /// By number, as the file's header has them.
+    trees: Vec<Option<Tree>>,
+    /// The cells whose records were PUT and whose first bytes aren't set yet.
+    pending: Vec<u64>,
     /// Why there was no room, the last time that there was none.
     failure: Option<StoreFault>,
 }
 
-impl<S: Alter> Model for Store<S> {
+impl<F: FilePair> Model for Store<F> {
     ghost use Rattle.oram_store.specs.Keeping.{StoreValue};
+    ghost use Rattle.oram_store.specs.Pending.{AreCells};
     ghost use Rattle.std.specs.Prelude.{◌≡◌, length};
 
-    ghost Value = { StoreValue S };
+    ghost Value = { StoreValue F };
 
-    ghost view = { λ s. record { database = s.database; tables = s.tables.records.items; shapes = s.shapes.items; taken = s.taken; failure = s.failure } };
+    ghost view = { λ s. record { file = s.file; trees = s.trees.items; pending = s.pending.items; failure = s.failure } };
 
-    ghost invariant = { λ s. length s.shapes.items ≡ 256 };
+    ghost invariant = { λ s. (length s.trees.items ≡ 256) × AreCells s.pending.items };
 }
 
-/// What came of a request that was carried out.
-enum Served {
-    /// The records that it asks for, behind other bytes.
-    Records(Vec<u8>),
-    Done,
+/// Commits that these cells' records are there.
+fn commit_marks<F: FilePair>(
+    alloc: Global,
+    file: &mut RecordFile<F>,
+    cells: &[u64],
+) -> Result<(), StoreFault>
+    requires { AreCells cells.now }
+    ensures commits { Commits F.seen F.may_leave F.moment F.left_since (marks cells.now) result file.old file.new }
+    ensures calls { Calls F.failures F.shortages F.is_honest result file.old file.new }
+    ensures running { OnOk result (file.new.has_stopped ≡ false) }
+{
+    let batch = marks_of(alloc, cells)?;
+    file.commit(alloc, &batch)
 }
 
-impl<S: Alter + Drop> Store<S> {
-    /// A store over a database, which gets its tables where it has none at all. A database that has other tables is left as
-    /// it is.
-    pub fn over(alloc: Global, mut conn: Connection<S>) -> Result<Store<S>, StoreFault> {
-        let prepared = prepare(alloc, &mut conn);
-        roll_back(&mut conn);
-        prepared?;
-        let shapes = read_shapes(alloc, &mut conn)?;
-        let tables = Tables::of(alloc, &conn)?;
-        Ok(Store {
-            alloc,
-            database: conn.into_store(),
-            tables,
-            shapes,
-            taken: 0,
-            failure: None,
-        })
-    }
+/// Commits one patch.
+fn commit_one<F: FilePair>(
+    alloc: Global,
+    file: &mut RecordFile<F>,
+    at: u64,
+    bytes: &[u8],
+) -> Result<(), StoreFault>
+    requires within { at + length bytes.now ≤ 2 ^ 62 }
+    requires short { length bytes.now ≤ 2 ^ 21 }
+    ensures commits { Commits F.seen F.may_leave F.moment F.left_since ((at, bytes.now) ∷ []) result file.old file.new }
+    ensures calls { Calls F.failures F.shortages F.is_honest result file.old file.new }
+    ensures running { OnOk result (file.new.has_stopped ≡ false) }
+{
+    file.commit(alloc, &[Patch { at, bytes }])
 }
 
-impl<S: Alter> Store<S> {
-    ghost use Rattle.oram_wire.specs.declared.host_messages.HostRequest.{HostRequest};
+/// Commits the record of a node that has one.
+fn commit_record<F: FilePair>(
+    alloc: Global,
+    file: &mut RecordFile<F>,
+    tree: &Tree,
+    node: u32,
+    bytes: &[u8],
+) -> Result<(), StoreFault>
+    requires node { node < nodes_of (sizes_of tree.now.shape) }
+    requires whole { length bytes.now ≡ tree.now.shape.record_len }
+    ensures commits { Commits F.seen F.may_leave F.moment F.left_since (record_patch tree.now node bytes.now ∷ []) result file.old file.new }
+    ensures calls { Calls F.failures F.shortages F.is_honest result file.old file.new }
+    ensures running { OnOk result (file.new.has_stopped ≡ false) }
+{
+    let mut cell = Vec::with_capacity(alloc, bytes.len() + 1)?;
+    cell.push(THERE)?;
+    cell.extend_from_slice(bytes)?;
+    commit_one(alloc, file, tree.cell_at(node), &cell)
+}
 
-    fn shape_of(&self, tree: u8) -> Option<Shape>
-        ensures { seen result ≡ shape_at self.now.shapes tree }
+/// Commits the entry of a tree.
+fn commit_entry<F: FilePair>(
+    alloc: Global,
+    file: &mut RecordFile<F>,
+    number: u8,
+    tree: &Tree,
+) -> Result<(), StoreFault>
+    ensures commits { Commits F.seen F.may_leave F.moment F.left_since ((entry_at number, entry_bytes (Some tree.now)) ∷ []) result file.old file.new }
+    ensures calls { Calls F.failures F.shortages F.is_honest result file.old file.new }
+    ensures running { OnOk result (file.new.has_stopped ≡ false) }
+{
+    commit_one(alloc, file, entry_place(number), &tree.entry())
+}
+
+/// Commits the records of a path.
+fn commit_path<F: FilePair>(
+    alloc: Global,
+    file: &mut RecordFile<F>,
+    tree: &Tree,
+    leaf: u32,
+    records: &[u8],
+) -> Result<(), StoreFault>
+    requires leaf { leaf < 2 ^ tree.now.shape.depth }
+    requires whole { length records.now ≡ (tree.now.shape.depth + 1) * tree.now.shape.record_len }
+    ensures commits { Commits F.seen F.may_leave F.moment F.left_since (path_patches tree.now leaf records.now 0 (tree.now.shape.depth + 1)) result file.old file.new }
+    ensures calls { Calls F.failures F.shortages F.is_honest result file.old file.new }
+    ensures running { OnOk result (file.new.has_stopped ≡ false) }
+{
+    let cells = cells_of(alloc, tree, records)?;
+    let batch = path_batch(alloc, tree, leaf, &cells)?;
+    file.commit(alloc, &batch)
+}
+
+/// Replaces the records of a path.
+fn store_path<F: FilePair>(
+    alloc: Global,
+    file: &mut RecordFile<F>,
+    tree: &Tree,
+    leaf: u32,
+    records: &[u8],
+) -> Result<(), StoreFault>
+    requires leaf { leaf < 2 ^ tree.now.shape.depth }
+    requires whole { length records.now ≡ (tree.now.shape.depth + 1) * tree.now.shape.record_len }
+    ensures changes { (trees : Trees) (number : ℕ) → tree_at trees number ≡ Some tree.now → IsSoundFile F.seen F.may_leave trees file.old → F.is_honest file.new.files
+        → Changes F.seen F.may_leave F.moment F.left_since trees (Stores number (sizes_of tree.now.shape) leaf records.now) result file.old file.new }
+    ensures calls { Calls F.failures F.shortages F.is_honest result file.old file.new }
+    ensures running { OnOk result (file.new.has_stopped ≡ false) }
+{
+    write_missing(alloc, file, tree, leaf, records)?;
+    commit_path(alloc, file, tree, leaf, records)
+}
+
+impl<F: FilePair> Store<F> {
+    /// A store over a file that was opened.
+    pub(crate) fn new(alloc: Global, file: RecordFile<F>, trees: Vec<Option<Tree>>) -> Store<F>
+        requires { length trees.items ≡ 256 }
+        ensures { result ≡ record { file = file; trees = trees.items; pending = []; failure = None } }
     {
-        self.shapes[usize::from(tree)]
+        Store {
+            alloc,
+            file,
+            trees,
+            pending: Vec::new(alloc),
+            failure: None,
+        }
     }
 
-    /// Why there was no room, the last time that a request was refused by the code 8 or `settle` failed. After `Closed` the
+    fn tree_of(&self, number: u8) -> Option<Tree>
+        ensures { result ≡ tree_at self.now.trees number }
+    {
+        self.trees[usize::from(number)]
+    }
+
+    /// Why there was no room, the last time that a request was refused by the code 8 or `settle` failed. After `Io` and `Closed` the
     /// file has to be opened again.
     pub fn failure(&self) -> Option<StoreFault>
         ensures { result ≡ self.now.failure }
@@ -101,300 +190,297 @@ impl<S: Alter> Store<S> {
 
     /// Keeps why there is no room.
     fn refuse(&mut self, fault: StoreFault) -> HostRefusal
-        ensures value { result ≡ HostRefusal.OutOfMemory }
-        ensures shapes { self.new.shapes ≡ self.old.shapes }
-        ensures why { self.new.failure ≡ Some fault }
-        ensures database { (self.new.database ≡ self.old.database) × (self.new.tables ≡ self.old.tables) }
+        ensures why { result ≡ HostRefusal.OutOfMemory }
+        ensures kept { self.new ≡ record self.old { failure = Some fault } }
     {
         self.failure = Some(fault);
         HostRefusal::OutOfMemory
     }
 
-    /// Commits what a formatting has put so far. Where that fails, these records are lost.
+    /// Makes sure of the records that a formatting has put so far: all of them, or, at `Err`, none. Then they stay to be settled.
     pub fn settle(&mut self) -> Result<(), StoreFault>
-        ensures none { self.old.taken ≡ 0 → IsOk result × (self.new ≡ self.old) }
-        ensures ok { OnOk result (self.new.failure ≡ self.old.failure) }
-        ensures err { IfErr result (λ fault. self.new.failure ≡ Some fault) }
-        ensures taken { self.new.taken ≡ 0 }
-        ensures shapes { (self.new.shapes ≡ self.old.shapes) × (self.new.tables ≡ self.old.tables) }
-        ensures same { OnOk result (StaysSame (S.Store.view self.old.database) (S.Store.view self.new.database)) }
+        ensures none { self.old.pending ≡ [] → IsOk result × (self.new ≡ self.old) }
+        ensures none_pending { OnOk result (self.new.pending ≡ []) }
+        ensures trees { self.new.trees ≡ self.old.trees }
+        ensures settles { IsSound F.seen F.may_leave self.old → Settles F.seen F.may_leave F.moment F.left_since self.old self.new }
+        ensures failure { MatchResult result (λ _. self.new.failure ≡ self.old.failure) (λ fault. self.new.failure ≡ Some fault) }
+        ensures calls { Calls F.failures F.shortages F.is_honest result self.old.file self.new.file }
     {
-        if self.taken == 0 {
+        if self.pending.is_empty() {
             return Ok(());
         }
-        self.taken = 0;
-        let done = commit(&mut self.database);
-        if let Err(fault) = done {
-            self.failure = Some(fault);
+        match commit_marks(self.alloc, &mut self.file, &self.pending) {
+            Ok(()) => {
+                self.pending.clear();
+                Ok(())
+            }
+            Err(fault) => {
+                self.failure = Some(fault);
+                Err(fault)
+            }
         }
-        done
     }
 
-    fn settled(&mut self) -> Result<(), HostRefusal>
-        ensures err { IfErr result (λ why. why ≡ HostRefusal.OutOfMemory) }
-        ensures shapes { (self.new.shapes ≡ self.old.shapes) × (self.new.tables ≡ self.old.tables) }
-        ensures same { OnOk result (StaysSame (S.Store.view self.old.database) (S.Store.view self.new.database)) }
+    /// The records of a path, behind other bytes, once what was put before is settled; `None` where one is missing.
+    fn settle_and_fetch(
+        &mut self,
+        tree: &Tree,
+        leaf: u32,
+        front: &[u8],
+    ) -> Result<Option<Vec<u8>>, StoreFault>
+        requires leaf { leaf < 2 ^ tree.now.shape.depth }
+        requires short { length front.now ≤ 1 }
+        ensures fits { IfOk result (λ found. IfSome found (λ v. IsBehind front.now FitsAnswer v.items)) }
+        ensures serves { (number : ℕ) → tree_at self.old.trees number ≡ Some tree.now → F.is_honest self.new.file.files → IsSound F.seen F.may_leave self.old → MatchResult result
+            (λ found. MatchOption found (Serves F.seen F.may_leave F.moment F.left_since (HostRequest.Fetch number leaf) (HostAnswer.Refused 6) self.old self.new)
+            (λ v. IsBehind front.now (λ bytes. Serves F.seen F.may_leave F.moment F.left_since (HostRequest.Fetch number leaf) (HostAnswer.Payload bytes) self.old self.new) v.items))
+            (λ _. Serves F.seen F.may_leave F.moment F.left_since (HostRequest.Fetch number leaf) (HostAnswer.Refused 8) self.old self.new) }
+        ensures none_pending { OnOk result (self.new.pending ≡ []) }
+        ensures trees { self.new.trees ≡ self.old.trees }
+        ensures calls { Calls F.failures F.shortages F.is_honest result self.old.file self.new.file }
+        ensures running { OnOk result (self.new.file.has_stopped ≡ false) }
     {
-        match self.settle() {
-            Ok(()) => Ok(()),
-            Err(_) => Err(HostRefusal::OutOfMemory),
-        }
+        self.settle()?;
+        read_path(self.alloc, &mut self.file, tree, leaf, front)
     }
 
     /// The records of a path, behind other bytes.
-    fn fetch(&mut self, tree: u8, leaf: u32, front: &[u8]) -> Result<Vec<u8>, HostRefusal>
+    pub(crate) fn fetch(
+        &mut self,
+        number: u8,
+        leaf: u32,
+        front: &[u8],
+    ) -> Result<Vec<u8>, HostRefusal>
         requires { length front.now ≤ 1 }
         ensures ok { IfOk result (λ v. IsBehind front.now FitsAnswer v.items) }
-        ensures allowed { OnOk result (refusal_by self.old.shapes (HostRequest.Fetch tree leaf) ≡ None) }
-        ensures refused { IfErr result (IsRefused self.old.shapes (HostRequest.Fetch tree leaf)) }
-        ensures untouched { IsSome (refusal_by self.old.shapes (HostRequest.Fetch tree leaf)) → self.new ≡ self.old }
-        ensures shapes { self.new.shapes ≡ self.old.shapes }
-        ensures path { IfOk result (λ v. IsClean (S.Store.view self.new.database) → (s : TreeShape) × (shape_at self.old.shapes tree ≡ Some s)
-            × IsBehind front.now (IsPathOf (records_in (S.Store.view self.old.database).trees self.old.tables) tree s leaf) v.items) }
-        ensures kept { OnOk result (IsClean (S.Store.view self.new.database) → AreKept (records_in (S.Store.view self.old.database).trees self.old.tables) (records_in (S.Store.view self.new.database).trees self.new.tables)) }
-        ensures lacks { result ≡ Err HostRefusal.Missing → IsClean (S.Store.view self.new.database)
-            → (s : TreeShape) × (shape_at self.old.shapes tree ≡ Some s) × LacksOn (records_in (S.Store.view self.old.database).trees self.old.tables) tree s leaf }
+        ensures allowed { OnOk result (refusal_by self.old.trees (HostRequest.Fetch number leaf) ≡ None) }
+        ensures refused { IfErr result (IsRefused self.old.trees (HostRequest.Fetch number leaf)) }
+        ensures untouched { IsSome (refusal_by self.old.trees (HostRequest.Fetch number leaf)) → self.new ≡ self.old }
+        ensures trees { self.new.trees ≡ self.old.trees }
+        ensures none_pending { OnOk result (self.new.pending ≡ []) }
+        ensures serves { F.is_honest self.new.file.files → IsSound F.seen F.may_leave self.old → MatchResult result
+            (λ v. IsBehind front.now (λ bytes. Serves F.seen F.may_leave F.moment F.left_since (HostRequest.Fetch number leaf) (HostAnswer.Payload bytes) self.old self.new) v.items)
+            (λ why. Serves F.seen F.may_leave F.moment F.left_since (HostRequest.Fetch number leaf) (HostAnswer.Refused (code_of why)) self.old self.new) }
+        ensures runs { Runs F.failures F.shortages F.is_honest self.old.file self.new.file }
+        ensures running { OnOk result (self.new.file.has_stopped ≡ false) }
+        ensures failure { result ≡ Err HostRefusal.OutOfMemory → IsSomeAnd self.new.failure (IsReason F.failures F.shortages self.old.file self.new.file) }
     {
-        let Some(shape) = self.shape_of(tree) else {
+        let Some(tree) = self.tree_of(number) else {
             return Err(HostRefusal::NoShape);
         };
-        if leaf >= shape.leaves() {
+        if leaf >= tree.shape.leaves() {
             return Err(HostRefusal::BadLeaf);
         }
-        self.settled()?;
-        let (database, tables) = (&mut self.database, &self.tables);
-        match read_path(self.alloc, database, tables, tree, shape, leaf, front) {
+        match self.settle_and_fetch(&tree, leaf, front) {
             Ok(Some(bytes)) => Ok(bytes),
             Ok(None) => Err(HostRefusal::Missing),
             Err(fault) => Err(self.refuse(fault)),
         }
     }
 
-    fn store(&mut self, tree: u8, leaf: u32, records: &[u8]) -> Result<(), HostRefusal>
-        ensures allowed { OnOk result (refusal_by self.old.shapes (HostRequest.Store tree leaf records.now) ≡ None) }
-        ensures refused { IfErr result (IsRefused self.old.shapes (HostRequest.Store tree leaf records.now)) }
-        ensures untouched { IsSome (refusal_by self.old.shapes (HostRequest.Store tree leaf records.now)) → self.new ≡ self.old }
-        ensures shapes { self.new.shapes ≡ self.old.shapes }
-        ensures committed { OnOk result (IsCommitted (S.Store.view self.new.database)) }
-        ensures path { OnOk result (IsClean (S.Store.view self.new.database) → (s : TreeShape) × (shape_at self.old.shapes tree ≡ Some s)
-            × IsPathOf (records_in (S.Store.view self.new.database).trees self.new.tables) tree s leaf records.now × KeepsOffPath (records_in (S.Store.view self.old.database).trees self.old.tables) tree s leaf (records_in (S.Store.view self.new.database).trees self.new.tables)) }
+    /// Replaces the records of a path, once what was put before is settled.
+    fn settle_and_store(&mut self, tree: &Tree, leaf: u32, records: &[u8]) -> Result<(), StoreFault>
+        requires leaf { leaf < 2 ^ tree.now.shape.depth }
+        requires whole { length records.now ≡ (tree.now.shape.depth + 1) * tree.now.shape.record_len }
+        ensures serves { (number : ℕ) → tree_at self.old.trees number ≡ Some tree.now → F.is_honest self.new.file.files → IsSound F.seen F.may_leave self.old → Serves F.seen F.may_leave F.moment F.left_since (HostRequest.Store number leaf records.now) (answer_by result) self.old self.new }
+        ensures none_pending { OnOk result (self.new.pending ≡ []) }
+        ensures trees { self.new.trees ≡ self.old.trees }
+        ensures calls { Calls F.failures F.shortages F.is_honest result self.old.file self.new.file }
+        ensures running { OnOk result (self.new.file.has_stopped ≡ false) }
     {
-        let Some(shape) = self.shape_of(tree) else {
+        self.settle()?;
+        store_path(self.alloc, &mut self.file, tree, leaf, records)
+    }
+
+    pub(crate) fn store(&mut self, number: u8, leaf: u32, records: &[u8]) -> Result<(), HostRefusal>
+        ensures allowed { OnOk result (refusal_by self.old.trees (HostRequest.Store number leaf records.now) ≡ None) }
+        ensures refused { IfErr result (IsRefused self.old.trees (HostRequest.Store number leaf records.now)) }
+        ensures untouched { IsSome (refusal_by self.old.trees (HostRequest.Store number leaf records.now)) → self.new ≡ self.old }
+        ensures trees { self.new.trees ≡ self.old.trees }
+        ensures none_pending { OnOk result (self.new.pending ≡ []) }
+        ensures serves { F.is_honest self.new.file.files → IsSound F.seen F.may_leave self.old → MatchResult result
+            (λ _. Serves F.seen F.may_leave F.moment F.left_since (HostRequest.Store number leaf records.now) HostAnswer.Done self.old self.new)
+            (λ why. Serves F.seen F.may_leave F.moment F.left_since (HostRequest.Store number leaf records.now) (HostAnswer.Refused (code_of why)) self.old self.new) }
+        ensures runs { Runs F.failures F.shortages F.is_honest self.old.file self.new.file }
+        ensures running { OnOk result (self.new.file.has_stopped ≡ false) }
+        ensures failure { result ≡ Err HostRefusal.OutOfMemory → IsSomeAnd self.new.failure (IsReason F.failures F.shortages self.old.file self.new.file) }
+    {
+        let Some(tree) = self.tree_of(number) else {
             return Err(HostRefusal::NoShape);
         };
-        if leaf >= shape.leaves() {
+        if leaf >= tree.shape.leaves() {
             return Err(HostRefusal::BadLeaf);
         }
-        if records.len() != shape.path_len() {
+        if records.len() != tree.shape.path_len() {
             return Err(HostRefusal::BadLength);
         }
-        self.settled()?;
-        let (database, tables) = (&mut self.database, &self.tables);
-        let done = write_path(self.alloc, database, tables, tree, shape, leaf, records);
-        self.undone(done)
+        match self.settle_and_store(&tree, leaf, records) {
+            Ok(()) => Ok(()),
+            Err(fault) => Err(self.refuse(fault)),
+        }
     }
 
-    /// Rolls back what a write left that failed.
-    fn undone(&mut self, done: Result<(), StoreFault>) -> Result<(), HostRefusal>
-        ensures ok { OnOk done (IsOk result) }
-        ensures none { OnOk result (IsOk done × (self.new ≡ self.old)) }
-        ensures err { IfErr result (λ why. why ≡ HostRefusal.OutOfMemory) }
-        ensures shapes { (self.new.shapes ≡ self.old.shapes) × (self.new.tables ≡ self.old.tables) }
+    pub(crate) fn put(&mut self, number: u8, node: u32, bytes: &[u8]) -> Result<(), HostRefusal>
+        ensures allowed { OnOk result (refusal_by self.old.trees (HostRequest.Put number node bytes.now) ≡ None) }
+        ensures refused { IfErr result (IsRefused self.old.trees (HostRequest.Put number node bytes.now)) }
+        ensures untouched { IsSome (refusal_by self.old.trees (HostRequest.Put number node bytes.now)) → self.new ≡ self.old }
+        ensures trees { self.new.trees ≡ self.old.trees }
+        ensures serves { F.is_honest self.new.file.files → IsSound F.seen F.may_leave self.old → MatchResult result
+            (λ _. Serves F.seen F.may_leave F.moment F.left_since (HostRequest.Put number node bytes.now) HostAnswer.Done self.old self.new)
+            (λ why. Serves F.seen F.may_leave F.moment F.left_since (HostRequest.Put number node bytes.now) (HostAnswer.Refused (code_of why)) self.old self.new) }
+        ensures runs { Runs F.failures F.shortages F.is_honest self.old.file self.new.file }
+        ensures running { OnOk result (self.new.file.has_stopped ≡ false) }
+        ensures failure { result ≡ Err HostRefusal.OutOfMemory → IsSomeAnd self.new.failure (IsReason F.failures F.shortages self.old.file self.new.file) }
     {
-        let Err(fault) = done else {
-            return Ok(());
-        };
-        self.database.rollback();
-        self.taken = 0;
-        Err(self.refuse(fault))
-    }
-
-    /// Takes a record into the group that isn't committed yet.
-    fn take(&mut self, place: Place, bytes: &[u8]) -> Result<(), HostRefusal>
-        ensures err { IfErr result (λ why. why ≡ HostRefusal.OutOfMemory) }
-        ensures shapes { (self.new.shapes ≡ self.old.shapes) × (self.new.tables ≡ self.old.tables) }
-        ensures puts { OnOk result (IsClean (S.Store.view self.new.database)
-            → Puts (S.Store.view self.old.database) (S.Store.view self.new.database) self.old.tables place.tree place.node bytes.now) }
-    {
-        let mut row = Row::new(self.alloc);
-        let (database, tables) = (&mut self.database, &self.tables);
-        let done = write_record(database, tables, place, bytes, &mut row);
-        self.undone(done)?;
-        self.taken = self.taken.saturating_add(1);
-        Ok(())
-    }
-
-    fn put(&mut self, tree: u8, node: u32, bytes: &[u8]) -> Result<(), HostRefusal>
-        ensures allowed { OnOk result (refusal_by self.old.shapes (HostRequest.Put tree node bytes.now) ≡ None) }
-        ensures refused { IfErr result (IsRefused self.old.shapes (HostRequest.Put tree node bytes.now)) }
-        ensures untouched { IsSome (refusal_by self.old.shapes (HostRequest.Put tree node bytes.now)) → self.new ≡ self.old }
-        ensures shapes { self.new.shapes ≡ self.old.shapes }
-        ensures puts { OnOk result (IsClean (S.Store.view self.new.database) → ((records_in (S.Store.view self.new.database).trees self.new.tables) tree node ≡ Some bytes.now)
-            × KeepsOthers (records_in (S.Store.view self.old.database).trees self.old.tables) tree node (records_in (S.Store.view self.new.database).trees self.new.tables)) }
-    {
-        let Some(shape) = self.shape_of(tree) else {
+        let Some(tree) = self.tree_of(number) else {
             return Err(HostRefusal::NoShape);
         };
-        if node >= shape.nodes() {
+        if node >= tree.shape.nodes() {
             return Err(HostRefusal::BadNode);
         }
-        if bytes.len() != shape.record_len as usize {
+        if bytes.len() != tree.shape.record_len as usize {
             return Err(HostRefusal::BadLength);
         }
-        self.take(Place { tree, node }, bytes)?;
-        if self.taken >= GROUP {
-            self.settled()?;
+        match self.put_record(&tree, node, bytes) {
+            Ok(()) => Ok(()),
+            Err(fault) => Err(self.refuse(fault)),
+        }
+    }
+
+    /// Settles where there are many PUTs, or one of the same cell.
+    fn make_room(&mut self, cell: u64) -> Result<(), StoreFault>
+        ensures room { OnOk result (length self.new.pending < 4096) }
+        ensures fresh { OnOk result (Contains self.new.pending cell → ⊥) }
+        ensures stays { OnOk result ((self.new ≡ self.old) ⊎ (self.new.pending ≡ [])) }
+        ensures settles { IsSound F.seen F.may_leave self.old → Settles F.seen F.may_leave F.moment F.left_since self.old self.new }
+        ensures trees { self.new.trees ≡ self.old.trees }
+        ensures calls { Calls F.failures F.shortages F.is_honest result self.old.file self.new.file }
+    {
+        if self.pending.len() >= MOST_PENDING || self.pending.contains(&cell) {
+            return self.settle();
         }
         Ok(())
     }
 
-    fn shape(&mut self, tree: u8, depth: u8, record_len: u32) -> Result<(), HostRefusal>
-        ensures allowed { OnOk result (refusal_by self.old.shapes (HostRequest.Shape tree depth record_len) ≡ None) }
-        ensures refused { IfErr result (IsRefused self.old.shapes (HostRequest.Shape tree depth record_len)) }
-        ensures untouched { IsSome (refusal_by self.old.shapes (HostRequest.Shape tree depth record_len)) → self.new ≡ self.old }
-        ensures after { OnOk result (Leads self.old.shapes (HostRequest.Shape tree depth record_len) self.new.shapes) }
-        ensures same { OnErr result (self.new.shapes ≡ self.old.shapes) }
-        ensures committed { OnOk result (IsCommitted (S.Store.view self.new.database)) }
-        ensures kept { OnOk result (IsClean (S.Store.view self.new.database) → AreKept (records_in (S.Store.view self.old.database).trees self.old.tables) (records_in (S.Store.view self.new.database).trees self.new.tables)) }
+    /// Puts a record: one over another is committed at once, and one where there was none waits to be settled.
+    fn put_record(&mut self, tree: &Tree, node: u32, bytes: &[u8]) -> Result<(), StoreFault>
+        requires node { node < nodes_of (sizes_of tree.now.shape) }
+        requires whole { length bytes.now ≡ tree.now.shape.record_len }
+        ensures serves { (number : ℕ) → tree_at self.old.trees number ≡ Some tree.now → F.is_honest self.new.file.files → IsSound F.seen F.may_leave self.old → Serves F.seen F.may_leave F.moment F.left_since (HostRequest.Put number node bytes.now) (answer_by result) self.old self.new }
+        ensures trees { self.new.trees ≡ self.old.trees }
+        ensures calls { Calls F.failures F.shortages F.is_honest result self.old.file self.new.file }
+        ensures running { OnOk result (self.new.file.has_stopped ≡ false) }
+    {
+        self.make_room(tree.cell_at(node))?;
+        self.put_in_cell(tree, node, bytes)
+    }
+
+    /// Puts a record into a cell for which none waits.
+    fn put_in_cell(&mut self, tree: &Tree, node: u32, bytes: &[u8]) -> Result<(), StoreFault>
+        requires node { node < nodes_of (sizes_of tree.now.shape) }
+        requires whole { length bytes.now ≡ tree.now.shape.record_len }
+        requires room { length self.old.pending < 4096 }
+        ensures serves { (number : ℕ) → tree_at self.old.trees number ≡ Some tree.now → F.is_honest self.new.file.files → IsSound F.seen F.may_leave self.old
+            → (Contains self.old.pending (cell_at tree.now node) → ⊥)
+            → Serves F.seen F.may_leave F.moment F.left_since (HostRequest.Put number node bytes.now) (answer_by result) self.old self.new }
+        ensures trees { self.new.trees ≡ self.old.trees }
+        ensures calls { Calls F.failures F.shortages F.is_honest result self.old.file self.new.file }
+        ensures running { OnOk result (self.new.file.has_stopped ≡ false) }
+    {
+        if has_record(self.alloc, &mut self.file, tree, node)? {
+            self.replace_record(tree, node, bytes)
+        } else {
+            self.add_record(tree, node, bytes)
+        }
+    }
+
+    /// Puts a record over another.
+    fn replace_record(&mut self, tree: &Tree, node: u32, bytes: &[u8]) -> Result<(), StoreFault>
+        requires node { node < nodes_of (sizes_of tree.now.shape) }
+        requires whole { length bytes.now ≡ tree.now.shape.record_len }
+        ensures serves { (number : ℕ) → tree_at self.old.trees number ≡ Some tree.now → IsSound F.seen F.may_leave self.old → Serves F.seen F.may_leave F.moment F.left_since (HostRequest.Put number node bytes.now) (answer_by result) self.old self.new }
+        ensures trees { self.new.trees ≡ self.old.trees }
+        ensures calls { Calls F.failures F.shortages F.is_honest result self.old.file self.new.file }
+        ensures running { OnOk result (self.new.file.has_stopped ≡ false) }
+    {
+        self.settle()?;
+        commit_record(self.alloc, &mut self.file, tree, node, bytes)
+    }
+
+    /// Writes a record into a cell that has none, and for which none waits.
+    fn add_record(&mut self, tree: &Tree, node: u32, bytes: &[u8]) -> Result<(), StoreFault>
+        requires node { node < nodes_of (sizes_of tree.now.shape) }
+        requires whole { length bytes.now ≡ tree.now.shape.record_len }
+        requires room { length self.old.pending < 4096 }
+        ensures serves { (number : ℕ) → tree_at self.old.trees number ≡ Some tree.now → IsSound F.seen F.may_leave self.old
+            → (Contains self.old.pending (cell_at tree.now node) → ⊥) → F.seen self.old.file.files FileKind.Records (cell_at tree.now node) ≢ 1 → Serves F.seen F.may_leave F.moment F.left_since (HostRequest.Put number node bytes.now) (answer_by result) self.old self.new }
+        ensures trees { self.new.trees ≡ self.old.trees }
+        ensures calls { Calls F.failures F.shortages F.is_honest result self.old.file self.new.file }
+        ensures running { OnOk result (self.new.file.has_stopped ≡ false) }
+    {
+        let cell = tree.cell_at(node);
+        self.file.write_loose(cell + 1, bytes)?;
+        self.pending.push(cell)?;
+        Ok(())
+    }
+
+    pub(crate) fn shape(
+        &mut self,
+        number: u8,
+        depth: u8,
+        record_len: u32,
+    ) -> Result<(), HostRefusal>
+        ensures allowed { OnOk result (refusal_by self.old.trees (HostRequest.Shape number depth record_len) ≡ None) }
+        ensures refused { IfErr result (IsRefused self.old.trees (HostRequest.Shape number depth record_len)) }
+        ensures untouched { IsSome (refusal_by self.old.trees (HostRequest.Shape number depth record_len)) → self.new ≡ self.old }
+        ensures after { OnOk result (Leads self.old.trees (HostRequest.Shape number depth record_len) self.new.trees) }
+        ensures same { OnErr result (self.new.trees ≡ self.old.trees) }
+        ensures none_pending { OnOk result (self.new.pending ≡ []) }
+        ensures serves { F.is_honest self.new.file.files → IsSound F.seen F.may_leave self.old → MatchResult result
+            (λ _. Serves F.seen F.may_leave F.moment F.left_since (HostRequest.Shape number depth record_len) HostAnswer.Done self.old self.new)
+            (λ why. Serves F.seen F.may_leave F.moment F.left_since (HostRequest.Shape number depth record_len) (HostAnswer.Refused (code_of why)) self.old self.new) }
+        ensures runs { Runs F.failures F.shortages F.is_honest self.old.file self.new.file }
+        ensures running { OnOk result (self.new.file.has_stopped ≡ false) }
     {
         let Some(shape) = Shape::new(depth, record_len) else {
             return Err(HostRefusal::BadLength);
         };
-        if self.shape_of(tree).is_some() {
+        if self.tree_of(number).is_some() {
             return Err(HostRefusal::ShapeTaken);
         }
-        self.settled()?;
-        let (database, tables) = (&mut self.database, &self.tables);
-        let done = write_shape(self.alloc, database, tables, tree, shape);
-        self.undone(done)?;
-        self.shapes[usize::from(tree)] = Some(shape);
+        match self.settle_and_add(number, shape) {
+            Ok(()) => Ok(()),
+            Err(fault) => Err(self.refuse(fault)),
+        }
+    }
+
+    /// Adds a tree behind all others, once what was put before is settled.
+    fn settle_and_add(&mut self, number: u8, shape: Shape) -> Result<(), StoreFault>
+        requires { tree_at self.old.trees number ≡ None }
+        ensures serves { IsSound F.seen F.may_leave self.old → Serves F.seen F.may_leave F.moment F.left_since (HostRequest.Shape number shape.depth shape.record_len) (answer_by result) self.old self.new }
+        ensures after { OnOk result (Leads self.old.trees (HostRequest.Shape number shape.depth shape.record_len) self.new.trees) }
+        ensures same { OnErr result (self.new.trees ≡ self.old.trees) }
+        ensures none_pending { OnOk result (self.new.pending ≡ []) }
+        ensures runs { Runs F.failures F.shortages F.is_honest self.old.file self.new.file }
+        ensures running { OnOk result (self.new.file.has_stopped ≡ false) }
+    {
+        self.settle()?;
+        let Some(tree) = Tree::place(shape, next_base(&self.trees)) else {
+            return Err(StoreFault::NoRoom);
+        };
+        commit_entry(self.alloc, &mut self.file, number, &tree)?;
+        self.trees[usize::from(number)] = Some(tree);
         Ok(())
-    }
-
-    /// Carries out a request, and puts records that it asks for behind other bytes.
-    fn serve(&mut self, request: HostView<'_>, front: &[u8]) -> Result<Served, HostRefusal>
-        requires { length front.now ≤ 1 }
-        ensures served { IfOk result (StandsBehind front.now (request_of request.entry)) }
-        ensures allowed { OnOk result (refusal_by self.old.shapes (request_of request.entry) ≡ None) }
-        ensures refused { IfErr result (IsRefused self.old.shapes (request_of request.entry)) }
-        ensures untouched { IsSome (refusal_by self.old.shapes (request_of request.entry)) → self.new ≡ self.old }
-        ensures after { OnOk result (Leads self.old.shapes (request_of request.entry) self.new.shapes) }
-        ensures same { OnErr result (self.new.shapes ≡ self.old.shapes) }
-        ensures committed { OnOk result (IsKeptAtOnce (request_of request.entry) → IsCommitted (S.Store.view self.new.database)) }
-        ensures records { IfOk result (λ served. IsClean (S.Store.view self.new.database) → (answer : HostAnswer) × StandsFor front.now served answer
-            × Answers self.old.shapes (records_in (S.Store.view self.old.database).trees self.old.tables) (request_of request.entry) answer (records_in (S.Store.view self.new.database).trees self.new.tables)) }
-        ensures missing { result ≡ Err HostRefusal.Missing → IsClean (S.Store.view self.new.database)
-            → Answers self.old.shapes (records_in (S.Store.view self.old.database).trees self.old.tables) (request_of request.entry) (HostAnswer.Refused 6) (records_in (S.Store.view self.new.database).trees self.new.tables) }
-    {
-        match request {
-            HostView::Fetch { tree, leaf } => {
-                let records = self.fetch(tree, leaf, front)?;
-                return Ok(Served::Records(records));
-            }
-            HostView::Store {
-                tree,
-                leaf,
-                records,
-            } => self.store(tree, leaf, records)?,
-            HostView::Put { tree, node, bytes } => self.put(tree, node, bytes)?,
-            HostView::Shape {
-                tree,
-                depth,
-                record_len,
-            } => self.shape(tree, depth, record_len)?,
-        }
-        Ok(Served::Done)
-    }
-
-    /// Carries out the request that a body is, and puts records that it asks for behind other bytes.
-    fn serve_body(&mut self, body: &[u8], front: &[u8]) -> Result<Served, HostRefusal>
-        requires { length front.now ≤ 1 }
-        ensures op { names_request body.now ≡ false → (result ≡ Err HostRefusal.BadOp) × (self.new ≡ self.old) }
-        ensures misfit { IsMisfit body.now → (result ≡ Err HostRefusal.BadLength) × (self.new ≡ self.old) }
-        ensures untouched { (message : HostRequest) → HasNumbers message → body.now ≡ request_body message
-            → IsSome (refusal_by self.old.shapes message) → self.new ≡ self.old }
-        ensures served { IfOk result (λ served. (message : HostRequest) × StandsBehind front.now message served) }
-        ensures told { (message : HostRequest) → HasNumbers message → body.now ≡ request_body message
-            → MatchResult result
-            (λ served. StandsBehind front.now message served × (refusal_by self.old.shapes message ≡ None)
-            × Leads self.old.shapes message self.new.shapes
-            × (IsKeptAtOnce message → IsCommitted (S.Store.view self.new.database)))
-            (λ why. IsRefused self.old.shapes message why × (self.new.shapes ≡ self.old.shapes)) }
-        ensures records { (message : HostRequest) → HasNumbers message → body.now ≡ request_body message → IsClean (S.Store.view self.new.database)
-            → MatchResult result
-            (λ served. (answer : HostAnswer) × StandsFor front.now served answer × Answers self.old.shapes (records_in (S.Store.view self.old.database).trees self.old.tables) message answer (records_in (S.Store.view self.new.database).trees self.new.tables))
-            (λ why. Answers self.old.shapes (records_in (S.Store.view self.old.database).trees self.old.tables) message (HostAnswer.Refused (code_of why)) (records_in (S.Store.view self.new.database).trees self.new.tables)) }
-    {
-        match HostView::read(body) {
-            Ok(request) => self.serve(request, front),
-            Err(WireFault::Op) => Err(HostRefusal::BadOp),
-            Err(_) => Err(HostRefusal::BadLength),
-        }
-    }
-
-    /// Answers the body of a request. A STORE that is answered as done is on the disk. A request that is refused changes
-    /// nothing, but where the database failed: then the records of a formatting that weren't committed are lost.
-    pub fn handle(&mut self, body: &[u8]) -> HostAnswer
-        // A body that is no request's is refused.
-        ensures op { names_request body.now ≡ false → (result ≡ HostAnswer.Refused 7) × (self.new ≡ self.old) }
-        ensures misfit { IsMisfit body.now → (result ≡ HostAnswer.Refused 4) × (self.new ≡ self.old) }
-
-        // One that the trees' shapes refuse is refused for that reason, and any other is carried out, unless a record is missing or there
-        // is no room.
-        ensures request { (message : HostRequest) → HasNumbers message → body.now ≡ request_body message
-            → IsTold self.old.shapes message result self.new.shapes }
-        ensures untouched { (message : HostRequest) → HasNumbers message → body.now ≡ request_body message
-            → IsSome (refusal_by self.old.shapes message) → self.new ≡ self.old }
-
-        // The answer and what it leaves are those of the records by tree and node, as long as the disk is as it should be.
-        ensures records { (message : HostRequest) → HasNumbers message → body.now ≡ request_body message → IsClean (S.Store.view self.new.database)
-            → Answers self.old.shapes (records_in (S.Store.view self.old.database).trees self.old.tables) message result (records_in (S.Store.view self.new.database).trees self.new.tables) }
-
-        // What is answered as done is on the disk, but for a PUT, which is one of a group.
-        ensures committed { (message : HostRequest) → HasNumbers message → body.now ≡ request_body message → IsKeptAtOnce message
-            → result ≡ HostAnswer.Done → IsCommitted (S.Store.view self.new.database) }
-
-        // The answer has a body.
-        ensures spelled { IsAnswer result }
-    {
-        match self.serve_body(body, &[]) {
-            Ok(Served::Records(records)) => HostAnswer::Payload(Bytes::from_vec(records)),
-            Ok(Served::Done) => HostAnswer::Done,
-            Err(why) => HostAnswer::Refused(why.code()),
-        }
-    }
-
-    /// The bytes of the answer to the body of a request, which `handle` would answer alike. Records stand in one vector
-    /// with the byte before them, so they are copied once.
-    ///
-    /// Room for an answer without records is taken first: where there is none, nothing is served.
-    pub fn answer(&mut self, alloc: Global, body: &[u8]) -> Result<Vec<u8>, AllocError>
-        ensures ok { IfOk result (λ v. (answer : HostAnswer) × IsAnswer answer × (v.items ≡ answer_body answer)
-            × ((message : HostRequest) → HasNumbers message → body.now ≡ request_body message → IsTold self.old.shapes message answer self.new.shapes
-            × (IsClean (S.Store.view self.new.database) → Answers self.old.shapes (records_in (S.Store.view self.old.database).trees self.old.tables) message answer (records_in (S.Store.view self.new.database).trees self.new.tables)))) }
-        ensures committed { (message : HostRequest) → HasNumbers message → body.now ≡ request_body message → IsKeptAtOnce message
-            → IfOk result (λ v. v.items ≡ answer_body HostAnswer.Done → IsCommitted (S.Store.view self.new.database)) }
-        ensures op { names_request body.now ≡ false → IfOk result (λ v. v.items ≡ answer_body (HostAnswer.Refused 7)) }
-        ensures misfit { IsMisfit body.now → IfOk result (λ v. v.items ≡ answer_body (HostAnswer.Refused 4)) }
-        // A frame has room for it.
-        ensures fits { IfOk result (λ v. IsBody v.items) }
-        ensures err { OnErr result (self.new ≡ self.old) }
-    {
-        let mut short = Vec::with_capacity(alloc, 2)?;
-        match self.serve_body(body, &[GOOD]) {
-            Ok(Served::Records(answer)) => return Ok(answer),
-            Ok(Served::Done) => short.extend_from_slice(&[GOOD])?,
-            Err(why) => short.extend_from_slice(&[REFUSED, why.code()])?,
-        }
-        Ok(short)
     }
 }
 
-impl<D: Disk + Drop> Store<FileStore<D>> {
-    /// Commits, copies the log into the file and closes both.
-    pub fn close(mut self) -> Result<(), StoreFault> {
-        let settled = self.settle();
-        self.database.checkpoint()?;
-        settled
+impl<F: FilePair + Drop> Store<F> {
+    /// Settles, and leaves an empty log, so that the next opening is quick. At `Ok` all records are on the disk.
+    pub fn close(mut self) -> Result<(), StoreFault>
+        // `last` is the file when it is given up.
+        ensures { (last : FileValue F) × Closes F.seen F.may_leave F.moment F.left_since F.failures F.shortages F.is_honest result self last }
+    {
+        self.settle()?;
+        self.file.restart()
     }
 }

@@ -11,7 +11,7 @@ use Rattle.oramdisk.specs.declared.faults.Fault.TheVariants.{OutOfMemory}
 use Rattle.oramdisk.specs.declared.visits.EarlyEnd.TheVariants.{Displaced, Fault}
 
 -- what a new folder's settings say
-the_first_settings : parse_document (codes "listen = \"127.0.0.1:7001\"\nfile = \"buckets.sqlite\"\n") ≡ Some (member (codes "file") (string (codes "buckets.sqlite")) (member (codes "listen") (string (codes "127.0.0.1:7001")) no_members))
+the_first_settings : parse_document (codes "listen = \"127.0.0.1:7001\"\nfile = \"buckets\"\n") ≡ Some (member (codes "file") (string (codes "buckets")) (member (codes "listen") (string (codes "127.0.0.1:7001")) no_members))
 unfolding toml_on_literals
 the_first_settings = refl
 

@@ -9,7 +9,7 @@ use Rattle.oram_settings.specs.declared.differences.FixedKey.TheVariants as fixe
 use Rattle.oram_store.specs.declared.faults.StoreFault.{StoreFault}
 use Rattle.oram_store.specs.declared.faults.StoreFault.TheVariants as store
 use Rattle.oramdisk.specs.declared.faults.Fault.{Fault}
-use Rattle.oramdisk.specs.declared.faults.Fault.TheVariants.{CommandLine, Settings, DiskSettings, Device, Size, OutOfMemory, File, Address, Accept, NotOurs, Damaged, Busy, NoFile, FileExists, Exists, Formatted, NotADisk, OlderState, WrongKey, Changed, OutOfReach, HostFull, AnotherDisk, NoDisk, HostTaken, HostRefused, Unkept, UsedUp, Random, InUse, Failed, NotFailed}
+use Rattle.oramdisk.specs.declared.faults.Fault.TheVariants.{CommandLine, Settings, DiskSettings, Device, Size, OutOfMemory, File, Address, Accept, NotOurs, OlderFile, NewerFile, WithoutLog, OthersLog, LogAlone, Damaged, Busy, NoFile, FileExists, Exists, Formatted, NotADisk, OlderState, WrongKey, Changed, OutOfReach, HostFull, AnotherDisk, NoDisk, HostTaken, HostRefused, Unkept, UsedUp, Random, InUse, Failed, NotFailed}
 
 -- what a line begins with that tells of a changed value
 abbrev pub changed : FixedKey → List ℕ
@@ -31,6 +31,11 @@ line_of (File name) = codes "oramdisk: can't open, read or write " ++ string_byt
 line_of (Address name) = codes "oramdisk: can't listen at " ++ string_bytes name ++ codes ": end the program that listens there, or name another port\n"
 line_of Accept = codes "oramdisk: " ++ codes "can't accept connections" ++ codes ": start it again\n"
 line_of (NotOurs name) = codes "oramdisk: " ++ string_bytes name ++ codes " isn't a file of buckets, and is left as it is: name another file\n"
+line_of (OlderFile name) = codes "oramdisk: " ++ string_bytes name ++ codes " is a SQLite file, which an older version may have written, and is left as it is: serve it with that version, or name another file, and format anew\n"
+line_of (NewerFile name) = codes "oramdisk: " ++ string_bytes name ++ codes " is a file of buckets of a newer version, and is left as it is: serve it with that version\n"
+line_of (WithoutLog name) = codes "oramdisk: the log of " ++ string_bytes name ++ codes ", the file beside it with -log behind its name, isn't there: put back the one that it was served with last\n"
+line_of (OthersLog name) = codes "oramdisk: the log of " ++ string_bytes name ++ codes ", the file beside it with -log behind its name, is another file's: put back the one that it was served with last\n"
+line_of (LogAlone name) = codes "oramdisk: there is no file " ++ string_bytes name ++ codes ", but its log, the file beside it with -log behind its name, holds records of it: put the file back, or take the log away\n"
 line_of (Damaged name) = codes "oramdisk: " ++ string_bytes name ++ codes " is damaged, and is left as it is: name another file, and format anew\n"
 line_of (Busy name) = codes "oramdisk: " ++ string_bytes name ++ codes " is held by another process: end that one first\n"
 line_of (NoFile name) = codes "oramdisk: there is no file " ++ string_bytes name ++ codes ": see that the settings are those of the right host, or say oramdisk host --new to make it\n"
@@ -57,7 +62,8 @@ line_of Random = codes "oramdisk: " ++ codes "the system gives no random bytes" 
 -- 2: words or settings; 3: memory; 4: a file; 5: a socket; 6 to 8: a host's file that is none, damaged, or held; 9: what is there already;
 -- 10: a state that is none; 11, 12: a host out of reach, or that refuses; 13: a state that can't be kept; 14: no access left; 15: no random bytes;
 -- 16: a disk in use; 17: a disk that has failed; 18: one that has not; 19: a host's file that is missing;
--- 20 to 22: a host with another disk, with none, or without room; 23, 24: a key or another value that isn't the formatting's
+-- 20 to 22: a host with another disk, with none, or without room; 23, 24: a key or another value that isn't the formatting's;
+-- 25: a host's file of another version; 26: a file without its log, or a log without its file
 abbrev pub status_of : Fault → ℕ
 status_of CommandLine = 2
 status_of (Settings name) = 2
@@ -91,6 +97,11 @@ status_of (NoDisk address) = 21
 status_of (HostFull address) = 22
 status_of (WrongKey name) = 23
 status_of (Changed key name) = 24
+status_of (OlderFile name) = 25
+status_of (NewerFile name) = 25
+status_of (WithoutLog name) = 26
+status_of (OthersLog name) = 26
+status_of (LogAlone name) = 26
 
 abbrev pub file_fault : FileFault → Fault
 file_fault (file.File name) = File name
@@ -100,6 +111,11 @@ file_fault file.OutOfMemory = OutOfMemory
 abbrev pub Tells : List ℕ → StoreFault → Fault → Type 0
 Tells name store.Busy (Busy told) = string_bytes told ≡ name
 Tells name store.NotOurs (NotOurs told) = string_bytes told ≡ name
+Tells name store.OldKind (OlderFile told) = string_bytes told ≡ name
+Tells name store.NewerKind (NewerFile told) = string_bytes told ≡ name
+Tells name store.WithoutLog (WithoutLog told) = string_bytes told ≡ name
+Tells name store.OthersLog (OthersLog told) = string_bytes told ≡ name
+Tells name store.LogAlone (LogAlone told) = string_bytes told ≡ name
 Tells name store.Damaged (Damaged told) = string_bytes told ≡ name
 Tells name store.NoRoom (File told) = string_bytes told ≡ name
 Tells name store.Io (File told) = string_bytes told ≡ name

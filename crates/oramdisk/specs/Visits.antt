@@ -22,13 +22,11 @@ ending (Some (early.Fault serve.OutOfMemory)) = codes ", out of memory"
 -- what is told of a file that had no room
 abbrev pub failing : Option StoreFault → List ℕ
 failing None = []
-failing (Some store.Busy) = codes ", the file was held by another process"
-failing (Some store.NotOurs) = codes ", the file was no file of buckets"
-failing (Some store.Damaged) = codes ", the file was damaged"
 failing (Some store.NoRoom) = codes ", the disk was full"
 failing (Some store.Io) = codes ", the disk failed"
 failing (Some store.Closed) = codes ", the disk had failed"
 failing (Some store.OutOfMemory) = codes ", there was no memory"
+failing (Some _) = codes ", the file wasn't as it has to be"
 
 -- who, from when until when, what was asked and answered, and how it ended
 abbrev pub line_of : Visit → List ℕ

@@ -6,7 +6,7 @@ use oram_client::{
     DiskKey, Head, KeptFault, KeptFile, Keys, SealerKind, WrongKey, keys_for, read_kept_file,
 };
 use oram_core::Core;
-use oram_edge::{InputFault, bytes_in};
+use oram_edge::{InputFault, LockFault, StateLock, bytes_in, lock_state};
 use oram_geometry::Device;
 use oram_settings::{DiskSettings, Sealing, beside, first_difference, read_disk_settings};
 use oram_state::{StateFault, decode_state};
@@ -32,6 +32,15 @@ pub(crate) fn disk_settings_in<R: Files + AllocGlobal>(
         }
         Err(InputFault::Bad) => Err(Fault::DiskSettings(name)),
         Err(InputFault::OutOfMemory) => Err(Fault::OutOfMemory),
+    }
+}
+
+/// Takes the lock of a disk's state, so that no other process serves, formats or retries that disk.
+pub(crate) fn take_lock(rt: &HostRuntime, state: &str) -> Result<StateLock, Fault> {
+    match lock_state(rt, state) {
+        Ok(lock) => Ok(lock),
+        Err(LockFault::InUse) => Err(Fault::InUse(String::from_str(rt.alloc(), state)?)),
+        Err(LockFault::File(why)) => Err(why.into()),
     }
 }
 

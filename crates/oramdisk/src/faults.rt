@@ -33,6 +33,14 @@ pub enum Fault {
     Accept,
     /// The file of this name isn't one of buckets.
     NotOurs(String),
+    /// The file of buckets of this name is an older version's, or a newer one's.
+    OlderFile(String),
+    NewerFile(String),
+    /// The log beside the file of buckets of this name isn't there, or is another file's.
+    WithoutLog(String),
+    OthersLog(String),
+    /// Of the file of buckets of this name there is the log alone.
+    LogAlone(String),
     /// The file of this name holds what no host writes.
     Damaged(String),
     /// Another process has the file of this name open.
@@ -112,6 +120,11 @@ pub fn store_fault(alloc: Global, name: &str, why: StoreFault) -> Fault
     match why {
         StoreFault::Busy => Fault::Busy(name),
         StoreFault::NotOurs => Fault::NotOurs(name),
+        StoreFault::OldKind => Fault::OlderFile(name),
+        StoreFault::NewerKind => Fault::NewerFile(name),
+        StoreFault::WithoutLog => Fault::WithoutLog(name),
+        StoreFault::OthersLog => Fault::OthersLog(name),
+        StoreFault::LogAlone => Fault::LogAlone(name),
         StoreFault::Damaged => Fault::Damaged(name),
         StoreFault::NoRoom | StoreFault::Io | StoreFault::Closed => Fault::File(name),
         StoreFault::OutOfMemory => Fault::OutOfMemory,
@@ -182,6 +195,31 @@ impl Fault {
                 "oramdisk: ",
                 name.as_str(),
                 " isn't a file of buckets, and is left as it is: name another file\n",
+            ),
+            Fault::OlderFile(name) => (
+                "oramdisk: ",
+                name.as_str(),
+                " is a SQLite file, which an older version may have written, and is left as it is: serve it with that version, or name another file, and format anew\n",
+            ),
+            Fault::NewerFile(name) => (
+                "oramdisk: ",
+                name.as_str(),
+                " is a file of buckets of a newer version, and is left as it is: serve it with that version\n",
+            ),
+            Fault::WithoutLog(name) => (
+                "oramdisk: the log of ",
+                name.as_str(),
+                ", the file beside it with -log behind its name, isn't there: put back the one that it was served with last\n",
+            ),
+            Fault::OthersLog(name) => (
+                "oramdisk: the log of ",
+                name.as_str(),
+                ", the file beside it with -log behind its name, is another file's: put back the one that it was served with last\n",
+            ),
+            Fault::LogAlone(name) => (
+                "oramdisk: there is no file ",
+                name.as_str(),
+                ", but its log, the file beside it with -log behind its name, holds records of it: put the file back, or take the log away\n",
             ),
             Fault::Damaged(name) => (
                 "oramdisk: ",
@@ -328,6 +366,8 @@ impl Fault {
             Fault::HostFull(_) => 22,
             Fault::WrongKey(_) => 23,
             Fault::Changed(_, _) => 24,
+            Fault::OlderFile(_) | Fault::NewerFile(_) => 25,
+            Fault::WithoutLog(_) | Fault::OthersLog(_) | Fault::LogAlone(_) => 26,
         }
     }
 }

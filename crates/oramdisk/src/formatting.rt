@@ -1,9 +1,8 @@
 //! A disk is formatted on its host.
 
-use crate::disk_files::{disk_settings_in, keys_in, sealer_of};
+use crate::disk_files::{disk_settings_in, keys_in, sealer_of, take_lock};
 use crate::failures::forget_failure;
 use crate::faults::Fault;
-use crate::state_lock::lock_state;
 use oram_bucket::{ChaChaSeal, PlainSeal, Sealer};
 use oram_client::{
     Ahead, DiskKey, FileKeeper, FilePlace, FormattingFault, Head, Identity, Progress, Salt,
@@ -159,7 +158,7 @@ pub(crate) fn format_disk(rt: &HostRuntime, name: String) -> Result<(), Fault> {
     ) else {
         return Err(Fault::Device(name));
     };
-    let _lock = lock_state(rt, alloc, settings.state.as_str())?;
+    let _lock = take_lock(rt, settings.state.as_str())?;
     if let Some(found) = kept_name(rt, alloc, settings.state.as_str())? {
         return Err(Fault::Formatted(found));
     }

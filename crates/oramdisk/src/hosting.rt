@@ -1,6 +1,6 @@
 //! The host: connections that are served one after the other, out of a store in a file.
 
-ghost use Rattle.std.specs.Prelude.{◌≡◌};
+ghost use Rattle.std.specs.Prelude.{◌≡◌, ◌⊎◌, [], IsSome};
 
 use crate::attending::HostAttendant;
 use crate::faults::{Fault, store_fault};
@@ -10,16 +10,20 @@ use crate::visits::{EarlyEnd, Visit, line};
 use jiff::Timestamp;
 use oram_answering::{ServeFault, host_serve};
 use oram_edge::{InputFault, SocketFault, bytes_in, call_fault, listen};
+use oram_redo::FilePair;
 use oram_settings::beside;
 use oram_sockets::{MarkedReader, MarkedWriter, watch};
 use oram_store::{Store, StoreFault, open_store};
-use sqlite::Alter;
 use std::alloc::AllocError;
 use std::io::{Error, ErrorKind, Read, Write};
 use std::net::{Net, OpenListener, OpenStream, SocketAddr};
 use std::os::fd::{AsRawFd, RawFd};
 use std::rt::{Clock, Files};
-use std::{fs, str};
+use std::time::Duration;
+use std::{fs, str, thread};
+
+/// How many seconds a host waits before it tries again to open a file whose disk has failed.
+const RETRY_AFTER: u64 = 1;
 
 /// The settings in the file of this name, where the name of the file of buckets is as seen from here.
 fn settings_in<R: Files + AllocGlobal>(rt: &R, name: String) -> Result<HostSettings, Fault> {
@@ -58,14 +62,14 @@ pub(crate) fn time<R: Clock + AllocGlobal>(rt: &R) -> Result<String, AllocError>
 }
 
 /// Serves a connection to its end, and tells why that came early.
-fn serve<R: Net + Clock + AllocGlobal, T: Read + Write + OpenStream + AsRawFd + Drop, S: Alter>(
+fn serve<R: Net + Clock + AllocGlobal, T: Read + Write + OpenStream + AsRawFd + Drop, F: FilePair>(
     rt: &R,
     listener: RawFd,
     stream: T,
-    hosted: &mut Hosted<S>,
+    hosted: &mut Hosted<F>,
 ) -> Option<EarlyEnd>
-    // No record of a formatting waits for a commit behind it.
-    ensures { hosted.old.store.taken ≡ 0 → hosted.new.store.taken ≡ 0 }
+    // Behind it each record of a formatting is sure, or the tally tells why not.
+    ensures { hosted.old.store.pending ≡ [] → (hosted.new.store.pending ≡ []) ⊎ IsSome hosted.new.tally.failure }
 {
     let alloc = rt.alloc();
     hosted.begin();
@@ -81,6 +85,10 @@ fn serve<R: Net + Clock + AllocGlobal, T: Read + Write + OpenStream + AsRawFd + 
     let mut writer = MarkedWriter::new(writer, &attendant);
     let served = host_serve(alloc, &mut reader, &mut writer, hosted);
     hosted.settle();
+    if hosted.has_failed() {
+        // The tally tells why.
+        return None;
+    }
     attendant.early_end(served)
 }
 
@@ -88,15 +96,15 @@ fn serve<R: Net + Clock + AllocGlobal, T: Read + Write + OpenStream + AsRawFd + 
 fn receive<
     R: Net + Clock + Eprint + AllocGlobal,
     T: Read + Write + OpenStream + AsRawFd + Drop,
-    S: Alter,
+    F: FilePair,
 >(
     rt: &R,
     listener: RawFd,
     stream: T,
     peer: SocketAddr,
-    hosted: &mut Hosted<S>,
+    hosted: &mut Hosted<F>,
 ) -> Result<(), AllocError>
-    ensures { hosted.old.store.taken ≡ 0 → hosted.new.store.taken ≡ 0 }
+    ensures { hosted.old.store.pending ≡ [] → (hosted.new.store.pending ≡ []) ⊎ IsSome hosted.new.tally.failure }
 {
     let alloc = rt.alloc();
     let peer = format!(in alloc; "{peer}")?;
@@ -138,10 +146,10 @@ pub(crate) fn not_accepted(error: &Error) -> Result<(), Fault> {
 }
 
 /// Serves connections, one after the other, until the store has to be opened again.
-fn serve_all<R: Net + Clock + Eprint + AllocGlobal, L: OpenListener + AsRawFd, S: Alter + Drop>(
+fn serve_all<R: Net + Clock + Eprint + AllocGlobal, L: OpenListener + AsRawFd, F: FilePair + Drop>(
     rt: &R,
     listener: &L,
-    mut hosted: Hosted<S>,
+    mut hosted: Hosted<F>,
 ) -> Result<(), Fault>
 where
     L::Stream: Read + Write + OpenStream + AsRawFd,
@@ -165,12 +173,11 @@ where
 }
 
 /// Serves a store that was opened, until it has to be opened again.
-fn serve_opened<R: Net + Clock + Eprint + AllocGlobal, L: OpenListener + AsRawFd, S: Alter + Drop>(
-    rt: &R,
-    listener: &L,
-    opened: Result<Store<S>, StoreFault>,
-    file: &str,
-) -> Result<(), Fault>
+fn serve_opened<
+    R: Net + Clock + Eprint + AllocGlobal,
+    L: OpenListener + AsRawFd,
+    F: FilePair + Drop,
+>(rt: &R, listener: &L, opened: Result<Store<F>, StoreFault>, file: &str) -> Result<(), Fault>
 where
     L::Stream: Read + Write + OpenStream + AsRawFd,
 {
@@ -216,6 +223,32 @@ where
     serve_opened(rt, listener, opened, file)
 }
 
+/// Serves the file again whose disk has failed. As long as it can't be opened the host waits for it, and says so once: what it lies on,
+/// as a volume over a network, may come back.
+fn serve_again<L: OpenListener + AsRawFd>(
+    rt: &HostRuntime,
+    listener: &L,
+    file: &str,
+) -> Result<(), Fault>
+where
+    L::Stream: Read + Write + OpenStream + AsRawFd,
+{
+    let mut is_told = false;
+    for _ in 0..u64::MAX {
+        match serve_file(rt, listener, file, false) {
+            Err(Fault::File(_)) => {}
+            ended => return ended,
+        }
+        if !is_told {
+            let line = format!(in rt.alloc(); "oramdisk: waiting for {file}\n")?;
+            let _passed_over = rt.eprint(line.as_str());
+            is_told = true;
+        }
+        thread::sleep(rt, Duration::from_secs(RETRY_AFTER));
+    }
+    Ok(())
+}
+
 /// Keeps buckets for others, until it is ended. It listens before it opens the file, so a port that is taken leaves the file alone.
 pub(crate) fn host(rt: &HostRuntime, name: String, is_new: bool) -> Result<(), Fault> {
     let HostSettings {
@@ -225,7 +258,7 @@ pub(crate) fn host(rt: &HostRuntime, name: String, is_new: bool) -> Result<(), F
     let listener = listen_at(rt, address)?;
     serve_file(rt, &listener, file.as_str(), is_new)?;
     for _ in 0..u64::MAX {
-        serve_file(rt, &listener, file.as_str(), false)?;
+        serve_again(rt, &listener, file.as_str())?;
     }
     Ok(())
 }

@@ -13,7 +13,6 @@ mod hosting;
 mod serving;
 mod settings_file;
 mod standing;
-mod state_lock;
 mod tallies;
 mod visits;
 mod watched_disk;

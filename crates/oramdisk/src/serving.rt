@@ -4,11 +4,10 @@ ghost use Rattle.std.specs.Prelude.{◌≡◌, ◌↔◌, Err, IsTrue, string_by
 ghost use Rattle.oramdisk.specs.Faults.{IsGivenUp};
 
 use crate::clients::{ClientAttendant, Parting};
-use crate::disk_files::{check_settings, core_in, disk_settings_in, kept_in, keys_in};
+use crate::disk_files::{check_settings, core_in, disk_settings_in, kept_in, keys_in, take_lock};
 use crate::failures::{keep_failure, kept_failure};
 use crate::faults::Fault;
 use crate::hosting::{listen_at, not_accepted, time};
-use crate::state_lock::lock_state;
 use crate::watched_disk::{FailureKeeper, WatchedDisk};
 use oram_bucket::{ChaChaSeal, PlainSeal, Sealer};
 use oram_client::{
@@ -335,7 +334,7 @@ fn serve_core<S: Sealer>(
 pub(crate) fn serve_disk(rt: &HostRuntime, name: String) -> Result<(), Fault> {
     let alloc = rt.alloc();
     let settings = disk_settings_in(rt, String::from_str(alloc, name.as_str())?)?;
-    let _lock = lock_state(rt, alloc, settings.state.as_str())?;
+    let _lock = take_lock(rt, settings.state.as_str())?;
     if kept_failure(rt, settings.state.as_str())?.is_some() {
         return Err(Fault::Failed(settings.state));
     }

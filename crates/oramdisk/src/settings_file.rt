@@ -19,7 +19,7 @@ pub struct HostSettings {
 }
 
 /// The settings that a new folder begins with.
-pub(crate) const FIRST_SETTINGS: &str = "listen = \"127.0.0.1:7001\"\nfile = \"buckets.sqlite\"\n";
+pub(crate) const FIRST_SETTINGS: &str = "listen = \"127.0.0.1:7001\"\nfile = \"buckets\"\n";
 
 fn host_in(alloc: Global, table: &Table) -> Result<HostSettings, InputFault>
     ensures { Finds shown (IsHost (table_view table.now)) result }

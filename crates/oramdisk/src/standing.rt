@@ -1,9 +1,8 @@
 //! How a disk stands.
 
-use crate::disk_files::{core_in, disk_settings_in, kept_in};
+use crate::disk_files::{core_in, disk_settings_in, kept_in, take_lock};
 use crate::failures::{forget_failure, kept_failure};
 use crate::faults::Fault;
-use crate::state_lock::lock_state;
 use oram_bucket::{ChaChaSeal, PlainSeal};
 use oram_client::{SealerKind, kept_bytes};
 use oram_settings::{report, status_of};
@@ -55,7 +54,7 @@ pub(crate) fn tell(rt: &HostRuntime, name: String) -> Result<(), Fault> {
 pub(crate) fn retry(rt: &HostRuntime, name: String) -> Result<(), Fault> {
     let alloc = rt.alloc();
     let settings = disk_settings_in(rt, name)?;
-    let _lock = lock_state(rt, alloc, settings.state.as_str())?;
+    let _lock = take_lock(rt, settings.state.as_str())?;
     if forget_failure(rt, settings.state.as_str())? {
         let _passed_over = rt.print("oramdisk serve goes on from the kept state\n");
         Ok(())

@@ -53,13 +53,12 @@ fn failing(failure: Option<StoreFault>) -> &'static str
 {
     match failure {
         None => "",
-        Some(StoreFault::Busy) => ", the file was held by another process",
-        Some(StoreFault::NotOurs) => ", the file was no file of buckets",
-        Some(StoreFault::Damaged) => ", the file was damaged",
         Some(StoreFault::NoRoom) => ", the disk was full",
         Some(StoreFault::Io) => ", the disk failed",
         Some(StoreFault::Closed) => ", the disk had failed",
         Some(StoreFault::OutOfMemory) => ", there was no memory",
+        // The others are told where a file is opened.
+        Some(_) => ", the file wasn't as it has to be",
     }
 }
 

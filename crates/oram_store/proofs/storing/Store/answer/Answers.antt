@@ -1,15 +1,12 @@
 use Rattle.std.proofs.Common.{◌≡◌, ◌≤◌, ◌∷◌, [], refl, rules, arith, subst}
-use Rattle.sqlite_trees.specs.View.{View}
 use Rattle.oram_wire.specs.declared.host_messages.HostAnswer.{HostAnswer}
 use Rattle.oram_wire.specs.declared.host_messages.HostAnswer.TheVariants.{Done, Payload, Refused}
-use Rattle.oram_wire.specs.declared.host_messages.HostRequest.{HostRequest}
 use Rattle.oram_host.specs.Refusals.{code_of}
 use Rattle.oram_host.specs.declared.refusals.HostRefusal.{HostRefusal}
 use Rattle.oram_host.specs.declared.refusals.HostRefusal.TheVariants as refusal
-use Rattle.oram_store.specs.Keeping.{StoreValue}
-use Rattle.oram_store.specs.Records.{Answers, records_in}
+use Rattle.oram_store.specs.Crashes.{Serves}
 use Rattle.oram_store.specs.Serving.{StandsBehind, StandsFor}
-use Rattle.oram_store.specs.declared.storing.Served.{Served}
+use Rattle.oram_store.specs.declared.answering.Served.{Served}
 use Rattle.oram_store.proofs.Told.{payload_is, records_behind, told_done, told_records}
 use Rattle.oram_store.proofs.storing.Store.answer.Goals.{in-Ok-Done+in_ok-extend_from_slice-in-Ok-Done, in-Err+in_ok-extend_from_slice-in-Err}
 use Rattle.oram_store.proofs.storing.Store.answer.Goals as goal
@@ -25,10 +22,6 @@ code_is refusal.Missing = (omega arith, omega arith)
 code_is refusal.BadOp = (omega arith, omega arith)
 code_is refusal.OutOfMemory = (omega arith, omega arith)
 
--- what a request leaves of the records, once it is answered so
-abbrev Leaves : {S : Type 0} → (S → View) → StoreValue S → HostRequest → StoreValue S → HostAnswer → Type 0
-Leaves view old m new answer = Answers old.shapes (records_in (view old.database).trees old.tables) m answer (records_in (view new.database).trees new.tables)
-
 pub returns-in-Ok-Records-clause-ok : goal.returns-in-Ok-Records-clause-ok
 returns-in-Ok-Records-clause-ok g c =
     let k = c.in-Ok-Records in
@@ -39,9 +32,11 @@ returns-in-Ok-Records-clause-ok g c =
       behind.1,
       λ message numbers is. let t = k.ensures.told message numbers is in (
         told_records _ _ (128 ∷ []) message _ behind.0 (subst (StandsBehind (128 ∷ []) message) k.field-0-is t.0) t.1 t.2,
-        λ clean. let r = k.ensures.records message numbers is clean in
-            let same : r.0 ≡ Payload behind.0 = payload_is 128 k.answer behind.0 r.0 (subst (λ (s : Served). StandsFor (128 ∷ []) s r.0) k.field-0-is r.1) behind.1 in
-            subst (Leaves g.S.Store.view c.args.self.now message c.serve_body.new.self) same r.2,
+        λ at_once granted. t.3 at_once,
+        λ granted. k.ensures.running,
+        λ honest s. let r = k.ensures.serves message numbers is honest s in
+            let same : r.0 ≡ Payload behind.0 = payload_is 128 k.answer behind.0 r.0 (subst (λ (x : Served). StandsFor (128 ∷ []) x r.0) k.field-0-is r.1) behind.1 in
+            subst (λ (a : HostAnswer). Serves g.F.FilePair.seen g.F.FilePair.may_leave g.F.FilePair.moment g.F.FilePair.left_since message a c.args.self.now c.serve_body.new.self) same r.2,
       ),
     )
 
@@ -54,9 +49,11 @@ returns-clause-ok g c =
         search rules,
         λ message numbers is. let t = w.in-Ok-Done.ensures.told message numbers is in (
           told_done _ _ (128 ∷ []) message (subst (StandsBehind (128 ∷ []) message) w.in-Ok-Done.field-0-is t.0) t.1 t.2,
-          λ clean. let r = w.in-Ok-Done.ensures.records message numbers is clean in
-              let same : r.0 ≡ Done = subst (λ (s : Served). StandsFor (128 ∷ []) s r.0) w.in-Ok-Done.field-0-is r.1 in
-              subst (Leaves g.S.Store.view c.args.self.now message c.serve_body.new.self) same r.2,
+          λ at_once granted. t.3 at_once,
+          λ granted. w.in-Ok-Done.ensures.running,
+          λ honest s. let r = w.in-Ok-Done.ensures.serves message numbers is honest s in
+              let same : r.0 ≡ Done = subst (λ (x : Served). StandsFor (128 ∷ []) x r.0) w.in-Ok-Done.field-0-is r.1 in
+              subst (λ (a : HostAnswer). Serves g.F.FilePair.seen g.F.FilePair.may_leave g.F.FilePair.moment g.F.FilePair.left_since message a c.args.self.now c.serve_body.new.self) same r.2,
         ),
       )
       | in-Err+in_ok-extend_from_slice-in-Err w ↦ (
@@ -64,6 +61,6 @@ returns-clause-ok g c =
         code_is w.in-Err.why,
         search rules,
         λ message numbers is.
-            let t = w.in-Err.ensures.told message numbers is in ((w.in-Err.why, refl, t.0, t.1), λ clean. w.in-Err.ensures.records message numbers is clean),
+            let t = w.in-Err.ensures.told message numbers is in ((w.in-Err.why, refl, t.0, t.1), λ at_once granted. absurd granted, λ granted. absurd granted, λ honest s. w.in-Err.ensures.serves message numbers is honest s),
       )
     ]

@@ -1,46 +1,43 @@
 use Rattle.std.proofs.Common.{◌≡◌, refl, sym, subst, rules}
-use Rattle.sqlite_trees.specs.View.{IsClean, View}
+use Rattle.oram_store.specs.Crashes.{Serves}
+use Rattle.oram_store.specs.Keeping.{StoreValue}
+use Rattle.oram_store.specs.RecordFile.{Runs}
 use Rattle.oram_wire.specs.HostReading.{request_of}
 use Rattle.oram_wire.specs.declared.host_messages.HostAnswer.TheVariants.{Done, Payload}
 use Rattle.oram_wire.specs.declared.host_messages.HostRequest.{HostRequest}
-use Rattle.oram_store.specs.Keeping.{StoreValue}
-use Rattle.oram_store.specs.Records.{Answers, records_in}
 use Rattle.oram_store.proofs.storing.Store.serve.Goals.{in-Store+in_ok-store-in-Store, in-Put+in_ok-put-in-Put, in-Shape+in_ok-shape-in-Shape}
 use Rattle.oram_store.proofs.storing.Store.serve.Goals as goal
 
-pub returns-in-Fetch-clause-records : goal.returns-in-Fetch-clause-records
-returns-in-Fetch-clause-records g c = λ clean.
-    let told = c.in_ok-records-in-Fetch.ensures in
-    let p = told.path clean in
-    let old = c.args.self.now in
-    let new = c.fetch.new.self in
-    let records = records_in (g.S.Store.view old.database).trees old.tables in
+pub returns-in-Fetch-clause-serves : goal.returns-in-Fetch-clause-serves
+returns-in-Fetch-clause-serves g c honest s =
     let is : HostRequest.Fetch c.in-Fetch.tree c.in-Fetch.leaf ≡ request_of c.args.request = search rules in
-    let bytes = p.2.0 in (
-      Payload bytes,
-      (bytes, p.2.1, refl),
-      subst (λ (m : HostRequest). Answers old.shapes records m (Payload bytes) (records_in (g.S.Store.view new.database).trees new.tables)) is
-          (p.0, p.1, p.2.2, told.kept clean),
+    let served = c.in_ok-records-in-Fetch.ensures.serves honest s in (
+      Payload served.0,
+      (served.0, served.1, refl),
+      subst (λ (m : HostRequest). Serves g.F.FilePair.seen g.F.FilePair.may_leave g.F.FilePair.moment g.F.FilePair.left_since m (Payload served.0) c.args.self.now c.fetch.new.self) is served.2,
     )
 
--- a request is done, and leaves the records so
-abbrev Leaves : {S : Type 0} → (S → View) → StoreValue S → HostRequest → StoreValue S → Type 0
-Leaves view old m new = IsClean (view new.database) → Answers old.shapes (records_in (view old.database).trees old.tables) m Done (records_in (view new.database).trees new.tables)
+pub returns-clause-runs : goal.returns-clause-runs
+returns-clause-runs g c = elim c.match-request.branch [
+  | in-Store+in_ok-store-in-Store w ↦ subst (λ (v : StoreValue g.row.F.Denot). Runs g.F.FilePair.failures g.F.FilePair.shortages g.F.FilePair.is_honest c.args.self.now.file v.file) (sym w.self-is) w.store.ensures.runs
+  | in-Put+in_ok-put-in-Put w ↦ subst (λ (v : StoreValue g.row.F.Denot). Runs g.F.FilePair.failures g.F.FilePair.shortages g.F.FilePair.is_honest c.args.self.now.file v.file) (sym w.self-is) w.put.ensures.runs
+  | in-Shape+in_ok-shape-in-Shape w ↦ subst (λ (v : StoreValue g.row.F.Denot). Runs g.F.FilePair.failures g.F.FilePair.shortages g.F.FilePair.is_honest c.args.self.now.file v.file) (sym w.self-is) w.shape.ensures.runs
+]
 
-pub returns-clause-records : goal.returns-clause-records
-returns-clause-records g c = λ clean.
-    let old = c.args.self.now in
-    let view = g.S.Store.view in
+pub returns-clause-serves : goal.returns-clause-serves
+returns-clause-serves g c honest s =
     let message = request_of c.args.request in
-    let leaves : Leaves view old message c.match-request.self = elim c.match-request.branch [
+    let old = c.args.self.now in
+    let P : StoreValue g.row.F.Denot → Type 0 = λ v. g.F.FilePair.is_honest v.file.files → Serves g.F.FilePair.seen g.F.FilePair.may_leave g.F.FilePair.moment g.F.FilePair.left_since message Done old v in
+    let serves : P c.match-request.self = elim c.match-request.branch [
       | in-Store+in_ok-store-in-Store w ↦
           let is : HostRequest.Store w.in-Store.tree w.in-Store.leaf w.in-Store.records.now ≡ message = search rules in
-          subst (Leaves view old message) (sym w.self-is) (subst (λ (m : HostRequest). Leaves view old m w.store.new.self) is (λ h. w.in_ok-store-in-Store.ensures.path h))
+          subst P (sym w.self-is) (λ h. subst (λ (m : HostRequest). Serves g.F.FilePair.seen g.F.FilePair.may_leave g.F.FilePair.moment g.F.FilePair.left_since m Done old w.store.new.self) is (w.in_ok-store-in-Store.ensures.serves h s))
       | in-Put+in_ok-put-in-Put w ↦
           let is : HostRequest.Put w.in-Put.tree w.in-Put.node w.in-Put.bytes.now ≡ message = search rules in
-          subst (Leaves view old message) (sym w.self-is) (subst (λ (m : HostRequest). Leaves view old m w.put.new.self) is (λ h. w.in_ok-put-in-Put.ensures.puts h))
+          subst P (sym w.self-is) (λ h. subst (λ (m : HostRequest). Serves g.F.FilePair.seen g.F.FilePair.may_leave g.F.FilePair.moment g.F.FilePair.left_since m Done old w.put.new.self) is (w.in_ok-put-in-Put.ensures.serves h s))
       | in-Shape+in_ok-shape-in-Shape w ↦
           let is : HostRequest.Shape w.in-Shape.tree w.in-Shape.depth w.in-Shape.record_len ≡ message = search rules in
-          subst (Leaves view old message) (sym w.self-is) (subst (λ (m : HostRequest). Leaves view old m w.shape.new.self) is (λ h. w.in_ok-shape-in-Shape.ensures.kept h))
+          subst P (sym w.self-is) (λ h. subst (λ (m : HostRequest). Serves g.F.FilePair.seen g.F.FilePair.may_leave g.F.FilePair.moment g.F.FilePair.left_since m Done old w.shape.new.self) is (w.in_ok-shape-in-Shape.ensures.serves h s))
     ] in
-    (Done, refl, leaves clean)
+    (Done, refl, serves honest)

@@ -1,0 +1,66 @@
+-- What the first bytes of a file say.
+use Rattle.std.proofs.Common.{◌≡◌, ℕ, ◌^◌, ◌<◌, ◌≤◌, Bool, List, [], ◌++◌, length, take, drop, Decides, refl, sym, ◌∙◌, ap, arith, eqb}
+use Rattle.std.specs.Cmp.Lexicographic.{pointwise}
+use Rattle.std.proofs.lemmas.Bool.Decides.{Decides-eqb}
+use Rattle.std.proofs.lemmas.List.{drop-take, drop_at, length-append, take-append-drop, length-take, take_at, take-take, append_cancel_left, append-nil, drop_all}
+use Rattle.std.proofs.lemmas.Slice.Eq.{slice_eq-Decides}
+use borrow.Rule.Slice.PartMut.{put_mid}
+use Rattle.oram_layout.specs.Fronts.{IsFront, IsNewer, bucket_name}
+use Rattle.oram_layout.specs.Header.{eight_bytes, letters}
+use Rattle.oram_layout.specs.declared.fronts.Identity.{Identity}
+use Rattle.oram_layout.proofs.TreeEntries.{eight_bytes_one, length-eight_bytes}
+
+pub front_long : (front_letters : List ℕ) (identity : Identity) (bytes : List ℕ) → length front_letters ≡ 16 → IsFront front_letters identity bytes → 32 ≤ length bytes
+front_long front_letters identity bytes long is =
+    omega (arith, ap length is.begins, length-take 32 bytes, length-append front_letters identity.0, long, is.whole)
+
+pub front_letters_are : (front_letters : List ℕ) (identity : Identity) (bytes : List ℕ) → length front_letters ≡ 16 → IsFront front_letters identity bytes → take 16 bytes ≡ front_letters
+front_letters_are front_letters identity bytes long is =
+    sym (take-take 16 32 bytes (omega arith)) ∙ ap (λ (l : List ℕ). take 16 l) is.begins ∙ take_at front_letters identity.0 16 long
+
+-- what `starts_with` says
+pub starts_so : (needle bytes : List ℕ) (r : Bool) → r ≡ pointwise eqb needle (take (length needle) bytes) → Decides r (needle ≡ take (length needle) bytes)
+starts_so needle bytes r e = slice_eq-Decides Decides-eqb needle (take (length needle) bytes) r e
+
+letters_spelled : letters ≡ bucket_name ++ eight_bytes 1
+unfolding eight_bytes
+letters_spelled = refl
+
+-- a file of this version is of no newer one
+pub ours_not_newer : (identity : Identity) (bytes : List ℕ) → IsFront letters identity bytes → IsNewer bytes → ⊥
+ours_not_newer identity bytes is newer =
+    let same : bucket_name ++ eight_bytes newer.version ≡ bucket_name ++ eight_bytes 1 = sym newer.begins ∙ front_letters_are letters identity bytes refl is ∙ letters_spelled in
+    let one : newer.version ≡ 1 = eight_bytes_one newer.version 1 newer.fits (omega arith) (append_cancel_left bucket_name (eight_bytes newer.version) (eight_bytes 1) same) in
+    absurd (omega (arith, newer.above, one))
+
+pub newer_long : (bytes : List ℕ) → IsNewer bytes → 16 ≤ length bytes
+newer_long bytes newer = omega (arith, ap length newer.begins, length-take 16 bytes, length-append bucket_name (eight_bytes newer.version), length-eight_bytes newer.version)
+
+pub newer_name : (bytes : List ℕ) → IsNewer bytes → bucket_name ≡ take 8 bytes
+newer_name bytes newer = sym (take_at bucket_name (eight_bytes newer.version) 8 refl) ∙ ap (λ (l : List ℕ). take 8 l) (sym newer.begins) ∙ take-take 8 16 bytes (omega arith)
+
+first_sixteen : (bytes : List ℕ) → take 16 bytes ≡ take 8 bytes ++ take 8 (drop 8 bytes)
+first_sixteen bytes =
+    sym (take-append-drop 8 (take 16 bytes)) ∙ ap (λ (l : List ℕ). l ++ drop 8 (take 16 bytes)) (take-take 8 16 bytes (omega arith))
+    ∙ ap (λ (l : List ℕ). take 8 bytes ++ l) (drop-take 8 8 bytes)
+
+pub newer_from : (bytes : List ℕ) (version : ℕ) → bucket_name ≡ take 8 bytes → eight_bytes version ≡ take 8 (drop 8 bytes) → version < 2 ^ 64 → 1 < version → IsNewer bytes
+newer_from bytes version named said fits above = record {
+  version = version;
+  above = above;
+  fits = fits;
+  begins = first_sixteen bytes ∙ ap (λ (l : List ℕ). l ++ take 8 (drop 8 bytes)) (sym named) ∙ ap (λ (l : List ℕ). bucket_name ++ l) (sym said);
+}
+
+pub newer_version : (bytes : List ℕ) (version : ℕ) → eight_bytes version ≡ take 8 (drop 8 bytes) → version < 2 ^ 64 → IsNewer bytes → 1 < version
+newer_version bytes version said fits newer =
+    let its : eight_bytes newer.version ≡ take 8 (drop 8 bytes) =
+    sym (drop_at bucket_name (eight_bytes newer.version) 8 refl) ∙ ap (λ (l : List ℕ). drop 8 l) (sym newer.begins) ∙ drop-take 8 8 bytes in
+    let same : newer.version ≡ version = eight_bytes_one newer.version version newer.fits fits (its ∙ sym said) in
+    omega (arith, newer.above, same)
+
+pub two_halves : (a b zeros : List ℕ) → length a ≡ 16 → length b ≡ 16 → length zeros ≡ 16 → put_mid 16 16 (a ++ zeros) b ≡ a ++ b
+two_halves a b zeros la lb lz =
+    let front : take 16 (a ++ zeros) ≡ a = take_at a zeros 16 la in
+    let behind : drop 16 (drop 16 (a ++ zeros)) ≡ [] = ap (λ (l : List ℕ). drop 16 l) (drop_at a zeros 16 la) ∙ drop_all 16 zeros (omega arith) in
+    ap (λ (l : List ℕ). l ++ (b ++ drop 16 (drop 16 (a ++ zeros)))) front ∙ ap (λ (l : List ℕ). a ++ (b ++ l)) behind ∙ ap (λ (l : List ℕ). a ++ l) (append-nil b)

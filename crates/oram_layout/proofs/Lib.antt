@@ -1,0 +1,11 @@
+pub mod Places
+pub mod Contents
+pub mod Changes
+pub mod TreeEntries
+pub mod Added
+pub mod Fitting
+pub mod Rows
+pub mod Apart
+pub mod Slots
+pub mod EntryReads
+pub mod FrontBytes

@@ -1,0 +1,10 @@
+use Rattle.std.proofs.Common.{refl, sym}
+use Rattle.oram_layout.specs.Fronts.{sqlite_letters}
+use Rattle.oram_layout.proofs.FrontBytes.{ours_not_newer, starts_so}
+use Rattle.oram_layout.proofs.fronts.read_front.Goals as goal
+
+pub returns-then-starts_with-clause-sqlite : goal.returns-then-starts_with-clause-sqlite
+returns-then-starts_with-clause-sqlite c = (λ is. sym ((starts_so sqlite_letters c.args.bytes.now c.starts_with.result c.starts_with.ensures.value).0 c.if-starts_with.true), λ is. refl)
+
+pub returns-in-Some-clause-newer : goal.returns-in-Some-clause-newer
+returns-in-Some-clause-newer c = (λ is. absurd cc, λ newer. absurd (ours_not_newer c.in-Some.identity c.args.bytes.now c.in-Some.ensures.found newer))

@@ -1,0 +1,41 @@
+-- The first bytes of a bucket file and of its log.
+use Rattle.std.specs.Prelude.{◌≡◌, ◌<◌, ℕ, ◌^◌, List, [], ◌∷◌, ◌++◌, length, take}
+use Rattle.oram_layout.specs.Header.{eight_bytes}
+use Rattle.oram_layout.specs.declared.fronts.Front.{Front}
+use Rattle.oram_layout.specs.declared.fronts.Front.TheVariants.{Ours, NewerVersion, Sqlite, Empty, Another}
+use Rattle.oram_layout.specs.declared.fronts.Identity.{Identity}
+
+-- "VIDLAQEL", and the version, 1, in 8 bytes
+abbrev pub log_letters : List ℕ
+log_letters = 86 ∷ 73 ∷ 68 ∷ 76 ∷ 65 ∷ 81 ∷ 69 ∷ 76 ∷ 1 ∷ 0 ∷ 0 ∷ 0 ∷ 0 ∷ 0 ∷ 0 ∷ 0 ∷ []
+
+-- "SQLite format 3", and a byte of 0
+abbrev pub sqlite_letters : List ℕ
+sqlite_letters = 83 ∷ 81 ∷ 76 ∷ 105 ∷ 116 ∷ 101 ∷ 32 ∷ 102 ∷ 111 ∷ 114 ∷ 109 ∷ 97 ∷ 116 ∷ 32 ∷ 51 ∷ 0 ∷ []
+
+-- "VIDLAQEB"
+abbrev pub bucket_name : List ℕ
+bucket_name = 86 ∷ 73 ∷ 68 ∷ 76 ∷ 65 ∷ 81 ∷ 69 ∷ 66 ∷ []
+
+-- 16 bytes of letters and version, and 16 of the identity
+abbrev pub front_bytes : List ℕ → Identity → List ℕ
+front_bytes letters identity = letters ++ identity.0
+
+-- the bytes begin so
+pub record IsFront (letters : List ℕ) (identity : Identity) (bytes : List ℕ) : Type 0 where
+  pub whole : length identity.0 ≡ 16
+  pub begins : take 32 bytes ≡ front_bytes letters identity
+
+-- the bytes begin with a bucket file's letters and a version above 1
+pub record IsNewer (bytes : List ℕ) : Type 0 where
+  pub version : ℕ
+  pub above : 1 < version
+  pub fits : version < 2 ^ 64
+  pub begins : take 16 bytes ≡ bucket_name ++ eight_bytes version
+
+abbrev pub IfOurs : Front → (Identity → Type 0) → Type 0
+IfOurs (Ours identity) P = P identity
+IfOurs NewerVersion P = Unit {0}
+IfOurs Sqlite P = Unit {0}
+IfOurs Empty P = Unit {0}
+IfOurs Another P = Unit {0}

@@ -1,0 +1,55 @@
+//! Laws of the layout, as contracts of functions that do nothing.
+ghost use Rattle.oram_layout.specs.Laws.{AllPatchesFit, IsFileAtFirst, LooseKeepsRecords, MarkPutsRecord, MarkSharesBlock, MarksKeepFile, OffStaysOff, PathIsPut, RecordIsPut, SameRecords, TreeIsAdded, TreesAreOne, UnmarkedIsOff};
+
+/// A content that agrees with a bucket file's is one, with the same records.
+pub fn same_content()
+    ensures { SameRecords }
+{}
+
+/// A header has one list of trees.
+pub fn one_list_of_trees()
+    ensures { TreesAreOne }
+{}
+
+/// Zeros behind a front are a bucket file without trees.
+pub fn an_empty_file()
+    ensures { IsFileAtFirst }
+{}
+
+/// A record's patch puts that record, and no other.
+pub fn a_record_is_put()
+    ensures { RecordIsPut }
+{}
+
+/// A path's patches put its records, and no others.
+pub fn the_path_is_put()
+    ensures { PathIsPut }
+{}
+
+/// Patches off the records change none, whatever a crash makes of them.
+pub fn loose_patches()
+    ensures kept { LooseKeepsRecords }
+    ensures off { UnmarkedIsOff }
+    ensures more { OffStaysOff }
+{}
+
+/// Records that were written without their marks are put by the marks.
+pub fn marked_records()
+    ensures put { MarkPutsRecord }
+    ensures file { MarksKeepFile }
+{}
+
+/// A tree's patch adds that tree, without records.
+pub fn a_tree_is_added()
+    ensures { TreeIsAdded }
+{}
+
+/// A cell's mark and the first byte of its record lie in one block of the disk.
+pub fn a_mark_shares_a_block()
+    ensures { MarkSharesBlock }
+{}
+
+/// Each patch that changes a bucket file fits a redo log whose records end at `CELLS_END`.
+pub fn patches_fit()
+    ensures { AllPatchesFit }
+{}

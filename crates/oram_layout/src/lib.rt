@@ -1,0 +1,27 @@
+//! Where a bucket file has what: its header with the trees, and a cell for the record of each node.
+//!
+//! A tree has a known number of records of one length, so each record has its place, as in the image of a disk: a sparse file grows with what
+//! is stored, and nothing of it has to be read to find a record. A cell's first byte, its mark, is 1 where there is a record. It is a byte of
+//! its own, so that a write that a crash tears never touches another cell. `specs/Header.antt` and `specs/Limits.antt` have the layout to the byte.
+//!
+//! Nothing here reads or writes a file. `specs/BucketFile.antt` says of a file's content that it holds trees, and `specs/Records.antt` which
+//! records these have. `specs/Changes.antt` has the patches that change them, and the laws say what each patch does.
+#![tactic(auto)]
+
+mod entries;
+mod faults;
+mod fronts;
+mod laws;
+mod numbers;
+mod shapes;
+mod trees;
+
+pub use entries::{TREES, entry_place, next_base, read_trees};
+pub use faults::LayoutFault;
+pub use fronts::{FRONT_LEN, Front, Identity, front_of, log_front_of, read_front, read_log_front};
+pub use laws::{
+    a_mark_shares_a_block, a_record_is_put, a_tree_is_added, an_empty_file, loose_patches,
+    marked_records, one_list_of_trees, patches_fit, same_content, the_path_is_put,
+};
+pub use shapes::Shape;
+pub use trees::{CELLS_AT, CELLS_END, ENTRY_LEN, Tree};

@@ -1,0 +1,89 @@
+//! A tree of a bucket file: its shape, and where its cells are.
+ghost use Rattle.std.specs.Prelude.{◌≡◌, ◌<◌, ◌≤◌, ◌+◌, ◌-◌, ◌*◌, ◌/◌, ◌^◌, MatchOption, Some};
+
+use crate::shapes::Shape;
+
+/// Where the cells of trees end at the latest. Systems have no longer files.
+pub const CELLS_END: u64 = 1 << 62;
+
+/// Where the first tree's cells begin.
+pub const CELLS_AT: u64 = 8192;
+
+/// The bytes of an entry of the header.
+pub const ENTRY_LEN: usize = 16;
+
+/// A tree of a bucket file.
+#[derive(Clone, Copy, Debug, PartialEq, Eq)]
+pub struct Tree {
+    pub shape: Shape,
+    /// The place of its first cell.
+    pub base: u64,
+    ghost within: { base + (2 ^ (shape.depth + 1) - 1) * (2 * ((shape.record_len + 2) / 2)) ≤ 2 ^ 62 },
+}
+
+impl Tree {
+    ghost use Rattle.oram_layout.specs.Header.{entry_bytes};
+    ghost use Rattle.oram_layout.specs.Limits.{cell_len, cells_len, nodes_of};
+    ghost use Rattle.oram_layout.specs.Trees.{cell_at, end_of, sizes_of};
+
+    /// A tree whose cells begin at this place, or `None` where they would end behind [`CELLS_END`].
+    pub fn place(shape: Shape, base: u64) -> Option<Tree>
+        ensures { MatchOption result (CELLS_END < base + cells_len (sizes_of shape)) (λ tree. (tree.shape ≡ shape) × (tree.base ≡ base)) }
+    {
+        let len = u64::from(shape.nodes()) * cell_len_of(shape.record_len);
+        if base > CELLS_END || len > CELLS_END - base {
+            return None;
+        }
+        Some(Tree { shape, base })
+    }
+
+    /// The place of a node's cell.
+    pub fn cell_at(&self, node: u32) -> u64
+        requires { node < nodes_of (sizes_of self.now.shape) }
+        ensures place { result ≡ cell_at self.now node }
+        ensures within { result + cell_len self.now.shape.record_len ≤ CELLS_END }
+    {
+        self.base + u64::from(node) * cell_len_of(self.shape.record_len)
+    }
+
+    /// Where its cells end.
+    pub fn end(&self) -> u64
+        ensures place { result ≡ end_of self.now }
+        ensures within { result ≤ CELLS_END }
+    {
+        self.base + u64::from(self.shape.nodes()) * cell_len_of(self.shape.record_len)
+    }
+
+    /// Its entry in the header.
+    pub fn entry(&self) -> [u8; 16]
+        ensures { result ≡ entry_bytes (Some self.now) }
+    {
+        let len = self.shape.record_len.to_le_bytes();
+        let base = self.base.to_le_bytes();
+        [
+            1,
+            self.shape.depth,
+            0,
+            0,
+            len[0],
+            len[1],
+            len[2],
+            len[3],
+            base[0],
+            base[1],
+            base[2],
+            base[3],
+            base[4],
+            base[5],
+            base[6],
+            base[7],
+        ]
+    }
+}
+
+// How many bytes the cell of a record of this length has: an even number.
+fn cell_len_of(record_len: u32) -> u64
+    ensures { result ≡ 2 * ((record_len + 2) / 2) }
+{
+    (u64::from(record_len) + 2) / 2 * 2
+}

@@ -1,0 +1,16 @@
+-- The bytes of a STORE's batch.
+use Rattle.std.specs.Prelude.{◌≡◌, ℕ, ◌+◌, ◌*◌, ◌<◌, List, ◌∷◌, slice_range}
+use Rattle.oram_host.specs.Path.{record_at}
+use Rattle.oram_redo.specs.Content.{Content}
+use Rattle.std.specs.Prelude.{Some}
+use Rattle.oram_layout.specs.Records.{Records, record_in}
+use Rattle.oram_layout.specs.declared.trees.Tree.{Tree}
+
+-- the first of these records, as many as are asked for, each behind a byte that is 1
+abbrev pub HoldsCells : List ℕ → ℕ → List ℕ → ℕ → Type 0
+HoldsCells cells record_len records levels =
+    (level : ℕ) → level < levels → slice_range cells (level * (record_len + 1)) ((level + 1) * (record_len + 1)) ≡ 1 ∷ record_at record_len records level
+
+-- the records of one tree, whatever its number
+abbrev pub records_of_tree : Tree → Content → Records
+records_of_tree tree c number node = record_in (Some tree) node c

@@ -1,0 +1,52 @@
+-- What a crash may leave of a store's records.
+use Rattle.std.specs.Prelude.{◌≡◌, ◌⊎◌, ℕ, Some, false}
+use Rattle.oram_redo.specs.Content.{Content}
+use Rattle.oram_redo.specs.FilePair.{Contents, LeavesOnly}
+use Rattle.oram_wire.specs.declared.host_messages.HostAnswer.{HostAnswer}
+use Rattle.oram_wire.specs.declared.host_messages.HostRequest.{HostRequest}
+use Rattle.oram_wire.specs.declared.host_messages.HostRequest.TheVariants as request
+use Rattle.oram_layout.specs.BucketFile.{IsBucketFile}
+use Rattle.oram_layout.specs.Limits.{TreeShape}
+use Rattle.oram_layout.specs.Records.{AreKept, Records, records_in}
+use Rattle.oram_layout.specs.Trees.{Trees, shape_at}
+use Rattle.oram_store.specs.Answers.{Answers}
+use Rattle.oram_store.specs.Keeping.{Holds, IsSound, Puts, StoreValue, Stores, records_of, sure_records}
+use Rattle.oram_store.specs.Refusals.{Leads}
+use Rattle.oram_store.specs.RecordFile.{Finds}
+
+-- the content is that of a bucket file once a request was carried out over these trees and records
+abbrev pub IsCarriedOut : Trees → Records → HostRequest → Content → Type 0
+IsCarriedOut trees old (request.Fetch tree leaf) c = Holds trees old c
+IsCarriedOut trees old (request.Store tree leaf records) c =
+    IsBucketFile trees c × (s : TreeShape) × (shape_at trees tree ≡ Some s) × Stores tree s leaf records old (records_in trees c)
+IsCarriedOut trees old (request.Put tree node bytes) c = IsBucketFile trees c × Puts tree node bytes old (records_in trees c)
+IsCarriedOut trees old (request.Shape tree depth record_len) c = (new : Trees) × Leads trees (request.Shape tree depth record_len) new × Holds new old c
+
+-- the records that were sure, or all that there were
+abbrev pub MayHold : Trees → Records → Records → Content → Type 0
+MayHold trees sure all c = Holds trees sure c ⊎ Holds trees all c
+
+-- A crash while these PUTs are settled finds them all, or those that were sure.
+abbrev pub SettlesWhole : {F : Type 0} → (F → Contents) → (F → ℕ) → (F → ℕ → Contents → Type 0) → StoreValue F → StoreValue F → Type 0
+SettlesWhole seen moment left_since old new =
+    LeavesOnly moment left_since old.file.files new.file.files (Finds (seen old.file.files) (MayHold old.trees (sure_records seen old) (records_of seen old)))
+
+-- The store has settled its PUTs, or tried to, and answers as before.
+pub record Settles {F : Type 0} (seen : F → Contents) (may_leave : F → Contents → Type 0) (moment : F → ℕ) (left_since : F → ℕ → Contents → Type 0)
+    (old new : StoreValue F) : Type 0 where
+  pub sound : new.file.has_stopped ≡ false → IsSound seen may_leave new
+  pub records : new.file.has_stopped ≡ false → AreKept (records_of seen old) (records_of seen new)
+  pub any_moment : SettlesWhole seen moment left_since old new
+
+-- A crash while this request is carried out finds what was there, or what the request makes of it: all of that or nothing.
+abbrev pub ServesWhole : {F : Type 0} → (F → Contents) → (F → ℕ) → (F → ℕ → Contents → Type 0) → HostRequest → StoreValue F → StoreValue F → Type 0
+ServesWhole seen moment left_since message old new =
+    LeavesOnly moment left_since old.file.files new.file.files
+    (Finds (seen old.file.files) (λ c. MayHold old.trees (sure_records seen old) (records_of seen old) c ⊎ IsCarriedOut old.trees (records_of seen old) message c))
+
+-- The store answers a request so, and is this afterwards.
+pub record Serves {F : Type 0} (seen : F → Contents) (may_leave : F → Contents → Type 0) (moment : F → ℕ) (left_since : F → ℕ → Contents → Type 0)
+    (message : HostRequest) (answer : HostAnswer) (old new : StoreValue F) : Type 0 where
+  pub sound : new.file.has_stopped ≡ false → IsSound seen may_leave new
+  pub records : new.file.has_stopped ≡ false → Answers old.trees (records_of seen old) message answer (records_of seen new)
+  pub any_moment : ServesWhole seen moment left_since message old new

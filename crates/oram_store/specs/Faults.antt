@@ -1,0 +1,18 @@
+-- What an error of a layer below is to a store.
+use Rattle.oram_layout.specs.declared.faults.LayoutFault.{LayoutFault}
+use Rattle.oram_layout.specs.declared.faults.LayoutFault.TheVariants as layout
+use Rattle.oram_redo.specs.declared.faults.RedoError.{RedoError}
+use Rattle.oram_redo.specs.declared.faults.RedoError.TheVariants as error
+use Rattle.oram_store.specs.declared.faults.StoreFault.{StoreFault}
+use Rattle.oram_store.specs.declared.faults.StoreFault.TheVariants.{Damaged, Io, NoRoom, OutOfMemory}
+
+abbrev pub fault_of : RedoError → StoreFault
+fault_of error.Memory = OutOfMemory
+fault_of error.NoRoom = NoRoom
+fault_of error.Damaged = Damaged
+fault_of error.Failed = Io
+fault_of error.LogFull = Io
+
+abbrev pub fault_in : LayoutFault → StoreFault
+fault_in layout.Damaged = Damaged
+fault_in layout.OutOfMemory = OutOfMemory

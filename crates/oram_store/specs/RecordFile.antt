@@ -1,0 +1,77 @@
+-- A file of records with its redo log, between two calls.
+use Rattle.std.specs.Prelude.{◌≡◌, ◌⊎◌, ℕ, ◌^◌, Bool, true, false, List, [], IfErr, OnErr, OnOk, Result, ⊤}
+use Rattle.oram_redo.specs.Content.{Agrees, Content}
+use Rattle.oram_redo.specs.FilePair.{ComesAfter, Contents, HasFailed, LeavesOnly, Rises, WritesNothing}
+use Rattle.oram_redo.specs.Log.{AgreesBut, Patch, SameFront, StandsFor, put_all}
+use Rattle.oram_redo.specs.Redo.{IsSettled, bounds_of}
+use Rattle.oram_redo.specs.declared.bounds.Bounds.{Bounds}
+use Rattle.oram_redo.specs.declared.file_pair.FileKind.TheVariants.{Records}
+use Rattle.oram_redo.specs.declared.redo.Redo.{Redo}
+use Rattle.oram_store.specs.declared.faults.StoreFault.{StoreFault}
+use Rattle.oram_store.specs.declared.faults.StoreFault.TheVariants as fault
+
+pub record FileValue (F : Type 0) : Type 0 where
+  pub files : F
+  pub redo : Redo
+  pub is_loose : Bool  -- a patch was written since the last sync of the records that the log doesn't have
+  pub has_stopped : Bool  -- a call of the files has failed: they have to be opened again
+
+-- The log's first 4096 bytes are for its front, and it has 64 MiB. The records may go as far as files do.
+abbrev pub bounds : Bounds
+bounds = record { log_start = 4096; log_end = 2 ^ 26; records_end = 2 ^ 62 }
+
+-- Whatever a crash leaves stands for the records that are read, but for the places of `loose`.
+pub record IsSteady {F : Type 0} (seen : F → Contents) (may_leave : F → Contents → Type 0) (v : FileValue F) (loose : List Patch) : Type 0 where
+  pub bounded : bounds_of v.redo ≡ bounds
+  pub settled : IsSettled v.redo loose (seen v.files) (may_leave v.files)
+  pub sure : v.is_loose ≡ false → IsSettled v.redo [] (seen v.files) (may_leave v.files)
+
+-- A crash leaves files that stand for such records, and the log's front as it was.
+pub record Finds (before : Contents) (Q : Content → Type 0) (c : Contents) : Type 0 where
+  pub front : SameFront bounds before c
+  pub records : Content
+  pub stands : StandsFor bounds [] records c
+  pub are : Q records
+
+-- After a call the places of `loose` are not sure, unless the file has stopped. At each moment of it a crash finds records that are Q.
+pub record Passes {F : Type 0} (seen : F → Contents) (may_leave : F → Contents → Type 0) (moment : F → ℕ) (left_since : F → ℕ → Contents → Type 0)
+    (loose : List Patch) (Q : Content → Type 0) (old new : FileValue F) : Type 0 where
+  pub steady : new.has_stopped ≡ false → IsSteady seen may_leave new loose
+  pub moments : LeavesOnly moment left_since old.files new.files (Finds (seen old.files) Q)
+
+-- These patches are committed: all of them, or nothing where that is refused and the file goes on. No crash finds some of them.
+pub record Commits {F : Type 0} (seen : F → Contents) (may_leave : F → Contents → Type 0) (moment : F → ℕ) (left_since : F → ℕ → Contents → Type 0)
+    (patches : List Patch) (result : Result Unit StoreFault) (old new : FileValue F) : Type 0 where
+  pub done : OnOk result (Agrees (seen new.files Records) (put_all patches (seen old.files Records)))
+  pub sure : OnOk result ((loose : List Patch) → IsSteady seen may_leave old loose → new.has_stopped ≡ false → IsSteady seen may_leave new [])
+  pub undone : OnErr result (new.has_stopped ≡ false → Agrees (seen new.files Records) (seen old.files Records))
+  pub steady : OnErr result ((loose : List Patch) → IsSteady seen may_leave old loose → new.has_stopped ≡ false → IsSteady seen may_leave new loose)
+  pub moments : (loose : List Patch) → IsSteady seen may_leave old loose → LeavesOnly moment left_since old.files new.files
+      (Finds (seen old.files) (λ r. AgreesBut loose r (seen old.files Records) ⊎ Agrees r (put_all patches (seen old.files Records))))
+
+-- nothing was written
+pub record ReadsOnly {F : Type 0} (seen : F → Contents) (may_leave : F → Contents → Type 0) (moment : F → ℕ) (left_since : F → ℕ → Contents → Type 0)
+    (old new : FileValue F) : Type 0 where
+  pub nothing : WritesNothing seen may_leave moment left_since old.files new.files
+  pub redo : new.redo ≡ old.redo
+  pub loose : new.is_loose ≡ old.is_loose
+
+-- A file stops only where a call of the system has failed, and one that has stopped does nothing more.
+pub record Runs {F : Type 0} (failures shortages : F → ℕ → Type 0) (is_honest : F → Type 0) (old new : FileValue F) : Type 0 where
+  pub after : ComesAfter failures shortages is_honest old.files new.files
+  pub stops : new.has_stopped ≡ true → (old.has_stopped ≡ true) ⊎ HasFailed failures shortages old.files new.files
+  pub stays : old.has_stopped ≡ true → new ≡ old
+
+-- why a call was not carried out
+abbrev pub IsReason : {F : Type 0} → (F → ℕ → Type 0) → (F → ℕ → Type 0) → FileValue F → FileValue F → StoreFault → Type 0
+IsReason failures shortages old new fault.Closed = old.has_stopped ≡ true
+IsReason failures shortages old new fault.Io = (new.has_stopped ≡ true) × HasFailed failures shortages old.files new.files
+IsReason failures shortages old new fault.NoRoom = Rises shortages old.files new.files
+IsReason failures shortages old new fault.OutOfMemory = ⊤
+IsReason failures shortages old new _ = ⊥
+
+-- What comes of a call: a file that answers goes on as it was, and one that doesn't has a reason.
+pub record Calls {F T : Type 0} (failures shortages : F → ℕ → Type 0) (is_honest : F → Type 0) (result : Result T StoreFault) (old new : FileValue F) : Type 0 where
+  pub runs : Runs failures shortages is_honest old new
+  pub goes_on : OnOk result (new.has_stopped ≡ old.has_stopped)
+  pub reason : IfErr result (IsReason failures shortages old new)

@@ -1,0 +1,64 @@
+//! What a request commits as one batch.
+ghost use Rattle.std.specs.Prelude.{◌≡◌, ◌+◌, ◌*◌, ◌^◌, ◌<◌, ◌≤◌, ◌∷◌, [], length, IfOk};
+ghost use Rattle.oram_layout.specs.Changes.{marks, path_patches};
+ghost use Rattle.oram_redo.specs.Batch.{patches_of};
+ghost use Rattle.oram_store.specs.Batches.{HoldsCells};
+
+use crate::cells::THERE;
+use oram_layout::Tree;
+use oram_redo::Patch;
+use std::alloc::{AllocError, Global};
+
+/// The records of a path with the byte before each that says that it is there.
+pub(crate) fn cells_of(alloc: Global, tree: &Tree, records: &[u8]) -> Result<Vec<u8>, AllocError>
+    requires { length records.now ≡ (tree.now.shape.depth + 1) * tree.now.shape.record_len }
+    ensures len { IfOk result (λ cells. length cells.items ≡ (tree.now.shape.depth + 1) * (tree.now.shape.record_len + 1)) }
+    ensures cells { IfOk result (λ cells. HoldsCells cells.items tree.now.shape.record_len records.now (tree.now.shape.depth + 1)) }
+{
+    let len = tree.shape.record_len as usize;
+    let levels = tree.shape.depth as usize + 1;
+    let mut cells = Vec::with_capacity(alloc, levels * (len + 1))?;
+    for level in 0..levels {
+        cells.push(THERE)?;
+        cells.extend_from_slice(&records[level * len..(level + 1) * len])?;
+    }
+    Ok(cells)
+}
+
+/// The batch of a STORE, one patch for each level.
+pub(crate) fn path_batch<'a>(
+    alloc: Global,
+    tree: &Tree,
+    leaf: u32,
+    cells: &'a [u8],
+) -> Result<Vec<Patch<'a>>, AllocError>
+    requires leaf { leaf < 2 ^ tree.now.shape.depth }
+    requires whole { length cells.now ≡ (tree.now.shape.depth + 1) * (tree.now.shape.record_len + 1) }
+    ensures { IfOk result (λ batch. (records : _) → HoldsCells cells.now tree.now.shape.record_len records (tree.now.shape.depth + 1)
+        → patches_of batch.items ≡ path_patches tree.now leaf records 0 (tree.now.shape.depth + 1)) }
+{
+    let width = tree.shape.record_len as usize + 1;
+    let mut batch = Vec::new(alloc);
+    for level in 0..tree.shape.depth + 1 {
+        let start = level as usize * width;
+        batch.push(Patch {
+            at: tree.cell_at(tree.shape.node_at(leaf, level)),
+            bytes: &cells[start..start + width],
+        })?;
+    }
+    Ok(batch)
+}
+
+/// The batch that says of these cells that their records are there.
+pub(crate) fn marks_of(alloc: Global, cells: &[u64]) -> Result<Vec<Patch<'static>>, AllocError>
+    ensures { IfOk result (λ batch. patches_of batch.items ≡ marks cells.now) }
+{
+    let mut batch = Vec::with_capacity(alloc, cells.len())?;
+    for cell in cells {
+        batch.push(Patch {
+            at: *cell,
+            bytes: &[THERE],
+        })?;
+    }
+    Ok(batch)
+}

@@ -1,0 +1,137 @@
+//! The cells of trees, read and written by node.
+ghost use Rattle.std.specs.Prelude.{◌≡◌, ◌+◌, ◌*◌, ◌^◌, ◌<◌, ◌≤◌, ◌↔◌, ◌∷◌, ℕ, Some, None, true, false, IsTrue, length, drop, suc, IfErr, IfOk, IfSome, MatchOption, OnOk};
+ghost use Rattle.oram_host.specs.Path.{FitsAnswer, IsBehind, record_at};
+ghost use Rattle.oram_layout.specs.Limits.{nodes_of};
+ghost use Rattle.oram_layout.specs.Records.{IsPathOf, LacksOn, record_in, records_in};
+ghost use Rattle.oram_layout.specs.Trees.{Trees, cell_at, sizes_of, tree_at};
+ghost use Rattle.oram_redo.specs.FilePair.{Contents};
+ghost use Rattle.oram_redo.specs.declared.file_pair.FileKind.TheVariants.{Records};
+ghost use Rattle.oram_store.specs.Batches.{records_of_tree};
+ghost use Rattle.oram_store.specs.Keeping.{IsSoundFile, LeavesRecords};
+ghost use Rattle.oram_store.specs.RecordFile.{Calls, ReadsOnly};
+
+use crate::faults::StoreFault;
+use crate::record_file::RecordFile;
+use oram_layout::Tree;
+use oram_redo::FilePair;
+use std::alloc::Global;
+
+/// The byte that says that a cell has a record.
+pub(crate) const THERE: u8 = 1;
+
+/// Whether a node has a record.
+pub(crate) fn has_record<F: FilePair>(
+    alloc: Global,
+    file: &mut RecordFile<F>,
+    tree: &Tree,
+    node: u32,
+) -> Result<bool, StoreFault>
+    requires { node < nodes_of (sizes_of tree.now.shape) }
+    ensures found { IfOk result (λ found. F.is_honest file.new.files → IsTrue found ↔ (F.seen file.old.files Records (cell_at tree.now node) ≡ 1)) }
+    ensures reads { ReadsOnly F.seen F.may_leave F.moment F.left_since file.old file.new }
+    ensures calls { Calls F.failures F.shortages F.is_honest result file.old file.new }
+    ensures running { OnOk result (file.new.has_stopped ≡ false) }
+{
+    let first = file.read(alloc, tree.cell_at(node), 1)?;
+    Ok(first[0] == THERE)
+}
+
+/// The cell of a node that has a record: a byte, and the record.
+fn read_cell<F: FilePair>(
+    alloc: Global,
+    file: &mut RecordFile<F>,
+    tree: &Tree,
+    node: u32,
+) -> Result<Option<Vec<u8>>, StoreFault>
+    requires { node < nodes_of (sizes_of tree.now.shape) }
+    ensures len { IfOk result (λ found. IfSome found (λ cell. length cell.items ≡ tree.now.shape.record_len + 1)) }
+    ensures found { IfOk result (λ found. F.is_honest file.new.files → MatchOption found
+        (record_in (Some tree.now) node (F.seen file.old.files Records) ≡ None)
+        (λ cell. record_in (Some tree.now) node (F.seen file.old.files Records) ≡ Some (drop 1 cell.items))) }
+    ensures reads { ReadsOnly F.seen F.may_leave F.moment F.left_since file.old file.new }
+    ensures calls { Calls F.failures F.shortages F.is_honest result file.old file.new }
+    ensures running { OnOk result (file.new.has_stopped ≡ false) }
+{
+    let len = tree.shape.record_len as usize + 1;
+    let cell = file.read(alloc, tree.cell_at(node), len)?;
+    if cell[0] == THERE {
+        Ok(Some(cell))
+    } else {
+        Ok(None)
+    }
+}
+
+/// The records of a path, root first, behind other bytes, if each is there.
+pub(crate) fn read_path<F: FilePair>(
+    alloc: Global,
+    file: &mut RecordFile<F>,
+    tree: &Tree,
+    leaf: u32,
+    front: &[u8],
+) -> Result<Option<Vec<u8>>, StoreFault>
+    requires leaf { leaf < 2 ^ tree.now.shape.depth }
+    requires short { length front.now ≤ 1 }
+    ensures fits { IfOk result (λ found. IfSome found (λ v. IsBehind front.now FitsAnswer v.items)) }
+    ensures path { let records = records_of_tree tree.now (F.seen file.old.files Records) in
+        IfOk result (λ found. F.is_honest file.new.files → MatchOption found
+        (LacksOn records 0 (sizes_of tree.now.shape) leaf)
+        (λ v. IsBehind front.now (IsPathOf records 0 (sizes_of tree.now.shape) leaf) v.items)) }
+    ensures reads { ReadsOnly F.seen F.may_leave F.moment F.left_since file.old file.new }
+    ensures calls { Calls F.failures F.shortages F.is_honest result file.old file.new }
+    ensures running { OnOk result (file.new.has_stopped ≡ false) }
+{
+    let mut bytes = Vec::with_capacity(alloc, front.len() + tree.shape.path_len())?;
+    bytes.extend_from_slice(front)?;
+    for level in 0..tree.shape.depth + 1 {
+        let node = tree.shape.node_at(leaf, level);
+        let Some(cell) = read_cell(alloc, file, tree, node)? else {
+            return Ok(None);
+        };
+        bytes.extend_from_slice(&cell[1..])?;
+    }
+    Ok(Some(bytes))
+}
+
+/// Writes the record of a node that has none, behind the byte that will say that it is there.
+fn write_if_missing<F: FilePair>(
+    alloc: Global,
+    file: &mut RecordFile<F>,
+    tree: &Tree,
+    node: u32,
+    bytes: &[u8],
+) -> Result<(), StoreFault>
+    requires node { node < nodes_of (sizes_of tree.now.shape) }
+    requires whole { length bytes.now ≡ tree.now.shape.record_len }
+    ensures kept { (trees : Trees) (number : ℕ) → tree_at trees number ≡ Some tree.now → IsSoundFile F.seen F.may_leave trees file.old → F.is_honest file.new.files
+        → LeavesRecords F.seen F.may_leave F.moment F.left_since trees file.old file.new }
+    ensures calls { Calls F.failures F.shortages F.is_honest result file.old file.new }
+    ensures running { OnOk result (file.new.has_stopped ≡ false) }
+{
+    if has_record(alloc, file, tree, node)? {
+        return Ok(());
+    }
+    file.write_loose(tree.cell_at(node) + 1, bytes)
+}
+
+/// Writes the records of those nodes of a path that have none. So a want of room shows before the log takes the path.
+pub(crate) fn write_missing<F: FilePair>(
+    alloc: Global,
+    file: &mut RecordFile<F>,
+    tree: &Tree,
+    leaf: u32,
+    records: &[u8],
+) -> Result<(), StoreFault>
+    requires leaf { leaf < 2 ^ tree.now.shape.depth }
+    requires whole { length records.now ≡ (tree.now.shape.depth + 1) * tree.now.shape.record_len }
+    ensures kept { (trees : Trees) (number : ℕ) → tree_at trees number ≡ Some tree.now → IsSoundFile F.seen F.may_leave trees file.old → F.is_honest file.new.files
+        → LeavesRecords F.seen F.may_leave F.moment F.left_since trees file.old file.new }
+    ensures calls { Calls F.failures F.shortages F.is_honest result file.old file.new }
+{
+    let len = tree.shape.record_len as usize;
+    for level in 0..tree.shape.depth + 1 {
+        let node = tree.shape.node_at(leaf, level);
+        let start = level as usize * len;
+        write_if_missing(alloc, file, tree, node, &records[start..start + len])?;
+    }
+    Ok(())
+}

@@ -1,0 +1,84 @@
+//! Laws of the definitions, as contracts of functions that do nothing, and one run whose promise no premise makes empty.
+ghost use Rattle.std.specs.Prelude.{◌≡◌, ℕ, [], false, true, IfOk, IfSome};
+ghost use Rattle.oram_layout.specs.Trees.{sizes_of};
+ghost use Rattle.oram_redo.specs.FilePair.{Contents};
+ghost use Rattle.oram_store.specs.Answers.{IsKeptAtOnce};
+ghost use Rattle.oram_store.specs.Crashes.{Serves};
+ghost use Rattle.oram_store.specs.Keeping.{Holds, IsSound, sure_records};
+ghost use Rattle.oram_store.specs.Laws.{HoldsPath};
+ghost use Rattle.oram_store.specs.RecordFile.{Finds, Runs};
+ghost use Rattle.oram_store.specs.Refusals.{IsTold};
+ghost use Rattle.oram_wire.specs.HostReading.{HasNumbers};
+ghost use Rattle.oram_wire.specs.declared.host_messages.HostAnswer.{HostAnswer};
+
+use crate::faults::StoreFault;
+use crate::making::create;
+use crate::storing::Store;
+use oram_bytes::Bytes;
+use oram_layout::{Identity, Shape};
+use oram_redo::FilePair;
+use oram_wire::{HostAnswer, HostRequest};
+use std::alloc::{AllocError, Global};
+
+/// A crash between two calls leaves files of which the sure records are found.
+pub fn found_again<F: FilePair>(store: &Store<F>)
+    ensures { IsSound F.seen F.may_leave store.now → (c : Contents) → F.may_leave store.now.file.files c
+        → Finds (F.seen store.now.file.files) (Holds store.now.trees (sure_records F.seen store.now)) c }
+{}
+
+/// Makes a store of empty files, gives it a tree, and stores the records of one path: each crash from then on leaves files of which
+/// these records are found, and no others. `None` where the store refused one of the two requests.
+pub fn first_life<F: FilePair + Drop>(
+    alloc: Global,
+    mut files: F,
+    identity: &Identity,
+    tree: u8,
+    shape: Shape,
+    leaf: u32,
+    records: Bytes,
+) -> Result<Option<Store<F>>, StoreFault>
+    requires { (file : _) (i : ℕ) → F.seen files file i ≡ 0 }
+    ensures { IfOk result (λ stored. IfSome stored (λ store. F.is_honest store.file.files → (c : Contents) → F.may_leave store.file.files c
+        → Finds (F.seen store.file.files) (HoldsPath store.trees tree (sizes_of shape) leaf records) c)) }
+{
+    create(&mut files, identity)?;
+    let mut store = Store::over(alloc, files)?;
+    let shaping = HostRequest::Shape {
+        tree,
+        depth: shape.depth,
+        record_len: shape.record_len,
+    };
+    if !is_done(alloc, &mut store, &shaping)? {
+        return Ok(None);
+    }
+    let storing = HostRequest::Store {
+        tree,
+        leaf,
+        records,
+    };
+    if !is_done(alloc, &mut store, &storing)? {
+        return Ok(None);
+    }
+    Ok(Some(store))
+}
+
+/// Makes a request of a store, and says whether it was done.
+fn is_done<F: FilePair>(
+    alloc: Global,
+    store: &mut Store<F>,
+    request: &HostRequest,
+) -> Result<bool, AllocError>
+    requires { HasNumbers request.now }
+    ensures told { IfOk result (λ done. done ≡ true → IsTold store.old.trees request.now HostAnswer.Done store.new.trees) }
+    ensures goes_on { IfOk result (λ done. done ≡ true → store.new.file.has_stopped ≡ false) }
+    ensures committed { IfOk result (λ done. done ≡ true → IsKeptAtOnce request.now → store.new.pending ≡ []) }
+    ensures serves { IfOk result (λ done. done ≡ true → F.is_honest store.new.file.files → IsSound F.seen F.may_leave store.old
+        → Serves F.seen F.may_leave F.moment F.left_since request.now HostAnswer.Done store.old store.new) }
+    ensures runs { Runs F.failures F.shortages F.is_honest store.old.file store.new.file }
+{
+    let body = request.encode(alloc)?;
+    match store.handle(&body) {
+        HostAnswer::Done => Ok(true),
+        HostAnswer::Payload(_) | HostAnswer::Refused(_) => Ok(false),
+    }
+}

@@ -1,0 +1,214 @@
+//! The file of records with its redo log: what is read and written, and what stops it.
+//!
+//! Each call of the redo log stands in a function of its own, since a proof carries what is said of each call.
+ghost use Rattle.std.specs.Prelude.{◌≡◌, ◌⊎◌, ◌+◌, ◌<◌, ◌≤◌, ◌∷◌, [], ℕ, List, All, true, false, length, IfErr, IfOk, OnErr, OnOk};
+ghost use Rattle.oram_redo.specs.Batch.{patches_of};
+ghost use Rattle.oram_redo.specs.Content.{Agrees, bytes_at, put};
+ghost use Rattle.oram_redo.specs.FilePair.{Contents};
+ghost use Rattle.oram_redo.specs.Log.{AgreesBut, Fits, entries, put_all};
+ghost use Rattle.oram_redo.specs.Redo.{bounds_of, end_of};
+ghost use Rattle.oram_store.specs.RecordFile.{Calls, Commits, IsSteady, Passes, ReadsOnly, bounds};
+ghost use Rattle.oram_redo.specs.declared.file_pair.FileKind.TheVariants.{Records};
+
+use crate::faults::StoreFault;
+use oram_redo::{Bounds, FilePair, Patch, Redo, RedoError};
+use std::alloc::Global;
+use std::marker::Model;
+
+/// Where the two files may have what.
+pub(crate) const BOUNDS: Bounds = Bounds {
+    log_start: 1 << 12,
+    log_end: 1 << 26,
+    records_end: 1 << 62,
+};
+
+/// A file of records with its redo log.
+#[derive(Drop)]
+pub(crate) struct RecordFile<F: FilePair> {
+    files: F,
+    redo: Redo,
+    /// A patch was written since the last sync of the records that the log doesn't have.
+    is_loose: bool,
+    /// A call of the files has failed: they have to be opened again.
+    has_stopped: bool,
+}
+
+impl<F: FilePair> Model for RecordFile<F> {
+    ghost use Rattle.std.specs.Prelude.{◌≡◌};
+    ghost use Rattle.oram_redo.specs.Redo.{bounds_of};
+    ghost use Rattle.oram_store.specs.RecordFile.{FileValue, bounds};
+
+    ghost Value = { FileValue F };
+
+    ghost view = { λ f. record { files = f.files; redo = f.redo; is_loose = f.is_loose; has_stopped = f.has_stopped } };
+
+    ghost invariant = { λ f. bounds_of f.redo ≡ bounds };
+}
+
+impl<F: FilePair> RecordFile<F> {
+    /// Files that were opened, and their log.
+    pub(crate) fn new(files: F, redo: Redo) -> RecordFile<F>
+        requires { bounds_of redo ≡ bounds }
+        ensures { result ≡ record { files = files; redo = redo; is_loose = false; has_stopped = false } }
+    {
+        RecordFile {
+            files,
+            redo,
+            is_loose: false,
+            has_stopped: false,
+        }
+    }
+
+    /// What an error of the redo log is here: most of them stop the file.
+    fn stopped_by(&mut self, error: RedoError) -> StoreFault
+        ensures memory { error ≡ RedoError.Memory → (result ≡ StoreFault.OutOfMemory) × (self.new ≡ self.old) }
+        ensures no_room { error ≡ RedoError.NoRoom → (result ≡ StoreFault.NoRoom) × (self.new ≡ self.old) }
+        ensures others { (error ≡ RedoError.Failed) ⊎ (error ≡ RedoError.LogFull) ⊎ (error ≡ RedoError.Damaged)
+            → (result ≡ StoreFault.Io) × (self.new ≡ record self.old { has_stopped = true }) }
+        ensures files { self.new.files ≡ self.old.files }
+        ensures redo { self.new.redo ≡ self.old.redo }
+        ensures loose { self.new.is_loose ≡ self.old.is_loose }
+    {
+        match error {
+            RedoError::Memory => StoreFault::OutOfMemory,
+            RedoError::NoRoom => StoreFault::NoRoom,
+            RedoError::Failed | RedoError::LogFull | RedoError::Damaged => {
+                self.has_stopped = true;
+                StoreFault::Io
+            }
+        }
+    }
+
+    /// Reads `len` bytes of the records.
+    pub(crate) fn read(&mut self, alloc: Global, at: u64, len: usize) -> Result<Vec<u8>, StoreFault>
+        ensures len { IfOk result (λ bytes. length bytes.items ≡ len) }
+        ensures bytes { IfOk result (λ bytes. F.is_honest self.new.files → bytes.items ≡ bytes_at len at (F.seen self.old.files Records)) }
+        ensures reads { ReadsOnly F.seen F.may_leave F.moment F.left_since self.old self.new }
+        ensures calls { Calls F.failures F.shortages F.is_honest result self.old self.new }
+        ensures running { OnOk result (self.new.has_stopped ≡ false) }
+    {
+        if self.has_stopped {
+            return Err(StoreFault::Closed);
+        }
+        match self.redo.read(alloc, &mut self.files, at, len) {
+            Ok(bytes) => Ok(bytes),
+            Err(error) => Err(self.stopped_by(error)),
+        }
+    }
+
+    /// Writes a patch that doesn't count yet. At `Err` some of it may be there.
+    pub(crate) fn write_loose(&mut self, at: u64, bytes: &[u8]) -> Result<(), StoreFault>
+        ensures passes { (loose : _) → IsSteady F.seen F.may_leave self.old loose
+            → Passes F.seen F.may_leave F.moment F.left_since ((at, bytes.now) ∷ loose)
+            (λ r. AgreesBut ((at, bytes.now) ∷ loose) r (F.seen self.old.files Records)) self.old self.new }
+        ensures written { OnOk result (Agrees (F.seen self.new.files Records) (put bytes.now at (F.seen self.old.files Records))) }
+        ensures elsewhere { AgreesBut ((at, bytes.now) ∷ []) (F.seen self.new.files Records) (F.seen self.old.files Records) }
+        ensures calls { Calls F.failures F.shortages F.is_honest result self.old self.new }
+        ensures running { OnOk result (self.new.has_stopped ≡ false) }
+    {
+        if self.has_stopped {
+            return Err(StoreFault::Closed);
+        }
+        self.is_loose = true;
+        match self.redo.write_loose(&mut self.files, at, bytes) {
+            Ok(()) => Ok(()),
+            Err(error) => Err(self.stopped_by(error)),
+        }
+    }
+
+    /// Makes sure what was written, and begins the log anew.
+    pub(crate) fn restart(&mut self) -> Result<(), StoreFault>
+        ensures passes { (loose : _) → IsSteady F.seen F.may_leave self.old loose
+            → Passes F.seen F.may_leave F.moment F.left_since [] (λ r. AgreesBut loose r (F.seen self.old.files Records)) self.old self.new }
+        ensures empty { OnOk result (end_of self.new.redo ≡ bounds.log_start) }
+        ensures sure { OnOk result (self.new.is_loose ≡ false) }
+        ensures same { Agrees (F.seen self.new.files Records) (F.seen self.old.files Records) }
+        ensures calls { Calls F.failures F.shortages F.is_honest result self.old self.new }
+        ensures running { OnOk result (self.new.has_stopped ≡ false) }
+    {
+        if self.has_stopped {
+            return Err(StoreFault::Closed);
+        }
+        match self.redo.restart(&mut self.files) {
+            Ok(()) => {
+                self.is_loose = false;
+                Ok(())
+            }
+            Err(error) => Err(self.stopped_by(error)),
+        }
+    }
+
+    /// Makes sure what was written loosely.
+    fn make_sure(&mut self) -> Result<(), StoreFault>
+        ensures passes { (loose : _) → IsSteady F.seen F.may_leave self.old loose
+            → Passes F.seen F.may_leave F.moment F.left_since [] (λ r. AgreesBut loose r (F.seen self.old.files Records)) self.old self.new }
+        ensures sure { OnOk result (self.new.is_loose ≡ false) }
+        ensures same { Agrees (F.seen self.new.files Records) (F.seen self.old.files Records) }
+        ensures calls { Calls F.failures F.shortages F.is_honest result self.old self.new }
+    {
+        if self.is_loose {
+            self.restart()?;
+        }
+        Ok(())
+    }
+
+    /// Commits a batch, if the log has room for it.
+    fn commit_if_room(&mut self, alloc: Global, batch: &[Patch]) -> Result<bool, StoreFault>
+        requires { All (Fits bounds) (patches_of batch.now) }
+        ensures passes { IsSteady F.seen F.may_leave self.old []
+            → Passes F.seen F.may_leave F.moment F.left_since []
+            (λ r. Agrees r (F.seen self.old.files Records) ⊎ Agrees r (put_all (patches_of batch.now) (F.seen self.old.files Records))) self.old self.new }
+        ensures done { IfOk result (λ fits. fits ≡ true → Agrees (F.seen self.new.files Records) (put_all (patches_of batch.now) (F.seen self.old.files Records))) }
+        ensures full { IfOk result (λ fits. fits ≡ false → bounds.log_end ≤ end_of self.old.redo + length (entries (patches_of batch.now))) }
+        ensures not_done { IfOk result (λ fits. fits ≡ false → Agrees (F.seen self.new.files Records) (F.seen self.old.files Records)) }
+        ensures refused { OnErr result (self.new.has_stopped ≡ false → Agrees (F.seen self.new.files Records) (F.seen self.old.files Records)) }
+        ensures calls { Calls F.failures F.shortages F.is_honest result self.old self.new }
+        ensures running { OnOk result (self.new.has_stopped ≡ false) }
+    {
+        if self.has_stopped {
+            return Err(StoreFault::Closed);
+        }
+        match self.redo.commit(alloc, &mut self.files, batch) {
+            Ok(()) => Ok(true),
+            Err(RedoError::LogFull) => Ok(false),
+            Err(RedoError::Memory) => Err(StoreFault::OutOfMemory),
+            Err(RedoError::NoRoom) => Err(StoreFault::NoRoom),
+            Err(error @ (RedoError::Failed | RedoError::Damaged)) => Err(self.stopped_by(error)),
+        }
+    }
+
+    /// Commits a batch that an empty log has room for.
+    fn commit_sure(&mut self, alloc: Global, batch: &[Patch]) -> Result<(), StoreFault>
+        requires fits { All (Fits bounds) (patches_of batch.now) }
+        requires short { bounds.log_start + length (entries (patches_of batch.now)) < bounds.log_end }
+        ensures passes { IsSteady F.seen F.may_leave self.old []
+            → Passes F.seen F.may_leave F.moment F.left_since []
+            (λ r. Agrees r (F.seen self.old.files Records) ⊎ Agrees r (put_all (patches_of batch.now) (F.seen self.old.files Records))) self.old self.new }
+        ensures done { OnOk result (Agrees (F.seen self.new.files Records) (put_all (patches_of batch.now) (F.seen self.old.files Records))) }
+        ensures undone { OnErr result (self.new.has_stopped ≡ false → Agrees (F.seen self.new.files Records) (F.seen self.old.files Records)) }
+        ensures calls { Calls F.failures F.shortages F.is_honest result self.old self.new }
+        ensures running { OnOk result (self.new.has_stopped ≡ false) }
+    {
+        if self.commit_if_room(alloc, batch)? {
+            return Ok(());
+        }
+        self.restart()?;
+        if self.commit_if_room(alloc, batch)? {
+            return Ok(());
+        }
+        // An empty log has room.
+        Err(self.stopped_by(RedoError::LogFull))
+    }
+
+    /// Commits a batch that an empty log has room for: all of it, or nothing where it answers `Err` and goes on.
+    pub(crate) fn commit(&mut self, alloc: Global, batch: &[Patch]) -> Result<(), StoreFault>
+        requires fits { All (Fits bounds) (patches_of batch.now) }
+        requires short { bounds.log_start + length (entries (patches_of batch.now)) < bounds.log_end }
+        ensures commits { Commits F.seen F.may_leave F.moment F.left_since (patches_of batch.now) result self.old self.new }
+        ensures calls { Calls F.failures F.shortages F.is_honest result self.old self.new }
+        ensures running { OnOk result (self.new.has_stopped ≡ false) }
+    {
+        self.make_sure()?;
+        self.commit_sure(alloc, batch)
+    }
+}

@@ -1,0 +1,5 @@
+-- Where the files of the rows of a redo log may have what.
+use Rattle.oram_redo.specs.declared.bounds.Bounds.{Bounds}
+
+abbrev pub bounds : Bounds
+bounds = record { log_start = 4; log_end = 60; records_end = 32 }

@@ -1,0 +1,56 @@
+//! Patches that words tell.
+ghost use Rattle.std.specs.Prelude.{All, IfOk};
+ghost use Rattle.oram_redo.specs.Batch.{patch_of, patches_of};
+ghost use Rattle.oram_redo.specs.Log.{Fits};
+ghost use Rattle.rows_store.specs.Bounds.{bounds};
+
+use crate::redos::BOUNDS;
+use oram_redo::Patch;
+use rows::{RowFault, Words};
+use std::alloc::Global;
+
+/// A patch with its bytes.
+#[derive(Drop)]
+pub struct OwnedPatch {
+    pub at: u64,
+    pub bytes: Vec<u8>,
+}
+
+/// The patches of the words that are left, as `AT BYTES AT BYTES ..`.
+pub fn patches_in(alloc: Global, words: &mut Words) -> Result<Vec<OwnedPatch>, RowFault> {
+    let mut patches = Vec::new(alloc);
+    for _ in 0..u64::MAX {
+        if words.is_empty() {
+            break;
+        }
+        let at = words.number()?;
+        let bytes = words.bytes(alloc)?;
+        patches.push(OwnedPatch { at, bytes })?;
+    }
+    Ok(patches)
+}
+
+/// A patch whose bytes are lent. Where it would not end within the file of records, the row is not one.
+fn lent(patch: &OwnedPatch) -> Result<Patch<'_>, RowFault>
+    ensures { IfOk result (λ lent. Fits bounds (patch_of lent)) }
+{
+    let len = patch.bytes.len() as u64;
+    if patch.at > BOUNDS.records_end || len > BOUNDS.records_end - patch.at {
+        return Err(RowFault::NoRow);
+    }
+    Ok(Patch {
+        at: patch.at,
+        bytes: &patch.bytes,
+    })
+}
+
+/// The batch of these patches.
+pub fn batch_of(alloc: Global, patches: &[OwnedPatch]) -> Result<Vec<Patch<'_>>, RowFault>
+    ensures { IfOk result (λ batch. All (Fits bounds) (patches_of batch.items)) }
+{
+    let mut batch = Vec::new(alloc);
+    for patch in patches {
+        batch.push(lent(patch)?)?;
+    }
+    Ok(batch)
+}

@@ -1,0 +1,43 @@
+//! Two files in memory.
+
+use oram_layout::Identity;
+use oram_redo::{FileKind, FilePair, MemoryPair};
+use oram_store::create;
+use rows::{Page, RowFault, Words};
+use std::alloc::Global;
+
+/// The identity of new files. No answer shows it.
+const IDENTITY: Identity = Identity([0x5a; 16]);
+
+/// The files of a new store.
+pub fn created(alloc: Global) -> Result<MemoryPair, RowFault> {
+    let mut files = MemoryPair::new(alloc);
+    match create(&mut files, &IDENTITY) {
+        Ok(()) => Ok(files),
+        Err(_) => Err(RowFault::OutOfMemory),
+    }
+}
+
+/// The next word as one of the two files.
+pub fn file_in(words: &mut Words) -> Result<FileKind, RowFault> {
+    match words.text()? {
+        "records" => Ok(FileKind::Records),
+        "log" => Ok(FileKind::Log),
+        _ => Err(RowFault::NoRow),
+    }
+}
+
+/// Writes the bytes that the words `FILE AT LEN` name.
+pub fn write_bytes(
+    alloc: Global,
+    files: &mut MemoryPair,
+    words: &mut Words,
+    page: &mut Page,
+) -> Result<(), RowFault> {
+    let file = file_in(words)?;
+    let at = words.number()?;
+    match files.read_at(alloc, file, at, words.size()?) {
+        Ok(bytes) => Ok(page.bytes(alloc, &bytes)?),
+        Err(_) => Err(RowFault::OutOfMemory),
+    }
+}

@@ -1,0 +1,56 @@
+//! The first bytes of a bucket file and of its log.
+
+use oram_layout::{Front, Identity, front_of, log_front_of, read_front, read_log_front};
+use rows::{Page, RowFault, Words};
+use std::alloc::Global;
+
+/// The next word as an identity. With another number of bytes than 16 the row is not one.
+fn identity_in(alloc: Global, words: &mut Words) -> Result<Identity, RowFault> {
+    let bytes = words.bytes(alloc)?;
+    let mut identity = [0; 16];
+    if bytes.len() != identity.len() {
+        return Err(RowFault::NoRow);
+    }
+    identity.copy_from_slice(&bytes);
+    Ok(Identity(identity))
+}
+
+fn write_ours(alloc: Global, page: &mut Page, identity: &Identity) -> Result<(), RowFault> {
+    page.word("ours")?;
+    page.bytes(alloc, &identity.0)?;
+    Ok(())
+}
+
+/// `front read BYTES`: what a file is that begins so.
+fn read(alloc: Global, words: &mut Words, page: &mut Page) -> Result<(), RowFault> {
+    let bytes = words.bytes(alloc)?;
+    match read_front(&bytes) {
+        Front::Ours(identity) => write_ours(alloc, page, &identity),
+        other => Ok(page.show(alloc, &other)?),
+    }
+}
+
+/// `front read_log BYTES`: whether a log begins so.
+fn read_log(alloc: Global, words: &mut Words, page: &mut Page) -> Result<(), RowFault> {
+    let bytes = words.bytes(alloc)?;
+    match read_log_front(&bytes) {
+        Some(identity) => write_ours(alloc, page, &identity),
+        None => Ok(page.word("none")?),
+    }
+}
+
+/// Answers a row about fronts. `front buckets IDENTITY` is that of a bucket file, and `front log IDENTITY` that of its log.
+pub fn answer(
+    alloc: Global,
+    name: &str,
+    words: &mut Words,
+    page: &mut Page,
+) -> Result<(), RowFault> {
+    match name {
+        "buckets" => Ok(page.bytes(alloc, &front_of(&identity_in(alloc, words)?))?),
+        "log" => Ok(page.bytes(alloc, &log_front_of(&identity_in(alloc, words)?))?),
+        "read" => read(alloc, words, page),
+        "read_log" => read_log(alloc, words, page),
+        _ => Err(RowFault::NoRow),
+    }
+}

@@ -1,0 +1,66 @@
+//! Files that are lent to a store, and fail from some call on.
+ghost use Rattle.std.specs.Prelude.{◌≡◌, ℕ};
+
+use oram_redo::{FileKind, FilePair, RedoError};
+use std::alloc::Global;
+
+/// Files that are lent.
+#[derive(Drop)]
+pub struct Lent<'a, F: FilePair> {
+    pub files: &'a mut F,
+    /// How many calls they still answer. Each one after these fails.
+    pub calls: u64,
+}
+
+impl<F: FilePair> FilePair for Lent<'_, F> {
+    ghost seen = { λ l. F.seen l.files.now };
+
+    ghost may_leave = { λ l. F.may_leave l.files.now };
+
+    ghost moment = { λ l. F.moment l.files.now };
+
+    ghost left_since = { λ l. F.left_since l.files.now };
+
+    ghost is_honest = { λ l. F.is_honest l.files.now };
+
+    // Each call may be one too many.
+    ghost failures = { λ l n. Unit {0} };
+
+    ghost shortages = { λ l n. Unit {0} };
+
+    ghost counts_now = { λ l t c le now. F.counts_now l.files.now t c le now };
+
+    ghost whole = { λ l. F.whole l.files.now };
+
+    ghost only_now = { λ l c left. F.only_now l.files.now c left };
+
+    fn read_at(
+        &mut self,
+        alloc: Global,
+        file: FileKind,
+        at: u64,
+        len: usize,
+    ) -> Result<Vec<u8>, RedoError> {
+        let Some(calls) = self.calls.checked_sub(1) else {
+            return Err(RedoError::Failed);
+        };
+        self.calls = calls;
+        self.files.read_at(alloc, file, at, len)
+    }
+
+    fn write_at(&mut self, file: FileKind, at: u64, bytes: &[u8]) -> Result<(), RedoError> {
+        let Some(calls) = self.calls.checked_sub(1) else {
+            return Err(RedoError::Failed);
+        };
+        self.calls = calls;
+        self.files.write_at(file, at, bytes)
+    }
+
+    fn sync(&mut self, file: FileKind) -> Result<(), RedoError> {
+        let Some(calls) = self.calls.checked_sub(1) else {
+            return Err(RedoError::Failed);
+        };
+        self.calls = calls;
+        self.files.sync(file)
+    }
+}

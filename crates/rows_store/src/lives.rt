@@ -1,0 +1,217 @@
+//! Stores over the same files, one after the other. Each has a life: it is opened, asked, and closed or cut off.
+
+use crate::answers::NO_ROOM;
+use crate::files::{created, write_bytes};
+use crate::lent::Lent;
+use oram_redo::MemoryPair;
+use oram_store::{Store, StoreFault};
+use oram_wire::HostAnswer;
+use rows::{Page, RowFault, Words};
+use std::alloc::Global;
+
+/// The files that the next stores are opened over.
+#[derive(Drop)]
+pub struct Lives {
+    files: Option<MemoryPair>,
+}
+
+/// How the files of a store behave, and how its life ends.
+#[derive(Clone, Copy, Debug)]
+struct Life {
+    /// How many calls its files answer before they fail.
+    calls: u64,
+    /// Whether it is closed at the end. Else its process is killed.
+    is_closed: bool,
+}
+
+/// How many calls a request makes at the most.
+const MOST_CALLS: u64 = 1_000;
+
+/// A life whose files don't fail, and at whose end the process is killed.
+const KILLED: Life = Life {
+    calls: u64::MAX,
+    is_closed: false,
+};
+
+/// A life whose files don't fail, and at whose end the store is closed.
+const CLOSED: Life = Life {
+    calls: u64::MAX,
+    is_closed: true,
+};
+
+/// Writes why a store didn't do what it was asked. Files in memory find no room for want of memory alone, and `Io` says that they fail.
+fn write_fault(alloc: Global, page: &mut Page, fault: StoreFault) -> Result<(), RowFault> {
+    match fault {
+        StoreFault::OutOfMemory | StoreFault::NoRoom => Err(RowFault::OutOfMemory),
+        fault => Ok(page.show(alloc, &fault)?),
+    }
+}
+
+/// Writes why a store had no room.
+fn write_failure(
+    alloc: Global,
+    store: &Store<Lent<'_, MemoryPair>>,
+    page: &mut Page,
+) -> Result<(), RowFault> {
+    match store.failure() {
+        Some(fault) => write_fault(alloc, page, fault),
+        None => Ok(page.word("none")?),
+    }
+}
+
+/// Asks a store, and writes its answer, with the reason where it has no room.
+fn ask(
+    alloc: Global,
+    store: &mut Store<Lent<'_, MemoryPair>>,
+    body: &[u8],
+    page: &mut Page,
+) -> Result<(), RowFault> {
+    match store.handle(body) {
+        HostAnswer::Done => page.word("done")?,
+        HostAnswer::Payload(bytes) => {
+            page.word("records")?;
+            page.bytes(alloc, bytes.as_slice())?;
+        }
+        HostAnswer::Refused(code) => {
+            page.word("refused")?;
+            page.number(alloc, u64::from(code))?;
+            if code == NO_ROOM {
+                write_failure(alloc, store, page)?;
+            }
+        }
+    }
+    Ok(())
+}
+
+/// Asks a store these bodies, and closes it or not.
+fn ask_each(
+    alloc: Global,
+    mut store: Store<Lent<'_, MemoryPair>>,
+    bodies: &[Vec<u8>],
+    is_closed: bool,
+    page: &mut Page,
+) -> Result<(), RowFault> {
+    for body in bodies {
+        page.part()?;
+        ask(alloc, &mut store, body, page)?;
+    }
+    if is_closed {
+        page.part()?;
+        match store.close() {
+            Ok(()) => page.word("closed")?,
+            Err(fault) => write_fault(alloc, page, fault)?,
+        }
+    }
+    Ok(())
+}
+
+/// A life of a store over these files: what it answers to the bodies, or why it can't be opened.
+fn live(
+    alloc: Global,
+    files: &mut MemoryPair,
+    life: Life,
+    bodies: &[Vec<u8>],
+    page: &mut Page,
+) -> Result<(), RowFault> {
+    let lent = Lent {
+        files,
+        calls: life.calls,
+    };
+    match Store::over(alloc, lent) {
+        Ok(store) => ask_each(alloc, store, bodies, life.is_closed, page),
+        Err(fault) => write_fault(alloc, page, fault),
+    }
+}
+
+/// The bodies of the words that are left.
+fn bodies_in(alloc: Global, words: &mut Words) -> Result<Vec<Vec<u8>>, RowFault> {
+    let mut bodies = Vec::new(alloc);
+    for _ in 0..u64::MAX {
+        if words.is_empty() {
+            break;
+        }
+        bodies.push(words.bytes(alloc)?)?;
+    }
+    Ok(bodies)
+}
+
+/// New files over which a store was asked some bodies and closed, so that the log is empty; the next store's files fail behind so many calls,
+/// while it is asked others; and the store after that is asked the last of these. Writes what the last two stores answer.
+fn cut(alloc: Global, bodies: &[Vec<u8>], calls: u64, page: &mut Page) -> Result<(), RowFault> {
+    let (first, cut) = bodies.split_at(bodies.len().saturating_sub(2));
+    let (_, last) = cut.split_at(cut.len().saturating_sub(1));
+    let mut files = created(alloc)?;
+    live(alloc, &mut files, CLOSED, first, &mut Page::new(alloc))?;
+    let life = Life {
+        calls,
+        is_closed: false,
+    };
+    live(alloc, &mut files, life, cut, page)?;
+    let mut found = Page::new(alloc);
+    live(alloc, &mut files, KILLED, last, &mut found)?;
+    page.word("then")?;
+    page.word(found.text())?;
+    Ok(())
+}
+
+/// `life cuts BODIES BODY FETCH`: a store is asked the first bodies and closed, the next one is asked the last two, and one after that the last
+/// one again. The files of the second store fail behind no calls, behind one, and so on until it isn't cut off any more. Writes what the
+/// last two stores answer, each case once where the next has the same.
+fn cuts(alloc: Global, words: &mut Words, page: &mut Page) -> Result<(), RowFault> {
+    let bodies = bodies_in(alloc, words)?;
+    if bodies.len() < 2 {
+        return Err(RowFault::NoRow);
+    }
+    let mut whole = Page::new(alloc);
+    cut(alloc, &bodies, u64::MAX, &mut whole)?;
+    let mut before = Page::new(alloc);
+    for calls in 0..MOST_CALLS {
+        let mut now = Page::new(alloc);
+        cut(alloc, &bodies, calls, &mut now)?;
+        if now.text() != before.text() {
+            if calls > 0 {
+                page.word("|")?;
+            }
+            page.word(now.text())?;
+        }
+        if now.text() == whole.text() {
+            break;
+        }
+        before = now;
+    }
+    Ok(())
+}
+
+impl Lives {
+    pub fn new() -> Lives {
+        Lives { files: None }
+    }
+
+    /// Answers a row about lives. `life new` begins new files; `life killed BODIES` and `life closed BODIES` are the lives of stores over
+    /// them; `life file FILE AT LEN` are bytes that these have left.
+    pub fn answer(
+        &mut self,
+        alloc: Global,
+        name: &str,
+        words: &mut Words,
+        page: &mut Page,
+    ) -> Result<(), RowFault> {
+        if name == "cuts" {
+            return cuts(alloc, words, page);
+        }
+        if name == "new" {
+            self.files = Some(created(alloc)?);
+            page.word("done")?;
+            return Ok(());
+        }
+        let Some(files) = &mut self.files else {
+            return Err(RowFault::NoRow);
+        };
+        match name {
+            "killed" => live(alloc, files, KILLED, &bodies_in(alloc, words)?, page),
+            "closed" => live(alloc, files, CLOSED, &bodies_in(alloc, words)?, page),
+            "file" => write_bytes(alloc, files, words, page),
+            _ => Err(RowFault::NoRow),
+        }
+    }
+}

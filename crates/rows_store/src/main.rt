@@ -1,0 +1,60 @@
+//! Rows of the file of buckets: where it has what, its redo log, and the server that keeps its records there.
+//!
+//! The first word of a row names the layer that it is about, the second one the call.
+#![tactic(auto)]
+
+mod answers;
+mod batches;
+mod files;
+mod fronts;
+mod headers;
+mod layouts;
+mod lent;
+mod lives;
+mod redos;
+mod stores;
+
+use lives::Lives;
+use redos::Redos;
+use rows::{Page, RowFault, Table, Words, run_table};
+use std::alloc::Global;
+use std::process::ExitCode;
+use stores::Stores;
+
+/// The calls of these rows, with what each layer keeps from row to row.
+#[derive(Drop)]
+struct Calls {
+    redos: Redos,
+    stores: Stores,
+    lives: Lives,
+}
+
+impl Table for Calls {
+    fn answer(
+        &mut self,
+        alloc: Global,
+        call: &str,
+        words: &mut Words,
+        page: &mut Page,
+    ) -> Result<(), RowFault> {
+        let name = words.text()?;
+        match call {
+            "front" => fronts::answer(alloc, name, words, page),
+            "layout" => layouts::answer(alloc, name, words, page),
+            "header" => headers::answer(alloc, name, words, page),
+            "redo" => self.redos.answer(alloc, name, words, page),
+            "store" => self.stores.answer(alloc, name, words, page),
+            "life" => self.lives.answer(alloc, name, words, page),
+            _ => Err(RowFault::NoRow),
+        }
+    }
+}
+
+fn main(rt: HostRuntime) -> ExitCode {
+    let mut calls = Calls {
+        redos: Redos::new(),
+        stores: Stores::new(),
+        lives: Lives::new(),
+    };
+    run_table(&rt, &mut calls)
+}

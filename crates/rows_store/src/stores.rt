@@ -1,0 +1,207 @@
+//! A store over two files in memory, beside the bucket server in memory.
+
+use crate::answers::{NO_ROOM, ask, ask_bytes, write_answer};
+use crate::files::created;
+use oram_host::Server;
+use oram_redo::{FileKind, FilePair, MemoryPair};
+use oram_store::{Store, StoreFault};
+use oram_wire::{HostAnswer, Sink, SinkFault};
+use rows::{Page, RowFault, Words};
+use std::alloc::Global;
+
+/// The store that the next rows ask, and the server that they ask the same.
+#[derive(Drop)]
+pub struct Stores {
+    store: Option<Store<MemoryPair>>,
+    server: Option<Server>,
+}
+
+/// Why a store couldn't be opened or didn't end. Files in memory fail for want of memory alone.
+fn fault_of(fault: StoreFault) -> Result<StoreFault, RowFault> {
+    match fault {
+        StoreFault::OutOfMemory | StoreFault::NoRoom | StoreFault::Io | StoreFault::Closed => {
+            Err(RowFault::OutOfMemory)
+        }
+        other => Ok(other),
+    }
+}
+
+/// Writes how a call ended.
+fn write_end(
+    alloc: Global,
+    page: &mut Page,
+    ended: Result<(), StoreFault>,
+) -> Result<(), RowFault> {
+    match ended {
+        Ok(()) => page.word("done")?,
+        Err(fault) => page.show(alloc, &fault_of(fault)?)?,
+    }
+    Ok(())
+}
+
+/// Writes bytes from the beginning of a file on.
+fn fill(files: &mut MemoryPair, file: FileKind, bytes: &[u8]) -> Result<(), RowFault> {
+    match files.write_at(file, 0, bytes) {
+        Ok(()) => Ok(()),
+        Err(_) => Err(RowFault::OutOfMemory),
+    }
+}
+
+/// `store full BODY`: the store's refusal of a body for want of room, and why.
+fn full(
+    alloc: Global,
+    store: &mut Store<MemoryPair>,
+    words: &mut Words,
+    page: &mut Page,
+) -> Result<(), RowFault> {
+    let body = words.bytes(alloc)?;
+    match store.handle(&body) {
+        HostAnswer::Refused(NO_ROOM) => page.word("refused 8")?,
+        answer => write_answer(alloc, page, &answer)?,
+    }
+    write_failure(alloc, store, page)
+}
+
+/// `store failure`: why there was no room, the last time that there was none.
+fn write_failure(
+    alloc: Global,
+    store: &Store<MemoryPair>,
+    page: &mut Page,
+) -> Result<(), RowFault> {
+    match store.failure() {
+        Some(fault) => page.show(alloc, &fault)?,
+        None => page.word("none")?,
+    }
+    Ok(())
+}
+
+/// `store put BODY`: whether the store takes a body of a formatting.
+fn put(
+    alloc: Global,
+    store: &mut Store<MemoryPair>,
+    words: &mut Words,
+    page: &mut Page,
+) -> Result<(), RowFault> {
+    let body = words.bytes(alloc)?;
+    match store.put(&body) {
+        Ok(()) => page.word("taken")?,
+        Err(SinkFault::OutOfMemory) => return Err(RowFault::OutOfMemory),
+        Err(fault) => page.show(alloc, &fault)?,
+    }
+    Ok(())
+}
+
+/// `store alone BODY`: what the store answers to a body that the server isn't asked.
+fn alone(
+    alloc: Global,
+    store: &mut Store<MemoryPair>,
+    words: &mut Words,
+    page: &mut Page,
+) -> Result<(), RowFault> {
+    let body = words.bytes(alloc)?;
+    write_answer(alloc, page, &store.handle(&body))
+}
+
+/// Answers a row about the store alone.
+fn answer_of(
+    alloc: Global,
+    store: &mut Store<MemoryPair>,
+    name: &str,
+    words: &mut Words,
+    page: &mut Page,
+) -> Result<(), RowFault> {
+    match name {
+        "alone" => alone(alloc, store, words, page),
+        "full" => full(alloc, store, words, page),
+        "put" => put(alloc, store, words, page),
+        "settle" => write_end(alloc, page, store.settle()),
+        "failure" => write_failure(alloc, store, page),
+        _ => Err(RowFault::NoRow),
+    }
+}
+
+impl Stores {
+    pub fn new() -> Stores {
+        Stores {
+            store: None,
+            server: None,
+        }
+    }
+
+    /// Goes on with a store over these files, and a server without trees.
+    fn open(&mut self, alloc: Global, files: MemoryPair, page: &mut Page) -> Result<(), RowFault> {
+        self.server = Some(Server::new(alloc));
+        match Store::over(alloc, files) {
+            Ok(store) => {
+                self.store = Some(store);
+                page.word("done")?;
+            }
+            Err(fault) => {
+                self.store = None;
+                page.show(alloc, &fault_of(fault)?)?;
+            }
+        }
+        Ok(())
+    }
+
+    /// `store new`: begins a store over new files.
+    fn begin(&mut self, alloc: Global, page: &mut Page) -> Result<(), RowFault> {
+        let files = created(alloc)?;
+        self.open(alloc, files, page)
+    }
+
+    /// `store over RECORDS LOG`: begins a store over files that hold these bytes.
+    fn over(&mut self, alloc: Global, words: &mut Words, page: &mut Page) -> Result<(), RowFault> {
+        let mut files = MemoryPair::new(alloc);
+        fill(&mut files, FileKind::Records, &words.bytes(alloc)?)?;
+        fill(&mut files, FileKind::Log, &words.bytes(alloc)?)?;
+        self.open(alloc, files, page)
+    }
+
+    /// `store close`: how the store ends. The next row has none.
+    fn close(&mut self, alloc: Global, page: &mut Page) -> Result<(), RowFault> {
+        match self.store.take() {
+            Some(store) => write_end(alloc, page, store.close()),
+            None => Err(RowFault::NoRow),
+        }
+    }
+
+    /// `store ask BODY`: what the store and the server answer to a body; `store bytes BODY`: the bytes of their answer.
+    fn ask(
+        &mut self,
+        alloc: Global,
+        name: &str,
+        words: &mut Words,
+        page: &mut Page,
+    ) -> Result<(), RowFault> {
+        let (Some(store), Some(server)) = (&mut self.store, &mut self.server) else {
+            return Err(RowFault::NoRow);
+        };
+        let body = words.bytes(alloc)?;
+        if name == "ask" {
+            ask(alloc, store, server, &body, page)
+        } else {
+            ask_bytes(alloc, store, server, &body, page)
+        }
+    }
+
+    /// Answers a row about a store.
+    pub fn answer(
+        &mut self,
+        alloc: Global,
+        name: &str,
+        words: &mut Words,
+        page: &mut Page,
+    ) -> Result<(), RowFault> {
+        match name {
+            "new" => self.begin(alloc, page),
+            "over" => self.over(alloc, words, page),
+            "close" => self.close(alloc, page),
+            "ask" | "bytes" => self.ask(alloc, name, words, page),
+            _ => match &mut self.store {
+                Some(store) => answer_of(alloc, store, name, words, page),
+                None => Err(RowFault::NoRow),
+            },
+        }
+    }
+}
