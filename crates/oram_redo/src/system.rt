@@ -12,6 +12,7 @@ ghost use Rattle.oram_redo.specs.System.{IsHonestRecord, LeftSince, MayLeaveAfte
 use crate::record::Record;
 use crate::{FileKind, FilePair, RedoError};
 use std::alloc::Global;
+use std::cell::Cell;
 use std::fs::File;
 use std::io::{self, ErrorKind};
 use std::marker::PhantomData;
@@ -22,6 +23,11 @@ const WRITE: u64 = 1;
 const READ: u64 = 2;
 
 const SYNC: u64 = 3;
+
+/// How much the log grows at once: a mebibyte, which is written in pieces.
+const PIECES: u64 = 256;
+
+const PIECE: usize = 4_096;
 
 /// What two files held when they were opened. A function over `S: Start` is proved for all contents, which no code can read.
 pub trait Start: Drop {
@@ -41,6 +47,8 @@ impl Start for Unknown {
 pub struct SystemPair<S: Start> {
     records: File,
     log: File,
+    /// Nothing was written to the log behind it.
+    log_len: Cell<u64>,
     has_failed: bool,
     noted: Record,
     start: PhantomData<S>,
@@ -55,13 +63,32 @@ impl<S: Start> SystemPair<S> {
     {
         records.sync_all()?;
         log.sync_all()?;
+        let log_len = Cell::new(log.metadata()?.len());
         Ok(SystemPair {
             records,
             log,
+            log_len,
             has_failed: false,
             noted: Record::new(),
             start: PhantomData,
         })
+    }
+
+    /// Has the log reach to this place before it is written to, so that a sync has no new length to keep, and is quicker. What it grows by
+    /// is zeros, which is what a read past its end gives too. Where there is no room for them it stays as long as it is.
+    fn reach(&self, end: u64) {
+        let len = self.log_len.get();
+        if end <= len {
+            return;
+        }
+        let grown = if grow(&self.log, len).is_ok() {
+            len.saturating_add(PIECES * PIECE as u64)
+        } else {
+            let _as_it_was = self.log.set_len(len);
+            len
+        };
+        // A write past that makes the log longer by itself.
+        self.log_len.set(grown.max(end));
     }
 
     fn file(&self, file: FileKind) -> &File {
@@ -118,6 +145,18 @@ fn write_all(file: &File, at: u64, bytes: &[u8]) -> Result<(), RedoError>
     Ok(())
 }
 
+// Writes the zeros by which a log grows.
+fn grow(log: &File, from: u64) -> Result<(), RedoError> {
+    let zeros = [0; PIECE];
+    for number in 0..PIECES {
+        let Some(at) = from.checked_add(number * PIECE as u64) else {
+            return Err(RedoError::Failed);
+        };
+        write_all(log, at, &zeros)?;
+    }
+    Ok(())
+}
+
 fn error_of(error: &io::Error) -> RedoError
     ensures { (result ≡ RedoError.NoRoom) ⊎ (result ≡ RedoError.Failed) }
 {
@@ -162,6 +201,9 @@ impl<S: Start> FilePair for SystemPair<S> {
     }
 
     fn write_at(&mut self, file: FileKind, at: u64, bytes: &[u8]) -> Result<(), RedoError> {
+        if file == FileKind::Log {
+            self.reach(at.saturating_add(bytes.len() as u64));
+        }
         match write_all(self.file(file), at, bytes) {
             Ok(()) => {
                 note(&mut self.noted, WRITE, file, at, true, bytes);

@@ -17,6 +17,9 @@ use std::path::Path;
 use std::random::RandomSource;
 use std::{fs, io};
 
+/// As large as a block of memory gets that a host frees, at the least.
+const LARGE_BLOCK: usize = 1 << 22;
+
 /// A store in a file.
 pub type BucketFile = Store<SystemPair<Unknown>>;
 
@@ -32,12 +35,20 @@ const OWNERS_ALONE: u32 = 0o600;
 /// After the disk failed (`StoreFault::Io`, `StoreFault::Closed`) the store is dropped, and its file opened again by this call: all that
 /// was acknowledged and settled is there.
 pub fn open_store(rt: &HostRuntime, alloc: Global, path: &str) -> Result<BucketFile, StoreFault> {
+    keep_freed_memory(alloc);
     let files = if is_there(rt, path)? {
         open_files(rt, alloc, path)?
     } else {
         make_files(rt, alloc, path)?
     };
     Store::over(alloc, files)
+}
+
+/// Has the C library keep memory that is freed. Else it gives the memory of each large message back to the system and takes it again for
+/// the next one, at the price of a page fault for every 4 KiB. It keeps twice as much as the largest block that was ever freed (mallopt(3),
+/// `M_TRIM_THRESHOLD`).
+fn keep_freed_memory(alloc: Global) {
+    let _freed: Result<Vec<u8>, AllocError> = Vec::with_capacity(alloc, LARGE_BLOCK);
 }
 
 /// Something stands at a path. A link that leads nowhere is something.
