@@ -2,9 +2,11 @@
 
 use crate::page::Page;
 use crate::words::Words;
+use hex::FromHexError;
 use std::alloc::{AllocError, AllocFailed, Global};
 use std::io;
 use std::io::{BufRead, BufReader, BufWriter, ErrorKind, Write};
+use std::num::{ParseIntError, TryFromIntError};
 use std::process::ExitCode;
 
 /// What keeps a row from being answered.
@@ -24,6 +26,27 @@ impl From<AllocError> for RowFault {
 impl<T: Drop> From<AllocFailed<T>> for RowFault {
     fn from(_error: AllocFailed<T>) -> RowFault {
         RowFault::OutOfMemory
+    }
+}
+
+impl From<ParseIntError> for RowFault {
+    fn from(_error: ParseIntError) -> RowFault {
+        RowFault::NoRow
+    }
+}
+
+impl From<TryFromIntError> for RowFault {
+    fn from(_error: TryFromIntError) -> RowFault {
+        RowFault::NoRow
+    }
+}
+
+impl From<FromHexError> for RowFault {
+    fn from(error: FromHexError) -> RowFault {
+        match error {
+            FromHexError::OutOfMemory => RowFault::OutOfMemory,
+            _ => RowFault::NoRow,
+        }
     }
 }
 
@@ -56,7 +79,8 @@ fn answer_row<T: Table>(
         Err(RowFault::OutOfMemory) => Err(AllocError),
         Ok(()) | Err(RowFault::NoRow) => {
             page.clear();
-            page.word("no such row")
+            page.word("no such row");
+            Ok(())
         }
     }
 }
@@ -87,7 +111,9 @@ fn answer_rows<R: BufRead + Drop, W: Write, T: Table>(
         let row = call_of(text);
         page.clear();
         answer_row(alloc, table, row, &mut page)?;
-        let answer = page.text();
+        let Ok(answer) = page.text() else {
+            return Err(io::Error::from(ErrorKind::OutOfMemory));
+        };
         writeln!(writer, "{row} => {answer}")?;
     }
     Ok(())

@@ -1,7 +1,6 @@
 //! The words of a row, as they are asked for.
 
 use crate::reading::RowFault;
-use hex::FromHexError;
 use std::alloc::Global;
 
 /// The words of a call that are still to be read.
@@ -64,22 +63,34 @@ impl<'a> Words<'a> {
 
     /// The next word as a decimal number.
     pub fn number(&mut self) -> Result<u64, RowFault> {
-        self.text()?.parse::<u64>().map_err(|_| RowFault::NoRow)
+        Ok(self.text()?.parse::<u64>()?)
+    }
+
+    /// The next five words as decimal numbers, as those of a device: its blocks, the bytes of each, the slots of a bucket, the
+    /// greatest table and the lifetime.
+    pub fn five_numbers(&mut self) -> Result<[u64; 5], RowFault> {
+        Ok([
+            self.number()?,
+            self.number()?,
+            self.number()?,
+            self.number()?,
+            self.number()?,
+        ])
     }
 
     /// The next word as a decimal number below 2^32.
     pub fn short(&mut self) -> Result<u32, RowFault> {
-        u32::try_from(self.number()?).map_err(|_| RowFault::NoRow)
+        Ok(u32::try_from(self.number()?)?)
     }
 
     /// The next word as a decimal number below 2^8.
     pub fn byte(&mut self) -> Result<u8, RowFault> {
-        u8::try_from(self.number()?).map_err(|_| RowFault::NoRow)
+        Ok(u8::try_from(self.number()?)?)
     }
 
     /// The next word as a length or a place.
     pub fn size(&mut self) -> Result<usize, RowFault> {
-        usize::try_from(self.number()?).map_err(|_| RowFault::NoRow)
+        Ok(usize::try_from(self.number()?)?)
     }
 
     /// Whether the next word is `yes`; `no` is the other that may stand there.
@@ -120,6 +131,18 @@ impl<'a> Words<'a> {
         Ok(array)
     }
 
+    /// All words that are left, each as bytes.
+    pub fn bodies(&mut self, alloc: Global) -> Result<Vec<Vec<u8>>, RowFault> {
+        let mut bodies = Vec::new(alloc);
+        for _ in 0..u64::MAX {
+            if self.is_empty() {
+                break;
+            }
+            bodies.push(self.bytes(alloc)?)?;
+        }
+        Ok(bodies)
+    }
+
     /// All words that are left, as decimal numbers.
     pub fn numbers(&mut self, alloc: Global) -> Result<Vec<u64>, RowFault> {
         let mut numbers = Vec::new(alloc);
@@ -148,12 +171,12 @@ impl<'a> Words<'a> {
 /// Adds the bytes of one part: hexadecimal digits, or one byte and how many times it stands there.
 fn push_part(alloc: Global, bytes: &mut Vec<u8>, part: &str) -> Result<(), RowFault> {
     let Some((byte, count)) = part.split_once('*') else {
-        let made = decoded(alloc, part)?;
+        let made = hex::decode(alloc, part)?;
         bytes.extend_from_slice(&made)?;
         return Ok(());
     };
-    let made = decoded(alloc, byte)?;
-    let count = count.parse::<u32>().map_err(|_| RowFault::NoRow)?;
+    let made = hex::decode(alloc, byte)?;
+    let count = count.parse::<u32>()?;
     let [byte] = made.as_slice() else {
         return Err(RowFault::NoRow);
     };
@@ -161,12 +184,4 @@ fn push_part(alloc: Global, bytes: &mut Vec<u8>, part: &str) -> Result<(), RowFa
         bytes.push(*byte)?;
     }
     Ok(())
-}
-
-/// The bytes that hexadecimal digits spell.
-fn decoded(alloc: Global, digits: &str) -> Result<Vec<u8>, RowFault> {
-    hex::decode(alloc, digits).map_err(|fault| match fault {
-        FromHexError::OutOfMemory => RowFault::OutOfMemory,
-        _ => RowFault::NoRow,
-    })
 }

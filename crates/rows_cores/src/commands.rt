@@ -37,15 +37,14 @@ pub fn event_of(alloc: Global, kind: &str, words: &mut Words) -> Result<Event, R
 }
 
 /// Writes a command.
-pub fn show_command(alloc: Global, command: &Command, page: &mut Page) -> Result<(), RowFault> {
+pub fn show_command(command: &Command, page: &mut Page) {
     page.word(match command {
         Command::Read(_) => "read",
         Command::Write(..) => "write",
         Command::Discard(_) => "discard",
-    })?;
-    page.number(alloc, u64::from(command.address()))?;
+    });
+    page.number(command.address());
     if let Command::Write(_, bytes) = command {
-        page.bytes(alloc, bytes.as_slice())?;
+        page.bytes(bytes.as_slice());
     }
-    Ok(())
 }

@@ -64,20 +64,23 @@ impl Cores {
             }
             _ => return Err(RowFault::NoRow),
         };
-        page.number(alloc, messages as u64)?;
-        page.word("messages")?;
+        page.number(messages);
+        page.word("messages");
         Ok(())
     }
 
     /// `core alike`: whether the host sees of this core what it saw of the former one.
-    fn alike(&self, alloc: Global, page: &mut Page) -> Result<(), RowFault> {
+    fn alike(&self, page: &mut Page) -> Result<(), RowFault> {
         let seen = match (&self.plain, &self.chacha) {
             (Some(machine), _) => machine.seen(),
             (None, Some(machine)) => machine.seen(),
             (None, None) => return Err(RowFault::NoRow),
         };
         match &self.former {
-            Some(former) => show_alike(alloc, seen, former, page),
+            Some(former) => {
+                show_alike(seen, former, page);
+                Ok(())
+            }
             None => Err(RowFault::NoRow),
         }
     }
@@ -93,7 +96,7 @@ impl Cores {
         let call = words.text()?;
         match call {
             "new" => return self.begin(alloc, device, words, page),
-            "alike" => return self.alike(alloc, page),
+            "alike" => return self.alike(page),
             _ => {}
         }
         if let Some(machine) = &mut self.plain {

@@ -25,21 +25,21 @@ struct Calls {
 
 impl Calls {
     /// `device SIZES`: how many trees the device has, or the number of the fault.
-    fn begin(&mut self, alloc: Global, words: &mut Words, page: &mut Page) -> Result<(), RowFault> {
-        let (blocks, block_bytes, slots) = (words.number()?, words.number()?, words.number()?);
+    fn begin(&mut self, words: &mut Words, page: &mut Page) -> Result<(), RowFault> {
+        let [blocks, block_bytes, slots, top, lifetime] = words.five_numbers()?;
         self.cores = Cores::new();
-        match Device::new(blocks, block_bytes, slots, words.number()?, words.number()?) {
+        self.device = match Device::new(blocks, block_bytes, slots, top, lifetime) {
             Ok(device) => {
-                page.word("ready")?;
-                page.number(alloc, u64::from(device.trees()))?;
-                self.device = Some(device);
+                page.word("ready");
+                page.number(device.trees());
+                Some(device)
             }
             Err(fault) => {
-                page.word("shape")?;
-                page.number(alloc, u64::from(fault.number()))?;
-                self.device = None;
+                page.word("shape");
+                page.number(fault.number());
+                None
             }
-        }
+        };
         Ok(())
     }
 }
@@ -53,7 +53,7 @@ impl Table for Calls {
         page: &mut Page,
     ) -> Result<(), RowFault> {
         if call == "device" {
-            return self.begin(alloc, words, page);
+            return self.begin(words, page);
         }
         match (&self.device, call) {
             (_, "run") => runs::answer(alloc, words, page),

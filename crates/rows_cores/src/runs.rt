@@ -10,9 +10,9 @@ use std::alloc::Global;
 fn copy(alloc: Global, words: &mut Words, page: &mut Page) -> Result<(), RowFault> {
     let command = command_of(alloc, words.text()?, words)?;
     let copy = command.copy(alloc)?;
-    show_command(alloc, &copy, page)?;
-    page.part()?;
-    page.flag(copy == command)?;
+    show_command(&copy, page);
+    page.part();
+    page.flag(copy == command);
     Ok(())
 }
 
@@ -20,7 +20,7 @@ fn copy(alloc: Global, words: &mut Words, page: &mut Page) -> Result<(), RowFaul
 fn equal(alloc: Global, words: &mut Words, page: &mut Page) -> Result<(), RowFault> {
     let first = command_of(alloc, words.text()?, words)?;
     let second = command_of(alloc, words.text()?, words)?;
-    page.flag(first == second)?;
+    page.flag(first == second);
     Ok(())
 }
 
@@ -28,18 +28,19 @@ fn equal(alloc: Global, words: &mut Words, page: &mut Page) -> Result<(), RowFau
 fn same(alloc: Global, words: &mut Words, page: &mut Page) -> Result<(), RowFault> {
     let first = event_of(alloc, words.text()?, words)?;
     let second = event_of(alloc, words.text()?, words)?;
-    page.flag(first == second)?;
+    page.flag(first == second);
     Ok(())
 }
 
 /// `run only REASON`: the reaction that is a failure, and nothing else.
 fn only(alloc: Global, words: &mut Words, page: &mut Page) -> Result<(), RowFault> {
     let reaction = Reaction::only(alloc, Note::FailedNow(reason_of(words)?));
-    show_reaction(alloc, &reaction, page)
+    show_reaction(&reaction, page);
+    Ok(())
 }
 
 /// `run refusals`: the numbers and names of the refusals.
-fn refusals(alloc: Global, page: &mut Page) -> Result<(), RowFault> {
+fn refusals(page: &mut Page) -> Result<(), RowFault> {
     for refusal in [
         Refusal::BadAddress,
         Refusal::BadLength,
@@ -48,9 +49,9 @@ fn refusals(alloc: Global, page: &mut Page) -> Result<(), RowFault> {
         Refusal::Exhausted,
         Refusal::Failed,
     ] {
-        page.part()?;
-        page.number(alloc, u64::from(refusal.number()))?;
-        page.word(refusal_name(refusal))?;
+        page.part();
+        page.number(refusal.number());
+        page.word(refusal_name(refusal));
     }
     Ok(())
 }
@@ -62,7 +63,7 @@ pub fn answer(alloc: Global, words: &mut Words, page: &mut Page) -> Result<(), R
         "equal" => equal(alloc, words, page),
         "same" => same(alloc, words, page),
         "only" => only(alloc, words, page),
-        "refusals" => refusals(alloc, page),
+        "refusals" => refusals(page),
         _ => Err(RowFault::NoRow),
     }
 }

@@ -1,9 +1,7 @@
 //! What a core says, in words.
 
-use byteorder::{BigEndian, ByteOrder};
 use oram_run::{Note, Reaction, Reason, Refusal, Reply, ReplyBody};
 use rows::{Page, RowFault, Words};
-use std::alloc::Global;
 
 /// The name of a refusal.
 pub fn refusal_name(refusal: Refusal) -> &'static str {
@@ -18,106 +16,99 @@ pub fn refusal_name(refusal: Refusal) -> &'static str {
 }
 
 /// Writes a reason: `malformed`, `tampered TREE LEVEL` or `host CODE`.
-pub fn show_reason(alloc: Global, reason: Reason, page: &mut Page) -> Result<(), RowFault> {
+pub fn show_reason(reason: Reason, page: &mut Page) {
     match reason {
-        Reason::Malformed => page.word("malformed")?,
+        Reason::Malformed => page.word("malformed"),
         Reason::Tampered(tree, level) => {
-            page.word("tampered")?;
-            page.number(alloc, u64::from(tree))?;
-            page.number(alloc, u64::from(level))?;
+            page.word("tampered");
+            page.number(tree);
+            page.number(level);
         }
         Reason::HostRefused(code) => {
-            page.word("host")?;
-            page.number(alloc, u64::from(code))?;
+            page.word("host");
+            page.number(code);
         }
     }
-    Ok(())
 }
 
 /// Writes a note.
-fn show_note(alloc: Global, note: Note, page: &mut Page) -> Result<(), RowFault> {
-    page.part()?;
+fn show_note(note: Note, page: &mut Page) {
+    page.part();
     match note {
         Note::Accepted(ticket) => {
-            page.word("accepted")?;
-            page.number(alloc, ticket)?;
+            page.word("accepted");
+            page.number(ticket);
         }
         Note::Refused(refusal) => {
-            page.word("refused")?;
-            page.number(alloc, u64::from(refusal.number()))?;
-            page.word(refusal_name(refusal))?;
+            page.word("refused");
+            page.number(refusal.number());
+            page.word(refusal_name(refusal));
         }
-        Note::Taken => page.word("taken")?,
-        Note::Stalled => page.word("stalled")?,
+        Note::Taken => page.word("taken"),
+        Note::Stalled => page.word("stalled"),
         Note::FailedNow(reason) => {
-            page.word("failed")?;
-            show_reason(alloc, reason, page)?;
+            page.word("failed");
+            show_reason(reason, page);
         }
-        Note::Resent => page.word("resent")?,
-        Note::Unexpected => page.word("unexpected")?,
+        Note::Resent => page.word("resent"),
+        Note::Unexpected => page.word("unexpected"),
     }
-    Ok(())
 }
 
 /// Writes a reply: its session, its ticket and its body.
-fn show_reply(alloc: Global, reply: &Reply, page: &mut Page) -> Result<(), RowFault> {
-    page.part()?;
-    page.word("reply")?;
-    page.number(alloc, u64::from(reply.session))?;
-    page.number(alloc, reply.ticket)?;
+fn show_reply(reply: &Reply, page: &mut Page) {
+    page.part();
+    page.word("reply");
+    page.number(reply.session);
+    page.number(reply.ticket);
     match &reply.body {
         ReplyBody::Data(data) => {
-            page.word("data")?;
-            page.bytes(alloc, data.as_slice())?;
+            page.word("data");
+            page.bytes(data.as_slice());
         }
-        ReplyBody::Done => page.word("done")?,
-        ReplyBody::Failed => page.word("failed")?,
+        ReplyBody::Done => page.word("done"),
+        ReplyBody::Failed => page.word("failed"),
     }
-    Ok(())
 }
 
 /// Writes a message to the host: its kind, its tree and its leaf.
-fn show_message(alloc: Global, message: &[u8], page: &mut Page) -> Result<(), RowFault> {
-    let [op, tree, leaf @ ..] = message else {
-        return Err(RowFault::NoRow);
+fn show_message(message: &[u8], page: &mut Page) {
+    page.part();
+    let [op, tree, a, b, c, d, ..] = message else {
+        page.word("short");
+        return;
     };
-    if leaf.len() < 4 {
-        return Err(RowFault::NoRow);
-    }
-    page.part()?;
     page.word(match op {
         1 => "fetch",
         2 => "store",
         _ => "other",
-    })?;
-    page.number(alloc, u64::from(*tree))?;
-    page.number(alloc, u64::from(BigEndian::read_u32(&leaf[..4])))?;
-    Ok(())
+    });
+    page.number(*tree);
+    page.number(u32::from_be_bytes([*a, *b, *c, *d]));
 }
 
 /// Writes the replies and messages of a reaction.
-fn show_rest(alloc: Global, reaction: &Reaction, page: &mut Page) -> Result<(), RowFault> {
+fn show_rest(reaction: &Reaction, page: &mut Page) {
     for reply in &reaction.replies {
-        show_reply(alloc, reply, page)?;
+        show_reply(reply, page);
     }
     for message in &reaction.sends {
-        show_message(alloc, message.as_slice(), page)?;
+        show_message(message.as_slice(), page);
     }
-    Ok(())
 }
 
 /// Writes a reaction: its note, its replies and its messages.
-pub fn show_reaction(alloc: Global, reaction: &Reaction, page: &mut Page) -> Result<(), RowFault> {
-    show_note(alloc, reaction.note, page)?;
-    show_rest(alloc, reaction, page)
+pub fn show_reaction(reaction: &Reaction, page: &mut Page) {
+    show_note(reaction.note, page);
+    show_rest(reaction, page);
 }
 
 /// Writes a reaction to one of many answers: its note only where the answer was not taken.
-pub fn show_answered(alloc: Global, reaction: &Reaction, page: &mut Page) -> Result<(), RowFault> {
+pub fn show_answered(reaction: &Reaction, page: &mut Page) {
     if reaction.note != Note::Taken {
-        show_note(alloc, reaction.note, page)?;
+        show_note(reaction.note, page);
     }
-    show_rest(alloc, reaction, page)
+    show_rest(reaction, page);
 }
 
 /// The reason that words name.

@@ -50,9 +50,9 @@ fn pace_of(words: &mut Words) -> Result<Pace, RowFault> {
     }
 }
 
-fn write_talk(alloc: Global, page: &mut Page, talk: &Talk) -> Result<(), RowFault> {
-    write_ended(alloc, page, talk.0)?;
-    page.bytes(alloc, talk.1.bytes())?;
+fn write_talk(page: &mut Page, talk: &Talk) -> Result<(), RowFault> {
+    write_ended(page, talk.0)?;
+    page.bytes(talk.1.bytes());
     Ok(())
 }
 
@@ -66,8 +66,8 @@ fn options(alloc: Global, words: &mut Words, page: &mut Page) -> Result<(), RowF
     }
     let mut source = Source::new(&said, Pace::smooth(false));
     let talk = talked(alloc, &mut source, ROOM, Pace::smooth(true))?;
-    write_ended(alloc, page, talk.0)?;
-    page.number(alloc, talk.1.bytes().len() as u64)?;
+    write_ended(page, talk.0)?;
+    page.number(talk.1.bytes().len());
     Ok(())
 }
 
@@ -83,8 +83,8 @@ fn passes(alloc: Global, words: &mut Words, page: &mut Page) -> Result<(), RowFa
     let mut target = Target::new(alloc, ROOM, Pace::smooth(true))?;
     let mut disk = MemDisk::new(alloc, 4, 4)?;
     let ended = transmit(alloc, &mut reader, &mut target, &mut disk);
-    write_ended(alloc, page, with_memory(ended, target.bytes())?)?;
-    page.bytes(alloc, target.bytes())?;
+    write_ended(page, with_memory(ended, target.bytes())?)?;
+    page.bytes(target.bytes());
     Ok(())
 }
 
@@ -102,7 +102,7 @@ impl Connections {
         let mut source = Source::new(&self.said, Pace::smooth(false));
         let talk = talked(alloc, &mut source, ROOM, Pace::smooth(true))?;
         self.told = talk.1.bytes().to_vec(alloc)?;
-        write_talk(alloc, page, &talk)
+        write_talk(page, &talk)
     }
 
     /// `nbd ahead`: the same over a reader that reads ahead.
@@ -111,7 +111,7 @@ impl Connections {
             return Err(RowFault::OutOfMemory);
         };
         let talk = talked(alloc, &mut reader, ROOM, Pace::smooth(true))?;
-        write_talk(alloc, page, &talk)
+        write_talk(page, &talk)
     }
 
     /// How a connection ends whose client says so many bytes of it, and how many bytes it is told, which begin what it was told.
@@ -145,11 +145,12 @@ impl Connections {
         let wanted = self.cut(alloc, from, Pace::smooth(fails))?;
         for len in from..words.size()? {
             if self.cut(alloc, len, Pace::smooth(fails))? != wanted {
-                return Ok(page.word("not alike")?);
+                page.word("not alike");
+                return Ok(());
             }
         }
-        write_ended(alloc, page, wanted.0)?;
-        page.number(alloc, wanted.1 as u64)?;
+        write_ended(page, wanted.0)?;
+        page.number(wanted.1);
         Ok(())
     }
 
@@ -169,10 +170,11 @@ impl Connections {
         for room in from..to {
             let pace = pace_of(&mut Words::of(ending))?;
             if !self.is_full(alloc, room, pace)? {
-                return Ok(page.word("no")?);
+                page.word("no");
+                return Ok(());
             }
         }
-        page.word("yes")?;
+        page.word("yes");
         Ok(())
     }
 

@@ -22,17 +22,13 @@ pub fn with_memory(
 }
 
 /// Writes how many requests were served, or why the connection ended.
-pub fn write_ended(
-    alloc: Global,
-    page: &mut Page,
-    ended: Result<u64, NbdFault>,
-) -> Result<(), RowFault> {
+pub fn write_ended(page: &mut Page, ended: Result<u64, NbdFault>) -> Result<(), RowFault> {
     match ended {
         Ok(count) => {
-            page.number(alloc, count)?;
-            page.word("served")?;
+            page.number(count);
+            page.word("served");
         }
-        Err(fault) => page.show(alloc, &fault)?,
+        Err(fault) => page.show(&fault),
     }
     Ok(())
 }

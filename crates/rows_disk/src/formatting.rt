@@ -31,12 +31,11 @@ impl<'a> Progress for Hearer<'a> {
 
 /// The device of five numbers.
 fn device_in(words: &mut Words) -> Result<Device, RowFault> {
-    let blocks = words.number()?;
-    let block_bytes = words.number()?;
-    let slots = words.number()?;
-    let top = words.number()?;
-    let lifetime = words.number()?;
-    Device::new(blocks, block_bytes, slots, top, lifetime).map_err(|_| RowFault::NoRow)
+    let [blocks, block_bytes, slots, top, lifetime] = words.five_numbers()?;
+    match Device::new(blocks, block_bytes, slots, top, lifetime) {
+        Ok(device) => Ok(device),
+        Err(_) => Err(RowFault::NoRow),
+    }
 }
 
 type Connection<'a> = Ahead<Answers<'a>, BufWriter<Messages<'a>>, Hearer<'a>>;
@@ -69,7 +68,6 @@ fn formatted(
 
 /// Writes what came of formattings, where there was memory for them.
 fn write_made(
-    alloc: Global,
     page: &mut Page,
     made: Result<bool, FormattingFault>,
     lacks_memory: bool,
@@ -78,9 +76,9 @@ fn write_made(
         return Err(RowFault::OutOfMemory);
     }
     match made {
-        Ok(is_idle) => page.word(if is_idle { "idle" } else { "busy" })?,
+        Ok(is_idle) => page.word(if is_idle { "idle" } else { "busy" }),
         Err(FormattingFault::OutOfMemory) => return Err(RowFault::OutOfMemory),
-        Err(fault) => page.show(alloc, &fault)?,
+        Err(fault) => page.show(&fault),
     }
     Ok(())
 }
@@ -100,9 +98,9 @@ fn write_formatted(
     let mut ahead = connection(alloc, device, far, &told)?;
     let made = formatted(alloc, device, &mut ahead, times);
     let lacks_memory = far.try_borrow().is_ok_and(|far| far.lacks_memory());
-    write_made(alloc, page, made, lacks_memory)?;
-    page.number(alloc, told.messages.get())?;
-    page.number(alloc, told.of.get())?;
+    write_made(page, made, lacks_memory)?;
+    page.number(told.messages.get());
+    page.number(told.of.get());
     Ok(())
 }
 

@@ -10,7 +10,7 @@ fn option(alloc: Global, words: &mut Words, page: &mut Page) -> Result<(), RowFa
         option: HandshakeOption::of(words.short()?),
         length: words.short()?,
     };
-    page.bytes(alloc, &head.encode(alloc)?)?;
+    page.bytes(&head.encode(alloc)?);
     Ok(())
 }
 
@@ -18,16 +18,17 @@ fn option(alloc: Global, words: &mut Words, page: &mut Page) -> Result<(), RowFa
 fn read_option(alloc: Global, words: &mut Words, page: &mut Page) -> Result<(), RowFault> {
     let bytes = words.bytes(alloc)?;
     let Some(head) = OptionHead::decode(&bytes) else {
-        return Ok(page.word("none")?);
+        page.word("none");
+        return Ok(());
     };
-    page.show(alloc, &head.option)?;
-    page.number(alloc, head.length.into())?;
+    page.show(&head.option);
+    page.number(head.length);
     Ok(())
 }
 
 /// The next word as a decimal number below 2^16.
 fn code_in(words: &mut Words) -> Result<u16, RowFault> {
-    u16::try_from(words.number()?).map_err(|_| RowFault::NoRow)
+    Ok(u16::try_from(words.number()?)?)
 }
 
 /// `head request CODE FLAGS COOKIE OFFSET LENGTH`: the head of a request.
@@ -39,7 +40,7 @@ fn request(alloc: Global, words: &mut Words, page: &mut Page) -> Result<(), RowF
         offset: words.number()?,
         length: words.short()?,
     };
-    page.bytes(alloc, &request.encode(alloc)?)?;
+    page.bytes(&request.encode(alloc)?);
     Ok(())
 }
 
@@ -47,13 +48,14 @@ fn request(alloc: Global, words: &mut Words, page: &mut Page) -> Result<(), RowF
 fn read_request(alloc: Global, words: &mut Words, page: &mut Page) -> Result<(), RowFault> {
     let bytes = words.bytes(alloc)?;
     let Some(request) = Request::decode(&bytes) else {
-        return Ok(page.word("none")?);
+        page.word("none");
+        return Ok(());
     };
-    page.show(alloc, &request.command)?;
-    page.number(alloc, request.flags.into())?;
-    page.number(alloc, request.cookie)?;
-    page.number(alloc, request.offset)?;
-    page.number(alloc, request.length.into())?;
+    page.show(&request.command);
+    page.number(request.flags);
+    page.number(request.cookie);
+    page.number(request.offset);
+    page.number(request.length);
     Ok(())
 }
 

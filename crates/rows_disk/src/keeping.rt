@@ -19,11 +19,10 @@ fn sealer_in(words: &mut Words) -> Result<SealerKind, RowFault> {
 }
 
 /// Writes a salt, a key check and a sealer.
-fn write_head(alloc: Global, page: &mut Page, head: &Head) -> Result<(), RowFault> {
-    page.bytes(alloc, &head.salt.0)?;
-    page.bytes(alloc, &head.key_check.0)?;
-    page.show(alloc, &head.sealer)?;
-    Ok(())
+fn write_head(page: &mut Page, head: &Head) {
+    page.bytes(&head.salt.0);
+    page.bytes(&head.key_check.0);
+    page.show(&head.sealer);
 }
 
 /// `disk put ROOM PACE SALT CHECK SEALER STATE`: whether the file of a disk is written, and the bytes that were.
@@ -37,8 +36,8 @@ fn put(alloc: Global, words: &mut Words, page: &mut Page) -> Result<(), RowFault
     };
     let state = words.bytes(alloc)?;
     let written = put_kept_file(&mut target, &head, &state);
-    page.word(if written.is_ok() { "done" } else { "failed" })?;
-    page.bytes(alloc, target.bytes())?;
+    page.word(if written.is_ok() { "done" } else { "failed" });
+    page.bytes(target.bytes());
     Ok(())
 }
 
@@ -47,10 +46,10 @@ fn read(alloc: Global, words: &mut Words, page: &mut Page) -> Result<(), RowFaul
     let file = words.bytes(alloc)?;
     match read_kept_file(&file) {
         Ok(kept) => {
-            write_head(alloc, page, &kept.head)?;
-            page.bytes(alloc, kept.state)?;
+            write_head(page, &kept.head);
+            page.bytes(kept.state);
         }
-        Err(fault) => page.show(alloc, &fault)?,
+        Err(fault) => page.show(&fault),
     }
     Ok(())
 }
@@ -59,10 +58,10 @@ fn read(alloc: Global, words: &mut Words, page: &mut Page) -> Result<(), RowFaul
 fn keys(alloc: Global, words: &mut Words, page: &mut Page) -> Result<(), RowFault> {
     let key = DiskKey(words.array(alloc)?);
     let salt = Salt(words.array(alloc)?);
-    page.bytes(alloc, &sealer_key(&key, &salt).0)?;
-    page.bytes(alloc, &tape_key(&key, &salt).0)?;
-    page.bytes(alloc, &key_check(&key, &salt).0)?;
-    page.bytes(alloc, &disk_identity(&key, &salt).0)?;
+    page.bytes(&sealer_key(&key, &salt).0);
+    page.bytes(&tape_key(&key, &salt).0);
+    page.bytes(&key_check(&key, &salt).0);
+    page.bytes(&disk_identity(&key, &salt).0);
     Ok(())
 }
 
@@ -76,11 +75,11 @@ fn opens(alloc: Global, words: &mut Words, page: &mut Page) -> Result<(), RowFau
     };
     match keys_for(&key, &head) {
         Ok(keys) => {
-            page.bytes(alloc, &keys.sealer.0)?;
-            page.bytes(alloc, &keys.tape.0)?;
-            page.bytes(alloc, &keys.identity.0)?;
+            page.bytes(&keys.sealer.0);
+            page.bytes(&keys.tape.0);
+            page.bytes(&keys.identity.0);
         }
-        Err(fault) => page.show(alloc, &fault)?,
+        Err(fault) => page.show(&fault),
     }
     Ok(())
 }
@@ -90,10 +89,10 @@ fn head(alloc: Global, words: &mut Words, page: &mut Page) -> Result<(), RowFaul
     let key = DiskKey(words.array(alloc)?);
     let salt = Salt(words.array(alloc)?);
     let head = Head::new(&key, salt, sealer_in(words)?);
-    write_head(alloc, page, &head)?;
+    write_head(page, &head);
     match keys_for(&DiskKey(words.array(alloc)?), &head) {
-        Ok(_) => page.word("opens")?,
-        Err(fault) => page.show(alloc, &fault)?,
+        Ok(_) => page.word("opens"),
+        Err(fault) => page.show(&fault),
     }
     Ok(())
 }
@@ -124,7 +123,7 @@ fn reason_in(words: &mut Words) -> Result<FileReason, RowFault> {
 /// Writes a failure as a client tells it.
 fn write_failure(alloc: Global, page: &mut Page, failure: FileFailure) -> Result<(), RowFault> {
     let text = format!(in alloc; "{failure}")?;
-    page.lines(text.as_str())?;
+    page.lines(text.as_str());
     Ok(())
 }
 
@@ -201,7 +200,7 @@ fn keep_states(
         page.word(match keeper.keep(b"state") {
             Ok(()) => "kept",
             Err(_) => "lost",
-        })?;
+        });
     }
     Ok(())
 }
@@ -224,7 +223,7 @@ fn keeps(alloc: Global, words: &mut Words, page: &mut Page) -> Result<(), RowFau
     };
     let mut keeper = FileKeeper::new(desk, head, sync);
     keep_states(page, &mut keeper, count)?;
-    page.number(alloc, deeds.get())?;
+    page.number(deeds.get());
     match keeper.failure() {
         Some(failure) => write_failure(alloc, page, failure),
         None => Ok(()),

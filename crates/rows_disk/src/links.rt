@@ -195,13 +195,13 @@ fn ask<'a>(
 ) -> Result<(), RowFault> {
     match word {
         "call" => match link.call(alloc, &[]) {
-            Ok(answer) => page.bytes(alloc, &answer)?,
+            Ok(answer) => page.bytes(&answer),
             Err(LinkFault::OutOfMemory) => return Err(RowFault::OutOfMemory),
-            Err(fault) => page.show(alloc, &fault)?,
+            Err(fault) => page.show(&fault),
         },
         "reach" => match link.reach(alloc) {
-            Ok(()) => page.word("reached")?,
-            Err(trouble) => page.show(alloc, &trouble)?,
+            Ok(()) => page.word("reached"),
+            Err(trouble) => page.show(&trouble),
         },
         "idle" => add(&play.time, IDLE),
         _ => return Err(RowFault::NoRow),
@@ -210,15 +210,9 @@ fn ask<'a>(
 }
 
 /// A count with its name.
-fn write_count(
-    alloc: Global,
-    page: &mut Page,
-    name: &str,
-    count: &Cell<u64>,
-) -> Result<(), RowFault> {
-    page.word(name)?;
-    page.number(alloc, count.get())?;
-    Ok(())
+fn write_count(page: &mut Page, name: &str, count: &Cell<u64>) {
+    page.word(name);
+    page.number(count.get());
 }
 
 /// What the link answers to the words, and then how many faults it had and why it gave up.
@@ -236,11 +230,11 @@ fn perform(
         }
         ask(alloc, &mut link, play, words.text()?, page)?;
     }
-    page.word("faults")?;
-    page.number(alloc, link.faults())?;
+    page.word("faults");
+    page.number(link.faults());
     match link.trouble() {
-        Some(trouble) => page.show(alloc, &trouble)?,
-        None => page.word("patient")?,
+        Some(trouble) => page.show(&trouble),
+        None => page.word("patient"),
     }
     Ok(())
 }
@@ -258,13 +252,13 @@ fn plays(alloc: Global, words: &mut Words, page: &mut Page) -> Result<(), RowFau
     };
     let play = Play::new(words.text()?.as_bytes(), has_clock);
     perform(alloc, &play, seconds, words, page)?;
-    write_count(alloc, page, "tries", &play.tries)?;
-    write_count(alloc, page, "calls", &play.calls)?;
-    write_count(alloc, page, "paused", &play.paused)?;
-    write_count(alloc, page, "passed", &play.time)?;
-    write_count(alloc, page, "lost", &play.lost)?;
-    write_count(alloc, page, "full", &play.full)?;
-    write_count(alloc, page, "back", &play.back)?;
+    write_count(page, "tries", &play.tries);
+    write_count(page, "calls", &play.calls);
+    write_count(page, "paused", &play.paused);
+    write_count(page, "passed", &play.time);
+    write_count(page, "lost", &play.lost);
+    write_count(page, "full", &play.full);
+    write_count(page, "back", &play.back);
     Ok(())
 }
 

@@ -80,7 +80,7 @@ pub fn stops(alloc: Global, words: &mut Words, page: &mut Page) -> Result<(), Ro
     let mut source = Source::new(&said, Pace::smooth(false));
     let mut target = Target::new(alloc, 256, Pace::smooth(true))?;
     let ended = transmit(alloc, &mut source, &mut target, &mut disk);
-    write_ended(alloc, page, with_memory(ended, target.bytes())?)?;
-    page.bytes(alloc, target.bytes())?;
+    write_ended(page, with_memory(ended, target.bytes())?)?;
+    page.bytes(target.bytes());
     Ok(())
 }

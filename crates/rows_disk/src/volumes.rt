@@ -99,8 +99,8 @@ impl Volumes {
         let mut source = Source::new(&said, Pace::smooth(false));
         let mut target = Target::new(alloc, 256, Pace::smooth(true))?;
         let ended = transmit(alloc, &mut source, &mut target, volume);
-        write_ended(alloc, page, with_memory(ended, target.bytes())?)?;
-        page.bytes(alloc, target.bytes())?;
+        write_ended(page, with_memory(ended, target.bytes())?)?;
+        page.bytes(target.bytes());
         Ok(())
     }
 
@@ -119,7 +119,7 @@ impl Volumes {
             "asks" => return self.asks(alloc, words, page),
             _ => return Err(RowFault::NoRow),
         }
-        page.word("done")?;
+        page.word("done");
         Ok(())
     }
 }

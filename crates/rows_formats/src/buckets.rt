@@ -16,22 +16,20 @@ pub struct Buckets {
     device: Option<Device>,
 }
 
-fn write_block(alloc: Global, page: &mut Page, block: &Block) -> Result<(), RowFault> {
-    page.number(alloc, block.address.into())?;
-    page.number(alloc, block.leaf.into())?;
-    page.bytes(alloc, &block.content)?;
-    Ok(())
+fn write_block(page: &mut Page, block: &Block) {
+    page.number(block.address);
+    page.number(block.leaf);
+    page.bytes(&block.content);
 }
 
 /// Writes the address, the leaf and the data of each block, or that there is none.
-fn write_blocks(alloc: Global, page: &mut Page, blocks: &[Block]) -> Result<(), RowFault> {
+fn write_blocks(page: &mut Page, blocks: &[Block]) {
     if blocks.is_empty() {
-        page.word("empty")?;
+        page.word("empty");
     }
     for block in blocks {
-        write_block(alloc, page, block)?;
+        write_block(page, block);
     }
-    Ok(())
 }
 
 /// `bucket decode BYTES`: the blocks that the bytes spell, or the first fault.
@@ -46,10 +44,11 @@ fn decode(
         return Err(RowFault::NoRow);
     }
     match decode_bucket(alloc, device, 0, &bytes) {
-        Ok(blocks) => write_blocks(alloc, page, &blocks),
-        Err(BucketFault::OutOfMemory) => Err(RowFault::OutOfMemory),
-        Err(fault) => show_fault(alloc, page, fault.number(), &fault),
+        Ok(blocks) => write_blocks(page, &blocks),
+        Err(BucketFault::OutOfMemory) => return Err(RowFault::OutOfMemory),
+        Err(fault) => show_fault(page, fault.number(), &fault),
     }
+    Ok(())
 }
 
 /// `bucket again BYTES`: the bytes of the bucket with the blocks that these spell.
@@ -64,7 +63,7 @@ fn again(
         return Err(RowFault::NoRow);
     }
     match decode_bucket(alloc, device, 0, &bytes) {
-        Ok(blocks) => page.bytes(alloc, &encode_bucket(alloc, device, 0, &blocks)?)?,
+        Ok(blocks) => page.bytes(&encode_bucket(alloc, device, 0, &blocks)?),
         Err(BucketFault::OutOfMemory) => return Err(RowFault::OutOfMemory),
         Err(_) => return Err(RowFault::NoRow),
     }
@@ -85,7 +84,7 @@ fn write_sealed<S: Sealer>(
     match decode_bucket(alloc, device, 0, bytes) {
         Ok(blocks) => {
             let sealed = seal_bucket(alloc, sealer, device, 0, nonce, &blocks)?;
-            page.bytes(alloc, &sealed)?;
+            page.bytes(&sealed);
         }
         Err(BucketFault::OutOfMemory) => return Err(RowFault::OutOfMemory),
         Err(_) => return Err(RowFault::NoRow),
@@ -120,10 +119,11 @@ fn write_opened<S: Sealer>(
         return Err(RowFault::NoRow);
     }
     match open_bucket(alloc, sealer, device, 0, sealed) {
-        Ok(blocks) => write_blocks(alloc, page, &blocks),
-        Err(OpenFault::OutOfMemory) => Err(RowFault::OutOfMemory),
-        Err(fault) => Ok(page.show(alloc, &fault)?),
+        Ok(blocks) => write_blocks(page, &blocks),
+        Err(OpenFault::OutOfMemory) => return Err(RowFault::OutOfMemory),
+        Err(fault) => page.show(&fault),
     }
+    Ok(())
 }
 
 /// `bucket open SEALER BYTES`: the blocks of a sealed bucket.
@@ -149,7 +149,8 @@ fn copy(alloc: Global, words: &mut Words, page: &mut Page) -> Result<(), RowFaul
         content: words.bytes(alloc)?,
     };
     let copied = block.copy(alloc)?;
-    write_block(alloc, page, &copied)
+    write_block(page, &copied);
+    Ok(())
 }
 
 impl Buckets {
@@ -167,7 +168,7 @@ impl Buckets {
     ) -> Result<(), RowFault> {
         if name == "device" {
             self.device = device_in(words)?.ok();
-            page.flag(self.device.is_some())?;
+            page.flag(self.device.is_some());
             return Ok(());
         }
         let Some(device) = &self.device else {
@@ -179,12 +180,14 @@ impl Buckets {
             "seal" => seal(alloc, device, words, page),
             "open" => open(alloc, device, words, page),
             "copy" => copy(alloc, words, page),
-            "want" => show_fault(
-                alloc,
-                page,
-                BucketFault::OutOfMemory.number(),
-                &BucketFault::OutOfMemory,
-            ),
+            "want" => {
+                show_fault(
+                    page,
+                    BucketFault::OutOfMemory.number(),
+                    &BucketFault::OutOfMemory,
+                );
+                Ok(())
+            }
             _ => Err(RowFault::NoRow),
         }
     }

@@ -13,118 +13,84 @@ pub struct Devices {
 
 /// The device of five numbers, or why there is none.
 pub fn device_in(words: &mut Words) -> Result<Result<Device, ShapeFault>, RowFault> {
-    let blocks = words.number()?;
-    let block_bytes = words.number()?;
-    let slots = words.number()?;
-    let top = words.number()?;
-    let lifetime = words.number()?;
+    let [blocks, block_bytes, slots, top, lifetime] = words.five_numbers()?;
     Ok(Device::new(blocks, block_bytes, slots, top, lifetime))
 }
 
 /// `device record OVERHEAD`: the bytes of a record.
-fn record(
-    alloc: Global,
-    device: &Device,
-    words: &mut Words,
-    page: &mut Page,
-) -> Result<(), RowFault> {
+fn record(device: &Device, words: &mut Words, page: &mut Page) -> Result<(), RowFault> {
     let overhead = words.size()?;
     if overhead > 64 {
         return Err(RowFault::NoRow);
     }
-    page.number(alloc, device.record_len(overhead) as u64)?;
+    page.number(device.record_len(overhead));
     Ok(())
 }
 
 /// `device tree TREE`: its blocks, and its depth.
-fn tree(
-    alloc: Global,
-    device: &Device,
-    words: &mut Words,
-    page: &mut Page,
-) -> Result<(), RowFault> {
+fn tree(device: &Device, words: &mut Words, page: &mut Page) -> Result<(), RowFault> {
     let tree = words.byte()?;
     if tree >= device.trees() {
         return Err(RowFault::NoRow);
     }
-    page.number(alloc, device.blocks_in(tree).into())?;
-    page.number(alloc, device.depth(tree).into())?;
+    page.number(device.blocks_in(tree));
+    page.number(device.depth(tree));
     Ok(())
 }
 
 /// `device address TREE ADDRESS`: the address there of what belongs to a block of the device.
-fn address(
-    alloc: Global,
-    device: &Device,
-    words: &mut Words,
-    page: &mut Page,
-) -> Result<(), RowFault> {
+fn address(device: &Device, words: &mut Words, page: &mut Page) -> Result<(), RowFault> {
     let tree = words.byte()?;
     let address = words.short()?;
     if tree >= device.trees() || address >= device.blocks_in(0) {
         return Err(RowFault::NoRow);
     }
-    page.number(alloc, device.address_in(tree, address).into())?;
+    page.number(device.address_in(tree, address));
     Ok(())
 }
 
 /// `device leaf TREE WORD`: the leaf that a word names.
-fn leaf(
-    alloc: Global,
-    device: &Device,
-    words: &mut Words,
-    page: &mut Page,
-) -> Result<(), RowFault> {
+fn leaf(device: &Device, words: &mut Words, page: &mut Page) -> Result<(), RowFault> {
     let tree = words.byte()?;
     let word = words.number()?;
     if tree >= device.trees() {
         return Err(RowFault::NoRow);
     }
-    page.number(alloc, device.leaf_of(tree, word).into())?;
+    page.number(device.leaf_of(tree, word));
     Ok(())
 }
 
 /// `device node TREE LEAF LEVEL`: the node at a level of a leaf's path.
-fn node(
-    alloc: Global,
-    device: &Device,
-    words: &mut Words,
-    page: &mut Page,
-) -> Result<(), RowFault> {
+fn node(device: &Device, words: &mut Words, page: &mut Page) -> Result<(), RowFault> {
     let tree = words.byte()?;
     let leaf = words.short()?;
     let level = words.byte()?;
     if tree >= device.trees() || level > device.depth(tree) || leaf >= 1 << device.depth(tree) {
         return Err(RowFault::NoRow);
     }
-    page.number(alloc, device.node_on(tree, leaf, level).into())?;
+    page.number(device.node_on(tree, leaf, level));
     Ok(())
 }
 
 /// `device shared TREE LEAF LEAF`: the greatest level at which the paths of two leaves have one node.
-fn shared(
-    alloc: Global,
-    device: &Device,
-    words: &mut Words,
-    page: &mut Page,
-) -> Result<(), RowFault> {
+fn shared(device: &Device, words: &mut Words, page: &mut Page) -> Result<(), RowFault> {
     let tree = words.byte()?;
     let x = words.short()?;
     let y = words.short()?;
     if tree >= device.trees() || x >= 1 << device.depth(tree) || y >= 1 << device.depth(tree) {
         return Err(RowFault::NoRow);
     }
-    page.number(alloc, device.shared_level(tree, x, y).into())?;
+    page.number(device.shared_level(tree, x, y));
     Ok(())
 }
 
 /// `device sizes`: the bytes of a block, the slots, the table's entries, the lifetime, and the entries of a map block.
-fn sizes(alloc: Global, device: &Device, page: &mut Page) -> Result<(), RowFault> {
-    page.number(alloc, device.block_bytes() as u64)?;
-    page.number(alloc, device.slots() as u64)?;
-    page.number(alloc, device.top())?;
-    page.number(alloc, device.lifetime())?;
-    page.number(alloc, device.fanout() as u64)?;
+fn sizes(device: &Device, page: &mut Page) -> Result<(), RowFault> {
+    page.number(device.block_bytes());
+    page.number(device.slots());
+    page.number(device.top());
+    page.number(device.lifetime());
+    page.number(device.fanout());
     Ok(())
 }
 
@@ -134,40 +100,39 @@ impl Devices {
     }
 
     /// `device new BLOCKS BLOCK_BYTES SLOTS TOP LIFETIME`: how many trees it has, or the first fault.
-    fn begin(&mut self, alloc: Global, words: &mut Words, page: &mut Page) -> Result<(), RowFault> {
+    fn begin(&mut self, words: &mut Words, page: &mut Page) -> Result<(), RowFault> {
         match device_in(words)? {
             Ok(device) => {
-                page.number(alloc, device.trees().into())?;
-                page.word(if device.trees() == 1 { "tree" } else { "trees" })?;
+                page.number(device.trees());
+                page.word(if device.trees() == 1 { "tree" } else { "trees" });
                 self.device = Some(device);
-                Ok(())
             }
-            Err(fault) => show_fault(alloc, page, Some(fault.number()), &fault),
+            Err(fault) => show_fault(page, Some(fault.number()), &fault),
         }
+        Ok(())
     }
 
     /// Answers a row about the device.
     pub fn answer(
         &mut self,
-        alloc: Global,
         name: &str,
         words: &mut Words,
         page: &mut Page,
     ) -> Result<(), RowFault> {
         if name == "new" {
-            return self.begin(alloc, words, page);
+            return self.begin(words, page);
         }
         let Some(device) = &self.device else {
             return Err(RowFault::NoRow);
         };
         match name {
-            "sizes" => sizes(alloc, device, page),
-            "record" => record(alloc, device, words, page),
-            "tree" => tree(alloc, device, words, page),
-            "address" => address(alloc, device, words, page),
-            "leaf" => leaf(alloc, device, words, page),
-            "node" => node(alloc, device, words, page),
-            "shared" => shared(alloc, device, words, page),
+            "sizes" => sizes(device, page),
+            "record" => record(device, words, page),
+            "tree" => tree(device, words, page),
+            "address" => address(device, words, page),
+            "leaf" => leaf(device, words, page),
+            "node" => node(device, words, page),
+            "shared" => shared(device, words, page),
             _ => Err(RowFault::NoRow),
         }
     }

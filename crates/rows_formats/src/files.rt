@@ -36,14 +36,10 @@ fn fault_of(alloc: Global, sealing: Sealing, file: &[u8]) -> Result<Option<State
 }
 
 /// Writes what is wrong with a file.
-pub fn write_fault(
-    alloc: Global,
-    page: &mut Page,
-    fault: Option<StateFault>,
-) -> Result<(), RowFault> {
+pub fn write_fault(page: &mut Page, fault: Option<StateFault>) {
     match fault {
-        Some(fault) => show_fault(alloc, page, fault.number(), &fault),
-        None => Ok(page.word("good")?),
+        Some(fault) => show_fault(page, fault.number(), &fault),
+        None => page.word("good"),
     }
 }
 
@@ -61,9 +57,10 @@ fn again(alloc: Global, words: &mut Words, page: &mut Page) -> Result<(), RowFau
     let sealing = sealing_in(alloc, words)?;
     let file = words.bytes(alloc)?;
     match core_in(alloc, sealing, &file)? {
-        Ok(core) => Ok(page.bytes(alloc, &core.file(alloc)?)?),
-        Err(fault) => write_fault(alloc, page, Some(fault)),
+        Ok(core) => page.bytes(&core.file(alloc)?),
+        Err(fault) => write_fault(page, Some(fault)),
     }
+    Ok(())
 }
 
 impl Files {
@@ -78,7 +75,8 @@ impl Files {
     fn keep(&mut self, alloc: Global, words: &mut Words, page: &mut Page) -> Result<(), RowFault> {
         self.sealing = sealing_in(alloc, words)?;
         self.file = words.bytes(alloc)?;
-        write_fault(alloc, page, fault_of(alloc, self.sealing, &self.file)?)
+        write_fault(page, fault_of(alloc, self.sealing, &self.file)?);
+        Ok(())
     }
 
     /// What is wrong with the file where the lowest bit of this byte is another.
@@ -100,11 +98,12 @@ impl Files {
         let wanted = self.fault_beside(alloc, from)?;
         for place in from..words.size()? {
             if self.fault_beside(alloc, place)? != wanted {
-                page.word("not alike")?;
+                page.word("not alike");
                 return Ok(());
             }
         }
-        write_fault(alloc, page, wanted)
+        write_fault(page, wanted);
+        Ok(())
     }
 
     /// What is wrong with so many of the file's first bytes.
@@ -121,17 +120,19 @@ impl Files {
         let wanted = self.fault_before(alloc, from)?;
         for len in from..words.size()? {
             if self.fault_before(alloc, len)? != wanted {
-                page.word("not alike")?;
+                page.word("not alike");
                 return Ok(());
             }
         }
-        write_fault(alloc, page, wanted)
+        write_fault(page, wanted);
+        Ok(())
     }
 
     /// `file flip PLACE`: what is wrong with the file, in which the lowest bit of this byte is another from now on.
     fn flip(&mut self, alloc: Global, words: &mut Words, page: &mut Page) -> Result<(), RowFault> {
         flip(&mut self.file, words.size()?)?;
-        write_fault(alloc, page, fault_of(alloc, self.sealing, &self.file)?)
+        write_fault(page, fault_of(alloc, self.sealing, &self.file)?);
+        Ok(())
     }
 
     /// The file with another byte at a place, and with the digest of what it then is.
@@ -152,7 +153,8 @@ impl Files {
         let place = words.size()?;
         let byte = words.byte()?;
         let file = self.edited(alloc, place, byte)?;
-        write_fault(alloc, page, fault_of(alloc, self.sealing, &file)?)
+        write_fault(page, fault_of(alloc, self.sealing, &file)?);
+        Ok(())
     }
 
     /// Answers a row about files.
@@ -172,7 +174,8 @@ impl Files {
             "edit" => self.edit(alloc, words, page),
             "want" => {
                 let want = StateFault::OutOfMemory;
-                show_fault(alloc, page, want.number(), &want)
+                show_fault(page, want.number(), &want);
+                Ok(())
             }
             _ => Err(RowFault::NoRow),
         }

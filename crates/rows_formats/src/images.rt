@@ -16,10 +16,10 @@ fn save(
     let room = words.size()?;
     let mut target = Target::new(alloc, room, pace_in(words)?)?;
     match server.save_image(&mut target) {
-        Ok(()) => page.word("saved")?,
-        Err(fault) => show_fault(alloc, page, fault.number(), &fault)?,
+        Ok(()) => page.word("saved"),
+        Err(fault) => show_fault(page, fault.number(), &fault),
     }
-    page.bytes(alloc, target.bytes())?;
+    page.bytes(target.bytes());
     Ok(())
 }
 
@@ -35,12 +35,12 @@ fn load(
     match Server::load_image(alloc, &mut Source::new(&bytes, pace)) {
         Ok(server) => {
             servers.go_on_with(server);
-            page.word("loaded")?;
-            Ok(())
+            page.word("loaded");
         }
-        Err(ImageFault::OutOfMemory) => Err(RowFault::OutOfMemory),
-        Err(fault) => show_fault(alloc, page, fault.number(), &fault),
+        Err(ImageFault::OutOfMemory) => return Err(RowFault::OutOfMemory),
+        Err(fault) => show_fault(page, fault.number(), &fault),
     }
+    Ok(())
 }
 
 /// Answers a row about images.
@@ -55,7 +55,10 @@ pub fn answer(
     match name {
         "save" => save(alloc, servers.server()?, words, page),
         "load" => load(alloc, servers, words, page),
-        "want" => show_fault(alloc, page, want.number(), &want),
+        "want" => {
+            show_fault(page, want.number(), &want);
+            Ok(())
+        }
         _ => Err(RowFault::NoRow),
     }
 }

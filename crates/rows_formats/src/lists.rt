@@ -7,10 +7,10 @@ use std::alloc::Global;
 /// `list bytes BYTES`: their count, whether there are none, and they themselves.
 fn bytes(alloc: Global, words: &mut Words, page: &mut Page) -> Result<(), RowFault> {
     let list = Bytes::from_vec(words.bytes(alloc)?);
-    page.number(alloc, list.len() as u64)?;
-    page.flag(list.is_empty())?;
-    page.bytes(alloc, list.as_slice())?;
-    page.number(alloc, list.into_vec().len() as u64)?;
+    page.number(list.len());
+    page.flag(list.is_empty());
+    page.bytes(list.as_slice());
+    page.number(list.into_vec().len());
     Ok(())
 }
 
@@ -18,25 +18,24 @@ fn bytes(alloc: Global, words: &mut Words, page: &mut Page) -> Result<(), RowFau
 fn same(alloc: Global, words: &mut Words, page: &mut Page) -> Result<(), RowFault> {
     let list = Bytes::from_vec(words.bytes(alloc)?);
     let other = words.bytes(alloc)?;
-    page.flag(Bytes::copy(alloc, &other)? == list)?;
+    page.flag(Bytes::copy(alloc, &other)? == list);
     Ok(())
 }
 
 /// Writes numbers one after the other.
-fn write_numbers(alloc: Global, page: &mut Page, numbers: &[u64]) -> Result<(), RowFault> {
+fn write_numbers(page: &mut Page, numbers: &[u64]) {
     for number in numbers {
-        page.number(alloc, *number)?;
+        page.number(*number);
     }
-    Ok(())
 }
 
 /// `list words NUMBERS`: how many there are, whether there are none, they themselves, and how many there are in the vector.
 fn numbers(alloc: Global, words: &mut Words, page: &mut Page) -> Result<(), RowFault> {
     let list = WordList::from_vec(words.numbers(alloc)?);
-    page.number(alloc, list.len() as u64)?;
-    page.flag(list.is_empty())?;
-    write_numbers(alloc, page, list.as_slice())?;
-    page.number(alloc, list.into_vec().len() as u64)?;
+    page.number(list.len());
+    page.flag(list.is_empty());
+    write_numbers(page, list.as_slice());
+    page.number(list.into_vec().len());
     Ok(())
 }
 
@@ -49,7 +48,7 @@ fn alike(alloc: Global, words: &mut Words, page: &mut Page) -> Result<(), RowFau
     }
     let (first, others) = numbers.as_slice().split_at(count);
     let list = WordList::from_vec(first.to_vec(alloc)?);
-    page.flag(WordList::copy(alloc, others)? == list)?;
+    page.flag(WordList::copy(alloc, others)? == list);
     Ok(())
 }
 

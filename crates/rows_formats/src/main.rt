@@ -48,7 +48,7 @@ impl Table for Calls {
     ) -> Result<(), RowFault> {
         let name = words.text()?;
         match call {
-            "device" => self.devices.answer(alloc, name, words, page),
+            "device" => self.devices.answer(name, words, page),
             "list" => lists::answer(alloc, name, words, page),
             "bucket" => self.buckets.answer(alloc, name, words, page),
             "seal" => sealers::answer(alloc, name, words, page),

@@ -9,11 +9,11 @@ use rows::{Page, RowFault, Words};
 use std::alloc::Global;
 
 /// Writes a fault of a body.
-pub fn write_fault(alloc: Global, page: &mut Page, fault: WireFault) -> Result<(), RowFault> {
+pub fn write_fault(page: &mut Page, fault: WireFault) -> Result<(), RowFault> {
     if fault == WireFault::OutOfMemory {
         return Err(RowFault::OutOfMemory);
     }
-    page.show(alloc, &fault)?;
+    page.show(&fault);
     Ok(())
 }
 
@@ -77,42 +77,35 @@ fn view_of(request: &HostRequest) -> HostView<'_> {
 }
 
 /// Writes a name, a tree and a number.
-fn write_place(
-    alloc: Global,
-    page: &mut Page,
-    name: &str,
-    tree: u8,
-    number: u32,
-) -> Result<(), RowFault> {
-    page.word(name)?;
-    page.number(alloc, tree.into())?;
-    page.number(alloc, number.into())?;
-    Ok(())
+fn write_place(page: &mut Page, name: &str, tree: u8, number: u32) {
+    page.word(name);
+    page.number(tree);
+    page.number(number);
 }
 
 /// Writes a request: its name, its numbers and its bytes.
-fn write_view(alloc: Global, page: &mut Page, view: HostView<'_>) -> Result<(), RowFault> {
+fn write_view(page: &mut Page, view: HostView<'_>) {
     match view {
-        HostView::Fetch { tree, leaf } => write_place(alloc, page, "fetch", tree, leaf),
+        HostView::Fetch { tree, leaf } => write_place(page, "fetch", tree, leaf),
         HostView::Store {
             tree,
             leaf,
             records,
         } => {
-            write_place(alloc, page, "store", tree, leaf)?;
-            Ok(page.bytes(alloc, records)?)
+            write_place(page, "store", tree, leaf);
+            page.bytes(records);
         }
         HostView::Put { tree, node, bytes } => {
-            write_place(alloc, page, "put", tree, node)?;
-            Ok(page.bytes(alloc, bytes)?)
+            write_place(page, "put", tree, node);
+            page.bytes(bytes);
         }
         HostView::Shape {
             tree,
             depth,
             record_len,
         } => {
-            write_place(alloc, page, "shape", tree, depth.into())?;
-            Ok(page.number(alloc, record_len.into())?)
+            write_place(page, "shape", tree, depth.into());
+            page.number(record_len);
         }
     }
 }
@@ -120,7 +113,7 @@ fn write_view(alloc: Global, page: &mut Page, view: HostView<'_>) -> Result<(), 
 /// `host write REQUEST`: the body of a request.
 fn write(alloc: Global, words: &mut Words, page: &mut Page) -> Result<(), RowFault> {
     let request = request_in(alloc, words)?;
-    page.bytes(alloc, &request.encode(alloc)?)?;
+    page.bytes(&request.encode(alloc)?);
     Ok(())
 }
 
@@ -128,8 +121,11 @@ fn write(alloc: Global, words: &mut Words, page: &mut Page) -> Result<(), RowFau
 fn read(alloc: Global, words: &mut Words, page: &mut Page) -> Result<(), RowFault> {
     let body = words.bytes(alloc)?;
     match HostRequest::decode(alloc, &body) {
-        Ok(request) => write_view(alloc, page, view_of(&request)),
-        Err(fault) => write_fault(alloc, page, fault),
+        Ok(request) => {
+            write_view(page, view_of(&request));
+            Ok(())
+        }
+        Err(fault) => write_fault(page, fault),
     }
 }
 
@@ -137,48 +133,53 @@ fn read(alloc: Global, words: &mut Words, page: &mut Page) -> Result<(), RowFaul
 fn view(alloc: Global, words: &mut Words, page: &mut Page) -> Result<(), RowFault> {
     let body = words.bytes(alloc)?;
     match HostView::read(&body) {
-        Ok(view) => write_view(alloc, page, view),
-        Err(fault) => write_fault(alloc, page, fault),
+        Ok(view) => {
+            write_view(page, view);
+            Ok(())
+        }
+        Err(fault) => write_fault(page, fault),
     }
 }
 
 /// `host heads TREE LEAF`: the body of a fetch of this path, and the beginning of a store to it.
-fn heads(alloc: Global, words: &mut Words, page: &mut Page) -> Result<(), RowFault> {
+fn heads(words: &mut Words, page: &mut Page) -> Result<(), RowFault> {
     let tree = words.byte()?;
     let leaf = words.short()?;
-    page.bytes(alloc, &fetch_header(tree, leaf))?;
-    page.bytes(alloc, &store_header(tree, leaf))?;
+    page.bytes(&fetch_header(tree, leaf));
+    page.bytes(&store_header(tree, leaf));
     Ok(())
 }
 
 /// Writes an answer of the host.
-pub fn write_answer(alloc: Global, page: &mut Page, answer: &HostAnswer) -> Result<(), RowFault> {
+pub fn write_answer(page: &mut Page, answer: &HostAnswer) {
     match answer {
-        HostAnswer::Done => page.word("done")?,
+        HostAnswer::Done => page.word("done"),
         HostAnswer::Payload(bytes) => {
-            page.word("records")?;
-            page.bytes(alloc, bytes.as_slice())?;
+            page.word("records");
+            page.bytes(bytes.as_slice());
         }
         HostAnswer::Refused(code) => {
-            page.word("refused")?;
-            page.number(alloc, u64::from(*code))?;
+            page.word("refused");
+            page.number(*code);
         }
     }
-    Ok(())
 }
 
 /// `host answered BODY`: the answer that a body is.
 fn answered(alloc: Global, words: &mut Words, page: &mut Page) -> Result<(), RowFault> {
     let body = words.bytes(alloc)?;
     match HostAnswer::decode(alloc, &body) {
-        Ok(answer) => write_answer(alloc, page, &answer),
-        Err(fault) => write_fault(alloc, page, fault),
+        Ok(answer) => {
+            write_answer(page, &answer);
+            Ok(())
+        }
+        Err(fault) => write_fault(page, fault),
     }
 }
 
 /// `host done`: the body of that answer.
 fn done(alloc: Global, page: &mut Page) -> Result<(), RowFault> {
-    page.bytes(alloc, &HostAnswer::Done.encode(alloc)?)?;
+    page.bytes(&HostAnswer::Done.encode(alloc)?);
     Ok(())
 }
 
@@ -188,7 +189,7 @@ fn refused(alloc: Global, words: &mut Words, page: &mut Page) -> Result<(), RowF
     if code == 0 || code > 8 {
         return Err(RowFault::NoRow);
     }
-    page.bytes(alloc, &HostAnswer::Refused(code).encode(alloc)?)?;
+    page.bytes(&HostAnswer::Refused(code).encode(alloc)?);
     Ok(())
 }
 
@@ -198,7 +199,7 @@ fn records(alloc: Global, words: &mut Words, page: &mut Page) -> Result<(), RowF
     if bytes.is_empty() {
         return Err(RowFault::NoRow);
     }
-    page.bytes(alloc, &HostAnswer::Payload(bytes).encode(alloc)?)?;
+    page.bytes(&HostAnswer::Payload(bytes).encode(alloc)?);
     Ok(())
 }
 
@@ -214,11 +215,8 @@ fn put<S: Sink>(sink: &mut S, body: &[u8]) -> Result<(), RowFault> {
 /// The sink that took the bodies of the words.
 fn filled(alloc: Global, words: &mut Words) -> Result<ListSink, RowFault> {
     let mut sink = ListSink::new(alloc);
-    for _ in 0..u64::MAX {
-        if words.is_empty() {
-            break;
-        }
-        put(&mut sink, &words.bytes(alloc)?)?;
+    for body in &words.bodies(alloc)? {
+        put(&mut sink, body)?;
     }
     Ok(sink)
 }
@@ -226,9 +224,9 @@ fn filled(alloc: Global, words: &mut Words) -> Result<ListSink, RowFault> {
 /// `host kept BODIES`: the bodies that a list keeps of these, behind their count.
 fn kept(alloc: Global, words: &mut Words, page: &mut Page) -> Result<(), RowFault> {
     let sink = filled(alloc, words)?;
-    page.number(alloc, sink.bodies().len() as u64)?;
+    page.number(sink.bodies().len());
     for body in sink.bodies() {
-        page.bytes(alloc, body)?;
+        page.bytes(body);
     }
     Ok(())
 }
@@ -244,7 +242,7 @@ pub fn answer(
         "write" => write(alloc, words, page),
         "read" => read(alloc, words, page),
         "view" => view(alloc, words, page),
-        "heads" => heads(alloc, words, page),
+        "heads" => heads(words, page),
         "answered" => answered(alloc, words, page),
         "done" => done(alloc, page),
         "refused" => refused(alloc, words, page),

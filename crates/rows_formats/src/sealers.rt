@@ -29,9 +29,9 @@ pub fn write_opened<S: Sealer>(
     page: &mut Page,
 ) -> Result<(), RowFault> {
     match sealer.open(alloc, sealed) {
-        Ok(plain) => page.bytes(alloc, &plain)?,
+        Ok(plain) => page.bytes(&plain),
         Err(OpenFault::OutOfMemory) => return Err(RowFault::OutOfMemory),
-        Err(fault) => page.show(alloc, &fault)?,
+        Err(fault) => page.show(&fault),
     }
     Ok(())
 }
@@ -45,7 +45,7 @@ fn close(alloc: Global, words: &mut Words, page: &mut Page) -> Result<(), RowFau
         Sealing::Plain(sealer) => sealer.seal(alloc, nonce, &plain)?,
         Sealing::ChaCha(sealer) => sealer.seal(alloc, nonce, &plain)?,
     };
-    page.bytes(alloc, &sealed)?;
+    page.bytes(&sealed);
     Ok(())
 }
 
@@ -79,9 +79,9 @@ fn write_law<S: Sealer>(
         Err(OpenFault::OutOfMemory) => return Err(RowFault::OutOfMemory),
         Err(OpenFault::Broken) => false,
     };
-    page.flag(opened)?;
-    page.number(alloc, sealer.overhead() as u64)?;
-    page.number(alloc, sealed.len() as u64)?;
+    page.flag(opened);
+    page.number(sealer.overhead());
+    page.number(sealed.len());
     Ok(())
 }
 

@@ -25,9 +25,10 @@ fn asks(
 ) -> Result<(), RowFault> {
     let body = words.bytes(alloc)?;
     match server.handle(&body) {
-        HostAnswer::Refused(NO_ROOM) => Err(RowFault::OutOfMemory),
-        answer => write_answer(alloc, page, &answer),
+        HostAnswer::Refused(NO_ROOM) => return Err(RowFault::OutOfMemory),
+        answer => write_answer(page, &answer),
     }
+    Ok(())
 }
 
 /// The bytes of a host's answer, which has memory.
@@ -47,7 +48,7 @@ fn bytes(
     page: &mut Page,
 ) -> Result<(), RowFault> {
     let body = words.bytes(alloc)?;
-    page.bytes(alloc, &answer_to(alloc, server, &body)?)?;
+    page.bytes(&answer_to(alloc, server, &body)?);
     Ok(())
 }
 
@@ -60,9 +61,9 @@ fn put(
 ) -> Result<(), RowFault> {
     let body = words.bytes(alloc)?;
     match server.put(&body) {
-        Ok(()) => page.word("taken")?,
+        Ok(()) => page.word("taken"),
         Err(SinkFault::OutOfMemory) => return Err(RowFault::OutOfMemory),
-        Err(fault) => page.show(alloc, &fault)?,
+        Err(fault) => page.show(&fault),
     }
     Ok(())
 }
@@ -72,7 +73,7 @@ fn flip(server: &mut Server, words: &mut Words, page: &mut Page) -> Result<(), R
     let tree = words.number()?;
     let node = words.number()?;
     let place = words.number()?;
-    page.flag(server.flip(tree, node, place))?;
+    page.flag(server.flip(tree, node, place));
     Ok(())
 }
 
@@ -82,7 +83,7 @@ fn swap(server: &mut Server, words: &mut Words, page: &mut Page) -> Result<(), R
     let node_a = words.number()?;
     let tree_b = words.number()?;
     let node_b = words.number()?;
-    page.flag(server.swap(tree_a, node_a, tree_b, node_b))?;
+    page.flag(server.swap(tree_a, node_a, tree_b, node_b));
     Ok(())
 }
 
@@ -148,7 +149,7 @@ impl Servers {
                 return answer_of(alloc, server, name, words, page);
             }
         }
-        page.word("done")?;
+        page.word("done");
         Ok(())
     }
 }

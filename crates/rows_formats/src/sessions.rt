@@ -24,29 +24,28 @@ fn request_in(alloc: Global, words: &mut Words) -> Result<SessionRequest, RowFau
 }
 
 /// Writes a request: its name, the address and its bytes.
-fn write_request(alloc: Global, page: &mut Page, request: &SessionRequest) -> Result<(), RowFault> {
+fn write_request(page: &mut Page, request: &SessionRequest) {
     match request {
         SessionRequest::Read { address } => {
-            page.word("read")?;
-            page.number(alloc, u64::from(*address))?;
+            page.word("read");
+            page.number(*address);
         }
         SessionRequest::Write { address, bytes } => {
-            page.word("write")?;
-            page.number(alloc, u64::from(*address))?;
-            page.bytes(alloc, bytes.as_slice())?;
+            page.word("write");
+            page.number(*address);
+            page.bytes(bytes.as_slice());
         }
         SessionRequest::Discard { address } => {
-            page.word("discard")?;
-            page.number(alloc, u64::from(*address))?;
+            page.word("discard");
+            page.number(*address);
         }
     }
-    Ok(())
 }
 
 /// `session write REQUEST`: the body of a request.
 fn write(alloc: Global, words: &mut Words, page: &mut Page) -> Result<(), RowFault> {
     let request = request_in(alloc, words)?;
-    page.bytes(alloc, &request.encode(alloc)?)?;
+    page.bytes(&request.encode(alloc)?);
     Ok(())
 }
 
@@ -54,21 +53,24 @@ fn write(alloc: Global, words: &mut Words, page: &mut Page) -> Result<(), RowFau
 fn read(alloc: Global, words: &mut Words, page: &mut Page) -> Result<(), RowFault> {
     let body = words.bytes(alloc)?;
     match SessionRequest::decode(alloc, &body) {
-        Ok(request) => write_request(alloc, page, &request),
-        Err(fault) => write_fault(alloc, page, fault),
+        Ok(request) => {
+            write_request(page, &request);
+            Ok(())
+        }
+        Err(fault) => write_fault(page, fault),
     }
 }
 
 /// `session data BYTES`: the body of the reply with these.
 fn data(alloc: Global, words: &mut Words, page: &mut Page) -> Result<(), RowFault> {
     let bytes = Bytes::from_vec(words.bytes(alloc)?);
-    page.bytes(alloc, &SessionReply::Data(bytes).encode(alloc)?)?;
+    page.bytes(&SessionReply::Data(bytes).encode(alloc)?);
     Ok(())
 }
 
 /// `session done`: the body of that reply.
 fn done(alloc: Global, page: &mut Page) -> Result<(), RowFault> {
-    page.bytes(alloc, &SessionReply::Done.encode(alloc)?)?;
+    page.bytes(&SessionReply::Done.encode(alloc)?);
     Ok(())
 }
 
@@ -78,38 +80,40 @@ fn refused(alloc: Global, words: &mut Words, page: &mut Page) -> Result<(), RowF
     if code == 0 || code > 7 {
         return Err(RowFault::NoRow);
     }
-    page.bytes(alloc, &SessionReply::Refused(code).encode(alloc)?)?;
+    page.bytes(&SessionReply::Refused(code).encode(alloc)?);
     Ok(())
 }
 
 /// `session codes`: the codes of a failed device, and of a body that is no request.
-fn codes(alloc: Global, page: &mut Page) -> Result<(), RowFault> {
-    page.number(alloc, DEVICE_FAILED.into())?;
-    page.number(alloc, BAD_REQUEST.into())?;
+fn codes(page: &mut Page) -> Result<(), RowFault> {
+    page.number(DEVICE_FAILED);
+    page.number(BAD_REQUEST);
     Ok(())
 }
 
-fn write_reply(alloc: Global, page: &mut Page, reply: &SessionReply) -> Result<(), RowFault> {
+fn write_reply(page: &mut Page, reply: &SessionReply) {
     match reply {
-        SessionReply::Done => page.word("done")?,
+        SessionReply::Done => page.word("done"),
         SessionReply::Data(bytes) => {
-            page.word("data")?;
-            page.bytes(alloc, bytes.as_slice())?;
+            page.word("data");
+            page.bytes(bytes.as_slice());
         }
         SessionReply::Refused(code) => {
-            page.word("refused")?;
-            page.number(alloc, u64::from(*code))?;
+            page.word("refused");
+            page.number(*code);
         }
     }
-    Ok(())
 }
 
 /// `session replied BODY`: the reply that a body is.
 fn replied(alloc: Global, words: &mut Words, page: &mut Page) -> Result<(), RowFault> {
     let body = words.bytes(alloc)?;
     match SessionReply::decode(alloc, &body) {
-        Ok(reply) => write_reply(alloc, page, &reply),
-        Err(fault) => write_fault(alloc, page, fault),
+        Ok(reply) => {
+            write_reply(page, &reply);
+            Ok(())
+        }
+        Err(fault) => write_fault(page, fault),
     }
 }
 
@@ -126,7 +130,7 @@ pub fn answer(
         "data" => data(alloc, words, page),
         "done" => done(alloc, page),
         "refused" => refused(alloc, words, page),
-        "codes" => codes(alloc, page),
+        "codes" => codes(page),
         "replied" => replied(alloc, words, page),
         _ => Err(RowFault::NoRow),
     }

@@ -58,86 +58,74 @@ fn command_in(alloc: Global, name: &str, words: &mut Words) -> Result<Event, Row
     submission(alloc, session, command, words)
 }
 
-fn write_reply(alloc: Global, page: &mut Page, reply: &Reply) -> Result<(), RowFault> {
-    page.word("reply")?;
-    page.number(alloc, reply.session.into())?;
-    page.number(alloc, reply.ticket)?;
+fn write_reply(page: &mut Page, reply: &Reply) {
+    page.word("reply");
+    page.number(reply.session);
+    page.number(reply.ticket);
     match &reply.body {
-        ReplyBody::Data(bytes) => page.bytes(alloc, bytes.as_slice())?,
-        ReplyBody::Done => page.word("done")?,
-        ReplyBody::Failed => page.word("failed")?,
+        ReplyBody::Data(bytes) => page.bytes(bytes.as_slice()),
+        ReplyBody::Done => page.word("done"),
+        ReplyBody::Failed => page.word("failed"),
     }
-    Ok(())
 }
 
-fn write_replies(alloc: Global, page: &mut Page, replies: &[Reply]) -> Result<(), RowFault> {
+fn write_replies(page: &mut Page, replies: &[Reply]) {
     for reply in replies {
-        write_reply(alloc, page, reply)?;
+        write_reply(page, reply);
     }
-    Ok(())
 }
 
 /// Writes a command that waits: its session, what is asked, its address and its words.
-fn write_pending(alloc: Global, page: &mut Page, pending: &Pending) -> Result<(), RowFault> {
-    page.number(alloc, pending.session.into())?;
+fn write_pending(page: &mut Page, pending: &Pending) {
+    page.number(pending.session);
     page.word(match &pending.command {
         Command::Read(_) => "read",
         Command::Write(..) => "write",
         Command::Discard(_) => "discard",
-    })?;
-    page.number(alloc, pending.command.address().into())?;
+    });
+    page.number(pending.command.address());
     for word in pending.words.as_slice() {
-        page.number(alloc, *word)?;
+        page.number(*word);
     }
-    Ok(())
 }
 
 /// `core counts`: the bytes that the sealer adds, the tickets, the next nonce, and how many entries the table has.
-fn write_counts(
-    alloc: Global,
-    page: &mut Page,
-    overhead: usize,
-    parts: &Parts,
-) -> Result<(), RowFault> {
-    page.number(alloc, overhead as u64)?;
-    page.number(alloc, parts.tickets)?;
-    page.number(alloc, parts.nonce)?;
-    page.number(alloc, parts.table.len() as u64)?;
-    Ok(())
+fn write_counts(page: &mut Page, overhead: usize, parts: &Parts) {
+    page.number(overhead);
+    page.number(parts.tickets);
+    page.number(parts.nonce);
+    page.number(parts.table.len());
 }
 
 /// `core stash`: how many blocks each tree has in its stash.
-fn write_stashes(alloc: Global, page: &mut Page, parts: &Parts) -> Result<(), RowFault> {
-    page.number(alloc, parts.trees.len() as u64)?;
-    page.word("trees")?;
+fn write_stashes(page: &mut Page, parts: &Parts) {
+    page.number(parts.trees.len());
+    page.word("trees");
     for tree in &parts.trees {
-        page.number(alloc, tree.stash.len() as u64)?;
+        page.number(tree.stash.len());
     }
-    Ok(())
 }
 
 /// `core work`: the entry that is outstanding, whether its message counts as lost, and how many bytes are held.
-fn write_work(alloc: Global, page: &mut Page, parts: &Parts) -> Result<(), RowFault> {
-    page.number(alloc, parts.r.into())?;
-    page.word(if parts.stalled { "stalled" } else { "sent" })?;
-    page.number(alloc, parts.held_data.len() as u64)?;
-    Ok(())
+fn write_work(page: &mut Page, parts: &Parts) {
+    page.number(parts.r);
+    page.word(if parts.stalled { "stalled" } else { "sent" });
+    page.number(parts.held_data.len());
 }
 
 /// `core waiting`: the commands without a reply.
-fn write_waiting(alloc: Global, page: &mut Page, parts: &Parts) -> Result<(), RowFault> {
-    page.number(alloc, parts.waiting.len() as u64)?;
+fn write_waiting(page: &mut Page, parts: &Parts) {
+    page.number(parts.waiting.len());
     for pending in &parts.waiting {
-        write_pending(alloc, page, pending)?;
+        write_pending(page, pending);
     }
-    Ok(())
 }
 
 /// `core failure`: why the core failed.
-fn write_failure(alloc: Global, page: &mut Page, parts: &Parts) -> Result<(), RowFault> {
+fn write_failure(page: &mut Page, parts: &Parts) {
     match parts.failure {
-        Some(why) => Ok(page.show(alloc, &why)?),
-        None => Ok(page.word("none")?),
+        Some(why) => page.show(&why),
+        None => page.word("none"),
     }
 }
 
@@ -172,11 +160,11 @@ impl States {
                 self.core = Some(core);
                 self.twin = None;
                 self.is_unlike = false;
-                page.word("formatted")?;
-                Ok(())
+                page.word("formatted");
             }
-            Err(fault) => show_fault(alloc, page, Some(fault.number()), &fault),
+            Err(fault) => show_fault(page, Some(fault.number()), &fault),
         }
+        Ok(())
     }
 
     /// `core open SEALER FILE`: goes on with the core of a file.
@@ -187,11 +175,11 @@ impl States {
             Ok(core) => {
                 self.core = Some(core);
                 self.outstanding = None;
-                page.word("good")?;
-                Ok(())
+                page.word("good");
             }
-            Err(fault) => write_fault(alloc, page, Some(fault)),
+            Err(fault) => write_fault(page, Some(fault)),
         }
+        Ok(())
     }
 
     /// `core again SEALER`: saves the core, and goes on with the one that is read back. The message on its way stays there. The core
@@ -205,11 +193,11 @@ impl States {
                 if self.twin.is_none() {
                     self.twin = saved;
                 }
-                page.word("read back")?;
-                Ok(())
+                page.word("read back");
             }
-            Err(fault) => write_fault(alloc, page, Some(fault)),
+            Err(fault) => write_fault(page, Some(fault)),
         }
+        Ok(())
     }
 
     /// What the core makes of an event.
@@ -232,10 +220,10 @@ impl States {
     /// Tells the core an event, and writes what became of it, and the replies.
     fn tell(&mut self, alloc: Global, event: &Event, page: &mut Page) -> Result<(), RowFault> {
         let reaction = self.step(alloc, event)?;
-        page.show(alloc, &reaction.note)?;
-        write_replies(alloc, page, &reaction.replies)?;
+        page.show(&reaction.note);
+        write_replies(page, &reaction.replies);
         if self.is_unlike {
-            page.word("unlike the core that was never saved")?;
+            page.word("unlike the core that was never saved");
         }
         Ok(())
     }
@@ -257,7 +245,7 @@ impl States {
             }
             let event = self.answer_of_host(alloc)?;
             let reaction = self.step(alloc, &event)?;
-            write_replies(alloc, page, &reaction.replies)?;
+            write_replies(page, &reaction.replies);
         }
         Ok(())
     }
@@ -267,7 +255,7 @@ impl States {
         let tree = words.number()?;
         let node = words.number()?;
         let place = words.number()?;
-        page.flag(self.server.flip(tree, node, place))?;
+        page.flag(self.server.flip(tree, node, place));
         Ok(())
     }
 
@@ -277,14 +265,14 @@ impl States {
         let node_a = words.number()?;
         let tree_b = words.number()?;
         let node_b = words.number()?;
-        page.flag(self.server.swap(tree_a, node_a, tree_b, node_b))?;
+        page.flag(self.server.swap(tree_a, node_a, tree_b, node_b));
         Ok(())
     }
 
     /// `core message`: the message that the core sent last.
     fn message(&self, alloc: Global, page: &mut Page) -> Result<(), RowFault> {
         let parts = self.core()?.parts(alloc)?;
-        page.bytes(alloc, parts.message.as_slice())?;
+        page.bytes(parts.message.as_slice());
         Ok(())
     }
 
@@ -293,13 +281,14 @@ impl States {
         let core = self.core()?;
         let parts = core.parts(alloc)?;
         match name {
-            "counts" => write_counts(alloc, page, core.overhead(), &parts),
-            "stash" => write_stashes(alloc, page, &parts),
-            "work" => write_work(alloc, page, &parts),
-            "waiting" => write_waiting(alloc, page, &parts),
-            "failure" => write_failure(alloc, page, &parts),
-            _ => Err(RowFault::NoRow),
+            "counts" => write_counts(page, core.overhead(), &parts),
+            "stash" => write_stashes(page, &parts),
+            "work" => write_work(page, &parts),
+            "waiting" => write_waiting(page, &parts),
+            "failure" => write_failure(page, &parts),
+            _ => return Err(RowFault::NoRow),
         }
+        Ok(())
     }
 
     /// Tells the core the event that a row names.
@@ -340,7 +329,10 @@ impl States {
             "drain" => self.drain(alloc, page),
             "tamper" => self.tamper(words, page),
             "swap" => self.swap(words, page),
-            "file" => Ok(page.bytes(alloc, &self.core()?.file(alloc)?)?),
+            "file" => {
+                page.bytes(&self.core()?.file(alloc)?);
+                Ok(())
+            }
             "message" => self.message(alloc, page),
             "again" => self.again(alloc, words, page),
             "counts" | "stash" | "work" | "waiting" | "failure" => self.kept(alloc, name, page),

@@ -19,19 +19,18 @@ fn write_fed(
 ) -> Result<(), RowFault> {
     let fed = frames.feed(alloc, piece)?;
     for body in &fed.frames {
-        page.bytes(alloc, body)?;
+        page.bytes(body);
     }
     if fed.broken {
-        page.word("broken")?;
+        page.word("broken");
     }
     Ok(())
 }
 
 /// Writes how many bytes of an unfinished frame are held.
-fn write_held(alloc: Global, page: &mut Page, frames: &Frames) -> Result<(), RowFault> {
-    page.word("held")?;
-    page.number(alloc, frames.rest_len() as u64)?;
-    Ok(())
+fn write_held(page: &mut Page, frames: &Frames) {
+    page.word("held");
+    page.number(frames.rest_len());
 }
 
 /// `frame pieces SIZE BYTES`: the bodies in a stream that comes in pieces of this size, and how many bytes are held then.
@@ -45,7 +44,8 @@ fn pieces(alloc: Global, words: &mut Words, page: &mut Page) -> Result<(), RowFa
     for piece in stream.as_slice().chunks(size) {
         write_fed(alloc, page, &mut frames, piece)?;
     }
-    write_held(alloc, page, &frames)
+    write_held(page, &frames);
+    Ok(())
 }
 
 /// `frame read PACE BYTES`: the next body that a reader gives, the bytes that are left, and how often it was called.
@@ -54,15 +54,15 @@ fn read(alloc: Global, words: &mut Words, page: &mut Page) -> Result<(), RowFaul
     let bytes = words.bytes(alloc)?;
     let mut source = Source::new(&bytes, pace);
     match next_frame(alloc, &mut source) {
-        Ok(Some(body)) => page.bytes(alloc, &body)?,
-        Ok(None) => page.word("none")?,
+        Ok(Some(body)) => page.bytes(&body),
+        Ok(None) => page.word("none"),
         Err(FrameFault::OutOfMemory) => return Err(RowFault::OutOfMemory),
-        Err(fault) => page.show(alloc, &fault)?,
+        Err(fault) => page.show(&fault),
     }
-    page.word("left")?;
-    page.bytes(alloc, source.rest())?;
-    page.word("calls")?;
-    page.number(alloc, source.calls())?;
+    page.word("left");
+    page.bytes(source.rest());
+    page.word("calls");
+    page.number(source.calls());
     Ok(())
 }
 
@@ -76,10 +76,10 @@ fn write(alloc: Global, words: &mut Words, page: &mut Page) -> Result<(), RowFau
     }
     let mut target = Target::new(alloc, room, pace)?;
     let written = put_frame(&mut target, &body);
-    page.word(if written.is_ok() { "done" } else { "failed" })?;
-    page.bytes(alloc, target.bytes())?;
-    page.word("calls")?;
-    page.number(alloc, target.calls())?;
+    page.word(if written.is_ok() { "done" } else { "failed" });
+    page.bytes(target.bytes());
+    page.word("calls");
+    page.number(target.calls());
     Ok(())
 }
 
@@ -95,7 +95,8 @@ impl Streams {
             return Err(RowFault::NoRow);
         };
         write_fed(alloc, page, frames, &piece)?;
-        write_held(alloc, page, frames)
+        write_held(page, frames);
+        Ok(())
     }
 
     /// Answers a row about frames. `frame stream` begins a stream of pieces.
@@ -109,7 +110,7 @@ impl Streams {
         match name {
             "stream" => {
                 self.frames = Some(Frames::new(alloc));
-                page.word("new")?;
+                page.word("new");
                 Ok(())
             }
             "feed" => self.feed(alloc, words, page),

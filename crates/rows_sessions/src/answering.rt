@@ -53,6 +53,6 @@ pub(crate) fn hosted(alloc: Global, words: &mut Words, page: &mut Page) -> Resul
     let mut host = WatchedServer::over(Server::new(alloc));
     let ended = host_serve(alloc, &mut given, &mut sheet, &mut host);
     host.check_memory()?;
-    page.bytes(alloc, sheet.text()?)?;
-    tell_end(alloc, page, ended)
+    page.bytes(sheet.text()?);
+    tell_end(page, ended)
 }

@@ -3,7 +3,7 @@
 use crate::answering::WatchedServer;
 use crate::ends::{Given, Sheet};
 use crate::sessions::{formatted, served};
-use crate::telling::{numbers_in, tell_end};
+use crate::telling::tell_end;
 use oram_session::{ListTape, ServeFault, StreamLink, host_serve};
 use rows::{Page, RowFault, Words};
 use std::alloc::Global;
@@ -76,16 +76,16 @@ pub(crate) fn far_session(
     page: &mut Page,
 ) -> Result<(), RowFault> {
     let mut far = Far {
-        numbers: numbers_in(words)?,
+        numbers: words.five_numbers()?,
         given: Given::read(alloc, words)?,
         answers: Vec::new(alloc),
         replies: Sheet::ample(alloc),
         asked: Sheet::ample(alloc),
     };
     let (wanted, ended) = far.go_on(alloc)?;
-    page.bytes(alloc, far.replies.text()?)?;
-    tell_end(alloc, page, ended)?;
-    page.word("answers")?;
-    page.number(alloc, wanted)?;
+    page.bytes(far.replies.text()?);
+    tell_end(page, ended)?;
+    page.word("answers");
+    page.number(wanted);
     Ok(())
 }

@@ -1,11 +1,12 @@
 //! Rows of a link, and of a core over it, that are kept from row to row.
 
 use crate::network::Cutter;
-use crate::telling::{device_of, numbers_in, standing, tell_end, tell_note, tell_outcome};
+use crate::telling::{device_of, standing, tell_end, tell_note, tell_outcome};
 use crate::ways::AnyLink;
 use oram_bucket::PlainSeal;
 use oram_bytes::{Bytes, Words as WordList};
-use oram_core::{Command, Core, Event};
+use oram_core::{Command, Core, Event, Note};
+use oram_geometry::Device;
 use oram_host::Server;
 use oram_session::{Link, format_device, resume};
 use oram_tree::FormatFault;
@@ -43,7 +44,7 @@ impl<'a, R: Net> Kept<'a, R> {
             "link" => self.begin(alloc, words, page),
             "relink" => self.relink(alloc, words, page),
             "call" => self.call(alloc, words, page),
-            "calls" => self.calls(alloc, page),
+            "calls" => self.calls(page),
             "cut" => self.cut(page),
             "flip" => self.flip(alloc, words, page),
             "format" => self.format(alloc, words, page),
@@ -56,7 +57,7 @@ impl<'a, R: Net> Kept<'a, R> {
     fn begin(&mut self, alloc: Global, words: &mut Words, page: &mut Page) -> Result<(), RowFault> {
         self.core = None;
         self.link = Some(AnyLink::read(alloc, words, self.net, Server::new(alloc))?);
-        page.word("new")?;
+        page.word("new");
         Ok(())
     }
 
@@ -69,7 +70,7 @@ impl<'a, R: Net> Kept<'a, R> {
     ) -> Result<(), RowFault> {
         let server = self.take_server()?;
         self.link = Some(AnyLink::read(alloc, words, self.net, server)?);
-        page.word("new")?;
+        page.word("new");
         Ok(())
     }
 
@@ -89,13 +90,13 @@ impl<'a, R: Net> Kept<'a, R> {
         };
         let outcome = link.call(alloc, &body);
         link.check_memory()?;
-        tell_outcome(alloc, page, outcome)
+        tell_outcome(page, outcome)
     }
 
     /// `calls`: how many calls the link had, and how many of them a fault.
-    fn calls(&mut self, alloc: Global, page: &mut Page) -> Result<(), RowFault> {
+    fn calls(&mut self, page: &mut Page) -> Result<(), RowFault> {
         match &self.link {
-            Some(link) => link.tell(alloc, page),
+            Some(link) => link.tell(page),
             None => Err(RowFault::NoRow),
         }
     }
@@ -105,7 +106,7 @@ impl<'a, R: Net> Kept<'a, R> {
         if self.net.cut().is_err() {
             return Err(RowFault::NoRow);
         }
-        page.word("done")?;
+        page.word("done");
         Ok(())
     }
 
@@ -114,7 +115,7 @@ impl<'a, R: Net> Kept<'a, R> {
         let mut server = self.take_server()?;
         let flipped = server.flip(words.number()?, words.number()?, words.number()?);
         self.link = Some(AnyLink::direct(alloc, server));
-        page.flag(flipped)?;
+        page.flag(flipped);
         Ok(())
     }
 
@@ -125,22 +126,12 @@ impl<'a, R: Net> Kept<'a, R> {
         words: &mut Words,
         page: &mut Page,
     ) -> Result<(), RowFault> {
-        let device = device_of(numbers_in(words)?)?;
+        let device = device_of(words.five_numbers()?)?;
         self.core = None;
         let Some(link) = &mut self.link else {
             return Err(RowFault::NoRow);
         };
-        let made = format_device(alloc, device, PlainSeal, link);
-        link.check_memory()?;
-        match made {
-            Ok(core) => {
-                page.word(standing(&core))?;
-                self.core = Some(core);
-            }
-            Err(FormatFault::Sink(SinkFault::Refused)) => page.word("refused")?,
-            Err(FormatFault::Sink(SinkFault::Link)) => page.word("the link has a fault")?,
-            Err(_) => return Err(RowFault::OutOfMemory),
-        }
+        self.core = formatted(alloc, device, link, page)?;
         Ok(())
     }
 
@@ -149,8 +140,8 @@ impl<'a, R: Net> Kept<'a, R> {
         let Some(core) = &mut self.core else {
             return Err(RowFault::NoRow);
         };
-        let reaction = core.step(alloc, event)?;
-        tell_note(alloc, page, reaction.note)
+        tell_note(page, note_of(alloc, core, event)?);
+        Ok(())
     }
 
     /// `resume`: how many commands were carried out, or why the rest wasn't; how the core then stands, how many commands wait and how
@@ -161,14 +152,45 @@ impl<'a, R: Net> Kept<'a, R> {
         };
         let ended = resume(alloc, core, link);
         link.check_memory()?;
-        tell_end(alloc, page, ended)?;
-        page.word(standing(core))?;
-        page.word("waiting")?;
-        page.number(alloc, core.waiting() as u64)?;
-        page.word("of")?;
-        page.number(alloc, core.next_ticket())?;
-        link.tell(alloc, page)
+        tell_end(page, ended)?;
+        tell_waiting(core, page);
+        link.tell(page)
     }
+}
+
+/// What becomes of an event.
+fn note_of(alloc: Global, core: &mut Core<PlainSeal>, event: &Event) -> Result<Note, RowFault> {
+    Ok(core.step(alloc, event)?.note)
+}
+
+/// Writes how a core stands, how many commands wait and how many there were.
+fn tell_waiting(core: &Core<PlainSeal>, page: &mut Page) {
+    page.word(standing(core));
+    page.word("waiting");
+    page.number(core.waiting());
+    page.word("of");
+    page.number(core.next_ticket());
+}
+
+/// The core of a device that is formatted over a link. Writes how it stands, or why there is none.
+fn formatted<R: Net>(
+    alloc: Global,
+    device: Device,
+    link: &mut AnyLink<'_, R>,
+    page: &mut Page,
+) -> Result<Option<Core<PlainSeal>>, RowFault> {
+    let made = format_device(alloc, device, PlainSeal, link);
+    link.check_memory()?;
+    match made {
+        Ok(core) => {
+            page.word(standing(&core));
+            return Ok(Some(core));
+        }
+        Err(FormatFault::Sink(SinkFault::Refused)) => page.word("refused"),
+        Err(FormatFault::Sink(SinkFault::Link)) => page.word("the link has a fault"),
+        Err(_) => return Err(RowFault::OutOfMemory),
+    }
+    Ok(None)
 }
 
 /// The event of a call.

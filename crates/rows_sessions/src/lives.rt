@@ -3,7 +3,6 @@ ghost use Rattle.std.specs.Prelude.{⊤};
 
 use crate::network::Cutter;
 use crate::sessions::formatted;
-use crate::telling::{numbers_in, tell};
 use crate::ways::AnyLink;
 use oram_bucket::PlainSeal;
 use oram_bytes::Bytes;
@@ -179,27 +178,27 @@ impl<R: Net> Life<'_, R> {
         if ended == Some(KeepFault::OutOfMemory) || self.lacks_memory() {
             return Err(RowFault::OutOfMemory);
         }
-        page.word("written")?;
-        page.number(alloc, u64::from(written))?;
+        page.word("written");
+        page.number(written);
         if let Some(fault) = ended {
-            tell(alloc, page, fault)?;
+            page.fault(fault);
         }
-        page.word("kept")?;
-        page.number(alloc, self.shelf.kept)?;
-        page.word("calls")?;
-        page.number(alloc, self.link.calls())?;
+        page.word("kept");
+        page.number(self.shelf.kept);
+        page.word("calls");
+        page.number(self.link.calls());
         Ok(())
     }
 
     /// Writes how many blocks the next life finds written.
     fn tell_next(&mut self, alloc: Global, page: &mut Page) -> Result<(), RowFault> {
-        page.word("found")?;
+        page.word("found");
         if self.shelf.newest.is_empty() {
-            page.word("nothing")?;
+            page.word("nothing");
             return Ok(());
         }
         self.begin_anew(alloc)?;
-        page.number(alloc, u64::from(self.found(alloc)?))?;
+        page.number(self.found(alloc)?);
         Ok(())
     }
 }
@@ -220,7 +219,7 @@ pub(crate) fn lives<R: Net>(
     words: &mut Words,
     page: &mut Page,
 ) -> Result<(), RowFault> {
-    let (core, server) = formatted(alloc, numbers_in(words)?)?;
+    let (core, server) = formatted(alloc, words.five_numbers()?)?;
     let shelf = Shelf::read(alloc, words)?;
     let link = AnyLink::read(alloc, words, net, server)?;
     let mut life = Life { core, link, shelf };

@@ -29,7 +29,7 @@ impl<R: Net> Table for Kept<'_, R> {
         page: &mut Page,
     ) -> Result<(), RowFault> {
         match call {
-            "names" => telling::names(alloc, words, page),
+            "names" => telling::names(words, page),
             "list_words" => tapes::list_words(alloc, words, page),
             "chacha_words" => tapes::chacha_words(alloc, words, page),
             "hosted" => answering::hosted(alloc, words, page),

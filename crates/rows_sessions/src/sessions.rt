@@ -2,7 +2,7 @@
 
 use crate::ends::{Given, Sheet};
 use crate::network::Cutter;
-use crate::telling::{device_of, numbers_in, standing, tell_end};
+use crate::telling::{device_of, standing, tell_end};
 use crate::ways::AnyLink;
 use oram_bucket::PlainSeal;
 use oram_core::Core;
@@ -50,7 +50,7 @@ pub(crate) fn session<R: Net>(
     words: &mut Words,
     page: &mut Page,
 ) -> Result<(), RowFault> {
-    let numbers = numbers_in(words)?;
+    let numbers = words.five_numbers()?;
     match words.text()? {
         "zeros" => {
             let mut tape = ListTape {
@@ -83,8 +83,8 @@ fn session_with<R: Net, T: Tape>(
     let mut sheet = Sheet::read(alloc, words)?;
     let ended = served(alloc, &mut core, &mut link, tape, &mut given, &mut sheet)?;
     link.check_memory()?;
-    page.bytes(alloc, sheet.text()?)?;
-    tell_end(alloc, page, ended)?;
-    page.word(standing(&core))?;
-    link.tell(alloc, page)
+    page.bytes(sheet.text()?);
+    tell_end(page, ended)?;
+    page.word(standing(&core));
+    link.tell(page)
 }

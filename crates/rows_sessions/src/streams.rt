@@ -12,7 +12,7 @@ pub(crate) fn stream(alloc: Global, words: &mut Words, page: &mut Page) -> Resul
     let given = Given::read(alloc, words)?;
     let mut sheet = Sheet::read(alloc, words)?;
     call_all(alloc, given, &mut sheet, words, page)?;
-    tell_sent(alloc, &sheet, page)
+    tell_sent(&sheet, page)
 }
 
 /// Calls a link over a reader and a writer with one body after the other.
@@ -29,21 +29,21 @@ fn call_all(
             break;
         }
         let body = words.bytes(alloc)?;
-        tell_outcome(alloc, page, link.call(alloc, &body))?;
-        page.word("/")?;
+        tell_outcome(page, link.call(alloc, &body))?;
+        page.word("/");
     }
-    page.word("faults")?;
-    page.number(alloc, link.faults())?;
+    page.word("faults");
+    page.number(link.faults());
     Ok(())
 }
 
 /// Writes what was written on a sheet, and how.
-fn tell_sent(alloc: Global, sheet: &Sheet, page: &mut Page) -> Result<(), RowFault> {
-    page.word("sent")?;
-    page.bytes(alloc, sheet.text()?)?;
-    page.word("writes")?;
-    page.number(alloc, sheet.writes)?;
-    page.word("flushes")?;
-    page.number(alloc, sheet.flushes)?;
+fn tell_sent(sheet: &Sheet, page: &mut Page) -> Result<(), RowFault> {
+    page.word("sent");
+    page.bytes(sheet.text()?);
+    page.word("writes");
+    page.number(sheet.writes);
+    page.word("flushes");
+    page.number(sheet.flushes);
     Ok(())
 }

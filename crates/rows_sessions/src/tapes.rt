@@ -25,7 +25,7 @@ pub(crate) fn list_words(
         words: words.numbers(alloc)?,
     };
     for word in drawn(alloc, &mut tape, ticket, count)?.iter() {
-        page.number(alloc, *word)?;
+        page.number(*word);
     }
     Ok(())
 }
@@ -42,7 +42,7 @@ pub(crate) fn chacha_words(
     };
     let (ticket, count) = (words.number()?, words.size()?);
     for word in drawn(alloc, &mut tape, ticket, count)?.iter() {
-        page.bytes(alloc, &word.to_be_bytes())?;
+        page.bytes(&word.to_be_bytes());
     }
     Ok(())
 }

@@ -129,12 +129,12 @@ impl<'a, R: Net> AnyLink<'a, R> {
     }
 
     /// Writes how many calls there were, and how many of them had a fault, as the link itself tells it.
-    pub(crate) fn tell(&self, alloc: Global, page: &mut Page) -> Result<(), RowFault> {
+    pub(crate) fn tell(&self, page: &mut Page) -> Result<(), RowFault> {
         self.check_memory()?;
-        page.word("calls")?;
-        page.number(alloc, self.calls())?;
-        page.word("faults")?;
-        page.number(alloc, self.way.faults())?;
+        page.word("calls");
+        page.number(self.calls());
+        page.word("faults");
+        page.number(self.way.faults());
         Ok(())
     }
 }

@@ -11,17 +11,17 @@ use std::alloc::Global;
 pub const NO_ROOM: u8 = 8;
 
 /// Writes an answer. Here a refusal for want of room is one for want of memory.
-pub fn write_answer(alloc: Global, page: &mut Page, answer: &HostAnswer) -> Result<(), RowFault> {
+pub fn write_answer(page: &mut Page, answer: &HostAnswer) -> Result<(), RowFault> {
     match answer {
-        HostAnswer::Done => page.word("done")?,
+        HostAnswer::Done => page.word("done"),
         HostAnswer::Payload(bytes) => {
-            page.word("records")?;
-            page.bytes(alloc, bytes.as_slice())?;
+            page.word("records");
+            page.bytes(bytes.as_slice());
         }
         HostAnswer::Refused(NO_ROOM) => return Err(RowFault::OutOfMemory),
         HostAnswer::Refused(code) => {
-            page.word("refused")?;
-            page.number(alloc, u64::from(*code))?;
+            page.word("refused");
+            page.number(*code);
         }
     }
     Ok(())
@@ -30,22 +30,21 @@ pub fn write_answer(alloc: Global, page: &mut Page, answer: &HostAnswer) -> Resu
 /// The answer of one of the two, written on a page of its own.
 fn written(alloc: Global, answer: &HostAnswer) -> Result<Page, RowFault> {
     let mut page = Page::new(alloc);
-    write_answer(alloc, &mut page, answer)?;
+    write_answer(&mut page, answer)?;
     Ok(page)
 }
 
 /// Writes what both said where it is the same, and else what each said.
-fn write_both(page: &mut Page, store: &str, server: &str) -> Result<(), RowFault> {
-    if store == server {
-        page.word(store)?;
-        return Ok(());
+fn write_both(page: &mut Page, store: &Page, server: &Page) {
+    if store.is_like(server) {
+        page.page(store);
+        return;
     }
-    page.word("store")?;
-    page.word(store)?;
-    page.part()?;
-    page.word("server")?;
-    page.word(server)?;
-    Ok(())
+    page.word("store");
+    page.page(store);
+    page.part();
+    page.word("server");
+    page.page(server);
 }
 
 /// Asks both, and writes their answer.
@@ -58,7 +57,8 @@ pub fn ask(
 ) -> Result<(), RowFault> {
     let of_store = written(alloc, &store.handle(body))?;
     let of_server = written(alloc, &server.handle(body))?;
-    write_both(page, of_store.text(), of_server.text())
+    write_both(page, &of_store, &of_server);
+    Ok(())
 }
 
 /// Writes the bytes of an answer on a page of their own. Here a refusal for want of room is one for want of memory.
@@ -67,7 +67,7 @@ fn spelled(alloc: Global, answer: &[u8]) -> Result<Page, RowFault> {
         return Err(RowFault::OutOfMemory);
     }
     let mut page = Page::new(alloc);
-    page.bytes(alloc, answer)?;
+    page.bytes(answer);
     Ok(page)
 }
 
@@ -81,5 +81,6 @@ pub fn ask_bytes(
 ) -> Result<(), RowFault> {
     let of_store = spelled(alloc, &store.answer(alloc, body)?)?;
     let of_server = spelled(alloc, &server.answer(alloc, body)?)?;
-    write_both(page, of_store.text(), of_server.text())
+    write_both(page, &of_store, &of_server);
+    Ok(())
 }

@@ -37,7 +37,8 @@ pub fn write_bytes(
     let file = file_in(words)?;
     let at = words.number()?;
     match files.read_at(alloc, file, at, words.size()?) {
-        Ok(bytes) => Ok(page.bytes(alloc, &bytes)?),
-        Err(_) => Err(RowFault::OutOfMemory),
+        Ok(bytes) => page.bytes(&bytes),
+        Err(_) => return Err(RowFault::OutOfMemory),
     }
+    Ok(())
 }

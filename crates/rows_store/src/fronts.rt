@@ -15,28 +15,29 @@ fn identity_in(alloc: Global, words: &mut Words) -> Result<Identity, RowFault> {
     Ok(Identity(identity))
 }
 
-fn write_ours(alloc: Global, page: &mut Page, identity: &Identity) -> Result<(), RowFault> {
-    page.word("ours")?;
-    page.bytes(alloc, &identity.0)?;
-    Ok(())
+fn write_ours(page: &mut Page, identity: &Identity) {
+    page.word("ours");
+    page.bytes(&identity.0);
 }
 
 /// `front read BYTES`: what a file is that begins so.
 fn read(alloc: Global, words: &mut Words, page: &mut Page) -> Result<(), RowFault> {
     let bytes = words.bytes(alloc)?;
     match read_front(&bytes) {
-        Front::Ours(identity) => write_ours(alloc, page, &identity),
-        other => Ok(page.show(alloc, &other)?),
+        Front::Ours(identity) => write_ours(page, &identity),
+        other => page.show(&other),
     }
+    Ok(())
 }
 
 /// `front read_log BYTES`: whether a log begins so.
 fn read_log(alloc: Global, words: &mut Words, page: &mut Page) -> Result<(), RowFault> {
     let bytes = words.bytes(alloc)?;
     match read_log_front(&bytes) {
-        Some(identity) => write_ours(alloc, page, &identity),
-        None => Ok(page.word("none")?),
+        Some(identity) => write_ours(page, &identity),
+        None => page.word("none"),
     }
+    Ok(())
 }
 
 /// Answers a row about fronts. `front buckets IDENTITY` is that of a bucket file, and `front log IDENTITY` that of its log.
@@ -47,8 +48,14 @@ pub fn answer(
     page: &mut Page,
 ) -> Result<(), RowFault> {
     match name {
-        "buckets" => Ok(page.bytes(alloc, &front_of(&identity_in(alloc, words)?))?),
-        "log" => Ok(page.bytes(alloc, &log_front_of(&identity_in(alloc, words)?))?),
+        "buckets" => {
+            page.bytes(&front_of(&identity_in(alloc, words)?));
+            Ok(())
+        }
+        "log" => {
+            page.bytes(&log_front_of(&identity_in(alloc, words)?));
+            Ok(())
+        }
         "read" => read(alloc, words, page),
         "read_log" => read_log(alloc, words, page),
         _ => Err(RowFault::NoRow),

@@ -20,42 +20,42 @@ fn trees_in(
 }
 
 /// Writes a tree: its number, the depth, the bytes of a record, and where its cells begin.
-fn write_tree(alloc: Global, page: &mut Page, number: u64, tree: &Tree) -> Result<(), RowFault> {
-    page.part()?;
-    page.number(alloc, number)?;
-    page.number(alloc, tree.shape.depth.into())?;
-    page.number(alloc, tree.shape.record_len.into())?;
-    page.number(alloc, tree.base)?;
-    Ok(())
+fn write_tree(page: &mut Page, number: u64, tree: &Tree) {
+    page.part();
+    page.number(number);
+    page.number(tree.shape.depth);
+    page.number(tree.shape.record_len);
+    page.number(tree.base);
 }
 
 /// Writes each tree that there is, or `none`.
-fn write_trees(alloc: Global, page: &mut Page, trees: &[Option<Tree>]) -> Result<(), RowFault> {
+fn write_trees(page: &mut Page, trees: &[Option<Tree>]) {
     for (number, tree) in trees.iter().enumerate() {
         if let Some(tree) = tree {
-            write_tree(alloc, page, number as u64, tree)?;
+            write_tree(page, number as u64, tree);
         }
     }
-    if page.text().is_empty() {
-        page.word("none")?;
+    if page.is_empty() {
+        page.word("none");
     }
-    Ok(())
 }
 
 /// `header trees ENTRIES`: the trees.
 fn trees(alloc: Global, words: &mut Words, page: &mut Page) -> Result<(), RowFault> {
     match trees_in(alloc, words)? {
-        Ok(trees) => write_trees(alloc, page, &trees),
-        Err(fault) => Ok(page.show(alloc, &fault)?),
+        Ok(trees) => write_trees(page, &trees),
+        Err(fault) => page.show(&fault),
     }
+    Ok(())
 }
 
 /// `header next ENTRIES`: where the cells of the next tree will begin.
 fn next(alloc: Global, words: &mut Words, page: &mut Page) -> Result<(), RowFault> {
     match trees_in(alloc, words)? {
-        Ok(trees) => Ok(page.number(alloc, next_base(&trees))?),
-        Err(fault) => Ok(page.show(alloc, &fault)?),
+        Ok(trees) => page.number(next_base(&trees)),
+        Err(fault) => page.show(&fault),
     }
+    Ok(())
 }
 
 /// Answers a row about a header.

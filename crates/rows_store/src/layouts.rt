@@ -21,63 +21,65 @@ fn tree_in(words: &mut Words) -> Result<Tree, RowFault> {
 }
 
 /// `layout shape DEPTH RECORD_LEN`: how many leaves and nodes a tree of this shape has, and how many bytes the records of a path.
-fn shape(alloc: Global, words: &mut Words, page: &mut Page) -> Result<(), RowFault> {
+fn shape(words: &mut Words, page: &mut Page) -> Result<(), RowFault> {
     let Some(shape) = shape_in(words)? else {
-        return Ok(page.word("none")?);
+        page.word("none");
+        return Ok(());
     };
-    page.number(alloc, shape.leaves().into())?;
-    page.number(alloc, shape.nodes().into())?;
-    page.number(alloc, shape.path_len() as u64)?;
+    page.number(shape.leaves());
+    page.number(shape.nodes());
+    page.number(shape.path_len());
     Ok(())
 }
 
 /// `layout node DEPTH RECORD_LEN LEAF LEVEL`: the node at a level of a leaf's path.
-fn node(alloc: Global, words: &mut Words, page: &mut Page) -> Result<(), RowFault> {
+fn node(words: &mut Words, page: &mut Page) -> Result<(), RowFault> {
     let shape = shape_in(words)?.ok_or(RowFault::NoRow)?;
     let leaf = words.short()?;
     let level = words.byte()?;
     if leaf >= shape.leaves() || level > shape.depth {
         return Err(RowFault::NoRow);
     }
-    page.number(alloc, shape.node_at(leaf, level).into())?;
+    page.number(shape.node_at(leaf, level));
     Ok(())
 }
 
 /// `layout place DEPTH RECORD_LEN BASE`: where the cells of a tree end that begin at this place.
-fn place(alloc: Global, words: &mut Words, page: &mut Page) -> Result<(), RowFault> {
+fn place(words: &mut Words, page: &mut Page) -> Result<(), RowFault> {
     match placed_in(words)? {
-        Some(tree) => page.number(alloc, tree.end())?,
-        None => page.word("none")?,
+        Some(tree) => page.number(tree.end()),
+        None => page.word("none"),
     }
     Ok(())
 }
 
 /// `layout cell DEPTH RECORD_LEN BASE NODE`: the place of a node's cell.
-fn cell(alloc: Global, words: &mut Words, page: &mut Page) -> Result<(), RowFault> {
+fn cell(words: &mut Words, page: &mut Page) -> Result<(), RowFault> {
     let tree = tree_in(words)?;
     let node = words.short()?;
     if node >= tree.shape.nodes() {
         return Err(RowFault::NoRow);
     }
-    page.number(alloc, tree.cell_at(node))?;
+    page.number(tree.cell_at(node));
     Ok(())
 }
 
 /// Answers a row about places. `layout entry DEPTH RECORD_LEN BASE` is a tree's entry in the header, and `layout entry_at TREE` is the
 /// place of the entry of the tree with this number.
-pub fn answer(
-    alloc: Global,
-    name: &str,
-    words: &mut Words,
-    page: &mut Page,
-) -> Result<(), RowFault> {
+pub fn answer(name: &str, words: &mut Words, page: &mut Page) -> Result<(), RowFault> {
     match name {
-        "shape" => shape(alloc, words, page),
-        "node" => node(alloc, words, page),
-        "place" => place(alloc, words, page),
-        "cell" => cell(alloc, words, page),
-        "entry" => Ok(page.bytes(alloc, &tree_in(words)?.entry())?),
-        "entry_at" => Ok(page.number(alloc, entry_place(words.byte()?))?),
+        "shape" => shape(words, page),
+        "node" => node(words, page),
+        "place" => place(words, page),
+        "cell" => cell(words, page),
+        "entry" => {
+            page.bytes(&tree_in(words)?.entry());
+            Ok(())
+        }
+        "entry_at" => {
+            page.number(entry_place(words.byte()?));
+            Ok(())
+        }
         _ => Err(RowFault::NoRow),
     }
 }

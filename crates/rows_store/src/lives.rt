@@ -40,69 +40,76 @@ const CLOSED: Life = Life {
 };
 
 /// Writes why a store didn't do what it was asked. Files in memory find no room for want of memory alone, and `Io` says that they fail.
-fn write_fault(alloc: Global, page: &mut Page, fault: StoreFault) -> Result<(), RowFault> {
+fn write_fault(page: &mut Page, fault: StoreFault) -> Result<(), RowFault> {
     match fault {
-        StoreFault::OutOfMemory | StoreFault::NoRoom => Err(RowFault::OutOfMemory),
-        fault => Ok(page.show(alloc, &fault)?),
+        StoreFault::OutOfMemory | StoreFault::NoRoom => return Err(RowFault::OutOfMemory),
+        fault => page.show(&fault),
     }
+    Ok(())
 }
 
 /// Writes why a store had no room.
-fn write_failure(
-    alloc: Global,
-    store: &Store<Lent<'_, MemoryPair>>,
-    page: &mut Page,
-) -> Result<(), RowFault> {
+fn write_failure(store: &Store<Lent<'_, MemoryPair>>, page: &mut Page) -> Result<(), RowFault> {
     match store.failure() {
-        Some(fault) => write_fault(alloc, page, fault),
-        None => Ok(page.word("none")?),
+        Some(fault) => write_fault(page, fault),
+        None => {
+            page.word("none");
+            Ok(())
+        }
     }
 }
 
 /// Asks a store, and writes its answer, with the reason where it has no room.
 fn ask(
-    alloc: Global,
     store: &mut Store<Lent<'_, MemoryPair>>,
     body: &[u8],
     page: &mut Page,
 ) -> Result<(), RowFault> {
     match store.handle(body) {
-        HostAnswer::Done => page.word("done")?,
+        HostAnswer::Done => page.word("done"),
         HostAnswer::Payload(bytes) => {
-            page.word("records")?;
-            page.bytes(alloc, bytes.as_slice())?;
+            page.word("records");
+            page.bytes(bytes.as_slice());
         }
         HostAnswer::Refused(code) => {
-            page.word("refused")?;
-            page.number(alloc, u64::from(code))?;
+            page.word("refused");
+            page.number(code);
             if code == NO_ROOM {
-                write_failure(alloc, store, page)?;
+                write_failure(store, page)?;
             }
         }
     }
     Ok(())
 }
 
+/// Closes a store, and writes how that ends.
+fn close(store: Store<Lent<'_, MemoryPair>>, page: &mut Page) -> Result<(), RowFault> {
+    page.part();
+    match store.close() {
+        Ok(()) => {
+            page.word("closed");
+            Ok(())
+        }
+        Err(fault) => write_fault(page, fault),
+    }
+}
+
 /// Asks a store these bodies, and closes it or not.
 fn ask_each(
-    alloc: Global,
     mut store: Store<Lent<'_, MemoryPair>>,
     bodies: &[Vec<u8>],
     is_closed: bool,
     page: &mut Page,
 ) -> Result<(), RowFault> {
     for body in bodies {
-        page.part()?;
-        ask(alloc, &mut store, body, page)?;
+        page.part();
+        ask(&mut store, body, page)?;
     }
     if is_closed {
-        page.part()?;
-        match store.close() {
-            Ok(()) => page.word("closed")?,
-            Err(fault) => write_fault(alloc, page, fault)?,
-        }
+        close(store, page)
+    } else {
+        Ok(())
     }
-    Ok(())
 }
 
 /// A life of a store over these files: what it answers to the bodies, or why it can't be opened.
@@ -118,21 +125,9 @@ fn live(
         calls: life.calls,
     };
     match Store::over(alloc, lent) {
-        Ok(store) => ask_each(alloc, store, bodies, life.is_closed, page),
-        Err(fault) => write_fault(alloc, page, fault),
+        Ok(store) => ask_each(store, bodies, life.is_closed, page),
+        Err(fault) => write_fault(page, fault),
     }
-}
-
-/// The bodies of the words that are left.
-fn bodies_in(alloc: Global, words: &mut Words) -> Result<Vec<Vec<u8>>, RowFault> {
-    let mut bodies = Vec::new(alloc);
-    for _ in 0..u64::MAX {
-        if words.is_empty() {
-            break;
-        }
-        bodies.push(words.bytes(alloc)?)?;
-    }
-    Ok(bodies)
 }
 
 /// New files over which a store was asked some bodies and closed, so that the log is empty; the next store's files fail behind so many calls,
@@ -149,32 +144,38 @@ fn cut(alloc: Global, bodies: &[Vec<u8>], calls: u64, page: &mut Page) -> Result
     live(alloc, &mut files, life, cut, page)?;
     let mut found = Page::new(alloc);
     live(alloc, &mut files, KILLED, last, &mut found)?;
-    page.word("then")?;
-    page.word(found.text())?;
+    page.word("then");
+    page.page(&found);
     Ok(())
+}
+
+/// What `cut` writes, on a page of its own.
+fn case(alloc: Global, bodies: &[Vec<u8>], calls: u64) -> Result<Page, RowFault> {
+    let mut page = Page::new(alloc);
+    cut(alloc, bodies, calls, &mut page)?;
+    page.text()?;
+    Ok(page)
 }
 
 /// `life cuts BODIES BODY FETCH`: a store is asked the first bodies and closed, the next one is asked the last two, and one after that the last
 /// one again. The files of the second store fail behind no calls, behind one, and so on until it isn't cut off any more. Writes what the
 /// last two stores answer, each case once where the next has the same.
 fn cuts(alloc: Global, words: &mut Words, page: &mut Page) -> Result<(), RowFault> {
-    let bodies = bodies_in(alloc, words)?;
+    let bodies = words.bodies(alloc)?;
     if bodies.len() < 2 {
         return Err(RowFault::NoRow);
     }
-    let mut whole = Page::new(alloc);
-    cut(alloc, &bodies, u64::MAX, &mut whole)?;
+    let whole = case(alloc, &bodies, u64::MAX)?;
     let mut before = Page::new(alloc);
     for calls in 0..MOST_CALLS {
-        let mut now = Page::new(alloc);
-        cut(alloc, &bodies, calls, &mut now)?;
-        if now.text() != before.text() {
+        let now = case(alloc, &bodies, calls)?;
+        if !now.is_like(&before) {
             if calls > 0 {
-                page.word("|")?;
+                page.word("|");
             }
-            page.word(now.text())?;
+            page.page(&now);
         }
-        if now.text() == whole.text() {
+        if now.is_like(&whole) {
             break;
         }
         before = now;
@@ -201,15 +202,15 @@ impl Lives {
         }
         if name == "new" {
             self.files = Some(created(alloc)?);
-            page.word("done")?;
+            page.word("done");
             return Ok(());
         }
         let Some(files) = &mut self.files else {
             return Err(RowFault::NoRow);
         };
         match name {
-            "killed" => live(alloc, files, KILLED, &bodies_in(alloc, words)?, page),
-            "closed" => live(alloc, files, CLOSED, &bodies_in(alloc, words)?, page),
+            "killed" => live(alloc, files, KILLED, &words.bodies(alloc)?, page),
+            "closed" => live(alloc, files, CLOSED, &words.bodies(alloc)?, page),
             "file" => write_bytes(alloc, files, words, page),
             _ => Err(RowFault::NoRow),
         }

@@ -40,7 +40,7 @@ impl Table for Calls {
         let name = words.text()?;
         match call {
             "front" => fronts::answer(alloc, name, words, page),
-            "layout" => layouts::answer(alloc, name, words, page),
+            "layout" => layouts::answer(name, words, page),
             "header" => headers::answer(alloc, name, words, page),
             "redo" => self.redos.answer(alloc, name, words, page),
             "store" => self.stores.answer(alloc, name, words, page),

@@ -32,18 +32,24 @@ pub struct Redos {
 }
 
 /// Writes why a call was not carried out. Files in memory fail for want of memory alone.
-fn write_fault(alloc: Global, page: &mut Page, fault: RedoError) -> Result<(), RowFault> {
+fn write_fault(page: &mut Page, fault: RedoError) -> Result<(), RowFault> {
     match fault {
-        RedoError::LogFull | RedoError::Damaged => Ok(page.show(alloc, &fault)?),
-        RedoError::Memory | RedoError::NoRoom | RedoError::Failed => Err(RowFault::OutOfMemory),
+        RedoError::LogFull | RedoError::Damaged => page.show(&fault),
+        RedoError::Memory | RedoError::NoRoom | RedoError::Failed => {
+            return Err(RowFault::OutOfMemory);
+        }
     }
+    Ok(())
 }
 
 /// Writes how a call ended.
-fn write_end(alloc: Global, page: &mut Page, ended: Result<(), RedoError>) -> Result<(), RowFault> {
+fn write_end(page: &mut Page, ended: Result<(), RedoError>) -> Result<(), RowFault> {
     match ended {
-        Ok(()) => Ok(page.word("done")?),
-        Err(fault) => write_fault(alloc, page, fault),
+        Ok(()) => {
+            page.word("done");
+            Ok(())
+        }
+        Err(fault) => write_fault(page, fault),
     }
 }
 
@@ -57,7 +63,7 @@ fn write(
     let file = file_in(words)?;
     let at = words.number()?;
     let bytes = words.bytes(alloc)?;
-    write_end(alloc, page, files.write_at(file, at, &bytes))
+    write_end(page, files.write_at(file, at, &bytes))
 }
 
 /// `redo commit AT BYTES AT BYTES ..`: how a batch of these patches is taken.
@@ -70,7 +76,7 @@ fn commit(
     let patches = patches_in(alloc, words)?;
     let batch = batch_of(alloc, &patches)?;
     let ended = opened.redo.commit(alloc, &mut opened.files, &batch);
-    write_end(alloc, page, ended)
+    write_end(page, ended)
 }
 
 /// `redo loose AT BYTES`: writes a patch that doesn't count yet.
@@ -83,13 +89,13 @@ fn loose(
     let at = words.number()?;
     let bytes = words.bytes(alloc)?;
     let ended = opened.redo.write_loose(&mut opened.files, at, &bytes);
-    write_end(alloc, page, ended)
+    write_end(page, ended)
 }
 
 /// `redo restart`: begins the log anew.
-fn restart(alloc: Global, opened: &mut Opened, page: &mut Page) -> Result<(), RowFault> {
+fn restart(opened: &mut Opened, page: &mut Page) -> Result<(), RowFault> {
     let ended = opened.redo.restart(&mut opened.files);
-    write_end(alloc, page, ended)
+    write_end(page, ended)
 }
 
 /// `redo read AT LEN`: so many bytes of the records.
@@ -104,8 +110,11 @@ fn read(
         .redo
         .read(alloc, &mut opened.files, at, words.size()?)
     {
-        Ok(bytes) => Ok(page.bytes(alloc, &bytes)?),
-        Err(fault) => write_fault(alloc, page, fault),
+        Ok(bytes) => {
+            page.bytes(&bytes);
+            Ok(())
+        }
+        Err(fault) => write_fault(page, fault),
     }
 }
 
@@ -120,7 +129,7 @@ fn answer_opened(
     match name {
         "commit" => commit(alloc, opened, words, page),
         "loose" => loose(alloc, opened, words, page),
-        "restart" => restart(alloc, opened, page),
+        "restart" => restart(opened, page),
         "read" => read(alloc, opened, words, page),
         "file" => write_bytes(alloc, &mut opened.files, words, page),
         "write" => write(alloc, &mut opened.files, words, page),
@@ -146,12 +155,12 @@ impl Redos {
         match recover(alloc, &mut files, BOUNDS) {
             Ok(redo) => {
                 self.opened = Some(Opened { files, redo });
-                page.word("done")?;
+                page.word("done");
                 Ok(())
             }
             Err(fault) => {
                 self.files = Some(files);
-                write_fault(alloc, page, fault)
+                write_fault(page, fault)
             }
         }
     }
@@ -167,7 +176,7 @@ impl Redos {
         if name == "new" {
             self.files = Some(MemoryPair::new(alloc));
             self.opened = None;
-            page.word("done")?;
+            page.word("done");
             return Ok(());
         }
         if name == "recover" {

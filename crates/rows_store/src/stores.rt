@@ -27,14 +27,10 @@ fn fault_of(fault: StoreFault) -> Result<StoreFault, RowFault> {
 }
 
 /// Writes how a call ended.
-fn write_end(
-    alloc: Global,
-    page: &mut Page,
-    ended: Result<(), StoreFault>,
-) -> Result<(), RowFault> {
+fn write_end(page: &mut Page, ended: Result<(), StoreFault>) -> Result<(), RowFault> {
     match ended {
-        Ok(()) => page.word("done")?,
-        Err(fault) => page.show(alloc, &fault_of(fault)?)?,
+        Ok(()) => page.word("done"),
+        Err(fault) => page.show(&fault_of(fault)?),
     }
     Ok(())
 }
@@ -56,23 +52,19 @@ fn full(
 ) -> Result<(), RowFault> {
     let body = words.bytes(alloc)?;
     match store.handle(&body) {
-        HostAnswer::Refused(NO_ROOM) => page.word("refused 8")?,
-        answer => write_answer(alloc, page, &answer)?,
+        HostAnswer::Refused(NO_ROOM) => page.word("refused 8"),
+        answer => write_answer(page, &answer)?,
     }
-    write_failure(alloc, store, page)
+    write_failure(store, page);
+    Ok(())
 }
 
 /// `store failure`: why there was no room, the last time that there was none.
-fn write_failure(
-    alloc: Global,
-    store: &Store<MemoryPair>,
-    page: &mut Page,
-) -> Result<(), RowFault> {
+fn write_failure(store: &Store<MemoryPair>, page: &mut Page) {
     match store.failure() {
-        Some(fault) => page.show(alloc, &fault)?,
-        None => page.word("none")?,
+        Some(fault) => page.show(&fault),
+        None => page.word("none"),
     }
-    Ok(())
 }
 
 /// `store put BODY`: whether the store takes a body of a formatting.
@@ -84,9 +76,9 @@ fn put(
 ) -> Result<(), RowFault> {
     let body = words.bytes(alloc)?;
     match store.put(&body) {
-        Ok(()) => page.word("taken")?,
+        Ok(()) => page.word("taken"),
         Err(SinkFault::OutOfMemory) => return Err(RowFault::OutOfMemory),
-        Err(fault) => page.show(alloc, &fault)?,
+        Err(fault) => page.show(&fault),
     }
     Ok(())
 }
@@ -99,7 +91,7 @@ fn alone(
     page: &mut Page,
 ) -> Result<(), RowFault> {
     let body = words.bytes(alloc)?;
-    write_answer(alloc, page, &store.handle(&body))
+    write_answer(page, &store.handle(&body))
 }
 
 /// Answers a row about the store alone.
@@ -114,8 +106,11 @@ fn answer_of(
         "alone" => alone(alloc, store, words, page),
         "full" => full(alloc, store, words, page),
         "put" => put(alloc, store, words, page),
-        "settle" => write_end(alloc, page, store.settle()),
-        "failure" => write_failure(alloc, store, page),
+        "settle" => write_end(page, store.settle()),
+        "failure" => {
+            write_failure(store, page);
+            Ok(())
+        }
         _ => Err(RowFault::NoRow),
     }
 }
@@ -134,11 +129,11 @@ impl Stores {
         match Store::over(alloc, files) {
             Ok(store) => {
                 self.store = Some(store);
-                page.word("done")?;
+                page.word("done");
             }
             Err(fault) => {
                 self.store = None;
-                page.show(alloc, &fault_of(fault)?)?;
+                page.show(&fault_of(fault)?);
             }
         }
         Ok(())
@@ -159,9 +154,9 @@ impl Stores {
     }
 
     /// `store close`: how the store ends. The next row has none.
-    fn close(&mut self, alloc: Global, page: &mut Page) -> Result<(), RowFault> {
+    fn close(&mut self, page: &mut Page) -> Result<(), RowFault> {
         match self.store.take() {
-            Some(store) => write_end(alloc, page, store.close()),
+            Some(store) => write_end(page, store.close()),
             None => Err(RowFault::NoRow),
         }
     }
@@ -196,7 +191,7 @@ impl Stores {
         match name {
             "new" => self.begin(alloc, page),
             "over" => self.over(alloc, words, page),
-            "close" => self.close(alloc, page),
+            "close" => self.close(page),
             "ask" | "bytes" => self.ask(alloc, name, words, page),
             _ => match &mut self.store {
                 Some(store) => answer_of(alloc, store, name, words, page),

@@ -1,6 +1,7 @@
 //! Rows of hashed paths. `hash path` makes one of tree 0, which the other rows read.
-ghost use Rattle.std.specs.Prelude.{◌≡◌, ◌<◌, ◌+◌, ◌^◌, All, length, vec_len, true};
+ghost use Rattle.std.specs.Prelude.{◌≡◌, ◌<◌, ◌+◌, ◌^◌, All, IfOk, length, vec_len, true};
 ghost use Rattle.oram_geometry.specs.Sizes.{depth_of, record_len_of};
+ghost use Rattle.oram_hash.specs.Path.{path_of};
 
 use crate::lists;
 use crate::paths::{MadePath, made_path};
@@ -30,7 +31,10 @@ fn checked<'a>(
     leaf: u32,
     root: &[u8; 32],
     bytes: &'a [u8],
-) -> Result<Result<PathView<'a>, HashFault>, RowFault> {
+) -> Result<Result<PathView<'a>, HashFault>, RowFault>
+    ensures { IfOk result (λ checked. IfOk checked (λ view.
+        view ≡ path_of device.now 0 leaf 0 bytes.now)) }
+{
     prove!(device.trees() > 0);
     if !has_leaf(device, leaf) {
         return Err(RowFault::NoRow);
@@ -38,20 +42,37 @@ fn checked<'a>(
     Ok(check_path(device, 0, leaf, 0, root, bytes))
 }
 
+/// The same path, which has to be accepted.
+fn accepted<'a>(
+    device: &Device,
+    leaf: u32,
+    root: &[u8; 32],
+    bytes: &'a [u8],
+) -> Result<PathView<'a>, RowFault>
+    ensures { IfOk result (λ view. view ≡ path_of device.now 0 leaf 0 bytes.now) }
+{
+    match checked(device, leaf, root, bytes)? {
+        Ok(view) => Ok(view),
+        Err(_) => Err(RowFault::NoRow),
+    }
+}
+
 /// Writes what a check says.
-fn show(
-    alloc: Global,
-    checked: Result<PathView<'_>, HashFault>,
-    page: &mut Page,
-) -> Result<(), RowFault> {
+fn show(checked: Result<PathView<'_>, HashFault>, page: &mut Page) {
     match checked {
-        Ok(_) => page.word("accepted")?,
-        Err(HashFault::Length) => page.word("length")?,
+        Ok(_) => page.word("accepted"),
+        Err(HashFault::Length) => page.word("length"),
         Err(HashFault::Tampered(level)) => {
-            page.word("tampered")?;
-            page.number(alloc, u64::from(level))?;
+            page.word("tampered");
+            page.number(level);
         }
     }
+}
+
+/// `hash digest BYTES`: the digest of a record.
+fn digest(alloc: Global, words: &mut Words, page: &mut Page) -> Result<(), RowFault> {
+    let record = words.bytes(alloc)?;
+    page.bytes(&node_digest(&record));
     Ok(())
 }
 
@@ -100,7 +121,13 @@ impl Hashes {
             &fills,
         )?;
         self.bytes = bytes;
-        page.bytes(alloc, &root)?;
+        page.bytes(&root);
+        Ok(())
+    }
+
+    /// `hash bytes`: the bytes of the path.
+    fn bytes(&self, page: &mut Page) -> Result<(), RowFault> {
+        page.bytes(&self.bytes);
         Ok(())
     }
 
@@ -116,7 +143,8 @@ impl Hashes {
         let root = words.array(alloc)?;
         let mut bytes = self.bytes.as_slice().to_vec(alloc)?;
         bytes.resize(len, 0)?;
-        show(alloc, checked(device, self.leaf, &root, &bytes)?, page)
+        show(checked(device, self.leaf, &root, &bytes)?, page);
+        Ok(())
     }
 
     /// `hash flips ROOT`: what the check says where the lowest bit of a byte is flipped, byte by byte.
@@ -133,12 +161,13 @@ impl Hashes {
         let mut said = Page::new(alloc);
         for k in 0..bytes.len() {
             bytes[k] ^= 1;
-            show(alloc, checked(device, self.leaf, &root, &bytes)?, &mut said)?;
-            groups.add(alloc, k as u64, said.text(), page)?;
+            show(checked(device, self.leaf, &root, &bytes)?, &mut said);
+            groups.add(k as u64, &said, page);
             said.clear();
             bytes[k] ^= 1;
         }
-        groups.end(alloc, page)
+        groups.end(page);
+        Ok(())
     }
 
     /// `hash sealed|left|right ROOT LEVEL`: that part of the record at a level.
@@ -153,18 +182,16 @@ impl Hashes {
         prove!(device.trees() > 0);
         let root = words.array(alloc)?;
         let level = words.byte()?;
-        if !has_leaf(device, self.leaf) || level > device.depth(0) {
+        let view = accepted(device, self.leaf, &root, &self.bytes)?;
+        if level > device.depth(0) {
             return Err(RowFault::NoRow);
         }
-        let Ok(view) = check_path(device, 0, self.leaf, 0, &root, &self.bytes) else {
-            return Err(RowFault::NoRow);
-        };
-        let bytes = match part {
+        page.bytes(match part {
+            "sealed" => view.sealed(level),
             "left" => view.left(level),
             "right" => view.right(level),
-            _ => view.sealed(level),
-        };
-        page.bytes(alloc, bytes)?;
+            _ => return Err(RowFault::NoRow),
+        });
         Ok(())
     }
 
@@ -180,19 +207,29 @@ impl Hashes {
         let root = words.array(alloc)?;
         let fills = lists::fills(alloc, words)?;
         let sealed = sealed(alloc, &fills, device.record_len(0) - 64)?;
-        if !has_leaf(device, self.leaf) || !are_buckets(device, &sealed) {
-            return Err(RowFault::NoRow);
-        }
-        let Ok(view) = check_path(device, 0, self.leaf, 0, &root, &self.bytes) else {
-            return Err(RowFault::NoRow);
-        };
-        let (bytes, root) = rebuild(alloc, &view, &sealed)?;
-        self.bytes = bytes;
-        page.bytes(alloc, &root)?;
+        let root = self.take_buckets(alloc, device, &root, &sealed)?;
+        page.bytes(&root);
         Ok(())
     }
 
-    /// Makes a call: `digest BYTES` is the digest of a record, and `bytes` are those of the path.
+    /// Puts new sealed buckets into the path that is accepted under a root digest, and gives the new one.
+    fn take_buckets(
+        &mut self,
+        alloc: Global,
+        device: &Device,
+        root: &[u8; 32],
+        sealed: &[Vec<u8>],
+    ) -> Result<[u8; 32], RowFault> {
+        if !are_buckets(device, sealed) {
+            return Err(RowFault::NoRow);
+        }
+        let view = accepted(device, self.leaf, root, &self.bytes)?;
+        let (bytes, root) = rebuild(alloc, &view, sealed)?;
+        self.bytes = bytes;
+        Ok(root)
+    }
+
+    /// Makes a call.
     pub fn answer(
         &mut self,
         alloc: Global,
@@ -201,17 +238,13 @@ impl Hashes {
         page: &mut Page,
     ) -> Result<(), RowFault> {
         match words.text()? {
-            "digest" => page.bytes(alloc, &node_digest(&words.bytes(alloc)?))?,
-            "bytes" => page.bytes(alloc, &self.bytes)?,
-            "path" => self.path(alloc, device, words, page)?,
-            "check" => self.check(alloc, device, words, page)?,
-            "flips" => self.flips(alloc, device, words, page)?,
-            "rebuild" => self.rebuild(alloc, device, words, page)?,
-            "sealed" => self.part(alloc, device, "sealed", words, page)?,
-            "left" => self.part(alloc, device, "left", words, page)?,
-            "right" => self.part(alloc, device, "right", words, page)?,
-            _ => return Err(RowFault::NoRow),
+            "digest" => digest(alloc, words, page),
+            "bytes" => self.bytes(page),
+            "path" => self.path(alloc, device, words, page),
+            "check" => self.check(alloc, device, words, page),
+            "flips" => self.flips(alloc, device, words, page),
+            "rebuild" => self.rebuild(alloc, device, words, page),
+            part => self.part(alloc, device, part, words, page),
         }
-        Ok(())
     }
 }

@@ -3,21 +3,11 @@
 use rows::{Page, RowFault, Words};
 use std::alloc::Global;
 
-/// A decimal number.
-pub fn number_of(text: &str) -> Result<u64, RowFault> {
-    text.parse::<u64>().map_err(|_| RowFault::NoRow)
-}
-
-/// A decimal number below 2^32.
-pub fn short_of(text: &str) -> Result<u32, RowFault> {
-    text.parse::<u32>().map_err(|_| RowFault::NoRow)
-}
-
 /// Adds one part of a list: a number, or a number and how many times it stands there.
 fn push_part(numbers: &mut Vec<u64>, part: &str) -> Result<(), RowFault> {
     let (number, count) = part.split_once('*').unwrap_or((part, "1"));
-    let number = number_of(number)?;
-    for _ in 0..short_of(count)? {
+    let number = number.parse::<u64>()?;
+    for _ in 0..count.parse::<u32>()? {
         numbers.push(number)?;
     }
     Ok(())
@@ -45,7 +35,7 @@ pub fn numbers(alloc: Global, words: &mut Words) -> Result<Vec<u64>, RowFault> {
 pub fn shorts(alloc: Global, words: &mut Words) -> Result<Vec<u32>, RowFault> {
     let mut shorts = Vec::new(alloc);
     for number in &numbers(alloc, words)? {
-        shorts.push(u32::try_from(*number).map_err(|_| RowFault::NoRow)?)?;
+        shorts.push(u32::try_from(*number)?)?;
     }
     Ok(shorts)
 }
@@ -54,18 +44,17 @@ pub fn shorts(alloc: Global, words: &mut Words) -> Result<Vec<u32>, RowFault> {
 pub fn fills(alloc: Global, words: &mut Words) -> Result<Vec<u8>, RowFault> {
     let mut fills = Vec::new(alloc);
     for number in &numbers(alloc, words)? {
-        fills.push(u8::try_from(*number).map_err(|_| RowFault::NoRow)?)?;
+        fills.push(u8::try_from(*number)?)?;
     }
     Ok(fills)
 }
 
 /// Writes numbers as words, and `-` where there are none.
-pub fn show(alloc: Global, numbers: &[u64], page: &mut Page) -> Result<(), RowFault> {
+pub fn show(numbers: &[u64], page: &mut Page) {
     if numbers.is_empty() {
-        page.word("-")?;
+        page.word("-");
     }
     for number in numbers {
-        page.number(alloc, *number)?;
+        page.number(*number);
     }
-    Ok(())
 }

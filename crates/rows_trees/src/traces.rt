@@ -6,7 +6,7 @@ use crate::lists;
 use oram_geometry::Device;
 use oram_trace::{Entry, MOST_ADDRESSES, RearrangeFault, entry, place, rearrange};
 use rows::{Page, RowFault, Words};
-use std::alloc::{AllocError, Global};
+use std::alloc::Global;
 
 /// Whether these are addresses of the device, and few enough.
 fn are_addresses(device: &Device, addresses: &[u32]) -> bool
@@ -31,17 +31,17 @@ fn places(
         return Err(RowFault::NoRow);
     }
     for ticket in 0..addresses.len() {
-        page.number(alloc, place(device, &addresses, tree, ticket as u64))?;
+        page.number(place(device, &addresses, tree, ticket as u64));
     }
     Ok(())
 }
 
 /// Writes an entry.
-fn show_entry(alloc: Global, entry: Entry, page: &mut Page) -> Result<(), AllocError> {
-    page.part()?;
-    page.word(if entry.fetch { "fetch" } else { "store" })?;
-    page.number(alloc, u64::from(entry.tree))?;
-    page.number(alloc, u64::from(entry.leaf))
+fn show_entry(entry: Entry, page: &mut Page) {
+    page.part();
+    page.word(if entry.fetch { "fetch" } else { "store" });
+    page.number(entry.tree);
+    page.number(entry.leaf);
 }
 
 /// `trace entries ADDRESSES TAPE`: the path of each entry.
@@ -61,7 +61,7 @@ fn entries(
         return Err(RowFault::NoRow);
     }
     for number in 0..count {
-        show_entry(alloc, entry(device, &addresses, &tape, number as u64), page)?;
+        show_entry(entry(device, &addresses, &tape, number as u64), page);
     }
     Ok(())
 }
@@ -77,7 +77,7 @@ fn fault_name(fault: RearrangeFault) -> &'static str {
 }
 
 /// `trace fault NAME`: the number of a fault.
-fn fault(alloc: Global, words: &mut Words, page: &mut Page) -> Result<(), RowFault> {
+fn fault(words: &mut Words, page: &mut Page) -> Result<(), RowFault> {
     let name = words.text()?;
     let faults = [
         RearrangeFault::Lengths,
@@ -89,8 +89,8 @@ fn fault(alloc: Global, words: &mut Words, page: &mut Page) -> Result<(), RowFau
         return Err(RowFault::NoRow);
     };
     match fault.number() {
-        Some(number) => page.number(alloc, u64::from(number))?,
-        None => page.word("none")?,
+        Some(number) => page.number(number),
+        None => page.word("none"),
     }
     Ok(())
 }
@@ -117,10 +117,10 @@ fn rearranged(
     page: &mut Page,
 ) -> Result<(), RowFault> {
     match order(alloc, device, words)? {
-        Ok(order) => lists::show(alloc, &order, page)?,
+        Ok(order) => lists::show(&order, page),
         Err(fault) => {
-            page.word("fault")?;
-            page.word(fault_name(fault))?;
+            page.word("fault");
+            page.word(fault_name(fault));
         }
     }
     Ok(())
@@ -139,14 +139,20 @@ fn tape(
     let tape = lists::numbers(alloc, words)?;
     for place in &order {
         match tape.get(*place as usize) {
-            Some(word) => page.number(alloc, *word)?,
+            Some(word) => page.number(*word),
             None => return Err(RowFault::NoRow),
         }
     }
     Ok(())
 }
 
-/// Makes a call: `most` is how long lists may be that are rearranged.
+/// `trace most`: how long lists may be that are rearranged.
+fn most(page: &mut Page) -> Result<(), RowFault> {
+    page.number(MOST_ADDRESSES);
+    Ok(())
+}
+
+/// Makes a call.
 pub fn answer(
     alloc: Global,
     device: &Device,
@@ -156,8 +162,8 @@ pub fn answer(
     match words.text()? {
         "places" => places(alloc, device, words, page),
         "entries" => entries(alloc, device, words, page),
-        "fault" => fault(alloc, words, page),
-        "most" => Ok(page.number(alloc, MOST_ADDRESSES as u64)?),
+        "fault" => fault(words, page),
+        "most" => most(page),
         "rearrange" => rearranged(alloc, device, words, page),
         "tape" => tape(alloc, device, words, page),
         _ => Err(RowFault::NoRow),

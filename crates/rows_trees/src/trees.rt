@@ -1,18 +1,20 @@
 //! Rows of one tree without a seal, with its host. Blocks are written `ADDRESS:LEAF:DATA`.
+ghost use Rattle.std.specs.Prelude.{◌≡◌, ◌<◌, All, IfOk, IfSome, OnOk};
+ghost use Rattle.oram_geometry.specs.Sizes.{trees_of};
+ghost use Rattle.oram_bucket.specs.Bucket.{IsBlockOf};
 
 mod accesses;
 mod random;
 
-use crate::lists;
 use crate::paths::{MadePath, made_path};
-use crate::trees::accesses::{Asked, access, access_behind, told_host};
+use crate::trees::accesses::{Asked, Target, access, told_host};
 use oram_bucket::{Block, PlainSeal};
 use oram_geometry::Device;
 use oram_host::Server;
 use oram_tree::{Edit, FormatFault, Lookup, PartsFault, Tree, TreeParts};
 use oram_wire::{HostRequest, ListSink, Sink, SinkFault, store_header};
 use rows::{Page, RowFault, Words};
-use std::alloc::Global;
+use std::alloc::{AllocError, Global};
 
 /// What is kept: the parts of a tree, its host, and the messages that formatted it.
 #[derive(Drop)]
@@ -50,15 +52,26 @@ pub fn tree_of(
     device: &Device,
     number: u8,
     parts: TreeParts,
-) -> Result<Option<Tree>, RowFault> {
-    if number >= device.trees() {
-        return Err(RowFault::NoRow);
-    }
+) -> Result<Option<Tree>, RowFault>
+    requires { number < trees_of device.now }
+    ensures number { IfOk result (λ made. IfSome made (λ tree. tree.number ≡ number)) }
+    ensures blocks { IfOk result (λ made. IfSome made (λ tree. All (IsBlockOf device.now number) tree.stash)) }
+{
     match Tree::from_parts(alloc, device, number, parts) {
         Ok(tree) => Ok(Some(tree)),
         Err(PartsFault::Content) => Ok(None),
         Err(PartsFault::OutOfMemory) => Err(RowFault::OutOfMemory),
     }
+}
+
+/// Whether a device has a tree of this number. Else the row is not one.
+fn check_number(device: &Device, number: u8) -> Result<(), RowFault>
+    ensures { OnOk result (number < trees_of device.now) }
+{
+    if number >= device.trees() {
+        return Err(RowFault::NoRow);
+    }
+    Ok(())
 }
 
 /// The block of a word.
@@ -70,8 +83,8 @@ fn block_of(alloc: Global, word: &str) -> Result<Block, RowFault> {
         return Err(RowFault::NoRow);
     };
     Ok(Block {
-        address: lists::short_of(address)?,
-        leaf: lists::short_of(leaf)?,
+        address: address.parse::<u32>()?,
+        leaf: leaf.parse::<u32>()?,
         content: Words::of(bytes).bytes(alloc)?,
     })
 }
@@ -89,39 +102,97 @@ fn parts_of(alloc: Global, root: [u8; 32], words: &mut Words) -> Result<TreePart
 }
 
 /// Writes a block.
-fn show_block(alloc: Global, block: &Block, page: &mut Page) -> Result<(), RowFault> {
-    let mut bytes = Page::new(alloc);
-    bytes.bytes(alloc, &block.content)?;
-    let (address, leaf, bytes) = (block.address, block.leaf, bytes.text());
-    let word = format!(in alloc; "{address}:{leaf}:{bytes}")?;
-    page.word(word.as_str())?;
-    Ok(())
+fn show_block(alloc: Global, block: &Block, page: &mut Page) {
+    let (address, leaf) = (block.address, block.leaf);
+    let word: Result<String, AllocError> = format!(in alloc; "{address}:{leaf}:");
+    page.made(word);
+    page.bytes_behind(&block.content);
 }
 
 /// Writes what an access found.
-fn show_lookup(alloc: Global, lookup: &Lookup, page: &mut Page) -> Result<(), RowFault> {
-    page.word(if lookup.found { "found" } else { "absent" })?;
-    page.bytes(alloc, &lookup.before)?;
-    Ok(())
+fn show_lookup(lookup: &Lookup, page: &mut Page) {
+    page.word(if lookup.found { "found" } else { "absent" });
+    page.bytes(&lookup.before);
 }
 
-/// The data that a block gets, where the edit is of this kind.
-fn data_of(alloc: Global, kind: &str, words: &mut Words) -> Result<Vec<u8>, RowFault> {
-    if kind == "replace" {
-        words.bytes(alloc)
-    } else {
-        Ok(Vec::new(alloc))
+/// An edit, with the data that a block gets.
+#[derive(Drop)]
+enum OwnedEdit {
+    Keep,
+    Replace(Vec<u8>),
+    Entry(usize, u32),
+}
+
+impl OwnedEdit {
+    /// The edit of the words `keep`, `replace DATA` or `entry INDEX VALUE`.
+    fn read(alloc: Global, words: &mut Words) -> Result<OwnedEdit, RowFault> {
+        match words.text()? {
+            "keep" => Ok(OwnedEdit::Keep),
+            "replace" => Ok(OwnedEdit::Replace(words.bytes(alloc)?)),
+            "entry" => Ok(OwnedEdit::Entry(words.size()?, words.short()?)),
+            _ => Err(RowFault::NoRow),
+        }
+    }
+
+    fn lent(&self) -> Edit<'_> {
+        match self {
+            OwnedEdit::Keep => Edit::Keep,
+            OwnedEdit::Replace(data) => Edit::Replace(data),
+            OwnedEdit::Entry(index, value) => Edit::Entry(*index, *value),
+        }
     }
 }
 
-/// An edit of this kind.
-fn edit_of<'a>(kind: &str, data: &'a [u8], words: &mut Words) -> Result<Edit<'a>, RowFault> {
-    match kind {
-        "keep" => Ok(Edit::Keep),
-        "replace" => Ok(Edit::Replace(data)),
-        "entry" => Ok(Edit::Entry(words.size()?, words.short()?)),
-        _ => Err(RowFault::NoRow),
+/// The messages of a formatting, and the parts of the tree that was formatted.
+fn formatted(
+    alloc: Global,
+    device: &Device,
+    number: u8,
+    nonce: u32,
+) -> Result<(Vec<Vec<u8>>, TreeParts), RowFault> {
+    check_number(device, number)?;
+    prove!(device.depth(number) <= 24);
+    let mut sink = ListSink::new(alloc);
+    match Tree::format(
+        alloc,
+        device,
+        number,
+        &PlainSeal,
+        u64::from(nonce),
+        &mut sink,
+    ) {
+        Ok(tree) => Ok((sink.into_bodies(), tree.parts(alloc)?)),
+        Err(fault) => Err(row_fault(fault)),
     }
+}
+
+/// A host that has one path of a tree and nothing else.
+fn host_with_path(
+    alloc: Global,
+    device: &Device,
+    number: u8,
+    leaf: u32,
+    path: &[u8],
+) -> Result<Server, RowFault> {
+    check_number(device, number)?;
+    let shape = HostRequest::Shape {
+        tree: number,
+        depth: device.depth(number),
+        record_len: device.record_len(0) as u32,
+    };
+    let mut host = Server::new(alloc);
+    told_host(alloc, &mut host, &shape.encode(alloc)?)?;
+    let mut store = store_header(number, leaf).to_vec(alloc)?;
+    store.extend_from_slice(path)?;
+    told_host(alloc, &mut host, &store)?;
+    Ok(host)
+}
+
+/// A path of empty buckets.
+fn empty_path(alloc: Global, device: &Device, number: u8, leaf: u32) -> Result<MadePath, RowFault> {
+    check_number(device, number)?;
+    let empty = vec![in alloc; 0; usize::from(device.depth(number)) + 1]?;
+    Ok(made_path(alloc, leaf, device.record_len(0) - 64, &empty)?)
 }
 
 impl Trees {
@@ -131,6 +202,14 @@ impl Trees {
             parts: None,
             host: Server::new(alloc),
             messages: Vec::new(alloc),
+        }
+    }
+
+    /// The kept parts, which are there no more.
+    fn take_parts(&mut self) -> Result<TreeParts, RowFault> {
+        match self.parts.take() {
+            Some(parts) => Ok(parts),
+            None => Err(RowFault::NoRow),
         }
     }
 
@@ -151,37 +230,37 @@ impl Trees {
         page: &mut Page,
     ) -> Result<(), RowFault> {
         self.number = words.byte()?;
-        if self.number >= device.trees() {
-            return Err(RowFault::NoRow);
-        }
-        prove!(device.depth(self.number) <= 24);
-        let nonce = u64::from(words.short()?);
-        let mut sink = ListSink::new(alloc);
-        let made = Tree::format(alloc, device, self.number, &PlainSeal, nonce, &mut sink);
-        self.parts = Some(made.map_err(row_fault)?.parts(alloc)?);
-        self.messages = sink.into_bodies();
-        self.host = host_of(alloc, &self.messages)?;
-        page.number(alloc, self.messages.len() as u64)?;
-        page.word("messages")?;
+        let (messages, parts) = formatted(alloc, device, self.number, words.short()?)?;
+        self.host = host_of(alloc, &messages)?;
+        page.number(messages.len());
+        page.word("messages");
+        self.parts = Some(parts);
+        self.messages = messages;
         Ok(())
     }
 
     /// `tree message NUMBER`: the bytes of a message of the formatting.
-    fn message(&self, alloc: Global, words: &mut Words, page: &mut Page) -> Result<(), RowFault> {
+    fn message(&self, words: &mut Words, page: &mut Page) -> Result<(), RowFault> {
         match self.messages.get(words.size()?) {
-            Some(message) => page.bytes(alloc, message)?,
+            Some(message) => page.bytes(message),
             None => return Err(RowFault::NoRow),
         }
         Ok(())
     }
 
     /// `tree puts`: the nodes in the order in which the formatting puts their records.
-    fn puts(&self, alloc: Global, page: &mut Page) -> Result<(), RowFault> {
+    fn puts(&self, page: &mut Page) -> Result<(), RowFault> {
         for message in &self.messages {
             if let [3, _, a, b, c, d, ..] = message.as_slice() {
-                page.number(alloc, u64::from(u32::from_be_bytes([*a, *b, *c, *d])))?;
+                page.number(u32::from_be_bytes([*a, *b, *c, *d]));
             }
         }
+        Ok(())
+    }
+
+    /// `tree root`: the digest of the root's record.
+    fn root(&self, page: &mut Page) -> Result<(), RowFault> {
+        page.bytes(&self.parts()?.root);
         Ok(())
     }
 
@@ -189,27 +268,30 @@ impl Trees {
     fn stash(&self, alloc: Global, page: &mut Page) -> Result<(), RowFault> {
         let parts = self.parts()?;
         if parts.stash.is_empty() {
-            page.word("-")?;
+            page.word("-");
         }
         for block in &parts.stash {
-            show_block(alloc, block, page)?;
+            show_block(alloc, block, page);
         }
         Ok(())
     }
 
-    /// Takes a tree in the place of the kept one. Writes how many blocks are in its stash, or `content` where there is none.
+    /// Takes the tree of these parts in the place of the kept one. Writes how many blocks are in its stash, or `content` where there is
+    /// no such tree.
     fn take_tree(
         &mut self,
         alloc: Global,
-        made: Option<Tree>,
+        device: &Device,
+        parts: TreeParts,
         page: &mut Page,
     ) -> Result<(), RowFault> {
-        match made {
+        check_number(device, self.number)?;
+        match tree_of(alloc, device, self.number, parts)? {
             Some(tree) => {
-                page.number(alloc, tree.stash_len() as u64)?;
+                page.number(tree.stash_len());
                 self.parts = Some(tree.parts(alloc)?);
             }
-            None => page.word("content")?,
+            None => page.word("content"),
         }
         Ok(())
     }
@@ -225,17 +307,13 @@ impl Trees {
         self.number = words.byte()?;
         let root = words.array(alloc)?;
         let parts = parts_of(alloc, root, words)?;
-        let made = tree_of(alloc, device, self.number, parts)?;
-        self.take_tree(alloc, made, page)
+        self.take_tree(alloc, device, parts, page)
     }
 
     /// `tree again`: the kept tree, made of its parts.
     fn again(&mut self, alloc: Global, device: &Device, page: &mut Page) -> Result<(), RowFault> {
-        let Some(parts) = self.parts.take() else {
-            return Err(RowFault::NoRow);
-        };
-        let made = tree_of(alloc, device, self.number, parts)?;
-        self.take_tree(alloc, made, page)
+        let parts = self.take_parts()?;
+        self.take_tree(alloc, device, parts, page)
     }
 
     /// `tree bare TREE LEAF BLOCKS`: a tree with these blocks in its stash and empty buckets on one path, the only one that
@@ -248,28 +326,35 @@ impl Trees {
         page: &mut Page,
     ) -> Result<(), RowFault> {
         self.number = words.byte()?;
-        if self.number >= device.trees() {
-            return Err(RowFault::NoRow);
-        }
         let leaf = words.short()?;
-        let depth = device.depth(self.number);
-        let empty = vec![in alloc; 0; usize::from(depth) + 1]?;
-        let record_len = device.record_len(0);
-        let MadePath { bytes, root } = made_path(alloc, leaf, record_len - 64, &empty)?;
-        let shape = HostRequest::Shape {
-            tree: self.number,
-            depth,
-            record_len: record_len as u32,
-        };
-        let shape = shape.encode(alloc)?;
-        self.host = Server::new(alloc);
-        told_host(alloc, &mut self.host, &shape)?;
-        let mut store = store_header(self.number, leaf).to_vec(alloc)?;
-        store.extend_from_slice(&bytes)?;
-        told_host(alloc, &mut self.host, &store)?;
+        let MadePath { bytes, root } = empty_path(alloc, device, self.number, leaf)?;
+        self.host = host_with_path(alloc, device, self.number, leaf, &bytes)?;
         let parts = parts_of(alloc, root, words)?;
-        let made = tree_of(alloc, device, self.number, parts)?;
-        self.take_tree(alloc, made, page)
+        self.take_tree(alloc, device, parts, page)
+    }
+
+    /// Makes the access that words name, and writes whether the block was found, and its data before the edit. Gives the records, behind
+    /// the bytes that they are to be put behind.
+    fn reach(
+        &mut self,
+        alloc: Global,
+        device: &Device,
+        front: Option<Vec<u8>>,
+        words: &mut Words,
+        page: &mut Page,
+    ) -> Result<Vec<u8>, RowFault> {
+        let asked = Asked::read(words)?;
+        let edit = OwnedEdit::read(alloc, words)?;
+        let target = Target {
+            device,
+            number: self.number,
+            parts: self.take_parts()?,
+            host: &mut self.host,
+        };
+        let reached = access(alloc, &PlainSeal, target, asked, edit.lent(), front)?;
+        show_lookup(&reached.lookup, page);
+        self.parts = Some(reached.parts);
+        Ok(reached.records)
     }
 
     /// `tree access ADDRESS OLD_LEAF NEW_LEAF NONCE EDIT`: whether the block was found, and its data before the edit, which
@@ -281,26 +366,7 @@ impl Trees {
         words: &mut Words,
         page: &mut Page,
     ) -> Result<(), RowFault> {
-        let asked = Asked::read(words)?;
-        let kind = words.text()?;
-        let data = data_of(alloc, kind, words)?;
-        let edit = edit_of(kind, &data, words)?;
-        let Some(parts) = self.parts.take() else {
-            return Err(RowFault::NoRow);
-        };
-        let number = self.number;
-        let reached = access(
-            alloc,
-            device,
-            &PlainSeal,
-            number,
-            parts,
-            &mut self.host,
-            asked,
-            edit,
-        )?;
-        show_lookup(alloc, &reached.lookup, page)?;
-        self.parts = Some(reached.parts);
+        let _records = self.reach(alloc, device, None, words, page)?;
         Ok(())
     }
 
@@ -313,32 +379,12 @@ impl Trees {
         page: &mut Page,
     ) -> Result<(), RowFault> {
         let front = words.bytes(alloc)?;
-        let asked = Asked::read(words)?;
-        let kind = words.text()?;
-        let data = data_of(alloc, kind, words)?;
-        let edit = edit_of(kind, &data, words)?;
-        let Some(parts) = self.parts.take() else {
-            return Err(RowFault::NoRow);
-        };
-        let number = self.number;
-        let reached = access_behind(
-            alloc,
-            device,
-            &PlainSeal,
-            number,
-            parts,
-            &mut self.host,
-            asked,
-            edit,
-            front,
-        )?;
-        show_lookup(alloc, &reached.lookup, page)?;
-        page.bytes(alloc, &reached.records)?;
-        self.parts = Some(reached.parts);
+        let records = self.reach(alloc, device, Some(front), words, page)?;
+        page.bytes(&records);
         Ok(())
     }
 
-    /// Makes a call: `root` is the digest of the root's record, and `random` makes many accesses beside a plain map.
+    /// Makes a call: `random` makes many accesses beside a plain map.
     pub fn answer(
         &mut self,
         alloc: Global,
@@ -347,19 +393,18 @@ impl Trees {
         page: &mut Page,
     ) -> Result<(), RowFault> {
         match words.text()? {
-            "format" => self.format(alloc, device, words, page)?,
-            "message" => self.message(alloc, words, page)?,
-            "puts" => self.puts(alloc, page)?,
-            "root" => page.bytes(alloc, &self.parts()?.root)?,
-            "stash" => self.stash(alloc, page)?,
-            "made" => self.made(alloc, device, words, page)?,
-            "again" => self.again(alloc, device, page)?,
-            "bare" => self.bare(alloc, device, words, page)?,
-            "access" => self.access(alloc, device, words, page)?,
-            "behind" => self.behind(alloc, device, words, page)?,
-            "random" => random::accesses(alloc, device, words, page)?,
-            _ => return Err(RowFault::NoRow),
+            "format" => self.format(alloc, device, words, page),
+            "message" => self.message(words, page),
+            "puts" => self.puts(page),
+            "root" => self.root(page),
+            "stash" => self.stash(alloc, page),
+            "made" => self.made(alloc, device, words, page),
+            "again" => self.again(alloc, device, page),
+            "bare" => self.bare(alloc, device, words, page),
+            "access" => self.access(alloc, device, words, page),
+            "behind" => self.behind(alloc, device, words, page),
+            "random" => random::accesses(alloc, device, words, page),
+            _ => Err(RowFault::NoRow),
         }
-        Ok(())
     }
 }

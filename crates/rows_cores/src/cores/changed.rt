@@ -5,6 +5,7 @@ use crate::said::reason_of;
 use oram_bucket::{Block, Sealer};
 use oram_bytes::Bytes;
 use oram_core::Parts;
+use oram_tree::TreeParts;
 use rows::{Page, RowFault, Words};
 use std::alloc::Global;
 
@@ -32,6 +33,24 @@ fn change(
     Ok(())
 }
 
+/// The block of the words `ADDRESS LEAF DATA`.
+fn block_in(alloc: Global, words: &mut Words) -> Result<Block, RowFault> {
+    Ok(Block {
+        address: words.short()?,
+        leaf: words.short()?,
+        content: words.bytes(alloc)?,
+    })
+}
+
+/// Puts a block behind those of the stash of a tree.
+fn put_block(trees: &mut [TreeParts], number: usize, block: Block) -> Result<(), RowFault> {
+    let Some(tree) = trees.get_mut(number) else {
+        return Err(RowFault::NoRow);
+    };
+    tree.stash.push(block)?;
+    Ok(())
+}
+
 impl<S: Sealer + Copy> Machine<S> {
     /// `core parts FIELD VALUE`: whether there is a core with the parts of this one, one of them changed: `core`, or
     /// `content` where there is none. Of `trees` and `waiting` the first so many are left.
@@ -44,8 +63,8 @@ impl<S: Sealer + Copy> Machine<S> {
         let mut parts = self.core.parts(alloc)?;
         change(alloc, &mut parts, words.text()?, words)?;
         match self.core_with(alloc, parts)? {
-            Some(_) => page.word("core")?,
-            None => page.word("content")?,
+            Some(_) => page.word("core"),
+            None => page.word("content"),
         }
         Ok(())
     }
@@ -57,21 +76,16 @@ impl<S: Sealer + Copy> Machine<S> {
         words: &mut Words,
         page: &mut Page,
     ) -> Result<(), RowFault> {
+        let number = words.size()?;
+        let block = block_in(alloc, words)?;
         let mut parts = self.core.parts(alloc)?;
-        let Some(tree) = parts.trees.get_mut(words.size()?) else {
-            return Err(RowFault::NoRow);
-        };
-        tree.stash.push(Block {
-            address: words.short()?,
-            leaf: words.short()?,
-            content: words.bytes(alloc)?,
-        })?;
+        put_block(&mut parts.trees, number, block)?;
         match self.core_with(alloc, parts)? {
             Some(core) => {
                 self.core = core;
-                page.word("core")?;
+                page.word("core");
             }
-            None => page.word("content")?,
+            None => page.word("content"),
         }
         Ok(())
     }

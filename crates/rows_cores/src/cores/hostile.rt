@@ -1,6 +1,6 @@
 //! Answers that a host shouldn't give, each to a copy of the core.
 
-use super::machine::Machine;
+use super::machine::{Machine, reaction_of};
 use crate::said::show_reaction;
 use oram_bucket::Sealer;
 use oram_bytes::{Bytes, Words as Tape};
@@ -18,6 +18,17 @@ fn read_of_zero(alloc: Global, trees: u8) -> Result<Event, RowFault> {
     })
 }
 
+/// Tells a core an event, and writes what it says.
+fn tell<S: Sealer>(
+    alloc: Global,
+    core: &mut Core<S>,
+    event: &Event,
+    page: &mut Page,
+) -> Result<(), RowFault> {
+    show_reaction(&reaction_of(alloc, core, event)?, page);
+    Ok(())
+}
+
 /// Writes what a core says to an answer, and then to a read, a retry, a loss and a good answer.
 fn show_asked<S: Sealer>(
     alloc: Global,
@@ -25,18 +36,22 @@ fn show_asked<S: Sealer>(
     answer: &[u8],
     page: &mut Page,
 ) -> Result<(), RowFault> {
-    let events = [
-        Event::Answer(Bytes::copy(alloc, answer)?),
-        read_of_zero(alloc, core.device().trees())?,
-        Event::Retry,
-        Event::Lost,
-        Event::Answer(Bytes::copy(alloc, &[0x80])?),
-    ];
-    for event in &events {
-        let reaction = core.step(alloc, event)?;
-        show_reaction(alloc, &reaction, page)?;
-    }
-    Ok(())
+    let trees = core.device().trees();
+    tell(
+        alloc,
+        core,
+        &Event::Answer(Bytes::copy(alloc, answer)?),
+        page,
+    )?;
+    tell(alloc, core, &read_of_zero(alloc, trees)?, page)?;
+    tell(alloc, core, &Event::Retry, page)?;
+    tell(alloc, core, &Event::Lost, page)?;
+    tell(
+        alloc,
+        core,
+        &Event::Answer(Bytes::copy(alloc, &[0x80])?),
+        page,
+    )
 }
 
 /// Flips one bit of a byte.
@@ -59,7 +74,8 @@ impl<S: Sealer + Copy> Machine<S> {
         let mut core = self.core_again(alloc)?;
         let mut said = Page::new(alloc);
         show_asked(alloc, &mut core, answer, &mut said)?;
-        groups.add(alloc, number as u64, said.text(), page)
+        groups.add(number as u64, &said, page);
+        Ok(())
     }
 
     /// `core flips FIRST LAST`: what the core says to the host's answer with one bit of a byte flipped, byte by byte, and
@@ -81,7 +97,8 @@ impl<S: Sealer + Copy> Machine<S> {
             self.try_answer(alloc, place, &answer, &mut groups, page)?;
             flip(&mut answer, place);
         }
-        groups.end(alloc, page)
+        groups.end(page);
+        Ok(())
     }
 
     /// `core lengths FIRST LAST`: the same for the host's answer cut, or filled up with zeros, to a length.
@@ -99,6 +116,7 @@ impl<S: Sealer + Copy> Machine<S> {
             answer.resize(len, 0)?;
             self.try_answer(alloc, len, &answer, &mut groups, page)?;
         }
-        groups.end(alloc, page)
+        groups.end(page);
+        Ok(())
     }
 }

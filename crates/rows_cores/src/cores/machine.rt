@@ -45,6 +45,28 @@ pub fn core_of<S: Sealer>(
     }
 }
 
+/// The core of a device just formatted, and the messages of the formatting.
+fn formatted<S: Sealer>(
+    alloc: Global,
+    device: &Device,
+    sealer: S,
+) -> Result<(Core<S>, Vec<Vec<u8>>), RowFault> {
+    let mut sink = ListSink::new(alloc);
+    match Core::format(alloc, device.copy(), sealer, &mut sink) {
+        Ok(core) => Ok((core, sink.into_bodies())),
+        Err(fault) => Err(row_fault(fault)),
+    }
+}
+
+/// What a core says to an event.
+pub fn reaction_of<S: Sealer>(
+    alloc: Global,
+    core: &mut Core<S>,
+    event: &Event,
+) -> Result<Reaction, RowFault> {
+    Ok(core.step(alloc, event)?)
+}
+
 /// Whether an event ends the wait for an answer.
 fn ends_wait(event: &Event) -> bool {
     match event {
@@ -56,9 +78,7 @@ fn ends_wait(event: &Event) -> bool {
 impl<S: Sealer + Copy> Machine<S> {
     /// A device just formatted.
     pub fn new(alloc: Global, device: &Device, sealer: S) -> Result<Machine<S>, RowFault> {
-        let mut sink = ListSink::new(alloc);
-        let core = Core::format(alloc, device.copy(), sealer, &mut sink).map_err(row_fault)?;
-        let format = sink.into_bodies();
+        let (core, format) = formatted(alloc, device, sealer)?;
         Ok(Machine {
             sealer,
             core,
@@ -94,7 +114,7 @@ impl<S: Sealer + Copy> Machine<S> {
 
     /// Makes a step.
     fn step(&mut self, alloc: Global, event: Event) -> Result<&Reaction, RowFault> {
-        let reaction = self.core.step(alloc, &event)?;
+        let reaction = reaction_of(alloc, &mut self.core, &event)?;
         if ends_wait(&event) {
             self.outstanding = None;
         }
@@ -111,8 +131,8 @@ impl<S: Sealer + Copy> Machine<S> {
 
     /// Makes a step and writes the reaction.
     pub fn tell(&mut self, alloc: Global, event: Event, page: &mut Page) -> Result<(), RowFault> {
-        let reaction = self.step(alloc, event)?;
-        show_reaction(alloc, reaction, page)
+        show_reaction(self.step(alloc, event)?, page);
+        Ok(())
     }
 
     /// What the host answers to the outstanding message. With none outstanding it is no byte.
@@ -147,7 +167,7 @@ impl<S: Sealer + Copy> Machine<S> {
             }
             let bytes = self.answer_of_host(alloc)?;
             let reaction = self.step(alloc, Event::Answer(Bytes::from_vec(bytes)))?;
-            show_answered(alloc, reaction, page)?;
+            show_answered(reaction, page);
         }
         Ok(())
     }
@@ -179,41 +199,63 @@ impl<S: Sealer + Copy> Machine<S> {
 
     /// `core told`: the next ticket, how many commands wait, whether the core is idle, whether a store is outstanding, and
     /// why the device failed.
-    fn told(&self, alloc: Global, page: &mut Page) -> Result<(), RowFault> {
-        page.word("next")?;
-        page.number(alloc, self.core.next_ticket())?;
-        page.part()?;
-        page.word("waiting")?;
-        page.number(alloc, self.core.waiting() as u64)?;
-        page.part()?;
-        page.word("idle")?;
-        page.flag(self.core.is_idle())?;
-        page.part()?;
-        page.word("storing")?;
-        page.flag(self.core.is_storing())?;
-        page.part()?;
-        page.word("failure")?;
+    fn told(&self, page: &mut Page) {
+        page.word("next");
+        page.number(self.core.next_ticket());
+        page.part();
+        page.word("waiting");
+        page.number(self.core.waiting());
+        page.part();
+        page.word("idle");
+        page.flag(self.core.is_idle());
+        page.part();
+        page.word("storing");
+        page.flag(self.core.is_storing());
+        page.part();
+        page.word("failure");
         match self.core.failure() {
-            Some(reason) => show_reason(alloc, reason, page),
-            None => Ok(page.word("none")?),
+            Some(reason) => show_reason(reason, page),
+            None => page.word("none"),
         }
     }
 
     /// `core stashes`: how many blocks are in the stash of each tree.
-    fn stashes(&self, alloc: Global, page: &mut Page) -> Result<(), RowFault> {
+    fn stashes(&self, page: &mut Page) {
         for tree in 0..self.core.device().trees() {
-            page.number(alloc, self.core.stash_len(tree) as u64)?;
+            page.number(self.core.stash_len(tree));
+        }
+    }
+
+    /// `core message`: the bytes of the outstanding message, or `none`.
+    fn message(&self, page: &mut Page) {
+        match &self.outstanding {
+            Some(message) => page.bytes(message.as_slice()),
+            None => page.word("none"),
+        }
+    }
+
+    /// Makes a call that changes nothing: `overhead` is what the sealer adds to a bucket.
+    fn look(&self, alloc: Global, call: &str, page: &mut Page) -> Result<(), RowFault> {
+        match call {
+            "told" => self.told(page),
+            "stashes" => self.stashes(page),
+            "message" => self.message(page),
+            "overhead" => page.number(self.core.overhead()),
+            _ => return self.run(alloc, page),
         }
         Ok(())
     }
 
-    /// `core message`: the bytes of the outstanding message, or `none`.
-    fn message(&self, alloc: Global, page: &mut Page) -> Result<(), RowFault> {
-        match &self.outstanding {
-            Some(message) => page.bytes(alloc, message.as_slice())?,
-            None => page.word("none")?,
-        }
-        Ok(())
+    /// Tells the core the event of a call.
+    fn event(
+        &mut self,
+        alloc: Global,
+        call: &str,
+        words: &mut Words,
+        page: &mut Page,
+    ) -> Result<(), RowFault> {
+        let event = event_of(alloc, call, words)?;
+        self.tell(alloc, event, page)
     }
 
     /// `core run`: whether a run of all that happened formats the device and reacts as this core did.
@@ -222,8 +264,8 @@ impl<S: Sealer + Copy> Machine<S> {
         show_run(alloc, device, self.sealer, &self.events, &self.seen, page)
     }
 
-    /// Makes a call: `drain` has the host answer until no message is outstanding, `redrain` does so with the core made again
-    /// of its parts before each answer, and `overhead` is what the sealer adds to a bucket.
+    /// Makes a call: `drain` has the host answer until no message is outstanding, and `redrain` does so with the core made again
+    /// of its parts before each answer.
     pub fn call(
         &mut self,
         alloc: Global,
@@ -232,6 +274,10 @@ impl<S: Sealer + Copy> Machine<S> {
         page: &mut Page,
     ) -> Result<(), RowFault> {
         match call {
+            "told" | "stashes" | "message" | "overhead" | "run" => self.look(alloc, call, page),
+            "keep" | "kept" | "same" | "tamper" | "swap" | "snapshot" | "restore" => {
+                self.meddle(alloc, call, words, page)
+            }
             "answer" => self.answer(alloc, page),
             "answers" => self.answers(alloc, words.short()?, false, page),
             "drain" => self.answers(alloc, MOST_ANSWERS, false, page),
@@ -239,22 +285,11 @@ impl<S: Sealer + Copy> Machine<S> {
             "late" => self.late(alloc, page),
             "reopen" => self.reopen(alloc, page),
             "times" => self.times(alloc, words, page),
-            "told" => self.told(alloc, page),
-            "stashes" => self.stashes(alloc, page),
-            "message" => self.message(alloc, page),
-            "overhead" => Ok(page.number(alloc, self.core.overhead() as u64)?),
-            "run" => self.run(alloc, page),
             "flips" => self.flips(alloc, words, page),
             "lengths" => self.lengths(alloc, words, page),
             "parts" => self.parts(alloc, words, page),
             "put" => self.put(alloc, words, page),
-            "keep" | "kept" | "same" | "tamper" | "swap" | "snapshot" | "restore" => {
-                self.meddle(alloc, call, words, page)
-            }
-            _ => {
-                let event = event_of(alloc, call, words)?;
-                self.tell(alloc, event, page)
-            }
+            _ => self.event(alloc, call, words, page),
         }
     }
 }

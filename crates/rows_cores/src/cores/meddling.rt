@@ -11,8 +11,8 @@ impl<S: Sealer + Copy> Machine<S> {
     /// `core keep`: keeps what the host answers to the outstanding message, and tells how many bytes it has.
     fn keep(&mut self, alloc: Global, page: &mut Page) -> Result<(), RowFault> {
         self.kept = self.answer_of_host(alloc)?;
-        page.number(alloc, self.kept.len() as u64)?;
-        page.word("bytes")?;
+        page.number(self.kept.len());
+        page.word("bytes");
         Ok(())
     }
 
@@ -25,7 +25,7 @@ impl<S: Sealer + Copy> Machine<S> {
     /// `core same`: whether the host would now answer what was kept.
     fn same(&mut self, alloc: Global, page: &mut Page) -> Result<(), RowFault> {
         let bytes = self.answer_of_host(alloc)?;
-        page.flag(bytes.as_slice() == self.kept.as_slice())?;
+        page.flag(bytes.as_slice() == self.kept.as_slice());
         Ok(())
     }
 
@@ -77,7 +77,7 @@ impl<S: Sealer + Copy> Machine<S> {
             "swap" => self.swap(words)?,
             _ => return Err(RowFault::NoRow),
         };
-        page.word(if done { "done" } else { "no" })?;
+        page.word(if done { "done" } else { "no" });
         Ok(())
     }
 }

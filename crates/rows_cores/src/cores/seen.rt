@@ -41,37 +41,43 @@ fn is_equal(one: &Reaction, other: &Reaction) -> bool {
 }
 
 /// Writes whether two formattings are alike, and how many of so many events.
-fn show(
-    alloc: Global,
-    formats_alike: bool,
-    alike: usize,
-    count: usize,
-    page: &mut Page,
-) -> Result<(), RowFault> {
+fn show(formats_alike: bool, alike: usize, count: usize, page: &mut Page) {
     page.word(if formats_alike {
         "format alike"
     } else {
         "format differs"
-    })?;
-    page.part()?;
-    page.number(alloc, alike as u64)?;
-    page.word("of")?;
-    page.number(alloc, count as u64)?;
-    page.word("events alike")?;
-    Ok(())
+    });
+    page.part();
+    page.number(alike);
+    page.word("of");
+    page.number(count);
+    page.word("events alike");
 }
 
 /// Writes whether the host sees two cores alike.
-pub fn show_alike(
-    alloc: Global,
-    one: &Seen,
-    other: &Seen,
-    page: &mut Page,
-) -> Result<(), RowFault> {
+pub fn show_alike(one: &Seen, other: &Seen, page: &mut Page) {
     let pairs = one.reactions.iter().zip(&other.reactions);
     let alike = pairs.filter(|(a, b)| looks_alike(a, b)).count();
     let count = one.reactions.len().max(other.reactions.len());
-    show(alloc, one.format == other.format, alike, count, page)
+    show(one.format == other.format, alike, count, page);
+}
+
+/// A run of these events as a whole, where there is memory for it: the messages of the formatting, and the reactions.
+fn run_of<S: Sealer>(
+    alloc: Global,
+    device: Device,
+    sealer: S,
+    events: &[Event],
+) -> Result<Seen, RowFault> {
+    let Run {
+        format,
+        reactions,
+        out_of_memory,
+    } = run(alloc, device, sealer, events);
+    if out_of_memory {
+        return Err(RowFault::OutOfMemory);
+    }
+    Ok(Seen { format, reactions })
 }
 
 /// Runs these events as a whole, and writes whether that is what was seen of them.
@@ -83,15 +89,9 @@ pub fn show_run<S: Sealer>(
     seen: &Seen,
     page: &mut Page,
 ) -> Result<(), RowFault> {
-    let Run {
-        format,
-        reactions,
-        out_of_memory,
-    } = run(alloc, device, sealer, events);
-    if out_of_memory {
-        return Err(RowFault::OutOfMemory);
-    }
+    let Seen { format, reactions } = run_of(alloc, device, sealer, events)?;
     let pairs = reactions.iter().zip(&seen.reactions);
     let alike = pairs.filter(|(a, b)| is_equal(a, b)).count();
-    show(alloc, format == seen.format, alike, reactions.len(), page)
+    show(format == seen.format, alike, reactions.len(), page);
+    Ok(())
 }

@@ -1,7 +1,8 @@
 //! Evictions of many stashes, beside the plainest eviction that there is.
 
-use super::{bare_block, stash_of};
+use super::{bare_block, evicted, stash_of};
 use oram_geometry::Device;
+use oram_stash::Stash;
 use rows::{Page, RowFault, Words};
 use std::alloc::{AllocError, Global};
 
@@ -71,22 +72,22 @@ fn eviction(
     leaf: u32,
     blocks: &[(u32, u32)],
 ) -> Result<(Vec<Vec<u32>>, usize), RowFault> {
-    prove!(device.trees() > 0 && device.depth(0) <= 24);
-    let mut whole = Vec::new(alloc);
-    for (address, own) in blocks {
-        whole.push(bare_block(alloc, *address, *own))?;
-    }
-    let mut stash = stash_of(alloc, whole)?;
-    let leaves = 1u32 << device.depth(0);
-    let listed = stash.list(alloc)?;
-    if !(leaf < leaves && listed.iter().all(|block| block.leaf < leaves)) {
-        return Err(RowFault::NoRow);
-    }
+    let mut stash = stash_with(alloc, blocks)?;
+    let (levels, _tight) = evicted(alloc, device, leaf, &mut stash)?;
     let mut lists = Vec::new(alloc);
-    for list in stash.evict(alloc, device, 0, leaf)?.iter().rev() {
+    for list in levels.iter().rev() {
         lists.push(list.iter().map(|block| block.address).collect(alloc)?)?;
     }
     Ok((lists, stash.len()))
+}
+
+/// A stash of blocks with these addresses and leaves.
+fn stash_with(alloc: Global, blocks: &[(u32, u32)]) -> Result<Stash, RowFault> {
+    let mut whole = Vec::new(alloc);
+    for (address, leaf) in blocks {
+        whole.push(bare_block(alloc, *address, *leaf))?;
+    }
+    stash_of(alloc, whole)
 }
 
 /// How many blocks are in none of these lists.
@@ -97,12 +98,18 @@ fn left_over(blocks: &[(u32, u32)], lists: &[Vec<u32>]) -> usize {
         .count()
 }
 
+/// A device whose buckets have so many slots.
+fn device_with(slots: u32) -> Result<Device, RowFault> {
+    let (count, slots) = (u64::from(LEAVES), u64::from(slots));
+    match Device::new(count, 16, slots, count, 1) {
+        Ok(device) => Ok(device),
+        Err(_) => Err(RowFault::NoRow),
+    }
+}
+
 /// Whether both evict the next stash alike.
 fn is_alike(alloc: Global, round: u32, state: &mut u64) -> Result<bool, RowFault> {
-    let slots = u64::from(1 + round % 4);
-    let Ok(device) = Device::new(u64::from(LEAVES), 16, slots, u64::from(LEAVES), 1) else {
-        return Err(RowFault::NoRow);
-    };
+    let device = device_with(1 + round % 4)?;
     let leaf = next(state) % LEAVES;
     let blocks = next_blocks(alloc, state)?;
     let (lists, stays) = eviction(alloc, &device, leaf, &blocks)?;
@@ -125,7 +132,7 @@ fn alike(alloc: Global, count: u32, seed: u64) -> Result<u32, RowFault> {
 /// turn, up to the first that isn't.
 pub fn evictions(alloc: Global, words: &mut Words, page: &mut Page) -> Result<(), RowFault> {
     let alike = alike(alloc, words.short()?, words.number()?)?;
-    page.number(alloc, u64::from(alike))?;
-    page.word("alike")?;
+    page.number(alike);
+    page.word("alike");
     Ok(())
 }

@@ -1,8 +1,10 @@
 //! Accesses to a tree by its parts, with a host.
-ghost use Rattle.std.specs.Prelude.{◌≡◌, ◌<◌, ◌^◌, true};
+ghost use Rattle.std.specs.Prelude.{◌≡◌, ◌<◌, ◌^◌, All, IfOk, OnOk, true};
 ghost use Rattle.oram_geometry.specs.Sizes.{trees_of, blocks_in, depth_of};
+ghost use Rattle.oram_bucket.specs.Bucket.{IsBlockOf};
 ghost use Rattle.oram_tree.specs.Edits.{IsEditOf};
 
+use super::tree_of;
 use oram_bucket::Sealer;
 use oram_geometry::Device;
 use oram_host::Server;
@@ -110,6 +112,21 @@ fn is_edit(device: &Device, tree: u8, edit: Edit<'_>) -> bool
     }
 }
 
+/// Whether a device has a tree that may be asked so. Else the row is not one.
+fn check_asked(device: &Device, tree: u8, asked: Asked, edit: Edit<'_>) -> Result<(), RowFault>
+    ensures tree { OnOk result (tree < trees_of device.now) }
+    ensures address { OnOk result (asked.address < blocks_in device.now tree) }
+    ensures old_leaf { OnOk result (asked.old_leaf < 2 ^ depth_of device.now tree) }
+    ensures new_leaf { OnOk result (asked.new_leaf < 2 ^ depth_of device.now tree) }
+    ensures edit { OnOk result (IsEditOf device.now tree edit.entry) }
+{
+    if tree < device.trees() && is_asked(device, tree, asked) && is_edit(device, tree, edit) {
+        Ok(())
+    } else {
+        Err(RowFault::NoRow)
+    }
+}
+
 /// What a fault of an access is to a row.
 fn row_fault(fault: TreeFault) -> RowFault {
     match fault {
@@ -118,100 +135,140 @@ fn row_fault(fault: TreeFault) -> RowFault {
     }
 }
 
-/// An access to the tree of these parts: its records are stored.
-pub fn access<S: Sealer>(
+/// What an access is made to: a tree of these parts, and its host.
+#[derive(Drop)]
+pub struct Target<'a> {
+    pub device: &'a Device,
+    pub number: u8,
+    pub parts: TreeParts,
+    pub host: &'a mut Server,
+}
+
+/// Accesses a tree whose path has these bytes: what it found, and the records, behind what they are to be put behind.
+fn reach<S: Sealer>(
     alloc: Global,
     device: &Device,
     sealer: &S,
-    number: u8,
-    parts: TreeParts,
-    host: &mut Server,
+    tree: &mut Tree,
+    bytes: &[u8],
     asked: Asked,
     edit: Edit<'_>,
-) -> Result<Reached, RowFault> {
+    front: Option<Vec<u8>>,
+) -> Result<(Lookup, Vec<u8>), RowFault>
+    requires number { tree.old.number < trees_of device.now }
+    requires address { asked.address < blocks_in device.now tree.old.number }
+    requires old_leaf { asked.old_leaf < 2 ^ depth_of device.now tree.old.number }
+    requires new_leaf { asked.new_leaf < 2 ^ depth_of device.now tree.old.number }
+    requires edit { IsEditOf device.now tree.old.number edit }
+    requires blocks { All (IsBlockOf device.now tree.old.number) tree.old.stash }
+{
     let Asked {
         address,
         old_leaf,
         new_leaf,
         nonce,
     } = asked;
-    if number >= device.trees()
-        || !is_asked(device, number, asked)
-        || !is_edit(device, number, edit)
-    {
-        return Err(RowFault::NoRow);
-    }
-    let bytes = fetched(alloc, host, number, old_leaf)?;
-    let Ok(mut tree) = Tree::from_parts(alloc, device, number, parts) else {
-        return Err(RowFault::NoRow);
-    };
-    let Ok(path) = tree.check(device, old_leaf, sealer.overhead(), &bytes) else {
-        return Err(RowFault::NoRow);
-    };
     let nonce = u64::from(nonce);
-    let made = tree.access(
-        alloc, device, sealer, &path, address, old_leaf, new_leaf, nonce, edit,
+    let Ok(path) = tree.check(device, old_leaf, sealer.overhead(), bytes) else {
+        return Err(RowFault::NoRow);
+    };
+    let Some(mut out) = front else {
+        let made = tree.access(
+            alloc, device, sealer, &path, address, old_leaf, new_leaf, nonce, edit,
+        );
+        return alone(made);
+    };
+    let made = tree.access_to(
+        alloc, device, sealer, &path, address, old_leaf, new_leaf, nonce, edit, &mut out,
     );
-    let Access {
-        before,
-        found,
-        records,
-    } = made.map_err(row_fault)?;
-    stored(alloc, host, number, old_leaf, &records)?;
+    behind(made, out)
+}
+
+/// What an access gave that put its records behind nothing.
+fn alone(made: Result<Access, TreeFault>) -> Result<(Lookup, Vec<u8>), RowFault> {
+    match made {
+        Ok(
+            Access {
+                before,
+                found,
+                records,
+            },
+        ) => Ok((Lookup { before, found }, records)),
+        Err(fault) => Err(row_fault(fault)),
+    }
+}
+
+/// What an access gave that put its records behind other bytes.
+fn behind(made: Result<Lookup, TreeFault>, out: Vec<u8>) -> Result<(Lookup, Vec<u8>), RowFault> {
+    match made {
+        Ok(lookup) => Ok((lookup, out)),
+        Err(fault) => Err(row_fault(fault)),
+    }
+}
+
+/// The tree of these parts.
+fn whole_tree(
+    alloc: Global,
+    device: &Device,
+    number: u8,
+    parts: TreeParts,
+) -> Result<Tree, RowFault>
+    requires { number < trees_of device.now }
+    ensures number { IfOk result (λ tree. tree.number ≡ number) }
+    ensures blocks { IfOk result (λ tree. All (IsBlockOf device.now number) tree.stash) }
+{
+    match tree_of(alloc, device, number, parts)? {
+        Some(tree) => Ok(tree),
+        None => Err(RowFault::NoRow),
+    }
+}
+
+/// Accesses the tree of these parts.
+fn carried_out<S: Sealer>(
+    alloc: Global,
+    device: &Device,
+    sealer: &S,
+    number: u8,
+    parts: TreeParts,
+    bytes: &[u8],
+    asked: Asked,
+    edit: Edit<'_>,
+    front: Option<Vec<u8>>,
+) -> Result<Reached, RowFault> {
+    check_asked(device, number, asked, edit)?;
+    let mut tree = whole_tree(alloc, device, number, parts)?;
+    let (lookup, records) = reach(alloc, device, sealer, &mut tree, bytes, asked, edit, front)?;
     Ok(Reached {
-        lookup: Lookup { before, found },
+        lookup,
         parts: tree.parts(alloc)?,
         records,
     })
 }
 
-/// The same, with the records put behind these bytes.
-pub fn access_behind<S: Sealer>(
+/// An access to a tree: its records are stored. They are put behind the bytes of `front`, where it has some.
+pub fn access<S: Sealer>(
     alloc: Global,
-    device: &Device,
     sealer: &S,
-    number: u8,
-    parts: TreeParts,
-    host: &mut Server,
+    target: Target<'_>,
     asked: Asked,
     edit: Edit<'_>,
-    front: Vec<u8>,
+    front: Option<Vec<u8>>,
 ) -> Result<Reached, RowFault> {
-    let Asked {
-        address,
-        old_leaf,
-        new_leaf,
-        nonce,
-    } = asked;
-    if number >= device.trees()
-        || !is_asked(device, number, asked)
-        || !is_edit(device, number, edit)
-    {
-        return Err(RowFault::NoRow);
-    }
-    let bytes = fetched(alloc, host, number, old_leaf)?;
-    let Ok(mut tree) = Tree::from_parts(alloc, device, number, parts) else {
-        return Err(RowFault::NoRow);
-    };
-    let Ok(path) = tree.check(device, old_leaf, sealer.overhead(), &bytes) else {
-        return Err(RowFault::NoRow);
-    };
-    let nonce = u64::from(nonce);
-    let (front_len, mut out) = (front.len(), front);
-    let made = tree.access_to(
-        alloc, device, sealer, &path, address, old_leaf, new_leaf, nonce, edit, &mut out,
-    );
-    let lookup = made.map_err(row_fault)?;
-    stored(
-        alloc,
-        host,
+    let Target {
+        device,
         number,
-        old_leaf,
-        out.get(front_len..).unwrap_or_default(),
+        parts,
+        host,
+    } = target;
+    let start = match &front {
+        Some(front) => front.len(),
+        None => 0,
+    };
+    let bytes = fetched(alloc, host, number, asked.old_leaf)?;
+    let reached = carried_out(
+        alloc, device, sealer, number, parts, &bytes, asked, edit, front,
     )?;
-    Ok(Reached {
-        lookup,
-        parts: tree.parts(alloc)?,
-        records: out,
-    })
+    let records = reached.records.get(start..).unwrap_or_default();
+    stored(alloc, host, number, asked.old_leaf, records)?;
+    Ok(reached)
 }

@@ -1,16 +1,17 @@
 //! Many accesses to a tree, beside a plain map.
 ghost use Rattle.std.specs.Prelude.{◌≢◌, ◌<◌};
 
-use super::accesses::{Asked, Reached, access};
+use super::accesses::{Asked, Reached, Target, access};
 use super::{host_of, row_fault};
 use crate::stashes::next;
 use oram_bucket::{ChaChaSeal, PlainSeal, Sealer};
 use oram_geometry::Device;
 use oram_host::Server;
-use oram_tree::{Edit, Tree, TreeParts};
+use oram_tree::{Edit, Lookup, Tree, TreeParts};
 use oram_wire::ListSink;
 use rows::{Page, RowFault, Words};
 use std::alloc::Global;
+use std::mem::replace;
 
 /// Blocks of the map, each of this many bytes.
 const BLOCKS: usize = 8;
@@ -36,14 +37,21 @@ struct Pair {
 fn formatted<S: Sealer>(alloc: Global, device: &Device, sealer: &S) -> Result<Pair, RowFault> {
     prove!(device.trees() > 0 && device.depth(0) <= 24);
     let mut sink = ListSink::new(alloc);
-    let tree = Tree::format(alloc, device, 0, sealer, 7, &mut sink).map_err(row_fault)?;
+    match Tree::format(alloc, device, 0, sealer, 7, &mut sink) {
+        Ok(tree) => pair_of(alloc, tree.parts(alloc)?, sink.bodies()),
+        Err(fault) => Err(row_fault(fault)),
+    }
+}
+
+/// A tree of these parts with the host that took these messages, and a map without blocks.
+fn pair_of(alloc: Global, parts: TreeParts, messages: &[Vec<u8>]) -> Result<Pair, RowFault> {
     let absent = Held {
         leaf: None,
         fill: 0,
     };
     Ok(Pair {
-        parts: tree.parts(alloc)?,
-        host: host_of(alloc, sink.bodies())?,
+        parts,
+        host: host_of(alloc, messages)?,
         plain: [absent; BLOCKS],
     })
 }
@@ -63,40 +71,63 @@ fn choose(leaves: u32, plain: &[Held; BLOCKS], state: &mut u64) -> (Asked, u8)
     (asked, (next(state) % 256) as u8)
 }
 
-/// The next access, and the same to the map: the tree and the map afterwards, and whether both had the same data. An even
-/// byte stands for no change, and an odd one fills the block.
-fn step<S: Sealer>(
-    alloc: Global,
-    device: &Device,
-    sealer: &S,
-    pair: Pair,
-    state: &mut u64,
-) -> Result<(Pair, bool), RowFault> {
-    prove!(device.trees() > 0 && device.depth(0) <= 24);
-    let Pair {
-        parts,
-        mut host,
-        mut plain,
-    } = pair;
-    let (asked, byte) = choose(1u32 << device.depth(0), &plain, state);
-    let place = asked.address as usize;
-    let Held { leaf, fill } = plain[place];
-    let content = [byte; BLOCK_BYTES];
-    let (edit, after) = if byte % 2 == 0 {
+/// The edit that a byte stands for, and the byte that fills the block afterwards: an even byte stands for no change, and an odd one fills
+/// the block.
+fn edit_of(byte: u8, content: &[u8], fill: u8) -> (Edit<'_>, u8) {
+    if byte % 2 == 0 {
         (Edit::Keep, fill)
     } else {
-        (Edit::Replace(&content), byte)
-    };
-    let Reached { lookup, parts, .. } = access(
-        alloc, device, sealer, 0, parts, &mut host, asked, edit,
-    )?;
-    plain[place] = Held {
-        leaf: Some(asked.new_leaf),
-        fill: after,
-    };
-    let same = lookup.before.as_slice() == [fill; BLOCK_BYTES].as_slice();
-    let is_alike = same && lookup.found == leaf.is_some();
-    Ok((Pair { parts, host, plain }, is_alike))
+        (Edit::Replace(content), byte)
+    }
+}
+
+impl Pair {
+    /// Makes an access to the tree, and tells what it found.
+    fn access<S: Sealer>(
+        &mut self,
+        alloc: Global,
+        device: &Device,
+        sealer: &S,
+        asked: Asked,
+        edit: Edit<'_>,
+    ) -> Result<Lookup, RowFault> {
+        let none = TreeParts {
+            root: [0; 32],
+            stash: Vec::new(alloc),
+        };
+        let target = Target {
+            device,
+            number: 0,
+            parts: replace(&mut self.parts, none),
+            host: &mut self.host,
+        };
+        let Reached { lookup, parts, .. } = access(alloc, sealer, target, asked, edit, None)?;
+        self.parts = parts;
+        Ok(lookup)
+    }
+
+    /// Makes the next access, and the same to the map. Tells whether both had the same data.
+    fn step<S: Sealer>(
+        &mut self,
+        alloc: Global,
+        device: &Device,
+        sealer: &S,
+        state: &mut u64,
+    ) -> Result<bool, RowFault> {
+        prove!(device.trees() > 0 && device.depth(0) <= 24);
+        let (asked, byte) = choose(1u32 << device.depth(0), &self.plain, state);
+        let place = asked.address as usize;
+        let Held { leaf, fill } = self.plain[place];
+        let content = [byte; BLOCK_BYTES];
+        let (edit, after) = edit_of(byte, &content, fill);
+        let lookup = self.access(alloc, device, sealer, asked, edit)?;
+        self.plain[place] = Held {
+            leaf: Some(asked.new_leaf),
+            fill: after,
+        };
+        let is_same = lookup.before.as_slice() == [fill; BLOCK_BYTES].as_slice();
+        Ok(is_same && lookup.found == leaf.is_some())
+    }
 }
 
 /// How many of so many accesses are as the plain map's, up to the first that isn't.
@@ -110,11 +141,9 @@ fn alike<S: Sealer>(
     let mut pair = formatted(alloc, device, sealer)?;
     let mut state = seed;
     for number in 0..count {
-        let (next, is_alike) = step(alloc, device, sealer, pair, &mut state)?;
-        if !is_alike {
+        if !pair.step(alloc, device, sealer, &mut state)? {
             return Ok(number);
         }
-        pair = next;
     }
     Ok(count)
 }
@@ -136,7 +165,7 @@ pub fn accesses(
         }
         _ => return Err(RowFault::NoRow),
     };
-    page.number(alloc, u64::from(alike))?;
-    page.word("alike")?;
+    page.number(alike);
+    page.word("alike");
     Ok(())
 }
