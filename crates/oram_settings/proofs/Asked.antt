@@ -1,5 +1,5 @@
 -- From clap's answer to what its matches ask for.
-use Rattle.std.proofs.Common.{◌≡◌, ◌∙◌, sym, ap, ap₂, refl, Bool, List, [], ◌∷◌, Option, Some, None, true, inl, inr, option_map, codes}
+use Rattle.std.proofs.Common.{◌≡◌, ◌∙◌, sym, ap, ap₂, refl, subst, Bool, List, [], ◌∷◌, Option, Some, None, true, inl, inr, option_map, codes}
 use Rattle.std.specs.Prelude.{◌≢◌, Box, option_and_then}
 use Rattle.std.specs.Box.{box_value}
 use Rattle.std.proofs.lemmas.Option.{same_Some}
@@ -8,14 +8,17 @@ use Rattle.clap.specs.Walk.{Row, Text, first_of}
 use Rattle.clap.specs.Matches.{subcommand_name_of}
 use Rattle.clap.specs.Simple.{App, HasMatchesOf, built, is_simple, subcommand_of, subcommand_rows, subcommand_rows_of}
 use Rattle.clap.specs.declared.parser.matches.ArgMatches.{ArgMatches}
-use Rattle.clap.specs.Kinds.{Kinds, HasKind}
+use Rattle.clap.specs.Kinds.{Kinds, HasKind, IsAmong}
 use Rattle.clap.specs.Faults.{fault_of, is_free_app, is_simple_and_free}
 use Rattle.clap.specs.Values.{kind_of}
 use Rattle.clap.specs.declared.parser.matches.SubCommand.{SubCommand}
 use Rattle.clap.specs.declared.parser.matches.ArgMatches.TheViews.{out-SubCommand}
 use Rattle.clap.specs.declared.error.Error.{Error}
+use Rattle.clap.specs.declared.error.kind.ErrorKind.{ErrorKind}
 use Rattle.clap.specs.declared.error.kind.ErrorKind.TheVariants.{OutOfMemory}
-use Rattle.oram_settings.specs.CommandLine.{Request, is_given, program, request_by, request_in, request_of, unless_faulty}
+use Rattle.oram_settings.specs.declared.command_line.NoRequest.{NoRequest}
+use Rattle.oram_settings.specs.declared.command_line.NoRequest.TheVariants as why
+use Rattle.oram_settings.specs.CommandLine.{IsToldAs, IsToldOf, Request, is_given, program, request_by, request_in, request_of, unless_faulty}
 use Rattle.oram_settings.proofs.Program.{is_free}
 
 -- a subcommand of this name, with these rows
@@ -32,14 +35,47 @@ refused [] e asked (inl memory) other = absurd (other memory)
 refused [] e asked (inr h) other = absurd h
 refused (kind ∷ kinds) e asked h other = refl
 
+-- what is told of an error is no want of memory unless the error is one
+not_memory : (k : ErrorKind) (told : NoRequest) → IsToldOf k told → told ≢ why.OutOfMemory → k ≢ OutOfMemory
+not_memory k (why.Help text) (inl h) other m = cc
+not_memory k (why.Help text) (inr h) other m = cc
+not_memory k (why.Mistake text) h other m = h.2 m
+not_memory k why.OutOfMemory h other m = other refl
+
+only : (k j : ErrorKind) → IsAmong k (j ∷ []) → k ≡ j
+only k j (inl h) = h
+only k j (inr h) = absurd h
+
+-- an error of one of these kinds is told as such
+told_as : (kinds : Kinds) (e : Error) (told : NoRequest) → HasKind kinds e → IsToldOf (kind_of e) told → IsToldAs kinds told
+told_as kinds e (why.Help text) (inl memory) (inl h) = absurd cc
+told_as kinds e (why.Help text) (inl memory) (inr h) = absurd cc
+told_as kinds e (why.Help text) (inr among) (inl h) = inl (subst (λ k. IsAmong k kinds) h among)
+told_as kinds e (why.Help text) (inr among) (inr h) = inr (subst (λ k. IsAmong k kinds) h among)
+told_as kinds e (why.Mistake text) (inl memory) h = absurd (h.2 memory)
+told_as kinds e (why.Mistake text) (inr among) h = (
+  λ one. h.0 (only _ _ (subst (λ ks. IsAmong (kind_of e) ks) one among)),
+  λ one. h.1 (only _ _ (subst (λ ks. IsAmong (kind_of e) ks) one among)),
+)
+told_as kinds e why.OutOfMemory known h = tt
+
 module _ (a : App) (same : a ≡ program) (words : List Text) where
   free : is_simple_and_free a ≡ true
   free = ap is_simple_and_free same ∙ is_free
 
-  pub asked_refused : (e : Error) → (is_simple_and_free a ≡ true → HasKind (fault_of a words) e) → kind_of e ≢ OutOfMemory → request_in words ≡ None
-  asked_refused e kinds other =
+  pub asked_refused : (e : Error) → (is_simple_and_free a ≡ true → HasKind (fault_of a words) e) → (told : NoRequest) → IsToldOf (kind_of e) told → told ≢ why.OutOfMemory
+      → request_in words ≡ None
+  asked_refused e kinds told is other =
       sym (ap (λ (b : App). unless_faulty (fault_of b words) (option_and_then request_by (subcommand_of b words))) same)
-      ∙ refused (fault_of a words) e _ (kinds free) other
+      ∙ refused (fault_of a words) e _ (kinds free) (not_memory (kind_of e) told is other)
+
+  -- and it is told by clap's own account of the fault
+  pub told_refused : (e : Error) → (is_simple_and_free a ≡ true → HasKind (fault_of a words) e) → (told : NoRequest) → IsToldOf (kind_of e) told → IsToldAs (fault_of program words) told
+  told_refused e kinds told is = subst (λ (b : App). IsToldAs (fault_of b words) told) same (told_as (fault_of a words) e told (kinds free) is)
+
+  -- where clap finds no fault
+  pub told_sound : (is_simple_and_free a ≡ true → fault_of a words ≡ []) → (told : NoRequest) → IsToldAs [] told → IsToldAs (fault_of program words) told
+  told_sound sound told is = subst (λ (b : App). IsToldAs (fault_of b words) told) same (subst (λ (kinds : Kinds). IsToldAs kinds told) (sym (sound free)) is)
 
   module _ (m : ArgMatches) (sound : is_simple_and_free a ≡ true → fault_of a words ≡ []) (matches : HasMatchesOf a words m) where
     simple : is_simple a ≡ true

@@ -1,13 +1,16 @@
 -- The command line of oramdisk, by clap's own account of it.
-use Rattle.std.specs.Prelude.{ℕ, Bool, List, [], ◌∷◌, map, true, false, Option, Some, None, codes, if◌then◌else◌, option_and_then, string_bytes}
+use Rattle.std.specs.Prelude.{◌≡◌, ◌≢◌, ◌⊎◌, ⊤, ℕ, Bool, List, [], ◌∷◌, map, true, false, Option, Some, None, codes, if◌then◌else◌, option_and_then, string_bytes}
 use Rattle.std.specs.Str.{bytes_eq}
-use Rattle.clap.specs.Walk.{Row, Text, first_of}
+use Rattle.clap.specs.Walk.{Row, Rule, Text, first_of}
 use Rattle.clap.specs.Simple.{App, Shape, new_rule, new_shape, on_top, subcommand_of}
 use Rattle.clap.specs.Words.{new_app}
-use Rattle.clap.specs.Kinds.{Kinds}
+use Rattle.clap.specs.Kinds.{IsAmong, Kinds}
 use Rattle.clap.specs.Faults.{fault_of}
 use Rattle.clap.specs.declared.builder.action.ArgAction.TheVariants.{SetTrue}
-use Rattle.oram_edge.specs.Words.{word_taker}
+use Rattle.clap.specs.declared.error.kind.ErrorKind.{ErrorKind}
+use Rattle.clap.specs.declared.error.kind.ErrorKind.TheVariants as kind
+use Rattle.oram_settings.specs.declared.command_line.NoRequest.{NoRequest}
+use Rattle.oram_settings.specs.declared.command_line.NoRequest.TheVariants.{Help, Mistake, OutOfMemory}
 use Rattle.oram_settings.specs.declared.command_line.Words.{Words}
 use Rattle.oram_settings.specs.declared.command_line.Words.TheVariants.{Format, Host, New, Retry, Serve, Status}
 
@@ -29,27 +32,35 @@ shown (Serve name) = serve (string_bytes name)
 shown (Status name) = status (string_bytes name)
 shown (Retry name) = retry (string_bytes name)
 
--- the subcommand that takes a word, and a flag
-abbrev pub host_runner : Shape
-host_runner = record (new_shape (codes "host")) {
-  rules = record (new_rule (codes "word")) { required = true } ∷ record (new_rule (codes "new")) { long = Some (codes "new"); action = Some SetTrue } ∷ [];
-}
+-- the word that each subcommand takes, which help shows by a name
+abbrev pub word_rule : Rule
+word_rule = record (new_rule (codes "word")) { value_names = 1; required = true }
 
 -- the subcommand that takes a word, and a size by its name
 abbrev pub folder_maker : Shape
 folder_maker = record (new_shape (codes "new")) {
-  rules = record (new_rule (codes "word")) { required = true } ∷ record (new_rule (codes "size")) { long = Some (codes "size"); required = true } ∷ [];
+  rules = word_rule ∷ record (new_rule (codes "size")) { long = Some (codes "size"); value_names = 1; required = true } ∷ [];
 }
+
+-- the subcommand that takes a word, and a flag
+abbrev pub host_runner : Shape
+host_runner = record (new_shape (codes "host")) {
+  rules = word_rule ∷ record (new_rule (codes "new")) { long = Some (codes "new"); action = Some SetTrue } ∷ [];
+}
+
+-- a subcommand that takes a word
+abbrev pub disk_command : Text → Shape
+disk_command name = record (new_shape name) { rules = word_rule ∷ [] }
 
 -- the command without its subcommands
 abbrev pub bare : App
-bare = on_top (λ s. record s { subcommand_required = true }) (new_app (codes "oramdisk"))
+bare = on_top (λ s. record s { has_version = true; subcommand_required = true }) (new_app (codes "oramdisk"))
 
--- the command line as clap is told of it: one of six subcommands, with its word
+-- the command line as clap is told of it: one of six subcommands, with its word, or a request for help or the version
 abbrev pub program : App
 program = record {
-  top = record (new_shape (codes "oramdisk")) { is_leaf = false; subcommand_required = true };
-  subs = host_runner ∷ folder_maker ∷ map word_taker (codes "format" ∷ codes "serve" ∷ codes "status" ∷ codes "retry" ∷ []);
+  top = record (new_shape (codes "oramdisk")) { is_leaf = false; has_version = true; subcommand_required = true };
+  subs = folder_maker ∷ host_runner ∷ map disk_command (codes "format" ∷ codes "serve" ∷ codes "status" ∷ codes "retry" ∷ []);
 }
 
 -- clap has this text of a flag that is given, and another one where it isn't
@@ -80,3 +91,16 @@ unless_faulty (fault ∷ more) asked = None
 -- what clap's matches of the words ask for
 abbrev pub request_in : List Text → Option Request
 request_in words = unless_faulty (fault_of program words) (option_and_then request_by (subcommand_of program words))
+
+-- an error of this kind is help, or a mistake
+abbrev pub IsToldOf : ErrorKind → NoRequest → Type 0
+IsToldOf k (Help text) = (k ≡ kind.DisplayHelp) ⊎ (k ≡ kind.DisplayVersion)
+IsToldOf k (Mistake text) = (k ≢ kind.DisplayHelp) × (k ≢ kind.DisplayVersion) × (k ≢ kind.OutOfMemory)
+IsToldOf k OutOfMemory = ⊤
+
+-- Of words in which clap finds a fault of one of these kinds it is told so. Help is asked for where its kind is among them, and no mistake is made
+-- where it is the only one.
+abbrev pub IsToldAs : Kinds → NoRequest → Type 0
+IsToldAs kinds (Help text) = IsAmong kind.DisplayHelp kinds ⊎ IsAmong kind.DisplayVersion kinds
+IsToldAs kinds (Mistake text) = (kinds ≢ kind.DisplayHelp ∷ []) × (kinds ≢ kind.DisplayVersion ∷ [])
+IsToldAs kinds OutOfMemory = ⊤

@@ -4,3 +4,6 @@ pub mod Progress
 pub mod CommandLine
 pub mod Sizes
 pub mod Differences
+pub mod Amounts
+pub mod Footprint
+pub mod Announcements

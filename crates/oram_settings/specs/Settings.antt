@@ -1,5 +1,5 @@
 -- What a disk's settings file says, and when a text says it.
-use Rattle.std.specs.Prelude.{◌≡◌, ◌∷◌, ◌*◌, ◌^◌, ℕ, Bool, List, [], codes, decimal, string_bytes, Some, Ok}
+use Rattle.std.specs.Prelude.{◌≡◌, ◌∷◌, ◌++◌, ◌⊎◌, ◌*◌, ◌^◌, ℕ, Bool, List, [], codes, decimal, string_bytes, Some, Ok}
 use Rattle.std.specs.List.{concat}
 use Rattle.hex.specs.Hex.{encode_lower}
 use Rattle.toml.specs.Data.{Members, boolean, get_member}
@@ -50,6 +50,14 @@ sealing_name ChaCha = codes "chacha"
 abbrev pub HasSealing : Members → List ℕ → Sealing → Type 0
 HasSealing table key sealing = HasText table key (sealing_name sealing)
 
+-- a Unix socket, which is a file
+abbrev pub IsSocket : List ℕ → Type 0
+IsSocket text = (path : List ℕ) × IsName path × (text ≡ codes "unix:" ++ path)
+
+-- where clients of NBD connect
+pub record IsPlace (text : List ℕ) : Type 0 where
+  pub is_either : IsAddress text ⊎ IsSocket text
+
 -- the table is that of these settings
 pub record IsDisk (table : Members) (s : DiskValue) : Type 0 where
   pub only : HasOnly (codes "size" ∷ codes "block" ∷ codes "slots" ∷ codes "table" ∷ codes "sealer" ∷ codes "key" ∷ codes "host" ∷ codes "listen" ∷ codes "state" ∷ codes "sync" ∷ codes "patience" ∷ []) table
@@ -60,7 +68,7 @@ pub record IsDisk (table : Members) (s : DiskValue) : Type 0 where
   pub sealer : HasSealing table (codes "sealer") s.sealer
   pub key : HasHex table (codes "key") s.key
   pub host : HasText table (codes "host") s.host × IsAddress s.host
-  pub listen : HasText table (codes "listen") s.listen × IsAddress s.listen
+  pub listen : HasText table (codes "listen") s.listen × IsPlace s.listen
   pub state : HasText table (codes "state") s.state × IsName s.state
   pub sync : HasFlag table (codes "sync") s.sync
   pub patience : HasNumber table (codes "patience") s.patience × IsCount s.patience

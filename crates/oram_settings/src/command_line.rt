@@ -1,15 +1,16 @@
 //! The command line of `oramdisk`.
 
-ghost use Rattle.std.specs.Prelude.{◌≡◌, ◌≢◌, None, Some, false, IfOk, IsErrOf, option_map};
+ghost use Rattle.std.specs.Prelude.{◌≡◌, ◌≢◌, [], None, Some, false, IfErr, IfOk, option_map};
+ghost use Rattle.clap.specs.Faults.{fault_of};
 ghost use Rattle.clap.specs.Walk.{texts};
-ghost use Rattle.clap.specs.Words.{app_of, kind_of, shape_of};
+ghost use Rattle.clap.specs.Words.{app_of, kind_of, rule_of, shape_of};
 ghost use Rattle.clap.specs.declared.builder.command.Command.TheViews.{out-Command as fields_of};
 ghost use Rattle.oram_settings.specs.CommandLine as spec;
-ghost use Rattle.oram_settings.specs.CommandLine.{bare, program, request_in, request_of, shown};
+ghost use Rattle.oram_settings.specs.CommandLine.{IsToldAs, IsToldOf, bare, program, request_in, request_of, shown};
 
+use crate::help;
 use clap::error::ErrorKind;
 use clap::{Arg, ArgAction, Command, Error};
-use oram_edge::{InputFault, word_taker};
 use std::alloc::{AllocError, Global};
 
 /// What the words of a command line ask for.
@@ -29,15 +30,35 @@ pub enum Words {
     Retry(String),
 }
 
-/// The subcommand that runs a host.
-fn host_runner<'a>(alloc: Global) -> Result<Command<'a>, AllocError>
-    ensures local { IfOk result (λ c. (fields_of c).has_globals ≡ false) }
-    ensures shape { IfOk result (λ c. shape_of c ≡ spec.host_runner) }
+/// Why the words of a command line ask for nothing.
+#[derive(Debug, PartialEq, Eq, Drop)]
+pub enum NoRequest {
+    /// They ask for help or for the version, which this text is.
+    Help(String),
+    /// They are wrong. The text says what is wrong, and how the program is used; nothing stands before that, and no end of a line behind it.
+    Mistake(String),
+    OutOfMemory,
+}
+
+impl From<AllocError> for NoRequest {
+    ghost use Rattle.oram_settings.specs.declared.command_line.NoRequest.TheVariants.{OutOfMemory};
+
+    ghost from_gives = { λ _ why. why ≡ OutOfMemory };
+
+    fn from(_error: AllocError) -> NoRequest {
+        NoRequest::OutOfMemory
+    }
+}
+
+/// The word that a subcommand takes, with its name and what it is, as help shows them.
+fn word<'a>(alloc: Global, name: &'a str, help: &'a str) -> Arg<'a>
+    ensures rule { rule_of result ≡ spec.word_rule }
+    ensures local { result.global ≡ false }
 {
-    let new = Arg::new(alloc, "new")
-        .long("new")
-        .action(ArgAction::SetTrue);
-    word_taker(alloc, "host")?.arg(new)
+    Arg::new(alloc, "word")
+        .value_name(name)
+        .help(help)
+        .required(true)
 }
 
 /// The subcommand that makes a folder.
@@ -45,15 +66,59 @@ fn folder_maker<'a>(alloc: Global) -> Result<Command<'a>, AllocError>
     ensures local { IfOk result (λ c. (fields_of c).has_globals ≡ false) }
     ensures shape { IfOk result (λ c. shape_of c ≡ spec.folder_maker) }
 {
-    let size = Arg::new(alloc, "size").long("size").required(true);
-    word_taker(alloc, "new")?.arg(size)
+    let size = Arg::new(alloc, "size")
+        .long("size")
+        .value_name("SIZE")
+        .help(help::SIZE)
+        .required(true);
+    Command::new(alloc, "new")
+        .about(help::NEW)
+        .after_help(help::NEW_MORE)
+        .arg(word(alloc, "FOLDER", help::FOLDER))?
+        .arg(size)
+}
+
+/// The subcommand that runs a host.
+fn host_runner<'a>(alloc: Global) -> Result<Command<'a>, AllocError>
+    ensures local { IfOk result (λ c. (fields_of c).has_globals ≡ false) }
+    ensures shape { IfOk result (λ c. shape_of c ≡ spec.host_runner) }
+{
+    let new = Arg::new(alloc, "new")
+        .long("new")
+        .help(help::NEW_FILE)
+        .action(ArgAction::SetTrue);
+    Command::new(alloc, "host")
+        .about(help::HOST)
+        .after_help(help::HOST_MORE)
+        .arg(word(alloc, "SETTINGS", help::HOST_SETTINGS))?
+        .arg(new)
+}
+
+/// A subcommand that takes the name of a disk's settings file.
+fn disk_command<'a>(
+    alloc: Global,
+    name: &'a str,
+    about: &'a str,
+    more: &'a str,
+) -> Result<Command<'a>, AllocError>
+    ensures local { IfOk result (λ c. (fields_of c).has_globals ≡ false) }
+    ensures shape { IfOk result (λ c. shape_of c ≡ spec.disk_command name.entry.now) }
+{
+    Command::new(alloc, name)
+        .about(about)
+        .after_help(more)
+        .arg(word(alloc, "SETTINGS", help::DISK_SETTINGS))
 }
 
 /// The command without its subcommands.
 fn bare_command<'a>(alloc: Global) -> Command<'a>
     ensures { app_of result ≡ bare }
 {
-    Command::new(alloc, "oramdisk").subcommand_required(true)
+    Command::new(alloc, "oramdisk")
+        .version(help::VERSION)
+        .about(help::PROGRAM)
+        .after_help(help::PROGRAM_MORE)
+        .subcommand_required(true)
 }
 
 /// The command line as clap is told of it.
@@ -61,12 +126,12 @@ fn command<'a>(alloc: Global) -> Result<Command<'a>, AllocError>
     ensures { IfOk result (λ c. app_of c ≡ program) }
 {
     bare_command(alloc)
-        .subcommand(host_runner(alloc)?)?
         .subcommand(folder_maker(alloc)?)?
-        .subcommand(word_taker(alloc, "format")?)?
-        .subcommand(word_taker(alloc, "serve")?)?
-        .subcommand(word_taker(alloc, "status")?)?
-        .subcommand(word_taker(alloc, "retry")?)
+        .subcommand(host_runner(alloc)?)?
+        .subcommand(disk_command(alloc, "format", help::FORMAT, help::FORMAT_MORE)?)?
+        .subcommand(disk_command(alloc, "serve", help::SERVE, help::SERVE_MORE)?)?
+        .subcommand(disk_command(alloc, "status", help::STATUS, help::STATUS_MORE)?)?
+        .subcommand(disk_command(alloc, "retry", help::RETRY, help::RETRY_MORE)?)
 }
 
 /// Whether a flag was given, by what clap has of it.
@@ -79,68 +144,94 @@ fn is_given(flag: Option<&str>) -> bool
     }
 }
 
-/// What a subcommand asks for, with its word, whether it is said to be new, and perhaps a size.
+/// What a subcommand asks for, with its word, whether it is said to be new, and perhaps a size. None where there is no such subcommand.
 fn asked(
     alloc: Global,
     name: &str,
     word: &str,
     is_new: bool,
     size: Option<&str>,
-) -> Result<Words, InputFault>
-    ensures ok { IfOk result (λ w. request_of name.now word.now is_new (option_map (λ s. s.now) size.entry) ≡ Some (shown w)) }
-    ensures bad { IsErrOf result InputFault.Bad → request_of name.now word.now is_new (option_map (λ s. s.now) size.entry) ≡ None }
+) -> Result<Option<Words>, AllocError>
+    ensures { IfOk result (λ w. request_of name.now word.now is_new (option_map (λ s. s.now) size.entry) ≡ option_map shown w) }
 {
     let word = String::from_str(alloc, word)?;
     match size {
         None => match name {
-            "host" => Ok(Words::Host {
+            "host" => Ok(Some(Words::Host {
                 settings: word,
                 is_new,
-            }),
-            "format" => Ok(Words::Format(word)),
-            "serve" => Ok(Words::Serve(word)),
-            "status" => Ok(Words::Status(word)),
-            "retry" => Ok(Words::Retry(word)),
-            _ => Err(InputFault::Bad),
+            })),
+            "format" => Ok(Some(Words::Format(word))),
+            "serve" => Ok(Some(Words::Serve(word))),
+            "status" => Ok(Some(Words::Status(word))),
+            "retry" => Ok(Some(Words::Retry(word))),
+            _ => Ok(None),
         },
         Some(size) => match name {
-            "new" => Ok(Words::New {
+            "new" => Ok(Some(Words::New {
                 folder: word,
                 size: String::from_str(alloc, size)?,
-            }),
-            _ => Err(InputFault::Bad),
+            })),
+            _ => Ok(None),
         },
     }
 }
 
-/// What an error of clap's is to the program.
-fn input_fault(error: &Error) -> InputFault
-    ensures { result ≡ InputFault.Bad → kind_of error.now ≢ ErrorKind.OutOfMemory }
+/// What a text of clap's says, which begins with a word of its own and ends with a line.
+fn message(alloc: Global, text: &str) -> Result<String, AllocError> {
+    String::from_str(
+        alloc,
+        text.strip_prefix("error: ").unwrap_or(text).trim_end(),
+    )
+}
+
+/// What an error of clap's is to the program: an answer to a request for help, or a mistake.
+fn told(alloc: Global, error: &Error) -> Result<NoRequest, AllocError>
+    ensures { IfOk result (λ why. IsToldOf (kind_of error.now) why) }
 {
     if error.kind() == ErrorKind::OutOfMemory {
-        InputFault::OutOfMemory
+        return Ok(NoRequest::OutOfMemory);
+    }
+    let text = format!(in alloc; "{error}")?;
+    if error.use_stderr() {
+        Ok(NoRequest::Mistake(message(alloc, text.as_str())?))
     } else {
-        InputFault::Bad
+        Ok(NoRequest::Help(text))
     }
 }
 
-/// Reads the words of a command line, of which the first is the program's name. Help isn't among what can be asked for.
-pub fn read_words(alloc: Global, words: &[&str]) -> Result<Words, InputFault>
+/// The mistake of words that clap takes, and that ask for nothing all the same.
+fn nothing_asked(alloc: Global) -> NoRequest
+    ensures { IsToldAs [] result }
+{
+    match String::from_str(alloc, help::NOTHING_ASKED) {
+        Ok(text) => NoRequest::Mistake(text),
+        Err(_) => NoRequest::OutOfMemory,
+    }
+}
+
+/// Reads the words of a command line, of which the first is the program's name.
+pub fn read_words(alloc: Global, words: &[&str]) -> Result<Words, NoRequest>
     // It is what clap's matches of the words ask for.
     ensures ok { IfOk result (λ w. request_in (texts words.now) ≡ Some (shown w)) }
-    // Bad comes only where they ask for nothing.
-    ensures bad { IsErrOf result InputFault.Bad → request_in (texts words.now) ≡ None }
+    // Help and mistakes come only where they ask for nothing.
+    ensures none { IfErr result (λ why. why ≢ NoRequest.OutOfMemory → request_in (texts words.now) ≡ None) }
+    // Help comes only where they ask for help or the version, and a mistake only where they ask for neither alone.
+    ensures told { IfErr result (IsToldAs (fault_of program (texts words.now))) }
 {
     let matches = match command(alloc)?.try_get_matches_from(words) {
         Ok(matches) => matches,
-        Err(error) => return Err(input_fault(&error)),
+        Err(error) => return Err(told(alloc, &error)?),
     };
     let Some((name, inner)) = matches.subcommand() else {
-        return Err(InputFault::Bad);
+        return Err(nothing_asked(alloc));
     };
     let Some(word) = inner.get_str("word") else {
-        return Err(InputFault::Bad);
+        return Err(nothing_asked(alloc));
     };
     let is_new = is_given(inner.get_str("new"));
-    asked(alloc, name, word, is_new, inner.get_str("size"))
+    match asked(alloc, name, word, is_new, inner.get_str("size"))? {
+        Some(words) => Ok(words),
+        None => Err(nothing_asked(alloc)),
+    }
 }

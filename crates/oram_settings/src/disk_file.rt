@@ -1,10 +1,10 @@
 //! The settings file of a disk.
 
-ghost use Rattle.std.specs.Prelude.{◌≡◌, None, option_and_then, IfOk, IfSome, IsErrOf, string_bytes};
+ghost use Rattle.std.specs.Prelude.{◌≡◌, ◌↔◌, IsTrue, None, option_and_then, IfOk, IfSome, IsErrOf, string_bytes};
 ghost use Rattle.toml.specs.Data.{as_bool, get_member};
 ghost use Rattle.toml.specs.View.{table_view};
-ghost use Rattle.oram_edge.specs.Tables.{Finds};
-ghost use Rattle.oram_settings.specs.Settings.{HasFlag, HasSealing, IsDeviceOf, IsDisk, IsDocumentOf, first_text, shown};
+ghost use Rattle.oram_edge.specs.Tables.{Finds, HasText};
+ghost use Rattle.oram_settings.specs.Settings.{HasFlag, HasSealing, IsDeviceOf, IsDisk, IsDocumentOf, IsPlace, IsSocket, first_text, shown};
 
 use hex::encode;
 use oram_edge::{InputFault, address_at, count_at, has_only, key_at, name_at, number_at, table_of};
@@ -48,7 +48,7 @@ pub struct DiskSettings {
     pub key: [u8; 32],
     /// Where the host is reached.
     pub host: String,
-    /// Where the disk is served.
+    /// Where the disk is served: an address, or `unix:` and the name of a socket, as seen from the folder of the settings.
     pub listen: String,
     /// The file that the client's state is kept in.
     pub state: String,
@@ -75,7 +75,7 @@ fn flag_in(table: &Table, key: &str) -> Option<bool>
     }
 }
 
-fn flag_at(table: &Table, key: &str) -> Result<bool, InputFault>
+pub(crate) fn flag_at(table: &Table, key: &str) -> Result<bool, InputFault>
     ensures { Finds (λ b. b) (HasFlag (table_view table.now) key.now) result }
 {
     match flag_in(table, key) {
@@ -84,13 +84,34 @@ fn flag_at(table: &Table, key: &str) -> Result<bool, InputFault>
     }
 }
 
-fn sealing_at(table: &Table, key: &str) -> Result<Sealing, InputFault>
+pub(crate) fn sealing_at(table: &Table, key: &str) -> Result<Sealing, InputFault>
     ensures { Finds (λ s. s) (HasSealing (table_view table.now) key.now) result }
 {
     match name_at(table, key)? {
         "plain" => Ok(Sealing::Plain),
         "chacha" => Ok(Sealing::ChaCha),
         _ => Err(InputFault::Bad),
+    }
+}
+
+fn is_socket(text: &str) -> bool
+    ensures { IsTrue result ↔ IsSocket text.now }
+{
+    match text.strip_prefix("unix:") {
+        Some(path) => !path.is_empty(),
+        None => false,
+    }
+}
+
+/// Where clients connect: an address, or a Unix socket behind `unix:`.
+pub(crate) fn place_at<'a>(table: &'a Table, key: &str) -> Result<&'a str, InputFault>
+    ensures { Finds (λ s. s.now) (λ s. HasText (table_view table.now) key.now s × IsPlace s) result }
+{
+    let text = name_at(table, key)?;
+    if is_socket(text) {
+        Ok(text)
+    } else {
+        address_at(table, key)
     }
 }
 
@@ -113,7 +134,7 @@ fn disk_in(alloc: Global, table: &Table) -> Result<DiskSettings, InputFault>
     let sealer = sealing_at(table, "sealer")?;
     let key = key_at(table, "key")?;
     let host = address_at(table, "host")?;
-    let listen = address_at(table, "listen")?;
+    let listen = place_at(table, "listen")?;
     let state = name_at(table, "state")?;
     let sync = flag_at(table, "sync")?;
     let patience = count_at(table, "patience")?;

@@ -1,24 +1,34 @@
 //! What the owner of a disk says of it, and what is shown of it.
 //!
-//! [`read_disk_settings`] reads the settings file of a disk, [`disk_text`] writes a first one, and [`read_size`] reads a size as people
+//! [`read_disk_settings`] reads the settings file of a disk, [`disk_text`] writes a first one, [`disk_complaint`] tells what is wrong with one, and [`read_size`] reads a size as people
 //! write it. [`first_difference`] tells which of the settings isn't as the disk was formatted. [`status_of`] and [`report`] tell how a
-//! disk stands, [`progress_text`] and [`Meter`] how far a formatting is.
+//! disk stands, [`progress_text`] and [`Meter`] how far a formatting is, and [`stored_bytes`] what a disk takes at its host. [`made_text`] and those
+//! beside it are said when all goes well. [`read_words`] reads the command line, and answers a request for help.
 #![tactic(auto)]
 
+mod amounts;
+mod announcements;
 mod command_line;
+mod complaints;
 mod differences;
 mod disk_file;
+mod footprint;
+mod help;
 mod names;
 mod progress;
 mod sizes;
 mod status;
 
-pub use command_line::{Words, read_words};
+pub use amounts::{amount_text, counted};
+pub use announcements::{begun_text, hosting_text, made_text, serving_text};
+pub use command_line::{NoRequest, Words, read_words};
+pub use complaints::{disk_complaint, host_complaint};
 pub use differences::{FixedKey, first_difference};
 pub use disk_file::{
     DiskSettings, FIRST_BLOCK, FIRST_SLOTS, FIRST_TABLE, LIFETIME, Sealing, device_of, disk_text,
     read_disk_settings,
 };
+pub use footprint::stored_bytes;
 pub use names::beside;
 pub use progress::{Meter, percent, progress_text};
 pub use sizes::read_size;

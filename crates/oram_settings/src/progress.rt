@@ -24,7 +24,32 @@ fn seconds_left(done: u64, of: u64, milliseconds: u64) -> u64
     u64::try_from(left).unwrap_or(u64::MAX)
 }
 
+/// For so many milliseconds a formatting has to go on before it is told how long the rest takes.
+const SOONEST_ESTIMATE: u64 = 1_000;
+
 /// A text that tells how far a formatting is.
+fn so_far(alloc: Global, done: u64, of: u64) -> Result<String, AllocError>
+    ensures { IfOk result (λ text. string_bytes text ≡ spec.so_far done of) }
+{
+    let percent = percent(done, of);
+    format!(in alloc; "formatting: {percent} % ({done} of {of} messages)")
+}
+
+/// A text that tells how far a formatting is, and how long the rest takes.
+fn with_time_left(
+    alloc: Global,
+    done: u64,
+    of: u64,
+    milliseconds: u64,
+) -> Result<String, AllocError>
+    ensures { IfOk result (λ text. string_bytes text ≡ spec.with_time_left done of milliseconds) }
+{
+    let percent = percent(done, of);
+    let left = seconds_left(done, of, milliseconds);
+    format!(in alloc; "formatting: {percent} % ({done} of {of} messages), {left} s left")
+}
+
+/// A text that tells how far a formatting is, and after its first second how long the rest takes.
 pub fn progress_text(
     alloc: Global,
     done: u64,
@@ -33,9 +58,11 @@ pub fn progress_text(
 ) -> Result<String, AllocError>
     ensures { IfOk result (λ text. string_bytes text ≡ spec.progress_text done of milliseconds) }
 {
-    let percent = percent(done, of);
-    let left = seconds_left(done, of, milliseconds);
-    format!(in alloc; "formatting: {percent} % ({done} of {of} messages), {left} s left")
+    if milliseconds < SOONEST_ESTIMATE {
+        so_far(alloc, done, of)
+    } else {
+        with_time_left(alloc, done, of, milliseconds)
+    }
 }
 
 /// Tells when a text is due again: each time that so many of a hundred more are done.

@@ -1,5 +1,1 @@
-pub mod Settings
-pub mod Faults
-pub mod Hosts
-pub mod Tallies
-pub mod Visits
+pub mod Stops

@@ -1,11 +1,10 @@
 //! One client of NBD at a time has the disk, and doesn't keep it from the next by silence.
 
-use crate::hosting::time;
+use oram_disk_host::time;
 use oram_nbd::HandshakeWatch;
-use oram_sockets::{Attendant, Direction};
+use oram_sockets::{Attendant, Direction, Listener, Peer};
 use std::cell::Cell;
 use std::io::{Error, ErrorKind};
-use std::net::{OpenListener, SocketAddr};
 use std::rt::Clock;
 use std::time::{Duration, Instant};
 use std::{fmt, io};
@@ -35,16 +34,16 @@ impl fmt::Display for Parting {
 /// Attends to a client: it has ten seconds for its handshake, and is then idle for as long as it likes. Other clients are turned away
 /// meanwhile, at once and with a line on standard error.
 #[derive(Drop)]
-pub(crate) struct ClientAttendant<'r, 'l, R, L> {
+pub(crate) struct ClientAttendant<'r, 'l, R> {
     rt: &'r R,
-    listener: &'l L,
+    listener: &'l Listener,
     handshake_until: Cell<Option<Instant>>,
     parting: Cell<Option<Parting>>,
 }
 
-impl<'r, 'l, R: Clock, L> ClientAttendant<'r, 'l, R, L> {
+impl<'r, 'l, R: Clock> ClientAttendant<'r, 'l, R> {
     /// For a client that has just connected. It takes no memory.
-    pub(crate) fn new(rt: &'r R, listener: &'l L) -> io::Result<ClientAttendant<'r, 'l, R, L>> {
+    pub(crate) fn new(rt: &'r R, listener: &'l Listener) -> io::Result<ClientAttendant<'r, 'l, R>> {
         let until = Instant::now(rt)?.checked_add(Duration::from_secs(LONGEST_HANDSHAKE));
         Ok(ClientAttendant {
             rt,
@@ -60,9 +59,9 @@ impl<'r, 'l, R: Clock, L> ClientAttendant<'r, 'l, R, L> {
     }
 }
 
-impl<'r, 'l, R: Clock + Eprint + AllocGlobal, L> ClientAttendant<'r, 'l, R, L> {
+impl<'r, 'l, R: Clock + Eprint + AllocGlobal> ClientAttendant<'r, 'l, R> {
     /// Tells of a client that is turned away.
-    fn tell(&self, peer: &SocketAddr) -> io::Result<()> {
+    fn tell(&self, peer: Peer) -> io::Result<()> {
         let at = time(self.rt)?;
         let line = format!(in self.rt.alloc();
             "oramdisk: {peer} at {at}, turned away: the disk has a client\n"
@@ -71,8 +70,7 @@ impl<'r, 'l, R: Clock + Eprint + AllocGlobal, L> ClientAttendant<'r, 'l, R, L> {
     }
 }
 
-impl<'r, 'l, R: Clock + Eprint + AllocGlobal, L: OpenListener> Attendant
-    for ClientAttendant<'r, 'l, R, L> {
+impl<'r, 'l, R: Clock + Eprint + AllocGlobal> Attendant for ClientAttendant<'r, 'l, R> {
     fn limit(&self, direction: Direction) -> io::Result<Option<Duration>> {
         match (self.handshake_until.get(), direction) {
             (Some(until), _) => {
@@ -98,13 +96,13 @@ impl<'r, 'l, R: Clock + Eprint + AllocGlobal, L: OpenListener> Attendant
             let Ok((_closed, peer)) = self.listener.accept() else {
                 return Ok(());
             };
-            let _passed_over = self.tell(&peer);
+            let _passed_over = self.tell(peer);
         }
         Ok(())
     }
 }
 
-impl<'r, 'l, R, L> HandshakeWatch for ClientAttendant<'r, 'l, R, L> {
+impl<'r, 'l, R> HandshakeWatch for ClientAttendant<'r, 'l, R> {
     fn agreed(&self) {
         self.handshake_until.set(None);
     }

@@ -1,9 +1,11 @@
 //! A new folder, with settings to begin with.
 
-use crate::faults::Fault;
-use crate::settings_file::FIRST_SETTINGS;
-use oram_edge::call_fault;
-use oram_settings::{FIRST_BLOCK, FIRST_SLOTS, FIRST_TABLE, device_of, disk_text, read_size};
+use oram_disk_host::{FIRST_SETTINGS, Fault, file_fault};
+use oram_settings::{
+    FIRST_BLOCK, FIRST_SLOTS, FIRST_TABLE, Sealing, device_of, disk_text, made_text, read_size,
+    stored_bytes,
+};
+use std::alloc::AllocError;
 use std::fs::{DirBuilder, OpenFile, OpenOptions};
 use std::io::{ErrorKind, Write};
 use std::os::unix::fs::{DirBuilderExt, OpenOptionsExt};
@@ -38,7 +40,7 @@ fn take_back<R: Files>(rt: &R, folder: &str, host: &str, disk: &str) {
 fn unwritten<R: Files + AllocGlobal>(rt: &R, name: &str, text: &str) -> Option<Fault> {
     match write_settings(rt, name, text) {
         Ok(()) => None,
-        Err(error) => Some(call_fault(rt.alloc(), name, &error).into()),
+        Err(error) => Some(file_fault(rt.alloc(), name, &error)),
     }
 }
 
@@ -47,25 +49,44 @@ fn whole_size(size: u64) -> u64 {
     size.saturating_add(FIRST_BLOCK - 1) / FIRST_BLOCK * FIRST_BLOCK
 }
 
-/// The settings of a disk of this size, or somewhat more: whole blocks.
-fn first_disk<R: RandomSource + AllocGlobal>(rt: &R, size: &str) -> Result<String, Fault> {
+/// A first disk: its bytes, those that it takes at its host, and its settings.
+#[derive(Drop)]
+struct FirstDisk {
+    size: u64,
+    stored: u64,
+    text: String,
+}
+
+/// A disk of this size, or somewhat more: whole blocks.
+fn first_disk<R: RandomSource + AllocGlobal>(rt: &R, size: &str) -> Result<FirstDisk, Fault> {
     let Some(size) = read_size(size) else {
         return Err(Fault::Size);
     };
     let size = whole_size(size);
-    if device_of(size, FIRST_BLOCK, FIRST_SLOTS, FIRST_TABLE).is_none() {
+    let Some(device) = device_of(size, FIRST_BLOCK, FIRST_SLOTS, FIRST_TABLE) else {
         return Err(Fault::Size);
-    }
+    };
     let mut key = [0; 32];
     if rt.fill_bytes(&mut key).is_err() {
         return Err(Fault::Random);
     }
-    Ok(disk_text(rt.alloc(), size, &key)?)
+    Ok(FirstDisk {
+        size,
+        stored: stored_bytes(&device, Sealing::ChaCha),
+        text: disk_text(rt.alloc(), size, &key)?,
+    })
+}
+
+/// Tells what was made, and what comes next.
+fn tell<R: Eprint + AllocGlobal>(rt: &R, folder: &str, disk: &FirstDisk) -> Result<(), AllocError> {
+    let text = made_text(rt.alloc(), folder, disk.size, disk.stored)?;
+    let _passed_over = rt.eprint(text.as_str());
+    Ok(())
 }
 
 /// Makes a folder with `host.toml` and `disk.toml` in it, for a disk of this size. One that is there already is left as it is, and of
 /// one that can't be filled nothing is left.
-pub(crate) fn make_folder<R: Files + RandomSource + AllocGlobal>(
+pub(crate) fn make_folder<R: Files + RandomSource + Eprint + AllocGlobal>(
     rt: &R,
     folder: String,
     size: &str,
@@ -73,21 +94,21 @@ pub(crate) fn make_folder<R: Files + RandomSource + AllocGlobal>(
     let alloc = rt.alloc();
     let host = format!(in alloc; "{folder}/host.toml")?;
     let disk = format!(in alloc; "{folder}/disk.toml")?;
-    let text = first_disk(rt, size)?;
+    let first = first_disk(rt, size)?;
     if let Err(error) = create_folder(rt, folder.as_str()) {
         return Err(if error.kind() == ErrorKind::AlreadyExists {
             Fault::Exists(folder)
         } else {
-            call_fault(alloc, folder.as_str(), &error).into()
+            file_fault(alloc, folder.as_str(), &error)
         });
     }
     let fault = unwritten(rt, host.as_str(), FIRST_SETTINGS).or_else(|| unwritten(
         rt,
         disk.as_str(),
-        text.as_str(),
+        first.text.as_str(),
     ));
     match fault {
-        None => Ok(()),
+        None => Ok(tell(rt, folder.as_str(), &first)?),
         Some(fault) => {
             take_back(rt, folder.as_str(), host.as_str(), disk.as_str());
             Err(fault)

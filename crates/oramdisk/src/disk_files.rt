@@ -1,18 +1,20 @@
 //! The files of a disk at its client.
 
-use crate::faults::Fault;
 use oram_bucket::Sealer;
 use oram_client::{
-    DiskKey, Head, KeptFault, KeptFile, Keys, SealerKind, WrongKey, keys_for, read_kept_file,
+    DiskKey, Head, KeptFault, KeptFile, Keys, SealerKind, WrongKey, kept_bytes, kept_name,
+    keys_for, read_kept_file,
 };
 use oram_core::Core;
-use oram_edge::{InputFault, LockFault, StateLock, bytes_in, lock_state};
+use oram_disk_host::{Fault, FileReason, settings_bytes, text_of};
+use oram_edge::{FileFault, InputFault, LockFault, StateLock, lock_state};
 use oram_geometry::Device;
-use oram_settings::{DiskSettings, Sealing, beside, first_difference, read_disk_settings};
+use oram_settings::{
+    DiskSettings, Sealing, beside, disk_complaint, first_difference, read_disk_settings,
+};
 use oram_state::{StateFault, decode_state};
 use std::alloc::Global;
 use std::rt::Files;
-use std::str;
 
 /// The settings in the file of this name, where the name of the state's file is as seen from here.
 pub(crate) fn disk_settings_in<R: Files + AllocGlobal>(
@@ -20,18 +22,32 @@ pub(crate) fn disk_settings_in<R: Files + AllocGlobal>(
     name: String,
 ) -> Result<DiskSettings, Fault> {
     let alloc = rt.alloc();
-    let bytes = bytes_in(rt, name.as_str())?;
-    let read = match str::from_utf8(bytes.as_slice()) {
-        Ok(text) => read_disk_settings(alloc, text),
-        Err(_) => Err(InputFault::Bad),
-    };
-    match read {
+    let bytes = settings_bytes(rt, name.as_str())?;
+    let text = text_of(alloc, bytes.as_slice(), name.as_str())?;
+    match read_disk_settings(alloc, text) {
         Ok(mut settings) => {
             settings.state = beside(alloc, name.as_str(), settings.state.as_str())?;
             Ok(settings)
         }
-        Err(InputFault::Bad) => Err(Fault::DiskSettings(name)),
+        Err(InputFault::Bad) => Err(Fault::Settings(disk_complaint(alloc, name.as_str(), text)?)),
         Err(InputFault::OutOfMemory) => Err(Fault::OutOfMemory),
+    }
+}
+
+/// All bytes of the file of this state, of the disk whose settings are in the other file. Where there is none, the disk isn't formatted yet.
+pub(crate) fn state_bytes<R: Files + AllocGlobal>(
+    rt: &R,
+    state: &str,
+    settings: &str,
+) -> Result<Vec<u8>, Fault> {
+    let alloc = rt.alloc();
+    match kept_bytes(rt, state) {
+        Ok(bytes) => Ok(bytes),
+        Err(FileFault::File(name)) => match kept_name(rt, alloc, state)? {
+            Some(_) => Err(Fault::File(FileReason::Other, name)),
+            None => Err(Fault::Unformatted(String::from_str(alloc, settings)?)),
+        },
+        Err(FileFault::OutOfMemory) => Err(Fault::OutOfMemory),
     }
 }
 

@@ -1,8 +1,7 @@
 //! Why a disk failed, in a file beside its state. The state itself stays as it was kept, so that the disk can be tried again.
 
-use crate::faults::Fault;
-use crate::hosting::time;
 use oram_core::Reason;
+use oram_disk_host::{Fault, file_fault, time};
 use oram_edge::{FileFault, KeptFile, bytes_in};
 use oram_settings::failure_text;
 use std::alloc::{AllocError, Global};
@@ -37,8 +36,7 @@ pub(crate) fn kept_failure<R: Files + AllocGlobal>(
     match fs::exists(rt, name.as_str()) {
         Ok(false) => Ok(None),
         Ok(true) => Ok(Some(bytes_in(rt, name.as_str())?)),
-        Err(error) if error.kind() == ErrorKind::OutOfMemory => Err(Fault::OutOfMemory),
-        Err(_) => Err(Fault::File(name)),
+        Err(error) => Err(file_fault(rt.alloc(), name.as_str(), &error)),
     }
 }
 
@@ -48,7 +46,6 @@ pub(crate) fn forget_failure<R: Files + AllocGlobal>(rt: &R, state: &str) -> Res
     match fs::remove_file(rt, name.as_str()) {
         Ok(()) => Ok(true),
         Err(error) if error.kind() == ErrorKind::NotFound => Ok(false),
-        Err(error) if error.kind() == ErrorKind::OutOfMemory => Err(Fault::OutOfMemory),
-        Err(_) => Err(Fault::File(name)),
+        Err(error) => Err(file_fault(rt.alloc(), name.as_str(), &error)),
     }
 }

@@ -2,17 +2,19 @@
 
 use crate::disk_files::{disk_settings_in, keys_in, sealer_of, take_lock};
 use crate::failures::forget_failure;
-use crate::faults::Fault;
 use oram_bucket::{ChaChaSeal, PlainSeal, Sealer};
 use oram_client::{
     Ahead, DiskKey, FileKeeper, FilePlace, FormattingFault, Head, Identity, Progress, Salt,
     SealerKind, format_ahead, kept_name,
 };
 use oram_core::Core;
+use oram_disk_host::Fault;
 use oram_edge::buffered;
 use oram_geometry::Device;
 use oram_keep::Keeper;
-use oram_settings::{DiskSettings, Meter, device_of, percent, progress_text};
+use oram_settings::{
+    DiskSettings, Meter, begun_text, device_of, percent, progress_text, stored_bytes,
+};
 use oram_state::encode_state;
 use std::alloc::{AllocError, Global};
 use std::io;
@@ -43,6 +45,12 @@ impl<'a, R: Clock> Teller<'a, R> {
 }
 
 impl<'a, R: Clock + Eprint + AllocGlobal> Teller<'a, R> {
+    /// Tells how many bytes go to the host at this address, before they do.
+    fn begin(&self, stored: u64, host: &str) -> io::Result<()> {
+        let text = begun_text(self.rt.alloc(), stored, host)?;
+        self.rt.eprint(text.as_str())
+    }
+
     fn tell(&self, messages: u64, of: u64) -> io::Result<()> {
         let alloc = self.rt.alloc();
         let elapsed = self.begun.elapsed(self.rt)?.as_millis();
@@ -88,13 +96,14 @@ fn unreached(error: &io::Error, host: String) -> Fault {
     }
 }
 
-/// A device on the host at this address.
+/// A device on the host at this address, whose records are so many bytes.
 fn formatted<S: Sealer>(
     rt: &HostRuntime,
     device: Device,
     sealer: S,
     identity: &Identity,
     host: String,
+    stored: u64,
 ) -> Result<Core<S>, Fault> {
     let alloc = rt.alloc();
     let halves = match TcpStream::connect(rt, host.as_str()) {
@@ -109,6 +118,7 @@ fn formatted<S: Sealer>(
         Ok(teller) => teller,
         Err(error) => return Err(unreached(&error, host)),
     };
+    let _passed_over = teller.begin(stored, host.as_str());
     let mut ahead = Ahead::new(alloc, &device, reader, writer, teller);
     match format_ahead(alloc, device, sealer, identity, &mut ahead) {
         Ok(core) => Ok(core),
@@ -129,7 +139,8 @@ fn format_with<S: Sealer>(
     let name = settings.state.as_str();
     let place = FilePlace::new(rt, alloc, name)?;
     let mut keeper = FileKeeper::new(place, head, settings.sync);
-    let core = formatted(rt, device, sealer, identity, settings.host)?;
+    let stored = stored_bytes(&device, settings.sealer);
+    let core = formatted(rt, device, sealer, identity, settings.host, stored)?;
     let state = encode_state(alloc, &core)?;
     match keeper.keep(state.as_slice()) {
         Ok(()) => Ok(()),

@@ -1,29 +1,30 @@
 //! A disk is served to clients of NBD, one connection after the other.
 
 ghost use Rattle.std.specs.Prelude.{◌≡◌, ◌↔◌, Err, IsTrue, string_bytes};
-ghost use Rattle.oramdisk.specs.Faults.{IsGivenUp};
+ghost use Rattle.oramdisk.specs.Stops.{IsGivenUp};
 
 use crate::clients::{ClientAttendant, Parting};
-use crate::disk_files::{check_settings, core_in, disk_settings_in, kept_in, keys_in, take_lock};
+use crate::disk_files::{
+    check_settings, core_in, disk_settings_in, kept_in, keys_in, state_bytes, take_lock,
+};
 use crate::failures::{keep_failure, kept_failure};
-use crate::faults::Fault;
-use crate::hosting::{listen_at, not_accepted, time};
 use crate::watched_disk::{FailureKeeper, WatchedDisk};
 use oram_bucket::{ChaChaSeal, PlainSeal, Sealer};
 use oram_client::{
     FileKeeper, FilePlace, Head, Keys, PatientLink, SealerKind, TcpDialer, Trouble, Watch,
-    kept_bytes,
 };
 use oram_core::{Core, Reason};
+use oram_disk_host::{Fault, listen_at, not_accepted, time};
 use oram_keep::Keeper;
 use oram_nbd::{Disk, DiskFault, NbdFault, serve};
 use oram_session::{ChaChaTape, Link, Tape};
-use oram_settings::{DiskSettings, failure_text};
-use oram_sockets::watch;
+use oram_settings::{DiskSettings, beside, counted, failure_text, serving_text};
+use oram_sockets::{Connection, Listener, Peer, listen_at_path, watch};
 use oram_volume::Volume;
 use std::alloc::{AllocError, Global};
-use std::io::{ErrorKind, Read, Write};
-use std::net::{Net, OpenListener, OpenStream, SocketAddr, TcpListener};
+use std::fs;
+use std::io::ErrorKind;
+use std::net::Net;
 use std::os::fd::AsRawFd;
 use std::rt::Clock;
 
@@ -87,7 +88,7 @@ impl Ended {
 /// A connection to the disk that has ended is told in a line.
 fn tell_visit<R: Clock + Eprint + AllocGlobal>(
     rt: &R,
-    peer: &SocketAddr,
+    peer: Peer,
     from: &str,
     ended: &Ended,
 ) -> Result<(), AllocError> {
@@ -97,9 +98,10 @@ fn tell_visit<R: Clock + Eprint + AllocGlobal>(
         (_, Some(parting)) => format!(in alloc;
             "oramdisk: {peer} from {from} until {until}, {parting}\n"
         )?,
-        (Ok(requests), None) => format!(in alloc;
-            "oramdisk: {peer} from {from} until {until}, {requests} requests\n"
-        )?,
+        (Ok(requests), None) => {
+            let requests = counted(alloc, requests, "request")?;
+            format!(in alloc; "oramdisk: {peer} from {from} until {until}, {requests}\n")?
+        }
         (Err(fault), None) => format!(in alloc;
             "oramdisk: {peer} from {from} until {until}, {fault}\n"
         )?,
@@ -109,12 +111,12 @@ fn tell_visit<R: Clock + Eprint + AllocGlobal>(
 }
 
 /// Serves one client to its end, and turns others away meanwhile.
-fn receive<
-    R: Net + Clock + Eprint + AllocGlobal,
-    N: OpenListener + AsRawFd,
-    T: Read + Write + OpenStream + AsRawFd + Drop,
-    D: Disk,
->(rt: &R, listener: &N, stream: T, disk: &mut D) -> Ended {
+fn receive<R: Net + Clock + Eprint + AllocGlobal, D: Disk>(
+    rt: &R,
+    listener: &Listener,
+    stream: Connection,
+    disk: &mut D,
+) -> Ended {
     let alloc = rt.alloc();
     let attendant = match ClientAttendant::new(rt, listener) {
         Ok(attendant) => attendant,
@@ -141,12 +143,12 @@ fn receive<
 }
 
 /// Serves one client while the listener doesn't block, so that those who come meanwhile can be turned away.
-fn receive_alone<
-    R: Net + Clock + Eprint + AllocGlobal,
-    N: OpenListener + AsRawFd,
-    T: Read + Write + OpenStream + AsRawFd + Drop,
-    D: Disk,
->(rt: &R, listener: &N, stream: T, disk: &mut D) -> Ended {
+fn receive_alone<R: Net + Clock + Eprint + AllocGlobal, D: Disk>(
+    rt: &R,
+    listener: &Listener,
+    stream: Connection,
+    disk: &mut D,
+) -> Ended {
     if listener.set_nonblocking(true).is_err() {
         return Ended::by(NbdFault::Read);
     }
@@ -183,16 +185,17 @@ impl<'a, S: Sealer, L: Link, K: Keeper, T: Tape> FailureKeeper<Volume<S, L, K, T
 }
 
 /// Serves one client, and tells of it. Tells whether the disk has stopped.
-fn visit<
-    R: Net + Clock + Eprint + AllocGlobal,
-    N: OpenListener + AsRawFd,
-    T: Read + Write + OpenStream + AsRawFd + Drop,
-    D: Disk,
->(rt: &R, listener: &N, stream: T, peer: SocketAddr, disk: &mut D) -> bool {
+fn visit<R: Net + Clock + Eprint + AllocGlobal, D: Disk>(
+    rt: &R,
+    listener: &Listener,
+    stream: Connection,
+    peer: Peer,
+    disk: &mut D,
+) -> bool {
     let from = time(rt);
     let ended = receive_alone(rt, listener, stream, disk);
     let told = match from {
-        Ok(from) => tell_visit(rt, &peer, from.as_str(), &ended),
+        Ok(from) => tell_visit(rt, peer, from.as_str(), &ended),
         Err(error) => Err(error),
     };
     if told.is_err() {
@@ -202,14 +205,11 @@ fn visit<
 }
 
 /// Serves clients, one after the other, until the disk stops.
-fn serve_all<R: Net + Clock + Eprint + AllocGlobal, N: OpenListener + AsRawFd, D: Disk>(
+fn serve_all<R: Net + Clock + Eprint + AllocGlobal, D: Disk>(
     rt: &R,
-    listener: &N,
+    listener: &Listener,
     disk: &mut D,
-) -> Result<(), Fault>
-where
-    N::Stream: Read + Write + OpenStream + AsRawFd,
-{
+) -> Result<(), Fault> {
     for _ in 0..u64::MAX {
         match listener.accept() {
             Ok((stream, peer)) => {
@@ -221,6 +221,14 @@ where
         }
     }
     Ok(())
+}
+
+/// Tells where a disk is served, and serves it until it stops.
+fn serve_clients<D: Disk>(rt: &HostRuntime, clients: &Clients, disk: &mut D) -> Result<(), Fault> {
+    let size = disk.blocks().saturating_mul(u64::from(disk.block_bytes()));
+    let line = serving_text(rt.alloc(), size, clients.uri.as_str())?;
+    let _passed_over = rt.eprint(line.as_str());
+    serve_all(rt, &clients.listener, disk)
 }
 
 /// The way to a disk's host.
@@ -262,7 +270,7 @@ fn stopped<S: Sealer>(volume: &DiskVolume<'_, S>, settings: DiskSettings) -> Fau
 fn serve_volume<S: Sealer>(
     rt: &HostRuntime,
     settings: DiskSettings,
-    listener: &TcpListener,
+    clients: &Clients,
     mut volume: DiskVolume<'_, S>,
 ) -> Result<(), Fault> {
     let alloc = rt.alloc();
@@ -278,7 +286,7 @@ fn serve_volume<S: Sealer>(
     };
     disk.watch();
     match settled {
-        Ok(()) => serve_all(rt, listener, &mut disk)?,
+        Ok(()) => serve_clients(rt, clients, &mut disk)?,
         Err(DiskFault::Failed | DiskFault::Stopped) => {}
         Err(DiskFault::OutOfMemory) => return Err(Fault::OutOfMemory),
     }
@@ -305,7 +313,7 @@ fn link_to<'a>(
 fn serve_core<S: Sealer>(
     rt: &HostRuntime,
     settings: DiskSettings,
-    listener: &TcpListener,
+    clients: &Clients,
     head: Head,
     keys: &Keys,
     core: Core<S>,
@@ -325,21 +333,62 @@ fn serve_core<S: Sealer>(
         keeper,
         tape,
     };
-    serve_volume(rt, settings, listener, volume)
+    serve_volume(rt, settings, clients, volume)
 }
 
-/// Serves the disk whose settings are in the file of this name, until it stops. What waits from before is carried out first.
-///
-/// No other process has the disk meanwhile, and the port is taken before the state is read: else an older state could be gone on from.
-pub(crate) fn serve_disk(rt: &HostRuntime, name: String) -> Result<(), Fault> {
+/// Where clients connect.
+#[derive(Drop)]
+struct Clients {
+    listener: Listener,
+    /// As clients are told of it.
+    uri: String,
+    /// The socket's file, where it isn't an address.
+    socket: Option<String>,
+}
+
+/// Listens for clients at an address.
+fn at_address(rt: &HostRuntime, address: &str) -> Result<Clients, Fault> {
     let alloc = rt.alloc();
-    let settings = disk_settings_in(rt, String::from_str(alloc, name.as_str())?)?;
-    let _lock = take_lock(rt, settings.state.as_str())?;
-    if kept_failure(rt, settings.state.as_str())?.is_some() {
-        return Err(Fault::Failed(settings.state));
+    Ok(Clients {
+        listener: Listener::Tcp(listen_at(rt, String::from_str(alloc, address)?)?),
+        uri: format!(in alloc; "nbd://{address}")?,
+        socket: None,
+    })
+}
+
+/// Listens for clients at a Unix socket.
+fn at_socket(rt: &HostRuntime, path: String) -> Result<Clients, Fault> {
+    let alloc = rt.alloc();
+    let name = path.as_str();
+    let uri = format!(in alloc; "nbd+unix:///disk?socket={name}")?;
+    match listen_at_path(rt, name) {
+        Ok(listener) => Ok(Clients {
+            listener,
+            uri,
+            socket: Some(path),
+        }),
+        Err(error) if error.kind() == ErrorKind::OutOfMemory => Err(Fault::OutOfMemory),
+        Err(_) => Err(Fault::Address(path)),
     }
-    let listener = listen_at(rt, String::from_str(alloc, settings.listen.as_str())?)?;
-    let file = kept_bytes(rt, settings.state.as_str())?;
+}
+
+/// Listens for clients where the settings in the file of this name say. A socket is named as in that file's folder.
+fn clients_at(rt: &HostRuntime, place: &str, name: &str) -> Result<Clients, Fault> {
+    match place.strip_prefix("unix:") {
+        Some(path) => at_socket(rt, beside(rt.alloc(), name, path)?),
+        None => at_address(rt, place),
+    }
+}
+
+/// Serves the disk whose settings were read from the file of this name, until it stops. What waits from before is carried out first.
+fn serve_kept(
+    rt: &HostRuntime,
+    settings: DiskSettings,
+    name: String,
+    clients: &Clients,
+) -> Result<(), Fault> {
+    let alloc = rt.alloc();
+    let file = state_bytes(rt, settings.state.as_str(), name.as_str())?;
     let kept = kept_in(alloc, file.as_slice(), settings.state.as_str())?;
     let keys = keys_in(alloc, &settings, &kept.head, name.as_str())?;
     let state = settings.state.as_str();
@@ -347,13 +396,32 @@ pub(crate) fn serve_disk(rt: &HostRuntime, name: String) -> Result<(), Fault> {
         SealerKind::Plain => {
             let core = core_in(alloc, PlainSeal, kept.state, state)?;
             check_settings(&settings, core.device(), kept.head.sealer, name)?;
-            serve_core(rt, settings, &listener, kept.head, &keys, core)
+            serve_core(rt, settings, clients, kept.head, &keys, core)
         }
         SealerKind::ChaCha20 => {
             let sealer = ChaChaSeal { key: keys.sealer.0 };
             let core = core_in(alloc, sealer, kept.state, state)?;
             check_settings(&settings, core.device(), kept.head.sealer, name)?;
-            serve_core(rt, settings, &listener, kept.head, &keys, core)
+            serve_core(rt, settings, clients, kept.head, &keys, core)
         }
     }
+}
+
+/// Serves the disk whose settings are in the file of this name, until it stops.
+///
+/// No other process has the disk meanwhile, and clients can connect before the state is read: else an older state could be gone on from.
+pub(crate) fn serve_disk(rt: &HostRuntime, name: String) -> Result<(), Fault> {
+    let alloc = rt.alloc();
+    let settings = disk_settings_in(rt, String::from_str(alloc, name.as_str())?)?;
+    let _lock = take_lock(rt, settings.state.as_str())?;
+    if kept_failure(rt, settings.state.as_str())?.is_some() {
+        return Err(Fault::Failed(settings.state));
+    }
+    let clients = clients_at(rt, settings.listen.as_str(), name.as_str())?;
+    let ended = serve_kept(rt, settings, name, &clients);
+    if let Some(path) = &clients.socket {
+        // One that stays is replaced by the next process.
+        let _passed_over = fs::remove_file(rt, path.as_str());
+    }
+    ended
 }

@@ -1,10 +1,10 @@
 //! How a disk stands.
 
-use crate::disk_files::{core_in, disk_settings_in, kept_in, take_lock};
+use crate::disk_files::{core_in, disk_settings_in, kept_in, state_bytes, take_lock};
 use crate::failures::{forget_failure, kept_failure};
-use crate::faults::Fault;
 use oram_bucket::{ChaChaSeal, PlainSeal};
-use oram_client::{SealerKind, kept_bytes};
+use oram_client::SealerKind;
+use oram_disk_host::Fault;
 use oram_settings::{report, status_of};
 use std::alloc::{AllocError, Global};
 use std::str;
@@ -24,9 +24,9 @@ fn with_failure(alloc: Global, report: &str, why: &str) -> Result<String, AllocE
 /// Tells how the disk stands whose settings are in the file of this name, as its kept state has it. It asks no host.
 pub(crate) fn tell(rt: &HostRuntime, name: String) -> Result<(), Fault> {
     let alloc = rt.alloc();
-    let settings = disk_settings_in(rt, name)?;
+    let settings = disk_settings_in(rt, String::from_str(alloc, name.as_str())?)?;
+    let file = state_bytes(rt, settings.state.as_str(), name.as_str())?;
     let name = settings.state.as_str();
-    let file = kept_bytes(rt, name)?;
     let kept = kept_in(alloc, file.as_slice(), name)?;
     let status = match kept.head.sealer {
         SealerKind::Plain => status_of(&core_in(alloc, PlainSeal, kept.state, name)?),

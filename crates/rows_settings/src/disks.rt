@@ -13,47 +13,46 @@ pub fn disk(alloc: Global, words: &mut Words, page: &mut Page) -> Result<(), Row
     let Some(settings) = read_or_bad(read_disk_settings(alloc, text.as_str()), page)? else {
         return Ok(());
     };
-    put_numbers(alloc, &settings, page)?;
-    put_names(alloc, &settings, page)
+    put_numbers(&settings, page);
+    put_names(&settings, page);
+    Ok(())
 }
 
-fn put_numbers(alloc: Global, settings: &DiskSettings, page: &mut Page) -> Result<(), RowFault> {
-    page.number(alloc, settings.size)?;
-    page.number(alloc, settings.block)?;
-    page.number(alloc, settings.slots)?;
-    page.number(alloc, settings.table)?;
+fn put_numbers(settings: &DiskSettings, page: &mut Page) {
+    page.number(settings.size);
+    page.number(settings.block);
+    page.number(settings.slots);
+    page.number(settings.table);
     page.word(match settings.sealer {
         Sealing::Plain => "plain",
         Sealing::ChaCha => "chacha",
-    })?;
-    page.bytes(alloc, &settings.key)?;
-    Ok(())
+    });
+    page.bytes(&settings.key);
 }
 
-fn put_names(alloc: Global, settings: &DiskSettings, page: &mut Page) -> Result<(), RowFault> {
-    page.word(settings.host.as_str())?;
-    page.word(settings.listen.as_str())?;
-    page.word(settings.state.as_str())?;
-    page.flag(settings.sync)?;
-    page.number(alloc, settings.patience)?;
-    Ok(())
+fn put_names(settings: &DiskSettings, page: &mut Page) {
+    page.word(settings.host.as_str());
+    page.word(settings.listen.as_str());
+    page.word(settings.state.as_str());
+    page.flag(settings.sync);
+    page.number(settings.patience);
 }
 
 /// `device SIZE BLOCK SLOTS TABLE`: the trees and blocks of the device of such a disk.
-pub fn device(alloc: Global, words: &mut Words, page: &mut Page) -> Result<(), RowFault> {
+pub fn device(words: &mut Words, page: &mut Page) -> Result<(), RowFault> {
     let size = words.number()?;
     let block = words.number()?;
     let slots = words.number()?;
     let table = words.number()?;
     let Some(device) = device_of(size, block, slots, table) else {
-        page.word("none")?;
+        page.word("none");
         return Ok(());
     };
     if device.trees() == 0 {
         return Err(RowFault::NoRow);
     }
-    page.number(alloc, u64::from(device.trees()))?;
-    page.number(alloc, u64::from(device.blocks_in(0)))?;
+    page.number(device.trees());
+    page.number(device.blocks_in(0));
     Ok(())
 }
 
@@ -66,8 +65,9 @@ pub fn first_settings(alloc: Global, words: &mut Words, page: &mut Page) -> Resu
     let Some(settings) = read_or_bad(read_disk_settings(alloc, text.as_str()), page)? else {
         return Ok(());
     };
-    put_numbers(alloc, &settings, page)?;
-    put_names(alloc, &settings, page)
+    put_numbers(&settings, page);
+    put_names(&settings, page);
+    Ok(())
 }
 
 fn sealing_in(words: &mut Words) -> Result<Sealing, RowFault> {
@@ -105,9 +105,9 @@ pub fn differs(alloc: Global, words: &mut Words, page: &mut Page) -> Result<(), 
     match first_difference(&settings, &device, sealing) {
         Some(key) => {
             let key = format!(in alloc; "{key}")?;
-            page.word(key.as_str())?;
+            page.word(key.as_str());
         }
-        None => page.word("none")?,
+        None => page.word("none"),
     }
     Ok(())
 }

@@ -1,6 +1,7 @@
 //! Rows of what people write and read: sizes, names, settings, command lines, texts and reports.
 #![tactic(auto)]
 
+mod announcements;
 mod disks;
 mod reports;
 mod tables;
@@ -27,15 +28,16 @@ impl Table for Calls {
     ) -> Result<(), RowFault> {
         match call {
             "document" => tables::document(alloc, &mut self.document, words, page),
-            "at" => tables::at(alloc, self.document.as_ref(), words, page),
+            "at" => tables::at(self.document.as_ref(), words, page),
             "only" => tables::only(alloc, self.document.as_ref(), words, page),
             "write" => texts::write(alloc, words, page),
             "write-number" => texts::write_number(alloc, words, page),
-            "size" => texts::size(alloc, words, page),
+            "size" => texts::size(words, page),
             "beside" => texts::beside_file(alloc, words, page),
             "words" => texts::command_line(alloc, words, page),
+            "says" => announcements::says(alloc, words, page),
             "disk" => disks::disk(alloc, words, page),
-            "device" => disks::device(alloc, words, page),
+            "device" => disks::device(words, page),
             "differs" => disks::differs(alloc, words, page),
             "first-settings" => disks::first_settings(alloc, words, page),
             "progress" => reports::progress(alloc, words, page),

@@ -11,7 +11,7 @@ pub fn progress(alloc: Global, words: &mut Words, page: &mut Page) -> Result<(),
     let of = words.number()?;
     let milliseconds = words.number()?;
     let text = progress_text(alloc, done, of, milliseconds)?;
-    page.lines(text.as_str())?;
+    page.lines(text.as_str());
     Ok(())
 }
 
@@ -22,7 +22,7 @@ pub fn meter(
     page: &mut Page,
 ) -> Result<(), RowFault> {
     *meter = Some(Meter::new(words.number()?));
-    page.word("begun")?;
+    page.word("begun");
     Ok(())
 }
 
@@ -31,7 +31,7 @@ pub fn due(meter: Option<&mut Meter>, words: &mut Words, page: &mut Page) -> Res
     let Some(meter) = meter else {
         return Err(RowFault::NoRow);
     };
-    page.flag(meter.is_due(words.number()?))?;
+    page.flag(meter.is_due(words.number()?));
     Ok(())
 }
 
@@ -48,7 +48,7 @@ pub fn disk_report(alloc: Global, words: &mut Words, page: &mut Page) -> Result<
         failure: failure(words)?,
     };
     let text = report(alloc, &status)?;
-    page.lines(text.as_str())?;
+    page.lines(text.as_str());
     Ok(())
 }
 

@@ -15,7 +15,7 @@ pub fn read_or_bad<T: Drop>(
     match read {
         Ok(value) => Ok(Some(value)),
         Err(InputFault::Bad) => {
-            page.word("bad")?;
+            page.word("bad");
             Ok(None)
         }
         Err(InputFault::OutOfMemory) => Err(RowFault::OutOfMemory),
@@ -32,70 +32,53 @@ pub fn document(
     let text = words.lines(alloc)?;
     let read = read_or_bad(table_of(alloc, text.as_str()), page)?;
     if read.is_some() {
-        page.word("read")?;
+        page.word("read");
     }
     *document = read;
     Ok(())
 }
 
 /// `at KIND KEY`: what stands there, if it is of that kind. A `sealer` is read from its two keys together.
-pub fn at(
-    alloc: Global,
-    document: Option<&Table>,
-    words: &mut Words,
-    page: &mut Page,
-) -> Result<(), RowFault> {
+pub fn at(document: Option<&Table>, words: &mut Words, page: &mut Page) -> Result<(), RowFault> {
     let Some(table) = document else {
         return Err(RowFault::NoRow);
     };
     match words.text()? {
         "name" => put_text(name_at(table, words.text()?), page),
         "address" => put_text(address_at(table, words.text()?), page),
-        "number" => put_number(alloc, number_at(table, words.text()?), page),
-        "count" => put_number(alloc, count_at(table, words.text()?), page),
-        "key" => put_key(alloc, key_at(table, words.text()?), page),
-        "sealer" => put_sealer(alloc, sealer_in(table), page),
+        "number" => put_number(number_at(table, words.text()?), page),
+        "count" => put_number(count_at(table, words.text()?), page),
+        "key" => put_key(key_at(table, words.text()?), page),
+        "sealer" => put_sealer(sealer_in(table), page),
         _ => Err(RowFault::NoRow),
     }
 }
 
 fn put_text(read: Result<&str, InputFault>, page: &mut Page) -> Result<(), RowFault> {
     if let Some(text) = read_or_bad(read, page)? {
-        page.word(text)?;
+        page.word(text);
     }
     Ok(())
 }
 
-fn put_number(
-    alloc: Global,
-    read: Result<u64, InputFault>,
-    page: &mut Page,
-) -> Result<(), RowFault> {
+fn put_number(read: Result<u64, InputFault>, page: &mut Page) -> Result<(), RowFault> {
     if let Some(number) = read_or_bad(read, page)? {
-        page.number(alloc, number)?;
+        page.number(number);
     }
     Ok(())
 }
 
-fn put_key(
-    alloc: Global,
-    read: Result<[u8; 32], InputFault>,
-    page: &mut Page,
-) -> Result<(), RowFault> {
+fn put_key(read: Result<[u8; 32], InputFault>, page: &mut Page) -> Result<(), RowFault> {
     if let Some(key) = read_or_bad(read, page)? {
-        page.bytes(alloc, &key)?;
+        page.bytes(&key);
     }
     Ok(())
 }
 
-fn put_sealer(
-    alloc: Global,
-    read: Result<Option<[u8; 32]>, InputFault>,
-    page: &mut Page,
-) -> Result<(), RowFault> {
+fn put_sealer(read: Result<Option<[u8; 32]>, InputFault>, page: &mut Page) -> Result<(), RowFault> {
     match read_or_bad(read, page)? {
-        Some(Some(key)) => page.bytes(alloc, &key)?,
-        Some(None) => page.word("plain")?,
+        Some(Some(key)) => page.bytes(&key),
+        Some(None) => page.word("plain"),
         None => {}
     }
     Ok(())
@@ -118,6 +101,6 @@ pub fn only(
         }
         keys.push(words.text()?)?;
     }
-    page.flag(has_only(table, &keys))?;
+    page.flag(has_only(table, &keys));
     Ok(())
 }

@@ -1,16 +1,15 @@
 //! Sizes, names, command lines and texts that are written.
 
-use crate::tables::read_or_bad;
 use oram_edge::{put_between, put_number};
-use oram_settings::{Words as CommandWords, beside, read_size, read_words};
+use oram_settings::{NoRequest, Words as CommandWords, beside, read_size, read_words};
 use rows::{Page, RowFault, Words};
 use std::alloc::Global;
 
 /// `size TEXT`: the bytes that a size means.
-pub fn size(alloc: Global, words: &mut Words, page: &mut Page) -> Result<(), RowFault> {
+pub fn size(words: &mut Words, page: &mut Page) -> Result<(), RowFault> {
     match read_size(words.all()) {
-        Some(bytes) => page.number(alloc, bytes)?,
-        None => page.word("none")?,
+        Some(bytes) => page.number(bytes),
+        None => page.word("none"),
     }
     Ok(())
 }
@@ -20,7 +19,7 @@ pub fn beside_file(alloc: Global, words: &mut Words, page: &mut Page) -> Result<
     let file = words.text()?;
     let name = words.text()?;
     let found = beside(alloc, file, name)?;
-    page.word(found.as_str())?;
+    page.word(found.as_str());
     Ok(())
 }
 
@@ -33,35 +32,46 @@ pub fn command_line(alloc: Global, words: &mut Words, page: &mut Page) -> Result
         }
         texts.push(words.text()?)?;
     }
-    let Some(asked) = read_or_bad(read_words(alloc, &texts), page)? else {
-        return Ok(());
-    };
-    put_asked(&asked, page)
+    put_told(&read_words(alloc, &texts), page)
 }
 
-fn put_asked(asked: &CommandWords, page: &mut Page) -> Result<(), RowFault> {
+fn put_told(told: &Result<CommandWords, NoRequest>, page: &mut Page) -> Result<(), RowFault> {
+    match told {
+        Ok(asked) => put_asked(asked, page),
+        Err(NoRequest::Help(_)) => page.word("help"),
+        Err(NoRequest::Mistake(_)) => page.word("bad"),
+        Err(NoRequest::OutOfMemory) => return Err(RowFault::OutOfMemory),
+    }
+    Ok(())
+}
+
+fn put_asked(asked: &CommandWords, page: &mut Page) {
     match asked {
         CommandWords::Host { settings, is_new } => {
-            put_both(page, "host", settings)?;
-            page.word(if *is_new { "new" } else { "old" })?;
-            Ok(())
+            put_both(page, "host", settings);
+            page.word(if *is_new { "new" } else { "old" });
         }
         CommandWords::Format(name) => put_both(page, "format", name),
         CommandWords::Serve(name) => put_both(page, "serve", name),
         CommandWords::Status(name) => put_both(page, "status", name),
         CommandWords::Retry(name) => put_both(page, "retry", name),
         CommandWords::New { folder, size } => {
-            put_both(page, "new", folder)?;
-            page.word(size.as_str())?;
-            Ok(())
+            put_both(page, "new", folder);
+            page.word(size.as_str());
         }
     }
 }
 
-fn put_both(page: &mut Page, role: &str, name: &String) -> Result<(), RowFault> {
-    page.word(role)?;
-    page.word(name.as_str())?;
-    Ok(())
+fn put_both(page: &mut Page, role: &str, name: &String) {
+    page.word(role);
+    page.word(name.as_str());
+}
+
+/// Writes what a writer holds that has so much room left, and whether that is all.
+fn show_held(held: &[u8], left: usize, is_whole: bool, page: &mut Page) {
+    let len = held.len().saturating_sub(left);
+    page.bytes(held.get(..len).unwrap_or(&[]));
+    page.word(if is_whole { "all" } else { "a beginning" });
 }
 
 /// `write ROOM FRONT TEXT REST`: the bytes that a writer with that room holds behind them, and whether all of them are.
@@ -74,9 +84,7 @@ pub fn write(alloc: Global, words: &mut Words, page: &mut Page) -> Result<(), Ro
     let mut writer = held.as_mut_slice();
     let is_written = put_between(&mut writer, &front, &text, &rest).is_ok();
     let left = writer.len();
-    let len = held.len().saturating_sub(left);
-    page.bytes(alloc, held.get(..len).unwrap_or(&[]))?;
-    page.word(if is_written { "all" } else { "a beginning" })?;
+    show_held(&held, left, is_written, page);
     Ok(())
 }
 
@@ -89,8 +97,6 @@ pub fn write_number(alloc: Global, words: &mut Words, page: &mut Page) -> Result
     let mut writer = held.as_mut_slice();
     let is_written = put_number(&mut writer, &front, number).is_ok();
     let left = writer.len();
-    let len = held.len().saturating_sub(left);
-    page.bytes(alloc, held.get(..len).unwrap_or(&[]))?;
-    page.word(if is_written { "all" } else { "a beginning" })?;
+    show_held(&held, left, is_written, page);
     Ok(())
 }

@@ -5,9 +5,9 @@ use Rattle.oram_settings.proofs.command_line.command.Goals as goal
 
 pub returns : goal.returns
 returns c =
-    let one = c.in_ok-subcommand.ensures.shape c.in_ok-host_runner.ensures.local ∙ ap₂ with_subcommand c.bare_command.ensures c.in_ok-host_runner.ensures.shape in
-    let two = c.in_ok-subcommand-2.ensures.shape c.in_ok-folder_maker.ensures.local ∙ ap₂ with_subcommand one c.in_ok-folder_maker.ensures.shape in
-    let three = c.in_ok-subcommand-3.ensures.shape c.in_ok-word_taker.ensures.local ∙ ap₂ with_subcommand two c.in_ok-word_taker.ensures.shape in
-    let four = c.in_ok-subcommand-4.ensures.shape c.in_ok-word_taker-2.ensures.local ∙ ap₂ with_subcommand three c.in_ok-word_taker-2.ensures.shape in
-    let five = c.in_ok-subcommand-5.ensures.shape c.in_ok-word_taker-3.ensures.local ∙ ap₂ with_subcommand four c.in_ok-word_taker-3.ensures.shape in
-    IfOk-weaker c.subcommand-6.result _ _ (λ m h. h.shape c.in_ok-word_taker-4.ensures.local ∙ ap₂ with_subcommand five c.in_ok-word_taker-4.ensures.shape) c.subcommand-6.ensures
+    let one = c.in_ok-subcommand.ensures.shape c.in_ok-folder_maker.ensures.local ∙ ap₂ with_subcommand c.bare_command.ensures c.in_ok-folder_maker.ensures.shape in
+    let two = c.in_ok-subcommand-2.ensures.shape c.in_ok-host_runner.ensures.local ∙ ap₂ with_subcommand one c.in_ok-host_runner.ensures.shape in
+    let three = c.in_ok-subcommand-3.ensures.shape c.in_ok-disk_command.ensures.local ∙ ap₂ with_subcommand two c.in_ok-disk_command.ensures.shape in
+    let four = c.in_ok-subcommand-4.ensures.shape c.in_ok-disk_command-2.ensures.local ∙ ap₂ with_subcommand three c.in_ok-disk_command-2.ensures.shape in
+    let five = c.in_ok-subcommand-5.ensures.shape c.in_ok-disk_command-3.ensures.local ∙ ap₂ with_subcommand four c.in_ok-disk_command-3.ensures.shape in
+    IfOk-weaker c.subcommand-6.result _ _ (λ m h. h.shape c.in_ok-disk_command-4.ensures.local ∙ ap₂ with_subcommand five c.in_ok-disk_command-4.ensures.shape) c.subcommand-6.ensures

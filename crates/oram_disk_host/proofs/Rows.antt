@@ -1,0 +1,28 @@
+-- The definitions on words, settings, a fault and a connection that are written out.
+use Rattle.std.proofs.Common.{◌≡◌, refl, [], ◌∷◌, Some, None, codes}
+use Rattle.toml.specs.Data.{member, no_members, string}
+use Rattle.toml.specs.Parse.{parse_document}
+use Rattle.toml.proofs.OnLiterals.{toml_on_literals}
+use Rattle.oram_answering.specs.declared.faults.ServeFault.TheVariants.{Frame}
+use Rattle.oram_disk_host.specs.Faults.{line_of}
+use Rattle.oram_disk_host.specs.Tallies.{frame_len}
+use Rattle.oram_disk_host.specs.Visits.{ending}
+use Rattle.oram_disk_host.specs.declared.faults.Fault.TheVariants.{OutOfMemory}
+use Rattle.oram_disk_host.specs.declared.visits.EarlyEnd.TheVariants.{Displaced, Fault}
+
+-- what a new folder's settings say
+the_first_settings : parse_document (codes "# Where the host listens. Your own machine reaches it there, as by ssh -N -L 7001:127.0.0.1:7001 you@rented.\nlisten = \"127.0.0.1:7001\"\n# The file of the buckets, as seen from this folder; its log stands beside it.\nfile = \"buckets\"\n") ≡ Some (member (codes "file") (string (codes "buckets")) (member (codes "listen") (string (codes "127.0.0.1:7001")) no_members))
+unfolding toml_on_literals
+the_first_settings = refl
+
+a_line : line_of OutOfMemory ≡ codes "oramdisk: out of memory\n"
+a_line = refl
+
+too_long : ending (Some (Fault Frame)) ≡ codes ", a frame was too long"
+too_long = refl
+
+displaced : ending (Some Displaced) ≡ codes ", a newer connection took its place"
+displaced = refl
+
+a_frame : frame_len (1 ∷ 2 ∷ []) ≡ 6
+a_frame = refl

@@ -1,0 +1,42 @@
+-- A store that is served, and the tally of a connection to it.
+use Rattle.std.specs.Prelude.{◌≡◌, ◌≢◌, ℕ, List, [], false, Bool, true, Option, Some, None}
+use Rattle.oram_redo.specs.FilePair.{Contents}
+use Rattle.oram_wire.specs.HostMessages.{answer_body, request_body}
+use Rattle.oram_wire.specs.HostReading.{HasNumbers, IsMisfit, names_request}
+use Rattle.oram_wire.specs.declared.host_messages.HostAnswer.{HostAnswer}
+use Rattle.oram_wire.specs.declared.host_messages.HostAnswer.TheVariants.{Refused}
+use Rattle.oram_wire.specs.declared.host_messages.HostRequest.{HostRequest}
+use Rattle.oram_store.specs.Answers.{IsGranted, IsKeptAtOnce}
+use Rattle.oram_store.specs.Crashes.{Serves as StoreServes}
+use Rattle.oram_store.specs.Keeping.{IsSound, StoreValue}
+use Rattle.oram_store.specs.Refusals.{IsTold}
+use Rattle.oram_store.specs.declared.faults.StoreFault.{StoreFault}
+use Rattle.oram_store.specs.declared.faults.StoreFault.TheVariants as fault
+use Rattle.oram_disk_host.specs.Tallies.{Counts}
+use Rattle.oram_disk_host.specs.declared.tallies.Tally.{Tally}
+
+pub record HostedValue (F : Type 0) : Type 0 where
+  pub store : StoreValue F
+  pub tally : Tally
+
+-- the file has to be opened again
+abbrev pub is_lost : Option StoreFault → Bool
+is_lost None = false
+is_lost (Some fault.Io) = true
+is_lost (Some fault.Closed) = true
+is_lost (Some _) = false
+
+-- The store answers the body of a request, and the tally counts both. What is answered as done is sure, but for a PUT.
+pub record Serves {F : Type 0} (seen : F → Contents) (may_leave : F → Contents → Type 0) (moment : F → ℕ) (left_since : F → ℕ → Contents → Type 0)
+    (is_honest : F → Type 0) (before : HostedValue F) (body : List ℕ) (answer : HostAnswer) (after : HostedValue F) : Type 0 where
+  pub counts : Counts before.tally body (answer_body answer) after.tally
+  pub told : (message : HostRequest) → HasNumbers message → body ≡ request_body message → IsTold before.store.trees message answer after.store.trees
+  pub served : (message : HostRequest) → HasNumbers message → body ≡ request_body message → is_honest after.store.file.files → IsSound seen may_leave before.store
+      → StoreServes seen may_leave moment left_since message answer before.store after.store
+  pub sure : (message : HostRequest) → HasNumbers message → body ≡ request_body message → IsKeptAtOnce message → IsGranted answer → after.store.pending ≡ []
+  pub goes_on : (message : HostRequest) → HasNumbers message → body ≡ request_body message → IsGranted answer → after.store.file.has_stopped ≡ false
+  pub op : names_request body ≡ false → answer_body answer ≡ answer_body (Refused 7)
+  pub misfit : IsMisfit body → answer_body answer ≡ answer_body (Refused 4)
+  -- where there is no room, the tally tells why
+  pub full : answer_body answer ≡ answer_body (Refused 8) → after.tally.failure ≡ after.store.failure
+  pub spare : answer_body answer ≢ answer_body (Refused 8) → after.tally.failure ≡ before.tally.failure

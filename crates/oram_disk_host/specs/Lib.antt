@@ -1,0 +1,5 @@
+pub mod Settings
+pub mod Faults
+pub mod Hosts
+pub mod Tallies
+pub mod Visits

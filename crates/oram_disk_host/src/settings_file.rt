@@ -1,0 +1,48 @@
+//! The host's settings file.
+
+ghost use Rattle.std.specs.Prelude.{IfOk, IsErrOf};
+ghost use Rattle.toml.specs.View.{table_view};
+ghost use Rattle.oram_edge.specs.Tables.{Finds};
+ghost use Rattle.oram_disk_host.specs.Settings.{IsDocumentOf, IsHost, shown};
+
+use oram_edge::{InputFault, address_at, has_only, name_at, table_of};
+use std::alloc::Global;
+use toml::Table;
+
+/// What the settings file of a bucket host says.
+#[derive(Debug, Drop)]
+pub struct HostSettings {
+    /// Where it listens.
+    pub listen: String,
+    /// The file that its buckets are kept in.
+    pub file: String,
+}
+
+/// The settings that a new folder begins with.
+pub const FIRST_SETTINGS: &str =
+    "# Where the host listens. Your own machine reaches it there, as by ssh -N -L 7001:127.0.0.1:7001 you@rented.\nlisten = \"127.0.0.1:7001\"\n# The file of the buckets, as seen from this folder; its log stands beside it.\nfile = \"buckets\"\n";
+
+fn host_in(alloc: Global, table: &Table) -> Result<HostSettings, InputFault>
+    ensures { Finds shown (IsHost (table_view table.now)) result }
+{
+    if !has_only(table, &["listen", "file"]) {
+        return Err(InputFault::Bad);
+    }
+    let listen = address_at(table, "listen")?;
+    let file = name_at(table, "file")?;
+    Ok(HostSettings {
+        listen: String::from_str(alloc, listen)?,
+        file: String::from_str(alloc, file)?,
+    })
+}
+
+/// Reads a host's settings from a TOML document.
+pub fn read_host_settings(alloc: Global, text: &str) -> Result<HostSettings, InputFault>
+    // The text is a document whose table is that of these settings.
+    ensures ok { IfOk result (λ s. IsDocumentOf text.now (shown s)) }
+    // Bad comes only where it is no such document of any settings.
+    ensures bad { IsErrOf result InputFault.Bad → (s : _) → IsDocumentOf text.now s → ⊥ }
+{
+    let table = table_of(alloc, text)?;
+    host_in(alloc, &table)
+}

@@ -1,0 +1,53 @@
+//! What was answered over a connection.
+
+ghost use Rattle.std.specs.Prelude.{◌≡◌};
+
+use oram_store::StoreFault;
+
+/// What was answered over a connection. The numbers stay at `u64::MAX`.
+#[derive(Clone, Copy, Debug, PartialEq, Eq)]
+pub struct Tally {
+    /// How many messages.
+    pub messages: u64,
+    /// The bytes of their frames.
+    pub received: u64,
+    /// The bytes of the frames of the answers.
+    pub sent: u64,
+    /// Why the store had no room, the last time that it hadn't.
+    pub failure: Option<StoreFault>,
+}
+
+impl Tally {
+    ghost use Rattle.oram_disk_host.specs.Tallies.{Counts, frame_len, none};
+
+    /// Nothing yet.
+    pub fn new() -> Tally
+        ensures { result ≡ none }
+    {
+        Tally {
+            messages: 0,
+            received: 0,
+            sent: 0,
+            failure: None,
+        }
+    }
+
+    /// The bytes of the frame of a body.
+    fn frame_len(body: &[u8]) -> u64
+        ensures { result ≡ frame_len body.now }
+    {
+        (body.len() as u64).saturating_add(4)
+    }
+
+    /// The tally with one message more, and its answer.
+    pub fn with(&self, body: &[u8], answer: &[u8]) -> Tally
+        ensures { Counts self.now body.now answer.now result }
+    {
+        Tally {
+            messages: self.messages.saturating_add(1),
+            received: self.received.saturating_add(Tally::frame_len(body)),
+            sent: self.sent.saturating_add(Tally::frame_len(answer)),
+            failure: self.failure,
+        }
+    }
+}

@@ -1,0 +1,6 @@
+use Rattle.std.proofs.Common.{◌∙◌}
+use Rattle.std.proofs.lemmas.Result.{IfOk-weaker}
+use Rattle.oram_settings.proofs.progress.with_time_left.Goals as goal
+
+pub returns : goal.returns
+returns c = IfOk-weaker c.format.result _ _ (λ t h. h ∙ rw (c.percent-percent.ensures, c.seconds_left-left.ensures)) c.format.ensures.ok

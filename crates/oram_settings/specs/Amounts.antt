@@ -1,0 +1,27 @@
+-- Amounts as people write them.
+use Rattle.std.specs.Prelude.{ℕ, List, ◌+◌, ◌/◌, ◌%◌, ◌-◌, ◌^◌, ◌==◌, ◌++◌, ◌∷◌, [], min, if◌then◌else◌, nat_lt, codes, decimal}
+use Rattle.std.specs.List.{concat}
+
+-- so many things: one has no ending behind its name
+abbrev pub counted : ℕ → List ℕ → List ℕ
+counted count name = if count == 1 then codes "1 " ++ name else concat (decimal count ∷ codes " " ∷ name ∷ codes "s" ∷ [])
+
+-- how many steps of this size an amount is, to the nearest
+abbrev pub rounded : ℕ → ℕ → ℕ
+rounded amount step = min (amount + step / 2) (2 ^ 64 - 1) / step
+
+-- an amount of bytes in tenths of a unit, and the unit: the first in which it is less than a thousand
+abbrev pub scaled : ℕ → ℕ × List ℕ
+scaled bytes =
+    if nat_lt (rounded bytes 100) 10000 then (rounded bytes 100, codes "kB")
+    else if nat_lt (rounded bytes 100000) 10000 then (rounded bytes 100000, codes "MB")
+    else if nat_lt (rounded bytes 100000000) 10000 then (rounded bytes 100000000, codes "GB")
+    else (rounded bytes 100000000000, codes "TB")
+
+-- tenths of a unit, with the unit behind them
+abbrev pub in_tenths : ℕ → List ℕ → List ℕ
+in_tenths tenths unit = concat (decimal (tenths / 10) ∷ codes "." ∷ decimal (tenths % 10) ∷ codes " " ∷ unit ∷ [])
+
+-- an amount of bytes
+abbrev pub amount : ℕ → List ℕ
+amount bytes = if nat_lt bytes 1000 then counted bytes (codes "byte") else in_tenths (scaled bytes).0 (scaled bytes).1

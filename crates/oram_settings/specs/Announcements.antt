@@ -1,0 +1,24 @@
+-- What the program says when all goes well.
+use Rattle.std.specs.Prelude.{ℕ, List, [], ◌∷◌, codes}
+use Rattle.std.specs.List.{concat}
+use Rattle.oram_settings.specs.Amounts.{amount}
+
+-- of a folder that was made, for a disk of so many bytes, of which so many are stored at the host
+abbrev pub made_text : List ℕ → ℕ → ℕ → List ℕ
+made_text folder size stored =
+    concat (codes "oramdisk: made " ∷ folder ∷ codes " for a disk of " ∷ amount size
+    ∷ codes ": disk.toml with its key, which stays here, and host.toml for the rented machine\noramdisk: formatting will send about " ∷ amount stored
+    ∷ codes " to the host, which stores them\nNext, once host.toml is at the rented machine:\n  there:  oramdisk host --new host.toml\n  here:   oramdisk format " ∷ folder
+    ∷ codes "/disk.toml\n  here:   oramdisk serve " ∷ folder ∷ codes "/disk.toml\n" ∷ [])
+
+-- of a formatting before it begins
+abbrev pub begun_text : ℕ → List ℕ → List ℕ
+begun_text stored host = concat (codes "oramdisk: formatting: about " ∷ amount stored ∷ codes " go to the host at " ∷ host ∷ codes ", which stores them\n" ∷ [])
+
+-- of a file of buckets that is served
+abbrev pub hosting_text : List ℕ → List ℕ → List ℕ
+hosting_text file listen = concat (codes "oramdisk: listening at " ∷ listen ∷ codes ", with the buckets in " ∷ file ∷ codes "\n" ∷ [])
+
+-- of a disk of so many bytes that is served where this URI says
+abbrev pub serving_text : ℕ → List ℕ → List ℕ
+serving_text size uri = concat (codes "oramdisk: serving a disk of " ∷ amount size ∷ codes " at " ∷ uri ∷ codes "\n" ∷ [])

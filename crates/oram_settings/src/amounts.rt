@@ -1,0 +1,64 @@
+//! Amounts as people write them.
+
+ghost use Rattle.std.specs.Prelude.{◌≡◌, ◌<◌, IfOk, string_bytes};
+ghost use Rattle.oram_settings.specs.Amounts as spec;
+
+use std::alloc::{AllocError, Global};
+
+/// So many things: `1 byte`, `2 bytes`.
+pub fn counted(alloc: Global, count: u64, name: &str) -> Result<String, AllocError>
+    ensures { IfOk result (λ text. string_bytes text ≡ spec.counted count name.now) }
+{
+    if count == 1 {
+        format!(in alloc; "1 {name}")
+    } else {
+        format!(in alloc; "{count} {name}s")
+    }
+}
+
+/// How many steps of this size an amount is, to the nearest.
+fn rounded(amount: u64, step: u64) -> u64
+    requires { 0 < step }
+    ensures { result ≡ spec.rounded amount step }
+{
+    amount.saturating_add(step / 2) / step
+}
+
+/// An amount of bytes in tenths of a unit, and the unit: the first in which it is less than a thousand.
+fn scaled(bytes: u64) -> (u64, &'static str)
+    ensures tenths { result.0 ≡ (spec.scaled bytes).0 }
+    ensures unit { result.1.now ≡ (spec.scaled bytes).1 }
+{
+    let kilo = rounded(bytes, 100);
+    let mega = rounded(bytes, 100_000);
+    let giga = rounded(bytes, 100_000_000);
+    if kilo < 10_000 {
+        (kilo, "kB")
+    } else if mega < 10_000 {
+        (mega, "MB")
+    } else if giga < 10_000 {
+        (giga, "GB")
+    } else {
+        (rounded(bytes, 100_000_000_000), "TB")
+    }
+}
+
+/// Tenths of a unit, with the unit behind them.
+fn in_tenths(alloc: Global, tenths: u64, unit: &str) -> Result<String, AllocError>
+    ensures { IfOk result (λ text. string_bytes text ≡ spec.in_tenths tenths unit.now) }
+{
+    let whole = tenths / 10;
+    let tenth = tenths % 10;
+    format!(in alloc; "{whole}.{tenth} {unit}")
+}
+
+/// An amount of bytes: `512 bytes`, `4.1 kB`, `8.6 GB`. A unit is a thousand of the one before.
+pub fn amount_text(alloc: Global, bytes: u64) -> Result<String, AllocError>
+    ensures { IfOk result (λ text. string_bytes text ≡ spec.amount bytes) }
+{
+    if bytes < 1_000 {
+        return counted(alloc, bytes, "byte");
+    }
+    let (tenths, unit) = scaled(bytes);
+    in_tenths(alloc, tenths, unit)
+}

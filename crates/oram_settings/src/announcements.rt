@@ -1,0 +1,48 @@
+//! What the program says when all goes well.
+
+ghost use Rattle.std.specs.Prelude.{◌≡◌, IfOk, string_bytes};
+ghost use Rattle.oram_settings.specs.Announcements as spec;
+
+use crate::amounts::amount_text;
+use std::alloc::{AllocError, Global};
+
+/// What is told of a folder that was made for a disk of so many bytes, whose formatting sends and stores so many: what is in it, what the disk takes,
+/// and the commands that come next.
+pub fn made_text(alloc: Global, folder: &str, size: u64, stored: u64) -> Result<String, AllocError>
+    ensures { IfOk result (λ text. string_bytes text ≡ spec.made_text folder.now size stored) }
+{
+    let size = amount_text(alloc, size)?;
+    let size = size.as_str();
+    let stored = amount_text(alloc, stored)?;
+    let stored = stored.as_str();
+    format!(in alloc;
+        "oramdisk: made {folder} for a disk of {size}: disk.toml with its key, which stays here, and host.toml for the rented machine\noramdisk: formatting will send about {stored} to the host, which stores them\nNext, once host.toml is at the rented machine:\n  there:  oramdisk host --new host.toml\n  here:   oramdisk format {folder}/disk.toml\n  here:   oramdisk serve {folder}/disk.toml\n"
+    )
+}
+
+/// What is told of a formatting before it begins: how much it sends to the host at this address.
+pub fn begun_text(alloc: Global, stored: u64, host: &str) -> Result<String, AllocError>
+    ensures { IfOk result (λ text. string_bytes text ≡ spec.begun_text stored host.now) }
+{
+    let stored = amount_text(alloc, stored)?;
+    let stored = stored.as_str();
+    format!(in alloc;
+        "oramdisk: formatting: about {stored} go to the host at {host}, which stores them\n"
+    )
+}
+
+/// What is told of a file of buckets that is served at this address.
+pub fn hosting_text(alloc: Global, file: &str, listen: &str) -> Result<String, AllocError>
+    ensures { IfOk result (λ text. string_bytes text ≡ spec.hosting_text file.now listen.now) }
+{
+    format!(in alloc; "oramdisk: listening at {listen}, with the buckets in {file}\n")
+}
+
+/// What is told of a disk of so many bytes that is served where this URI says, as the specification of NBD has them (uri.md).
+pub fn serving_text(alloc: Global, size: u64, uri: &str) -> Result<String, AllocError>
+    ensures { IfOk result (λ text. string_bytes text ≡ spec.serving_text size uri.now) }
+{
+    let size = amount_text(alloc, size)?;
+    let size = size.as_str();
+    format!(in alloc; "oramdisk: serving a disk of {size} at {uri}\n")
+}

@@ -1,0 +1,258 @@
+//! What is wrong with a settings file, for whoever wrote it.
+
+use crate::disk_file::{flag_at, place_at, sealing_at};
+use oram_edge::{address_at, count_at, key_at, name_at, number_at};
+use std::alloc::{AllocError, Global};
+use std::fmt;
+use strsim::levenshtein;
+use toml::Table;
+
+/// What has to stand at a key.
+#[derive(Clone, Copy, Debug, PartialEq, Eq)]
+enum Kind {
+    Number,
+    Seconds,
+    Sealer,
+    Key,
+    Address,
+    Place,
+    Name,
+    Flag,
+}
+
+// As a sentence has it that says what a value has to be.
+impl fmt::Display for Kind {
+    fn fmt<W: fmt::Write>(&self, f: &mut fmt::Formatter<W>) -> fmt::Result {
+        f.write_str(match self {
+            Kind::Number => "a whole number, without quotation marks",
+            Kind::Seconds => "a number of seconds from 1 to 1000000, without quotation marks",
+            Kind::Sealer => "\"chacha\" or \"plain\"",
+            Kind::Key => "64 hexadecimal digits in quotation marks",
+            Kind::Address => "\"127.0.0.1:PORT\", with a port from 1 to 65535",
+            Kind::Place => {
+                "\"127.0.0.1:PORT\", with a port from 1 to 65535, or \"unix:NAME\", with the name of a socket"
+            }
+            Kind::Name => "the name of a file in quotation marks",
+            Kind::Flag => "true or false",
+        })
+    }
+}
+
+/// A key of a settings file, and what has to stand there.
+#[derive(Clone, Copy, Debug)]
+struct Setting {
+    key: &'static str,
+    kind: Kind,
+}
+
+/// The settings of a disk.
+const DISK: [Setting; 11] = [
+    Setting {
+        key: "size",
+        kind: Kind::Number,
+    },
+    Setting {
+        key: "block",
+        kind: Kind::Number,
+    },
+    Setting {
+        key: "slots",
+        kind: Kind::Number,
+    },
+    Setting {
+        key: "table",
+        kind: Kind::Number,
+    },
+    Setting {
+        key: "sealer",
+        kind: Kind::Sealer,
+    },
+    Setting {
+        key: "key",
+        kind: Kind::Key,
+    },
+    Setting {
+        key: "host",
+        kind: Kind::Address,
+    },
+    Setting {
+        key: "listen",
+        kind: Kind::Place,
+    },
+    Setting {
+        key: "state",
+        kind: Kind::Name,
+    },
+    Setting {
+        key: "sync",
+        kind: Kind::Flag,
+    },
+    Setting {
+        key: "patience",
+        kind: Kind::Seconds,
+    },
+];
+
+/// The settings of a host.
+const HOST: [Setting; 2] = [
+    Setting {
+        key: "listen",
+        kind: Kind::Address,
+    },
+    Setting {
+        key: "file",
+        kind: Kind::Name,
+    },
+];
+
+/// The most letters that may be wrong in a key for it to be told which one was meant.
+const FEW_LETTERS: usize = 2;
+
+/// What stands at a key is of its kind.
+fn is_right(table: &Table, setting: Setting) -> bool {
+    match setting.kind {
+        Kind::Number => number_at(table, setting.key).is_ok(),
+        Kind::Seconds => count_at(table, setting.key).is_ok(),
+        Kind::Sealer => sealing_at(table, setting.key).is_ok(),
+        Kind::Key => key_at(table, setting.key).is_ok(),
+        Kind::Address => address_at(table, setting.key).is_ok(),
+        Kind::Place => place_at(table, setting.key).is_ok(),
+        Kind::Name => name_at(table, setting.key).is_ok(),
+        Kind::Flag => flag_at(table, setting.key).is_ok(),
+    }
+}
+
+/// A line begins with a value for this key.
+fn sets(line: &str, key: &str) -> bool {
+    match line.trim_start().strip_prefix(key) {
+        Some(rest) => rest.trim_start().starts_with('='),
+        None => false,
+    }
+}
+
+/// A file, with the line in it that sets a key, where one is found: `disk.toml, line 4`.
+fn place_of(alloc: Global, name: &str, text: &str, key: &str) -> Result<String, AllocError> {
+    let mut number = 0u64;
+    for line in text.lines() {
+        number = number.saturating_add(1);
+        if sets(line, key) {
+            return format!(in alloc; "{name}, line {number}");
+        }
+    }
+    String::from_str(alloc, name)
+}
+
+/// The key of a setting that a word was meant for.
+fn meant(
+    alloc: Global,
+    word: &str,
+    settings: &[Setting],
+) -> Result<Option<&'static str>, AllocError> {
+    for setting in settings {
+        if levenshtein(alloc, word, setting.key)? <= FEW_LETTERS {
+            return Ok(Some(setting.key));
+        }
+    }
+    Ok(None)
+}
+
+fn is_known(key: &str, settings: &[Setting]) -> bool {
+    settings.iter().any(|setting| setting.key == key)
+}
+
+/// A key of the table that is no setting's.
+fn unknown_key<'a>(table: &'a Table, settings: &[Setting]) -> Option<&'a str> {
+    for key in table.keys() {
+        if !is_known(key.as_str(), settings) {
+            return Some(key.as_str());
+        }
+    }
+    None
+}
+
+/// That a key is no setting's, and which one may have been meant.
+fn unknown(
+    alloc: Global,
+    name: &str,
+    text: &str,
+    key: &str,
+    settings: &[Setting],
+) -> Result<String, AllocError> {
+    let place = place_of(alloc, name, text, key)?;
+    let place = place.as_str();
+    match meant(alloc, key, settings)? {
+        Some(near) => format!(in alloc; "{place}: unknown key \"{key}\"; did you mean \"{near}\"?"),
+        None => format!(in alloc; "{place}: unknown key \"{key}\""),
+    }
+}
+
+/// What is wrong with a table of these settings, where each of its keys is one of theirs.
+fn wrong_value(
+    alloc: Global,
+    name: &str,
+    text: &str,
+    table: &Table,
+    settings: &[Setting],
+) -> Result<String, AllocError> {
+    for setting in settings {
+        let key = setting.key;
+        let kind = setting.kind;
+        if !table.contains_key(key) {
+            return format!(in alloc; "{name}: missing key \"{key}\", which has to be {kind}");
+        }
+        if !is_right(table, *setting) {
+            let place = place_of(alloc, name, text, key)?;
+            let place = place.as_str();
+            return format!(in alloc; "{place}: {key} has to be {kind}");
+        }
+    }
+    String::from_str(alloc, name)
+}
+
+/// That a text is no TOML document, and on which line it isn't.
+fn no_document(
+    alloc: Global,
+    name: &str,
+    text: &str,
+    error: &toml::de::Error,
+) -> Result<String, AllocError> {
+    let Some(span) = error.span() else {
+        return Err(AllocError);
+    };
+    let before = text.as_bytes().get(..span.start).unwrap_or(&[]);
+    let line = before
+        .iter()
+        .filter(|byte| **byte == b'\n')
+        .count()
+        .saturating_add(1);
+    let why = error.message();
+    format!(in alloc; "{name}, line {line}: {why}")
+}
+
+/// What is wrong with the settings in a file of this name.
+fn complaint(
+    alloc: Global,
+    name: &str,
+    text: &str,
+    settings: &[Setting],
+) -> Result<String, AllocError> {
+    let table = match toml::table_from_str(alloc, text) {
+        Ok(table) => table,
+        Err(error) => return no_document(alloc, name, text, &error),
+    };
+    match unknown_key(&table, settings) {
+        Some(key) => unknown(alloc, name, text, key, settings),
+        None => wrong_value(alloc, name, text, &table, settings),
+    }
+}
+
+/// What is wrong with the text of a file of this name, which isn't a disk's settings: the file, the line where it can be told, the key, and what has
+/// to stand there.
+pub fn disk_complaint(alloc: Global, name: &str, text: &str) -> Result<String, AllocError> {
+    complaint(alloc, name, text, &DISK)
+}
+
+/// What is wrong with the text of a file of this name, which isn't a host's settings.
+pub fn host_complaint(alloc: Global, name: &str, text: &str) -> Result<String, AllocError> {
+    complaint(alloc, name, text, &HOST)
+}

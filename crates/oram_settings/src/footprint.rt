@@ -1,0 +1,39 @@
+//! What a disk takes at its host.
+
+ghost use Rattle.std.specs.Prelude.{◌≡◌};
+ghost use Rattle.oram_settings.specs.Footprint as spec;
+
+use crate::disk_file::Sealing;
+use oram_bucket::{ChaChaSeal, PlainSeal, Sealer};
+use oram_geometry::Device;
+
+/// How many bytes longer a bucket is once it is sealed.
+fn overhead_of(sealing: Sealing) -> usize
+    ensures { result ≡ spec.overhead_of sealing }
+{
+    match sealing {
+        Sealing::Plain => PlainSeal.overhead(),
+        // It is the same for each key.
+        Sealing::ChaCha => ChaChaSeal { key: [0; 32] }.overhead(),
+    }
+}
+
+/// How many nodes the trees of a device have.
+#[tactic(auto, unfolding(crate::specs::Footprint::nodes_below))]
+fn nodes_of(device: &Device) -> u64
+    ensures { result ≡ spec.nodes_of device.now }
+{
+    let mut nodes = 0u64;
+    for tree in 0..device.trees() {
+        nodes = nodes.saturating_add((2u64 << device.depth(tree)) - 1);
+    }
+    nodes
+}
+
+/// How many bytes the records of a device are, which its formatting sends to the host, and the host stores. A file of buckets is somewhat longer.
+pub fn stored_bytes(device: &Device, sealing: Sealing) -> u64
+    ensures { result ≡ spec.stored_bytes device.now sealing }
+{
+    let record = device.record_len(overhead_of(sealing)) as u64;
+    nodes_of(device).saturating_mul(record)
+}

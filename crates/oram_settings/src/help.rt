@@ -1,0 +1,93 @@
+//! What the help of `oramdisk` says.
+
+pub(crate) const VERSION: &str = "0.1.0";
+
+pub(crate) const PROGRAM: &str =
+    "A disk on a rented machine, whose owner learns neither what is in it nor which of its blocks are used.
+
+The rented machine runs 'oramdisk host', which keeps the disk's buckets. Your own machine runs 'oramdisk serve', which clients of NBD connect to.";
+
+pub(crate) const PROGRAM_MORE: &str = "A first disk, in the order of the commands:
+  yours:   oramdisk new mydisk --size 1GiB        and copy mydisk/host.toml to the rented machine
+  rented:  oramdisk host --new host.toml
+  yours:   ssh -N -L 7001:127.0.0.1:7001 you@rented
+  yours:   oramdisk format mydisk/disk.toml
+  yours:   oramdisk serve mydisk/disk.toml
+  yours:   sudo nbd-client 127.0.0.1 10809 /dev/nbd0
+
+'oramdisk help COMMAND' tells more of each. docs/disk.md describes the settings.";
+
+pub(crate) const NEW: &str =
+    "Makes a folder with the settings of a new disk and of its host, and a fresh key";
+
+pub(crate) const NEW_MORE: &str =
+    "The folder then holds disk.toml, with the disk's key, and host.toml, which is for the rented machine. Both are commented.
+A size is a number and a unit: KiB, MiB, GiB and TiB, or kB, MB, GB and TB. The greatest is 64GiB.
+
+Example:
+  oramdisk new mydisk --size 1GiB";
+
+pub(crate) const HOST: &str =
+    "Keeps the buckets of a disk in a file, at the rented machine, until it is ended";
+
+pub(crate) const HOST_MORE: &str =
+    "The settings say where it listens and which file it keeps the buckets in; 'oramdisk new' writes them as host.toml.
+The first time say --new, which makes the file. Without it the file has to be there.
+
+Examples:
+  oramdisk host --new host.toml
+  oramdisk host host.toml";
+
+pub(crate) const FORMAT: &str = "Makes the disk on its host, once, and tells how far it is";
+
+pub(crate) const FORMAT_MORE: &str =
+    "The host has to be running and reached at the address that the settings name. Each setting is described in the disk.toml
+that 'oramdisk new' writes.
+
+Example:
+  oramdisk format mydisk/disk.toml";
+
+pub(crate) const SERVE: &str = "Serves the disk to clients of NBD, until it is ended";
+
+pub(crate) const SERVE_MORE: &str =
+    "The disk has to be formatted, and its host reached at the address that the settings name. Each setting is described in
+the disk.toml that 'oramdisk new' writes.
+
+Example:
+  oramdisk serve mydisk/disk.toml
+  sudo nbd-client 127.0.0.1 10809 /dev/nbd0       or any client: nbdcopy, qemu-img, fio on nbd://127.0.0.1:10809";
+
+pub(crate) const STATUS: &str =
+    "Tells how the disk stands: its size, its accesses, what waits, and why it failed";
+
+pub(crate) const STATUS_MORE: &str =
+    "It asks no host, and may be used while the disk is served. Each setting is described in the disk.toml that
+'oramdisk new' writes.
+
+Example:
+  oramdisk status mydisk/disk.toml";
+
+pub(crate) const RETRY: &str =
+    "Has a disk that failed go on from its kept state when it is served next";
+
+pub(crate) const RETRY_MORE: &str =
+    "'oramdisk status' says why the disk failed. Use this once its own host is reached again, with its own file. Each setting
+is described in the disk.toml that 'oramdisk new' writes.
+
+Example:
+  oramdisk retry mydisk/disk.toml";
+
+/// What a subcommand's words are.
+pub(crate) const DISK_SETTINGS: &str = "The disk's settings file, such as mydisk/disk.toml";
+
+pub(crate) const HOST_SETTINGS: &str = "The host's settings file, such as host.toml";
+
+pub(crate) const NEW_FILE: &str = "Makes the file of buckets, which may not be there yet";
+
+pub(crate) const FOLDER: &str = "The folder to make";
+
+pub(crate) const SIZE: &str = "How much the disk holds, such as 512MiB or 1GiB";
+
+/// What is said of words that ask for nothing though clap takes them.
+pub(crate) const NOTHING_ASKED: &str =
+    "these words ask for nothing\n\nFor more information, try '--help'.";
