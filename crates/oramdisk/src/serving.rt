@@ -1,7 +1,7 @@
 //! A disk is served to clients of NBD, one connection after the other.
 
-ghost use Rattle.std.specs.Prelude.{◌≡◌, ◌↔◌, Err, IsTrue, string_bytes};
-ghost use Rattle.oramdisk.specs.Stops.{IsGivenUp};
+ghost use Rattle.std.specs.Prelude.{◌≡◌, ◌↔◌, Err, IsTrue};
+ghost use Rattle.oramdisk.specs.Stops as stops;
 
 use crate::clients::{ClientAttendant, Parting};
 use crate::disk_files::{
@@ -244,7 +244,7 @@ type DiskVolume<'a, S> = Volume<
 
 /// What it is to the program that a link to the host at this address gave up.
 fn given_up(trouble: Option<Trouble>, host: String) -> Fault
-    ensures { IsGivenUp trouble (string_bytes host) result }
+    ensures { result ≡ stops.given_up trouble host }
 {
     match trouble {
         Some(Trouble::NoRoom) => Fault::HostFull(host),
