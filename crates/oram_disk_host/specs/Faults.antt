@@ -110,7 +110,7 @@ abbrev pub file_fault : FileFault → Fault
 file_fault (file.File name) = File reason.Other name
 file_fault file.OutOfMemory = OutOfMemory
 
--- of the file of this name, it is told so for a reason of which this holds; or there is no memory
+-- the fault names this file and gives a reason that `is_reason` allows, or says that there is no memory
 abbrev pub IsFileFault : List ℕ → (FileReason → Type 0) → Fault → Type 0
 IsFileFault name is_reason (File why told) = is_reason why × (string_bytes told ≡ name)
 IsFileFault name is_reason OutOfMemory = ⊤

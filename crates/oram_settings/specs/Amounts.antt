@@ -2,7 +2,7 @@
 use Rattle.std.specs.Prelude.{ℕ, List, ◌+◌, ◌/◌, ◌%◌, ◌-◌, ◌^◌, ◌==◌, ◌++◌, ◌∷◌, [], min, if◌then◌else◌, nat_lt, codes, decimal}
 use Rattle.std.specs.List.{concat}
 
--- so many things: one has no ending behind its name
+-- a count and a name, in the plural unless the count is one
 abbrev pub counted : ℕ → List ℕ → List ℕ
 counted count name = if count == 1 then codes "1 " ++ name else concat (decimal count ∷ codes " " ∷ name ∷ codes "s" ∷ [])
 

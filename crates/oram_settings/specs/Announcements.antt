@@ -3,7 +3,7 @@ use Rattle.std.specs.Prelude.{ℕ, List, [], ◌∷◌, codes}
 use Rattle.std.specs.List.{concat}
 use Rattle.oram_settings.specs.Amounts.{amount}
 
--- of a folder that was made, for a disk of so many bytes, of which so many are stored at the host
+-- what `new` prints: `size` is the disk's size and `stored` what the host stores of it, both in bytes
 abbrev pub made_text : List ℕ → ℕ → ℕ → List ℕ
 made_text folder size stored =
     concat (codes "oramdisk: made " ∷ folder ∷ codes " for a disk of " ∷ amount size
@@ -19,6 +19,6 @@ begun_text stored host = concat (codes "oramdisk: formatting: about " ∷ amount
 abbrev pub hosting_text : List ℕ → List ℕ → List ℕ
 hosting_text file listen = concat (codes "oramdisk: listening at " ∷ listen ∷ codes ", with the buckets in " ∷ file ∷ codes "\n" ∷ [])
 
--- of a disk of so many bytes that is served where this URI says
+-- what `serve` prints: `size` is the disk's size in bytes
 abbrev pub serving_text : ℕ → List ℕ → List ℕ
 serving_text size uri = concat (codes "oramdisk: serving a disk of " ∷ amount size ∷ codes " at " ∷ uri ∷ codes "\n" ∷ [])

@@ -5,7 +5,7 @@ ghost use Rattle.oram_settings.specs.Amounts as spec;
 
 use std::alloc::{AllocError, Global};
 
-/// So many things: `1 byte`, `2 bytes`.
+/// A count and the name of what is counted, in the plural unless there is one: `1 byte`, `2 bytes`.
 pub fn counted(alloc: Global, count: u64, name: &str) -> Result<String, AllocError>
     ensures { IfOk result (λ text. string_bytes text ≡ spec.counted count name.now) }
 {

@@ -6,8 +6,8 @@ ghost use Rattle.oram_settings.specs.Announcements as spec;
 use crate::amounts::amount_text;
 use std::alloc::{AllocError, Global};
 
-/// What is told of a folder that was made for a disk of so many bytes, whose formatting sends and stores so many: what is in it, what the disk takes,
-/// and the commands that come next.
+/// What `new` prints once it has made the folder of a disk: what is in the folder, and the commands that come next. `size` is the disk's
+/// size, and `stored` is what formatting it sends to the host; both are in bytes.
 pub fn made_text(alloc: Global, folder: &str, size: u64, stored: u64) -> Result<String, AllocError>
     ensures { IfOk result (λ text. string_bytes text ≡ spec.made_text folder.now size stored) }
 {
@@ -38,7 +38,7 @@ pub fn hosting_text(alloc: Global, file: &str, listen: &str) -> Result<String, A
     format!(in alloc; "oramdisk: listening at {listen}, with the buckets in {file}\n")
 }
 
-/// What is told of a disk of so many bytes that is served where this URI says, as the specification of NBD has them (uri.md).
+/// What `serve` prints once clients can connect at `uri` (NBD's uri.md) to a disk of `size` bytes.
 pub fn serving_text(alloc: Global, size: u64, uri: &str) -> Result<String, AllocError>
     ensures { IfOk result (λ text. string_bytes text ≡ spec.serving_text size uri.now) }
 {

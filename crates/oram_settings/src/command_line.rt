@@ -210,7 +210,7 @@ fn nothing_asked(alloc: Global) -> NoRequest
     }
 }
 
-/// Reads the words of a command line, of which the first is the program's name.
+/// Reads the words of a command line. The first word is the program's name.
 pub fn read_words(alloc: Global, words: &[&str]) -> Result<Words, NoRequest>
     // It is what clap's matches of the words ask for.
     ensures ok { IfOk result (λ w. request_in (texts words.now) ≡ Some (shown w)) }
