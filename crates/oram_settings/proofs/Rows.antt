@@ -1,15 +1,18 @@
 -- The definitions on names, sizes, a formatting, a disk and settings that are written out.
-use Rattle.std.proofs.Common.{◌≡◌, ◌^◌, refl, Some, None, true, arith, codes}
+use Rattle.std.proofs.Common.{◌≡◌, ◌^◌, refl, Some, None, arith, codes}
 use Rattle.std.specs.Prelude.{replicate, pos}
 use Rattle.std.specs.Fmt.{digits}
 use Rattle.std.specs.Path.{path_file_name, path_join, path_parent, path_with_file_name, rsplit_once, split_last_component, trim_trailing}
 use Rattle.hex.specs.Hex.{encode_with}
-use Rattle.toml.specs.Data.{boolean, integer, member, no_members, string}
+use Rattle.toml.specs.Data.{Members, integer, member, no_members, string}
 use Rattle.toml.specs.Parse.{parse_document}
 use Rattle.toml.proofs.OnLiterals.{toml_on_literals}
 use Rattle.oram_run.specs.declared.events.Reason.TheVariants.{Tampered}
+use Rattle.oram_edge.specs.Tables.{HasNumber, HasText}
+use Rattle.oram_settings.specs.Amounts.{size_text}
 use Rattle.oram_settings.specs.Progress.{progress_text}
-use Rattle.oram_settings.specs.Settings.{first_text}
+use Rattle.oram_settings.specs.Settings.{HasSealing, OrDefault, first_text}
+use Rattle.oram_settings.specs.declared.disk_file.Sealing.TheVariants.{ChaCha}
 use Rattle.oram_settings.specs.Sizes.{IsSizeIn}
 use Rattle.oram_settings.specs.Status.{failing, report}
 
@@ -42,18 +45,43 @@ stands : report (record { blocks = 262144; block_bytes = 4096; trees = 2; access
 unfolding digits
 stands = refl
 
+a_gibibyte : size_text (2 ^ 30) ≡ codes "1 GiB"
+unfolding digits
+a_gibibyte = refl
+
+one_and_a_half : size_text 1610612736 ≡ codes "1536 MiB"
+unfolding digits
+one_and_a_half = refl
+
+half_a_mebibyte : size_text 524288 ≡ codes "512 KiB"
+unfolding digits
+half_a_mebibyte = refl
+
+no_whole_unit : size_text 100003840 ≡ codes "100.0 MB"
+unfolding digits
+no_whole_unit = refl
+
 -- what the first settings say, once they are read
-reads_back : parse_document (first_text (2 ^ 30) (replicate 32 167)) ≡ Some
-    (member (codes "block") (integer (pos 4096))
-    (member (codes "host") (string (codes "127.0.0.1:7001"))
+abbrev first_table : Members
+first_table =
+    member (codes "host") (string (codes "127.0.0.1:7001"))
     (member (codes "key") (string (codes "a7a7a7a7a7a7a7a7a7a7a7a7a7a7a7a7a7a7a7a7a7a7a7a7a7a7a7a7a7a7a7a7"))
-    (member (codes "listen") (string (codes "127.0.0.1:10809"))
-    (member (codes "patience") (integer (pos 600))
-    (member (codes "sealer") (string (codes "chacha"))
-    (member (codes "size") (integer (pos 1073741824))
-    (member (codes "slots") (integer (pos 4))
-    (member (codes "state") (string (codes "disk.state"))
-    (member (codes "sync") (boolean true)
-    (member (codes "table") (integer (pos 1024)) no_members)))))))))))
+    (member (codes "size") (integer (pos 1073741824)) no_members))
+
+reads_back : parse_document (first_text (2 ^ 30) (replicate 32 167)) ≡ Some first_table
 unfolding digits encode_with toml_on_literals
 reads_back = refl
+
+-- what holds where they say nothing
+no_slots : OrDefault first_table (codes "slots") 4 (HasNumber first_table (codes "slots")) 4
+no_slots = refl
+
+no_sealer : OrDefault first_table (codes "sealer") ChaCha (HasSealing first_table (codes "sealer")) ChaCha
+no_sealer = refl
+
+nowhere_to_listen : OrDefault first_table (codes "listen") (codes "unix:disk.sock") (HasText first_table (codes "listen")) (codes "unix:disk.sock")
+nowhere_to_listen = refl
+
+-- and where they say it
+five_slots : let said = member (codes "slots") (integer (pos 5)) no_members in OrDefault said (codes "slots") 4 (HasNumber said (codes "slots")) 5
+five_slots = refl

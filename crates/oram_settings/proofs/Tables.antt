@@ -1,10 +1,11 @@
 -- What is found at a key of a table.
-use Rattle.std.proofs.Common.{◌≡◌, ◌∙◌, ◌⊎◌, ℕ, List, Result, Ok, Err, codes, arith, sym, subst, inl, inr}
-use Rattle.toml.specs.Data.{Members}
-use Rattle.oram_edge.specs.Tables.{Finds, HasHex, HasText, IsAddress, IsName}
+use Rattle.std.proofs.Common.{◌≡◌, ◌∙◌, ◌⊎◌, ℕ, List, Option, Some, None, true, is_some, Result, Ok, Err, codes, arith, sym, subst, inl, inr}
+use Rattle.std.specs.Prelude.{MatchOption}
+use Rattle.toml.specs.Data.{Data, Members, get_member}
+use Rattle.oram_edge.specs.Tables.{Finds, HasText, IsAddress, IsName}
 use Rattle.oram_edge.specs.declared.input.InputFault.{InputFault}
 use Rattle.oram_edge.specs.declared.input.InputFault.TheVariants.{Bad}
-use Rattle.oram_settings.specs.Settings.{DiskValue, HasSealing, IsDisk, IsPlace, IsSocket}
+use Rattle.oram_settings.specs.Settings.{DiskValue, HasSealing, IsDisk, IsPlace, IsSocket, OrDefault}
 use Rattle.oram_settings.specs.declared.disk_file.Sealing.{Sealing}
 use Rattle.oram_settings.specs.declared.disk_file.Sealing.TheVariants.{Plain, ChaCha}
 
@@ -13,9 +14,10 @@ pub no_sealing : (t : Members) (key : List ℕ) (e : InputFault) → (e ≡ Bad 
 no_sealing t key e none bad Plain h = none bad (codes "plain") (h, omega arith)
 no_sealing t key e none bad ChaCha h = none bad (codes "chacha") (h, omega arith)
 
--- where no key stands, the table is no disk's
-pub no_disk : (t : Members) (e : InputFault) → (e ≡ Bad → (k : List ℕ) → HasHex t (codes "key") k → ⊥) → e ≡ Bad → (s : DiskValue) → IsDisk t s → ⊥
-no_disk t e none bad s h = none bad s.key h.key
+-- where a value is bad that the table of a disk has, the table is no disk's
+pub no_disk : {X : Type 0} {P : X → Type 0} (t : Members) (e : InputFault) → (e ≡ Bad → (x : X) → P x → ⊥) → (value : DiskValue → X) → ((s : DiskValue) → IsDisk t s → P (value s))
+    → e ≡ Bad → (s : DiskValue) → IsDisk t s → ⊥
+no_disk t e none value has bad s h = none bad (value s) (has s h)
 
 -- one text at a key
 one_text : (t : Members) (key x y : List ℕ) → HasText t key x → HasText t key y → x ≡ y
@@ -39,6 +41,12 @@ pub address_found : {Y : Type 0} (view : Y → List ℕ) (t : Members) (key text
 address_found view t key text has no_socket (Ok y) h = (h.0, record { is_either = inl h.1 })
 address_found view t key text has no_socket (Err e) none = λ bad x h. other_place t key text has no_socket x (λ a. none bad x (h.0, a)) h.0 h.1.is_either
 
--- where no place stands, the table is no disk's
-pub no_listen : (t : Members) (e : InputFault) → (e ≡ Bad → (x : List ℕ) → HasText t (codes "listen") x × IsPlace x → ⊥) → e ≡ Bad → (s : DiskValue) → IsDisk t s → ⊥
-no_listen t e none bad s h = none bad s.listen h.listen
+found_in : {X Y : Type 0} (view : Y → X) (o : Option Data) (default : X) (P : X → Type 0) (r : Result Y InputFault) → is_some o ≡ true → Finds view P r
+    → Finds view (λ x. MatchOption o (x ≡ default) (λ _. P x)) r
+found_in view None default P r there h = cc
+found_in view (Some d) default P r there h = h
+
+-- where something stands at the key, what is found there is found in place of the default
+pub found_or : {X Y : Type 0} (view : Y → X) (t : Members) (key : List ℕ) (default : X) (P : X → Type 0) (r : Result Y InputFault) → is_some (get_member key t) ≡ true
+    → Finds view P r → Finds view (OrDefault t key default P) r
+found_or view t key default P r there h = found_in view (get_member key t) default P r there h

@@ -1,5 +1,5 @@
 -- Amounts as people write them.
-use Rattle.std.specs.Prelude.{ℕ, List, ◌+◌, ◌/◌, ◌%◌, ◌-◌, ◌^◌, ◌==◌, ◌++◌, ◌∷◌, [], min, if◌then◌else◌, nat_lt, codes, decimal}
+use Rattle.std.specs.Prelude.{ℕ, List, ◌+◌, ◌/◌, ◌%◌, ◌-◌, ◌^◌, ◌==◌, ◌++◌, ◌∷◌, [], min, if◌then◌else◌, nat_lt, codes, decimal, Option, Some, None}
 use Rattle.std.specs.List.{concat}
 
 -- a count and a name, in the plural unless the count is one
@@ -25,3 +25,23 @@ in_tenths tenths unit = concat (decimal (tenths / 10) ∷ codes "." ∷ decimal 
 -- an amount of bytes
 abbrev pub amount : ℕ → List ℕ
 amount bytes = if nat_lt bytes 1000 then counted bytes (codes "byte") else in_tenths (scaled bytes).0 (scaled bytes).1
+
+-- how many of a binary unit a size is, and the unit: the greatest that it is a whole number of, with KiB below 1 MiB alone
+abbrev pub in_binary : ℕ → Option (ℕ × List ℕ)
+in_binary size =
+    if size == 0 then None
+    else if size % 2 ^ 40 == 0 then Some (size / 2 ^ 40, codes "TiB")
+    else if size % 2 ^ 30 == 0 then Some (size / 2 ^ 30, codes "GiB")
+    else if size % 2 ^ 20 == 0 then Some (size / 2 ^ 20, codes "MiB")
+    else if nat_lt (2 ^ 20) size then None
+    else if size % 2 ^ 10 == 0 then Some (size / 2 ^ 10, codes "KiB")
+    else None
+
+-- so many of a unit; where there is none, the amount
+abbrev pub in_units_or : List ℕ → Option (ℕ × List ℕ) → List ℕ
+in_units_or other None = other
+in_units_or other (Some (count, unit)) = concat (decimal count ∷ codes " " ∷ unit ∷ [])
+
+-- the size of a disk
+abbrev pub size_text : ℕ → List ℕ
+size_text size = in_units_or (amount size) (in_binary size)

@@ -1,15 +1,20 @@
 -- What the program says when all goes well.
 use Rattle.std.specs.Prelude.{ℕ, List, [], ◌∷◌, codes}
 use Rattle.std.specs.List.{concat}
-use Rattle.oram_settings.specs.Amounts.{amount}
+use Rattle.oram_settings.specs.Amounts.{amount, size_text}
+
+-- what comes next, once the folder of a disk is made
+abbrev pub next_text : List ℕ → List ℕ
+next_text folder =
+    concat (codes "Next, once host.toml is at the rented machine:\n  there:  oramdisk host --new host.toml\n  here:   oramdisk format " ∷ folder
+    ∷ codes "/disk.toml\n  here:   oramdisk serve " ∷ folder ∷ codes "/disk.toml\nClients of NBD then connect to nbd+unix:///?socket=" ∷ folder ∷ codes "/disk.sock" ∷ [])
 
 -- what `new` prints: `size` is the disk's size and `stored` what the host stores of it, both in bytes
 abbrev pub made_text : List ℕ → ℕ → ℕ → List ℕ
 made_text folder size stored =
-    concat (codes "oramdisk: made " ∷ folder ∷ codes " for a disk of " ∷ amount size
+    concat (codes "oramdisk: made " ∷ folder ∷ codes " for a disk of " ∷ size_text size
     ∷ codes ": disk.toml with its key, which stays here, and host.toml for the rented machine\noramdisk: formatting will send about " ∷ amount stored
-    ∷ codes " to the host, which stores them\nNext, once host.toml is at the rented machine:\n  there:  oramdisk host --new host.toml\n  here:   oramdisk format " ∷ folder
-    ∷ codes "/disk.toml\n  here:   oramdisk serve " ∷ folder ∷ codes "/disk.toml\n" ∷ [])
+    ∷ codes " to the host, which stores them\n" ∷ next_text folder ∷ codes "\n" ∷ [])
 
 -- of a formatting before it begins
 abbrev pub begun_text : ℕ → List ℕ → List ℕ
@@ -21,4 +26,4 @@ hosting_text file listen = concat (codes "oramdisk: listening at " ∷ listen �
 
 -- what `serve` prints: `size` is the disk's size in bytes
 abbrev pub serving_text : ℕ → List ℕ → List ℕ
-serving_text size uri = concat (codes "oramdisk: serving a disk of " ∷ amount size ∷ codes " at " ∷ uri ∷ codes "\n" ∷ [])
+serving_text size uri = concat (codes "oramdisk: serving a disk of " ∷ size_text size ∷ codes " at " ∷ uri ∷ codes "\n" ∷ [])

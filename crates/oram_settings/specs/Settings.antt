@@ -1,5 +1,5 @@
--- What a disk's settings file says, and when a text says it.
-use Rattle.std.specs.Prelude.{◌≡◌, ◌∷◌, ◌++◌, ◌⊎◌, ◌*◌, ◌^◌, ℕ, Bool, List, [], codes, decimal, string_bytes, Some, Ok}
+-- What a disk's settings file says, and when a text says it. Size, key and host have to be there; each other setting has a default.
+use Rattle.std.specs.Prelude.{◌≡◌, ◌∷◌, ◌++◌, ◌⊎◌, ◌*◌, ◌^◌, ℕ, Bool, true, List, [], codes, decimal, string_bytes, Some, Ok, MatchOption}
 use Rattle.std.specs.List.{concat}
 use Rattle.hex.specs.Hex.{encode_lower}
 use Rattle.toml.specs.Data.{Members, boolean, get_member}
@@ -58,20 +58,24 @@ IsSocket text = (path : List ℕ) × IsName path × (text ≡ codes "unix:" ++ p
 pub record IsPlace (text : List ℕ) : Type 0 where
   pub is_either : IsAddress text ⊎ IsSocket text
 
+-- P of what stands at the key; where nothing stands there, it is the default
+abbrev pub OrDefault : {X : Type 0} → Members → List ℕ → X → (X → Type 0) → X → Type 0
+OrDefault table key default P x = MatchOption (get_member key table) (x ≡ default) (λ _. P x)
+
 -- the table is that of these settings
 pub record IsDisk (table : Members) (s : DiskValue) : Type 0 where
   pub only : HasOnly (codes "size" ∷ codes "block" ∷ codes "slots" ∷ codes "table" ∷ codes "sealer" ∷ codes "key" ∷ codes "host" ∷ codes "listen" ∷ codes "state" ∷ codes "sync" ∷ codes "patience" ∷ []) table
   pub size : HasNumber table (codes "size") s.size
-  pub block : HasNumber table (codes "block") s.block
-  pub slots : HasNumber table (codes "slots") s.slots
-  pub entries : HasNumber table (codes "table") s.entries
-  pub sealer : HasSealing table (codes "sealer") s.sealer
+  pub block : OrDefault table (codes "block") 4096 (HasNumber table (codes "block")) s.block
+  pub slots : OrDefault table (codes "slots") 4 (HasNumber table (codes "slots")) s.slots
+  pub entries : OrDefault table (codes "table") 1024 (HasNumber table (codes "table")) s.entries
+  pub sealer : OrDefault table (codes "sealer") ChaCha (HasSealing table (codes "sealer")) s.sealer
   pub key : HasHex table (codes "key") s.key
   pub host : HasText table (codes "host") s.host × IsAddress s.host
-  pub listen : HasText table (codes "listen") s.listen × IsPlace s.listen
-  pub state : HasText table (codes "state") s.state × IsName s.state
-  pub sync : HasFlag table (codes "sync") s.sync
-  pub patience : HasNumber table (codes "patience") s.patience × IsCount s.patience
+  pub listen : OrDefault table (codes "listen") (codes "unix:disk.sock") (λ text. HasText table (codes "listen") text × IsPlace text) s.listen
+  pub state : OrDefault table (codes "state") (codes "disk.state") (λ text. HasText table (codes "state") text × IsName text) s.state
+  pub sync : OrDefault table (codes "sync") true (HasFlag table (codes "sync")) s.sync
+  pub patience : OrDefault table (codes "patience") 600 (λ n. HasNumber table (codes "patience") n × IsCount n) s.patience
 
 -- the text is a TOML document, and its table that of these settings
 abbrev pub IsDocumentOf : List ℕ → DiskValue → Type 0
@@ -82,10 +86,11 @@ abbrev pub IsDeviceOf : ℕ → ℕ → ℕ → ℕ → Sizes → Type 0
 IsDeviceOf size block slots table device = (blocks : ℕ) × (blocks * block ≡ size)
     × (device_of (record { blocks = blocks; block_bytes = block; slots = slots; top = table; lifetime = 2 ^ 40 }) ≡ Ok device)
 
--- the first settings of a disk of so many bytes and this key, as its file has them
+-- the first settings of a disk of so many bytes and this key, as its file has them: what may be left out stands there as comments
 abbrev pub first_text : ℕ → List ℕ → List ℕ
 first_text size key =
-    concat (codes "# The disk's size in bytes. It is fixed once the disk is formatted, and so are the next four lines.\nsize = " ∷ decimal size
-    ∷ codes "\nblock = " ∷ decimal 4096 ∷ codes "\nslots = " ∷ decimal 4 ∷ codes "\ntable = " ∷ decimal 1024
-    ∷ codes "\nsealer = \"chacha\"\n# Whoever has this key can read the disk. Without it nobody can.\nkey = \"" ∷ encode_lower key
-    ∷ codes "\"\n# Where the host is reached, and where the disk is served.\nhost = \"127.0.0.1:7001\"\nlisten = \"127.0.0.1:10809\"\n# The file of the disk's state, in this folder, and whether it is synced each time.\nstate = \"disk.state\"\nsync = true\n# For how many seconds a host that is out of reach is waited for.\npatience = 600\n" ∷ [])
+    concat (codes "# The disk's size in bytes. It is fixed once the disk is formatted.\nsize = "
+    ∷ decimal size
+    ∷ codes "\n\n# Whoever has this key can read the disk. Without it nobody can.\nkey = \""
+    ∷ encode_lower key
+    ∷ codes "\"\n\n# Where the host is reached: your end of the tunnel.\nhost = \"127.0.0.1:7001\"\n\n# Each line below shows what holds without it. To set another value, take away the \"# \" that the line begins with.\n\n# These four are fixed once the disk is formatted.\n# block = 4096               # the bytes of a block\n# slots = 4                  # how many blocks a bucket has room for\n# table = 1024               # the most entries of the table that the client keeps\n# sealer = \"chacha\"          # how buckets are sealed; \"plain\" hides nothing, and is for tries\n\n# These may be changed at any time.\n# listen = \"unix:disk.sock\"  # where the disk is served: a socket in this folder, for you alone; or \"127.0.0.1:PORT\", for all users of this machine\n# state = \"disk.state\"       # the file of the disk's state, in this folder\n# sync = true                # each state is synced before it counts\n# patience = 600             # for how many seconds a host that is out of reach is waited for\n" ∷ [])

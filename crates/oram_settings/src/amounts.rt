@@ -1,6 +1,6 @@
 //! Amounts as people write them.
 
-ghost use Rattle.std.specs.Prelude.{◌≡◌, ◌<◌, IfOk, string_bytes};
+ghost use Rattle.std.specs.Prelude.{◌≡◌, ◌<◌, IfOk, option_map, string_bytes};
 ghost use Rattle.oram_settings.specs.Amounts as spec;
 
 use std::alloc::{AllocError, Global};
@@ -61,4 +61,45 @@ pub fn amount_text(alloc: Global, bytes: u64) -> Result<String, AllocError>
     }
     let (tenths, unit) = scaled(bytes);
     in_tenths(alloc, tenths, unit)
+}
+
+/// The bytes of the binary units.
+const KIB: u64 = 1 << 10;
+
+const MIB: u64 = 1 << 20;
+
+const GIB: u64 = 1 << 30;
+
+const TIB: u64 = 1 << 40;
+
+/// How many of a binary unit a size is, and the unit: the greatest that it is a whole number of. It is given in KiB below 1 MiB alone, where the
+/// number is short.
+fn in_binary(size: u64) -> Option<(u64, &'static str)>
+    ensures { option_map (λ p. (p.0, p.1.now)) result ≡ spec.in_binary size }
+{
+    if size == 0 {
+        None
+    } else if size % TIB == 0 {
+        Some((size / TIB, "TiB"))
+    } else if size % GIB == 0 {
+        Some((size / GIB, "GiB"))
+    } else if size % MIB == 0 {
+        Some((size / MIB, "MiB"))
+    } else if MIB < size {
+        None
+    } else if size % KIB == 0 {
+        Some((size / KIB, "KiB"))
+    } else {
+        None
+    }
+}
+
+/// The size of a disk, as people write it: `64 MiB`, `1 GiB` where it is a whole number of binary units, else as an amount.
+pub fn size_text(alloc: Global, size: u64) -> Result<String, AllocError>
+    ensures { IfOk result (λ text. string_bytes text ≡ spec.size_text size) }
+{
+    match in_binary(size) {
+        Some((count, unit)) => format!(in alloc; "{count} {unit}"),
+        None => amount_text(alloc, size),
+    }
 }

@@ -3,20 +3,31 @@
 ghost use Rattle.std.specs.Prelude.{◌≡◌, IfOk, string_bytes};
 ghost use Rattle.oram_settings.specs.Announcements as spec;
 
-use crate::amounts::amount_text;
+use crate::amounts::{amount_text, size_text};
 use std::alloc::{AllocError, Global};
 
-/// What `new` prints once it has made the folder of a disk: what is in the folder, and the commands that come next. `size` is the disk's
-/// size, and `stored` is what formatting it sends to the host; both are in bytes.
+/// What comes next, once the folder of a disk is made.
+fn next_text(alloc: Global, folder: &str) -> Result<String, AllocError>
+    ensures { IfOk result (λ text. string_bytes text ≡ spec.next_text folder.now) }
+{
+    format!(in alloc;
+        "Next, once host.toml is at the rented machine:\n  there:  oramdisk host --new host.toml\n  here:   oramdisk format {folder}/disk.toml\n  here:   oramdisk serve {folder}/disk.toml\nClients of NBD then connect to nbd+unix:///?socket={folder}/disk.sock"
+    )
+}
+
+/// What `new` prints once it has made the folder of a disk: what is in the folder, the commands that come next, and where clients connect.
+/// `size` is the disk's size, and `stored` is what formatting it sends to the host; both are in bytes.
 pub fn made_text(alloc: Global, folder: &str, size: u64, stored: u64) -> Result<String, AllocError>
     ensures { IfOk result (λ text. string_bytes text ≡ spec.made_text folder.now size stored) }
 {
-    let size = amount_text(alloc, size)?;
+    let size = size_text(alloc, size)?;
     let size = size.as_str();
     let stored = amount_text(alloc, stored)?;
     let stored = stored.as_str();
+    let next = next_text(alloc, folder)?;
+    let next = next.as_str();
     format!(in alloc;
-        "oramdisk: made {folder} for a disk of {size}: disk.toml with its key, which stays here, and host.toml for the rented machine\noramdisk: formatting will send about {stored} to the host, which stores them\nNext, once host.toml is at the rented machine:\n  there:  oramdisk host --new host.toml\n  here:   oramdisk format {folder}/disk.toml\n  here:   oramdisk serve {folder}/disk.toml\n"
+        "oramdisk: made {folder} for a disk of {size}: disk.toml with its key, which stays here, and host.toml for the rented machine\noramdisk: formatting will send about {stored} to the host, which stores them\n{next}\n"
     )
 }
 
@@ -42,7 +53,7 @@ pub fn hosting_text(alloc: Global, file: &str, listen: &str) -> Result<String, A
 pub fn serving_text(alloc: Global, size: u64, uri: &str) -> Result<String, AllocError>
     ensures { IfOk result (λ text. string_bytes text ≡ spec.serving_text size uri.now) }
 {
-    let size = amount_text(alloc, size)?;
+    let size = size_text(alloc, size)?;
     let size = size.as_str();
     format!(in alloc; "oramdisk: serving a disk of {size} at {uri}\n")
 }

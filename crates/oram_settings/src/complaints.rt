@@ -43,6 +43,8 @@ impl fmt::Display for Kind {
 struct Setting {
     key: &'static str,
     kind: Kind,
+    /// It has no default.
+    is_required: bool,
 }
 
 /// The settings of a disk.
@@ -50,46 +52,57 @@ const DISK: [Setting; 11] = [
     Setting {
         key: "size",
         kind: Kind::Number,
+        is_required: true,
     },
     Setting {
         key: "block",
         kind: Kind::Number,
+        is_required: false,
     },
     Setting {
         key: "slots",
         kind: Kind::Number,
+        is_required: false,
     },
     Setting {
         key: "table",
         kind: Kind::Number,
+        is_required: false,
     },
     Setting {
         key: "sealer",
         kind: Kind::Sealer,
+        is_required: false,
     },
     Setting {
         key: "key",
         kind: Kind::Key,
+        is_required: true,
     },
     Setting {
         key: "host",
         kind: Kind::Address,
+        is_required: true,
     },
     Setting {
         key: "listen",
         kind: Kind::Place,
+        is_required: false,
     },
     Setting {
         key: "state",
         kind: Kind::Name,
+        is_required: false,
     },
     Setting {
         key: "sync",
         kind: Kind::Flag,
+        is_required: false,
     },
     Setting {
         key: "patience",
         kind: Kind::Seconds,
+        is_required: false,
     },
 ];
 
@@ -98,10 +111,12 @@ const HOST: [Setting; 2] = [
     Setting {
         key: "listen",
         kind: Kind::Address,
+        is_required: true,
     },
     Setting {
         key: "file",
         kind: Kind::Name,
+        is_required: true,
     },
 ];
 
@@ -122,10 +137,10 @@ fn is_right(table: &Table, setting: Setting) -> bool {
     }
 }
 
-/// A line begins with a value for this key.
+/// A line sets this key.
 fn sets(line: &str, key: &str) -> bool {
-    match line.trim_start().strip_prefix(key) {
-        Some(rest) => rest.trim_start().starts_with('='),
+    match line.split_once('=') {
+        Some((before, _)) => before.trim() == key,
         None => false,
     }
 }
@@ -186,6 +201,32 @@ fn unknown(
     }
 }
 
+/// What is wrong at a setting's key.
+fn wrong_at(
+    alloc: Global,
+    name: &str,
+    text: &str,
+    table: &Table,
+    setting: Setting,
+) -> Result<Option<String>, AllocError> {
+    let key = setting.key;
+    let kind = setting.kind;
+    if !table.contains_key(key) {
+        if !setting.is_required {
+            return Ok(None);
+        }
+        return Ok(Some(format!(in alloc;
+            "{name}: missing key \"{key}\", which has to be {kind}"
+        )?));
+    }
+    if is_right(table, setting) {
+        return Ok(None);
+    }
+    let place = place_of(alloc, name, text, key)?;
+    let place = place.as_str();
+    Ok(Some(format!(in alloc; "{place}: {key} has to be {kind}")?))
+}
+
 /// What is wrong with a table of these settings, where each of its keys is one of theirs.
 fn wrong_value(
     alloc: Global,
@@ -195,15 +236,8 @@ fn wrong_value(
     settings: &[Setting],
 ) -> Result<String, AllocError> {
     for setting in settings {
-        let key = setting.key;
-        let kind = setting.kind;
-        if !table.contains_key(key) {
-            return format!(in alloc; "{name}: missing key \"{key}\", which has to be {kind}");
-        }
-        if !is_right(table, *setting) {
-            let place = place_of(alloc, name, text, key)?;
-            let place = place.as_str();
-            return format!(in alloc; "{place}: {key} has to be {kind}");
+        if let Some(wrong) = wrong_at(alloc, name, text, table, *setting)? {
+            return Ok(wrong);
         }
     }
     String::from_str(alloc, name)

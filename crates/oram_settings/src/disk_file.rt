@@ -1,10 +1,10 @@
 //! The settings file of a disk.
 
-ghost use Rattle.std.specs.Prelude.{◌≡◌, ◌↔◌, IsTrue, None, option_and_then, IfOk, IfSome, IsErrOf, string_bytes};
+ghost use Rattle.std.specs.Prelude.{◌≡◌, ◌≢◌, ◌↔◌, is_some, IsTrue, None, option_and_then, IfOk, IfSome, IsErrOf, string_bytes};
 ghost use Rattle.toml.specs.Data.{as_bool, get_member};
 ghost use Rattle.toml.specs.View.{table_view};
-ghost use Rattle.oram_edge.specs.Tables.{Finds, HasText};
-ghost use Rattle.oram_settings.specs.Settings.{HasFlag, HasSealing, IsDeviceOf, IsDisk, IsDocumentOf, IsPlace, IsSocket, first_text, shown};
+ghost use Rattle.oram_edge.specs.Tables.{Finds, HasNumber, HasText, IsCount, IsName};
+ghost use Rattle.oram_settings.specs.Settings.{HasFlag, HasSealing, IsDeviceOf, IsDisk, IsDocumentOf, IsPlace, IsSocket, OrDefault, first_text, sealing_name, shown};
 
 use hex::encode;
 use oram_edge::{InputFault, address_at, count_at, has_only, key_at, name_at, number_at, table_of};
@@ -16,12 +16,17 @@ use toml::Table;
 /// The most commands that a disk ever takes: as many as a device may.
 pub const LIFETIME: u64 = 1 << 40;
 
-/// The bytes of a block of a first disk, its slots of a bucket, and the entries of its client's table.
-pub const FIRST_BLOCK: u64 = 4_096;
+/// What holds where a settings file leaves it out: the bytes of a block, ..
+pub const DEFAULT_BLOCK: u64 = 4_096;
 
-pub const FIRST_SLOTS: u64 = 4;
+/// .. the slots of a bucket, ..
+pub const DEFAULT_SLOTS: u64 = 4;
 
-pub const FIRST_TABLE: u64 = 1_024;
+/// .. the entries of the client's table, ..
+pub const DEFAULT_TABLE: u64 = 1_024;
+
+/// .. and for how many seconds a host that is out of reach is waited for.
+const DEFAULT_PATIENCE: u64 = 600;
 
 /// How buckets are sealed.
 #[derive(Clone, Copy, Debug, PartialEq, Eq)]
@@ -84,13 +89,24 @@ pub(crate) fn flag_at(table: &Table, key: &str) -> Result<bool, InputFault>
     }
 }
 
+/// How buckets are sealed, by its name.
+fn sealing_named(name: &str) -> Option<Sealing>
+    ensures some { IfSome result (λ s. name.now ≡ sealing_name s) }
+    ensures none { result ≡ None → (s : Sealing) → name.now ≢ sealing_name s }
+{
+    match name {
+        "plain" => Some(Sealing::Plain),
+        "chacha" => Some(Sealing::ChaCha),
+        _ => None,
+    }
+}
+
 pub(crate) fn sealing_at(table: &Table, key: &str) -> Result<Sealing, InputFault>
     ensures { Finds (λ s. s) (HasSealing (table_view table.now) key.now) result }
 {
-    match name_at(table, key)? {
-        "plain" => Ok(Sealing::Plain),
-        "chacha" => Ok(Sealing::ChaCha),
-        _ => Err(InputFault::Bad),
+    match sealing_named(name_at(table, key)?) {
+        Some(sealing) => Ok(sealing),
+        None => Err(InputFault::Bad),
     }
 }
 
@@ -115,6 +131,74 @@ pub(crate) fn place_at<'a>(table: &'a Table, key: &str) -> Result<&'a str, Input
     }
 }
 
+/// Something stands at a key.
+fn has(table: &Table, key: &str) -> bool
+    ensures { result ≡ is_some (get_member key.now (table_view table.now)) }
+{
+    table.contains_key(key)
+}
+
+/// The number at a key, or where nothing stands there the default. So do the functions below for values of other kinds.
+fn number_or(table: &Table, key: &str, default: u64) -> Result<u64, InputFault>
+    ensures { Finds (λ n. n) (OrDefault (table_view table.now) key.now default (HasNumber (table_view table.now) key.now)) result }
+{
+    if has(table, key) {
+        number_at(table, key)
+    } else {
+        Ok(default)
+    }
+}
+
+fn count_or(table: &Table, key: &str, default: u64) -> Result<u64, InputFault>
+    ensures { Finds (λ n. n) (OrDefault (table_view table.now) key.now default (λ n. HasNumber (table_view table.now) key.now n × IsCount n)) result }
+{
+    if has(table, key) {
+        count_at(table, key)
+    } else {
+        Ok(default)
+    }
+}
+
+fn flag_or(table: &Table, key: &str, default: bool) -> Result<bool, InputFault>
+    ensures { Finds (λ b. b) (OrDefault (table_view table.now) key.now default (HasFlag (table_view table.now) key.now)) result }
+{
+    if has(table, key) {
+        flag_at(table, key)
+    } else {
+        Ok(default)
+    }
+}
+
+fn sealing_or(table: &Table, key: &str, default: Sealing) -> Result<Sealing, InputFault>
+    ensures { Finds (λ s. s) (OrDefault (table_view table.now) key.now default (HasSealing (table_view table.now) key.now)) result }
+{
+    if has(table, key) {
+        sealing_at(table, key)
+    } else {
+        Ok(default)
+    }
+}
+
+fn name_or<'a>(table: &'a Table, key: &str, default: &'a str) -> Result<&'a str, InputFault>
+    ensures { Finds (λ s. s.now) (OrDefault (table_view table.now) key.now default.now (λ s. HasText (table_view table.now) key.now s × IsName s)) result }
+{
+    if has(table, key) {
+        name_at(table, key)
+    } else {
+        Ok(default)
+    }
+}
+
+fn place_or<'a>(table: &'a Table, key: &str, default: &'a str) -> Result<&'a str, InputFault>
+    ensures { Finds (λ s. s.now) (OrDefault (table_view table.now) key.now default.now (λ s. HasText (table_view table.now) key.now s × IsPlace s)) result }
+{
+    if has(table, key) {
+        place_at(table, key)
+    } else {
+        Ok(default)
+    }
+}
+
 fn disk_in(alloc: Global, table: &Table) -> Result<DiskSettings, InputFault>
     ensures { Finds shown (IsDisk (table_view table.now)) result }
 {
@@ -128,16 +212,16 @@ fn disk_in(alloc: Global, table: &Table) -> Result<DiskSettings, InputFault>
         return Err(InputFault::Bad);
     }
     let size = number_at(table, "size")?;
-    let block = number_at(table, "block")?;
-    let slots = number_at(table, "slots")?;
-    let entries = number_at(table, "table")?;
-    let sealer = sealing_at(table, "sealer")?;
+    let block = number_or(table, "block", DEFAULT_BLOCK)?;
+    let slots = number_or(table, "slots", DEFAULT_SLOTS)?;
+    let entries = number_or(table, "table", DEFAULT_TABLE)?;
+    let sealer = sealing_or(table, "sealer", Sealing::ChaCha)?;
     let key = key_at(table, "key")?;
     let host = address_at(table, "host")?;
-    let listen = place_at(table, "listen")?;
-    let state = name_at(table, "state")?;
-    let sync = flag_at(table, "sync")?;
-    let patience = count_at(table, "patience")?;
+    let listen = place_or(table, "listen", "unix:disk.sock")?;
+    let state = name_or(table, "state", "disk.state")?;
+    let sync = flag_or(table, "sync", true)?;
+    let patience = count_or(table, "patience", DEFAULT_PATIENCE)?;
     Ok(DiskSettings {
         size,
         block,
@@ -176,13 +260,13 @@ pub fn device_of(size: u64, block: u64, slots: u64, table: u64) -> Option<Device
     Device::new(blocks, block, slots, table, LIFETIME).ok()
 }
 
-/// The first settings of a disk of so many bytes and this key, which is drawn at random.
+/// The first settings of a disk of so many bytes and this key, which is drawn at random. What may be left out stands there as comments.
 pub fn disk_text(alloc: Global, size: u64, key: &[u8; 32]) -> Result<String, AllocError>
     ensures { IfOk result (λ text. string_bytes text ≡ first_text size key.now) }
 {
     let key = encode(alloc, key)?;
     let key = key.as_str();
     format!(in alloc;
-        "# The disk's size in bytes. It is fixed once the disk is formatted, and so are the next four lines.\nsize = {size}\nblock = {FIRST_BLOCK}\nslots = {FIRST_SLOTS}\ntable = {FIRST_TABLE}\nsealer = \"chacha\"\n# Whoever has this key can read the disk. Without it nobody can.\nkey = \"{key}\"\n# Where the host is reached, and where the disk is served.\nhost = \"127.0.0.1:7001\"\nlisten = \"127.0.0.1:10809\"\n# The file of the disk's state, in this folder, and whether it is synced each time.\nstate = \"disk.state\"\nsync = true\n# For how many seconds a host that is out of reach is waited for.\npatience = 600\n"
+        "# The disk's size in bytes. It is fixed once the disk is formatted.\nsize = {size}\n\n# Whoever has this key can read the disk. Without it nobody can.\nkey = \"{key}\"\n\n# Where the host is reached: your end of the tunnel.\nhost = \"127.0.0.1:7001\"\n\n# Each line below shows what holds without it. To set another value, take away the \"# \" that the line begins with.\n\n# These four are fixed once the disk is formatted.\n# block = 4096               # the bytes of a block\n# slots = 4                  # how many blocks a bucket has room for\n# table = 1024               # the most entries of the table that the client keeps\n# sealer = \"chacha\"          # how buckets are sealed; \"plain\" hides nothing, and is for tries\n\n# These may be changed at any time.\n# listen = \"unix:disk.sock\"  # where the disk is served: a socket in this folder, for you alone; or \"127.0.0.1:PORT\", for all users of this machine\n# state = \"disk.state\"       # the file of the disk's state, in this folder\n# sync = true                # each state is synced before it counts\n# patience = 600             # for how many seconds a host that is out of reach is waited for\n"
     )
 }

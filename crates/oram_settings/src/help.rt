@@ -13,9 +13,9 @@ pub(crate) const PROGRAM_MORE: &str = "A first disk, in the order of the command
   yours:   ssh -N -L 7001:127.0.0.1:7001 you@rented
   yours:   oramdisk format mydisk/disk.toml
   yours:   oramdisk serve mydisk/disk.toml
-  yours:   sudo nbd-client 127.0.0.1 10809 /dev/nbd0
+  yours:   sudo nbd-client -unix mydisk/disk.sock /dev/nbd0
 
-'oramdisk help COMMAND' tells more of each. docs/disk.md describes the settings.";
+'oramdisk help COMMAND' tells more of each, and 'oramdisk help new' what may be set. docs/disk.md describes the settings.";
 
 pub(crate) const NEW: &str =
     "Makes a folder with the settings of a new disk and of its host, and a fresh key";
@@ -23,6 +23,16 @@ pub(crate) const NEW: &str =
 pub(crate) const NEW_MORE: &str =
     "The folder then holds disk.toml, with the disk's key, and host.toml, which is for the rented machine. Both are commented.
 A size is a number and a unit: KiB, MiB, GiB and TiB, or kB, MB, GB and TB. The greatest is 64GiB.
+
+disk.toml sets size, key and host, and may set more. What holds where it is left out:
+  block = 4096               the bytes of a block
+  slots = 4                  how many blocks a bucket has room for
+  table = 1024               the most entries of the table that the client keeps
+  sealer = \"chacha\"          how buckets are sealed; \"plain\" hides nothing, and is for tries
+  listen = \"unix:disk.sock\"  where the disk is served: a socket in its folder, for you alone; or \"127.0.0.1:PORT\", for all users
+  state = \"disk.state\"       the file of the disk's state, in its folder
+  sync = true                each state is synced before it counts
+  patience = 600             for how many seconds a host that is out of reach is waited for
 
 Example:
   oramdisk new mydisk --size 1GiB";
@@ -55,7 +65,9 @@ the disk.toml that 'oramdisk new' writes.
 
 Example:
   oramdisk serve mydisk/disk.toml
-  sudo nbd-client 127.0.0.1 10809 /dev/nbd0       or any client: nbdcopy, qemu-img, fio on nbd://127.0.0.1:10809";
+  sudo nbd-client -unix mydisk/disk.sock /dev/nbd0
+or any other client of NBD: nbdinfo, nbdcopy, qemu-img, fio
+  nbdinfo 'nbd+unix:///?socket=mydisk/disk.sock'";
 
 pub(crate) const STATUS: &str =
     "Tells how the disk stands: its size, its accesses, what waits, and why it failed";

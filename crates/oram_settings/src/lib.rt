@@ -19,14 +19,14 @@ mod progress;
 mod sizes;
 mod status;
 
-pub use amounts::{amount_text, counted};
+pub use amounts::{amount_text, counted, size_text};
 pub use announcements::{begun_text, hosting_text, made_text, serving_text};
 pub use command_line::{NoRequest, Words, read_words};
 pub use complaints::{disk_complaint, host_complaint};
 pub use differences::{FixedKey, first_difference};
 pub use disk_file::{
-    DiskSettings, FIRST_BLOCK, FIRST_SLOTS, FIRST_TABLE, LIFETIME, Sealing, device_of, disk_text,
-    read_disk_settings,
+    DEFAULT_BLOCK, DEFAULT_SLOTS, DEFAULT_TABLE, DiskSettings, LIFETIME, Sealing, device_of,
+    disk_text, read_disk_settings,
 };
 pub use footprint::stored_bytes;
 pub use names::beside;

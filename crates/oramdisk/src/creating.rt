@@ -2,8 +2,8 @@
 
 use oram_disk_host::{FIRST_SETTINGS, Fault, file_fault};
 use oram_settings::{
-    FIRST_BLOCK, FIRST_SLOTS, FIRST_TABLE, Sealing, device_of, disk_text, made_text, read_size,
-    stored_bytes,
+    DEFAULT_BLOCK, DEFAULT_SLOTS, DEFAULT_TABLE, Sealing, device_of, disk_text, made_text,
+    read_size, stored_bytes,
 };
 use std::alloc::AllocError;
 use std::fs::{DirBuilder, OpenFile, OpenOptions};
@@ -46,7 +46,7 @@ fn unwritten<R: Files + AllocGlobal>(rt: &R, name: &str, text: &str) -> Option<F
 
 /// The size in whole blocks of a first disk.
 fn whole_size(size: u64) -> u64 {
-    size.saturating_add(FIRST_BLOCK - 1) / FIRST_BLOCK * FIRST_BLOCK
+    size.saturating_add(DEFAULT_BLOCK - 1) / DEFAULT_BLOCK * DEFAULT_BLOCK
 }
 
 /// A first disk: its bytes, those that it takes at its host, and its settings.
@@ -63,7 +63,7 @@ fn first_disk<R: RandomSource + AllocGlobal>(rt: &R, size: &str) -> Result<First
         return Err(Fault::Size);
     };
     let size = whole_size(size);
-    let Some(device) = device_of(size, FIRST_BLOCK, FIRST_SLOTS, FIRST_TABLE) else {
+    let Some(device) = device_of(size, DEFAULT_BLOCK, DEFAULT_SLOTS, DEFAULT_TABLE) else {
         return Err(Fault::Size);
     };
     let mut key = [0; 32];

@@ -2,18 +2,19 @@
 
 use oram_settings::{
     Sealing, amount_text, begun_text, counted, device_of, disk_complaint, host_complaint,
-    hosting_text, made_text, serving_text, stored_bytes,
+    hosting_text, made_text, serving_text, size_text, stored_bytes,
 };
 use rows::{Page, RowFault, Words};
 use std::alloc::Global;
 
-/// `says amount BYTES`, `says counted COUNT NAME`, `says stored SIZE BLOCK SLOTS TABLE SEALER`, `says made FOLDER SIZE STORED`,
+/// `says amount BYTES`, `says size BYTES`, `says counted COUNT NAME`, `says stored SIZE BLOCK SLOTS TABLE SEALER`, `says made FOLDER SIZE STORED`,
 /// `says begun STORED HOST`, `says hosting FILE LISTEN`, `says serving SIZE URI`, and `says bad-disk NAME TEXT` and
 /// `says bad-host NAME TEXT` of a file's text: what `oramdisk` says so.
 pub fn says(alloc: Global, words: &mut Words, page: &mut Page) -> Result<(), RowFault> {
     let kind = words.text()?;
     let text = match kind {
         "amount" => amount_text(alloc, words.number()?)?,
+        "size" => size_text(alloc, words.number()?)?,
         "counted" => counted(alloc, words.number()?, words.text()?)?,
         "stored" => amount_text(alloc, stored(words)?)?,
         "made" => made_text(alloc, words.text()?, words.number()?, words.number()?)?,

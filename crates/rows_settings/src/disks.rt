@@ -10,7 +10,12 @@ use std::alloc::Global;
 /// `disk TEXT`: the settings that a document is: size, block, slots, table, sealer, key, host, listen, state, sync and patience.
 pub fn disk(alloc: Global, words: &mut Words, page: &mut Page) -> Result<(), RowFault> {
     let text = words.lines(alloc)?;
-    let Some(settings) = read_or_bad(read_disk_settings(alloc, text.as_str()), page)? else {
+    put_settings(alloc, text.as_str(), page)
+}
+
+/// Reads settings, and writes what they are.
+fn put_settings(alloc: Global, text: &str, page: &mut Page) -> Result<(), RowFault> {
+    let Some(settings) = read_or_bad(read_disk_settings(alloc, text), page)? else {
         return Ok(());
     };
     put_numbers(&settings, page);
@@ -62,12 +67,34 @@ pub fn first_settings(alloc: Global, words: &mut Words, page: &mut Page) -> Resu
     let size = words.number()?;
     let key = words.array(alloc)?;
     let text = disk_text(alloc, size, &key)?;
-    let Some(settings) = read_or_bad(read_disk_settings(alloc, text.as_str()), page)? else {
-        return Ok(());
-    };
-    put_numbers(&settings, page);
-    put_names(&settings, page);
-    Ok(())
+    put_settings(alloc, text.as_str(), page)
+}
+
+/// The text of a new disk's settings, with the settings that stand there as comments set.
+fn all_set(alloc: Global, text: &str) -> Result<String, RowFault> {
+    let mut all = String::new(alloc);
+    for line in text.lines() {
+        let line = match line.strip_prefix("# ") {
+            Some(rest) if rest.contains(" = ") => rest,
+            _ => line,
+        };
+        all.push_str(line)?;
+        all.push('\n')?;
+    }
+    Ok(all)
+}
+
+/// `first-settings-set SIZE KEY`: how the text that a new disk gets is read where the settings that it has as comments are set.
+pub fn first_settings_set(
+    alloc: Global,
+    words: &mut Words,
+    page: &mut Page,
+) -> Result<(), RowFault> {
+    let size = words.number()?;
+    let key = words.array(alloc)?;
+    let text = disk_text(alloc, size, &key)?;
+    let text = all_set(alloc, text.as_str())?;
+    put_settings(alloc, text.as_str(), page)
 }
 
 fn sealing_in(words: &mut Words) -> Result<Sealing, RowFault> {

@@ -39,6 +39,7 @@ impl Table for Calls {
             "disk" => disks::disk(alloc, words, page),
             "device" => disks::device(words, page),
             "differs" => disks::differs(alloc, words, page),
+            "first-settings-set" => disks::first_settings_set(alloc, words, page),
             "first-settings" => disks::first_settings(alloc, words, page),
             "progress" => reports::progress(alloc, words, page),
             "meter" => reports::meter(&mut self.meter, words, page),

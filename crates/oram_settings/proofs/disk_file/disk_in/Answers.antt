@@ -1,13 +1,58 @@
 use Rattle.std.proofs.lemmas.Result.{err_from_is_err_and}
-use Rattle.oram_settings.proofs.Tables.{no_disk, no_listen}
+use Rattle.oram_settings.proofs.Tables.{no_disk}
 use Rattle.oram_settings.proofs.disk_file.disk_in.Goals as goal
+
+pub returns-in_err-size : goal.returns-in_err-size
+returns-in_err-size c =
+    let p = err_from_is_err_and c.from_residual.result c.from_residual.ensures.1 in
+    rw (p.1, p.2) (no_disk _ _ c.in_err-size.ensures (λ s. s.size) (λ s h. h.size))
+
+pub returns-in_err-block : goal.returns-in_err-block
+returns-in_err-block c =
+    let p = err_from_is_err_and c.from_residual-in_err-block.result c.from_residual-in_err-block.ensures.1 in
+    rw (p.1, p.2) (no_disk _ _ c.in_err-block.ensures (λ s. s.block) (λ s h. h.block))
+
+pub returns-in_err-slots : goal.returns-in_err-slots
+returns-in_err-slots c =
+    let p = err_from_is_err_and c.from_residual-in_err-slots.result c.from_residual-in_err-slots.ensures.1 in
+    rw (p.1, p.2) (no_disk _ _ c.in_err-slots.ensures (λ s. s.slots) (λ s h. h.slots))
+
+pub returns-in_err-entries : goal.returns-in_err-entries
+returns-in_err-entries c =
+    let p = err_from_is_err_and c.from_residual-in_err-entries.result c.from_residual-in_err-entries.ensures.1 in
+    rw (p.1, p.2) (no_disk _ _ c.in_err-entries.ensures (λ s. s.entries) (λ s h. h.entries))
+
+pub returns-in_err-sealer : goal.returns-in_err-sealer
+returns-in_err-sealer c =
+    let p = err_from_is_err_and c.from_residual-in_err-sealer.result c.from_residual-in_err-sealer.ensures.1 in
+    rw (p.1, p.2) (no_disk _ _ c.in_err-sealer.ensures (λ s. s.sealer) (λ s h. h.sealer))
 
 pub returns-in_err-key : goal.returns-in_err-key
 returns-in_err-key c =
     let p = err_from_is_err_and c.from_residual-in_err-key.result c.from_residual-in_err-key.ensures.1 in
-    rw (p.1, p.2) (no_disk _ _ c.in_err-key.ensures)
+    rw (p.1, p.2) (no_disk _ _ c.in_err-key.ensures (λ s. s.key) (λ s h. h.key))
+
+pub returns-in_err-host : goal.returns-in_err-host
+returns-in_err-host c =
+    let p = err_from_is_err_and c.from_residual-in_err-host.result c.from_residual-in_err-host.ensures.1 in
+    rw (p.1, p.2) (no_disk _ _ c.in_err-host.ensures (λ s. s.host) (λ s h. h.host))
 
 pub returns-in_err-listen : goal.returns-in_err-listen
 returns-in_err-listen c =
     let p = err_from_is_err_and c.from_residual-in_err-listen.result c.from_residual-in_err-listen.ensures.1 in
-    rw (p.1, p.2) (no_listen _ _ c.in_err-listen.ensures)
+    rw (p.1, p.2) (no_disk _ _ c.in_err-listen.ensures (λ s. s.listen) (λ s h. h.listen))
+
+pub returns-in_err-state : goal.returns-in_err-state
+returns-in_err-state c =
+    let p = err_from_is_err_and c.from_residual-in_err-state.result c.from_residual-in_err-state.ensures.1 in
+    rw (p.1, p.2) (no_disk _ _ c.in_err-state.ensures (λ s. s.state) (λ s h. h.state))
+
+pub returns-in_err-sync : goal.returns-in_err-sync
+returns-in_err-sync c =
+    let p = err_from_is_err_and c.from_residual-in_err-sync.result c.from_residual-in_err-sync.ensures.1 in
+    rw (p.1, p.2) (no_disk _ _ c.in_err-sync.ensures (λ s. s.sync) (λ s h. h.sync))
+
+pub returns-in_err-patience : goal.returns-in_err-patience
+returns-in_err-patience c =
+    let p = err_from_is_err_and c.from_residual-in_err-patience.result c.from_residual-in_err-patience.ensures.1 in
+    rw (p.1, p.2) (no_disk _ _ c.in_err-patience.ensures (λ s. s.patience) (λ s h. h.patience))
