@@ -1,9 +1,11 @@
 -- What can be wrong with a host, and a way over which the host of a disk has answered.
-use Rattle.std.specs.Prelude.{◌≡◌, ◌≢◌, ℕ, Bool, true, false, List, [], ◌∷◌, Option, Ok, MatchResult, ◌⊎◌}
+use Rattle.std.specs.Prelude.{◌≡◌, ◌≢◌, ℕ, Bool, true, false, List, [], ◌∷◌, Option, Ok, Some, None, MatchResult, ◌⊎◌}
 use Rattle.oram_wire.specs.HostMessages.{fetch_body, answer_body}
 use Rattle.oram_wire.specs.declared.host_messages.HostAnswer.TheVariants.{Payload, Refused}
 use Rattle.oram_host.specs.Refusals.{code_of}
 use Rattle.oram_host.specs.declared.refusals.HostRefusal.TheVariants as refusal
+use Rattle.oram_edge.specs.declared.hosts.HostFault.{HostFault}
+use Rattle.oram_edge.specs.declared.hosts.HostFault.TheVariants as host
 use Rattle.oram_session.specs.Outcome.{Outcome}
 use Rattle.oram_session.specs.Streams.{StreamCall, ToStreams}
 use Rattle.oram_session.specs.declared.link.LinkFault.{LinkFault}
@@ -24,6 +26,14 @@ fault_of (OutOfReach fault) = fault
 fault_of NoRoom = Closed
 fault_of AnotherDisk = Closed
 fault_of NoDisk = Closed
+
+-- what is wrong with a host where the link to it gave up, with this trouble as the last one
+abbrev pub given_up : Option Trouble → HostFault
+given_up (Some (OutOfReach fault)) = host.OutOfReach
+given_up (Some NoRoom) = host.NoRoom
+given_up (Some AnotherDisk) = host.AnotherDisk
+given_up (Some NoDisk) = host.NoDisk
+given_up None = host.OutOfReach
 
 -- the answer of a host that has no room
 abbrev pub no_room : List ℕ

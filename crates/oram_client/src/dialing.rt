@@ -1,6 +1,8 @@
 //! How a way to a host is opened, what can be wrong with a host, and who hears of it.
-ghost use Rattle.std.specs.Prelude.{ℕ, Option, IfOk, IfErr};
+ghost use Rattle.std.specs.Prelude.{◌≡◌, ℕ, Option, IfOk, IfErr};
+ghost use Rattle.oram_client.specs.Dialing as spec;
 
+use oram_edge::HostFault;
 use oram_session::{Link, LinkFault};
 use std::alloc::Global;
 use std::io;
@@ -40,6 +42,18 @@ impl Trouble {
             Trouble::OutOfReach(fault) => fault,
             Trouble::NoRoom | Trouble::AnotherDisk | Trouble::NoDisk => LinkFault::Closed,
         }
+    }
+}
+
+/// What is wrong with a host where the link to it gave up, with this trouble as the last one.
+pub fn given_up(trouble: Option<Trouble>) -> HostFault
+    ensures { result ≡ spec.given_up trouble }
+{
+    match trouble {
+        Some(Trouble::NoRoom) => HostFault::NoRoom,
+        Some(Trouble::AnotherDisk) => HostFault::AnotherDisk,
+        Some(Trouble::NoDisk) => HostFault::NoDisk,
+        Some(Trouble::OutOfReach(_)) | None => HostFault::OutOfReach,
     }
 }
 

@@ -5,7 +5,7 @@
 //! A [`FileKeeper`] keeps a core's state in such a file, in a [`FilePlace`]. It does so by steps ([`put_file`]), and wherever the process
 //! ends among them, the file is found whole; [`kept_bytes`] reads it back.
 //! A [`PatientLink`] tries until the host answers, for as long as its patience lasts; a [`TcpDialer`] opens its ways, and only to a host that
-//! keeps the disk.
+//! keeps the disk, and [`given_up`] says what is wrong with a host that a link gave up.
 //! [`format_ahead`] formats a disk over an [`Ahead`], a connection on which messages go ahead of their answers.
 #![tactic(auto)]
 
@@ -27,7 +27,7 @@ mod tcp_dialer;
 mod timed_link;
 
 pub use ahead::{Ahead, Progress};
-pub use dialing::{Dial, Limits, Trouble, Watch};
+pub use dialing::{Dial, Limits, Trouble, Watch, given_up};
 pub use faults::FormattingFault;
 pub use file_keeper::FileKeeper;
 pub use file_place::{FilePlace, kept_bytes, kept_name};

@@ -5,10 +5,11 @@
 //! for what stands at a key, as [`address_at`], read its table. [`put`] and those named after it write texts, or tell that a
 //! beginning of them was written. A [`KeptFile`] is written as a whole, and [`lock_state`]
 //! keeps other processes from what it holds. [`listen`], [`connect`], [`connect_within`] and
-//! [`buffered`] are for sockets.
+//! [`buffered`] are for sockets. A [`HostFault`] is what can be wrong with the host of a disk.
 #![tactic(auto)]
 
 mod files;
+mod hosts;
 mod input;
 mod locks;
 mod sockets;
@@ -17,6 +18,7 @@ mod words;
 mod writing;
 
 pub use files::{FileFault, KeptFile, bytes_in, call_fault};
+pub use hosts::HostFault;
 pub use input::InputFault;
 pub use locks::{LockFault, StateLock, lock_state};
 pub use sockets::{SocketFault, buffered, connect, connect_within, listen};
