@@ -1,6 +1,6 @@
 //! A whole connection.
 
-ghost use Rattle.std.specs.Prelude.{◌≡◌, ◌≤◌, length, IfOk, IfErr};
+ghost use Rattle.std.specs.Prelude.{◌≡◌, ◌≤◌, ◌↔◌, length, Err, IfOk, IfErr, IsTrue};
 ghost use Rattle.oram_nbd.specs.Connection.{preferred_of, HasConnected, StopsConnection};
 ghost use Rattle.oram_nbd.specs.Holding.{IsStopped};
 
@@ -64,4 +64,11 @@ pub fn serve<R: Read, W: Write, D: Disk, H: HandshakeWatch>(
             transmit(alloc, reader, writer, disk)
         }
     }
+}
+
+/// Whether the service of a connection ended since its disk stopped.
+pub fn is_stop(served: Result<u64, NbdFault>) -> bool
+    ensures { IsTrue result ↔ (served ≡ Err NbdFault.Stopped) }
+{
+    served == Err(NbdFault::Stopped)
 }

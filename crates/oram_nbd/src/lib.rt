@@ -3,7 +3,8 @@
 //! The protocol is the public one (NetworkBlockDevice/nbd, doc/proto.md): the fixed newstyle handshake, simple replies, and the
 //! commands READ, WRITE, FLUSH, TRIM, WRITE_ZEROES and DISC. A [`Disk`] is what is served: an array of bytes that is read and
 //! written by whole blocks. [`read_range`], [`write_range`] and [`zero_range`] carry out a byte range on it.
-//! [`negotiate`] is the handshake, [`transmit`] the requests behind it, and [`serve`] a whole connection.
+//! [`negotiate`] is the handshake, [`transmit`] the requests behind it, and [`serve`] a whole connection; [`is_stop`] says whether
+//! that left a disk which goes on no more.
 #![tactic(auto)]
 
 mod connecting;
@@ -21,7 +22,7 @@ mod serving;
 mod streams;
 mod transmitting;
 
-pub use connecting::{HandshakeWatch, serve};
+pub use connecting::{HandshakeWatch, is_stop, serve};
 pub use disk::Disk;
 pub use faults::{DiskFault, NbdError, NbdFault};
 pub use handshake::{Agreement, Export};
