@@ -1,6 +1,6 @@
 -- The contents of a pair of files, what the calls do to them, and what a crash may leave.
-use Rattle.std.specs.Prelude.{◌≡◌, ◌⊎◌, ◌<◌, ◌≤◌, ℕ, suc, ◌+◌, List, Result, IsErrOf}
-use Rattle.oram_redo.specs.Content.{Content, Agrees, put}
+use Rattle.std.specs.Prelude.{◌≡◌, ◌⊎◌, ◌<◌, ◌≤◌, ℕ, suc, ◌+◌, ◌++◌, List, length, Result, IsErrOf}
+use Rattle.oram_redo.specs.Content.{Content, Agrees, bytes_at, put}
 use Rattle.oram_redo.specs.declared.file_pair.FileKind.{FileKind}
 use Rattle.oram_redo.specs.declared.file_pair.FileKind.TheVariants.{Records, Log}
 use Rattle.oram_redo.specs.declared.faults.RedoError.{RedoError}
@@ -20,6 +20,13 @@ Same c d = (file : FileKind) → Agrees (c file) (d file)
 pub record Wrote (file : FileKind) (at : ℕ) (bytes : List ℕ) (old new : Contents) : Type 0 where
   pub there : Agrees (new file) (put bytes at (old file))
   pub other : Agrees (new (other_than file)) (old (other_than file))
+
+-- n bytes stand behind others, and, where that is known, they are those of a content from a place on
+pub record ReadOnto (n at : ℕ) (c : Content) (is_known : Type 0) (old new : List ℕ) : Type 0 where
+  pub read : List ℕ
+  pub long : length read ≡ n
+  pub grown : new ≡ old ++ read
+  pub is : is_known → read ≡ bytes_at n at c
 
 -- A write of n bytes that was cut short: any bytes at all in its range, and no other changed. Several such writes, one after the
 -- other, leave any bytes in all their ranges: any part of the writes, in any order, torn at any byte, is among that.

@@ -28,12 +28,23 @@ pub struct Head {
     pub len: u32,
 }
 
+/// How many bytes the batch's entries take with a shut gate behind them.
+fn room_of(batch: &[Patch]) -> usize {
+    let mut room = 1usize;
+    for patch in batch {
+        room = room
+            .saturating_add(HEAD_LEN)
+            .saturating_add(patch.bytes.len());
+    }
+    room
+}
+
 /// The batch's entries, and a shut gate behind them.
 pub fn body_of(alloc: Global, batch: &[Patch]) -> Result<Vec<u8>, AllocError>
     requires { All (λ p. length p.1 < 2 ^ 32) (patches_of batch.now) }
     ensures { IfOk result (λ body. body.items ≡ entries (patches_of batch.now) ++ 0 ∷ []) }
 {
-    let mut body = Vec::new(alloc);
+    let mut body = Vec::with_capacity(alloc, room_of(batch))?;
     for patch in batch {
         body.push(OPEN)?;
         body.extend_from_slice(&patch.at.to_le_bytes())?;

@@ -1,10 +1,8 @@
 //! The two files as the redo log sees them.
-ghost use Rattle.std.specs.Prelude.{◌≡◌, ◌⊎◌, ◌≤◌, ℕ, length, IfErr, IfOk, OnOk};
-ghost use Rattle.oram_redo.specs.Content.{bytes_at};
-ghost use Rattle.oram_redo.specs.FilePair.{Contents, Same, IsSure, Follows, Torn, Wrote, Elapses, ComesAfter, HasCause};
+ghost use Rattle.std.specs.Prelude.{◌≡◌, ◌⊎◌, ◌≤◌, ℕ, length, IfErr, OnOk};
+ghost use Rattle.oram_redo.specs.FilePair.{Contents, Same, IsSure, Follows, ReadOnto, Torn, Wrote, Elapses, ComesAfter, HasCause};
 
 use crate::RedoError;
-use std::alloc::Global;
 
 /// One of the two files.
 #[derive(Clone, Copy, Debug, PartialEq, Eq)]
@@ -39,16 +37,15 @@ pub trait FilePair {
     /// At least that many writes have found no room.
     ghost shortages: { Self → ℕ → Type 0 };
 
-    /// Reads `len` bytes, zeros in holes and past the end.
-    fn read_at(
+    /// Reads `len` bytes, zeros in holes and past the end, and puts them behind other bytes. At `Err` there may be any behind these.
+    fn read_onto(
         &mut self,
-        alloc: Global,
         file: FileKind,
         at: u64,
         len: usize,
-    ) -> Result<Vec<u8>, RedoError>
-        ensures len { IfOk result (λ bytes. length bytes.items ≡ len) }
-        ensures bytes { IfOk result (λ bytes. is_honest self.new → bytes.items ≡ bytes_at len at (seen self.old file)) }
+        bytes: &mut Vec<u8>,
+    ) -> Result<(), RedoError>
+        ensures bytes { OnOk result (ReadOnto len at (seen self.old file) (is_honest self.new) bytes.old.items bytes.new.items) }
         ensures seen { Same (seen self.new) (seen self.old) }
         ensures crash { (c : Contents) → may_leave self.new c → may_leave self.old c }
         ensures time { Elapses (moment self.old) (moment self.new) (left_since self.old) (left_since self.new) (may_leave self.new) }

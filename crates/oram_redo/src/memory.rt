@@ -203,17 +203,19 @@ impl FilePair for MemoryPair {
 
     ghost only_now = { λ m c left. only_held m.past.items m.held c left };
 
-    fn read_at(
+    fn read_onto(
         &mut self,
-        alloc: Global,
         file: FileKind,
         at: u64,
         len: usize,
-    ) -> Result<Vec<u8>, RedoError> {
-        match file {
-            FileKind::Records => Ok(bytes_from(alloc, &self.held.records, at, len)?),
-            FileKind::Log => Ok(bytes_from(alloc, &self.held.log, at, len)?),
-        }
+        bytes: &mut Vec<u8>,
+    ) -> Result<(), RedoError> {
+        let read = match file {
+            FileKind::Records => bytes_from(self.alloc, &self.held.records, at, len)?,
+            FileKind::Log => bytes_from(self.alloc, &self.held.log, at, len)?,
+        };
+        bytes.extend_from_slice(&read)?;
+        Ok(())
     }
 
     fn write_at(&mut self, file: FileKind, at: u64, bytes: &[u8]) -> Result<(), RedoError> {

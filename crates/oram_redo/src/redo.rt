@@ -5,13 +5,13 @@
 ghost use Rattle.std.specs.Prelude.{◌≡◌, ◌⊎◌, ◌<◌, ◌≤◌, ◌+◌, ◌^◌, ◌++◌, ◌∷◌, [], List, ℕ, All, length, IfNone, IfOk, IfSome, IfErr, IsErrOf, OnOk};
 ghost use Rattle.oram_redo.specs.Batch.{patches_of};
 ghost use Rattle.oram_redo.specs.Content.{Content, Agrees, bytes_at, put};
-ghost use Rattle.oram_redo.specs.FilePair.{ComesAfter, Contents, HasFailed, LeavesOnly, Rises, Torn, WritesNothing};
+ghost use Rattle.oram_redo.specs.FilePair.{ComesAfter, Contents, HasFailed, LeavesOnly, ReadOnto, Rises, Torn, WritesNothing};
 ghost use Rattle.oram_redo.specs.Log.{AllOrNothing, Fits, Keeps, StandsAlike, StandsFor, entries, put_all};
 ghost use Rattle.oram_redo.specs.Redo.{IsRefused, IsSettled, bounds_of, end_of};
 
 use crate::batch::{OPEN, SHUT, body_of};
 use crate::recovery::{end_of_log, replay};
-use crate::steps::{put_in_place, read, set_gate, sync_both, write_synced};
+use crate::steps::{put_in_place, read, read_onto, set_gate, sync_both, write_synced};
 use crate::{Bounds, FileKind, FilePair, Patch, RedoError};
 use std::alloc::Global;
 
@@ -68,6 +68,25 @@ impl Redo {
         ensures errors { IfErr result (λ e. (e ≡ RedoError.Memory) ⊎ (e ≡ RedoError.Failed)) }
     {
         read(alloc, files, FileKind::Records, at, len)
+    }
+
+    /// Reads `len` bytes of the records behind other bytes.
+    pub fn read_onto<F: FilePair>(
+        &self,
+        files: &mut F,
+        at: u64,
+        len: usize,
+        bytes: &mut Vec<u8>,
+    ) -> Result<(), RedoError>
+        ensures bytes { OnOk result (ReadOnto len at (F.seen files.old FileKind.Records) (F.is_honest files.new) bytes.old.items bytes.new.items) }
+        ensures settled { (loose : _) → IsSettled self.now loose (F.seen files.old) (F.may_leave files.old)
+            → IsSettled self.now loose (F.seen files.new) (F.may_leave files.new) }
+        ensures nothing_written { WritesNothing F.seen F.may_leave F.moment F.left_since files.old files.new }
+        ensures after { ComesAfter F.failures F.shortages F.is_honest files.old files.new }
+        ensures failed { IsErrOf result RedoError.Failed → HasFailed F.failures F.shortages files.old files.new }
+        ensures errors { IfErr result (λ e. (e ≡ RedoError.Memory) ⊎ (e ≡ RedoError.Failed)) }
+    {
+        read_onto(files, FileKind::Records, at, len, bytes)
     }
 
     /// Commits a batch: all of it or, at a crash before `Ok`, maybe nothing. Loose patches stay loose.

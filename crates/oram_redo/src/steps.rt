@@ -2,13 +2,30 @@
 ghost use Rattle.std.specs.Prelude.{◌≡◌, ◌⊎◌, ◌∷◌, [], length, IfErr, IfOk, IsErrOf, OnOk};
 ghost use Rattle.oram_redo.specs.Batch.{patches_of};
 ghost use Rattle.oram_redo.specs.Content.{Agrees, bytes_at};
-ghost use Rattle.oram_redo.specs.FilePair.{Contents, Follows, ComesAfter, HasCause, HasFailed, IsSure, LeavesOnly, Torn, WritesNothing, Wrote};
+ghost use Rattle.oram_redo.specs.FilePair.{Contents, Follows, ComesAfter, HasCause, HasFailed, IsSure, LeavesOnly, ReadOnto, Torn, WritesNothing, Wrote};
 ghost use Rattle.oram_redo.specs.Log.{Smeared, put_all};
 ghost use Rattle.oram_redo.specs.Steps.{Smears, Tears};
 
 use crate::batch::Patch;
 use crate::{FileKind, FilePair, RedoError};
 use std::alloc::Global;
+
+/// Reads `len` bytes of a file behind other bytes.
+pub fn read_onto<F: FilePair>(
+    files: &mut F,
+    file: FileKind,
+    at: u64,
+    len: usize,
+    bytes: &mut Vec<u8>,
+) -> Result<(), RedoError>
+    ensures bytes { OnOk result (ReadOnto len at (F.seen files.old file) (F.is_honest files.new) bytes.old.items bytes.new.items) }
+    ensures nothing_written { WritesNothing F.seen F.may_leave F.moment F.left_since files.old files.new }
+    ensures failed { IsErrOf result RedoError.Failed → HasFailed F.failures F.shortages files.old files.new }
+    ensures after { ComesAfter F.failures F.shortages F.is_honest files.old files.new }
+    ensures errors { IfErr result (λ e. (e ≡ RedoError.Memory) ⊎ (e ≡ RedoError.Failed)) }
+{
+    files.read_onto(file, at, len, bytes)
+}
 
 /// Reads `len` bytes of a file.
 pub fn read<F: FilePair>(
@@ -25,7 +42,9 @@ pub fn read<F: FilePair>(
     ensures after { ComesAfter F.failures F.shortages F.is_honest files.old files.new }
     ensures errors { IfErr result (λ e. (e ≡ RedoError.Memory) ⊎ (e ≡ RedoError.Failed)) }
 {
-    files.read_at(alloc, file, at, len)
+    let mut bytes = Vec::with_capacity(alloc, len)?;
+    read_onto(files, file, at, len, &mut bytes)?;
+    Ok(bytes)
 }
 
 /// Syncs both files: at `Ok`, a crash leaves what a read returns.

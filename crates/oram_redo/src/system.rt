@@ -3,7 +3,7 @@
 //! No contract says what a file gives. So each call is noted with its answer in a record that only clauses read, and what a pair's files
 //! hold is defined by going through that record: `is_honest` says that each read has returned what was written. That each method makes
 //! the call that it notes has to be read here.
-ghost use Rattle.std.specs.Prelude.{◌≡◌, ◌⊎◌, ◌∷◌, true, false, List, ℕ, length, IfErr, IfOk, refl, if◌then◌else◌};
+ghost use Rattle.std.specs.Prelude.{◌≡◌, ◌⊎◌, ◌+◌, ◌∷◌, true, false, List, ℕ, length, take, IfErr, IfOk, OnOk, refl, if◌then◌else◌};
 ghost use Rattle.std.proofs.Common.{inl};
 ghost use Rattle.oram_redo.specs.FilePair.{Contents};
 ghost use Rattle.oram_redo.specs.Note.{Call};
@@ -11,7 +11,6 @@ ghost use Rattle.oram_redo.specs.System.{IsHonestRecord, LeftSince, MayLeaveAfte
 
 use crate::record::Record;
 use crate::{FileKind, FilePair, RedoError};
-use std::alloc::Global;
 use std::cell::Cell;
 use std::fs::File;
 use std::io::{self, ErrorKind};
@@ -24,9 +23,10 @@ const READ: u64 = 2;
 
 const SYNC: u64 = 3;
 
-/// How much the log grows at once: a mebibyte, which is written in pieces.
-const PIECES: u64 = 256;
+/// How much the log grows at the least, where it has to.
+const MEBIBYTE: u64 = 1 << 20;
 
+/// Zeros are written in pieces of this length.
 const PIECE: usize = 4_096;
 
 /// What two files held when they were opened. A function over `S: Start` is proved for all contents, which no code can read.
@@ -49,6 +49,10 @@ pub struct SystemPair<S: Start> {
     log: File,
     /// Nothing was written to the log behind it.
     log_len: Cell<u64>,
+    /// The log doesn't grow past it ahead of what is written.
+    log_room: u64,
+    /// How many bytes were written to the records since they were last synced.
+    put: Cell<u64>,
     has_failed: bool,
     noted: Record,
     start: PhantomData<S>,
@@ -57,8 +61,9 @@ pub struct SystemPair<S: Start> {
 impl<S: Start> SystemPair<S> {
     ghost use Rattle.oram_redo.specs.Fresh.{IsFresh};
 
-    /// Syncs both files, so that the disk has what a read returns. `S` stands for what they hold; its value is used up.
-    pub fn new(_start: S, records: File, log: File) -> io::Result<Self>
+    /// Syncs both files, so that the disk has what a read returns. `S` stands for what they hold; its value is used up. Ahead of what
+    /// is written the log grows to `log_room` at the most.
+    pub fn new(_start: S, records: File, log: File, log_room: u64) -> io::Result<Self>
         ensures { IfOk result IsFresh }
     {
         records.sync_all()?;
@@ -68,27 +73,49 @@ impl<S: Start> SystemPair<S> {
             records,
             log,
             log_len,
+            log_room,
+            put: Cell::new(0),
             has_failed: false,
             noted: Record::new(),
             start: PhantomData,
         })
     }
 
-    /// Has the log reach to this place before it is written to, so that a sync has no new length to keep, and is quicker. What it grows by
-    /// is zeros, which is what a read past its end gives too. Where there is no room for them it stays as long as it is.
+    /// Has the log reach to this place before it is written to, so that a sync has no new length to keep, and is quicker.
     fn reach(&self, end: u64) {
         let len = self.log_len.get();
         if end <= len {
             return;
         }
-        let grown = if grow(&self.log, len).is_ok() {
-            len.saturating_add(PIECES * PIECE as u64)
-        } else {
-            let _as_it_was = self.log.set_len(len);
-            len
-        };
+        self.grow_log(len.saturating_add(MEBIBYTE));
         // A write past that makes the log longer by itself.
-        self.log_len.set(grown.max(end));
+        self.log_len.set(self.log_len.get().max(end));
+    }
+
+    /// Has the log grow, where the records were synced, by half of what was written to these since the last time. A formatting writes to
+    /// the records alone, and has to be waited for anyway: so the first batches behind it find a log that needn't grow.
+    fn grow_beside(&self, synced: FileKind) {
+        if synced != FileKind::Records {
+            return;
+        }
+        let half = self.put.get() / 2;
+        self.put.set(0);
+        self.grow_log(self.log_len.get().saturating_add(half));
+    }
+
+    /// Has the log grow to this length, as far as it may. What it grows by is zeros, which is what a read past its end gives too. Where
+    /// there is no room for them it stays as long as it is.
+    fn grow_log(&self, wanted: u64) {
+        let old = self.log_len.get();
+        let len = wanted.min(self.log_room);
+        if len <= old {
+            return;
+        }
+        if write_zeros(&self.log, old, len).is_ok() {
+            self.log_len.set(len);
+        } else {
+            let _as_it_was = self.log.set_len(old);
+        }
     }
 
     fn file(&self, file: FileKind) -> &File {
@@ -108,14 +135,26 @@ fn note(noted: &mut Record, kind: u64, file: FileKind, at: u64, is_ok: bool, byt
     }
 }
 
-// Reads `len` bytes, zeros past the end.
-fn read_all(alloc: Global, file: &File, at: u64, len: usize) -> Result<Vec<u8>, RedoError>
-    ensures len { IfOk result (λ bytes. length bytes.items ≡ len) }
+// Reads `len` bytes behind others, zeros past the end.
+fn read_behind(file: &File, at: u64, len: usize, bytes: &mut Vec<u8>) -> Result<(), RedoError>
+    ensures front { OnOk result (take (length bytes.old.items) bytes.new.items ≡ bytes.old.items) }
+    ensures len { OnOk result (length bytes.new.items ≡ length bytes.old.items + len) }
     ensures errors { IfErr result (λ e. (e ≡ RedoError.Memory) ⊎ (e ≡ RedoError.Failed)) }
 {
-    let mut bytes = vec![in alloc; 0u8; len]?;
+    let start = bytes.len();
+    let Some(end) = start.checked_add(len) else {
+        return Err(RedoError::Memory);
+    };
+    bytes.resize(end, 0)?;
+    fill(file, at, &mut bytes[start..])
+}
+
+// Reads as many bytes as there is room for. Those past the file's end stay as they were.
+fn fill(file: &File, at: u64, bytes: &mut [u8]) -> Result<(), RedoError>
+    ensures { IfErr result (λ e. e ≡ RedoError.Failed) }
+{
     let mut got = 0;
-    while got < len {
+    while got < bytes.len() {
         let Some(from) = at.checked_add(got as u64) else {
             return Err(RedoError::Failed);
         };
@@ -125,7 +164,7 @@ fn read_all(alloc: Global, file: &File, at: u64, len: usize) -> Result<Vec<u8>, 
             Err(_) => return Err(RedoError::Failed),
         }
     }
-    Ok(bytes)
+    Ok(())
 }
 
 fn write_all(file: &File, at: u64, bytes: &[u8]) -> Result<(), RedoError>
@@ -145,14 +184,14 @@ fn write_all(file: &File, at: u64, bytes: &[u8]) -> Result<(), RedoError>
     Ok(())
 }
 
-// Writes the zeros by which a log grows.
-fn grow(log: &File, from: u64) -> Result<(), RedoError> {
+// Writes zeros from one place of a file to another.
+fn write_zeros(file: &File, from: u64, end: u64) -> Result<(), RedoError> {
     let zeros = [0; PIECE];
-    for number in 0..PIECES {
-        let Some(at) = from.checked_add(number * PIECE as u64) else {
-            return Err(RedoError::Failed);
-        };
-        write_all(log, at, &zeros)?;
+    let mut at = from;
+    while at < end {
+        let len = (end - at).min(PIECE as u64);
+        write_all(file, at, &zeros[..len as usize])?;
+        at += len;
     }
     Ok(())
 }
@@ -188,21 +227,24 @@ impl<S: Start> FilePair for SystemPair<S> {
 
     ghost only_now = { λ m c left. only_after S.first m.noted.calls c left };
 
-    fn read_at(
+    fn read_onto(
         &mut self,
-        alloc: Global,
         file: FileKind,
         at: u64,
         len: usize,
-    ) -> Result<Vec<u8>, RedoError> {
-        let bytes = read_all(alloc, self.file(file), at, len)?;
-        note(&mut self.noted, READ, file, at, true, &bytes);
-        Ok(bytes)
+        bytes: &mut Vec<u8>,
+    ) -> Result<(), RedoError> {
+        let start = bytes.len();
+        read_behind(self.file(file), at, len, bytes)?;
+        note(&mut self.noted, READ, file, at, true, &bytes[start..]);
+        Ok(())
     }
 
     fn write_at(&mut self, file: FileKind, at: u64, bytes: &[u8]) -> Result<(), RedoError> {
-        if file == FileKind::Log {
-            self.reach(at.saturating_add(bytes.len() as u64));
+        let len = bytes.len() as u64;
+        match file {
+            FileKind::Records => self.put.set(self.put.get().saturating_add(len)),
+            FileKind::Log => self.reach(at.saturating_add(len)),
         }
         match write_all(self.file(file), at, bytes) {
             Ok(()) => {
@@ -223,6 +265,7 @@ impl<S: Start> FilePair for SystemPair<S> {
         match self.file(file).sync_data() {
             Ok(()) => {
                 note(&mut self.noted, SYNC, file, 0, true, &[]);
+                self.grow_beside(file);
                 Ok(())
             }
             Err(_) => {

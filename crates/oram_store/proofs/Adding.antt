@@ -13,9 +13,10 @@ use Rattle.oram_redo.specs.FilePair.{Contents}
 use Rattle.oram_redo.specs.Log.{AgreesBut, Patch, Spares, put_all}
 use Rattle.oram_redo.specs.declared.file_pair.FileKind.TheVariants.{Records}
 use Rattle.oram_redo.proofs.Heal.{put_all_heals, put_all_spares}
-use Rattle.oram_store.specs.Crashes.{IsCarriedOut, MayHold, Serves, ServesWhole}
+use Rattle.oram_store.specs.Crashes.{IsCarriedOut, MayBeFound, MayHold, Serves, ServesWhole}
 use Rattle.oram_store.specs.Keeping.{Holds, IsSound, IsSoundFile, LeavesRecords, StoreValue, content_of, records_of, sure_records}
-use Rattle.oram_store.specs.RecordFile.{IsSteady, Passes}
+use Rattle.oram_store.specs.RecordFile.{IsSteady, OnlyIf, Passes}
+use Rattle.oram_wire.specs.declared.host_messages.HostAnswer.{HostAnswer}
 use Rattle.oram_wire.specs.declared.host_messages.HostAnswer.TheVariants as answer
 use Rattle.oram_wire.specs.declared.host_messages.HostRequest.TheVariants as request
 use Rattle.oram_store.proofs.Finding.{found_leads}
@@ -47,9 +48,10 @@ module _ {F : Type 0} (seen : F → Contents) (may_leave : F → Contents → Ty
   leaves = loose_leaves seen may_leave moment left_since old.trees old.file new.file (unmarked_patch tree node bytes) s.file
       (unmarked_off old.trees (seen old.file.files Records) number tree node bytes has unset (omega (arith, long))) passes elsewhere
 
-  whole : ServesWhole seen moment left_since (request.Put number node bytes) old new
-  whole = found_leads seen may_leave moment left_since old.file.files new.file.files (Holds old.trees (sure_records seen old))
-      (λ c. MayHold old.trees (sure_records seen old) (records_of seen old) c ⊎ IsCarriedOut old.trees (records_of seen old) (request.Put number node bytes) c) leaves.moments (λ c holds. inl (inl holds))
+  whole : (given : HostAnswer) → ServesWhole seen moment left_since (request.Put number node bytes) given old new
+  whole given = found_leads seen may_leave moment left_since old.file.files new.file.files (Holds old.trees (sure_records seen old))
+      (λ c. MayHold old.trees (sure_records seen old) (records_of seen old) c ⊎ OnlyIf (MayBeFound given new.file.has_stopped) (IsCarriedOut old.trees (records_of seen old) (request.Put number node bytes) c))
+      leaves.moments (λ c holds. inl (inl holds))
 
   still_sound : All (IsCell old.trees) new.pending → new.file.has_stopped ≡ false → IsSound seen may_leave new
   still_sound cells running = record {
@@ -67,7 +69,7 @@ module _ {F : Type 0} (seen : F → Contents) (may_leave : F → Contents → Ty
         sound = still_sound (subst (λ (l : List ℕ). All (IsCell old.trees) l) (sym pushed) (all_last (IsCell old.trees) old.pending (cell_at tree node) s.cells
             (record { number = number; tree = tree; node = node; is_there = has.is_there; within = has.within; place = refl })));
         records = λ running. (ap (λ (r : RecordsOf). r number node) (sym is) ∙ puts.there, λ other n differ. ap (λ (r : RecordsOf). r other n) (sym is) ∙ puts.others other n differ);
-        any_moment = whole;
+        any_moment = whole answer.Done;
       }
 
   pub serves_not_added : new.pending ≡ old.pending → Serves seen may_leave moment left_since (request.Put number node bytes) (answer.Refused 8) old new
@@ -83,7 +85,7 @@ module _ {F : Type 0} (seen : F → Contents) (may_leave : F → Contents → Ty
       record {
         sound = still_sound (subst (λ (l : List ℕ). All (IsCell old.trees) l) (sym kept) s.cells);
         records = λ running t n. ap (λ (r : RecordsOf). r t n) (sym is) ∙ same_records.kept t n;
-        any_moment = whole;
+        any_moment = whole (answer.Refused 8);
       }
     where
       one : (Q : Patch → Type 0) (p : Patch) → Q p → All Q (p ∷ [])

@@ -1,6 +1,6 @@
 -- What a crash finds, call by call of the file.
 use Rattle.std.proofs.Common.{◌≡◌, ◌⊎◌, inl, inr, ⊎_elim, ℕ, suc, ◌≤◌, Bool, true, false, true≢false, List, [], ◌∷◌, refl, sym, ◌∙◌, ap, subst, Result, Ok, Err}
-use Rattle.std.specs.Prelude.{IsErr, IsErrAnd, OnErr, OnOk}
+use Rattle.std.specs.Prelude.{IfErr, IsErr, IsErrAnd, OnErr, OnOk}
 use Rattle.std.proofs.lemmas.Bool.{cases_Bool}
 use Rattle.oram_redo.specs.Content.{Agrees, Content}
 use Rattle.oram_redo.specs.FilePair.{Contents, LeavesOnly}
@@ -12,7 +12,7 @@ use Rattle.oram_redo.specs.declared.redo.Redo.{Redo}
 use Rattle.oram_redo.proofs.Heal.{put_all_heals}
 use Rattle.oram_redo.proofs.Moments.{leads_to, started, then_leaves}
 use Rattle.oram_redo.proofs.Settled.{keeps_now}
-use Rattle.oram_store.specs.RecordFile.{Calls, Commits, FileValue, Finds, IsReason, IsSteady, Passes, Runs, bounds}
+use Rattle.oram_store.specs.RecordFile.{Calls, Commits, FileValue, Finds, IsReason, IsSteady, MayHave, OnlyIf, Passes, Runs, bounds}
 use Rattle.oram_store.specs.declared.faults.StoreFault.{StoreFault}
 use Rattle.oram_store.specs.declared.faults.StoreFault.TheVariants as fault
 
@@ -157,24 +157,33 @@ module _ {F : Type 0} (seen : F → Contents) (may_leave : F → Contents → Ty
         })
   ]
 
-  -- the records that were there, or those with a batch
-  abbrev Whole : List Patch → FileValue F → Content → Type 0
-  Whole batch v r = Agrees r (seen v.files Records) ⊎ Agrees r (put_all batch (seen v.files Records))
-
-  pub sure_restarted : (batch : List Patch) (old mid new : FileValue F) → Passes seen may_leave moment left_since [] (Whole batch old) old mid → Agrees (seen mid.files Records) (seen old.files Records)
+  pub sure_restarted : (may_be is : Type 0) (batch : List Patch) (old mid new : FileValue F) → (may_be → is) → Passes seen may_leave moment left_since [] (MayHave seen may_be batch old) old mid
+      → Agrees (seen mid.files Records) (seen old.files Records)
       → (IsSteady seen may_leave mid [] → Passes seen may_leave moment left_since [] (λ r. AgreesBut [] r (seen mid.files Records)) mid new) → (mid.has_stopped ≡ true → new ≡ mid)
       → ((t : ℕ) (c : Contents) → t ≤ moment mid.files → may_leave mid.files c → left_since mid.files t c) → may_leave mid.files (seen mid.files)
-      → Passes seen may_leave moment left_since [] (Whole batch old) old new
-  sure_restarted batch old mid new first same second stays counts_now whole =
-      passes_then old mid new [] [] (Whole batch old) (λ r. AgreesBut [] r (seen mid.files Records)) (Whole batch old) first second stays counts_now whole (λ r q. q) (λ r agrees. inl (λ i. agrees i tt ∙ same i))
+      → Passes seen may_leave moment left_since [] (MayHave seen is batch old) old new
+  sure_restarted may_be is batch old mid new allows first same second stays counts_now whole =
+      passes_then old mid new [] [] (MayHave seen may_be batch old) (λ r. AgreesBut [] r (seen mid.files Records)) (MayHave seen is batch old) first second stays counts_now whole
+      (λ r q. ⊎_elim (λ agrees. inl agrees) (λ found. inr (record { allowed = allows found.allowed; holds = found.holds })) q) (λ r agrees. inl (λ i. agrees i tt ∙ same i))
 
-  pub sure_again : (batch : List Patch) (old mid new : FileValue F) → Passes seen may_leave moment left_since [] (Whole batch old) old mid → Agrees (seen mid.files Records) (seen old.files Records)
-      → (IsSteady seen may_leave mid [] → Passes seen may_leave moment left_since [] (Whole batch mid) mid new) → (mid.has_stopped ≡ true → new ≡ mid)
+  pub sure_again : (may_be is : Type 0) (batch : List Patch) (old mid new : FileValue F) → (may_be → is) → Passes seen may_leave moment left_since [] (MayHave seen is batch old) old mid
+      → Agrees (seen mid.files Records) (seen old.files Records)
+      → (IsSteady seen may_leave mid [] → Passes seen may_leave moment left_since [] (MayHave seen may_be batch mid) mid new) → (mid.has_stopped ≡ true → new ≡ mid)
       → ((t : ℕ) (c : Contents) → t ≤ moment mid.files → may_leave mid.files c → left_since mid.files t c) → may_leave mid.files (seen mid.files)
-      → Passes seen may_leave moment left_since [] (Whole batch old) old new
-  sure_again batch old mid new first same second stays counts_now whole =
-      passes_then old mid new [] [] (Whole batch old) (Whole batch mid) (Whole batch old) first second stays counts_now whole (λ r q. q)
-      (λ r q. ⊎_elim (λ agrees. inl (λ i. agrees i ∙ same i)) (λ agrees. inr (λ i. agrees i ∙ put_all_heals batch (seen mid.files Records) (seen old.files Records) i (λ spared. same i))) q)
+      → Passes seen may_leave moment left_since [] (MayHave seen is batch old) old new
+  sure_again may_be is batch old mid new allows first same second stays counts_now whole =
+      passes_then old mid new [] [] (MayHave seen is batch old) (MayHave seen may_be batch mid) (MayHave seen is batch old) first second stays counts_now whole (λ r q. q)
+      (λ r q. ⊎_elim (λ agrees. inl (λ i. agrees i ∙ same i))
+      (λ found. inr (record { allowed = allows found.allowed; holds = λ i. found.holds i ∙ put_all_heals batch (seen mid.files Records) (seen old.files Records) i (λ spared. same i) })) q)
+
+  -- the batch may be found in more cases
+  pub may_have_more : (may_be is : Type 0) (batch : List Patch) (old new : FileValue F) → (may_be → is) → Passes seen may_leave moment left_since [] (MayHave seen may_be batch old) old new
+      → Passes seen may_leave moment left_since [] (MayHave seen is batch old) old new
+  may_have_more may_be is batch old new allows passes = record {
+    steady = passes.steady;
+    moments = found_leads old.files new.files (MayHave seen may_be batch old) (MayHave seen is batch old) passes.moments
+        (λ r q. ⊎_elim (λ agrees. inl agrees) (λ found. inr (record { allowed = allows found.allowed; holds = found.holds })) q);
+  }
 
   -- what is written is made sure first
   pub commits_err : (batch : List Patch) (old new : FileValue F) (result : Result Unit StoreFault) → IsErr result
@@ -189,7 +198,7 @@ module _ {F : Type 0} (seen : F → Contents) (may_leave : F → Contents → Ty
     sure = tt;
     undone = λ running. same;
     steady = λ loose s running. more_loose new loose ((passes loose s).steady running);
-    moments = λ loose s. found_leads old.files new.files (λ r. AgreesBut loose r (seen old.files Records)) (λ r. AgreesBut loose r (seen old.files Records) ⊎ Agrees r (put_all batch (seen old.files Records)))
+    moments = λ loose s. found_leads old.files new.files (λ r. AgreesBut loose r (seen old.files Records)) (λ r. AgreesBut loose r (seen old.files Records) ⊎ OnlyIf (new.has_stopped ≡ true) (Agrees r (put_all batch (seen old.files Records))))
         (passes loose s).moments (λ r agrees. inl agrees);
   }
 
@@ -205,13 +214,13 @@ module _ {F : Type 0} (seen : F → Contents) (may_leave : F → Contents → Ty
     sure = tt;
     undone = λ running i. refl;
     steady = λ loose s running. s;
-    moments = λ loose s. not_begun v loose (λ r. AgreesBut loose r (seen v.files Records) ⊎ Agrees r (put_all batch (seen v.files Records))) s only_now (λ r agrees. inl agrees);
+    moments = λ loose s. not_begun v loose (λ r. AgreesBut loose r (seen v.files Records) ⊎ OnlyIf (v.has_stopped ≡ true) (Agrees r (put_all batch (seen v.files Records)))) s only_now (λ r agrees. inl agrees);
   }
 
   pub commits_then : (batch : List Patch) (old mid new : FileValue F) (result : Result Unit StoreFault)
       → ((loose : List Patch) → IsSteady seen may_leave old loose → Passes seen may_leave moment left_since [] (λ r. AgreesBut loose r (seen old.files Records)) old mid)
       → Agrees (seen mid.files Records) (seen old.files Records)
-      → (IsSteady seen may_leave mid [] → Passes seen may_leave moment left_since [] (Whole batch mid) mid new) → (mid.has_stopped ≡ true → new ≡ mid)
+      → (IsSteady seen may_leave mid [] → Passes seen may_leave moment left_since [] (MayHave seen (OnErr result (new.has_stopped ≡ true)) batch mid) mid new) → (mid.has_stopped ≡ true → new ≡ mid)
       → OnOk result (Agrees (seen new.files Records) (put_all batch (seen mid.files Records))) → OnErr result (new.has_stopped ≡ false → Agrees (seen new.files Records) (seen mid.files Records))
       → ((t : ℕ) (c : Contents) → t ≤ moment mid.files → may_leave mid.files c → left_since mid.files t c) → may_leave mid.files (seen mid.files)
       → Commits seen may_leave moment left_since batch result old new
@@ -224,11 +233,13 @@ module _ {F : Type 0} (seen : F → Contents) (may_leave : F → Contents → Ty
   }
     where
       all : (loose : List Patch) → IsSteady seen may_leave old loose
-          → Passes seen may_leave moment left_since [] (λ r. AgreesBut loose r (seen old.files Records) ⊎ Agrees r (put_all batch (seen old.files Records))) old new
+          → Passes seen may_leave moment left_since [] (λ r. AgreesBut loose r (seen old.files Records) ⊎ OnlyIf (OnErr result (new.has_stopped ≡ true)) (Agrees r (put_all batch (seen old.files Records)))) old new
       all loose s =
-          passes_then old mid new [] [] (λ r. AgreesBut loose r (seen old.files Records)) (Whole batch mid) (λ r. AgreesBut loose r (seen old.files Records) ⊎ Agrees r (put_all batch (seen old.files Records)))
+          passes_then old mid new [] [] (λ r. AgreesBut loose r (seen old.files Records)) (MayHave seen (OnErr result (new.has_stopped ≡ true)) batch mid)
+          (λ r. AgreesBut loose r (seen old.files Records) ⊎ OnlyIf (OnErr result (new.has_stopped ≡ true)) (Agrees r (put_all batch (seen old.files Records))))
           (first loose s) second stays counts_now whole (λ r agrees. inl agrees)
-          (λ r q. ⊎_elim (λ agrees. inl (λ i spared. agrees i ∙ same i)) (λ agrees. inr (λ i. agrees i ∙ put_all_heals batch (seen mid.files Records) (seen old.files Records) i (λ spared. same i))) q)
+          (λ r q. ⊎_elim (λ agrees. inl (λ i spared. agrees i ∙ same i))
+          (λ found. inr (record { allowed = found.allowed; holds = λ i. found.holds i ∙ put_all_heals batch (seen mid.files Records) (seen old.files Records) i (λ spared. same i) })) q)
 
       on_ok : (r : Result Unit StoreFault) → OnOk r (Agrees (seen new.files Records) (put_all batch (seen mid.files Records))) → OnOk r (Agrees (seen new.files Records) (put_all batch (seen old.files Records)))
       on_ok (Ok x) agrees = λ i. agrees i ∙ put_all_heals batch (seen mid.files Records) (seen old.files Records) i (λ spared. same i)
@@ -245,6 +256,11 @@ module _ {F : Type 0} (seen : F → Contents) (may_leave : F → Contents → Ty
       steady_err : (r : Result Unit StoreFault) → OnErr r ((loose : List Patch) → IsSteady seen may_leave old loose → new.has_stopped ≡ false → IsSteady seen may_leave new loose)
       steady_err (Ok x) = tt
       steady_err (Err e) = λ loose s running. more_loose new loose ((all loose s).steady running)
+
+-- the error of a call is handed on
+pub error_is : {T : Type 0} (result : Result T StoreFault) (fault : StoreFault) (P : StoreFault → Type 0) → IsErrAnd result (λ e. e ≡ fault) → P fault → IfErr result P
+error_is (Ok x) fault P is holds = absurd is
+error_is (Err e) fault P is holds = subst P (sym is) holds
 
 pub agrees_all : (ps : List Patch) (c d : Content) → Agrees c d → Agrees (put_all ps c) (put_all ps d)
 agrees_all ps c d same i = put_all_heals ps c d i (λ spared. same i)
@@ -270,7 +286,7 @@ module _ {F : Type 0} (failures shortages : F → ℕ → Type 0) (is_honest : F
     stays = λ stopped. refl;
   }
 
-  reason_then : (old mid new : FileValue F) (fault : StoreFault) → Runs failures shortages is_honest old mid → mid.has_stopped ≡ old.has_stopped → IsReason failures shortages mid new fault → IsReason failures shortages old new fault
+  pub reason_then : (old mid new : FileValue F) (fault : StoreFault) → Runs failures shortages is_honest old mid → mid.has_stopped ≡ old.has_stopped → IsReason failures shortages mid new fault → IsReason failures shortages old new fault
   reason_then old mid new fault.Closed runs same reason = sym same ∙ reason
   reason_then old mid new fault.Io runs same reason = (reason.0, ⊎_elim (λ f. inl (λ n h. f n (runs.after.failed n h))) (λ f. inr (λ n h. f n (runs.after.short n h))) reason.1)
   reason_then old mid new fault.NoRoom runs same reason = λ n h. reason n (runs.after.short n h)

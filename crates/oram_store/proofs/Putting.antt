@@ -11,9 +11,9 @@ use Rattle.oram_redo.specs.FilePair.{Contents, LeavesOnly}
 use Rattle.oram_redo.specs.Log.{put_all}
 use Rattle.oram_redo.specs.declared.file_pair.FileKind.TheVariants.{Records}
 use Rattle.oram_store.specs.Answers.{Answers}
-use Rattle.oram_store.specs.Crashes.{IsCarriedOut, MayHold, Serves, Settles}
+use Rattle.oram_store.specs.Crashes.{IsCarriedOut, MayBeFound, MayHold, Serves, Settles}
 use Rattle.oram_store.specs.Keeping.{Holds, IsSound, IsSoundFile, LeavesRecords, StoreValue, content_of, records_of, sure_records}
-use Rattle.oram_store.specs.RecordFile.{FileValue, Finds, ReadsOnly}
+use Rattle.oram_store.specs.RecordFile.{FileValue, Finds, OnlyIf, ReadsOnly}
 use Rattle.oram_wire.specs.declared.host_messages.HostAnswer.{HostAnswer}
 use Rattle.oram_wire.specs.declared.host_messages.HostAnswer.TheVariants as answer
 use Rattle.oram_wire.specs.declared.host_messages.HostRequest.{HostRequest}
@@ -54,18 +54,18 @@ module _ {F : Type 0} (seen : F → Contents) (may_leave : F → Contents → Ty
       cells = subst (λ (t : Trees). All (IsCell t) mid.pending) (sym same) (subst (λ (l : List ℕ). All (IsCell old.trees) l) (sym kept) s.cells);
     }
 
-    abbrev Ends : Content → Type 0
-    Ends c = MayHold old.trees (sure_records seen old) (records_of seen old) c ⊎ IsCarriedOut old.trees (records_of seen old) message c
+    abbrev Ends : Type 0 → Content → Type 0
+    Ends may_be c = MayHold old.trees (sure_records seen old) (records_of seen old) c ⊎ OnlyIf may_be (IsCarriedOut old.trees (records_of seen old) message c)
 
-    began : LeavesOnly moment left_since old.file.files mid.file.files (Finds (seen old.file.files) Ends)
-    began = found_leads seen may_leave moment left_since old.file.files mid.file.files (Holds old.trees (sure_records seen old)) Ends leaves.moments (λ c holds. inl (inl holds))
+    began : (may_be : Type 0) → LeavesOnly moment left_since old.file.files mid.file.files (Finds (seen old.file.files) (Ends may_be))
+    began may_be = found_leads seen may_leave moment left_since old.file.files mid.file.files (Holds old.trees (sure_records seen old)) (Ends may_be) leaves.moments (λ c holds. inl (inl holds))
 
     -- a read that fails
     pub serves_unread : Serves seen may_leave moment left_since message (answer.Refused 8) old mid
     serves_unread = record {
       sound = sound;
       records = λ running. refused_kept old.trees (records_of seen old) (records_of seen mid) message 8 (λ six. absurd (omega arith)) (λ tree node. ap (λ (r : RecordsOf). r tree node) all_same);
-      any_moment = began;
+      any_moment = began (mid.file.has_stopped ≡ true);
     }
 
     -- a read, and then the request
@@ -78,18 +78,21 @@ module _ {F : Type 0} (seen : F → Contents) (may_leave : F → Contents → Ty
           record {
             sound = λ running. absurd (true≢false (sym still ∙ running));
             records = λ running. absurd (true≢false (sym still ∙ running));
-            any_moment = subst (λ (v : FileValue F). LeavesOnly moment left_since old.file.files v.files (Finds (seen old.file.files) Ends)) (sym (stays stopped)) began;
+            any_moment = subst (λ (v : FileValue F). LeavesOnly moment left_since old.file.files v.files (Finds (seen old.file.files) (Ends found))) (sym (stays stopped)) (began found);
           })
       | inr running ↦ (
           let now = then (sound running) in
           record {
             sound = now.sound;
             records = λ still. subst (λ (r : RecordsOf). Answers old.trees r message given (records_of seen new)) all_same (subst (λ (t : Trees). Answers t (records_of seen mid) message given (records_of seen new)) same (now.records still));
-            any_moment = found_then seen may_leave moment left_since old.file.files mid.file.files new.file.files Ends
-                (λ c. MayHold mid.trees (sure_records seen mid) (records_of seen mid) c ⊎ IsCarriedOut mid.trees (records_of seen mid) message c) Ends
-                (same_front seen may_leave moment left_since old.file.files mid.file.files Ends began counts_now whole) began now.any_moment (λ c ends. ends)
-                (λ c either. subst (λ (t : Trees). MayHold t (sure_records seen old) (records_of seen old) c ⊎ IsCarriedOut t (records_of seen old) message c) same
-                (subst (λ (r : RecordsOf). MayHold mid.trees r (records_of seen old) c ⊎ IsCarriedOut mid.trees (records_of seen old) message c) sure_same
-                (subst (λ (r : RecordsOf). MayHold mid.trees (sure_records seen mid) r c ⊎ IsCarriedOut mid.trees r message c) all_same either)));
+            any_moment = found_then seen may_leave moment left_since old.file.files mid.file.files new.file.files (Ends found)
+                (λ c. MayHold mid.trees (sure_records seen mid) (records_of seen mid) c ⊎ OnlyIf found (IsCarriedOut mid.trees (records_of seen mid) message c)) (Ends found)
+                (same_front seen may_leave moment left_since old.file.files mid.file.files (Ends found) (began found) counts_now whole) (began found) now.any_moment (λ c ends. ends)
+                (λ c either. subst (λ (t : Trees). MayHold t (sure_records seen old) (records_of seen old) c ⊎ OnlyIf found (IsCarriedOut t (records_of seen old) message c)) same
+                (subst (λ (r : RecordsOf). MayHold mid.trees r (records_of seen old) c ⊎ OnlyIf found (IsCarriedOut mid.trees (records_of seen old) message c)) sure_same
+                (subst (λ (r : RecordsOf). MayHold mid.trees (sure_records seen mid) r c ⊎ OnlyIf found (IsCarriedOut mid.trees r message c)) all_same either)));
           })
     ]
+      where
+        found : Type 0
+        found = MayBeFound given new.file.has_stopped

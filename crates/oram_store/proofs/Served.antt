@@ -1,6 +1,6 @@
 -- Requests that are served: after a settling, and by each kind of call.
 use Rattle.std.proofs.Common.{◌≡◌, ◌⊎◌, inl, inr, ⊎_elim, ℕ, ◌≤◌, true, true≢false, List, [], Option, Some, None, refl, sym, ◌∙◌, ap, subst, Result, Ok, Err, arith}
-use Rattle.std.specs.Prelude.{All, IfOk, IsErr, MatchOption, MatchResult}
+use Rattle.std.specs.Prelude.{All, IfOk, IsErr, MatchOption, MatchResult, OnErr}
 use Rattle.std.proofs.lemmas.Bool.{cases_Bool}
 use Rattle.oram_layout.specs.BucketFile.{IsBucketFile}
 use Rattle.oram_layout.specs.Changes.{IsCell, marks}
@@ -17,10 +17,10 @@ use Rattle.oram_redo.specs.FilePair.{Contents, LeavesOnly}
 use Rattle.oram_redo.specs.Log.{put_all}
 use Rattle.oram_redo.specs.declared.file_pair.FileKind.TheVariants.{Records}
 use Rattle.oram_store.specs.Answers.{Answers, answer_by}
-use Rattle.oram_store.specs.Crashes.{IsCarriedOut, MayHold, Serves, ServesWhole, Settles}
+use Rattle.oram_store.specs.Crashes.{IsCarriedOut, MayBeFound, MayHold, Serves, ServesWhole, Settles}
 use Rattle.oram_store.specs.Keeping.{Changes, Holds, IsSound, IsSoundFile, LeavesRecords, StoreValue, Stores, content_of, records_of, sure_records}
 use Rattle.oram_store.specs.Batches.{records_of_tree}
-use Rattle.oram_store.specs.RecordFile.{FileValue, Finds, ReadsOnly}
+use Rattle.oram_store.specs.RecordFile.{FileValue, Finds, OnlyIf, ReadsOnly}
 use Rattle.oram_store.specs.declared.faults.StoreFault.{StoreFault}
 use Rattle.oram_wire.specs.declared.host_messages.HostAnswer.{HostAnswer}
 use Rattle.oram_wire.specs.declared.host_messages.HostAnswer.TheVariants as answer
@@ -75,7 +75,7 @@ module _ {F : Type 0} (seen : F → Contents) (may_leave : F → Contents → Ty
     sound = settles.sound;
     records = λ running. refused_kept old.trees (records_of seen old) (records_of seen new) message code unlike (settles.records running);
     any_moment = found_leads seen may_leave moment left_since old.file.files new.file.files (MayHold old.trees (sure_records seen old) (records_of seen old))
-        (λ c. MayHold old.trees (sure_records seen old) (records_of seen old) c ⊎ IsCarriedOut old.trees (records_of seen old) message c) settles.any_moment (λ r holds. inl holds);
+        (λ c. MayHold old.trees (sure_records seen old) (records_of seen old) c ⊎ OnlyIf (new.file.has_stopped ≡ true) (IsCarriedOut old.trees (records_of seen old) message c)) settles.any_moment (λ r holds. inl holds);
   }
 
   -- a request that is served after a settling
@@ -99,16 +99,16 @@ module _ {F : Type 0} (seen : F → Contents) (may_leave : F → Contents → Ty
           sound = now.sound;
           records = λ still. subst (λ (t : Trees). Answers t (records_of seen old) message given (records_of seen new)) same (answers_keep mid.trees (records_of seen old) (records_of seen mid) (records_of seen new) message given kept (now.records still));
           any_moment = found_then seen may_leave moment left_since old.file.files mid.file.files new.file.files Ends
-              (λ c. MayHold mid.trees (sure_records seen mid) (records_of seen mid) c ⊎ IsCarriedOut mid.trees (records_of seen mid) message c) Ends
+              (λ c. MayHold mid.trees (sure_records seen mid) (records_of seen mid) c ⊎ OnlyIf (MayBeFound given new.file.has_stopped) (IsCarriedOut mid.trees (records_of seen mid) message c)) Ends
               (same_front seen may_leave moment left_since old.file.files mid.file.files Ends began counts_now whole) began now.any_moment (λ r ends. ends)
-              (λ r either. subst (λ (t : Trees). MayHold t (sure_records seen old) (records_of seen old) r ⊎ IsCarriedOut t (records_of seen old) message r) same (⊎_elim
+              (λ r either. subst (λ (t : Trees). MayHold t (sure_records seen old) (records_of seen old) r ⊎ OnlyIf (MayBeFound given new.file.has_stopped) (IsCarriedOut t (records_of seen old) message r)) same (⊎_elim
               (λ may. inl (inr (⊎_elim (λ holds. holds_then mid.trees (records_of seen old) (sure_records seen mid) r sure holds) (λ holds. holds_then mid.trees (records_of seen old) (records_of seen mid) r kept holds) may)))
-              (λ out. inr (carried_keep mid.trees (records_of seen old) (records_of seen mid) message r kept out)) either));
+              (λ out. inr (record { allowed = out.allowed; holds = carried_keep mid.trees (records_of seen old) (records_of seen mid) message r kept out.holds })) either));
         })
   ]
     where
       Ends : Content → Type 0
-      Ends c = MayHold old.trees (sure_records seen old) (records_of seen old) c ⊎ IsCarriedOut old.trees (records_of seen old) message c
+      Ends c = MayHold old.trees (sure_records seen old) (records_of seen old) c ⊎ OnlyIf (MayBeFound given new.file.has_stopped) (IsCarriedOut old.trees (records_of seen old) message c)
 
       began : LeavesOnly moment left_since old.file.files mid.file.files (Finds (seen old.file.files) Ends)
       began = found_leads seen may_leave moment left_since old.file.files mid.file.files (MayHold old.trees (sure_records seen old) (records_of seen old)) Ends first.any_moment (λ r holds. inl holds)
@@ -138,18 +138,20 @@ module _ {F : Type 0} (seen : F → Contents) (may_leave : F → Contents → Ty
       cells = subst (λ (l : List ℕ). All (IsCell new.trees) l) (sym still) (λ k d h. absurd (omega arith));
     }
 
-    whole : (r : Result Unit StoreFault) → Changes seen may_leave moment left_since old.trees change r old.file new.file → ServesWhole seen moment left_since message old new
-    whole r changes = found_leads seen may_leave moment left_since old.file.files new.file.files
-        (λ c. Holds old.trees (sure_records seen old) c ⊎ (IsBucketFile old.trees c × change (sure_records seen old) (records_in old.trees c)))
-        (λ c. MayHold old.trees (sure_records seen old) (records_of seen old) c ⊎ IsCarriedOut old.trees (records_of seen old) message c) changes.moments
-        (λ c either. ⊎_elim (λ holds. inl (inl holds)) (λ made. inr (carried c made.0 (subst (λ (r : RecordsOf). change r (records_in old.trees c)) before made.1))) either)
+    whole : (r : Result Unit StoreFault) (given : HostAnswer) → (OnErr r (new.file.has_stopped ≡ true) → MayBeFound given new.file.has_stopped)
+        → Changes seen may_leave moment left_since old.trees change r old.file new.file → ServesWhole seen moment left_since message given old new
+    whole r given allows changes = found_leads seen may_leave moment left_since old.file.files new.file.files
+        (λ c. Holds old.trees (sure_records seen old) c ⊎ OnlyIf (OnErr r (new.file.has_stopped ≡ true)) (IsBucketFile old.trees c × change (sure_records seen old) (records_in old.trees c)))
+        (λ c. MayHold old.trees (sure_records seen old) (records_of seen old) c ⊎ OnlyIf (MayBeFound given new.file.has_stopped) (IsCarriedOut old.trees (records_of seen old) message c)) changes.moments
+        (λ c either. ⊎_elim (λ holds. inl (inl holds))
+        (λ made. inr (record { allowed = allows made.allowed; holds = carried c made.holds.0 (subst (λ (r : RecordsOf). change r (records_in old.trees c)) before made.holds.1) })) either)
 
     pub serves_change : (x : Unit {0}) → Changes seen may_leave moment left_since old.trees change (Ok x) old.file new.file → Serves seen may_leave moment left_since message answer.Done old new
     serves_change x changes = record {
       sound = λ running. sound (changes.sound running);
       records = λ running. granted (records_of seen old) (records_of seen new)
           (subst (λ (r : RecordsOf). change r (records_of seen new)) before (subst (λ (r : RecordsOf). change (sure_records seen old) r) after (changes.done running)));
-      any_moment = whole (Ok x) changes;
+      any_moment = whole (Ok x) answer.Done (λ done. tt) changes;
     }
 
     pub serves_no_change : (e : StoreFault) → Changes seen may_leave moment left_since old.trees change (Err e) old.file new.file → Serves seen may_leave moment left_since message (answer.Refused 8) old new
@@ -157,7 +159,7 @@ module _ {F : Type 0} (seen : F → Contents) (may_leave : F → Contents → Ty
       sound = λ running. sound (changes.sound running);
       records = λ running. refused_kept old.trees (records_of seen old) (records_of seen new) message 8 (λ six. absurd (omega arith))
           (subst (λ (r : RecordsOf). AreKept r (records_of seen new)) before (subst (λ (r : RecordsOf). AreKept (sure_records seen old) r) after (changes.undone running)));
-      any_moment = whole (Err e) changes;
+      any_moment = whole (Err e) (answer.Refused 8) (λ stopped. stopped) changes;
     }
 
   -- records that are read, where nothing is pending
@@ -176,7 +178,7 @@ module _ {F : Type 0} (seen : F → Contents) (may_leave : F → Contents → Ty
           ∙ leaves.kept running tree node
           ∙ ap (λ (l : List ℕ). records_in old.trees (put_all (marks l) (seen old.file.files Records)) tree node) (sym none));
       any_moment = found_leads seen may_leave moment left_since old.file.files new.file.files (Holds old.trees (sure_records seen old))
-          (λ c. MayHold old.trees (sure_records seen old) (records_of seen old) c ⊎ IsCarriedOut old.trees (records_of seen old) message c) leaves.moments (λ c holds. inl (inl holds));
+          (λ c. MayHold old.trees (sure_records seen old) (records_of seen old) c ⊎ OnlyIf (MayBeFound given new.file.has_stopped) (IsCarriedOut old.trees (records_of seen old) message c)) leaves.moments (λ c holds. inl (inl holds));
     }
 
   pub serves_err : (message : HostRequest) (result : Result Unit StoreFault) (old new : StoreValue F) → IsErr result → Settles seen may_leave moment left_since old new

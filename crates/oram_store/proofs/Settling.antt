@@ -1,5 +1,5 @@
 -- PUTs that are settled.
-use Rattle.std.proofs.Common.{◌≡◌, ◌⊎◌, inl, inr, ⊎_elim, ℕ, false, List, [], refl, sym, ◌∙◌, ap, subst, Result, Ok, Err, arith}
+use Rattle.std.proofs.Common.{◌≡◌, ◌⊎◌, inl, inr, ⊎_elim, ℕ, true, false, List, [], refl, sym, ◌∙◌, ap, subst, Result, Ok, Err, arith}
 use Rattle.std.specs.Prelude.{All, OnErr, OnOk}
 use Rattle.oram_layout.specs.BucketFile.{IsBucketFile}
 use Rattle.oram_layout.specs.Changes.{IsCell, marks}
@@ -13,7 +13,7 @@ use Rattle.oram_redo.specs.Log.{put_all}
 use Rattle.oram_redo.specs.declared.file_pair.FileKind.TheVariants.{Records}
 use Rattle.oram_store.specs.Crashes.{MayHold, Settles}
 use Rattle.oram_store.specs.Keeping.{Changes, Holds, IsSound, IsSoundFile, StoreValue, content_of, records_of, sure_records}
-use Rattle.oram_store.specs.RecordFile.{Commits}
+use Rattle.oram_store.specs.RecordFile.{Commits, OnlyIf}
 use Rattle.oram_store.specs.declared.faults.StoreFault.{StoreFault}
 use Rattle.oram_store.proofs.Finding.{found_leads, not_begun}
 use Rattle.oram_store.proofs.Sound.{commits_change, holds_but}
@@ -38,9 +38,9 @@ module _ {F : Type 0} (seen : F → Contents) (may_leave : F → Contents → Ty
     };
     records = λ running tree node. ap (λ (t : Trees). records_in t (content_of seen new) tree node) trees_same ∙ same result commits none kept running tree node;
     any_moment = found_leads seen may_leave moment left_since old.file.files new.file.files
-        (λ c. Holds old.trees (records_in old.trees (seen old.file.files Records)) c ⊎ (IsBucketFile old.trees c × AreKept (records_of seen old) (records_in old.trees c)))
+        (λ c. Holds old.trees (records_in old.trees (seen old.file.files Records)) c ⊎ OnlyIf (OnErr result (new.file.has_stopped ≡ true)) (IsBucketFile old.trees c × AreKept (records_of seen old) (records_in old.trees c)))
         (MayHold old.trees (sure_records seen old) (records_of seen old)) changes.moments
-        (λ r either. ⊎_elim (λ holds. inl holds) (λ made. inr (record { file = made.0; kept = made.1 })) either);
+        (λ r either. ⊎_elim (λ holds. inl holds) (λ made. inr (record { file = made.holds.0; kept = made.holds.1 })) either);
   }
     where
       changes : Changes seen may_leave moment left_since old.trees (λ one two. AreKept (records_of seen old) two) result old.file new.file

@@ -1,6 +1,6 @@
 -- A tree that is added.
 use Rattle.std.proofs.Common.{◌≡◌, ◌≢◌, ◌⊎◌, inl, inr, ⊎_elim, ℕ, ◌<◌, Bool, true, false, List, [], ◌∷◌, length, Some, None, refl, sym, ◌∙◌, ap, subst, Result, Ok, Err, arith, length-set, get_or-set_same, get_or-set_other}
-use Rattle.std.specs.Prelude.{All, ◌==◌, if◌then◌else◌, slice_set}
+use Rattle.std.specs.Prelude.{All, OnErr, ◌==◌, if◌then◌else◌, slice_set}
 use Rattle.std.proofs.lemmas.Bool.{cond-false, cond-true}
 use Rattle.std.proofs.lemmas.Bool.Decides.{nat_tests}
 use Rattle.oram_layout.specs.BucketFile.{IsBucketFile}
@@ -15,11 +15,12 @@ use Rattle.oram_redo.specs.Content.{Agrees, Content}
 use Rattle.oram_redo.specs.FilePair.{Contents}
 use Rattle.oram_redo.specs.Log.{AgreesBut, put_all}
 use Rattle.oram_redo.specs.declared.file_pair.FileKind.TheVariants.{Records}
-use Rattle.oram_store.specs.Crashes.{IsCarriedOut, MayHold, Serves, ServesWhole}
+use Rattle.oram_store.specs.Crashes.{IsCarriedOut, MayBeFound, MayHold, Serves, ServesWhole}
 use Rattle.oram_store.specs.Keeping.{Holds, IsSound, IsSoundFile, StoreValue, records_of, sure_records}
 use Rattle.oram_store.specs.Refusals.{Leads}
-use Rattle.oram_store.specs.RecordFile.{Commits}
+use Rattle.oram_store.specs.RecordFile.{Commits, OnlyIf}
 use Rattle.oram_store.specs.declared.faults.StoreFault.{StoreFault}
+use Rattle.oram_wire.specs.declared.host_messages.HostAnswer.{HostAnswer}
 use Rattle.oram_wire.specs.declared.host_messages.HostAnswer.TheVariants as answer
 use Rattle.oram_wire.specs.declared.host_messages.HostRequest.TheVariants as request
 use Rattle.oram_store.proofs.Finding.{found_leads}
@@ -61,12 +62,14 @@ module _ {F : Type 0} (seen : F → Contents) (may_leave : F → Contents → Ty
       let added = tree_added mid.trees more (seen mid.file.files Records) c number tree s.file.file adds base agrees in
       record { file = added.is_file; kept = subst (λ (r : RecordsOf). AreKept r (records_in more c)) before added.kept }
 
-  whole : (r : Result Unit StoreFault) → Commits seen may_leave moment left_since (tree_patch number tree ∷ []) r mid.file new.file → ServesWhole seen moment left_since (request.Shape number depth record_len) mid new
-  whole r commits = found_leads seen may_leave moment left_since mid.file.files new.file.files
-      (λ c. AgreesBut s.file.loose c (seen mid.file.files Records) ⊎ Agrees c (put_all (tree_patch number tree ∷ []) (seen mid.file.files Records)))
-      (λ c. MayHold mid.trees (sure_records seen mid) (records_of seen mid) c ⊎ IsCarriedOut mid.trees (records_of seen mid) (request.Shape number depth record_len) c)
+  whole : (r : Result Unit StoreFault) (given : HostAnswer) → (OnErr r (new.file.has_stopped ≡ true) → MayBeFound given new.file.has_stopped)
+      → Commits seen may_leave moment left_since (tree_patch number tree ∷ []) r mid.file new.file → ServesWhole seen moment left_since (request.Shape number depth record_len) given mid new
+  whole r given allows commits = found_leads seen may_leave moment left_since mid.file.files new.file.files
+      (λ c. AgreesBut s.file.loose c (seen mid.file.files Records) ⊎ OnlyIf (OnErr r (new.file.has_stopped ≡ true)) (Agrees c (put_all (tree_patch number tree ∷ []) (seen mid.file.files Records))))
+      (λ c. MayHold mid.trees (sure_records seen mid) (records_of seen mid) c ⊎ OnlyIf (MayBeFound given new.file.has_stopped) (IsCarriedOut mid.trees (records_of seen mid) (request.Shape number depth record_len) c))
       (commits.moments s.file.loose s.file.steady)
-      (λ c either. ⊎_elim (λ but. inl (inl (holds_but mid.trees s.file.loose (seen mid.file.files Records) c s.file.file s.file.off but))) (λ agrees. inr (more, leads, made c agrees)) either)
+      (λ c either. ⊎_elim (λ but. inl (inl (holds_but mid.trees s.file.loose (seen mid.file.files Records) c s.file.file s.file.off but)))
+      (λ found. inr (record { allowed = allows found.allowed; holds = (more, leads, made c found.holds) })) either)
 
   no_cells : All (IsCell new.trees) new.pending
   no_cells = subst (λ (l : List ℕ). All (IsCell new.trees) l) (sym still) (λ k d h. absurd (omega arith))
@@ -86,7 +89,7 @@ module _ {F : Type 0} (seen : F → Contents) (may_leave : F → Contents → Ty
           cells = no_cells;
         };
         records = λ running. subst (λ (r : RecordsOf). AreKept (records_of seen mid) r) after (subst (λ (t : Trees). AreKept (records_of seen mid) (records_in t (seen new.file.files Records))) (sym is) held.kept);
-        any_moment = whole (Ok x) commits;
+        any_moment = whole (Ok x) answer.Done (λ done. tt) commits;
       }
 
   pub serves_no_shape : (e : StoreFault) → Commits seen may_leave moment left_since (tree_patch number tree ∷ []) (Err e) mid.file new.file → new.trees ≡ mid.trees
@@ -107,5 +110,5 @@ module _ {F : Type 0} (seen : F → Contents) (may_leave : F → Contents → Ty
         let same : seen new.file.files Records ≡ seen mid.file.files Records = content_is (seen mid.file.files Records) (seen new.file.files Records) (commits.undone running) in
         ap (λ (r : RecordsOf). r t n) (sym after) ∙ ap (λ (ts : Trees). records_in ts (seen new.file.files Records) t n) is
         ∙ ap (λ (c : Content). records_in mid.trees c t n) same ∙ ap (λ (r : RecordsOf). r t n) before;
-    any_moment = whole (Err e) commits;
+    any_moment = whole (Err e) (answer.Refused 8) (λ stopped. stopped) commits;
   }

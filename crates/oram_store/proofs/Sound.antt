@@ -1,6 +1,6 @@
 -- Calls that change no record.
 use Rattle.std.proofs.Common.{◌≡◌, ◌⊎◌, inl, inr, ⊎_elim, ℕ, zero, suc, ◌+◌, ◌<◌, ◌≤◌, true, false, true≢false, List, [], ◌∷◌, ◌++◌, length, refl, sym, ◌∙◌, ap, subst, arith, Result, Ok, Err}
-use Rattle.std.specs.Prelude.{All, IsErr, OnErr, OnOk}
+use Rattle.std.specs.Prelude.{All, IsErr, OnErr, OnOk, ⊤}
 use Rattle.std.proofs.lemmas.Bool.{cases_Bool}
 use Rattle.oram_layout.specs.BucketFile.{IsBucketFile}
 use Rattle.oram_layout.specs.Changes.{IsOffRecords}
@@ -19,7 +19,7 @@ use Rattle.oram_redo.proofs.Settled.{settled_same}
 use Rattle.oram_layout.specs.Limits.{TreeShape}
 use Rattle.oram_store.specs.Keeping.{Changes, Holds, IsSoundFile, LeavesRecords, Puts, Stores}
 use Rattle.oram_store.specs.declared.faults.StoreFault.{StoreFault}
-use Rattle.oram_store.specs.RecordFile.{Commits, FileValue, Finds, IsSteady, Passes, ReadsOnly}
+use Rattle.oram_store.specs.RecordFile.{Commits, FileValue, Finds, IsSteady, OnlyIf, Passes, ReadsOnly}
 use Rattle.oram_store.proofs.Finding.{found_leads, found_more, found_now, found_then, same_front}
 
 pub length-bytes_at : (n at : ℕ) (c : Content) → length (bytes_at n at c) ≡ n
@@ -155,10 +155,10 @@ module _ {F : Type 0} (seen : F → Contents) (may_leave : F → Contents → Ty
     sound = sound result commits;
     done = done result commits;
     undone = undone result commits;
-    moments = found_leads seen may_leave moment left_since old.files new.files (λ r. AgreesBut s.loose r (seen old.files Records) ⊎ Agrees r (put_all batch (seen old.files Records)))
-        (λ c. Holds trees (records_in trees (seen old.files Records)) c ⊎ (IsBucketFile trees c × change (records_in trees (seen old.files Records)) (records_in trees c)))
+    moments = found_leads seen may_leave moment left_since old.files new.files (λ r. AgreesBut s.loose r (seen old.files Records) ⊎ OnlyIf (OnErr result (new.has_stopped ≡ true)) (Agrees r (put_all batch (seen old.files Records))))
+        (λ c. Holds trees (records_in trees (seen old.files Records)) c ⊎ OnlyIf (OnErr result (new.has_stopped ≡ true)) (IsBucketFile trees c × change (records_in trees (seen old.files Records)) (records_in trees c)))
         (commits.moments s.loose s.steady)
-        (λ r found. ⊎_elim (λ but. inl (holds_but trees s.loose (seen old.files Records) r s.file s.off but)) (λ agrees. inr (makes r agrees)) found);
+        (λ r found. ⊎_elim (λ but. inl (holds_but trees s.loose (seen old.files Records) r s.file s.off but)) (λ made. inr (record { allowed = made.allowed; holds = makes r made.holds })) found);
   }
     where
       sound : (r : Result Unit StoreFault) → Commits seen may_leave moment left_since batch r old new → new.has_stopped ≡ false → IsSoundFile seen may_leave trees new
@@ -202,12 +202,12 @@ module _ {F : Type 0} (seen : F → Contents) (may_leave : F → Contents → Ty
       done = done result running then;
       undone = undone result running then;
       moments = found_then seen may_leave moment left_since old.files mid.files new.files (Holds trees (records_in trees (seen old.files Records)))
-          (λ c. Holds trees (records_in trees (seen mid.files Records)) c ⊎ (IsBucketFile trees c × change (records_in trees (seen mid.files Records)) (records_in trees c)))
-          (λ c. Holds trees (records_in trees (seen old.files Records)) c ⊎ (IsBucketFile trees c × change (records_in trees (seen old.files Records)) (records_in trees c)))
+          (λ c. Holds trees (records_in trees (seen mid.files Records)) c ⊎ OnlyIf (OnErr result (new.has_stopped ≡ true)) (IsBucketFile trees c × change (records_in trees (seen mid.files Records)) (records_in trees c)))
+          (λ c. Holds trees (records_in trees (seen old.files Records)) c ⊎ OnlyIf (OnErr result (new.has_stopped ≡ true)) (IsBucketFile trees c × change (records_in trees (seen old.files Records)) (records_in trees c)))
           (same_front seen may_leave moment left_since old.files mid.files (Holds trees (records_in trees (seen old.files Records))) first.moments counts_now whole)
           first.moments then.moments (λ r holds. inl holds)
           (λ r either. ⊎_elim (λ holds. inl (holds_then trees (records_in trees (seen old.files Records)) (records_in trees (seen mid.files Records)) r (first.kept running) holds))
-          (λ made. inr (made.0, keeps _ _ _ (first.kept running) made.1)) either);
+          (λ made. inr (record { allowed = made.allowed; holds = (made.holds.0, keeps _ _ _ (first.kept running) made.holds.1) })) either);
     })
   ]
     where
@@ -217,14 +217,14 @@ module _ {F : Type 0} (seen : F → Contents) (may_leave : F → Contents → Ty
         done = λ running. absurd (true≢false (sym stopped ∙ running));
         undone = tt;
         moments = found_leads seen may_leave moment left_since old.files mid.files (Holds trees (records_in trees (seen old.files Records)))
-            (λ c. Holds trees (records_in trees (seen old.files Records)) c ⊎ (IsBucketFile trees c × change (records_in trees (seen old.files Records)) (records_in trees c))) first.moments (λ r holds. inl holds);
+            (λ c. Holds trees (records_in trees (seen old.files Records)) c ⊎ OnlyIf ⊤ (IsBucketFile trees c × change (records_in trees (seen old.files Records)) (records_in trees c))) first.moments (λ r holds. inl holds);
       }
       stopped_changes (Err e) stopped = record {
         sound = λ running. absurd (true≢false (sym stopped ∙ running));
         done = tt;
         undone = λ running. absurd (true≢false (sym stopped ∙ running));
         moments = found_leads seen may_leave moment left_since old.files mid.files (Holds trees (records_in trees (seen old.files Records)))
-            (λ c. Holds trees (records_in trees (seen old.files Records)) c ⊎ (IsBucketFile trees c × change (records_in trees (seen old.files Records)) (records_in trees c))) first.moments (λ r holds. inl holds);
+            (λ c. Holds trees (records_in trees (seen old.files Records)) c ⊎ OnlyIf (mid.has_stopped ≡ true) (IsBucketFile trees c × change (records_in trees (seen old.files Records)) (records_in trees c))) first.moments (λ r holds. inl holds);
       }
 
       done : (r : Result Unit StoreFault) → mid.has_stopped ≡ false → Changes seen may_leave moment left_since trees change r mid new
@@ -249,7 +249,7 @@ module _ {F : Type 0} (seen : F → Contents) (may_leave : F → Contents → Ty
     done = tt;
     undone = leaves.kept;
     moments = found_leads seen may_leave moment left_since old.files new.files (Holds trees (records_in trees (seen old.files Records)))
-        (λ c. Holds trees (records_in trees (seen old.files Records)) c ⊎ (IsBucketFile trees c × change (records_in trees (seen old.files Records)) (records_in trees c))) leaves.moments (λ r holds. inl holds);
+        (λ c. Holds trees (records_in trees (seen old.files Records)) c ⊎ OnlyIf (new.has_stopped ≡ true) (IsBucketFile trees c × change (records_in trees (seen old.files Records)) (records_in trees c))) leaves.moments (λ r holds. inl holds);
   }
 
 pub stores_keep : (tree : ℕ) (s : TreeShape) (leaf : ℕ) (bytes : List ℕ) (one two three : RecordsOf) → AreKept one two → Stores tree s leaf bytes two three → Stores tree s leaf bytes one three

@@ -1,12 +1,20 @@
 -- What came of a request, as what is told of it.
-use Rattle.std.proofs.Common.{◌≡◌, List, [], ◌∷◌, ℕ, None, drop, sym, ap, ◌∙◌}
+use Rattle.std.proofs.Common.{◌≡◌, inl, refl, arith, Err, Ok, Option, Result, Some, List, [], ◌∷◌, ℕ, None, drop, sym, ap, ◌∙◌}
+use Rattle.std.specs.Prelude.{IsErrAnd, IsSomeAnd}
 use Rattle.oram_wire.specs.declared.host_messages.HostAnswer.{HostAnswer}
 use Rattle.oram_wire.specs.declared.host_messages.HostAnswer.TheVariants.{Done, Payload}
 use Rattle.oram_wire.specs.declared.host_messages.HostRequest.{HostRequest}
 use Rattle.oram_wire.specs.declared.host_messages.HostRequest.TheVariants as request
 use Rattle.oram_host.specs.Path.{FitsAnswer, IsBehind}
+use Rattle.oram_host.specs.Refusals.{code_of}
+use Rattle.oram_host.specs.declared.refusals.HostRefusal.{HostRefusal}
+use Rattle.oram_host.specs.declared.refusals.HostRefusal.TheVariants as refusal
 use Rattle.oram_store.specs.Serving.{StandsBehind, StandsFor}
+use Rattle.oram_store.specs.Keeping.{StoreValue}
+use Rattle.oram_store.specs.Reasons.{IsReasonFor}
+use Rattle.oram_store.specs.RecordFile.{IsReason}
 use Rattle.oram_store.specs.Refusals.{IsTold, Leads, refusal_by}
+use Rattle.oram_store.specs.declared.faults.StoreFault.{StoreFault}
 use Rattle.oram_layout.specs.Trees.{Trees}
 use Rattle.oram_store.specs.declared.answering.Served.TheVariants as served
 
@@ -29,6 +37,28 @@ module _ (old new : Trees) (front : List ℕ) where
   told_done (request.Store tree leaf sent) h allowed leads = (allowed, leads)
   told_done (request.Put tree node sent) h allowed leads = (allowed, leads)
   told_done (request.Shape tree depth record_len) h allowed leads = (allowed, leads)
+
+-- a reason of the file's is one of the request's
+pub reason_for : {F : Type 0} (failures shortages : F → ℕ → Type 0) (old new : StoreValue F) (message : HostRequest) (failure : Option StoreFault)
+    → IsSomeAnd failure (IsReason failures shortages old.file new.file) → IsSomeAnd failure (IsReasonFor failures shortages old new message)
+reason_for failures shortages old new message None reason = absurd reason
+reason_for failures shortages old new message (Some fault) reason = inl reason
+
+-- the error that is handed on
+pub error_of : {T E : Type 0} (result : Result T E) (error given : E) → IsErrAnd result (λ e. e ≡ error) → result ≡ Err given → error ≡ given
+error_of (Ok x) error given is same = absurd is
+error_of (Err e) error given is same = sym is ∙ cc
+
+-- the code 8 has one meaning
+pub no_room_is : (why : HostRefusal) → code_of why ≡ 8 → why ≡ refusal.OutOfMemory
+no_room_is refusal.NoShape is = absurd (omega arith)
+no_room_is refusal.BadLeaf is = absurd (omega arith)
+no_room_is refusal.BadNode is = absurd (omega arith)
+no_room_is refusal.BadLength is = absurd (omega arith)
+no_room_is refusal.ShapeTaken is = absurd (omega arith)
+no_room_is refusal.Missing is = absurd (omega arith)
+no_room_is refusal.BadOp is = absurd (omega arith)
+no_room_is refusal.OutOfMemory is = refl
 
 -- the payload is what stands behind one byte
 pub payload_is : (first : ℕ) (bytes : _) (records : List ℕ) (answer : HostAnswer) → StandsFor (first ∷ []) (served.Records bytes) answer → bytes.items ≡ first ∷ records

@@ -1,8 +1,7 @@
--- The bytes of a STORE's batch.
-use Rattle.std.specs.Prelude.{◌≡◌, ℕ, ◌+◌, ◌*◌, ◌<◌, List, ◌∷◌, slice_range}
+-- The bytes of a STORE's batch, and of a FETCH's answer.
+use Rattle.std.specs.Prelude.{◌≡◌, ℕ, ◌+◌, ◌*◌, ◌<◌, List, ◌∷◌, ◌++◌, length, slice_range, Some}
 use Rattle.oram_host.specs.Path.{record_at}
 use Rattle.oram_redo.specs.Content.{Content}
-use Rattle.std.specs.Prelude.{Some}
 use Rattle.oram_layout.specs.Records.{Records, record_in}
 use Rattle.oram_layout.specs.declared.trees.Tree.{Tree}
 
@@ -14,3 +13,10 @@ HoldsCells cells record_len records levels =
 -- the records of one tree, whatever its number
 abbrev pub records_of_tree : Tree → Content → Records
 records_of_tree tree c number node = record_in (Some tree) node c
+
+-- a record's bytes stand behind others, and, where that is known, they are the record of that node
+pub record RecordOnto (is_known : Type 0) (tree : Tree) (node : ℕ) (c : Content) (old new : List ℕ) : Type 0 where
+  pub more : List ℕ
+  pub long : length more ≡ tree.shape.record_len
+  pub grown : new ≡ old ++ more
+  pub is : is_known → record_in (Some tree) node c ≡ Some more

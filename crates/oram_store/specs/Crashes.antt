@@ -1,8 +1,9 @@
 -- What a crash may leave of a store's records.
-use Rattle.std.specs.Prelude.{◌≡◌, ◌⊎◌, ℕ, Some, false}
+use Rattle.std.specs.Prelude.{◌≡◌, ◌⊎◌, ℕ, Bool, Some, true, false, ⊤}
 use Rattle.oram_redo.specs.Content.{Content}
 use Rattle.oram_redo.specs.FilePair.{Contents, LeavesOnly}
 use Rattle.oram_wire.specs.declared.host_messages.HostAnswer.{HostAnswer}
+use Rattle.oram_wire.specs.declared.host_messages.HostAnswer.TheVariants as answer
 use Rattle.oram_wire.specs.declared.host_messages.HostRequest.{HostRequest}
 use Rattle.oram_wire.specs.declared.host_messages.HostRequest.TheVariants as request
 use Rattle.oram_layout.specs.BucketFile.{IsBucketFile}
@@ -12,7 +13,7 @@ use Rattle.oram_layout.specs.Trees.{Trees, shape_at}
 use Rattle.oram_store.specs.Answers.{Answers}
 use Rattle.oram_store.specs.Keeping.{Holds, IsSound, Puts, StoreValue, Stores, records_of, sure_records}
 use Rattle.oram_store.specs.Refusals.{Leads}
-use Rattle.oram_store.specs.RecordFile.{Finds}
+use Rattle.oram_store.specs.RecordFile.{Finds, OnlyIf}
 
 -- the content is that of a bucket file once a request was carried out over these trees and records
 abbrev pub IsCarriedOut : Trees → Records → HostRequest → Content → Type 0
@@ -38,15 +39,22 @@ pub record Settles {F : Type 0} (seen : F → Contents) (may_leave : F → Conte
   pub records : new.file.has_stopped ≡ false → AreKept (records_of seen old) (records_of seen new)
   pub any_moment : SettlesWhole seen moment left_since old new
 
--- A crash while this request is carried out finds what was there, or what the request makes of it: all of that or nothing.
-abbrev pub ServesWhole : {F : Type 0} → (F → Contents) → (F → ℕ) → (F → ℕ → Contents → Type 0) → HostRequest → StoreValue F → StoreValue F → Type 0
-ServesWhole seen moment left_since message old new =
+-- What a request makes may be found: it is answered as carried out, or the file has stopped, and then nobody knows.
+abbrev pub MayBeFound : HostAnswer → Bool → Type 0
+MayBeFound (answer.Refused code) has_stopped = has_stopped ≡ true
+MayBeFound answer has_stopped = ⊤
+
+-- A crash while this request is carried out finds what was there, or what the request makes of it: all of that or nothing. Nothing of a
+-- request that is refused is found, unless the file has stopped.
+abbrev pub ServesWhole : {F : Type 0} → (F → Contents) → (F → ℕ) → (F → ℕ → Contents → Type 0) → HostRequest → HostAnswer → StoreValue F → StoreValue F → Type 0
+ServesWhole seen moment left_since message answer old new =
     LeavesOnly moment left_since old.file.files new.file.files
-    (Finds (seen old.file.files) (λ c. MayHold old.trees (sure_records seen old) (records_of seen old) c ⊎ IsCarriedOut old.trees (records_of seen old) message c))
+    (Finds (seen old.file.files) (λ c. MayHold old.trees (sure_records seen old) (records_of seen old) c
+    ⊎ OnlyIf (MayBeFound answer new.file.has_stopped) (IsCarriedOut old.trees (records_of seen old) message c)))
 
 -- The store answers a request so, and is this afterwards.
 pub record Serves {F : Type 0} (seen : F → Contents) (may_leave : F → Contents → Type 0) (moment : F → ℕ) (left_since : F → ℕ → Contents → Type 0)
     (message : HostRequest) (answer : HostAnswer) (old new : StoreValue F) : Type 0 where
   pub sound : new.file.has_stopped ≡ false → IsSound seen may_leave new
   pub records : new.file.has_stopped ≡ false → Answers old.trees (records_of seen old) message answer (records_of seen new)
-  pub any_moment : ServesWhole seen moment left_since message old new
+  pub any_moment : ServesWhole seen moment left_since message answer old new

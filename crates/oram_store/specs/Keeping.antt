@@ -1,5 +1,5 @@
 -- What a store keeps.
-use Rattle.std.specs.Prelude.{◌≡◌, ◌⊎◌, ℕ, false, List, Option, Some, All, OnErr, OnOk, Result}
+use Rattle.std.specs.Prelude.{◌≡◌, ◌⊎◌, ℕ, true, false, List, Option, Some, All, OnErr, OnOk, Result}
 use Rattle.oram_redo.specs.Content.{Content}
 use Rattle.oram_redo.specs.FilePair.{Contents, LeavesOnly}
 use Rattle.oram_redo.specs.Log.{Patch, put_all}
@@ -9,7 +9,7 @@ use Rattle.oram_layout.specs.Changes.{IsCell, IsOffRecords, marks}
 use Rattle.oram_layout.specs.Limits.{TreeShape}
 use Rattle.oram_layout.specs.Records.{AreKept, IsPathOf, KeepsOffPath, KeepsOthers, Records, records_in}
 use Rattle.oram_layout.specs.Trees.{Trees}
-use Rattle.oram_store.specs.RecordFile.{FileValue, Finds, IsSteady}
+use Rattle.oram_store.specs.RecordFile.{FileValue, Finds, IsSteady, OnlyIf}
 use Rattle.oram_store.specs.declared.faults.StoreFault.{StoreFault}
 
 pub record StoreValue (F : Type 0) : Type 0 where
@@ -57,14 +57,14 @@ pub record LeavesRecords {F : Type 0} (seen : F → Contents) (may_leave : F →
   pub kept : new.has_stopped ≡ false → AreKept (records_in trees (seen old.files OfRecords)) (records_in trees (seen new.files OfRecords))
   pub moments : LeavesOnly moment left_since old.files new.files (Finds (seen old.files) (Holds trees (records_in trees (seen old.files OfRecords))))
 
--- The records are changed so, or not at all, whenever a crash comes.
+-- The records are changed so, or not at all, whenever a crash comes; and not at all where that is refused, unless the file has stopped.
 pub record Changes {F : Type 0} (seen : F → Contents) (may_leave : F → Contents → Type 0) (moment : F → ℕ) (left_since : F → ℕ → Contents → Type 0)
     (trees : Trees) (change : Records → Records → Type 0) (result : Result Unit StoreFault) (old new : FileValue F) : Type 0 where
   pub sound : new.has_stopped ≡ false → IsSoundFile seen may_leave trees new
   pub done : OnOk result (new.has_stopped ≡ false → change (records_in trees (seen old.files OfRecords)) (records_in trees (seen new.files OfRecords)))
   pub undone : OnErr result (new.has_stopped ≡ false → AreKept (records_in trees (seen old.files OfRecords)) (records_in trees (seen new.files OfRecords)))
   pub moments : LeavesOnly moment left_since old.files new.files (Finds (seen old.files) (λ c. Holds trees (records_in trees (seen old.files OfRecords)) c
-      ⊎ (IsBucketFile trees c × change (records_in trees (seen old.files OfRecords)) (records_in trees c))))
+      ⊎ OnlyIf (OnErr result (new.has_stopped ≡ true)) (IsBucketFile trees c × change (records_in trees (seen old.files OfRecords)) (records_in trees c))))
 
 -- the records of a path are these now, and all others are as they were
 abbrev pub Stores : ℕ → TreeShape → ℕ → List ℕ → Records → Records → Type 0

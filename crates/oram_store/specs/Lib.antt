@@ -2,6 +2,7 @@ pub mod Opening
 pub mod Closing
 pub mod Laws
 pub mod Faults
+pub mod Reasons
 pub mod RecordFile
 pub mod Batches
 pub mod Refusals

@@ -39,7 +39,17 @@ pub record Passes {F : Type 0} (seen : F → Contents) (may_leave : F → Conten
   pub steady : new.has_stopped ≡ false → IsSteady seen may_leave new loose
   pub moments : LeavesOnly moment left_since old.files new.files (Finds (seen old.files) Q)
 
--- These patches are committed: all of them, or nothing where that is refused and the file goes on. No crash finds some of them.
+-- It is so, and that could be only where something else is.
+pub record OnlyIf (may_be so : Type 0) : Type 0 where
+  pub allowed : may_be
+  pub holds : so
+
+-- the records that were there, or those with a batch, which could be only where something else is
+abbrev pub MayHave : {F : Type 0} → (F → Contents) → Type 0 → List Patch → FileValue F → Content → Type 0
+MayHave seen may_be batch v r = Agrees r (seen v.files Records) ⊎ OnlyIf may_be (Agrees r (put_all batch (seen v.files Records)))
+
+-- These patches are committed: all of them, or nothing where that is refused and the file goes on. No crash finds some of them. Where
+-- they are refused, one finds them all only if the file has stopped.
 pub record Commits {F : Type 0} (seen : F → Contents) (may_leave : F → Contents → Type 0) (moment : F → ℕ) (left_since : F → ℕ → Contents → Type 0)
     (patches : List Patch) (result : Result Unit StoreFault) (old new : FileValue F) : Type 0 where
   pub done : OnOk result (Agrees (seen new.files Records) (put_all patches (seen old.files Records)))
@@ -47,7 +57,7 @@ pub record Commits {F : Type 0} (seen : F → Contents) (may_leave : F → Conte
   pub undone : OnErr result (new.has_stopped ≡ false → Agrees (seen new.files Records) (seen old.files Records))
   pub steady : OnErr result ((loose : List Patch) → IsSteady seen may_leave old loose → new.has_stopped ≡ false → IsSteady seen may_leave new loose)
   pub moments : (loose : List Patch) → IsSteady seen may_leave old loose → LeavesOnly moment left_since old.files new.files
-      (Finds (seen old.files) (λ r. AgreesBut loose r (seen old.files Records) ⊎ Agrees r (put_all patches (seen old.files Records))))
+      (Finds (seen old.files) (λ r. AgreesBut loose r (seen old.files Records) ⊎ OnlyIf (OnErr result (new.has_stopped ≡ true)) (Agrees r (put_all patches (seen old.files Records)))))
 
 -- nothing was written
 pub record ReadsOnly {F : Type 0} (seen : F → Contents) (may_leave : F → Contents → Type 0) (moment : F → ℕ) (left_since : F → ℕ → Contents → Type 0)

@@ -5,8 +5,9 @@ ghost use Rattle.oram_redo.specs.FilePair.{Contents};
 ghost use Rattle.oram_store.specs.Answers.{IsGranted, IsKeptAtOnce};
 ghost use Rattle.oram_store.specs.Crashes.{Serves};
 ghost use Rattle.oram_store.specs.Keeping.{IsSound};
+ghost use Rattle.oram_store.specs.Reasons.{TellsWhy};
 ghost use Rattle.oram_store.specs.Refusals.{IsRefused, IsTold, Leads, refusal_by};
-ghost use Rattle.oram_store.specs.RecordFile.{IsReason, Runs};
+ghost use Rattle.oram_store.specs.RecordFile.{Runs};
 ghost use Rattle.oram_store.specs.Serving.{StandsBehind, StandsFor};
 ghost use Rattle.oram_wire.specs.FrameStream.{IsBody};
 ghost use Rattle.oram_wire.specs.HostMessages.{answer_body, request_body};
@@ -45,6 +46,7 @@ impl<F: FilePair> Store<F> {
             (λ why. Serves F.seen F.may_leave F.moment F.left_since (request_of request.entry) (HostAnswer.Refused (code_of why)) self.old self.new) }
         ensures runs { Runs F.failures F.shortages F.is_honest self.old.file self.new.file }
         ensures running { OnOk result (self.new.file.has_stopped ≡ false) }
+        ensures failure { result ≡ Err HostRefusal.OutOfMemory → TellsWhy F.failures F.shortages self.old self.new (request_of request.entry) }
     {
         match request {
             HostView::Fetch { tree, leaf } => {
@@ -87,6 +89,8 @@ impl<F: FilePair> Store<F> {
             (λ why. Serves F.seen F.may_leave F.moment F.left_since message (HostAnswer.Refused (code_of why)) self.old self.new) }
         ensures runs { Runs F.failures F.shortages F.is_honest self.old.file self.new.file }
         ensures running { OnOk result (self.new.file.has_stopped ≡ false) }
+        ensures failure { (message : HostRequest) → HasNumbers message → body.now ≡ request_body message
+            → result ≡ Err HostRefusal.OutOfMemory → TellsWhy F.failures F.shortages self.old self.new message }
     {
         match HostView::read(body) {
             Ok(request) => self.serve(request, front),
@@ -107,8 +111,13 @@ impl<F: FilePair> Store<F> {
         ensures untouched { (message : HostRequest) → HasNumbers message → body.now ≡ request_body message
             → IsSome (refusal_by self.old.trees message) → self.new ≡ self.old }
 
+        // Where there is no room, the store keeps why: a call of the files has failed or found no room, now or before, or the files end
+        // before a tree would. When memory is refused no clause can say.
+        ensures failure { (message : HostRequest) → HasNumbers message → body.now ≡ request_body message
+            → result ≡ HostAnswer.Refused 8 → TellsWhy F.failures F.shortages self.old self.new message }
+
         // The answer and what it leaves are those of the records by tree and node. A crash at any moment finds what was there or what the
-        // request makes of it.
+        // request makes of it; where it is refused and the file hasn't stopped, what was there.
         ensures serves { (message : HostRequest) → HasNumbers message → body.now ≡ request_body message
             → F.is_honest self.new.file.files → IsSound F.seen F.may_leave self.old
             → Serves F.seen F.may_leave F.moment F.left_since message result self.old self.new }
@@ -140,6 +149,7 @@ impl<F: FilePair> Store<F> {
             × ((message : HostRequest) → HasNumbers message → body.now ≡ request_body message → IsTold self.old.trees message answer self.new.trees
             × (IsKeptAtOnce message → IsGranted answer → self.new.pending ≡ [])
             × (IsGranted answer → self.new.file.has_stopped ≡ false)
+            × (answer ≡ HostAnswer.Refused 8 → TellsWhy F.failures F.shortages self.old self.new message)
             × (F.is_honest self.new.file.files → IsSound F.seen F.may_leave self.old → Serves F.seen F.may_leave F.moment F.left_since message answer self.old self.new))) }
         ensures op { names_request body.now ≡ false → IfOk result (λ v. v.items ≡ answer_body (HostAnswer.Refused 7)) }
         ensures misfit { IsMisfit body.now → IfOk result (λ v. v.items ≡ answer_body (HostAnswer.Refused 4)) }

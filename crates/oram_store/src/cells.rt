@@ -1,12 +1,12 @@
 //! The cells of trees, read and written by node.
-ghost use Rattle.std.specs.Prelude.{◌≡◌, ◌+◌, ◌*◌, ◌^◌, ◌<◌, ◌≤◌, ◌↔◌, ◌∷◌, ℕ, Some, None, true, false, IsTrue, length, drop, suc, IfErr, IfOk, IfSome, MatchOption, OnOk};
+ghost use Rattle.std.specs.Prelude.{◌≡◌, ◌+◌, ◌*◌, ◌^◌, ◌<◌, ◌≤◌, ◌↔◌, ◌∷◌, ℕ, Some, None, true, false, IsTrue, length, suc, IfErr, IfOk, IfSome, MatchOption, OnOk};
 ghost use Rattle.oram_host.specs.Path.{FitsAnswer, IsBehind, record_at};
 ghost use Rattle.oram_layout.specs.Limits.{nodes_of};
 ghost use Rattle.oram_layout.specs.Records.{IsPathOf, LacksOn, record_in, records_in};
 ghost use Rattle.oram_layout.specs.Trees.{Trees, cell_at, sizes_of, tree_at};
 ghost use Rattle.oram_redo.specs.FilePair.{Contents};
 ghost use Rattle.oram_redo.specs.declared.file_pair.FileKind.TheVariants.{Records};
-ghost use Rattle.oram_store.specs.Batches.{records_of_tree};
+ghost use Rattle.oram_store.specs.Batches.{RecordOnto, records_of_tree};
 ghost use Rattle.oram_store.specs.Keeping.{IsSoundFile, LeavesRecords};
 ghost use Rattle.oram_store.specs.RecordFile.{Calls, ReadsOnly};
 
@@ -36,29 +36,28 @@ pub(crate) fn has_record<F: FilePair>(
     Ok(first[0] == THERE)
 }
 
-/// The cell of a node that has a record: a byte, and the record.
-fn read_cell<F: FilePair>(
+/// Reads the record of a node behind other bytes. `false` where it has none, and then the bytes are as they were.
+fn read_record<F: FilePair>(
     alloc: Global,
     file: &mut RecordFile<F>,
     tree: &Tree,
     node: u32,
-) -> Result<Option<Vec<u8>>, StoreFault>
+    bytes: &mut Vec<u8>,
+) -> Result<bool, StoreFault>
     requires { node < nodes_of (sizes_of tree.now.shape) }
-    ensures len { IfOk result (λ found. IfSome found (λ cell. length cell.items ≡ tree.now.shape.record_len + 1)) }
-    ensures found { IfOk result (λ found. F.is_honest file.new.files → MatchOption found
-        (record_in (Some tree.now) node (F.seen file.old.files Records) ≡ None)
-        (λ cell. record_in (Some tree.now) node (F.seen file.old.files Records) ≡ Some (drop 1 cell.items))) }
+    ensures found { IfOk result (λ found. found ≡ true
+        → RecordOnto (F.is_honest file.new.files) tree.now node (F.seen file.old.files Records) bytes.old.items bytes.new.items) }
+    ensures missing { IfOk result (λ found. found ≡ false → F.is_honest file.new.files → record_in (Some tree.now) node (F.seen file.old.files Records) ≡ None) }
     ensures reads { ReadsOnly F.seen F.may_leave F.moment F.left_since file.old file.new }
     ensures calls { Calls F.failures F.shortages F.is_honest result file.old file.new }
     ensures running { OnOk result (file.new.has_stopped ≡ false) }
 {
-    let len = tree.shape.record_len as usize + 1;
-    let cell = file.read(alloc, tree.cell_at(node), len)?;
-    if cell[0] == THERE {
-        Ok(Some(cell))
-    } else {
-        Ok(None)
+    if !has_record(alloc, file, tree, node)? {
+        return Ok(false);
     }
+    let len = tree.shape.record_len as usize;
+    file.read_onto(tree.cell_at(node) + 1, len, bytes)?;
+    Ok(true)
 }
 
 /// The records of a path, root first, behind other bytes, if each is there.
@@ -84,10 +83,9 @@ pub(crate) fn read_path<F: FilePair>(
     bytes.extend_from_slice(front)?;
     for level in 0..tree.shape.depth + 1 {
         let node = tree.shape.node_at(leaf, level);
-        let Some(cell) = read_cell(alloc, file, tree, node)? else {
+        if !read_record(alloc, file, tree, node, &mut bytes)? {
             return Ok(None);
-        };
-        bytes.extend_from_slice(&cell[1..])?;
+        }
     }
     Ok(Some(bytes))
 }

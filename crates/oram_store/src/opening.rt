@@ -1,7 +1,10 @@
 //! A store in a file of the system's, with its log beside it.
 //!
 //! What stands at a path is looked at before anything is written there.
-ghost use Rattle.std.specs.Prelude.{◌≤◌, length, IfOk};
+ghost use Rattle.std.specs.Prelude.{◌≡◌, ◌⊎◌, ◌≤◌, ◌↔◌, [], false, length, take, Err, None, Ok, IfErr, IfOk, IsOk};
+ghost use Rattle.oram_layout.specs.Fronts.{IsFront, IsNewer, log_letters, sqlite_letters};
+ghost use Rattle.oram_layout.specs.Header.{letters};
+ghost use Rattle.oram_layout.specs.declared.fronts.Identity.{Identity};
 
 use crate::faults::StoreFault;
 use crate::making::create;
@@ -34,7 +37,10 @@ const OWNERS_ALONE: u32 = 0o600;
 ///
 /// After the disk failed (`StoreFault::Io`, `StoreFault::Closed`) the store is dropped, and its file opened again by this call: all that
 /// was acknowledged and settled is there.
-pub fn open_store(rt: &HostRuntime, alloc: Global, path: &str) -> Result<BucketFile, StoreFault> {
+pub fn open_store(rt: &HostRuntime, alloc: Global, path: &str) -> Result<BucketFile, StoreFault>
+    // Nothing waits, and the store goes on. What it found there no clause can say: see `Store::over` for files that are known.
+    ensures { IfOk result (λ store. (store.pending ≡ []) × (store.failure ≡ None) × (store.file.has_stopped ≡ false)) }
+{
     keep_freed_memory(alloc);
     let files = if is_there(rt, path)? {
         open_files(rt, alloc, path)?
@@ -113,7 +119,18 @@ fn bytes_at(file: &File, at: u64, bytes: &mut [u8]) -> io::Result<usize>
 fn identity_of(records: &File) -> Result<Identity, StoreFault> {
     let mut front = [0; FRONT_LEN];
     let len = bytes_at(records, 0, &mut front)?;
-    match read_front(&front[..len]) {
+    identity_in(&front[..len])
+}
+
+/// The identity in the first bytes of a file of buckets, or why another file is refused.
+fn identity_in(front: &[u8]) -> Result<Identity, StoreFault>
+    ensures found { IfOk result (λ identity. IsFront letters identity front.now) }
+    ensures ours { (identity : Identity) → IsFront letters identity front.now → result ≡ Ok identity }
+    ensures newer { (result ≡ Err StoreFault.NewerKind) ↔ IsNewer front.now }
+    ensures old { (result ≡ Err StoreFault.OldKind) ↔ (take 16 front.now ≡ sqlite_letters) }
+    ensures errors { IfErr result (λ fault. (fault ≡ StoreFault.NewerKind) ⊎ (fault ≡ StoreFault.OldKind) ⊎ (fault ≡ StoreFault.NotOurs)) }
+{
+    match read_front(front) {
         Front::Ours(identity) => Ok(identity),
         Front::NewerVersion => Err(StoreFault::NewerKind),
         Front::Sqlite => Err(StoreFault::OldKind),
@@ -126,6 +143,23 @@ fn identity_of_log(log: &File) -> io::Result<Option<Identity>> {
     let mut front = [0; FRONT_LEN];
     let len = bytes_at(log, 0, &mut front)?;
     Ok(read_log_front(&front[..len]))
+}
+
+/// Refuses a log that isn't the one of a file with this identity.
+fn check_log(log: &File, identity: &Identity) -> Result<(), StoreFault> {
+    let mut front = [0; FRONT_LEN];
+    let len = bytes_at(log, 0, &mut front)?;
+    check_log_front(&front[..len], identity)
+}
+
+fn check_log_front(front: &[u8], identity: &Identity) -> Result<(), StoreFault>
+    ensures ours { IsOk result ↔ IsFront log_letters identity.now front.now }
+    ensures others { IfErr result (λ fault. fault ≡ StoreFault.OthersLog) }
+{
+    match read_log_front(front) {
+        Some(found) if found == *identity => Ok(()),
+        _ => Err(StoreFault::OthersLog),
+    }
 }
 
 /// Opens the file of a store, and its log.
@@ -143,10 +177,8 @@ fn open_files(
         return Err(StoreFault::WithoutLog);
     }
     let log = open_plain(rt, log_name.as_str(), StoreFault::OthersLog)?;
-    if identity_of_log(&log)? != Some(identity) {
-        return Err(StoreFault::OthersLog);
-    }
-    Ok(SystemPair::new(Unknown, records, log)?)
+    check_log(&log, &identity)?;
+    Ok(SystemPair::new(Unknown, records, log, BOUNDS.log_end)?)
 }
 
 /// Opens a file that is being made, for its owner alone. One that an earlier attempt has left is taken.
@@ -214,7 +246,7 @@ fn make_files(
     let log = open_new(rt, new_log.as_str())?;
     records.set_len(0)?;
     log.set_len(0)?;
-    let mut files = SystemPair::new(Unknown, records, log)?;
+    let mut files = SystemPair::new(Unknown, records, log, BOUNDS.log_end)?;
     create(&mut files, &new_identity(rt)?)?;
     rename_new(rt, new_log.as_str(), log_name.as_str())?;
     rename_new(rt, new_file.as_str(), path)?;

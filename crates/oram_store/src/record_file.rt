@@ -1,13 +1,13 @@
 //! The file of records with its redo log: what is read and written, and what stops it.
 //!
 //! Each call of the redo log stands in a function of its own, since a proof carries what is said of each call.
-ghost use Rattle.std.specs.Prelude.{◌≡◌, ◌⊎◌, ◌+◌, ◌<◌, ◌≤◌, ◌∷◌, [], ℕ, List, All, true, false, length, IfErr, IfOk, OnErr, OnOk};
+ghost use Rattle.std.specs.Prelude.{◌≡◌, ◌⊎◌, ◌+◌, ◌<◌, ◌≤◌, ◌∷◌, [], ℕ, List, All, true, false, length, IfErr, IfOk, MatchResult, OnErr, OnOk};
 ghost use Rattle.oram_redo.specs.Batch.{patches_of};
 ghost use Rattle.oram_redo.specs.Content.{Agrees, bytes_at, put};
-ghost use Rattle.oram_redo.specs.FilePair.{Contents};
+ghost use Rattle.oram_redo.specs.FilePair.{Contents, ReadOnto};
 ghost use Rattle.oram_redo.specs.Log.{AgreesBut, Fits, entries, put_all};
 ghost use Rattle.oram_redo.specs.Redo.{bounds_of, end_of};
-ghost use Rattle.oram_store.specs.RecordFile.{Calls, Commits, IsSteady, Passes, ReadsOnly, bounds};
+ghost use Rattle.oram_store.specs.RecordFile.{Calls, Commits, IsSteady, MayHave, Passes, ReadsOnly, bounds};
 ghost use Rattle.oram_redo.specs.declared.file_pair.FileKind.TheVariants.{Records};
 
 use crate::faults::StoreFault;
@@ -96,6 +96,27 @@ impl<F: FilePair> RecordFile<F> {
         }
     }
 
+    /// Reads `len` bytes of the records behind other bytes.
+    pub(crate) fn read_onto(
+        &mut self,
+        at: u64,
+        len: usize,
+        bytes: &mut Vec<u8>,
+    ) -> Result<(), StoreFault>
+        ensures bytes { OnOk result (ReadOnto len at (F.seen self.old.files Records) (F.is_honest self.new.files) bytes.old.items bytes.new.items) }
+        ensures reads { ReadsOnly F.seen F.may_leave F.moment F.left_since self.old self.new }
+        ensures calls { Calls F.failures F.shortages F.is_honest result self.old self.new }
+        ensures running { OnOk result (self.new.has_stopped ≡ false) }
+    {
+        if self.has_stopped {
+            return Err(StoreFault::Closed);
+        }
+        match self.redo.read_onto(&mut self.files, at, len, bytes) {
+            Ok(()) => Ok(()),
+            Err(error) => Err(self.stopped_by(error)),
+        }
+    }
+
     /// Writes a patch that doesn't count yet. At `Err` some of it may be there.
     pub(crate) fn write_loose(&mut self, at: u64, bytes: &[u8]) -> Result<(), StoreFault>
         ensures passes { (loose : _) → IsSteady F.seen F.may_leave self.old loose
@@ -157,7 +178,7 @@ impl<F: FilePair> RecordFile<F> {
         requires { All (Fits bounds) (patches_of batch.now) }
         ensures passes { IsSteady F.seen F.may_leave self.old []
             → Passes F.seen F.may_leave F.moment F.left_since []
-            (λ r. Agrees r (F.seen self.old.files Records) ⊎ Agrees r (put_all (patches_of batch.now) (F.seen self.old.files Records))) self.old self.new }
+            (MayHave F.seen (MatchResult result (λ fits. fits ≡ true) (λ _. self.new.has_stopped ≡ true)) (patches_of batch.now) self.old) self.old self.new }
         ensures done { IfOk result (λ fits. fits ≡ true → Agrees (F.seen self.new.files Records) (put_all (patches_of batch.now) (F.seen self.old.files Records))) }
         ensures full { IfOk result (λ fits. fits ≡ false → bounds.log_end ≤ end_of self.old.redo + length (entries (patches_of batch.now))) }
         ensures not_done { IfOk result (λ fits. fits ≡ false → Agrees (F.seen self.new.files Records) (F.seen self.old.files Records)) }
@@ -183,7 +204,7 @@ impl<F: FilePair> RecordFile<F> {
         requires short { bounds.log_start + length (entries (patches_of batch.now)) < bounds.log_end }
         ensures passes { IsSteady F.seen F.may_leave self.old []
             → Passes F.seen F.may_leave F.moment F.left_since []
-            (λ r. Agrees r (F.seen self.old.files Records) ⊎ Agrees r (put_all (patches_of batch.now) (F.seen self.old.files Records))) self.old self.new }
+            (MayHave F.seen (OnErr result (self.new.has_stopped ≡ true)) (patches_of batch.now) self.old) self.old self.new }
         ensures done { OnOk result (Agrees (F.seen self.new.files Records) (put_all (patches_of batch.now) (F.seen self.old.files Records))) }
         ensures undone { OnErr result (self.new.has_stopped ≡ false → Agrees (F.seen self.new.files Records) (F.seen self.old.files Records)) }
         ensures calls { Calls F.failures F.shortages F.is_honest result self.old self.new }

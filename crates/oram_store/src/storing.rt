@@ -13,6 +13,7 @@ ghost use Rattle.oram_store.specs.Closing.{Closes};
 ghost use Rattle.oram_store.specs.Crashes.{Serves, Settles};
 ghost use Rattle.oram_store.specs.Keeping.{Changes, IsSound, IsSoundFile, Puts, Stores, records_of};
 ghost use Rattle.oram_store.specs.Pending.{AreCells};
+ghost use Rattle.oram_store.specs.Reasons.{IsReasonFor, TellsWhy};
 ghost use Rattle.oram_store.specs.Refusals.{IsRefused, Leads, refusal_by};
 ghost use Rattle.oram_store.specs.RecordFile.{Calls, Commits, FileValue, IsReason, Runs};
 ghost use Rattle.oram_wire.specs.declared.host_messages.HostAnswer.{HostAnswer};
@@ -441,6 +442,7 @@ impl<F: FilePair> Store<F> {
             (λ why. Serves F.seen F.may_leave F.moment F.left_since (HostRequest.Shape number depth record_len) (HostAnswer.Refused (code_of why)) self.old self.new) }
         ensures runs { Runs F.failures F.shortages F.is_honest self.old.file self.new.file }
         ensures running { OnOk result (self.new.file.has_stopped ≡ false) }
+        ensures failure { result ≡ Err HostRefusal.OutOfMemory → TellsWhy F.failures F.shortages self.old self.new (HostRequest.Shape number depth record_len) }
     {
         let Some(shape) = Shape::new(depth, record_len) else {
             return Err(HostRefusal::BadLength);
@@ -463,6 +465,7 @@ impl<F: FilePair> Store<F> {
         ensures none_pending { OnOk result (self.new.pending ≡ []) }
         ensures runs { Runs F.failures F.shortages F.is_honest self.old.file self.new.file }
         ensures running { OnOk result (self.new.file.has_stopped ≡ false) }
+        ensures reason { IfErr result (IsReasonFor F.failures F.shortages self.old self.new (HostRequest.Shape number shape.depth shape.record_len)) }
     {
         self.settle()?;
         let Some(tree) = Tree::place(shape, next_base(&self.trees)) else {

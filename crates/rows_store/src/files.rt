@@ -36,8 +36,9 @@ pub fn write_bytes(
 ) -> Result<(), RowFault> {
     let file = file_in(words)?;
     let at = words.number()?;
-    match files.read_at(alloc, file, at, words.size()?) {
-        Ok(bytes) => page.bytes(&bytes),
+    let mut bytes = Vec::new(alloc);
+    match files.read_onto(file, at, words.size()?, &mut bytes) {
+        Ok(()) => page.bytes(&bytes),
         Err(_) => return Err(RowFault::OutOfMemory),
     }
     Ok(())

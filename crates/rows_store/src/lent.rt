@@ -2,7 +2,6 @@
 ghost use Rattle.std.specs.Prelude.{◌≡◌, ℕ};
 
 use oram_redo::{FileKind, FilePair, RedoError};
-use std::alloc::Global;
 
 /// Files that are lent.
 #[derive(Drop)]
@@ -34,18 +33,18 @@ impl<F: FilePair> FilePair for Lent<'_, F> {
 
     ghost only_now = { λ l c left. F.only_now l.files.now c left };
 
-    fn read_at(
+    fn read_onto(
         &mut self,
-        alloc: Global,
         file: FileKind,
         at: u64,
         len: usize,
-    ) -> Result<Vec<u8>, RedoError> {
+        bytes: &mut Vec<u8>,
+    ) -> Result<(), RedoError> {
         let Some(calls) = self.calls.checked_sub(1) else {
             return Err(RedoError::Failed);
         };
         self.calls = calls;
-        self.files.read_at(alloc, file, at, len)
+        self.files.read_onto(file, at, len, bytes)
     }
 
     fn write_at(&mut self, file: FileKind, at: u64, bytes: &[u8]) -> Result<(), RedoError> {

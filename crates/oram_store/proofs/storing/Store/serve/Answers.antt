@@ -1,10 +1,13 @@
-use Rattle.std.proofs.Common.{◌≡◌, refl, sym, subst, rules}
+use Rattle.std.proofs.Common.{◌≡◌, Err, ap, refl, sym, subst, rules}
+use Rattle.oram_host.specs.declared.refusals.HostRefusal.{HostRefusal}
 use Rattle.oram_store.specs.Crashes.{Serves}
 use Rattle.oram_store.specs.Keeping.{StoreValue}
 use Rattle.oram_store.specs.RecordFile.{Runs}
 use Rattle.oram_wire.specs.HostReading.{request_of}
 use Rattle.oram_wire.specs.declared.host_messages.HostAnswer.TheVariants.{Done, Payload}
 use Rattle.oram_wire.specs.declared.host_messages.HostRequest.{HostRequest}
+use Rattle.oram_store.specs.Reasons.{TellsWhy}
+use Rattle.oram_store.proofs.Told.{error_of, reason_for}
 use Rattle.oram_store.proofs.storing.Store.serve.Goals.{in-Store+in_ok-store-in-Store, in-Put+in_ok-put-in-Put, in-Shape+in_ok-shape-in-Shape}
 use Rattle.oram_store.proofs.storing.Store.serve.Goals as goal
 
@@ -41,3 +44,28 @@ returns-clause-serves g c honest s =
           subst P (sym w.self-is) (λ h. subst (λ (m : HostRequest). Serves g.F.FilePair.seen g.F.FilePair.may_leave g.F.FilePair.moment g.F.FilePair.left_since m Done old w.shape.new.self) is (w.in_ok-shape-in-Shape.ensures.serves h s))
     ] in
     (Done, refl, serves honest)
+
+pub returns-in_err-records-in-Fetch-clause-failure : goal.returns-in_err-records-in-Fetch-clause-failure
+returns-in_err-records-in-Fetch-clause-failure g c full =
+    let same = error_of c.from_residual.result c.in_err-records-in-Fetch.field-0.0 _ c.from_residual.ensures.1 full in
+    reason_for g.F.FilePair.failures g.F.FilePair.shortages c.args.self.now c.fetch.new.self (request_of c.args.request) c.fetch.new.self.failure
+    (c.in_err-records-in-Fetch.ensures.failure (ap (λ (why : HostRefusal). Err why) same))
+
+pub returns-in_err-store-in-Store-clause-failure : goal.returns-in_err-store-in-Store-clause-failure
+returns-in_err-store-in-Store-clause-failure g c full =
+    let same = error_of c.from_residual-in_err-store-in-Store.result c.in_err-store-in-Store.field-0.0 _ c.from_residual-in_err-store-in-Store.ensures.1 full in
+    reason_for g.F.FilePair.failures g.F.FilePair.shortages c.args.self.now c.store.new.self (request_of c.args.request) c.store.new.self.failure
+    (c.in_err-store-in-Store.ensures.failure (ap (λ (why : HostRefusal). Err why) same))
+
+pub returns-in_err-put-in-Put-clause-failure : goal.returns-in_err-put-in-Put-clause-failure
+returns-in_err-put-in-Put-clause-failure g c full =
+    let same = error_of c.from_residual-in_err-put-in-Put.result c.in_err-put-in-Put.field-0.0 _ c.from_residual-in_err-put-in-Put.ensures.1 full in
+    reason_for g.F.FilePair.failures g.F.FilePair.shortages c.args.self.now c.put.new.self (request_of c.args.request) c.put.new.self.failure
+    (c.in_err-put-in-Put.ensures.failure (ap (λ (why : HostRefusal). Err why) same))
+
+pub returns-in_err-shape-in-Shape-clause-failure : goal.returns-in_err-shape-in-Shape-clause-failure
+returns-in_err-shape-in-Shape-clause-failure g c full =
+    let same = error_of c.from_residual-in_err-shape-in-Shape.result c.in_err-shape-in-Shape.field-0.0 _ c.from_residual-in_err-shape-in-Shape.ensures.1 full in
+    let is : HostRequest.Shape c.in-Shape.tree c.in-Shape.depth c.in-Shape.record_len ≡ request_of c.args.request = search rules in
+    subst (λ (m : HostRequest). TellsWhy g.F.FilePair.failures g.F.FilePair.shortages c.args.self.now c.shape.new.self m) is
+    (c.in_err-shape-in-Shape.ensures.failure (ap (λ (why : HostRefusal). Err why) same))

@@ -1,14 +1,14 @@
-use Rattle.std.proofs.Common.{◌≡◌, ℕ, [], Some, refl, subst, ap, ◌∙◌, arith}
+use Rattle.std.proofs.Common.{◌≡◌, inl, ℕ, [], Some, refl, subst, ap, ◌∙◌, arith}
 use Rattle.std.specs.Prelude.{slice_set}
 use Rattle.oram_layout.specs.Trees.{Trees, next_of, sizes_of, tree_at}
 use Rattle.oram_store.specs.Crashes.{Serves, Settles}
 use Rattle.oram_store.specs.Keeping.{StoreValue}
-use Rattle.oram_store.specs.RecordFile.{Runs}
+use Rattle.oram_store.specs.RecordFile.{IsReason, Runs}
 use Rattle.oram_wire.specs.declared.host_messages.HostRequest.{HostRequest}
 use Rattle.oram_wire.specs.declared.host_messages.HostAnswer.{HostAnswer}
 use Rattle.oram_wire.specs.declared.host_messages.HostAnswer.TheVariants as answer
 use Rattle.oram_wire.specs.declared.host_messages.HostRequest.TheVariants as request
-use Rattle.oram_store.proofs.Finding.{runs_then}
+use Rattle.oram_store.proofs.Finding.{error_is, reason_then, runs_then}
 use Rattle.oram_store.proofs.Served.{answer_of_err, serves_after}
 use Rattle.oram_store.proofs.Shaping.{adds_there, leads_there, serves_no_shape, serves_shape}
 use Rattle.oram_store.proofs.storing.Store.settle_and_add.Goals as goal
@@ -40,6 +40,16 @@ returns-in_err-commit_entry-clause-serves g c s =
     c.commit_entry.ensures.calls.runs.stays (g.met.F.FilePair.counts_now c.self.inside.file.files) (g.met.F.FilePair.whole c.self.inside.file.files)))
     (c.settle.ensures.settles s) c.in_ok-settle.ensures.none_pending c.settle.ensures.trees in
     subst (λ (a : HostAnswer). Serves seen leave moment since message a old new) (answer_of_err c.from_residual-in_err-commit_entry.result c.from_residual-in_err-commit_entry.ensures.0) served
+
+pub returns-in_err-commit_entry-clause-reason : goal.returns-in_err-commit_entry-clause-reason
+returns-in_err-commit_entry-clause-reason g c =
+    let fault = c.in_err-commit_entry.field-0.0 in
+    let old = c.args.self.now in
+    let reason = (subst (λ (mid : StoreValue g.row.F.Denot). Runs g.F.FilePair.failures g.F.FilePair.shortages g.F.FilePair.is_honest old.file mid.file → mid.file.has_stopped ≡ old.file.has_stopped
+    → IsReason g.F.FilePair.failures g.F.FilePair.shortages old.file c.commit_entry.new.file fault) c.self.view_is
+    (λ first same. reason_then g.F.FilePair.failures g.F.FilePair.shortages g.F.FilePair.is_honest old.file c.self.inside.file c.commit_entry.new.file fault first same
+    c.in_err-commit_entry.ensures.calls.reason)) c.settle.ensures.calls.runs c.in_ok-settle.ensures.calls.goes_on in
+    error_is c.from_residual-in_err-commit_entry.result fault _ c.from_residual-in_err-commit_entry.ensures.1 (inl reason)
 
 pub returns-clause-serves : goal.returns-clause-serves
 returns-clause-serves g c s =

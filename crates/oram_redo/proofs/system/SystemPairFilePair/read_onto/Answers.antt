@@ -1,5 +1,5 @@
 use Rattle.oram_redo.proofs.Recorded.{elapses_to}
-use Rattle.oram_redo.proofs.system.SystemPairFilePair.read_at.Goals as goal
+use Rattle.oram_redo.proofs.system.SystemPairFilePair.read_onto.Goals as goal
 
 pub returns-clause-time : goal.returns-clause-time
 returns-clause-time g c = elapses_to g.S.Start.first c.args.self.now.noted.calls c.note.new.noted.calls _ c.note.ensures
