@@ -21,13 +21,13 @@ pub struct Pace {
 
 /// The pace of the words `MOST smooth|interrupted ends|fails`.
 pub fn pace_in(words: &mut Words) -> Result<Pace, RowFault> {
-    let most = words.size()?;
-    let interrupts = match words.text()? {
+    let most = words.size();
+    let interrupts = match words.text() {
         "smooth" => false,
         "interrupted" => true,
         _ => return Err(RowFault::NoRow),
     };
-    let fails = match words.text()? {
+    let fails = match words.text() {
         "ends" => false,
         "fails" => true,
         _ => return Err(RowFault::NoRow),

@@ -70,11 +70,9 @@ fn answer_row<T: Table>(
     page: &mut Page,
 ) -> Result<(), AllocError> {
     let mut words = Words::of(row);
-    let made = match words.text() {
-        Ok(call) => table.answer(alloc, call, &mut words, page),
-        Err(fault) => Err(fault),
-    };
-    match made {
+    let call = words.text();
+    let made = table.answer(alloc, call, &mut words, page);
+    match words.check().and(made) {
         Ok(()) if words.is_empty() => Ok(()),
         Err(RowFault::OutOfMemory) => Err(AllocError),
         Ok(()) | Err(RowFault::NoRow) => {

@@ -3,16 +3,21 @@
 use crate::reading::RowFault;
 use std::alloc::Global;
 
-/// The words of a call that are still to be read.
+/// The words of a call that are still to be read. One that is missing, or isn't what is asked for, is remembered as a fault, and a
+/// zero or nothing stands in its place; so who reads words has no fault to handle, and the row's answer is not written in the end.
 #[derive(Drop)]
 pub struct Words<'a> {
     rest: &'a str,
+    fault: Option<RowFault>,
 }
 
 impl<'a> Words<'a> {
     /// The words of a line, which single spaces part.
     pub fn of(line: &'a str) -> Words<'a> {
-        Words { rest: line.trim() }
+        Words {
+            rest: line.trim(),
+            fault: None,
+        }
     }
 
     /// Whether every word was read.
@@ -20,22 +25,36 @@ impl<'a> Words<'a> {
         self.rest.is_empty()
     }
 
-    /// The next word. Without one the row is not one.
-    pub fn text(&mut self) -> Result<&'a str, RowFault> {
+    /// Tells the first fault of the words that were read, if there was any.
+    pub fn check(&self) -> Result<(), RowFault> {
+        match self.fault {
+            None => Ok(()),
+            Some(fault) => Err(fault),
+        }
+    }
+
+    /// Remembers a fault, and gives what stands in place of the word.
+    fn note<T>(&mut self, fault: RowFault, instead: T) -> T {
+        self.fault = self.fault.or(Some(fault));
+        instead
+    }
+
+    /// What was read, or what stands in its place where that failed.
+    fn noted<T: Drop>(&mut self, read: Result<T, RowFault>, instead: T) -> T {
+        match read {
+            Ok(value) => value,
+            Err(fault) => self.note(fault, instead),
+        }
+    }
+
+    /// The next word.
+    pub fn text(&mut self) -> &'a str {
         if self.rest.is_empty() {
-            return Err(RowFault::NoRow);
+            return self.note(RowFault::NoRow, "");
         }
-        match self.rest.split_once(' ') {
-            Some((word, rest)) => {
-                self.rest = rest;
-                Ok(word)
-            }
-            None => {
-                let word = self.rest;
-                self.rest = "";
-                Ok(word)
-            }
-        }
+        let (word, rest) = self.rest.split_once(' ').unwrap_or((self.rest, ""));
+        self.rest = rest;
+        word
     }
 
     /// All words that are left, as one text.
@@ -46,126 +65,156 @@ impl<'a> Words<'a> {
     }
 
     /// All words that are left, as a text in which `\n` stands for the end of a line.
-    pub fn lines(&mut self, alloc: Global) -> Result<String, RowFault> {
-        let mut text = String::new(alloc);
-        let mut rest = self.all();
-        for _ in 0..u64::MAX {
-            let Some((line, behind)) = rest.split_once("\\n") else {
-                text.push_str(rest)?;
-                break;
-            };
-            text.push_str(line)?;
-            text.push('\n')?;
-            rest = behind;
-        }
-        Ok(text)
+    pub fn lines(&mut self, alloc: Global) -> String {
+        let read = lines_of(alloc, self.all());
+        self.noted(read, String::new(alloc))
     }
 
     /// The next word as a decimal number.
-    pub fn number(&mut self) -> Result<u64, RowFault> {
-        Ok(self.text()?.parse::<u64>()?)
+    pub fn number(&mut self) -> u64 {
+        match self.text().parse::<u64>() {
+            Ok(number) => number,
+            Err(_) => self.note(RowFault::NoRow, 0),
+        }
     }
 
     /// The next five words as decimal numbers, as those of a device: its blocks, the bytes of each, the slots of a bucket, the
     /// greatest table and the lifetime.
-    pub fn five_numbers(&mut self) -> Result<[u64; 5], RowFault> {
-        Ok([
-            self.number()?,
-            self.number()?,
-            self.number()?,
-            self.number()?,
-            self.number()?,
-        ])
+    pub fn five_numbers(&mut self) -> [u64; 5] {
+        [
+            self.number(),
+            self.number(),
+            self.number(),
+            self.number(),
+            self.number(),
+        ]
     }
 
     /// The next word as a decimal number below 2^32.
-    pub fn short(&mut self) -> Result<u32, RowFault> {
-        Ok(u32::try_from(self.number()?)?)
+    pub fn short(&mut self) -> u32 {
+        match u32::try_from(self.number()) {
+            Ok(number) => number,
+            Err(_) => self.note(RowFault::NoRow, 0),
+        }
     }
 
     /// The next word as a decimal number below 2^8.
-    pub fn byte(&mut self) -> Result<u8, RowFault> {
-        Ok(u8::try_from(self.number()?)?)
+    pub fn byte(&mut self) -> u8 {
+        match u8::try_from(self.number()) {
+            Ok(number) => number,
+            Err(_) => self.note(RowFault::NoRow, 0),
+        }
     }
 
     /// The next word as a length or a place.
-    pub fn size(&mut self) -> Result<usize, RowFault> {
-        Ok(usize::try_from(self.number()?)?)
+    pub fn size(&mut self) -> usize {
+        match usize::try_from(self.number()) {
+            Ok(number) => number,
+            Err(_) => self.note(RowFault::NoRow, 0),
+        }
     }
 
     /// Whether the next word is `yes`; `no` is the other that may stand there.
-    pub fn flag(&mut self) -> Result<bool, RowFault> {
-        match self.text()? {
-            "yes" => Ok(true),
-            "no" => Ok(false),
-            _ => Err(RowFault::NoRow),
+    pub fn flag(&mut self) -> bool {
+        match self.text() {
+            "yes" => true,
+            "no" => false,
+            _ => self.note(RowFault::NoRow, false),
         }
     }
 
     /// The next word as bytes.
-    pub fn bytes(&mut self, alloc: Global) -> Result<Vec<u8>, RowFault> {
-        let mut rest = self.text()?;
-        let mut bytes = Vec::new(alloc);
-        if rest == "-" {
-            return Ok(bytes);
-        }
-        for _ in 0..u64::MAX {
-            let (part, behind) = rest.split_once('.').unwrap_or((rest, ""));
-            push_part(alloc, &mut bytes, part)?;
-            if behind.is_empty() {
-                break;
-            }
-            rest = behind;
-        }
-        Ok(bytes)
+    pub fn bytes(&mut self, alloc: Global) -> Vec<u8> {
+        let read = bytes_of(alloc, self.text());
+        self.noted(read, Vec::new(alloc))
     }
 
     /// The next word as 32 bytes. With another number of bytes the row is not one.
-    pub fn array(&mut self, alloc: Global) -> Result<[u8; 32], RowFault> {
-        let bytes = self.bytes(alloc)?;
+    pub fn array(&mut self, alloc: Global) -> [u8; 32] {
+        let bytes = self.bytes(alloc);
         let mut array = [0; 32];
         if bytes.len() != array.len() {
-            return Err(RowFault::NoRow);
+            return self.note(RowFault::NoRow, array);
         }
         array.copy_from_slice(&bytes);
-        Ok(array)
+        array
     }
 
     /// All words that are left, each as bytes.
-    pub fn bodies(&mut self, alloc: Global) -> Result<Vec<Vec<u8>>, RowFault> {
+    pub fn bodies(&mut self, alloc: Global) -> Vec<Vec<u8>> {
         let mut bodies = Vec::new(alloc);
         for _ in 0..u64::MAX {
             if self.is_empty() {
                 break;
             }
-            bodies.push(self.bytes(alloc)?)?;
+            if bodies.push(self.bytes(alloc)).is_err() {
+                return self.note(RowFault::OutOfMemory, bodies);
+            }
         }
-        Ok(bodies)
+        bodies
     }
 
     /// All words that are left, as decimal numbers.
-    pub fn numbers(&mut self, alloc: Global) -> Result<Vec<u64>, RowFault> {
+    pub fn numbers(&mut self, alloc: Global) -> Vec<u64> {
         let mut numbers = Vec::new(alloc);
         for _ in 0..u64::MAX {
             if self.is_empty() {
                 break;
             }
-            numbers.push(self.number()?)?;
+            if numbers.push(self.number()).is_err() {
+                return self.note(RowFault::OutOfMemory, numbers);
+            }
         }
-        Ok(numbers)
+        numbers
     }
 
     /// All words that are left, as decimal numbers below 2^32.
-    pub fn shorts(&mut self, alloc: Global) -> Result<Vec<u32>, RowFault> {
+    pub fn shorts(&mut self, alloc: Global) -> Vec<u32> {
         let mut numbers = Vec::new(alloc);
         for _ in 0..u64::MAX {
             if self.is_empty() {
                 break;
             }
-            numbers.push(self.short()?)?;
+            if numbers.push(self.short()).is_err() {
+                return self.note(RowFault::OutOfMemory, numbers);
+            }
         }
-        Ok(numbers)
+        numbers
     }
+}
+
+/// A text in which `\n` stands for the end of a line.
+fn lines_of(alloc: Global, word: &str) -> Result<String, RowFault> {
+    let mut text = String::new(alloc);
+    let mut rest = word;
+    for _ in 0..u64::MAX {
+        let Some((line, behind)) = rest.split_once("\\n") else {
+            text.push_str(rest)?;
+            break;
+        };
+        text.push_str(line)?;
+        text.push('\n')?;
+        rest = behind;
+    }
+    Ok(text)
+}
+
+/// The bytes that a word means: parts of hexadecimal digits, or of one byte that stands there many times, and `-` for none.
+fn bytes_of(alloc: Global, word: &str) -> Result<Vec<u8>, RowFault> {
+    let mut rest = word;
+    let mut bytes = Vec::new(alloc);
+    if rest == "-" {
+        return Ok(bytes);
+    }
+    for _ in 0..u64::MAX {
+        let (part, behind) = rest.split_once('.').unwrap_or((rest, ""));
+        push_part(alloc, &mut bytes, part)?;
+        if behind.is_empty() {
+            break;
+        }
+        rest = behind;
+    }
+    Ok(bytes)
 }
 
 /// Adds the bytes of one part: hexadecimal digits, or one byte and how many times it stands there.

@@ -7,10 +7,10 @@ use std::alloc::Global;
 
 /// A command of this kind: `read ADDRESS`, `write ADDRESS DATA` or `discard ADDRESS`.
 pub fn command_of(alloc: Global, kind: &str, words: &mut Words) -> Result<Command, RowFault> {
-    let address = words.short()?;
+    let address = words.short();
     match kind {
         "read" => Ok(Command::Read(address)),
-        "write" => Ok(Command::Write(address, Bytes::from_vec(words.bytes(alloc)?))),
+        "write" => Ok(Command::Write(address, Bytes::from_vec(words.bytes(alloc)))),
         "discard" => Ok(Command::Discard(address)),
         _ => Err(RowFault::NoRow),
     }
@@ -20,17 +20,17 @@ pub fn command_of(alloc: Global, kind: &str, words: &mut Words) -> Result<Comman
 /// or `retry`.
 pub fn event_of(alloc: Global, kind: &str, words: &mut Words) -> Result<Event, RowFault> {
     match kind {
-        "hear" => Ok(Event::Answer(Bytes::from_vec(words.bytes(alloc)?))),
+        "hear" => Ok(Event::Answer(Bytes::from_vec(words.bytes(alloc)))),
         "lost" => Ok(Event::Lost),
         "reopened" => Ok(Event::Reopen),
         "retry" => Ok(Event::Retry),
         _ => {
-            let session = words.short()?;
+            let session = words.short();
             let command = command_of(alloc, kind, words)?;
             Ok(Event::Submit {
                 session,
                 command,
-                words: Tape::from_vec(words.numbers(alloc)?),
+                words: Tape::from_vec(words.numbers(alloc)),
             })
         }
     }

@@ -48,7 +48,7 @@ impl Cores {
     ) -> Result<(), RowFault> {
         let chacha = seen_of(self.chacha.take());
         self.former = seen_of(self.plain.take()).or(chacha);
-        let messages = match words.text()? {
+        let messages = match words.text() {
             "plain" => {
                 let machine = Machine::new(alloc, device, PlainSeal)?;
                 let messages = machine.messages();
@@ -56,7 +56,7 @@ impl Cores {
                 messages
             }
             "chacha" => {
-                let key = words.array(alloc)?;
+                let key = words.array(alloc);
                 let machine = Machine::new(alloc, device, ChaChaSeal { key })?;
                 let messages = machine.messages();
                 self.chacha = Some(machine);
@@ -93,7 +93,7 @@ impl Cores {
         words: &mut Words,
         page: &mut Page,
     ) -> Result<(), RowFault> {
-        let call = words.text()?;
+        let call = words.text();
         match call {
             "new" => return self.begin(alloc, device, words, page),
             "alike" => return self.alike(page),

@@ -26,7 +26,7 @@ struct Calls {
 impl Calls {
     /// `device SIZES`: how many trees the device has, or the number of the fault.
     fn begin(&mut self, words: &mut Words, page: &mut Page) -> Result<(), RowFault> {
-        let [blocks, block_bytes, slots, top, lifetime] = words.five_numbers()?;
+        let [blocks, block_bytes, slots, top, lifetime] = words.five_numbers();
         self.cores = Cores::new();
         self.device = match Device::new(blocks, block_bytes, slots, top, lifetime) {
             Ok(device) => {

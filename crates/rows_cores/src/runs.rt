@@ -8,7 +8,7 @@ use std::alloc::Global;
 
 /// `run copy COMMAND`: the copy of a command, and whether it equals the command.
 fn copy(alloc: Global, words: &mut Words, page: &mut Page) -> Result<(), RowFault> {
-    let command = command_of(alloc, words.text()?, words)?;
+    let command = command_of(alloc, words.text(), words)?;
     let copy = command.copy(alloc)?;
     show_command(&copy, page);
     page.part();
@@ -18,16 +18,16 @@ fn copy(alloc: Global, words: &mut Words, page: &mut Page) -> Result<(), RowFaul
 
 /// `run equal COMMAND COMMAND`: whether the two are equal.
 fn equal(alloc: Global, words: &mut Words, page: &mut Page) -> Result<(), RowFault> {
-    let first = command_of(alloc, words.text()?, words)?;
-    let second = command_of(alloc, words.text()?, words)?;
+    let first = command_of(alloc, words.text(), words)?;
+    let second = command_of(alloc, words.text(), words)?;
     page.flag(first == second);
     Ok(())
 }
 
 /// `run same EVENT EVENT`: whether the two are equal.
 fn same(alloc: Global, words: &mut Words, page: &mut Page) -> Result<(), RowFault> {
-    let first = event_of(alloc, words.text()?, words)?;
-    let second = event_of(alloc, words.text()?, words)?;
+    let first = event_of(alloc, words.text(), words)?;
+    let second = event_of(alloc, words.text(), words)?;
     page.flag(first == second);
     Ok(())
 }
@@ -58,7 +58,7 @@ fn refusals(page: &mut Page) -> Result<(), RowFault> {
 
 /// Makes a call.
 pub fn answer(alloc: Global, words: &mut Words, page: &mut Page) -> Result<(), RowFault> {
-    match words.text()? {
+    match words.text() {
         "copy" => copy(alloc, words, page),
         "equal" => equal(alloc, words, page),
         "same" => same(alloc, words, page),

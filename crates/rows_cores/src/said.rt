@@ -113,10 +113,10 @@ pub fn show_answered(reaction: &Reaction, page: &mut Page) {
 
 /// The reason that words name.
 pub fn reason_of(words: &mut Words) -> Result<Reason, RowFault> {
-    match words.text()? {
+    match words.text() {
         "malformed" => Ok(Reason::Malformed),
-        "tampered" => Ok(Reason::Tampered(words.byte()?, words.byte()?)),
-        "host" => Ok(Reason::HostRefused(words.byte()?)),
+        "tampered" => Ok(Reason::Tampered(words.byte(), words.byte())),
+        "host" => Ok(Reason::HostRefused(words.byte())),
         _ => Err(RowFault::NoRow),
     }
 }

@@ -43,7 +43,7 @@ fn talked<R: Read>(
 
 /// The pace of a word: whether a stream `ends` or `fails` where it can't go on.
 fn pace_of(words: &mut Words) -> Result<Pace, RowFault> {
-    match words.text()? {
+    match words.text() {
         "ends" => Ok(Pace::smooth(false)),
         "fails" => Ok(Pace::smooth(true)),
         _ => Err(RowFault::NoRow),
@@ -58,8 +58,8 @@ fn write_talk(page: &mut Page, talk: &Talk) -> Result<(), RowFault> {
 
 /// `nbd options COUNT HEAD`: how a connection ends whose client takes one option so often, and how many bytes it is told.
 fn options(alloc: Global, words: &mut Words, page: &mut Page) -> Result<(), RowFault> {
-    let count = words.short()?;
-    let head = words.bytes(alloc)?;
+    let count = words.short();
+    let head = words.bytes(alloc);
     let mut said = vec![in alloc; 0, 0, 0, 3]?;
     for _ in 0..count {
         said.extend_from_slice(&head)?;
@@ -73,9 +73,9 @@ fn options(alloc: Global, words: &mut Words, page: &mut Page) -> Result<(), RowF
 
 /// `nbd passes HEAD COUNT REST`: what comes of requests, of which the first is followed by so many bytes.
 fn passes(alloc: Global, words: &mut Words, page: &mut Page) -> Result<(), RowFault> {
-    let head = words.bytes(alloc)?;
-    let count = words.number()?;
-    let rest = words.bytes(alloc)?;
+    let head = words.bytes(alloc);
+    let count = words.number();
+    let rest = words.bytes(alloc);
     let mut reader = head
         .as_slice()
         .chain(io::repeat(7).take(count))
@@ -98,7 +98,7 @@ impl Connections {
 
     /// `nbd talk SAID`: how a connection ends whose client says this and no more, and what it is told.
     fn talk(&mut self, alloc: Global, words: &mut Words, page: &mut Page) -> Result<(), RowFault> {
-        self.said = words.bytes(alloc)?;
+        self.said = words.bytes(alloc);
         let mut source = Source::new(&self.said, Pace::smooth(false));
         let talk = talked(alloc, &mut source, ROOM, Pace::smooth(true))?;
         self.told = talk.1.bytes().to_vec(alloc)?;
@@ -141,9 +141,9 @@ impl Connections {
         words: &mut Words,
         page: &mut Page,
     ) -> Result<(), RowFault> {
-        let from = words.size()?;
+        let from = words.size();
         let wanted = self.cut(alloc, from, Pace::smooth(fails))?;
-        for len in from..words.size()? {
+        for len in from..words.size() {
             if self.cut(alloc, len, Pace::smooth(fails))? != wanted {
                 page.word("not alike");
                 return Ok(());
@@ -164,9 +164,9 @@ impl Connections {
     /// `nbd rooms FROM TO ends|fails`: whether a connection ends for that wherever no more bytes can be told, from one count
     /// on and below another, once they are.
     fn rooms(&self, alloc: Global, words: &mut Words, page: &mut Page) -> Result<(), RowFault> {
-        let from = words.size()?;
-        let to = words.size()?;
-        let ending = words.text()?;
+        let from = words.size();
+        let to = words.size();
+        let ending = words.text();
         for room in from..to {
             let pace = pace_of(&mut Words::of(ending))?;
             if !self.is_full(alloc, room, pace)? {

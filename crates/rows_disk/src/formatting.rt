@@ -31,7 +31,7 @@ impl<'a> Progress for Hearer<'a> {
 
 /// The device of five numbers.
 fn device_in(words: &mut Words) -> Result<Device, RowFault> {
-    let [blocks, block_bytes, slots, top, lifetime] = words.five_numbers()?;
+    let [blocks, block_bytes, slots, top, lifetime] = words.five_numbers();
     match Device::new(blocks, block_bytes, slots, top, lifetime) {
         Ok(device) => Ok(device),
         Err(_) => Err(RowFault::NoRow),
@@ -108,9 +108,9 @@ fn write_formatted(
 /// messages are answered, and where the paths or the identity that are fetched are others than the host's; and how many messages of how
 /// many were done.
 fn ahead(alloc: Global, words: &mut Words, page: &mut Page) -> Result<(), RowFault> {
-    let times = words.short()?;
-    let most = words.number()?;
-    let conduct = match words.text()? {
+    let times = words.short();
+    let most = words.number();
+    let conduct = match words.text() {
         "same" => Conduct::Honest,
         "paths" => Conduct::AltersPaths,
         "identity" => Conduct::AltersIdentity,
@@ -124,8 +124,8 @@ fn ahead(alloc: Global, words: &mut Words, page: &mut Page) -> Result<(), RowFau
 /// `format refused BEHIND CODE SIZES`: the same of one formatting, of which the message behind so many others is refused by this code.
 fn refused(alloc: Global, words: &mut Words, page: &mut Page) -> Result<(), RowFault> {
     let conduct = Conduct::Refuses {
-        behind: words.number()?,
-        code: words.byte()?,
+        behind: words.number(),
+        code: words.byte(),
     };
     let device = device_in(words)?;
     let far = RefCell::new(FarEnd::new(alloc, u64::MAX, conduct));
@@ -134,7 +134,7 @@ fn refused(alloc: Global, words: &mut Words, page: &mut Page) -> Result<(), RowF
 
 /// `format meets BODY SIZES`: the same over a host that was given this message before.
 fn meets(alloc: Global, words: &mut Words, page: &mut Page) -> Result<(), RowFault> {
-    let body = words.bytes(alloc)?;
+    let body = words.bytes(alloc);
     let device = device_in(words)?;
     let mut far = FarEnd::new(alloc, u64::MAX, Conduct::Honest);
     if far.honest_answer(&body).is_err() {

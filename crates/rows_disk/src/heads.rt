@@ -7,8 +7,8 @@ use std::alloc::Global;
 /// `head option CODE LENGTH`: the head of an option that carries so many bytes.
 fn option(alloc: Global, words: &mut Words, page: &mut Page) -> Result<(), RowFault> {
     let head = OptionHead {
-        option: HandshakeOption::of(words.short()?),
-        length: words.short()?,
+        option: HandshakeOption::of(words.short()),
+        length: words.short(),
     };
     page.bytes(&head.encode(alloc)?);
     Ok(())
@@ -16,7 +16,7 @@ fn option(alloc: Global, words: &mut Words, page: &mut Page) -> Result<(), RowFa
 
 /// `head read_option BYTES`: the option of a head, and how many bytes it carries.
 fn read_option(alloc: Global, words: &mut Words, page: &mut Page) -> Result<(), RowFault> {
-    let bytes = words.bytes(alloc)?;
+    let bytes = words.bytes(alloc);
     let Some(head) = OptionHead::decode(&bytes) else {
         page.word("none");
         return Ok(());
@@ -28,7 +28,7 @@ fn read_option(alloc: Global, words: &mut Words, page: &mut Page) -> Result<(), 
 
 /// The next word as a decimal number below 2^16.
 fn code_in(words: &mut Words) -> Result<u16, RowFault> {
-    Ok(u16::try_from(words.number()?)?)
+    Ok(u16::try_from(words.number())?)
 }
 
 /// `head request CODE FLAGS COOKIE OFFSET LENGTH`: the head of a request.
@@ -36,9 +36,9 @@ fn request(alloc: Global, words: &mut Words, page: &mut Page) -> Result<(), RowF
     let request = Request {
         command: Command::of(code_in(words)?),
         flags: code_in(words)?,
-        cookie: words.number()?,
-        offset: words.number()?,
-        length: words.short()?,
+        cookie: words.number(),
+        offset: words.number(),
+        length: words.short(),
     };
     page.bytes(&request.encode(alloc)?);
     Ok(())
@@ -46,7 +46,7 @@ fn request(alloc: Global, words: &mut Words, page: &mut Page) -> Result<(), RowF
 
 /// `head read_request BYTES`: the command of a request, its flags, its cookie, and the range that it is about.
 fn read_request(alloc: Global, words: &mut Words, page: &mut Page) -> Result<(), RowFault> {
-    let bytes = words.bytes(alloc)?;
+    let bytes = words.bytes(alloc);
     let Some(request) = Request::decode(&bytes) else {
         page.word("none");
         return Ok(());

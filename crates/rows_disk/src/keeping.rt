@@ -11,7 +11,7 @@ use std::alloc::Global;
 use std::cell::Cell;
 
 fn sealer_in(words: &mut Words) -> Result<SealerKind, RowFault> {
-    match words.text()? {
+    match words.text() {
         "plain" => Ok(SealerKind::Plain),
         "chacha20" => Ok(SealerKind::ChaCha20),
         _ => Err(RowFault::NoRow),
@@ -27,14 +27,14 @@ fn write_head(page: &mut Page, head: &Head) {
 
 /// `disk put ROOM PACE SALT CHECK SEALER STATE`: whether the file of a disk is written, and the bytes that were.
 fn put(alloc: Global, words: &mut Words, page: &mut Page) -> Result<(), RowFault> {
-    let room = words.size()?;
+    let room = words.size();
     let mut target = Target::new(alloc, room, pace_in(words)?)?;
     let head = Head {
-        salt: Salt(words.array(alloc)?),
-        key_check: KeyCheck(words.array(alloc)?),
+        salt: Salt(words.array(alloc)),
+        key_check: KeyCheck(words.array(alloc)),
         sealer: sealer_in(words)?,
     };
-    let state = words.bytes(alloc)?;
+    let state = words.bytes(alloc);
     let written = put_kept_file(&mut target, &head, &state);
     page.word(if written.is_ok() { "done" } else { "failed" });
     page.bytes(target.bytes());
@@ -43,7 +43,7 @@ fn put(alloc: Global, words: &mut Words, page: &mut Page) -> Result<(), RowFault
 
 /// `disk read FILE`: the salt, the key check, the sealer and the state of a disk's file.
 fn read(alloc: Global, words: &mut Words, page: &mut Page) -> Result<(), RowFault> {
-    let file = words.bytes(alloc)?;
+    let file = words.bytes(alloc);
     match read_kept_file(&file) {
         Ok(kept) => {
             write_head(page, &kept.head);
@@ -56,8 +56,8 @@ fn read(alloc: Global, words: &mut Words, page: &mut Page) -> Result<(), RowFaul
 
 /// `disk keys KEY SALT`: the sealer's key, the tape's, the key check and the identity.
 fn keys(alloc: Global, words: &mut Words, page: &mut Page) -> Result<(), RowFault> {
-    let key = DiskKey(words.array(alloc)?);
-    let salt = Salt(words.array(alloc)?);
+    let key = DiskKey(words.array(alloc));
+    let salt = Salt(words.array(alloc));
     page.bytes(&sealer_key(&key, &salt).0);
     page.bytes(&tape_key(&key, &salt).0);
     page.bytes(&key_check(&key, &salt).0);
@@ -67,10 +67,10 @@ fn keys(alloc: Global, words: &mut Words, page: &mut Page) -> Result<(), RowFaul
 
 /// `disk opens KEY SALT CHECK`: what a key opens a disk of this salt and key check with: the sealer's key, the tape's and the identity.
 fn opens(alloc: Global, words: &mut Words, page: &mut Page) -> Result<(), RowFault> {
-    let key = DiskKey(words.array(alloc)?);
+    let key = DiskKey(words.array(alloc));
     let head = Head {
-        salt: Salt(words.array(alloc)?),
-        key_check: KeyCheck(words.array(alloc)?),
+        salt: Salt(words.array(alloc)),
+        key_check: KeyCheck(words.array(alloc)),
         sealer: SealerKind::ChaCha20,
     };
     match keys_for(&key, &head) {
@@ -86,11 +86,11 @@ fn opens(alloc: Global, words: &mut Words, page: &mut Page) -> Result<(), RowFau
 
 /// `disk head KEY SALT SEALER OTHER`: the head of a disk that is formatted with a key, and whether another key opens it.
 fn head(alloc: Global, words: &mut Words, page: &mut Page) -> Result<(), RowFault> {
-    let key = DiskKey(words.array(alloc)?);
-    let salt = Salt(words.array(alloc)?);
+    let key = DiskKey(words.array(alloc));
+    let salt = Salt(words.array(alloc));
     let head = Head::new(&key, salt, sealer_in(words)?);
     write_head(page, &head);
-    match keys_for(&DiskKey(words.array(alloc)?), &head) {
+    match keys_for(&DiskKey(words.array(alloc)), &head) {
         Ok(_) => page.word("opens"),
         Err(fault) => page.show(&fault),
     }
@@ -98,7 +98,7 @@ fn head(alloc: Global, words: &mut Words, page: &mut Page) -> Result<(), RowFaul
 }
 
 fn step_in(words: &mut Words) -> Result<FileStep, RowFault> {
-    match words.text()? {
+    match words.text() {
         "create" => Ok(FileStep::Create),
         "write" => Ok(FileStep::Write),
         "sync" => Ok(FileStep::Sync),
@@ -111,7 +111,7 @@ fn step_in(words: &mut Words) -> Result<FileStep, RowFault> {
 }
 
 fn reason_in(words: &mut Words) -> Result<FileReason, RowFault> {
-    match words.text()? {
+    match words.text() {
         "no_room" => Ok(FileReason::NoRoom),
         "forbidden" => Ok(FileReason::Forbidden),
         "missing" => Ok(FileReason::Missing),
@@ -208,12 +208,12 @@ fn keep_states(
 /// `disk keeps COUNT SYNC DEEDS REASON`: whether each of so many states is kept, on the disk or not, in a place where the deed
 /// behind so many others fails; how many deeds there were, and why a state was not kept.
 fn keeps(alloc: Global, words: &mut Words, page: &mut Page) -> Result<(), RowFault> {
-    let count = words.short()?;
-    let sync = words.flag()?;
+    let count = words.short();
+    let sync = words.flag();
     let deeds = Cell::new(0);
     let desk = Desk {
         deeds: &deeds,
-        fails_behind: words.number()?,
+        fails_behind: words.number(),
         reason: reason_in(words)?,
     };
     let head = Head {

@@ -228,7 +228,7 @@ fn perform(
         if words.is_empty() {
             break;
         }
-        ask(alloc, &mut link, play, words.text()?, page)?;
+        ask(alloc, &mut link, play, words.text(), page)?;
     }
     page.word("faults");
     page.number(link.faults());
@@ -244,13 +244,13 @@ fn perform(
 /// tried to open and how many calls went over them, how many milliseconds it paused and how many passed; how often the host was lost, had no
 /// room, and was back.
 fn plays(alloc: Global, words: &mut Words, page: &mut Page) -> Result<(), RowFault> {
-    let seconds = words.number()?;
-    let has_clock = match words.text()? {
+    let seconds = words.number();
+    let has_clock = match words.text() {
         "ticks" => true,
         "fails" => false,
         _ => return Err(RowFault::NoRow),
     };
-    let play = Play::new(words.text()?.as_bytes(), has_clock);
+    let play = Play::new(words.text().as_bytes(), has_clock);
     perform(alloc, &play, seconds, words, page)?;
     write_count(page, "tries", &play.tries);
     write_count(page, "calls", &play.calls);

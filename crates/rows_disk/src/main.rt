@@ -34,7 +34,7 @@ impl Table for Calls {
         words: &mut Words,
         page: &mut Page,
     ) -> Result<(), RowFault> {
-        let name = words.text()?;
+        let name = words.text();
         match call {
             "head" => heads::answer(alloc, name, words, page),
             "nbd" => self.connections.answer(alloc, name, words, page),

@@ -74,9 +74,9 @@ impl Disk for StoppingDisk {
 pub fn stops(alloc: Global, words: &mut Words, page: &mut Page) -> Result<(), RowFault> {
     let mut disk = StoppingDisk {
         disk: MemDisk::new(alloc, 4, 4)?,
-        calls_left: words.number()?,
+        calls_left: words.number(),
     };
-    let said = words.bytes(alloc)?;
+    let said = words.bytes(alloc);
     let mut source = Source::new(&said, Pace::smooth(false));
     let mut target = Target::new(alloc, 256, Pace::smooth(true))?;
     let ended = transmit(alloc, &mut source, &mut target, &mut disk);

@@ -54,9 +54,9 @@ impl Volumes {
 
     /// `volume new ROOM AT TIMES`: a new volume, whose keeper keeps so many states, and whose link fails from one call on so often.
     fn begin(&mut self, alloc: Global, words: &mut Words) -> Result<(), RowFault> {
-        let room = words.number()?;
-        let at = words.number()?;
-        let times = words.number()?;
+        let room = words.number();
+        let at = words.number();
+        let times = words.number();
         let mut server = Server::new(alloc);
         let core = formatted(alloc, &mut server)?;
         self.volume = Some(Volume {
@@ -76,7 +76,7 @@ impl Volumes {
         let Some(volume) = &mut self.volume else {
             return Err(RowFault::NoRow);
         };
-        volume.keeper = Room(words.number()?);
+        volume.keeper = Room(words.number());
         Ok(())
     }
 
@@ -92,7 +92,7 @@ impl Volumes {
 
     /// `volume asks SAID`: what comes of requests, and what is told.
     fn asks(&mut self, alloc: Global, words: &mut Words, page: &mut Page) -> Result<(), RowFault> {
-        let said = words.bytes(alloc)?;
+        let said = words.bytes(alloc);
         let Some(volume) = &mut self.volume else {
             return Err(RowFault::NoRow);
         };

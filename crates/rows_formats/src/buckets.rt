@@ -39,7 +39,7 @@ fn decode(
     words: &mut Words,
     page: &mut Page,
 ) -> Result<(), RowFault> {
-    let bytes = words.bytes(alloc)?;
+    let bytes = words.bytes(alloc);
     if device.trees() == 0 {
         return Err(RowFault::NoRow);
     }
@@ -58,7 +58,7 @@ fn again(
     words: &mut Words,
     page: &mut Page,
 ) -> Result<(), RowFault> {
-    let bytes = words.bytes(alloc)?;
+    let bytes = words.bytes(alloc);
     if device.trees() == 0 {
         return Err(RowFault::NoRow);
     }
@@ -100,8 +100,8 @@ fn seal(
     page: &mut Page,
 ) -> Result<(), RowFault> {
     let sealing = sealing_in(alloc, words)?;
-    let nonce = words.number()?;
-    let bytes = words.bytes(alloc)?;
+    let nonce = words.number();
+    let bytes = words.bytes(alloc);
     match &sealing {
         Sealing::Plain(sealer) => write_sealed(alloc, sealer, device, nonce, &bytes, page),
         Sealing::ChaCha(sealer) => write_sealed(alloc, sealer, device, nonce, &bytes, page),
@@ -134,7 +134,7 @@ fn open(
     page: &mut Page,
 ) -> Result<(), RowFault> {
     let sealing = sealing_in(alloc, words)?;
-    let sealed = words.bytes(alloc)?;
+    let sealed = words.bytes(alloc);
     match &sealing {
         Sealing::Plain(sealer) => write_opened(alloc, sealer, device, &sealed, page),
         Sealing::ChaCha(sealer) => write_opened(alloc, sealer, device, &sealed, page),
@@ -144,9 +144,9 @@ fn open(
 /// `bucket copy ADDRESS LEAF BYTES`: the copy of a block.
 fn copy(alloc: Global, words: &mut Words, page: &mut Page) -> Result<(), RowFault> {
     let block = Block {
-        address: words.short()?,
-        leaf: words.short()?,
-        content: words.bytes(alloc)?,
+        address: words.short(),
+        leaf: words.short(),
+        content: words.bytes(alloc),
     };
     let copied = block.copy(alloc)?;
     write_block(page, &copied);
@@ -167,7 +167,7 @@ impl Buckets {
         page: &mut Page,
     ) -> Result<(), RowFault> {
         if name == "device" {
-            self.device = device_in(words)?.ok();
+            self.device = device_in(words).ok();
             page.flag(self.device.is_some());
             return Ok(());
         }

@@ -12,14 +12,14 @@ pub struct Devices {
 }
 
 /// The device of five numbers, or why there is none.
-pub fn device_in(words: &mut Words) -> Result<Result<Device, ShapeFault>, RowFault> {
-    let [blocks, block_bytes, slots, top, lifetime] = words.five_numbers()?;
-    Ok(Device::new(blocks, block_bytes, slots, top, lifetime))
+pub fn device_in(words: &mut Words) -> Result<Device, ShapeFault> {
+    let [blocks, block_bytes, slots, top, lifetime] = words.five_numbers();
+    Device::new(blocks, block_bytes, slots, top, lifetime)
 }
 
 /// `device record OVERHEAD`: the bytes of a record.
 fn record(device: &Device, words: &mut Words, page: &mut Page) -> Result<(), RowFault> {
-    let overhead = words.size()?;
+    let overhead = words.size();
     if overhead > 64 {
         return Err(RowFault::NoRow);
     }
@@ -29,7 +29,7 @@ fn record(device: &Device, words: &mut Words, page: &mut Page) -> Result<(), Row
 
 /// `device tree TREE`: its blocks, and its depth.
 fn tree(device: &Device, words: &mut Words, page: &mut Page) -> Result<(), RowFault> {
-    let tree = words.byte()?;
+    let tree = words.byte();
     if tree >= device.trees() {
         return Err(RowFault::NoRow);
     }
@@ -40,8 +40,8 @@ fn tree(device: &Device, words: &mut Words, page: &mut Page) -> Result<(), RowFa
 
 /// `device address TREE ADDRESS`: the address there of what belongs to a block of the device.
 fn address(device: &Device, words: &mut Words, page: &mut Page) -> Result<(), RowFault> {
-    let tree = words.byte()?;
-    let address = words.short()?;
+    let tree = words.byte();
+    let address = words.short();
     if tree >= device.trees() || address >= device.blocks_in(0) {
         return Err(RowFault::NoRow);
     }
@@ -51,8 +51,8 @@ fn address(device: &Device, words: &mut Words, page: &mut Page) -> Result<(), Ro
 
 /// `device leaf TREE WORD`: the leaf that a word names.
 fn leaf(device: &Device, words: &mut Words, page: &mut Page) -> Result<(), RowFault> {
-    let tree = words.byte()?;
-    let word = words.number()?;
+    let tree = words.byte();
+    let word = words.number();
     if tree >= device.trees() {
         return Err(RowFault::NoRow);
     }
@@ -62,9 +62,9 @@ fn leaf(device: &Device, words: &mut Words, page: &mut Page) -> Result<(), RowFa
 
 /// `device node TREE LEAF LEVEL`: the node at a level of a leaf's path.
 fn node(device: &Device, words: &mut Words, page: &mut Page) -> Result<(), RowFault> {
-    let tree = words.byte()?;
-    let leaf = words.short()?;
-    let level = words.byte()?;
+    let tree = words.byte();
+    let leaf = words.short();
+    let level = words.byte();
     if tree >= device.trees() || level > device.depth(tree) || leaf >= 1 << device.depth(tree) {
         return Err(RowFault::NoRow);
     }
@@ -74,9 +74,9 @@ fn node(device: &Device, words: &mut Words, page: &mut Page) -> Result<(), RowFa
 
 /// `device shared TREE LEAF LEAF`: the greatest level at which the paths of two leaves have one node.
 fn shared(device: &Device, words: &mut Words, page: &mut Page) -> Result<(), RowFault> {
-    let tree = words.byte()?;
-    let x = words.short()?;
-    let y = words.short()?;
+    let tree = words.byte();
+    let x = words.short();
+    let y = words.short();
     if tree >= device.trees() || x >= 1 << device.depth(tree) || y >= 1 << device.depth(tree) {
         return Err(RowFault::NoRow);
     }
@@ -101,7 +101,7 @@ impl Devices {
 
     /// `device new BLOCKS BLOCK_BYTES SLOTS TOP LIFETIME`: how many trees it has, or the first fault.
     fn begin(&mut self, words: &mut Words, page: &mut Page) -> Result<(), RowFault> {
-        match device_in(words)? {
+        match device_in(words) {
             Ok(device) => {
                 page.number(device.trees());
                 page.word(if device.trees() == 1 { "tree" } else { "trees" });

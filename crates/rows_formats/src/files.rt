@@ -55,7 +55,7 @@ fn flip(file: &mut [u8], place: usize) -> Result<(), RowFault> {
 /// `file again SEALER FILE`: the file of the core that a file tells of.
 fn again(alloc: Global, words: &mut Words, page: &mut Page) -> Result<(), RowFault> {
     let sealing = sealing_in(alloc, words)?;
-    let file = words.bytes(alloc)?;
+    let file = words.bytes(alloc);
     match core_in(alloc, sealing, &file)? {
         Ok(core) => page.bytes(&core.file(alloc)?),
         Err(fault) => write_fault(page, Some(fault)),
@@ -74,7 +74,7 @@ impl Files {
     /// `file kept SEALER FILE`: what is wrong with the file that the next rows change.
     fn keep(&mut self, alloc: Global, words: &mut Words, page: &mut Page) -> Result<(), RowFault> {
         self.sealing = sealing_in(alloc, words)?;
-        self.file = words.bytes(alloc)?;
+        self.file = words.bytes(alloc);
         write_fault(page, fault_of(alloc, self.sealing, &self.file)?);
         Ok(())
     }
@@ -94,9 +94,9 @@ impl Files {
     /// `file flips FROM TO`: what is wrong with the file where the lowest bit of one byte is another, which is the same at
     /// each place of the range.
     fn flips(&mut self, alloc: Global, words: &mut Words, page: &mut Page) -> Result<(), RowFault> {
-        let from = words.size()?;
+        let from = words.size();
         let wanted = self.fault_beside(alloc, from)?;
-        for place in from..words.size()? {
+        for place in from..words.size() {
             if self.fault_beside(alloc, place)? != wanted {
                 page.word("not alike");
                 return Ok(());
@@ -116,9 +116,9 @@ impl Files {
 
     /// `file cuts FROM TO`: what is wrong with so many of the file's first bytes, which is the same at each count of the range.
     fn cuts(&self, alloc: Global, words: &mut Words, page: &mut Page) -> Result<(), RowFault> {
-        let from = words.size()?;
+        let from = words.size();
         let wanted = self.fault_before(alloc, from)?;
-        for len in from..words.size()? {
+        for len in from..words.size() {
             if self.fault_before(alloc, len)? != wanted {
                 page.word("not alike");
                 return Ok(());
@@ -130,7 +130,7 @@ impl Files {
 
     /// `file flip PLACE`: what is wrong with the file, in which the lowest bit of this byte is another from now on.
     fn flip(&mut self, alloc: Global, words: &mut Words, page: &mut Page) -> Result<(), RowFault> {
-        flip(&mut self.file, words.size()?)?;
+        flip(&mut self.file, words.size())?;
         write_fault(page, fault_of(alloc, self.sealing, &self.file)?);
         Ok(())
     }
@@ -150,8 +150,8 @@ impl Files {
 
     /// `file edit PLACE BYTE`: what is wrong with the file where this byte is another, behind its right digest.
     fn edit(&self, alloc: Global, words: &mut Words, page: &mut Page) -> Result<(), RowFault> {
-        let place = words.size()?;
-        let byte = words.byte()?;
+        let place = words.size();
+        let byte = words.byte();
         let file = self.edited(alloc, place, byte)?;
         write_fault(page, fault_of(alloc, self.sealing, &file)?);
         Ok(())

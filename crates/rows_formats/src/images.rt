@@ -13,7 +13,7 @@ fn save(
     words: &mut Words,
     page: &mut Page,
 ) -> Result<(), RowFault> {
-    let room = words.size()?;
+    let room = words.size();
     let mut target = Target::new(alloc, room, pace_in(words)?)?;
     match server.save_image(&mut target) {
         Ok(()) => page.word("saved"),
@@ -31,7 +31,7 @@ fn load(
     page: &mut Page,
 ) -> Result<(), RowFault> {
     let pace = pace_in(words)?;
-    let bytes = words.bytes(alloc)?;
+    let bytes = words.bytes(alloc);
     match Server::load_image(alloc, &mut Source::new(&bytes, pace)) {
         Ok(server) => {
             servers.go_on_with(server);

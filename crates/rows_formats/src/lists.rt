@@ -6,7 +6,7 @@ use std::alloc::Global;
 
 /// `list bytes BYTES`: their count, whether there are none, and they themselves.
 fn bytes(alloc: Global, words: &mut Words, page: &mut Page) -> Result<(), RowFault> {
-    let list = Bytes::from_vec(words.bytes(alloc)?);
+    let list = Bytes::from_vec(words.bytes(alloc));
     page.number(list.len());
     page.flag(list.is_empty());
     page.bytes(list.as_slice());
@@ -16,8 +16,8 @@ fn bytes(alloc: Global, words: &mut Words, page: &mut Page) -> Result<(), RowFau
 
 /// `list same BYTES BYTES`: whether a list is equal to a copy of another.
 fn same(alloc: Global, words: &mut Words, page: &mut Page) -> Result<(), RowFault> {
-    let list = Bytes::from_vec(words.bytes(alloc)?);
-    let other = words.bytes(alloc)?;
+    let list = Bytes::from_vec(words.bytes(alloc));
+    let other = words.bytes(alloc);
     page.flag(Bytes::copy(alloc, &other)? == list);
     Ok(())
 }
@@ -31,7 +31,7 @@ fn write_numbers(page: &mut Page, numbers: &[u64]) {
 
 /// `list words NUMBERS`: how many there are, whether there are none, they themselves, and how many there are in the vector.
 fn numbers(alloc: Global, words: &mut Words, page: &mut Page) -> Result<(), RowFault> {
-    let list = WordList::from_vec(words.numbers(alloc)?);
+    let list = WordList::from_vec(words.numbers(alloc));
     page.number(list.len());
     page.flag(list.is_empty());
     write_numbers(page, list.as_slice());
@@ -41,8 +41,8 @@ fn numbers(alloc: Global, words: &mut Words, page: &mut Page) -> Result<(), RowF
 
 /// `list alike COUNT NUMBERS`: whether the first so many are equal to a copy of the others.
 fn alike(alloc: Global, words: &mut Words, page: &mut Page) -> Result<(), RowFault> {
-    let count = words.size()?;
-    let numbers = words.numbers(alloc)?;
+    let count = words.size();
+    let numbers = words.numbers(alloc);
     if count > numbers.len() {
         return Err(RowFault::NoRow);
     }

@@ -46,7 +46,7 @@ impl Table for Calls {
         words: &mut Words,
         page: &mut Page,
     ) -> Result<(), RowFault> {
-        let name = words.text()?;
+        let name = words.text();
         match call {
             "device" => self.devices.answer(name, words, page),
             "list" => lists::answer(alloc, name, words, page),

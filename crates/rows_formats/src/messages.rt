@@ -19,25 +19,25 @@ pub fn write_fault(page: &mut Page, fault: WireFault) -> Result<(), RowFault> {
 
 /// The request that words tell, as `write_view` writes it.
 fn request_in(alloc: Global, words: &mut Words) -> Result<HostRequest, RowFault> {
-    match words.text()? {
+    match words.text() {
         "fetch" => Ok(HostRequest::Fetch {
-            tree: words.byte()?,
-            leaf: words.short()?,
+            tree: words.byte(),
+            leaf: words.short(),
         }),
         "store" => Ok(HostRequest::Store {
-            tree: words.byte()?,
-            leaf: words.short()?,
-            records: Bytes::from_vec(words.bytes(alloc)?),
+            tree: words.byte(),
+            leaf: words.short(),
+            records: Bytes::from_vec(words.bytes(alloc)),
         }),
         "put" => Ok(HostRequest::Put {
-            tree: words.byte()?,
-            node: words.short()?,
-            bytes: Bytes::from_vec(words.bytes(alloc)?),
+            tree: words.byte(),
+            node: words.short(),
+            bytes: Bytes::from_vec(words.bytes(alloc)),
         }),
         "shape" => Ok(HostRequest::Shape {
-            tree: words.byte()?,
-            depth: words.byte()?,
-            record_len: words.short()?,
+            tree: words.byte(),
+            depth: words.byte(),
+            record_len: words.short(),
         }),
         _ => Err(RowFault::NoRow),
     }
@@ -119,7 +119,7 @@ fn write(alloc: Global, words: &mut Words, page: &mut Page) -> Result<(), RowFau
 
 /// `host read BODY`: the request that a body is.
 fn read(alloc: Global, words: &mut Words, page: &mut Page) -> Result<(), RowFault> {
-    let body = words.bytes(alloc)?;
+    let body = words.bytes(alloc);
     match HostRequest::decode(alloc, &body) {
         Ok(request) => {
             write_view(page, view_of(&request));
@@ -131,7 +131,7 @@ fn read(alloc: Global, words: &mut Words, page: &mut Page) -> Result<(), RowFaul
 
 /// `host view BODY`: the request that a body is, with the body's bytes.
 fn view(alloc: Global, words: &mut Words, page: &mut Page) -> Result<(), RowFault> {
-    let body = words.bytes(alloc)?;
+    let body = words.bytes(alloc);
     match HostView::read(&body) {
         Ok(view) => {
             write_view(page, view);
@@ -143,8 +143,8 @@ fn view(alloc: Global, words: &mut Words, page: &mut Page) -> Result<(), RowFaul
 
 /// `host heads TREE LEAF`: the body of a fetch of this path, and the beginning of a store to it.
 fn heads(words: &mut Words, page: &mut Page) -> Result<(), RowFault> {
-    let tree = words.byte()?;
-    let leaf = words.short()?;
+    let tree = words.byte();
+    let leaf = words.short();
     page.bytes(&fetch_header(tree, leaf));
     page.bytes(&store_header(tree, leaf));
     Ok(())
@@ -167,7 +167,7 @@ pub fn write_answer(page: &mut Page, answer: &HostAnswer) {
 
 /// `host answered BODY`: the answer that a body is.
 fn answered(alloc: Global, words: &mut Words, page: &mut Page) -> Result<(), RowFault> {
-    let body = words.bytes(alloc)?;
+    let body = words.bytes(alloc);
     match HostAnswer::decode(alloc, &body) {
         Ok(answer) => {
             write_answer(page, &answer);
@@ -185,7 +185,7 @@ fn done(alloc: Global, page: &mut Page) -> Result<(), RowFault> {
 
 /// `host refused CODE`: the body of a refusal.
 fn refused(alloc: Global, words: &mut Words, page: &mut Page) -> Result<(), RowFault> {
-    let code = words.byte()?;
+    let code = words.byte();
     if code == 0 || code > 8 {
         return Err(RowFault::NoRow);
     }
@@ -195,7 +195,7 @@ fn refused(alloc: Global, words: &mut Words, page: &mut Page) -> Result<(), RowF
 
 /// `host records BYTES`: the body of an answer with these.
 fn records(alloc: Global, words: &mut Words, page: &mut Page) -> Result<(), RowFault> {
-    let bytes = Bytes::from_vec(words.bytes(alloc)?);
+    let bytes = Bytes::from_vec(words.bytes(alloc));
     if bytes.is_empty() {
         return Err(RowFault::NoRow);
     }
@@ -215,7 +215,7 @@ fn put<S: Sink>(sink: &mut S, body: &[u8]) -> Result<(), RowFault> {
 /// The sink that took the bodies of the words.
 fn filled(alloc: Global, words: &mut Words) -> Result<ListSink, RowFault> {
     let mut sink = ListSink::new(alloc);
-    for body in &words.bodies(alloc)? {
+    for body in &words.bodies(alloc) {
         put(&mut sink, body)?;
     }
     Ok(sink)

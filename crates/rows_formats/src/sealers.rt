@@ -13,11 +13,13 @@ pub enum Sealing {
 
 /// The sealer of a word: `plain`, or a key of 32 bytes for ChaCha20.
 pub fn sealing_in(alloc: Global, words: &mut Words) -> Result<Sealing, RowFault> {
-    let word = words.text()?;
+    let word = words.text();
     if word == "plain" {
         return Ok(Sealing::Plain(PlainSeal));
     }
-    let key = Words::of(word).array(alloc)?;
+    let mut part = Words::of(word);
+    let key = part.array(alloc);
+    part.check()?;
     Ok(Sealing::ChaCha(ChaChaSeal { key }))
 }
 
@@ -39,8 +41,8 @@ pub fn write_opened<S: Sealer>(
 /// `seal close SEALER NONCE BYTES`: the bytes sealed under a nonce.
 fn close(alloc: Global, words: &mut Words, page: &mut Page) -> Result<(), RowFault> {
     let sealing = sealing_in(alloc, words)?;
-    let nonce = words.number()?;
-    let plain = words.bytes(alloc)?;
+    let nonce = words.number();
+    let plain = words.bytes(alloc);
     let sealed = match &sealing {
         Sealing::Plain(sealer) => sealer.seal(alloc, nonce, &plain)?,
         Sealing::ChaCha(sealer) => sealer.seal(alloc, nonce, &plain)?,
@@ -52,7 +54,7 @@ fn close(alloc: Global, words: &mut Words, page: &mut Page) -> Result<(), RowFau
 /// `seal open SEALER BYTES`: what sealed bytes open to.
 fn open(alloc: Global, words: &mut Words, page: &mut Page) -> Result<(), RowFault> {
     let sealing = sealing_in(alloc, words)?;
-    let sealed = words.bytes(alloc)?;
+    let sealed = words.bytes(alloc);
     match &sealing {
         Sealing::Plain(sealer) => write_opened(alloc, sealer, &sealed, page),
         Sealing::ChaCha(sealer) => write_opened(alloc, sealer, &sealed, page),
@@ -89,7 +91,7 @@ fn write_law<S: Sealer>(
 /// how many they are then behind one other.
 fn again(alloc: Global, words: &mut Words, page: &mut Page) -> Result<(), RowFault> {
     let sealing = sealing_in(alloc, words)?;
-    let plain = counted(alloc, words.size()?)?;
+    let plain = counted(alloc, words.size())?;
     match &sealing {
         Sealing::Plain(sealer) => write_law(alloc, sealer, &plain, page),
         Sealing::ChaCha(sealer) => write_law(alloc, sealer, &plain, page),

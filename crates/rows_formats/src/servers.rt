@@ -23,7 +23,7 @@ fn asks(
     words: &mut Words,
     page: &mut Page,
 ) -> Result<(), RowFault> {
-    let body = words.bytes(alloc)?;
+    let body = words.bytes(alloc);
     match server.handle(&body) {
         HostAnswer::Refused(NO_ROOM) => return Err(RowFault::OutOfMemory),
         answer => write_answer(page, &answer),
@@ -47,7 +47,7 @@ fn bytes(
     words: &mut Words,
     page: &mut Page,
 ) -> Result<(), RowFault> {
-    let body = words.bytes(alloc)?;
+    let body = words.bytes(alloc);
     page.bytes(&answer_to(alloc, server, &body)?);
     Ok(())
 }
@@ -59,7 +59,7 @@ fn put(
     words: &mut Words,
     page: &mut Page,
 ) -> Result<(), RowFault> {
-    let body = words.bytes(alloc)?;
+    let body = words.bytes(alloc);
     match server.put(&body) {
         Ok(()) => page.word("taken"),
         Err(SinkFault::OutOfMemory) => return Err(RowFault::OutOfMemory),
@@ -70,19 +70,19 @@ fn put(
 
 /// `server flip TREE NODE PLACE`: whether the record has that byte, of which a bit then is another.
 fn flip(server: &mut Server, words: &mut Words, page: &mut Page) -> Result<(), RowFault> {
-    let tree = words.number()?;
-    let node = words.number()?;
-    let place = words.number()?;
+    let tree = words.number();
+    let node = words.number();
+    let place = words.number();
     page.flag(server.flip(tree, node, place));
     Ok(())
 }
 
 /// `server swap TREE NODE TREE NODE`: whether there are two records that change places.
 fn swap(server: &mut Server, words: &mut Words, page: &mut Page) -> Result<(), RowFault> {
-    let tree_a = words.number()?;
-    let node_a = words.number()?;
-    let tree_b = words.number()?;
-    let node_b = words.number()?;
+    let tree_a = words.number();
+    let node_a = words.number();
+    let tree_b = words.number();
+    let node_b = words.number();
     page.flag(server.swap(tree_a, node_a, tree_b, node_b));
     Ok(())
 }

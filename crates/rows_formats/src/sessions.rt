@@ -8,16 +8,16 @@ use std::alloc::Global;
 
 /// The request that words tell, as `write_request` writes it.
 fn request_in(alloc: Global, words: &mut Words) -> Result<SessionRequest, RowFault> {
-    match words.text()? {
+    match words.text() {
         "read" => Ok(SessionRequest::Read {
-            address: words.short()?,
+            address: words.short(),
         }),
         "write" => Ok(SessionRequest::Write {
-            address: words.short()?,
-            bytes: Bytes::from_vec(words.bytes(alloc)?),
+            address: words.short(),
+            bytes: Bytes::from_vec(words.bytes(alloc)),
         }),
         "discard" => Ok(SessionRequest::Discard {
-            address: words.short()?,
+            address: words.short(),
         }),
         _ => Err(RowFault::NoRow),
     }
@@ -51,7 +51,7 @@ fn write(alloc: Global, words: &mut Words, page: &mut Page) -> Result<(), RowFau
 
 /// `session read BODY`: the request that a body is.
 fn read(alloc: Global, words: &mut Words, page: &mut Page) -> Result<(), RowFault> {
-    let body = words.bytes(alloc)?;
+    let body = words.bytes(alloc);
     match SessionRequest::decode(alloc, &body) {
         Ok(request) => {
             write_request(page, &request);
@@ -63,7 +63,7 @@ fn read(alloc: Global, words: &mut Words, page: &mut Page) -> Result<(), RowFaul
 
 /// `session data BYTES`: the body of the reply with these.
 fn data(alloc: Global, words: &mut Words, page: &mut Page) -> Result<(), RowFault> {
-    let bytes = Bytes::from_vec(words.bytes(alloc)?);
+    let bytes = Bytes::from_vec(words.bytes(alloc));
     page.bytes(&SessionReply::Data(bytes).encode(alloc)?);
     Ok(())
 }
@@ -76,7 +76,7 @@ fn done(alloc: Global, page: &mut Page) -> Result<(), RowFault> {
 
 /// `session refused CODE`: the body of a refusal.
 fn refused(alloc: Global, words: &mut Words, page: &mut Page) -> Result<(), RowFault> {
-    let code = words.byte()?;
+    let code = words.byte();
     if code == 0 || code > 7 {
         return Err(RowFault::NoRow);
     }
@@ -107,7 +107,7 @@ fn write_reply(page: &mut Page, reply: &SessionReply) {
 
 /// `session replied BODY`: the reply that a body is.
 fn replied(alloc: Global, words: &mut Words, page: &mut Page) -> Result<(), RowFault> {
-    let body = words.bytes(alloc)?;
+    let body = words.bytes(alloc);
     match SessionReply::decode(alloc, &body) {
         Ok(reply) => {
             write_reply(page, &reply);

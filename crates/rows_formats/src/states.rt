@@ -30,32 +30,27 @@ fn are_alike(one: &Reaction, other: &Reaction) -> bool {
 }
 
 /// The event in which a session submits a command: its words are those that are left.
-fn submission(
-    alloc: Global,
-    session: u32,
-    command: Command,
-    words: &mut Words,
-) -> Result<Event, RowFault> {
-    let words = WordList::from_vec(words.numbers(alloc)?);
-    Ok(Event::Submit {
+fn submission(alloc: Global, session: u32, command: Command, words: &mut Words) -> Event {
+    let words = WordList::from_vec(words.numbers(alloc));
+    Event::Submit {
         session,
         command,
         words,
-    })
+    }
 }
 
 /// `core read SESSION ADDRESS WORDS`, `core write SESSION ADDRESS BYTES WORDS` and `core discard SESSION ADDRESS WORDS`:
 /// what the core makes of a command.
 fn command_in(alloc: Global, name: &str, words: &mut Words) -> Result<Event, RowFault> {
-    let session = words.short()?;
-    let address = words.short()?;
+    let session = words.short();
+    let address = words.short();
     let command = match name {
         "read" => Command::Read(address),
-        "write" => Command::Write(address, Bytes::from_vec(words.bytes(alloc)?)),
+        "write" => Command::Write(address, Bytes::from_vec(words.bytes(alloc))),
         "discard" => Command::Discard(address),
         _ => return Err(RowFault::NoRow),
     };
-    submission(alloc, session, command, words)
+    Ok(submission(alloc, session, command, words))
 }
 
 fn write_reply(page: &mut Page, reply: &Reply) {
@@ -152,7 +147,7 @@ impl States {
         page: &mut Page,
     ) -> Result<(), RowFault> {
         let sealing = sealing_in(alloc, words)?;
-        match device_in(words)? {
+        match device_in(words) {
             Ok(device) => {
                 self.server = Server::new(alloc);
                 self.outstanding = None;
@@ -170,7 +165,7 @@ impl States {
     /// `core open SEALER FILE`: goes on with the core of a file.
     fn open(&mut self, alloc: Global, words: &mut Words, page: &mut Page) -> Result<(), RowFault> {
         let sealing = sealing_in(alloc, words)?;
-        let file = words.bytes(alloc)?;
+        let file = words.bytes(alloc);
         match core_in(alloc, sealing, &file)? {
             Ok(core) => {
                 self.core = Some(core);
@@ -252,19 +247,19 @@ impl States {
 
     /// `core tamper TREE NODE PLACE`: whether the record has that byte, of which a bit then is another.
     fn tamper(&mut self, words: &mut Words, page: &mut Page) -> Result<(), RowFault> {
-        let tree = words.number()?;
-        let node = words.number()?;
-        let place = words.number()?;
+        let tree = words.number();
+        let node = words.number();
+        let place = words.number();
         page.flag(self.server.flip(tree, node, place));
         Ok(())
     }
 
     /// `core swap TREE NODE TREE NODE`: whether there are two records that change places.
     fn swap(&mut self, words: &mut Words, page: &mut Page) -> Result<(), RowFault> {
-        let tree_a = words.number()?;
-        let node_a = words.number()?;
-        let tree_b = words.number()?;
-        let node_b = words.number()?;
+        let tree_a = words.number();
+        let node_a = words.number();
+        let tree_b = words.number();
+        let node_b = words.number();
         page.flag(self.server.swap(tree_a, node_a, tree_b, node_b));
         Ok(())
     }
@@ -301,7 +296,7 @@ impl States {
     ) -> Result<(), RowFault> {
         let event = match name {
             "answer" => self.answer_of_host(alloc)?,
-            "raw" => Event::Answer(Bytes::from_vec(words.bytes(alloc)?)),
+            "raw" => Event::Answer(Bytes::from_vec(words.bytes(alloc))),
             "lost" => Event::Lost,
             // The host hears the message, and its answer is lost.
             "late" => {

@@ -35,8 +35,8 @@ fn write_held(page: &mut Page, frames: &Frames) {
 
 /// `frame pieces SIZE BYTES`: the bodies in a stream that comes in pieces of this size, and how many bytes are held then.
 fn pieces(alloc: Global, words: &mut Words, page: &mut Page) -> Result<(), RowFault> {
-    let size = words.size()?;
-    let stream = words.bytes(alloc)?;
+    let size = words.size();
+    let stream = words.bytes(alloc);
     if size == 0 {
         return Err(RowFault::NoRow);
     }
@@ -51,7 +51,7 @@ fn pieces(alloc: Global, words: &mut Words, page: &mut Page) -> Result<(), RowFa
 /// `frame read PACE BYTES`: the next body that a reader gives, the bytes that are left, and how often it was called.
 fn read(alloc: Global, words: &mut Words, page: &mut Page) -> Result<(), RowFault> {
     let pace = pace_in(words)?;
-    let bytes = words.bytes(alloc)?;
+    let bytes = words.bytes(alloc);
     let mut source = Source::new(&bytes, pace);
     match next_frame(alloc, &mut source) {
         Ok(Some(body)) => page.bytes(&body),
@@ -68,9 +68,9 @@ fn read(alloc: Global, words: &mut Words, page: &mut Page) -> Result<(), RowFaul
 
 /// `frame write ROOM PACE BODY`: how writing a frame ends, the bytes that were taken, and how often the writer was called.
 fn write(alloc: Global, words: &mut Words, page: &mut Page) -> Result<(), RowFault> {
-    let room = words.size()?;
+    let room = words.size();
     let pace = pace_in(words)?;
-    let body = words.bytes(alloc)?;
+    let body = words.bytes(alloc);
     if body.len() > LONGEST_BODY {
         return Err(RowFault::NoRow);
     }
@@ -90,7 +90,7 @@ impl Streams {
 
     /// `frame feed PIECE`: the bodies that the next piece of the stream completes, and how many bytes are held then.
     fn feed(&mut self, alloc: Global, words: &mut Words, page: &mut Page) -> Result<(), RowFault> {
-        let piece = words.bytes(alloc)?;
+        let piece = words.bytes(alloc);
         let Some(frames) = &mut self.frames else {
             return Err(RowFault::NoRow);
         };

@@ -20,13 +20,13 @@ impl Given {
     /// A reader of the next words: `whole BYTES`, `ends LEN BYTES` or `fails LEN BYTES`. The last two give the first bytes, one at a
     /// time, and then end or fail.
     pub(crate) fn read(alloc: Global, words: &mut Words) -> Result<Given, RowFault> {
-        let (len, fails) = match words.text()? {
+        let (len, fails) = match words.text() {
             "whole" => (None, false),
-            "ends" => (Some(words.size()?), false),
-            "fails" => (Some(words.size()?), true),
+            "ends" => (Some(words.size()), false),
+            "fails" => (Some(words.size()), true),
             _ => return Err(RowFault::NoRow),
         };
-        let mut bytes = words.bytes(alloc)?;
+        let mut bytes = words.bytes(alloc);
         if let Some(len) = len {
             bytes.truncate(len);
         }
@@ -98,10 +98,10 @@ impl Sheet {
     /// flush fails.
     pub(crate) fn read(alloc: Global, words: &mut Words) -> Result<Sheet, RowFault> {
         let mut sheet = Sheet::ample(alloc);
-        match words.text()? {
+        match words.text() {
             "ample" => {}
             "room" => {
-                sheet.room = words.size()?;
+                sheet.room = words.size();
                 sheet.step = 1;
             }
             "unflushed" => sheet.flush_fails = true,

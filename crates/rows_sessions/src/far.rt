@@ -76,7 +76,7 @@ pub(crate) fn far_session(
     page: &mut Page,
 ) -> Result<(), RowFault> {
     let mut far = Far {
-        numbers: words.five_numbers()?,
+        numbers: words.five_numbers(),
         given: Given::read(alloc, words)?,
         answers: Vec::new(alloc),
         replies: Sheet::ample(alloc),

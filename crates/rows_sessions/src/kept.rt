@@ -84,7 +84,7 @@ impl<'a, R: Net> Kept<'a, R> {
 
     /// `call BODY`: what the link answers to a message.
     fn call(&mut self, alloc: Global, words: &mut Words, page: &mut Page) -> Result<(), RowFault> {
-        let body = words.bytes(alloc)?;
+        let body = words.bytes(alloc);
         let Some(link) = &mut self.link else {
             return Err(RowFault::NoRow);
         };
@@ -113,7 +113,7 @@ impl<'a, R: Net> Kept<'a, R> {
     /// `flip TREE NODE OFFSET`: flips a bit of a byte that the server of the `direct` link keeps.
     fn flip(&mut self, alloc: Global, words: &mut Words, page: &mut Page) -> Result<(), RowFault> {
         let mut server = self.take_server()?;
-        let flipped = server.flip(words.number()?, words.number()?, words.number()?);
+        let flipped = server.flip(words.number(), words.number(), words.number());
         self.link = Some(AnyLink::direct(alloc, server));
         page.flag(flipped);
         Ok(())
@@ -126,7 +126,7 @@ impl<'a, R: Net> Kept<'a, R> {
         words: &mut Words,
         page: &mut Page,
     ) -> Result<(), RowFault> {
-        let device = device_of(words.five_numbers()?)?;
+        let device = device_of(words.five_numbers())?;
         self.core = None;
         let Some(link) = &mut self.link else {
             return Err(RowFault::NoRow);
@@ -198,11 +198,11 @@ fn event_in(alloc: Global, call: &str, words: &mut Words) -> Result<Event, RowFa
     match call {
         "read" => Ok(Event::Submit {
             session: 1,
-            command: Command::Read(words.short()?),
-            words: WordList::from_vec(words.numbers(alloc)?),
+            command: Command::Read(words.short()),
+            words: WordList::from_vec(words.numbers(alloc)),
         }),
         "lost" => Ok(Event::Lost),
-        "answer" => Ok(Event::Answer(Bytes::from_vec(words.bytes(alloc)?))),
+        "answer" => Ok(Event::Answer(Bytes::from_vec(words.bytes(alloc)))),
         _ => Err(RowFault::NoRow),
     }
 }

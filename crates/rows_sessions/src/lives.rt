@@ -33,10 +33,10 @@ impl Shelf {
     /// A keeper of the next words: `keeps_all`, `keeps COUNT` files, or `keeps_late COUNT`, where the one behind them is kept too
     /// though the keeper fails.
     fn read(alloc: Global, words: &mut Words) -> Result<Shelf, RowFault> {
-        let (late, room) = match words.text()? {
+        let (late, room) = match words.text() {
             "keeps_all" => (false, u64::MAX),
-            "keeps" => (false, words.number()?),
-            "keeps_late" => (true, words.number()?),
+            "keeps" => (false, words.number()),
+            "keeps_late" => (true, words.number()),
             _ => return Err(RowFault::NoRow),
         };
         Ok(Shelf {
@@ -219,7 +219,7 @@ pub(crate) fn lives<R: Net>(
     words: &mut Words,
     page: &mut Page,
 ) -> Result<(), RowFault> {
-    let (core, server) = formatted(alloc, words.five_numbers()?)?;
+    let (core, server) = formatted(alloc, words.five_numbers())?;
     let shelf = Shelf::read(alloc, words)?;
     let link = AnyLink::read(alloc, words, net, server)?;
     let mut life = Life { core, link, shelf };

@@ -50,8 +50,8 @@ pub(crate) fn session<R: Net>(
     words: &mut Words,
     page: &mut Page,
 ) -> Result<(), RowFault> {
-    let numbers = words.five_numbers()?;
-    match words.text()? {
+    let numbers = words.five_numbers();
+    match words.text() {
         "zeros" => {
             let mut tape = ListTape {
                 words: Vec::new(alloc),

@@ -28,7 +28,7 @@ fn call_all(
         if words.is_empty() {
             break;
         }
-        let body = words.bytes(alloc)?;
+        let body = words.bytes(alloc);
         tell_outcome(page, link.call(alloc, &body))?;
         page.word("/");
     }

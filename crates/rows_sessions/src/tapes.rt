@@ -20,9 +20,9 @@ pub(crate) fn list_words(
     words: &mut Words,
     page: &mut Page,
 ) -> Result<(), RowFault> {
-    let (ticket, count) = (words.number()?, words.size()?);
+    let (ticket, count) = (words.number(), words.size());
     let mut tape = ListTape {
-        words: words.numbers(alloc)?,
+        words: words.numbers(alloc),
     };
     for word in drawn(alloc, &mut tape, ticket, count)?.iter() {
         page.number(*word);
@@ -37,10 +37,10 @@ pub(crate) fn chacha_words(
     page: &mut Page,
 ) -> Result<(), RowFault> {
     let mut tape = ChaChaTape {
-        key: words.array(alloc)?,
-        trees: words.byte()?,
+        key: words.array(alloc),
+        trees: words.byte(),
     };
-    let (ticket, count) = (words.number()?, words.size()?);
+    let (ticket, count) = (words.number(), words.size());
     for word in drawn(alloc, &mut tape, ticket, count)?.iter() {
         page.bytes(&word.to_be_bytes());
     }

@@ -73,7 +73,7 @@ impl<'a, R: Net> AnyLink<'a, R> {
         net: &'a Cutter<R>,
         server: Server,
     ) -> Result<AnyLink<'a, R>, RowFault> {
-        let way = match words.text()? {
+        let way = match words.text() {
             "direct" => Way::Direct(Direct::new(alloc, server)),
             "forgetful" => Way::Direct(Direct::new(alloc, Server::new(alloc))),
             "faults" => Way::Faults(faulty(alloc, words, server)?),
@@ -141,8 +141,8 @@ impl<'a, R: Net> AnyLink<'a, R> {
 
 /// A link of the words `AT TIMES before|after`.
 fn faulty(alloc: Global, words: &mut Words, server: Server) -> Result<FaultLink<Direct>, RowFault> {
-    let (at, times) = (words.number()?, words.number()?);
-    let after = match words.text()? {
+    let (at, times) = (words.number(), words.number());
+    let after = match words.text() {
         "before" => false,
         "after" => true,
         _ => return Err(RowFault::NoRow),

@@ -11,18 +11,18 @@ use std::alloc::Global;
 /// `says begun STORED HOST`, `says hosting FILE LISTEN`, `says serving SIZE URI`, and `says bad-disk NAME TEXT` and
 /// `says bad-host NAME TEXT` of a file's text: what `oramdisk` says so.
 pub fn says(alloc: Global, words: &mut Words, page: &mut Page) -> Result<(), RowFault> {
-    let kind = words.text()?;
+    let kind = words.text();
     let text = match kind {
-        "amount" => amount_text(alloc, words.number()?)?,
-        "size" => size_text(alloc, words.number()?)?,
-        "counted" => counted(alloc, words.number()?, words.text()?)?,
+        "amount" => amount_text(alloc, words.number())?,
+        "size" => size_text(alloc, words.number())?,
+        "counted" => counted(alloc, words.number(), words.text())?,
         "stored" => amount_text(alloc, stored(words)?)?,
-        "made" => made_text(alloc, words.text()?, words.number()?, words.number()?)?,
-        "begun" => begun_text(alloc, words.number()?, words.text()?)?,
-        "hosting" => hosting_text(alloc, words.text()?, words.text()?)?,
-        "serving" => serving_text(alloc, words.number()?, words.text()?)?,
-        "bad-disk" => disk_complaint(alloc, words.text()?, words.lines(alloc)?.as_str())?,
-        "bad-host" => host_complaint(alloc, words.text()?, words.lines(alloc)?.as_str())?,
+        "made" => made_text(alloc, words.text(), words.number(), words.number())?,
+        "begun" => begun_text(alloc, words.number(), words.text())?,
+        "hosting" => hosting_text(alloc, words.text(), words.text())?,
+        "serving" => serving_text(alloc, words.number(), words.text())?,
+        "bad-disk" => disk_complaint(alloc, words.text(), words.lines(alloc).as_str())?,
+        "bad-host" => host_complaint(alloc, words.text(), words.lines(alloc).as_str())?,
         _ => return Err(RowFault::NoRow),
     };
     page.lines(text.as_str());
@@ -31,13 +31,13 @@ pub fn says(alloc: Global, words: &mut Words, page: &mut Page) -> Result<(), Row
 
 /// What a disk of these settings takes at its host.
 fn stored(words: &mut Words) -> Result<u64, RowFault> {
-    let size = words.number()?;
-    let block = words.number()?;
-    let slots = words.number()?;
-    let Some(device) = device_of(size, block, slots, words.number()?) else {
+    let size = words.number();
+    let block = words.number();
+    let slots = words.number();
+    let Some(device) = device_of(size, block, slots, words.number()) else {
         return Err(RowFault::NoRow);
     };
-    match words.text()? {
+    match words.text() {
         "plain" => Ok(stored_bytes(&device, Sealing::Plain)),
         "chacha" => Ok(stored_bytes(&device, Sealing::ChaCha)),
         _ => Err(RowFault::NoRow),

@@ -9,7 +9,7 @@ use std::alloc::Global;
 
 /// `disk TEXT`: the settings that a document is: size, block, slots, table, sealer, key, host, listen, state, sync and patience.
 pub fn disk(alloc: Global, words: &mut Words, page: &mut Page) -> Result<(), RowFault> {
-    let text = words.lines(alloc)?;
+    let text = words.lines(alloc);
     put_settings(alloc, text.as_str(), page)
 }
 
@@ -45,10 +45,10 @@ fn put_names(settings: &DiskSettings, page: &mut Page) {
 
 /// `device SIZE BLOCK SLOTS TABLE`: the trees and blocks of the device of such a disk.
 pub fn device(words: &mut Words, page: &mut Page) -> Result<(), RowFault> {
-    let size = words.number()?;
-    let block = words.number()?;
-    let slots = words.number()?;
-    let table = words.number()?;
+    let size = words.number();
+    let block = words.number();
+    let slots = words.number();
+    let table = words.number();
     let Some(device) = device_of(size, block, slots, table) else {
         page.word("none");
         return Ok(());
@@ -64,8 +64,8 @@ pub fn device(words: &mut Words, page: &mut Page) -> Result<(), RowFault> {
 /// `first-settings SIZE KEY`: whether the text that a new disk gets is read as this size and key, and the other values of its
 /// settings.
 pub fn first_settings(alloc: Global, words: &mut Words, page: &mut Page) -> Result<(), RowFault> {
-    let size = words.number()?;
-    let key = words.array(alloc)?;
+    let size = words.number();
+    let key = words.array(alloc);
     let text = disk_text(alloc, size, &key)?;
     put_settings(alloc, text.as_str(), page)
 }
@@ -90,15 +90,15 @@ pub fn first_settings_set(
     words: &mut Words,
     page: &mut Page,
 ) -> Result<(), RowFault> {
-    let size = words.number()?;
-    let key = words.array(alloc)?;
+    let size = words.number();
+    let key = words.array(alloc);
     let text = disk_text(alloc, size, &key)?;
     let text = all_set(alloc, text.as_str())?;
     put_settings(alloc, text.as_str(), page)
 }
 
 fn sealing_in(words: &mut Words) -> Result<Sealing, RowFault> {
-    match words.text()? {
+    match words.text() {
         "plain" => Ok(Sealing::Plain),
         "chacha" => Ok(Sealing::ChaCha),
         _ => Err(RowFault::NoRow),
@@ -109,10 +109,10 @@ fn sealing_in(words: &mut Words) -> Result<Sealing, RowFault> {
 /// a disk was formatted with.
 pub fn differs(alloc: Global, words: &mut Words, page: &mut Page) -> Result<(), RowFault> {
     let settings = DiskSettings {
-        size: words.number()?,
-        block: words.number()?,
-        slots: words.number()?,
-        table: words.number()?,
+        size: words.number(),
+        block: words.number(),
+        slots: words.number(),
+        table: words.number(),
         sealer: sealing_in(words)?,
         key: [0; 32],
         host: String::new(alloc),
@@ -121,10 +121,10 @@ pub fn differs(alloc: Global, words: &mut Words, page: &mut Page) -> Result<(), 
         sync: false,
         patience: 1,
     };
-    let size = words.number()?;
-    let block = words.number()?;
-    let slots = words.number()?;
-    let table = words.number()?;
+    let size = words.number();
+    let block = words.number();
+    let slots = words.number();
+    let table = words.number();
     let Some(device) = device_of(size, block, slots, table) else {
         return Err(RowFault::NoRow);
     };

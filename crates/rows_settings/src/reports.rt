@@ -7,9 +7,9 @@ use std::alloc::Global;
 
 /// `progress DONE OF MILLISECONDS`: the line of a formatting that is so far.
 pub fn progress(alloc: Global, words: &mut Words, page: &mut Page) -> Result<(), RowFault> {
-    let done = words.number()?;
-    let of = words.number()?;
-    let milliseconds = words.number()?;
+    let done = words.number();
+    let of = words.number();
+    let milliseconds = words.number();
     let text = progress_text(alloc, done, of, milliseconds)?;
     page.lines(text.as_str());
     Ok(())
@@ -21,7 +21,7 @@ pub fn meter(
     words: &mut Words,
     page: &mut Page,
 ) -> Result<(), RowFault> {
-    *meter = Some(Meter::new(words.number()?));
+    *meter = Some(Meter::new(words.number()));
     page.word("begun");
     Ok(())
 }
@@ -31,7 +31,7 @@ pub fn due(meter: Option<&mut Meter>, words: &mut Words, page: &mut Page) -> Res
     let Some(meter) = meter else {
         return Err(RowFault::NoRow);
     };
-    page.flag(meter.is_due(words.number()?));
+    page.flag(meter.is_due(words.number()));
     Ok(())
 }
 
@@ -39,12 +39,12 @@ pub fn due(meter: Option<&mut Meter>, words: &mut Words, page: &mut Page) -> Res
 /// `malformed`, `tampered TREE LEVEL` or `refused CODE`.
 pub fn disk_report(alloc: Global, words: &mut Words, page: &mut Page) -> Result<(), RowFault> {
     let status = Status {
-        blocks: words.number()?,
-        block_bytes: words.number()?,
-        trees: words.byte()?,
-        accesses: words.number()?,
-        lifetime: words.number()?,
-        waiting: words.number()?,
+        blocks: words.number(),
+        block_bytes: words.number(),
+        trees: words.byte(),
+        accesses: words.number(),
+        lifetime: words.number(),
+        waiting: words.number(),
         failure: failure(words)?,
     };
     let text = report(alloc, &status)?;
@@ -53,11 +53,11 @@ pub fn disk_report(alloc: Global, words: &mut Words, page: &mut Page) -> Result<
 }
 
 fn failure(words: &mut Words) -> Result<Option<Reason>, RowFault> {
-    match words.text()? {
+    match words.text() {
         "sound" => Ok(None),
         "malformed" => Ok(Some(Reason::Malformed)),
-        "tampered" => Ok(Some(Reason::Tampered(words.byte()?, words.byte()?))),
-        "refused" => Ok(Some(Reason::HostRefused(words.byte()?))),
+        "tampered" => Ok(Some(Reason::Tampered(words.byte(), words.byte()))),
+        "refused" => Ok(Some(Reason::HostRefused(words.byte()))),
         _ => Err(RowFault::NoRow),
     }
 }

@@ -29,7 +29,7 @@ pub fn document(
     words: &mut Words,
     page: &mut Page,
 ) -> Result<(), RowFault> {
-    let text = words.lines(alloc)?;
+    let text = words.lines(alloc);
     let read = read_or_bad(table_of(alloc, text.as_str()), page)?;
     if read.is_some() {
         page.word("read");
@@ -43,12 +43,12 @@ pub fn at(document: Option<&Table>, words: &mut Words, page: &mut Page) -> Resul
     let Some(table) = document else {
         return Err(RowFault::NoRow);
     };
-    match words.text()? {
-        "name" => put_text(name_at(table, words.text()?), page),
-        "address" => put_text(address_at(table, words.text()?), page),
-        "number" => put_number(number_at(table, words.text()?), page),
-        "count" => put_number(count_at(table, words.text()?), page),
-        "key" => put_key(key_at(table, words.text()?), page),
+    match words.text() {
+        "name" => put_text(name_at(table, words.text()), page),
+        "address" => put_text(address_at(table, words.text()), page),
+        "number" => put_number(number_at(table, words.text()), page),
+        "count" => put_number(count_at(table, words.text()), page),
+        "key" => put_key(key_at(table, words.text()), page),
         "sealer" => put_sealer(sealer_in(table), page),
         _ => Err(RowFault::NoRow),
     }
@@ -99,7 +99,7 @@ pub fn only(
         if words.is_empty() {
             break;
         }
-        keys.push(words.text()?)?;
+        keys.push(words.text())?;
     }
     page.flag(has_only(table, &keys));
     Ok(())

@@ -16,8 +16,8 @@ pub fn size(words: &mut Words, page: &mut Page) -> Result<(), RowFault> {
 
 /// `beside FILE NAME`: the name, as seen from the file's folder.
 pub fn beside_file(alloc: Global, words: &mut Words, page: &mut Page) -> Result<(), RowFault> {
-    let file = words.text()?;
-    let name = words.text()?;
+    let file = words.text();
+    let name = words.text();
     let found = beside(alloc, file, name)?;
     page.word(found.as_str());
     Ok(())
@@ -30,7 +30,7 @@ pub fn command_line(alloc: Global, words: &mut Words, page: &mut Page) -> Result
         if words.is_empty() {
             break;
         }
-        texts.push(words.text()?)?;
+        texts.push(words.text())?;
     }
     put_told(&read_words(alloc, &texts), page)
 }
@@ -76,10 +76,10 @@ fn show_held(held: &[u8], left: usize, is_whole: bool, page: &mut Page) {
 
 /// `write ROOM FRONT TEXT REST`: the bytes that a writer with that room holds behind them, and whether all of them are.
 pub fn write(alloc: Global, words: &mut Words, page: &mut Page) -> Result<(), RowFault> {
-    let room = words.size()?;
-    let front = words.bytes(alloc)?;
-    let text = words.bytes(alloc)?;
-    let rest = words.bytes(alloc)?;
+    let room = words.size();
+    let front = words.bytes(alloc);
+    let text = words.bytes(alloc);
+    let rest = words.bytes(alloc);
     let mut held = vec![in alloc; 0u8; room.min(1_000)]?;
     let mut writer = held.as_mut_slice();
     let is_written = put_between(&mut writer, &front, &text, &rest).is_ok();
@@ -90,9 +90,9 @@ pub fn write(alloc: Global, words: &mut Words, page: &mut Page) -> Result<(), Ro
 
 /// `write-number ROOM FRONT NUMBER`: the same, of a text with a number behind it.
 pub fn write_number(alloc: Global, words: &mut Words, page: &mut Page) -> Result<(), RowFault> {
-    let room = words.size()?;
-    let front = words.bytes(alloc)?;
-    let number = words.byte()?;
+    let room = words.size();
+    let front = words.bytes(alloc);
+    let number = words.byte();
     let mut held = vec![in alloc; 0u8; room.min(1_000)]?;
     let mut writer = held.as_mut_slice();
     let is_written = put_number(&mut writer, &front, number).is_ok();

@@ -23,8 +23,8 @@ pub fn patches_in(alloc: Global, words: &mut Words) -> Result<Vec<OwnedPatch>, R
         if words.is_empty() {
             break;
         }
-        let at = words.number()?;
-        let bytes = words.bytes(alloc)?;
+        let at = words.number();
+        let bytes = words.bytes(alloc);
         patches.push(OwnedPatch { at, bytes })?;
     }
     Ok(patches)

@@ -20,7 +20,7 @@ pub fn created(alloc: Global) -> Result<MemoryPair, RowFault> {
 
 /// The next word as one of the two files.
 pub fn file_in(words: &mut Words) -> Result<FileKind, RowFault> {
-    match words.text()? {
+    match words.text() {
         "records" => Ok(FileKind::Records),
         "log" => Ok(FileKind::Log),
         _ => Err(RowFault::NoRow),
@@ -35,9 +35,9 @@ pub fn write_bytes(
     page: &mut Page,
 ) -> Result<(), RowFault> {
     let file = file_in(words)?;
-    let at = words.number()?;
+    let at = words.number();
     let mut bytes = Vec::new(alloc);
-    match files.read_onto(file, at, words.size()?, &mut bytes) {
+    match files.read_onto(file, at, words.size(), &mut bytes) {
         Ok(()) => page.bytes(&bytes),
         Err(_) => return Err(RowFault::OutOfMemory),
     }

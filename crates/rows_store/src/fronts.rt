@@ -6,7 +6,7 @@ use std::alloc::Global;
 
 /// The next word as an identity. With another number of bytes than 16 the row is not one.
 fn identity_in(alloc: Global, words: &mut Words) -> Result<Identity, RowFault> {
-    let bytes = words.bytes(alloc)?;
+    let bytes = words.bytes(alloc);
     let mut identity = [0; 16];
     if bytes.len() != identity.len() {
         return Err(RowFault::NoRow);
@@ -22,7 +22,7 @@ fn write_ours(page: &mut Page, identity: &Identity) {
 
 /// `front read BYTES`: what a file is that begins so.
 fn read(alloc: Global, words: &mut Words, page: &mut Page) -> Result<(), RowFault> {
-    let bytes = words.bytes(alloc)?;
+    let bytes = words.bytes(alloc);
     match read_front(&bytes) {
         Front::Ours(identity) => write_ours(page, &identity),
         other => page.show(&other),
@@ -32,7 +32,7 @@ fn read(alloc: Global, words: &mut Words, page: &mut Page) -> Result<(), RowFaul
 
 /// `front read_log BYTES`: whether a log begins so.
 fn read_log(alloc: Global, words: &mut Words, page: &mut Page) -> Result<(), RowFault> {
-    let bytes = words.bytes(alloc)?;
+    let bytes = words.bytes(alloc);
     match read_log_front(&bytes) {
         Some(identity) => write_ours(page, &identity),
         None => page.word("none"),

@@ -9,7 +9,7 @@ fn trees_in(
     alloc: Global,
     words: &mut Words,
 ) -> Result<Result<Vec<Option<Tree>>, LayoutFault>, RowFault> {
-    let entries = words.bytes(alloc)?;
+    let entries = words.bytes(alloc);
     if entries.len() != ENTRY_LEN * TREES {
         return Err(RowFault::NoRow);
     }

@@ -5,14 +5,14 @@ use rows::{Page, RowFault, Words};
 use std::alloc::Global;
 
 /// The shape of the words `DEPTH RECORD_LEN`, if a tree may have it.
-fn shape_in(words: &mut Words) -> Result<Option<Shape>, RowFault> {
-    Ok(Shape::new(words.byte()?, words.short()?))
+fn shape_in(words: &mut Words) -> Option<Shape> {
+    Shape::new(words.byte(), words.short())
 }
 
 /// The tree of the words `DEPTH RECORD_LEN BASE`, if it ends where the cells of trees may.
 fn placed_in(words: &mut Words) -> Result<Option<Tree>, RowFault> {
-    let shape = shape_in(words)?.ok_or(RowFault::NoRow)?;
-    Ok(Tree::place(shape, words.number()?))
+    let shape = shape_in(words).ok_or(RowFault::NoRow)?;
+    Ok(Tree::place(shape, words.number()))
 }
 
 /// The tree of the words `DEPTH RECORD_LEN BASE`.
@@ -22,7 +22,7 @@ fn tree_in(words: &mut Words) -> Result<Tree, RowFault> {
 
 /// `layout shape DEPTH RECORD_LEN`: how many leaves and nodes a tree of this shape has, and how many bytes the records of a path.
 fn shape(words: &mut Words, page: &mut Page) -> Result<(), RowFault> {
-    let Some(shape) = shape_in(words)? else {
+    let Some(shape) = shape_in(words) else {
         page.word("none");
         return Ok(());
     };
@@ -34,9 +34,9 @@ fn shape(words: &mut Words, page: &mut Page) -> Result<(), RowFault> {
 
 /// `layout node DEPTH RECORD_LEN LEAF LEVEL`: the node at a level of a leaf's path.
 fn node(words: &mut Words, page: &mut Page) -> Result<(), RowFault> {
-    let shape = shape_in(words)?.ok_or(RowFault::NoRow)?;
-    let leaf = words.short()?;
-    let level = words.byte()?;
+    let shape = shape_in(words).ok_or(RowFault::NoRow)?;
+    let leaf = words.short();
+    let level = words.byte();
     if leaf >= shape.leaves() || level > shape.depth {
         return Err(RowFault::NoRow);
     }
@@ -56,7 +56,7 @@ fn place(words: &mut Words, page: &mut Page) -> Result<(), RowFault> {
 /// `layout cell DEPTH RECORD_LEN BASE NODE`: the place of a node's cell.
 fn cell(words: &mut Words, page: &mut Page) -> Result<(), RowFault> {
     let tree = tree_in(words)?;
-    let node = words.short()?;
+    let node = words.short();
     if node >= tree.shape.nodes() {
         return Err(RowFault::NoRow);
     }
@@ -77,7 +77,7 @@ pub fn answer(name: &str, words: &mut Words, page: &mut Page) -> Result<(), RowF
             Ok(())
         }
         "entry_at" => {
-            page.number(entry_place(words.byte()?));
+            page.number(entry_place(words.byte()));
             Ok(())
         }
         _ => Err(RowFault::NoRow),

@@ -161,7 +161,7 @@ fn case(alloc: Global, bodies: &[Vec<u8>], calls: u64) -> Result<Page, RowFault>
 /// one again. The files of the second store fail behind no calls, behind one, and so on until it isn't cut off any more. Writes what the
 /// last two stores answer, each case once where the next has the same.
 fn cuts(alloc: Global, words: &mut Words, page: &mut Page) -> Result<(), RowFault> {
-    let bodies = words.bodies(alloc)?;
+    let bodies = words.bodies(alloc);
     if bodies.len() < 2 {
         return Err(RowFault::NoRow);
     }
@@ -209,8 +209,8 @@ impl Lives {
             return Err(RowFault::NoRow);
         };
         match name {
-            "killed" => live(alloc, files, KILLED, &words.bodies(alloc)?, page),
-            "closed" => live(alloc, files, CLOSED, &words.bodies(alloc)?, page),
+            "killed" => live(alloc, files, KILLED, &words.bodies(alloc), page),
+            "closed" => live(alloc, files, CLOSED, &words.bodies(alloc), page),
             "file" => write_bytes(alloc, files, words, page),
             _ => Err(RowFault::NoRow),
         }

@@ -37,7 +37,7 @@ impl Table for Calls {
         words: &mut Words,
         page: &mut Page,
     ) -> Result<(), RowFault> {
-        let name = words.text()?;
+        let name = words.text();
         match call {
             "front" => fronts::answer(alloc, name, words, page),
             "layout" => layouts::answer(name, words, page),

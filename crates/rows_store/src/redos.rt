@@ -61,8 +61,8 @@ fn write(
     page: &mut Page,
 ) -> Result<(), RowFault> {
     let file = file_in(words)?;
-    let at = words.number()?;
-    let bytes = words.bytes(alloc)?;
+    let at = words.number();
+    let bytes = words.bytes(alloc);
     write_end(page, files.write_at(file, at, &bytes))
 }
 
@@ -86,8 +86,8 @@ fn loose(
     words: &mut Words,
     page: &mut Page,
 ) -> Result<(), RowFault> {
-    let at = words.number()?;
-    let bytes = words.bytes(alloc)?;
+    let at = words.number();
+    let bytes = words.bytes(alloc);
     let ended = opened.redo.write_loose(&mut opened.files, at, &bytes);
     write_end(page, ended)
 }
@@ -105,11 +105,8 @@ fn read(
     words: &mut Words,
     page: &mut Page,
 ) -> Result<(), RowFault> {
-    let at = words.number()?;
-    match opened
-        .redo
-        .read(alloc, &mut opened.files, at, words.size()?)
-    {
+    let at = words.number();
+    match opened.redo.read(alloc, &mut opened.files, at, words.size()) {
         Ok(bytes) => {
             page.bytes(&bytes);
             Ok(())

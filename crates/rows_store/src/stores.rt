@@ -50,7 +50,7 @@ fn full(
     words: &mut Words,
     page: &mut Page,
 ) -> Result<(), RowFault> {
-    let body = words.bytes(alloc)?;
+    let body = words.bytes(alloc);
     match store.handle(&body) {
         HostAnswer::Refused(NO_ROOM) => page.word("refused 8"),
         answer => write_answer(page, &answer)?,
@@ -74,7 +74,7 @@ fn put(
     words: &mut Words,
     page: &mut Page,
 ) -> Result<(), RowFault> {
-    let body = words.bytes(alloc)?;
+    let body = words.bytes(alloc);
     match store.put(&body) {
         Ok(()) => page.word("taken"),
         Err(SinkFault::OutOfMemory) => return Err(RowFault::OutOfMemory),
@@ -90,7 +90,7 @@ fn alone(
     words: &mut Words,
     page: &mut Page,
 ) -> Result<(), RowFault> {
-    let body = words.bytes(alloc)?;
+    let body = words.bytes(alloc);
     write_answer(page, &store.handle(&body))
 }
 
@@ -148,8 +148,8 @@ impl Stores {
     /// `store over RECORDS LOG`: begins a store over files that hold these bytes.
     fn over(&mut self, alloc: Global, words: &mut Words, page: &mut Page) -> Result<(), RowFault> {
         let mut files = MemoryPair::new(alloc);
-        fill(&mut files, FileKind::Records, &words.bytes(alloc)?)?;
-        fill(&mut files, FileKind::Log, &words.bytes(alloc)?)?;
+        fill(&mut files, FileKind::Records, &words.bytes(alloc))?;
+        fill(&mut files, FileKind::Log, &words.bytes(alloc))?;
         self.open(alloc, files, page)
     }
 
@@ -172,7 +172,7 @@ impl Stores {
         let (Some(store), Some(server)) = (&mut self.store, &mut self.server) else {
             return Err(RowFault::NoRow);
         };
-        let body = words.bytes(alloc)?;
+        let body = words.bytes(alloc);
         if name == "ask" {
             ask(alloc, store, server, &body, page)
         } else {

@@ -71,7 +71,7 @@ fn show(checked: Result<PathView<'_>, HashFault>, page: &mut Page) {
 
 /// `hash digest BYTES`: the digest of a record.
 fn digest(alloc: Global, words: &mut Words, page: &mut Page) -> Result<(), RowFault> {
-    let record = words.bytes(alloc)?;
+    let record = words.bytes(alloc);
     page.bytes(&node_digest(&record));
     Ok(())
 }
@@ -112,7 +112,7 @@ impl Hashes {
         words: &mut Words,
         page: &mut Page,
     ) -> Result<(), RowFault> {
-        self.leaf = words.short()?;
+        self.leaf = words.short();
         let fills = lists::fills(alloc, words)?;
         let MadePath { bytes, root } = made_path(
             alloc,
@@ -139,8 +139,8 @@ impl Hashes {
         words: &mut Words,
         page: &mut Page,
     ) -> Result<(), RowFault> {
-        let len = words.size()?;
-        let root = words.array(alloc)?;
+        let len = words.size();
+        let root = words.array(alloc);
         let mut bytes = self.bytes.as_slice().to_vec(alloc)?;
         bytes.resize(len, 0)?;
         show(checked(device, self.leaf, &root, &bytes)?, page);
@@ -155,7 +155,7 @@ impl Hashes {
         words: &mut Words,
         page: &mut Page,
     ) -> Result<(), RowFault> {
-        let root = words.array(alloc)?;
+        let root = words.array(alloc);
         let mut groups = Groups::new(alloc);
         let mut bytes = self.bytes.as_slice().to_vec(alloc)?;
         let mut said = Page::new(alloc);
@@ -180,8 +180,8 @@ impl Hashes {
         page: &mut Page,
     ) -> Result<(), RowFault> {
         prove!(device.trees() > 0);
-        let root = words.array(alloc)?;
-        let level = words.byte()?;
+        let root = words.array(alloc);
+        let level = words.byte();
         let view = accepted(device, self.leaf, &root, &self.bytes)?;
         if level > device.depth(0) {
             return Err(RowFault::NoRow);
@@ -204,7 +204,7 @@ impl Hashes {
         page: &mut Page,
     ) -> Result<(), RowFault> {
         prove!(device.trees() > 0);
-        let root = words.array(alloc)?;
+        let root = words.array(alloc);
         let fills = lists::fills(alloc, words)?;
         let sealed = sealed(alloc, &fills, device.record_len(0) - 64)?;
         let root = self.take_buckets(alloc, device, &root, &sealed)?;
@@ -237,7 +237,7 @@ impl Hashes {
         words: &mut Words,
         page: &mut Page,
     ) -> Result<(), RowFault> {
-        match words.text()? {
+        match words.text() {
             "digest" => digest(alloc, words, page),
             "bytes" => self.bytes(page),
             "path" => self.path(alloc, device, words, page),

@@ -16,7 +16,7 @@ fn push_part(numbers: &mut Vec<u64>, part: &str) -> Result<(), RowFault> {
 /// The numbers of the next word.
 pub fn numbers(alloc: Global, words: &mut Words) -> Result<Vec<u64>, RowFault> {
     let mut numbers = Vec::new(alloc);
-    let mut rest = words.text()?;
+    let mut rest = words.text();
     if rest == "-" {
         return Ok(numbers);
     }

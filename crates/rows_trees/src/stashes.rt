@@ -35,7 +35,7 @@ fn blocks_of(alloc: Global, words: &mut Words) -> Result<Vec<Block>, RowFault> {
         if words.is_empty() {
             break;
         }
-        blocks.push(block_of(alloc, words.text()?)?)?;
+        blocks.push(block_of(alloc, words.text())?)?;
     }
     Ok(blocks)
 }
@@ -176,7 +176,7 @@ impl Stashes {
         words: &mut Words,
         page: &mut Page,
     ) -> Result<(), RowFault> {
-        match self.stash.absorb(block_of(alloc, words.text()?)?) {
+        match self.stash.absorb(block_of(alloc, words.text())?) {
             Ok(()) => page.word("absorbed"),
             Err(StashFault::Duplicate(block)) => {
                 page.word("duplicate");
@@ -189,20 +189,20 @@ impl Stashes {
 
     /// `stash get ADDRESS`: the block, or `none`.
     fn get(&self, alloc: Global, words: &mut Words, page: &mut Page) -> Result<(), RowFault> {
-        show_found(alloc, self.stash.get(words.short()?), page);
+        show_found(alloc, self.stash.get(words.short()), page);
         Ok(())
     }
 
     /// `stash take ADDRESS`: the block, which is there no more, or `none`.
     fn take(&mut self, alloc: Global, words: &mut Words, page: &mut Page) -> Result<(), RowFault> {
-        let taken = self.stash.take(words.short()?);
+        let taken = self.stash.take(words.short());
         show_found(alloc, taken.as_ref(), page);
         Ok(())
     }
 
     /// `stash found COUNT`: the blocks that are got at the addresses below a number.
     fn found(&self, alloc: Global, words: &mut Words, page: &mut Page) -> Result<(), RowFault> {
-        for address in 0..words.short()? {
+        for address in 0..words.short() {
             if let Some(block) = self.stash.get(address) {
                 show_block(alloc, block, page);
             }
@@ -215,7 +215,7 @@ impl Stashes {
 
     /// `stash contains ADDRESS`: whether a block is there.
     fn contains(&self, words: &mut Words, page: &mut Page) -> Result<(), RowFault> {
-        page.flag(self.stash.contains(words.short()?));
+        page.flag(self.stash.contains(words.short()));
         Ok(())
     }
 
@@ -246,7 +246,7 @@ impl Stashes {
         words: &mut Words,
         page: &mut Page,
     ) -> Result<(), RowFault> {
-        let (lists, tight) = evicted(alloc, device, words.short()?, &mut self.stash)?;
+        let (lists, tight) = evicted(alloc, device, words.short(), &mut self.stash)?;
         for list in &lists {
             show_addresses(list, page);
             page.part();
@@ -291,7 +291,7 @@ impl Stashes {
         words: &mut Words,
         page: &mut Page,
     ) -> Result<(), RowFault> {
-        let (leaf, stays) = (words.short()?, words.short()?);
+        let (leaf, stays) = (words.short(), words.short());
         let other = Stash::new(alloc);
         let Placement { lists, rest } = self.placed(alloc, device, &other, leaf, stays)?;
         for list in &lists {
@@ -310,7 +310,7 @@ impl Stashes {
         words: &mut Words,
         page: &mut Page,
     ) -> Result<(), RowFault> {
-        let stays = [words.short()?];
+        let stays = [words.short()];
         let other = Stash::new(alloc);
         let room = self.stash.room_with(alloc, &other)?;
         self.stash.settle(other, &stays, room);
@@ -338,7 +338,7 @@ impl Stashes {
         words: &mut Words,
         page: &mut Page,
     ) -> Result<(), RowFault> {
-        match words.text()? {
+        match words.text() {
             "of" => self.of(alloc, words, page),
             "made" => self.made(alloc, words, page),
             "absorb" => self.absorb(alloc, words, page),

@@ -25,7 +25,7 @@ fn places(
     words: &mut Words,
     page: &mut Page,
 ) -> Result<(), RowFault> {
-    let tree = words.byte()?;
+    let tree = words.byte();
     let addresses = lists::shorts(alloc, words)?;
     if tree >= device.trees() || !are_addresses(device, &addresses) {
         return Err(RowFault::NoRow);
@@ -78,7 +78,7 @@ fn fault_name(fault: RearrangeFault) -> &'static str {
 
 /// `trace fault NAME`: the number of a fault.
 fn fault(words: &mut Words, page: &mut Page) -> Result<(), RowFault> {
-    let name = words.text()?;
+    let name = words.text();
     let faults = [
         RearrangeFault::Lengths,
         RearrangeFault::Address,
@@ -159,7 +159,7 @@ pub fn answer(
     words: &mut Words,
     page: &mut Page,
 ) -> Result<(), RowFault> {
-    match words.text()? {
+    match words.text() {
         "places" => places(alloc, device, words, page),
         "entries" => entries(alloc, device, words, page),
         "fault" => fault(words, page),

@@ -82,10 +82,13 @@ fn block_of(alloc: Global, word: &str) -> Result<Block, RowFault> {
     let Some((leaf, bytes)) = rest.split_once(':') else {
         return Err(RowFault::NoRow);
     };
+    let mut part = Words::of(bytes);
+    let content = part.bytes(alloc);
+    part.check()?;
     Ok(Block {
         address: address.parse::<u32>()?,
         leaf: leaf.parse::<u32>()?,
-        content: Words::of(bytes).bytes(alloc)?,
+        content,
     })
 }
 
@@ -96,7 +99,7 @@ fn parts_of(alloc: Global, root: [u8; 32], words: &mut Words) -> Result<TreePart
         if words.is_empty() {
             break;
         }
-        stash.push(block_of(alloc, words.text()?)?)?;
+        stash.push(block_of(alloc, words.text())?)?;
     }
     Ok(TreeParts { root, stash })
 }
@@ -126,10 +129,10 @@ enum OwnedEdit {
 impl OwnedEdit {
     /// The edit of the words `keep`, `replace DATA` or `entry INDEX VALUE`.
     fn read(alloc: Global, words: &mut Words) -> Result<OwnedEdit, RowFault> {
-        match words.text()? {
+        match words.text() {
             "keep" => Ok(OwnedEdit::Keep),
-            "replace" => Ok(OwnedEdit::Replace(words.bytes(alloc)?)),
-            "entry" => Ok(OwnedEdit::Entry(words.size()?, words.short()?)),
+            "replace" => Ok(OwnedEdit::Replace(words.bytes(alloc))),
+            "entry" => Ok(OwnedEdit::Entry(words.size(), words.short())),
             _ => Err(RowFault::NoRow),
         }
     }
@@ -229,8 +232,8 @@ impl Trees {
         words: &mut Words,
         page: &mut Page,
     ) -> Result<(), RowFault> {
-        self.number = words.byte()?;
-        let (messages, parts) = formatted(alloc, device, self.number, words.short()?)?;
+        self.number = words.byte();
+        let (messages, parts) = formatted(alloc, device, self.number, words.short())?;
         self.host = host_of(alloc, &messages)?;
         page.number(messages.len());
         page.word("messages");
@@ -241,7 +244,7 @@ impl Trees {
 
     /// `tree message NUMBER`: the bytes of a message of the formatting.
     fn message(&self, words: &mut Words, page: &mut Page) -> Result<(), RowFault> {
-        match self.messages.get(words.size()?) {
+        match self.messages.get(words.size()) {
             Some(message) => page.bytes(message),
             None => return Err(RowFault::NoRow),
         }
@@ -304,8 +307,8 @@ impl Trees {
         words: &mut Words,
         page: &mut Page,
     ) -> Result<(), RowFault> {
-        self.number = words.byte()?;
-        let root = words.array(alloc)?;
+        self.number = words.byte();
+        let root = words.array(alloc);
         let parts = parts_of(alloc, root, words)?;
         self.take_tree(alloc, device, parts, page)
     }
@@ -325,8 +328,8 @@ impl Trees {
         words: &mut Words,
         page: &mut Page,
     ) -> Result<(), RowFault> {
-        self.number = words.byte()?;
-        let leaf = words.short()?;
+        self.number = words.byte();
+        let leaf = words.short();
         let MadePath { bytes, root } = empty_path(alloc, device, self.number, leaf)?;
         self.host = host_with_path(alloc, device, self.number, leaf, &bytes)?;
         let parts = parts_of(alloc, root, words)?;
@@ -343,7 +346,7 @@ impl Trees {
         words: &mut Words,
         page: &mut Page,
     ) -> Result<Vec<u8>, RowFault> {
-        let asked = Asked::read(words)?;
+        let asked = Asked::read(words);
         let edit = OwnedEdit::read(alloc, words)?;
         let target = Target {
             device,
@@ -378,7 +381,7 @@ impl Trees {
         words: &mut Words,
         page: &mut Page,
     ) -> Result<(), RowFault> {
-        let front = words.bytes(alloc)?;
+        let front = words.bytes(alloc);
         let records = self.reach(alloc, device, Some(front), words, page)?;
         page.bytes(&records);
         Ok(())
@@ -392,7 +395,7 @@ impl Trees {
         words: &mut Words,
         page: &mut Page,
     ) -> Result<(), RowFault> {
-        match words.text()? {
+        match words.text() {
             "format" => self.format(alloc, device, words, page),
             "message" => self.message(words, page),
             "puts" => self.puts(page),

@@ -17,29 +17,29 @@ fn change(
     words: &mut Words,
 ) -> Result<(), RowFault> {
     match field {
-        "tickets" => parts.tickets = words.number()?,
-        "nonce" => parts.nonce = words.number()?,
-        "table" => parts.table = words.shorts(alloc)?,
-        "trees" => parts.trees.truncate(words.size()?),
+        "tickets" => parts.tickets = words.number(),
+        "nonce" => parts.nonce = words.number(),
+        "table" => parts.table = words.shorts(alloc),
+        "trees" => parts.trees.truncate(words.size()),
         "failure" => parts.failure = Some(reason_of(words)?),
-        "waiting" => parts.waiting.truncate(words.size()?),
-        "entry" => parts.r = words.short()?,
-        "held_entry" => parts.held_entry = words.short()?,
-        "held_data" => parts.held_data = Bytes::from_vec(words.bytes(alloc)?),
-        "message" => parts.message = Bytes::from_vec(words.bytes(alloc)?),
-        "stalled" => parts.stalled = words.flag()?,
+        "waiting" => parts.waiting.truncate(words.size()),
+        "entry" => parts.r = words.short(),
+        "held_entry" => parts.held_entry = words.short(),
+        "held_data" => parts.held_data = Bytes::from_vec(words.bytes(alloc)),
+        "message" => parts.message = Bytes::from_vec(words.bytes(alloc)),
+        "stalled" => parts.stalled = words.flag(),
         _ => return Err(RowFault::NoRow),
     }
     Ok(())
 }
 
 /// The block of the words `ADDRESS LEAF DATA`.
-fn block_in(alloc: Global, words: &mut Words) -> Result<Block, RowFault> {
-    Ok(Block {
-        address: words.short()?,
-        leaf: words.short()?,
-        content: words.bytes(alloc)?,
-    })
+fn block_in(alloc: Global, words: &mut Words) -> Block {
+    Block {
+        address: words.short(),
+        leaf: words.short(),
+        content: words.bytes(alloc),
+    }
 }
 
 /// Puts a block behind those of the stash of a tree.
@@ -61,7 +61,7 @@ impl<S: Sealer + Copy> Machine<S> {
         page: &mut Page,
     ) -> Result<(), RowFault> {
         let mut parts = self.core.parts(alloc)?;
-        change(alloc, &mut parts, words.text()?, words)?;
+        change(alloc, &mut parts, words.text(), words)?;
         match self.core_with(alloc, parts)? {
             Some(_) => page.word("core"),
             None => page.word("content"),
@@ -76,8 +76,8 @@ impl<S: Sealer + Copy> Machine<S> {
         words: &mut Words,
         page: &mut Page,
     ) -> Result<(), RowFault> {
-        let number = words.size()?;
-        let block = block_in(alloc, words)?;
+        let number = words.size();
+        let block = block_in(alloc, words);
         let mut parts = self.core.parts(alloc)?;
         put_block(&mut parts.trees, number, block)?;
         match self.core_with(alloc, parts)? {

@@ -86,7 +86,7 @@ impl<S: Sealer + Copy> Machine<S> {
         words: &mut Words,
         page: &mut Page,
     ) -> Result<(), RowFault> {
-        let (first, last) = (words.size()?, words.size()?);
+        let (first, last) = (words.size(), words.size());
         let mut answer = self.answer_of_host(alloc)?;
         if last >= answer.len() {
             return Err(RowFault::NoRow);
@@ -108,7 +108,7 @@ impl<S: Sealer + Copy> Machine<S> {
         words: &mut Words,
         page: &mut Page,
     ) -> Result<(), RowFault> {
-        let (first, last) = (words.short()?, words.short()?);
+        let (first, last) = (words.short(), words.short());
         let whole = self.answer_of_host(alloc)?;
         let mut groups = Groups::new(alloc);
         for len in first as usize..last as usize + 1 {

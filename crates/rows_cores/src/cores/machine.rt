@@ -186,12 +186,14 @@ impl<S: Sealer + Copy> Machine<S> {
 
     /// `core times COUNT EVENT`: the last of so many reactions to one event.
     fn times(&mut self, alloc: Global, words: &mut Words, page: &mut Page) -> Result<(), RowFault> {
-        let count = words.short()?;
-        let kind = words.text()?;
+        let count = words.short();
+        let kind = words.text();
         let rest = words.all();
         for _ in 0..count {
             page.clear();
-            let event = event_of(alloc, kind, &mut Words::of(rest))?;
+            let mut part = Words::of(rest);
+            let event = event_of(alloc, kind, &mut part)?;
+            part.check()?;
             self.tell(alloc, event, page)?;
         }
         Ok(())
@@ -279,7 +281,7 @@ impl<S: Sealer + Copy> Machine<S> {
                 self.meddle(alloc, call, words, page)
             }
             "answer" => self.answer(alloc, page),
-            "answers" => self.answers(alloc, words.short()?, false, page),
+            "answers" => self.answers(alloc, words.short(), false, page),
             "drain" => self.answers(alloc, MOST_ANSWERS, false, page),
             "redrain" => self.answers(alloc, MOST_ANSWERS, true, page),
             "late" => self.late(alloc, page),

@@ -45,18 +45,16 @@ impl<S: Sealer + Copy> Machine<S> {
     }
 
     /// `core tamper TREE NODE OFFSET`: flips the lowest bit of a byte of a record.
-    fn tamper(&mut self, words: &mut Words) -> Result<bool, RowFault> {
-        let (tree, node) = (words.number()?, words.number()?);
-        Ok(self.host.flip(tree, node, words.number()?))
+    fn tamper(&mut self, words: &mut Words) -> bool {
+        let (tree, node) = (words.number(), words.number());
+        self.host.flip(tree, node, words.number())
     }
 
     /// `core swap TREE NODE TREE NODE`: exchanges two records.
-    fn swap(&mut self, words: &mut Words) -> Result<bool, RowFault> {
-        let (tree_a, node_a) = (words.number()?, words.number()?);
-        Ok(
-            self.host
-                .swap(tree_a, node_a, words.number()?, words.number()?),
-        )
+    fn swap(&mut self, words: &mut Words) -> bool {
+        let (tree_a, node_a) = (words.number(), words.number());
+        self.host
+            .swap(tree_a, node_a, words.number(), words.number())
     }
 
     /// Makes a call. What changes the host tells whether that could be done.
@@ -73,8 +71,8 @@ impl<S: Sealer + Copy> Machine<S> {
             "same" => return self.same(alloc, page),
             "snapshot" => self.snapshot(alloc)?,
             "restore" => self.restore(alloc)?,
-            "tamper" => self.tamper(words)?,
-            "swap" => self.swap(words)?,
+            "tamper" => self.tamper(words),
+            "swap" => self.swap(words),
             _ => return Err(RowFault::NoRow),
         };
         page.word(if done { "done" } else { "no" });

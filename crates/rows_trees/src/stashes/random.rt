@@ -131,7 +131,7 @@ fn alike(alloc: Global, count: u32, seed: u64) -> Result<u32, RowFault> {
 /// `stash random COUNT SEED`: how many of so many stashes are evicted as the plain eviction does it, with 1 to 4 slots in
 /// turn, up to the first that isn't.
 pub fn evictions(alloc: Global, words: &mut Words, page: &mut Page) -> Result<(), RowFault> {
-    let alike = alike(alloc, words.short()?, words.number()?)?;
+    let alike = alike(alloc, words.short(), words.number())?;
     page.number(alike);
     page.word("alike");
     Ok(())

@@ -27,13 +27,13 @@ pub struct Asked {
 
 impl Asked {
     /// Four words.
-    pub fn read(words: &mut Words) -> Result<Asked, RowFault> {
-        Ok(Asked {
-            address: words.short()?,
-            old_leaf: words.short()?,
-            new_leaf: words.short()?,
-            nonce: words.short()?,
-        })
+    pub fn read(words: &mut Words) -> Asked {
+        Asked {
+            address: words.short(),
+            old_leaf: words.short(),
+            new_leaf: words.short(),
+            nonce: words.short(),
+        }
     }
 }
 

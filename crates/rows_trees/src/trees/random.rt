@@ -156,11 +156,11 @@ pub fn accesses(
     words: &mut Words,
     page: &mut Page,
 ) -> Result<(), RowFault> {
-    let (count, seed) = (words.short()?, words.number()?);
-    let alike = match words.text()? {
+    let (count, seed) = (words.short(), words.number());
+    let alike = match words.text() {
         "plain" => alike(alloc, device, &PlainSeal, count, seed)?,
         "chacha" => {
-            let key = words.array(alloc)?;
+            let key = words.array(alloc);
             alike(alloc, device, &ChaChaSeal { key }, count, seed)?
         }
         _ => return Err(RowFault::NoRow),
