@@ -1,5 +1,6 @@
 //! What a session takes, beside the same accesses through the core and the server alone.
-use crate::{ACCESSES, MOST_MESSAGES, hundredths, some_access};
+
+use super::{ACCESSES, MOST_MESSAGES, hundredths, some_access};
 use oram_bucket::PlainSeal;
 use oram_bytes::Bytes;
 use oram_core::{Command, Core, Event};

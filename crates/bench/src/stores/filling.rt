@@ -1,7 +1,7 @@
 //! A file of some size, filled and opened again.
 
-use crate::accesses::{Shape, bodies, first_shape, format, shape_body};
-use crate::system::{close, new_store, opened, report_memory};
+use super::system::{close, new_store, opened, report_memory};
+use super::{Shape, bodies, first_shape, format, shape_body};
 use oram_redo::FilePair;
 use oram_store::Store;
 use oram_wire::{GOOD, fetch_header};

@@ -1,6 +1,11 @@
-//! The disks that are measured, side by side.
+//! What keeping costs a disk: requests of 4 KiB, with nothing kept, with a state kept in a file, and with that file synced.
+//!
+//! It formats a disk of 16 MiB in memory, two trees of blocks of 4,096 bytes, sealed. In one run it makes the same reads and writes
+//! by the core alone, as requests of NBD over it with nothing kept, and so with each state kept in a file of a folder, without sync
+//! and with it. The host is a server in memory, and there is no socket between, so that what is told is the client's own work.
 
-use crate::requests::{Access, BLOCK_BYTES, BLOCKS, REQUESTS, said, some_accesses};
+mod requests;
+
 use oram_bucket::ChaChaSeal;
 use oram_client::{DiskKey, FileKeeper, FilePlace, Head, Salt, SealerKind};
 use oram_core::Core;
@@ -10,6 +15,7 @@ use oram_keep::{Keeper, Unkept, ask};
 use oram_nbd::transmit;
 use oram_session::{ChaChaTape, Direct, is_settled};
 use oram_volume::Volume;
+use requests::{Access, BLOCK_BYTES, BLOCKS, REQUESTS, said, some_accesses};
 use std::alloc::Global;
 use std::rt::{Clock, Files};
 use std::time::{Duration, Instant};
@@ -114,6 +120,7 @@ fn report(rt: &impl Print, name: &str, time: Duration, core: Duration) -> io::Re
     )
 }
 
+/// Measures it with files in this folder.
 pub(crate) fn measure<R: Files + Clock + Print + Alloc<A = Global>>(
     rt: &R,
     folder: &str,
@@ -121,7 +128,7 @@ pub(crate) fn measure<R: Files + Clock + Print + Alloc<A = Global>>(
     let alloc = rt.alloc();
     let accesses = some_accesses(alloc)?;
     let said = said(alloc, &accesses)?;
-    let name = format!(in alloc; "{folder}/bench_disk.state")?;
+    let name = format!(in alloc; "{folder}/bench.state")?;
     println!(rt;
         "{REQUESTS} requests of {BLOCK_BYTES} bytes, reads and writes, of a disk of {BLOCKS} blocks"
     )?;

@@ -1,11 +1,9 @@
 //! How long an access takes through the core and the server, beside two hashings of the same bytes.
 //!
-//! Run it with the word `run`: a single tree of large blocks, plain and sealed, two trees of as many blocks as a disk of 256 MiB
-//! has, and three trees of small blocks, and 2,000 accesses each. It also tells what formatting a record took, beside one
+//! A single tree of large blocks, plain and sealed, two trees of as many blocks as a disk of 256 MiB has, and three trees of
+//! small blocks, and 2,000 accesses each. It also tells what formatting a record took, beside one
 //! hashing of it, and what writing the state file at the end took, and that of a large core, beside one hashing of as many bytes;
 //! and what the accesses take as a session, beside the same through the core and the server alone.
-#![tactic(auto)]
-
 mod sessions;
 
 use oram_bucket::{Block, ChaChaSeal, PlainSeal, Sealer};
@@ -19,8 +17,8 @@ use rand_chacha::ChaCha20Rng;
 use rand_core::{Rng, SeedableRng};
 use sha2::{Digest, Sha256};
 use std::alloc::{AllocError, Global};
+use std::io;
 use std::time::{Duration, Instant};
-use std::{env, io};
 
 const ACCESSES: u32 = 2_000;
 
@@ -269,40 +267,37 @@ fn report_large_file(rt: &HostRuntime) -> io::Result<()> {
     report_file(rt, &core)
 }
 
-fn main(rt: HostRuntime) -> io::Result<()> {
-    let wanted = env::args(&rt)?.nth(1);
-    if wanted.is_none_or(|word| word.as_str() != "run") {
-        return println!(rt; "bench_core run");
-    }
+/// Prints what each device takes.
+pub(crate) fn run(rt: &HostRuntime) -> io::Result<()> {
     let sealer = ChaChaSeal { key: [7; 32] };
     if let Ok(device) = Device::new(4_096, 4_096, 4, 4_096, 1 << 40) {
         measure(
-            &rt,
+            rt,
             "one tree of depth 12, blocks of 4,096 bytes",
             device,
             PlainSeal,
         )?;
     }
     if let Ok(device) = Device::new(4_096, 4_096, 4, 4_096, 1 << 40) {
-        measure(&rt, "the same, sealed by ChaCha20", device, sealer)?;
+        measure(rt, "the same, sealed by ChaCha20", device, sealer)?;
     }
     if let Ok(device) = Device::new(65_536, 4_096, 4, 1_024, 1 << 40) {
         measure(
-            &rt,
+            rt,
             "two trees, 65,536 blocks of 4,096 bytes, sealed by ChaCha20",
             device,
             sealer,
         )?;
     }
     if let Ok(device) = Device::new(64, 16, 4, 4, 1 << 40) {
-        measure(&rt, "three trees, blocks of 16 bytes", device, PlainSeal)?;
+        measure(rt, "three trees, blocks of 16 bytes", device, PlainSeal)?;
     }
     if let Ok(device) = Device::new(4_096, 4_096, 4, 4_096, 1 << 40) {
         sessions::measure_session(
-            &rt,
+            rt,
             "a session on one tree of depth 12, blocks of 4,096 bytes",
             device,
         )?;
     }
-    report_large_file(&rt)
+    report_large_file(rt)
 }

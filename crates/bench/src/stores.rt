@@ -1,9 +1,20 @@
-//! FETCHes and STOREs, side by side.
+//! How long a bucket server in a file takes, beside the one in memory and a write of the same bytes.
+//!
+//! `run FILE` makes the first device of `bench core` in a new file, one tree of blocks of 4,096 bytes, and tells how many FETCHes
+//! and STOREs a second the store answers, how many the server in memory, and how many writes of the same bytes are synced a second,
+//! in one run: each by its mean, its median and the longest. `fill FILE DEPTH` makes a whole tree of that depth of the same records
+//! in a new file (depth 16: 2.2 GB); `open FILE` opens what `fill` left, and fetches the paths of its first 1,000 leaves. Each tells
+//! the most memory that the process had. `scatter FILE DEPTH STORES` makes a new file with one tree and stores that number of
+//! random paths in it. It doesn't close the file, so the next `open` finds the last paths in the log. At depth 24 the file is 550 GB
+//! long, but takes little room on the disk.
 
 ghost use Rattle.std.specs.Prelude.{◌≤◌};
 
-use crate::system::{close, new_store, report_memory};
-use crate::times::{Summary, Times, ratio};
+mod filling;
+mod system;
+mod times;
+
+pub(crate) use filling::{fill, reopen, scatter};
 use oram_bytes::Bytes;
 use oram_geometry::Device;
 use oram_host::Server;
@@ -18,6 +29,8 @@ use std::io::{Seek, Write};
 use std::rt::{Clock, Files};
 use std::time::{Duration, Instant};
 use std::{fs, io};
+use system::{close, new_store, report_memory};
+use times::{Summary, Times, ratio};
 
 /// Those whose STOREs fill the log, so that it begins anew meanwhile.
 const ACCESSES: u32 = 600;
@@ -254,7 +267,7 @@ where
     report(rt, &mut times, differing)
 }
 
-/// The records of the first device of `bench_core`.
+/// The records of the first device of `bench core`.
 pub(crate) fn first_shape() -> Option<Shape> {
     let device = Device::new(4_096, 4_096, 4, 4_096, 1 << 40).ok()?;
     prove!(0 < device.trees());

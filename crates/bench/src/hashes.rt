@@ -1,7 +1,6 @@
 //! How long the check of a path and its rebuilding take, beside SHA-256 alone on the same bytes.
 //!
-//! Run it with the word `run`. The path is one of depth 16, of buckets with 4 slots of 4,096 bytes.
-#![tactic(auto)]
+//! The path is one of depth 16, of buckets with 4 slots of 4,096 bytes.
 
 ghost use Rattle.std.specs.Prelude.{◌≡◌, ◌<◌, ◌≤◌, ◌+◌, ◌^◌, All, IfOk, vec_len};
 ghost use Rattle.oram_geometry.specs.Sizes.{trees_of, depth_of};
@@ -9,8 +8,8 @@ ghost use Rattle.oram_geometry.specs.Sizes.{trees_of, depth_of};
 use oram_geometry::Device;
 use oram_hash::{NO_DIGEST, check_path, node_digest, rebuild};
 use std::alloc::{AllocError, Global};
+use std::io;
 use std::time::{Duration, Instant};
-use std::{env, io};
 
 const DIGESTS_LEN: usize = 64;
 
@@ -95,18 +94,15 @@ fn measure(rt: &(impl Alloc<A = Global> + std::rt::Clock), device: &Device) -> i
     Ok(times)
 }
 
-fn main(rt: HostRuntime) -> io::Result<()> {
-    let wanted = env::args(&rt)?.nth(1);
-    if wanted.is_none_or(|word| word.as_str() != "run") {
-        return println!(rt; "bench_hash run");
-    }
+/// Prints what each takes.
+pub(crate) fn run(rt: &HostRuntime) -> io::Result<()> {
     let Ok(device) = Device::new(65_536, 4096, 4, 65_536, 1) else {
         return Ok(());
     };
     if device.trees() == 0 {
         return Ok(());
     }
-    let times = measure(&rt, &device)?;
+    let times = measure(rt, &device)?;
     let micros = |time: Duration| time.as_micros() / u128::from(ROUNDS);
     println!(rt; "SHA-256 alone: {} us a path", micros(times.alone))?;
     println!(rt; "check_path: {} us", micros(times.check))?;

@@ -1,0 +1,46 @@
+//! What the parts of the store take, each measured beside what it can't be quicker than.
+#![tactic(auto)]
+
+mod cores;
+mod disks;
+mod hashes;
+mod stores;
+
+use std::{env, io};
+
+const USAGE: &str = "bench hash
+bench core
+bench disk FOLDER
+bench store run FILE
+bench store fill FILE DEPTH
+bench store open FILE
+bench store scatter FILE DEPTH STORES";
+
+fn main(rt: HostRuntime) -> io::Result<()> {
+    let mut words = env::args(&rt)?.skip(1);
+    let words = [
+        words.next(),
+        words.next(),
+        words.next(),
+        words.next(),
+        words.next(),
+    ];
+    match words.each_ref().map(|word| word.as_deref()) {
+        [Some("hash"), None, ..] => hashes::run(&rt),
+        [Some("core"), None, ..] => cores::run(&rt),
+        [Some("disk"), Some(folder), None, ..] => disks::measure(&rt, folder),
+        [Some("store"), Some("run"), Some(file), None, _] => stores::measure(&rt, file),
+        [Some("store"), Some("open"), Some(file), None, _] => stores::reopen(&rt, file),
+        [Some("store"), Some("fill"), Some(file), Some(depth), None] => stores::fill(
+            &rt, file, depth,
+        ),
+        [
+            Some("store"),
+            Some("scatter"),
+            Some(file),
+            Some(depth),
+            Some(stores),
+        ] => stores::scatter(&rt, file, depth, stores),
+        _ => println!(rt; "{USAGE}"),
+    }
+}
