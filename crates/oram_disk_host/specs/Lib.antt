@@ -1,4 +1,5 @@
 pub mod Settings
+pub mod Kinds
 pub mod Faults
 pub mod Hosts
 pub mod Tallies

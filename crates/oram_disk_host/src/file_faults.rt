@@ -2,9 +2,10 @@
 
 ghost use Rattle.std.specs.IoError.{error_kind};
 ghost use Rattle.std.specs.Prelude.{◌≡◌};
-ghost use Rattle.oram_disk_host.specs.Faults.{IsFileFault};
+ghost use Rattle.oram_disk_host.specs.Faults as spec;
 
-use crate::faults::{Fault, FileReason};
+use crate::faults::Fault;
+use crate::kinds::{FaultKind, FileReason};
 use std::alloc::Global;
 use std::io::ErrorKind;
 use std::rt::Files;
@@ -12,9 +13,7 @@ use std::{fs, io, str};
 
 /// The reason of an error of this kind.
 fn reason_of(kind: ErrorKind) -> FileReason
-    ensures missing { kind ≡ ErrorKind.NotFound → result ≡ FileReason.Missing }
-    ensures refused { kind ≡ ErrorKind.PermissionDenied → result ≡ FileReason.NotPermitted }
-    ensures full { kind ≡ ErrorKind.StorageFull → result ≡ FileReason.DiskFull }
+    ensures { result ≡ spec.reason_of kind }
 {
     match kind {
         ErrorKind::NotFound => FileReason::Missing,
@@ -25,17 +24,12 @@ fn reason_of(kind: ErrorKind) -> FileReason
 }
 
 /// What a failed call on the file or folder of this name is to the program.
-pub fn file_fault(alloc: Global, name: &str, error: &io::Error) -> Fault
-    ensures { IsFileFault name.now (λ why. (error_kind error.now ≡ ErrorKind.NotFound → why ≡ FileReason.Missing)
-        × (error_kind error.now ≡ ErrorKind.PermissionDenied → why ≡ FileReason.NotPermitted)
-        × (error_kind error.now ≡ ErrorKind.StorageFull → why ≡ FileReason.DiskFull)) result }
+pub fn file_fault(name: String, error: &io::Error) -> Fault
+    ensures { result ≡ spec.file_fault (error_kind error.now) name }
 {
-    if error.kind() == ErrorKind::OutOfMemory {
-        return Fault::OutOfMemory;
-    }
-    match String::from_str(alloc, name) {
-        Ok(name) => Fault::File(reason_of(error.kind()), name),
-        Err(_) => Fault::OutOfMemory,
+    match error.kind() {
+        ErrorKind::OutOfMemory => Fault::OutOfMemory,
+        kind => Fault::Of(FaultKind::File(reason_of(kind)), name),
     }
 }
 
@@ -43,7 +37,7 @@ pub fn file_fault(alloc: Global, name: &str, error: &io::Error) -> Fault
 pub fn settings_bytes<R: Files + AllocGlobal>(rt: &R, name: &str) -> Result<Vec<u8>, Fault> {
     match fs::read(rt, name) {
         Ok(bytes) => Ok(bytes),
-        Err(error) => Err(file_fault(rt.alloc(), name, &error)),
+        Err(error) => Err(file_fault(String::from_str(rt.alloc(), name)?, &error)),
     }
 }
 
@@ -51,6 +45,9 @@ pub fn settings_bytes<R: Files + AllocGlobal>(rt: &R, name: &str) -> Result<Vec<
 pub fn text_of<'a>(alloc: Global, bytes: &'a [u8], name: &str) -> Result<&'a str, Fault> {
     match str::from_utf8(bytes) {
         Ok(text) => Ok(text),
-        Err(_) => Err(Fault::Settings(format!(in alloc; "{name} isn't text in UTF-8")?)),
+        Err(_) => {
+            let mistake = format!(in alloc; "{name} isn't text in UTF-8")?;
+            Err(Fault::Of(FaultKind::Settings, mistake))
+        }
     }
 }

@@ -6,6 +6,7 @@ use crate::attending::HostAttendant;
 use crate::faults::{Fault, store_fault};
 use crate::file_faults::{file_fault, settings_bytes, text_of};
 use crate::hosted::Hosted;
+use crate::kinds::FaultKind;
 use crate::settings_file::{HostSettings, read_host_settings};
 use crate::visits::{EarlyEnd, Visit, line};
 use jiff::Timestamp;
@@ -36,7 +37,10 @@ fn settings_in<R: Files + AllocGlobal>(rt: &R, name: String) -> Result<HostSetti
             settings.file = beside(alloc, name.as_str(), settings.file.as_str())?;
             Ok(settings)
         }
-        Err(InputFault::Bad) => Err(Fault::Settings(host_complaint(alloc, name.as_str(), text)?)),
+        Err(InputFault::Bad) => {
+            let complaint = host_complaint(alloc, name.as_str(), text)?;
+            Err(Fault::Of(FaultKind::Settings, complaint))
+        }
         Err(InputFault::OutOfMemory) => Err(Fault::OutOfMemory),
     }
 }
@@ -45,7 +49,7 @@ fn settings_in<R: Files + AllocGlobal>(rt: &R, name: String) -> Result<HostSetti
 pub fn listen_at<R: Net>(rt: &R, address: String) -> Result<R::Listener, Fault> {
     match listen(rt, address.as_str()) {
         Ok(listener) => Ok(listener),
-        Err(SocketFault::Failed) => Err(Fault::Address(address)),
+        Err(SocketFault::Failed) => Err(Fault::Of(FaultKind::Address, address)),
         Err(SocketFault::OutOfMemory) => Err(Fault::OutOfMemory),
     }
 }
@@ -181,7 +185,7 @@ where
 {
     match opened {
         Ok(store) => serve_all(rt, listener, Hosted::new(store)),
-        Err(why) => Err(store_fault(rt.alloc(), file, why)),
+        Err(why) => Err(store_fault(String::from_str(rt.alloc(), file)?, why)),
     }
 }
 
@@ -191,15 +195,14 @@ fn check_presence<R: Files + AllocGlobal>(rt: &R, file: &str, is_new: bool) -> R
     let alloc = rt.alloc();
     let is_there = match fs::exists(rt, file) {
         Ok(is_there) => is_there,
-        Err(error) => return Err(file_fault(alloc, file, &error)),
+        Err(error) => return Err(file_fault(String::from_str(alloc, file)?, &error)),
     };
-    if is_there != is_new {
-        Ok(())
-    } else if is_there {
-        Err(Fault::FileExists(String::from_str(alloc, file)?))
-    } else {
-        Err(Fault::NoFile(String::from_str(alloc, file)?))
-    }
+    let kind = match (is_there, is_new) {
+        (true, true) => FaultKind::FileExists,
+        (false, false) => FaultKind::NoFile,
+        _ => return Ok(()),
+    };
+    Err(Fault::Of(kind, String::from_str(alloc, file)?))
 }
 
 /// Tells of a file that was opened: whether it was made, and where it is served.
@@ -252,7 +255,7 @@ where
     let mut is_told = false;
     for _ in 0..u64::MAX {
         match serve_file(rt, listener, address, file, false) {
-            Err(Fault::File(_, _)) => {}
+            Err(Fault::Of(FaultKind::File(_), _)) => {}
             ended => return ended,
         }
         if !is_told {

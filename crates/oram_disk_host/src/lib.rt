@@ -1,8 +1,8 @@
 //! The host's side of a disk's program: it keeps buckets in a file for others. What ends the program on either side is told here too.
 //!
 //! [`host`] serves a file of buckets, whose settings [`read_host_settings`] reads. [`Hosted`] is a store that is served, with the
-//! [`Tally`] of a connection, and [`line`] tells of a [`Visit`]. A [`Fault`] is why the program ends, on either side: [`report`] writes
-//! its line, and gives its status.
+//! [`Tally`] of a connection, and [`line`] tells of a [`Visit`]. A [`Fault`] is why the program ends, on either side, mostly of a
+//! [`FaultKind`] and of something with a name: [`report`] writes its line, and gives its status.
 #![tactic(auto)]
 
 mod attending;
@@ -10,14 +10,16 @@ mod faults;
 mod file_faults;
 mod hosted;
 mod hosting;
+mod kinds;
 mod settings_file;
 mod tallies;
 mod visits;
 
-pub use faults::{Fault, FileReason, report, store_fault};
+pub use faults::{Fault, report, store_fault};
 pub use file_faults::{file_fault, settings_bytes, text_of};
 pub use hosted::Hosted;
 pub use hosting::{host, listen_at, not_accepted, time};
+pub use kinds::{FaultKind, FileReason};
 pub use settings_file::{FIRST_SETTINGS, HostSettings, read_host_settings};
 pub use tallies::Tally;
 pub use visits::{EarlyEnd, Visit, line};

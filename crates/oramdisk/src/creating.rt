@@ -1,6 +1,6 @@
 //! A new folder, with settings to begin with.
 
-use oram_disk_host::{FIRST_SETTINGS, Fault, file_fault};
+use oram_disk_host::{FIRST_SETTINGS, Fault, FaultKind, file_fault};
 use oram_settings::{
     DEFAULT_BLOCK, DEFAULT_SLOTS, DEFAULT_TABLE, Sealing, device_of, disk_text, made_text,
     read_size, stored_bytes,
@@ -40,7 +40,10 @@ fn take_back<R: Files>(rt: &R, folder: &str, host: &str, disk: &str) {
 fn unwritten<R: Files + AllocGlobal>(rt: &R, name: &str, text: &str) -> Option<Fault> {
     match write_settings(rt, name, text) {
         Ok(()) => None,
-        Err(error) => Some(file_fault(rt.alloc(), name, &error)),
+        Err(error) => Some(match String::from_str(rt.alloc(), name) {
+            Ok(name) => file_fault(name, &error),
+            Err(_) => Fault::OutOfMemory,
+        }),
     }
 }
 
@@ -97,9 +100,9 @@ pub(crate) fn make_folder<R: Files + RandomSource + Eprint + AllocGlobal>(
     let first = first_disk(rt, size)?;
     if let Err(error) = create_folder(rt, folder.as_str()) {
         return Err(if error.kind() == ErrorKind::AlreadyExists {
-            Fault::Exists(folder)
+            Fault::Of(FaultKind::Exists, folder)
         } else {
-            file_fault(alloc, folder.as_str(), &error)
+            file_fault(folder, &error)
         });
     }
     let fault = unwritten(rt, host.as_str(), FIRST_SETTINGS).or_else(|| unwritten(

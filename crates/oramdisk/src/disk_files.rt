@@ -6,7 +6,7 @@ use oram_client::{
     keys_for, read_kept_file,
 };
 use oram_core::Core;
-use oram_disk_host::{Fault, FileReason, settings_bytes, text_of};
+use oram_disk_host::{Fault, FaultKind, FileReason, settings_bytes, text_of};
 use oram_edge::{FileFault, InputFault, LockFault, StateLock, lock_state};
 use oram_geometry::Device;
 use oram_settings::{
@@ -29,7 +29,10 @@ pub(crate) fn disk_settings_in<R: Files + AllocGlobal>(
             settings.state = beside(alloc, name.as_str(), settings.state.as_str())?;
             Ok(settings)
         }
-        Err(InputFault::Bad) => Err(Fault::Settings(disk_complaint(alloc, name.as_str(), text)?)),
+        Err(InputFault::Bad) => {
+            let complaint = disk_complaint(alloc, name.as_str(), text)?;
+            Err(Fault::Of(FaultKind::Settings, complaint))
+        }
         Err(InputFault::OutOfMemory) => Err(Fault::OutOfMemory),
     }
 }
@@ -44,8 +47,8 @@ pub(crate) fn state_bytes<R: Files + AllocGlobal>(
     match kept_bytes(rt, state) {
         Ok(bytes) => Ok(bytes),
         Err(FileFault::File(name)) => match kept_name(rt, alloc, state)? {
-            Some(_) => Err(Fault::File(FileReason::Other, name)),
-            None => Err(Fault::Unformatted(String::from_str(alloc, settings)?)),
+            Some(_) => Err(Fault::Of(FaultKind::File(FileReason::Other), name)),
+            None => Err(named(alloc, FaultKind::Unformatted, settings)),
         },
         Err(FileFault::OutOfMemory) => Err(Fault::OutOfMemory),
     }
@@ -55,15 +58,15 @@ pub(crate) fn state_bytes<R: Files + AllocGlobal>(
 pub(crate) fn take_lock(rt: &HostRuntime, state: &str) -> Result<StateLock, Fault> {
     match lock_state(rt, state) {
         Ok(lock) => Ok(lock),
-        Err(LockFault::InUse) => Err(Fault::InUse(String::from_str(rt.alloc(), state)?)),
+        Err(LockFault::InUse) => Err(named(rt.alloc(), FaultKind::InUse, state)),
         Err(LockFault::File(why)) => Err(why.into()),
     }
 }
 
-/// What is wrong with the state in the file of this name.
-pub(crate) fn not_a_disk(alloc: Global, name: &str) -> Fault {
+/// A fault of this kind of what has this name.
+fn named(alloc: Global, kind: FaultKind, name: &str) -> Fault {
     match String::from_str(alloc, name) {
-        Ok(name) => Fault::NotADisk(name),
+        Ok(name) => Fault::Of(kind, name),
         Err(_) => Fault::OutOfMemory,
     }
 }
@@ -78,7 +81,7 @@ pub(crate) fn core_in<S: Sealer>(
     match decode_state(alloc, sealer, state) {
         Ok(core) => Ok(core),
         Err(StateFault::OutOfMemory) => Err(Fault::OutOfMemory),
-        Err(_) => Err(not_a_disk(alloc, name)),
+        Err(_) => Err(named(alloc, FaultKind::NotADisk, name)),
     }
 }
 
@@ -90,8 +93,8 @@ pub(crate) fn kept_in<'a>(
 ) -> Result<KeptFile<'a>, Fault> {
     match read_kept_file(file) {
         Ok(kept) => Ok(kept),
-        Err(KeptFault::Older) => Err(Fault::OlderState(String::from_str(alloc, name)?)),
-        Err(KeptFault::NotOurs) => Err(not_a_disk(alloc, name)),
+        Err(KeptFault::Older) => Err(named(alloc, FaultKind::OlderState, name)),
+        Err(KeptFault::NotOurs) => Err(named(alloc, FaultKind::NotADisk, name)),
     }
 }
 
@@ -104,7 +107,7 @@ pub(crate) fn keys_in(
 ) -> Result<Keys, Fault> {
     match keys_for(&DiskKey(settings.key), head) {
         Ok(keys) => Ok(keys),
-        Err(WrongKey) => Err(Fault::WrongKey(String::from_str(alloc, name)?)),
+        Err(WrongKey) => Err(named(alloc, FaultKind::WrongKey, name)),
     }
 }
 
@@ -133,6 +136,6 @@ pub(crate) fn check_settings(
 ) -> Result<(), Fault> {
     match first_difference(settings, device, sealing_of(sealer)) {
         None => Ok(()),
-        Some(key) => Err(Fault::Changed(key, name)),
+        Some(key) => Err(Fault::Of(FaultKind::Changed(key), name)),
     }
 }

@@ -36,7 +36,7 @@ pub(crate) fn kept_failure<R: Files + AllocGlobal>(
     match fs::exists(rt, name.as_str()) {
         Ok(false) => Ok(None),
         Ok(true) => Ok(Some(bytes_in(rt, name.as_str())?)),
-        Err(error) => Err(file_fault(rt.alloc(), name.as_str(), &error)),
+        Err(error) => Err(file_fault(name, &error)),
     }
 }
 
@@ -46,6 +46,6 @@ pub(crate) fn forget_failure<R: Files + AllocGlobal>(rt: &R, state: &str) -> Res
     match fs::remove_file(rt, name.as_str()) {
         Ok(()) => Ok(true),
         Err(error) if error.kind() == ErrorKind::NotFound => Ok(false),
-        Err(error) => Err(file_fault(rt.alloc(), name.as_str(), &error)),
+        Err(error) => Err(file_fault(name, &error)),
     }
 }

@@ -8,8 +8,8 @@ use oram_client::{
     SealerKind, format_ahead, kept_name,
 };
 use oram_core::Core;
-use oram_disk_host::Fault;
-use oram_edge::buffered;
+use oram_disk_host::{Fault, FaultKind};
+use oram_edge::{HostFault, buffered};
 use oram_geometry::Device;
 use oram_keep::Keeper;
 use oram_settings::{
@@ -78,21 +78,21 @@ impl<'a, R: Clock + Eprint + AllocGlobal> Progress for Teller<'a, R> {
 
 /// What a formatting's fault is to the program, where its host is at this address.
 fn formatting_fault(fault: FormattingFault, host: String) -> Fault {
-    match fault {
-        FormattingFault::Link => Fault::OutOfReach(host),
-        FormattingFault::NoRoom => Fault::HostFull(host),
-        FormattingFault::Taken => Fault::HostTaken(host),
-        FormattingFault::Refused | FormattingFault::Unheld => Fault::HostRefused(host),
-        FormattingFault::OutOfMemory => Fault::OutOfMemory,
-    }
+    let why = match fault {
+        FormattingFault::Link => HostFault::OutOfReach,
+        FormattingFault::NoRoom => HostFault::NoRoom,
+        FormattingFault::Taken => HostFault::Taken,
+        FormattingFault::Refused | FormattingFault::Unheld => HostFault::Refused,
+        FormattingFault::OutOfMemory => return Fault::OutOfMemory,
+    };
+    Fault::Of(FaultKind::Host(why), host)
 }
 
 /// What a connection that isn't made is to the program.
 fn unreached(error: &io::Error, host: String) -> Fault {
-    if error.kind() == ErrorKind::OutOfMemory {
-        Fault::OutOfMemory
-    } else {
-        Fault::OutOfReach(host)
+    match error.kind() {
+        ErrorKind::OutOfMemory => Fault::OutOfMemory,
+        _ => Fault::Of(FaultKind::Host(HostFault::OutOfReach), host),
     }
 }
 
@@ -144,7 +144,7 @@ fn format_with<S: Sealer>(
     let state = encode_state(alloc, &core)?;
     match keeper.keep(state.as_slice()) {
         Ok(()) => Ok(()),
-        Err(_) => Err(Fault::Unkept(settings.state)),
+        Err(_) => Err(Fault::Of(FaultKind::Unkept, settings.state)),
     }
 }
 
@@ -167,11 +167,11 @@ pub(crate) fn format_disk(rt: &HostRuntime, name: String) -> Result<(), Fault> {
         settings.slots,
         settings.table,
     ) else {
-        return Err(Fault::Device(name));
+        return Err(Fault::Of(FaultKind::Device, name));
     };
     let _lock = take_lock(rt, settings.state.as_str())?;
     if let Some(found) = kept_name(rt, alloc, settings.state.as_str())? {
-        return Err(Fault::Formatted(found));
+        return Err(Fault::Of(FaultKind::Formatted, found));
     }
     // One that a disk left which was taken away since says nothing of this one.
     forget_failure(rt, settings.state.as_str())?;

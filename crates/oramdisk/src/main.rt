@@ -10,7 +10,7 @@ mod serving;
 mod standing;
 mod watched_disk;
 
-use oram_disk_host::{Fault, host, report};
+use oram_disk_host::{Fault, FaultKind, host, report};
 use oram_edge::{InputFault, arguments, texts_of};
 use oram_settings::{NoRequest, Words, read_words};
 use std::process::ExitCode;
@@ -44,7 +44,7 @@ fn run(rt: &HostRuntime) -> Result<(), Fault> {
             let _passed_over = rt.print(text.as_str());
             Ok(())
         }
-        Err(NoRequest::Mistake(text)) => Err(Fault::CommandLine(text)),
+        Err(NoRequest::Mistake(text)) => Err(Fault::Of(FaultKind::CommandLine, text)),
         Err(NoRequest::OutOfMemory) => Err(Fault::OutOfMemory),
     }
 }

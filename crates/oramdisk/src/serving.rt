@@ -1,8 +1,5 @@
 //! A disk is served to clients of NBD, one connection after the other.
 
-ghost use Rattle.std.specs.Prelude.{◌≡◌, ◌↔◌, Err, IsTrue};
-ghost use Rattle.oramdisk.specs.Stops as stops;
-
 use crate::clients::{ClientAttendant, Parting};
 use crate::disk_files::{
     check_settings, core_in, disk_settings_in, kept_in, keys_in, state_bytes, take_lock,
@@ -11,12 +8,12 @@ use crate::failures::{keep_failure, kept_failure};
 use crate::watched_disk::{FailureKeeper, WatchedDisk};
 use oram_bucket::{ChaChaSeal, PlainSeal, Sealer};
 use oram_client::{
-    FileKeeper, FilePlace, Head, Keys, PatientLink, SealerKind, TcpDialer, Trouble, Watch,
+    FileKeeper, FilePlace, Head, Keys, PatientLink, SealerKind, TcpDialer, Watch, given_up,
 };
 use oram_core::{Core, Reason};
-use oram_disk_host::{Fault, listen_at, not_accepted, time};
+use oram_disk_host::{Fault, FaultKind, listen_at, not_accepted, time};
 use oram_keep::Keeper;
-use oram_nbd::{Disk, DiskFault, NbdFault, serve};
+use oram_nbd::{Disk, DiskFault, NbdFault, is_stop, serve};
 use oram_session::{ChaChaTape, Link, Tape};
 use oram_settings::{DiskSettings, beside, counted, failure_text, serving_text};
 use oram_sockets::{Connection, Listener, Peer, listen_at_path, watch};
@@ -75,13 +72,6 @@ impl Ended {
             served: Err(fault),
             parting: None,
         }
-    }
-
-    /// The disk stopped.
-    fn is_stop(&self) -> bool
-        ensures { IsTrue result ↔ (self.now.served ≡ Err NbdFault.Stopped) }
-    {
-        self.served == Err(NbdFault::Stopped)
     }
 }
 
@@ -201,7 +191,7 @@ fn visit<R: Net + Clock + Eprint + AllocGlobal, D: Disk>(
     if told.is_err() {
         let _passed_over = rt.eprint("oramdisk: no memory for the line of a connection\n");
     }
-    ended.is_stop()
+    is_stop(ended.served)
 }
 
 /// Serves clients, one after the other, until the disk stops.
@@ -242,26 +232,15 @@ type DiskVolume<'a, S> = Volume<
     ChaChaTape,
 >;
 
-/// What it is to the program that a link to the host at this address gave up.
-fn given_up(trouble: Option<Trouble>, host: String) -> Fault
-    ensures { result ≡ stops.given_up trouble host }
-{
-    match trouble {
-        Some(Trouble::NoRoom) => Fault::HostFull(host),
-        Some(Trouble::AnotherDisk) => Fault::AnotherDisk(host),
-        Some(Trouble::NoDisk) => Fault::NoDisk(host),
-        Some(Trouble::OutOfReach(_)) | None => Fault::OutOfReach(host),
-    }
-}
-
 /// Why a disk stopped.
 fn stopped<S: Sealer>(volume: &DiskVolume<'_, S>, settings: DiskSettings) -> Fault {
     if volume.keeper.failure().is_some() {
-        Fault::Unkept(settings.state)
+        Fault::Of(FaultKind::Unkept, settings.state)
     } else if volume.core.next_ticket() >= volume.core.device().lifetime() {
-        Fault::UsedUp(settings.state)
+        Fault::Of(FaultKind::UsedUp, settings.state)
     } else {
-        given_up(volume.link.trouble(), settings.host)
+        let why = given_up(volume.link.trouble());
+        Fault::Of(FaultKind::Host(why), settings.host)
     }
 }
 
@@ -275,7 +254,8 @@ fn serve_volume<S: Sealer>(
 ) -> Result<(), Fault> {
     let alloc = rt.alloc();
     if let Err(trouble) = volume.link.reach(alloc) {
-        return Err(given_up(Some(trouble), settings.host));
+        let why = FaultKind::Host(given_up(Some(trouble)));
+        return Err(Fault::Of(why, settings.host));
     }
     let settled = volume.settle(alloc);
     let state = String::from_str(alloc, settings.state.as_str())?;
@@ -368,7 +348,7 @@ fn at_socket(rt: &HostRuntime, path: String) -> Result<Clients, Fault> {
             socket: Some(path),
         }),
         Err(error) if error.kind() == ErrorKind::OutOfMemory => Err(Fault::OutOfMemory),
-        Err(_) => Err(Fault::Address(path)),
+        Err(_) => Err(Fault::Of(FaultKind::Address, path)),
     }
 }
 
@@ -415,7 +395,7 @@ pub(crate) fn serve_disk(rt: &HostRuntime, name: String) -> Result<(), Fault> {
     let settings = disk_settings_in(rt, String::from_str(alloc, name.as_str())?)?;
     let _lock = take_lock(rt, settings.state.as_str())?;
     if kept_failure(rt, settings.state.as_str())?.is_some() {
-        return Err(Fault::Failed(settings.state));
+        return Err(Fault::Of(FaultKind::Failed, settings.state));
     }
     let clients = clients_at(rt, settings.listen.as_str(), name.as_str())?;
     let ended = serve_kept(rt, settings, name, &clients);

@@ -4,7 +4,7 @@ use crate::disk_files::{core_in, disk_settings_in, kept_in, state_bytes, take_lo
 use crate::failures::{forget_failure, kept_failure};
 use oram_bucket::{ChaChaSeal, PlainSeal};
 use oram_client::SealerKind;
-use oram_disk_host::Fault;
+use oram_disk_host::{Fault, FaultKind};
 use oram_settings::{report, status_of};
 use std::alloc::{AllocError, Global};
 use std::str;
@@ -59,6 +59,6 @@ pub(crate) fn retry(rt: &HostRuntime, name: String) -> Result<(), Fault> {
         let _passed_over = rt.print("oramdisk serve goes on from the kept state\n");
         Ok(())
     } else {
-        Err(Fault::NotFailed(settings.state))
+        Err(Fault::Of(FaultKind::NotFailed, settings.state))
     }
 }

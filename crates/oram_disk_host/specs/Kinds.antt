@@ -1,0 +1,120 @@
+-- The kinds of faults: what stands before and behind the name in the line, and the exit status.
+use Rattle.std.specs.Prelude.{ℕ, List, codes}
+use Rattle.oram_edge.specs.declared.hosts.HostFault.TheVariants as host
+use Rattle.oram_settings.specs.declared.differences.FixedKey.{FixedKey}
+use Rattle.oram_settings.specs.declared.differences.FixedKey.TheVariants as fixed
+use Rattle.oram_disk_host.specs.declared.kinds.FileReason.TheVariants as reason
+use Rattle.oram_disk_host.specs.declared.kinds.FaultKind.{FaultKind}
+use Rattle.oram_disk_host.specs.declared.kinds.FaultKind.TheVariants.{CommandLine, Settings, Device, File, Unformatted, Address, NotOurs, OlderFile, NewerFile, WithoutLog, OthersLog, LogAlone, Damaged, Busy, NoFile, FileExists, Exists, Formatted, NotADisk, OlderState, WrongKey, Changed, Host, Unkept, UsedUp, InUse, Failed, NotFailed}
+
+-- before the name of the settings with a changed value
+abbrev pub changed : FixedKey → List ℕ
+changed fixed.Size = codes "oramdisk: size in "
+changed fixed.Block = codes "oramdisk: block in "
+changed fixed.Slots = codes "oramdisk: slots in "
+changed fixed.Table = codes "oramdisk: table in "
+changed fixed.Sealer = codes "oramdisk: sealer in "
+
+-- what stands before the name
+abbrev pub front : FaultKind → List ℕ
+front Device = codes "oramdisk: bad numbers in "
+front Unformatted = codes "oramdisk: the disk isn't formatted yet: start its host, and then say oramdisk format "
+front (File reason.Other) = codes "oramdisk: can't open, read or write "
+front Address = codes "oramdisk: can't listen at "
+front WithoutLog = codes "oramdisk: the log of "
+front OthersLog = codes "oramdisk: the log of "
+front LogAlone = codes "oramdisk: there is no file "
+front NoFile = codes "oramdisk: there is no file "
+front WrongKey = codes "oramdisk: the key in "
+front (Changed key) = changed key
+front (Host host.NoRoom) = codes "oramdisk: the host at "
+front (Host host.AnotherDisk) = codes "oramdisk: the host at "
+front (Host host.NoDisk) = codes "oramdisk: the host at "
+front (Host host.Taken) = codes "oramdisk: the host at "
+front (Host host.Refused) = codes "oramdisk: the host at "
+front (Host host.OutOfReach) = codes "oramdisk: can't reach the host at "
+front Unkept = codes "oramdisk: can't keep the state in "
+front UsedUp = codes "oramdisk: the disk of "
+front InUse = codes "oramdisk: the disk of "
+front Failed = codes "oramdisk: the disk of "
+front NotFailed = codes "oramdisk: the disk of "
+front any_other = codes "oramdisk: "
+
+-- what happened, or to what, and what to do
+abbrev pub rest : FaultKind → List ℕ
+rest CommandLine = codes "\n"
+rest Settings = codes "\n"
+rest Unformatted = codes "\n"
+rest Device = codes ": size has to be from 1 to 16777216 blocks, block from 16 to 4096 and a multiple of 4, slots from 1 to 8, and table from 1 to 16777216\n"
+rest (File reason.Missing) = codes ": no such file or folder: see that its name is right\n"
+rest (File reason.NotPermitted) = codes ": permission denied: see that you may read and write it\n"
+rest (File reason.DiskFull) = codes ": the disk is full: make room on it\n"
+rest (File reason.Other) = codes ": see that it is there and may be written, and that its disk has room\n"
+rest Address = codes ": end the program that listens there, or name another place\n"
+rest NotOurs = codes " isn't a file of buckets, and is left as it is: name another file\n"
+rest OlderFile = codes " is a SQLite file, which an older version may have written, and is left as it is: serve it with that version, or name another file, and format anew\n"
+rest NewerFile = codes " is a file of buckets of a newer version, and is left as it is: serve it with that version\n"
+rest WithoutLog = codes ", the file beside it with -log behind its name, isn't there: put back the one that it was served with last\n"
+rest OthersLog = codes ", the file beside it with -log behind its name, is another file's: put back the one that it was served with last\n"
+rest LogAlone = codes ", but its log, the file beside it with -log behind its name, holds records of it: put the file back, or take the log away\n"
+rest Damaged = codes " is damaged, and is left as it is: name another file, and format anew\n"
+rest Busy = codes " is held by another process: end that one first\n"
+rest NoFile = codes ": see that the settings are those of the right host, or say oramdisk host --new to make it\n"
+rest FileExists = codes " is there already, and is left as it is: leave --new out to serve it\n"
+rest Exists = codes " is there already, and is left as it is: name another folder\n"
+rest Formatted = codes " is there already, and is left as it is: to format anew, take it away, and name a new file at the host\n"
+rest NotADisk = codes " isn't the state of a disk, and is left as it is\n"
+rest OlderState = codes " is the state of a disk of an older version, and is left as it is: serve it with that version, and copy what is in it to a new disk\n"
+rest WrongKey = codes " isn't this disk's: put the one back that it was formatted with\n"
+rest (Changed key) = codes " isn't what it was when the disk was formatted: put it back\n"
+rest (Host host.NoRoom) = codes " has no room: make room on its disk, and start again\n"
+rest (Host host.AnotherDisk) = codes " keeps another disk, and nothing was sent to it: see that the settings name the right host, and that it was started with its own file\n"
+rest (Host host.NoDisk) = codes " keeps no disk, and nothing was sent to it: see that the settings name the right host, and that it was started with its own file\n"
+rest (Host host.Taken) = codes " keeps a disk already: name a new file at the host\n"
+rest (Host host.OutOfReach) = codes ": see that it runs and that the way to it is open, and start again\n"
+rest (Host host.Refused) = codes " doesn't take this disk: name a new file at the host\n"
+rest Unkept = codes ": see that its folder may be written and has room, and start again\n"
+rest UsedUp = codes " has made all its accesses: move what is in it to a new one\n"
+rest InUse = codes " is in use by another process: end that one first\n"
+rest Failed = codes " has failed, and oramdisk status says why: see that its own host is reached, with its own file, and then say oramdisk retry\n"
+rest NotFailed = codes " has not failed, and is left as it is\n"
+
+-- 2: words or settings; 4: a file; 5: a socket; 6 to 8: a host's file that is none, damaged, or held; 9: what is there already;
+-- 10: a state that is none; 11, 12: a host out of reach, or that refuses; 13: a state that can't be kept; 14: no access left;
+-- 16: a disk in use; 17: a disk that has failed; 18: one that has not; 19: a host's file that is missing;
+-- 20 to 22: a host with another disk, with none, or without room; 23, 24: a key or another value that isn't the formatting's;
+-- 25: a host's file of another version; 26: a file without its log, or a log without its file
+abbrev pub status : FaultKind → ℕ
+status CommandLine = 2
+status Settings = 2
+status Device = 2
+status (File why) = 4
+status Unformatted = 4
+status Address = 5
+status NotOurs = 6
+status Damaged = 7
+status Busy = 8
+status FileExists = 9
+status Exists = 9
+status Formatted = 9
+status NotADisk = 10
+status OlderState = 10
+status (Host host.OutOfReach) = 11
+status (Host host.Taken) = 12
+status (Host host.Refused) = 12
+status Unkept = 13
+status UsedUp = 14
+status InUse = 16
+status Failed = 17
+status NotFailed = 18
+status NoFile = 19
+status (Host host.AnotherDisk) = 20
+status (Host host.NoDisk) = 21
+status (Host host.NoRoom) = 22
+status WrongKey = 23
+status (Changed key) = 24
+status OlderFile = 25
+status NewerFile = 25
+status WithoutLog = 26
+status OthersLog = 26
+status LogAlone = 26

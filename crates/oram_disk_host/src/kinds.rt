@@ -1,0 +1,218 @@
+//! The kinds of faults that end the program, with their lines and statuses.
+
+ghost use Rattle.std.specs.Prelude.{◌≡◌};
+ghost use Rattle.oram_disk_host.specs.Kinds as spec;
+
+use oram_edge::HostFault;
+use oram_settings::FixedKey;
+
+/// Why a file or folder can't be opened, read or written.
+#[derive(Clone, Copy, Debug, PartialEq, Eq)]
+pub enum FileReason {
+    /// There is none of that name.
+    Missing,
+    /// The system refuses it.
+    NotPermitted,
+    /// Its disk has no room.
+    DiskFull,
+    Other,
+}
+
+/// Why the program ends, where that is about something that has a name.
+#[derive(Clone, Copy, Debug)]
+pub enum FaultKind {
+    /// The words of the command line ask for nothing. In place of a name there is what is wrong with them, and how the program is used.
+    CommandLine,
+    /// A file isn't the settings that it has to be. In place of a name there is which file it is, and what is wrong with it.
+    Settings,
+    /// The numbers in the file of this name are no disk's.
+    Device,
+    /// The file or folder of this name can't be opened, read or written.
+    File(FileReason),
+    /// The disk whose settings are in the file of this name isn't formatted yet.
+    Unformatted,
+    /// Nothing can be listened to at this address.
+    Address,
+    /// The file of this name isn't one of buckets.
+    NotOurs,
+    /// The file of buckets of this name is an older version's, or a newer one's.
+    OlderFile,
+    NewerFile,
+    /// The log beside the file of buckets of this name isn't there, or is another file's.
+    WithoutLog,
+    OthersLog,
+    /// Of the file of buckets of this name there is the log alone.
+    LogAlone,
+    /// The file of this name holds what no host writes.
+    Damaged,
+    /// Another process has the file of this name open.
+    Busy,
+    /// There is no file of buckets of this name.
+    NoFile,
+    /// There is a file of this name, where a new one was asked for.
+    FileExists,
+    /// There is something of this name already.
+    Exists,
+    /// The file of this name holds the state of a disk, or something else.
+    Formatted,
+    /// The file of this name isn't a disk's state.
+    NotADisk,
+    /// The file of this name is the state of a disk, in an older form.
+    OlderState,
+    /// The key in the settings of this name isn't the one that the disk was formatted with.
+    WrongKey,
+    /// The value of a key in the settings of this name isn't the one that the disk was formatted with.
+    Changed(FixedKey),
+    /// The host at this address is of no use.
+    Host(HostFault),
+    /// The state can't be kept in the file of this name.
+    Unkept,
+    /// The disk whose state is in the file of this name has made all the accesses that it may.
+    UsedUp,
+    /// Another process has the disk whose state is in the file of this name.
+    InUse,
+    /// The disk whose state is in the file of this name has failed.
+    Failed,
+    /// The disk whose state is in the file of this name has not failed.
+    NotFailed,
+}
+
+/// What stands before the name where a value was changed.
+fn changed(key: FixedKey) -> &'static str
+    ensures { result.now ≡ spec.changed key }
+{
+    match key {
+        FixedKey::Size => "oramdisk: size in ",
+        FixedKey::Block => "oramdisk: block in ",
+        FixedKey::Slots => "oramdisk: slots in ",
+        FixedKey::Table => "oramdisk: table in ",
+        FixedKey::Sealer => "oramdisk: sealer in ",
+    }
+}
+
+impl FaultKind {
+    /// What stands before the name in the line.
+    pub(crate) fn front(self) -> &'static str
+        ensures { result.now ≡ spec.front self }
+    {
+        match self {
+            FaultKind::Device => "oramdisk: bad numbers in ",
+            FaultKind::Unformatted =>
+                "oramdisk: the disk isn't formatted yet: start its host, and then say oramdisk format ",
+            FaultKind::File(FileReason::Other) => "oramdisk: can't open, read or write ",
+            FaultKind::Address => "oramdisk: can't listen at ",
+            FaultKind::WithoutLog | FaultKind::OthersLog => "oramdisk: the log of ",
+            FaultKind::LogAlone | FaultKind::NoFile => "oramdisk: there is no file ",
+            FaultKind::WrongKey => "oramdisk: the key in ",
+            FaultKind::Changed(key) => changed(key),
+            FaultKind::Host(HostFault::NoRoom)
+            | FaultKind::Host(HostFault::AnotherDisk)
+            | FaultKind::Host(HostFault::NoDisk)
+            | FaultKind::Host(HostFault::Taken)
+            | FaultKind::Host(HostFault::Refused) => "oramdisk: the host at ",
+            FaultKind::Host(HostFault::OutOfReach) => "oramdisk: can't reach the host at ",
+            FaultKind::Unkept => "oramdisk: can't keep the state in ",
+            FaultKind::UsedUp | FaultKind::InUse | FaultKind::Failed | FaultKind::NotFailed =>
+                "oramdisk: the disk of ",
+            _ => "oramdisk: ",
+        }
+    }
+
+    /// What stands behind the name in the line.
+    pub(crate) fn rest(self) -> &'static str
+        ensures { result.now ≡ spec.rest self }
+    {
+        match self {
+            FaultKind::CommandLine | FaultKind::Settings | FaultKind::Unformatted => "\n",
+            FaultKind::Device =>
+                ": size has to be from 1 to 16777216 blocks, block from 16 to 4096 and a multiple of 4, slots from 1 to 8, and table from 1 to 16777216\n",
+            FaultKind::File(FileReason::Missing) =>
+                ": no such file or folder: see that its name is right\n",
+            FaultKind::File(FileReason::NotPermitted) =>
+                ": permission denied: see that you may read and write it\n",
+            FaultKind::File(FileReason::DiskFull) => ": the disk is full: make room on it\n",
+            FaultKind::File(FileReason::Other) =>
+                ": see that it is there and may be written, and that its disk has room\n",
+            FaultKind::Address => ": end the program that listens there, or name another place\n",
+            FaultKind::NotOurs =>
+                " isn't a file of buckets, and is left as it is: name another file\n",
+            FaultKind::OlderFile =>
+                " is a SQLite file, which an older version may have written, and is left as it is: serve it with that version, or name another file, and format anew\n",
+            FaultKind::NewerFile =>
+                " is a file of buckets of a newer version, and is left as it is: serve it with that version\n",
+            FaultKind::WithoutLog =>
+                ", the file beside it with -log behind its name, isn't there: put back the one that it was served with last\n",
+            FaultKind::OthersLog =>
+                ", the file beside it with -log behind its name, is another file's: put back the one that it was served with last\n",
+            FaultKind::LogAlone =>
+                ", but its log, the file beside it with -log behind its name, holds records of it: put the file back, or take the log away\n",
+            FaultKind::Damaged =>
+                " is damaged, and is left as it is: name another file, and format anew\n",
+            FaultKind::Busy => " is held by another process: end that one first\n",
+            FaultKind::NoFile =>
+                ": see that the settings are those of the right host, or say oramdisk host --new to make it\n",
+            FaultKind::FileExists =>
+                " is there already, and is left as it is: leave --new out to serve it\n",
+            FaultKind::Exists => " is there already, and is left as it is: name another folder\n",
+            FaultKind::Formatted =>
+                " is there already, and is left as it is: to format anew, take it away, and name a new file at the host\n",
+            FaultKind::NotADisk => " isn't the state of a disk, and is left as it is\n",
+            FaultKind::OlderState =>
+                " is the state of a disk of an older version, and is left as it is: serve it with that version, and copy what is in it to a new disk\n",
+            FaultKind::WrongKey =>
+                " isn't this disk's: put the one back that it was formatted with\n",
+            FaultKind::Changed(_) =>
+                " isn't what it was when the disk was formatted: put it back\n",
+            FaultKind::Host(HostFault::NoRoom) =>
+                " has no room: make room on its disk, and start again\n",
+            FaultKind::Host(HostFault::AnotherDisk) =>
+                " keeps another disk, and nothing was sent to it: see that the settings name the right host, and that it was started with its own file\n",
+            FaultKind::Host(HostFault::NoDisk) =>
+                " keeps no disk, and nothing was sent to it: see that the settings name the right host, and that it was started with its own file\n",
+            FaultKind::Host(HostFault::Taken) =>
+                " keeps a disk already: name a new file at the host\n",
+            FaultKind::Host(HostFault::OutOfReach) =>
+                ": see that it runs and that the way to it is open, and start again\n",
+            FaultKind::Host(HostFault::Refused) =>
+                " doesn't take this disk: name a new file at the host\n",
+            FaultKind::Unkept =>
+                ": see that its folder may be written and has room, and start again\n",
+            FaultKind::UsedUp => " has made all its accesses: move what is in it to a new one\n",
+            FaultKind::InUse => " is in use by another process: end that one first\n",
+            FaultKind::Failed =>
+                " has failed, and oramdisk status says why: see that its own host is reached, with its own file, and then say oramdisk retry\n",
+            FaultKind::NotFailed => " has not failed, and is left as it is\n",
+        }
+    }
+
+    /// The exit status.
+    pub(crate) fn status(self) -> u8
+        ensures { result ≡ spec.status self }
+    {
+        match self {
+            FaultKind::CommandLine | FaultKind::Settings | FaultKind::Device => 2,
+            FaultKind::File(_) | FaultKind::Unformatted => 4,
+            FaultKind::Address => 5,
+            FaultKind::NotOurs => 6,
+            FaultKind::Damaged => 7,
+            FaultKind::Busy => 8,
+            FaultKind::FileExists | FaultKind::Exists | FaultKind::Formatted => 9,
+            FaultKind::NotADisk | FaultKind::OlderState => 10,
+            FaultKind::Host(HostFault::OutOfReach) => 11,
+            FaultKind::Host(HostFault::Taken) | FaultKind::Host(HostFault::Refused) => 12,
+            FaultKind::Unkept => 13,
+            FaultKind::UsedUp => 14,
+            FaultKind::InUse => 16,
+            FaultKind::Failed => 17,
+            FaultKind::NotFailed => 18,
+            FaultKind::NoFile => 19,
+            FaultKind::Host(HostFault::AnotherDisk) => 20,
+            FaultKind::Host(HostFault::NoDisk) => 21,
+            FaultKind::Host(HostFault::NoRoom) => 22,
+            FaultKind::WrongKey => 23,
+            FaultKind::Changed(_) => 24,
+            FaultKind::OlderFile | FaultKind::NewerFile => 25,
+            FaultKind::WithoutLog | FaultKind::OthersLog | FaultKind::LogAlone => 26,
+        }
+    }
+}
