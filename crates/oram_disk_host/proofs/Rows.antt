@@ -1,5 +1,5 @@
 -- The definitions on words, settings, a fault and a connection that are written out.
-use Rattle.std.proofs.Common.{◌≡◌, refl, [], ◌∷◌, Some, None, codes}
+use Rattle.std.proofs.Common.{◌≡◌, refl, [], ◌∷◌, Some, codes}
 use Rattle.toml.specs.Data.{member, no_members, string}
 use Rattle.toml.specs.Parse.{parse_document}
 use Rattle.toml.proofs.OnLiterals.{toml_on_literals}

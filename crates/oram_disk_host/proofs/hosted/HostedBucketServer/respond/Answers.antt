@@ -20,7 +20,7 @@ returns-clause-ok g c =
           sent = c.with-self-inside.ensures.sent ∙ ap (λ (b : List ℕ). capped (c.self.inside.tally.sent + frame_len b)) counted;
         };
         told = λ message numbers is. (call.ok.3 message numbers is).0;
-        served = λ message numbers is honest sound. (call.ok.3 message numbers is).3 honest sound;
+        served = λ message numbers is honest sound. (call.ok.3 message numbers is).4 honest sound;
         sure = λ message numbers is at_once granted. (call.ok.3 message numbers is).1 at_once granted;
         goes_on = λ message numbers is granted. (call.ok.3 message numbers is).2 granted;
         op = λ h. sym bytes ∙ call.op h;
