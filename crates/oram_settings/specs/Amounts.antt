@@ -37,7 +37,7 @@ in_binary size =
     else if size % 2 ^ 10 == 0 then Some (size / 2 ^ 10, codes "KiB")
     else None
 
--- so many of a unit; where there is none, the amount
+-- a size as a whole number of this unit; a size that isn't one is written as an amount
 abbrev pub in_units_or : List ℕ → Option (ℕ × List ℕ) → List ℕ
 in_units_or other None = other
 in_units_or other (Some (count, unit)) = concat (decimal count ∷ codes " " ∷ unit ∷ [])

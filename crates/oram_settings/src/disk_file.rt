@@ -260,7 +260,8 @@ pub fn device_of(size: u64, block: u64, slots: u64, table: u64) -> Option<Device
     Device::new(blocks, block, slots, table, LIFETIME).ok()
 }
 
-/// The first settings of a disk of so many bytes and this key, which is drawn at random. What may be left out stands there as comments.
+/// The text of a new disk's settings file. It sets the size in bytes and the key, which the caller draws at random; the settings that
+/// have defaults stand in it as comments.
 pub fn disk_text(alloc: Global, size: u64, key: &[u8; 32]) -> Result<String, AllocError>
     ensures { IfOk result (λ text. string_bytes text ≡ first_text size key.now) }
 {
