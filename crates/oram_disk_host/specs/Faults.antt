@@ -30,7 +30,7 @@ status_of OutOfMemory = 3
 status_of Accept = 5
 status_of Random = 15
 
--- what it is to the program that a file was not read or kept
+-- the fault of the program where a file can't be read or kept
 abbrev pub kept_fault : FileFault → Fault
 kept_fault (file.File name) = Of (kind.File reason.Other) name
 kept_fault file.OutOfMemory = OutOfMemory
@@ -47,7 +47,7 @@ abbrev pub file_fault : ErrorKind → String Global → Fault
 file_fault error.OutOfMemory name = OutOfMemory
 file_fault any_other name = Of (kind.File (reason_of any_other)) name
 
--- what it is to the program that the file of this name can't be opened as a store, or goes on as one no more
+-- the fault of the program where the store in the file of this name can't be opened, or has stopped
 abbrev pub store_fault : StoreFault → String Global → Fault
 store_fault store.Busy name = Of kind.Busy name
 store_fault store.NotOurs name = Of kind.NotOurs name

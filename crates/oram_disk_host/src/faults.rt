@@ -48,7 +48,7 @@ impl From<FileFault> for Fault {
     }
 }
 
-/// What it is to the program that the file of this name can't be opened as a store, or goes on as one no more.
+/// The fault of the program where the store in the file of this name can't be opened, or has stopped.
 pub fn store_fault(name: String, why: StoreFault) -> Fault
     ensures { result ≡ spec.store_fault why name }
 {
