@@ -1,9 +1,9 @@
-//! How long an access takes through the core and the server, beside two hashings of the same bytes.
+//! How long an access takes in the core and the server, beside two hashings of the same bytes.
 //!
-//! A single tree of large blocks, plain and sealed, two trees of as many blocks as a disk of 256 MiB has, and three trees of
-//! small blocks, and 2,000 accesses each. It also tells what formatting a record took, beside one
-//! hashing of it, and what writing the state file at the end took, and that of a large core, beside one hashing of as many bytes;
-//! and what the accesses take as a session, beside the same through the core and the server alone.
+//! It measures a single tree of large blocks, plain and sealed; two trees of as many blocks as a disk of 256 MiB has;
+//! and three trees of small blocks: 2,000 accesses each. It also measures formatting a record, beside one hashing of
+//! it; writing the state file at the end, and that of a large core, beside one hashing of as many bytes; and the
+//! accesses as a session, beside the same accesses in the core and the server alone.
 mod sessions;
 
 use oram_bucket::{Block, ChaChaSeal, PlainSeal, Sealer};
@@ -22,12 +22,12 @@ use std::time::{Duration, Instant};
 
 const ACCESSES: u32 = 2_000;
 
-/// Messages of an access are fewer: a fetch and a store for each of at most 13 trees.
+/// An access has fewer messages: a fetch and a store for each of at most 13 trees.
 const MOST_MESSAGES: u32 = 27;
 
 const FETCH: u8 = 1;
 
-/// What each took in all accesses.
+/// How long each part took in all accesses.
 #[derive(Clone, Copy)]
 struct Times {
     core: Duration,
@@ -35,10 +35,10 @@ struct Times {
     hashing: Duration,
 }
 
-/// Hashings of one record, to time one.
+/// The number of hashings of one record that give the time of one.
 const HASHINGS: u32 = 1_000;
 
-/// A read or a write of some block, with words of its own.
+/// Returns a read or a write of some block, with words of its own.
 fn some_access(
     alloc: Global,
     device: &Device,
@@ -65,14 +65,14 @@ fn some_access(
     })
 }
 
-/// SHA-256 of each record, twice over.
+/// Hashes each record with SHA-256, twice over.
 fn hash_twice(records: &[u8], record_len: usize) -> u8 {
     let once = |mixed, record: &[u8]| mixed ^ node_digest(record)[0];
     let first = records.chunks(record_len.max(1)).fold(0, once);
     records.chunks(record_len.max(1)).fold(first, once)
 }
 
-/// Makes a step. The message that it sends, if any, is handed back.
+/// Makes a step, and returns the message that it sends, if any.
 fn step<S: Sealer>(
     rt: &(impl Alloc<A = Global> + std::rt::Clock),
     core: &mut Core<S>,
@@ -85,7 +85,7 @@ fn step<S: Sealer>(
     Ok(reaction.sends.pop())
 }
 
-/// The server's answer to a message. The records of a path are hashed twice, apart from it.
+/// Returns the server's answer to a message. It also hashes the records of a path twice, and times that apart.
 fn serve(
     rt: &(impl Alloc<A = Global> + std::rt::Clock),
     server: &mut Server,
@@ -125,7 +125,7 @@ fn access<S: Sealer>(
     Ok(())
 }
 
-/// How many records a device has in all its trees.
+/// Returns the number of records of a device in all its trees.
 fn records_of(device: &Device) -> u64 {
     let mut records: u64 = 0;
     for tree in 0..device.trees() {
@@ -134,7 +134,7 @@ fn records_of(device: &Device) -> u64 {
     records
 }
 
-/// How long one hashing of a record of this length takes.
+/// Returns how long one hashing of a record of this length takes.
 fn time_of_hashing(rt: &HostRuntime, record_len: usize) -> io::Result<Duration> {
     let record = vec![in rt.alloc(); 7u8; record_len]?;
     let start = Instant::now(rt)?;
@@ -142,7 +142,7 @@ fn time_of_hashing(rt: &HostRuntime, record_len: usize) -> io::Result<Duration> 
     Ok(start.elapsed(rt)? / HASHINGS)
 }
 
-/// Formats a device, makes accesses to it, and prints what they took.
+/// Formats a device, makes accesses to it, and prints how long they took.
 fn measure<S: Sealer>(rt: &HostRuntime, name: &str, device: Device, sealer: S) -> io::Result<()> {
     let record_len = device.record_len(sealer.overhead());
     let records = records_of(&device);
@@ -173,12 +173,12 @@ fn measure<S: Sealer>(rt: &HostRuntime, name: &str, device: Device, sealer: S) -
     report_file(rt, &core)
 }
 
-/// A part of a whole, in hundredths.
+/// Returns a part of a whole, in hundredths.
 fn hundredths(part: Duration, whole: Duration) -> u128 {
     part.as_micros() * 100 / whole.as_micros().max(1)
 }
 
-/// Prints what the accesses took, on average, and how many blocks lie in no bucket at the end.
+/// Prints how long the accesses took, on average, and how many blocks lie in no bucket at the end.
 fn report<S: Sealer>(rt: &HostRuntime, core: &Core<S>, times: &Times) -> io::Result<()> {
     let micros = |time: Duration| time.as_micros() / u128::from(ACCESSES);
     let whole = times.core.saturating_add(times.host);
@@ -207,7 +207,7 @@ fn report<S: Sealer>(rt: &HostRuntime, core: &Core<S>, times: &Times) -> io::Res
     Ok(())
 }
 
-/// Prints what writing the core's state file takes, and one hashing of as many bytes.
+/// Prints how long writing the core's state file takes, and one hashing of as many bytes.
 fn report_file<S: Sealer>(rt: &HostRuntime, core: &Core<S>) -> io::Result<()> {
     let start = Instant::now(rt)?;
     let file = encode_state(rt.alloc(), core)?;
@@ -223,7 +223,8 @@ fn report_file<S: Sealer>(rt: &HostRuntime, core: &Core<S>) -> io::Result<()> {
     )
 }
 
-/// The parts of a new core of a device of 4 GiB whose client keeps the whole map, with so many blocks in its stash.
+/// Returns the parts of a new core for a device of 4 GiB whose client keeps the whole map, with `blocks` blocks in its
+/// stash.
 fn large_parts(alloc: Global, device: Device, blocks: u32) -> Result<Parts, AllocError> {
     let mut stash = Vec::new(alloc);
     for address in 0..blocks {
@@ -254,7 +255,7 @@ fn large_parts(alloc: Global, device: Device, blocks: u32) -> Result<Parts, Allo
     })
 }
 
-/// Prints what writing a large core's state file takes.
+/// Prints how long writing a large core's state file takes.
 fn report_large_file(rt: &HostRuntime) -> io::Result<()> {
     let Ok(device) = Device::new(1 << 20, 4_096, 4, 1 << 20, 1 << 40) else {
         return Ok(());
@@ -267,7 +268,7 @@ fn report_large_file(rt: &HostRuntime) -> io::Result<()> {
     report_file(rt, &core)
 }
 
-/// Prints what each device takes.
+/// Measures each device, and prints the times.
 pub(crate) fn run(rt: &HostRuntime) -> io::Result<()> {
     let sealer = ChaChaSeal { key: [7; 32] };
     if let Ok(device) = Device::new(4_096, 4_096, 4, 4_096, 1 << 40) {

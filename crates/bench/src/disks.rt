@@ -1,8 +1,10 @@
-//! What keeping costs a disk: requests of 4 KiB, with nothing kept, with a state kept in a file, and with that file synced.
+//! What it costs a disk to keep its state: requests of 4 KiB with nothing kept, with each state kept in a file, and
+//! with that file synced.
 //!
-//! It formats a disk of 16 MiB in memory, two trees of blocks of 4,096 bytes, sealed. In one run it makes the same reads and writes
-//! by the core alone, as requests of NBD over it with nothing kept, and so with each state kept in a file of a folder, without sync
-//! and with it. The host is a server in memory, and there is no socket between, so that what is told is the client's own work.
+//! It formats a disk of 16 MiB in memory, with two trees of blocks of 4,096 bytes, sealed. In one run it makes the same
+//! reads and writes with the core alone, as NBD requests with nothing kept, and as NBD requests with each state kept in
+//! a file of a folder, without sync and with it. The host is a server in memory, and there is no socket in between, so
+//! it measures the client's own work.
 
 mod requests;
 
@@ -21,7 +23,7 @@ use std::rt::{Clock, Files};
 use std::time::{Duration, Instant};
 use std::{fs, io};
 
-/// Keeps nothing.
+/// A keeper that keeps nothing.
 #[derive(Clone, Copy, Drop)]
 struct Nowhere;
 
@@ -41,7 +43,7 @@ fn failed() -> io::Error {
     io::ErrorKind::Other.into()
 }
 
-/// A new disk, whose table has room for 1,024 entries.
+/// Returns a new disk, whose table has room for 1,024 entries.
 fn formatted<K: Keeper + Drop>(alloc: Global, keeper: K) -> io::Result<Disk<K>> {
     let blocks = u64::from(BLOCKS);
     let Ok(device) = Device::new(blocks, u64::from(BLOCK_BYTES), 4, 1_024, 1 << 40) else {
@@ -64,7 +66,7 @@ fn formatted<K: Keeper + Drop>(alloc: Global, keeper: K) -> io::Result<Disk<K>> 
     })
 }
 
-/// How long the accesses take as commands of the core, with nothing kept.
+/// Returns how long the accesses take as commands of the core, with nothing kept.
 fn by_the_core(rt: &(impl Alloc<A = Global> + Clock), accesses: &[Access]) -> io::Result<Duration> {
     let alloc = rt.alloc();
     let mut disk = formatted(alloc, Nowhere)?;
@@ -89,7 +91,7 @@ fn by_the_core(rt: &(impl Alloc<A = Global> + Clock), accesses: &[Access]) -> io
     start.elapsed(rt)
 }
 
-/// How long they take as requests.
+/// Returns how long the accesses take as NBD requests.
 fn by_requests<K: Keeper + Drop>(
     rt: &(impl Alloc<A = Global> + Clock),
     keeper: K,
@@ -109,7 +111,7 @@ fn by_requests<K: Keeper + Drop>(
     }
 }
 
-/// A line of the time of a request, and how many times that of the core it is.
+/// Prints the time of a request, and how many times that of the core it is.
 fn report(rt: &impl Print, name: &str, time: Duration, core: Duration) -> io::Result<()> {
     let each = time.as_micros() / u128::from(REQUESTS);
     let ratio = time.as_micros().saturating_mul(100) / core.as_micros().max(1);
@@ -120,7 +122,7 @@ fn report(rt: &impl Print, name: &str, time: Duration, core: Duration) -> io::Re
     )
 }
 
-/// Measures it with files in this folder.
+/// Measures all of this with files in this folder.
 pub(crate) fn measure<R: Files + Clock + Print + Alloc<A = Global>>(
     rt: &R,
     folder: &str,

@@ -15,7 +15,7 @@ const DIGESTS_LEN: usize = 64;
 
 const ROUNDS: u32 = 100;
 
-/// Sealed parts of one length.
+/// Returns sealed parts of one length.
 fn sealed_parts(alloc: Global, count: usize, len: usize) -> Result<Vec<Vec<u8>>, AllocError>
     ensures count { IfOk result (λ v. vec_len v ≡ count) }
     ensures lengths { IfOk result (λ v. All (λ part. vec_len part ≡ len) v.items) }
@@ -27,7 +27,7 @@ fn sealed_parts(alloc: Global, count: usize, len: usize) -> Result<Vec<Vec<u8>>,
     Ok(parts)
 }
 
-/// The path of leaf 0 with these sealed parts, root first, and its root digest.
+/// Returns the path of leaf 0 with these sealed parts, root first, and its root digest.
 fn path_of(alloc: Global, parts: &[Vec<u8>]) -> Result<(Vec<u8>, [u8; 32]), AllocError> {
     let mut records: Vec<Vec<u8>> = Vec::new(alloc);
     let mut digest = NO_DIGEST;
@@ -45,7 +45,7 @@ fn path_of(alloc: Global, parts: &[Vec<u8>]) -> Result<(Vec<u8>, [u8; 32]), Allo
     Ok((bytes, digest))
 }
 
-/// SHA-256 of each record alone.
+/// Hashes each record alone with SHA-256.
 fn hash_alone(bytes: &[u8], record_len: usize) -> u8
     requires { 0 < record_len }
 {
@@ -54,7 +54,7 @@ fn hash_alone(bytes: &[u8], record_len: usize) -> u8
         .fold(0, |mixed, record| mixed ^ node_digest(record)[0])
 }
 
-/// What each took in all rounds.
+/// How long each part took in all rounds.
 #[derive(Clone, Copy)]
 struct Times {
     alone: Duration,
@@ -94,7 +94,7 @@ fn measure(rt: &(impl Alloc<A = Global> + std::rt::Clock), device: &Device) -> i
     Ok(times)
 }
 
-/// Prints what each takes.
+/// Measures each part, and prints the times.
 pub(crate) fn run(rt: &HostRuntime) -> io::Result<()> {
     let Ok(device) = Device::new(65_536, 4096, 4, 65_536, 1) else {
         return Ok(());

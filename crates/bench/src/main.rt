@@ -1,4 +1,4 @@
-//! What the parts of the store take, each measured beside what it can't be quicker than.
+//! Measures the parts of the store, each beside the least time that it could take.
 #![tactic(auto)]
 
 mod cores;

@@ -1,12 +1,16 @@
 //! How long a bucket server in a file takes, beside the one in memory and a write of the same bytes.
 //!
-//! `run FILE` makes the first device of `bench core` in a new file, one tree of blocks of 4,096 bytes, and tells how many FETCHes
-//! and STOREs a second the store answers, how many the server in memory, and how many writes of the same bytes are synced a second,
-//! in one run: each by its mean, its median and the longest. `fill FILE DEPTH` makes a whole tree of that depth of the same records
-//! in a new file (depth 16: 2.2 GB); `open FILE` opens what `fill` left, and fetches the paths of its first 1,000 leaves. Each tells
-//! the most memory that the process had. `scatter FILE DEPTH STORES` makes a new file with one tree and stores that number of
-//! random paths in it. It doesn't close the file, so the next `open` finds the last paths in the log. At depth 24 the file is 550 GB
-//! long, but takes little room on the disk.
+//! `run FILE` makes the first device of `bench core` in a new file, one tree of blocks of 4,096 bytes. It prints how
+//! many FETCHes and STOREs a second the store answers, how many the server in memory answers, and how many synced
+//! writes of the same bytes there are a second, all in one run: each with its mean, its median and the longest.
+//!
+//! `fill FILE DEPTH` makes a whole tree of that depth of the same records in a new file (depth 16: 2.2 GB). `open FILE`
+//! opens what `fill` left, and fetches the paths of its first 1,000 leaves. Each prints the most memory that the
+//! process had.
+//!
+//! `scatter FILE DEPTH STORES` makes a new file with one tree and stores that number of random paths in it. It doesn't
+//! close the file, so the next `open` finds the last paths in the log. At depth 24 the file is 550 GB long, but takes
+//! little room on the disk.
 
 ghost use Rattle.std.specs.Prelude.{◌≤◌};
 
@@ -32,7 +36,7 @@ use std::{fs, io};
 use system::{close, new_store, report_memory};
 use times::{Summary, Times, ratio};
 
-/// Those whose STOREs fill the log, so that it begins anew meanwhile.
+/// Enough accesses for their STOREs to fill the log, so that it is emptied meanwhile.
 const ACCESSES: u32 = 600;
 
 /// A tree of records.
@@ -43,7 +47,7 @@ pub(crate) struct Shape {
     ghost deep: { depth ≤ 24 },
 }
 
-/// What takes the bodies of requests.
+/// Something that takes the bodies of requests.
 pub(crate) trait Takes {
     fn take(&mut self, alloc: Global, body: &[u8]) -> io::Result<Vec<u8>>;
 }
@@ -89,7 +93,7 @@ impl Accesses {
     }
 }
 
-/// The same accesses to the store, to the server in memory and to the plain file.
+/// The times of the same accesses to the store, to the server in memory and to the plain file.
 #[derive(Drop)]
 struct Compared {
     file: Accesses,
@@ -129,7 +133,7 @@ pub(crate) fn shape_body(alloc: Global, shape: Shape) -> Result<Vec<u8>, AllocEr
     .encode(alloc)
 }
 
-/// The body of a PUT of bytes that are all alike.
+/// Returns the body of a PUT of bytes that are all the same.
 fn put_body(alloc: Global, shape: Shape, node: u32) -> Result<Vec<u8>, AllocError> {
     let record_len = shape.record_len as usize;
     HostRequest::Put {
@@ -140,7 +144,7 @@ fn put_body(alloc: Global, shape: Shape, node: u32) -> Result<Vec<u8>, AllocErro
     .encode(alloc)
 }
 
-/// Gives a tree its shape and all its records. Tells how many records were taken.
+/// Gives a tree its shape and all its records. Returns how many records were taken.
 pub(crate) fn format<T: Takes>(alloc: Global, taker: &mut T, shape: Shape) -> io::Result<u32> {
     let _ = taker.take(alloc, shape_body(alloc, shape)?.as_slice())?;
     let mut taken = 0u32;
@@ -153,7 +157,7 @@ pub(crate) fn format<T: Takes>(alloc: Global, taker: &mut T, shape: Shape) -> io
     Ok(taken)
 }
 
-/// A FETCH of a leaf, and a STORE of bytes drawn at random to it.
+/// Returns a FETCH of a leaf, and a STORE of bytes drawn at random to it.
 pub(crate) fn bodies(
     alloc: Global,
     shape: Shape,
@@ -174,7 +178,7 @@ pub(crate) fn bodies(
     Ok((fetch, store.encode(alloc)?))
 }
 
-/// Hands each access to the store, the server and the plain file in turn. Tells how many answers differ.
+/// Hands each access to the store, the server and the plain file in turn. Returns how many answers differ.
 fn compare<F: FilePair, W: OpenFile + Write + Seek>(
     rt: &(impl Alloc<A = Global> + Clock),
     shape: Shape,
@@ -267,7 +271,7 @@ where
     report(rt, &mut times, differing)
 }
 
-/// The records of the first device of `bench core`.
+/// Returns the shape of the tree of the first device of `bench core`.
 pub(crate) fn first_shape() -> Option<Shape> {
     let device = Device::new(4_096, 4_096, 4, 4_096, 1 << 40).ok()?;
     prove!(0 < device.trees());

@@ -14,7 +14,7 @@ use Rattle.oram_answering.specs.Faults.{frame_fault}
 use Rattle.oram_answering.specs.declared.faults.ServeFault.TheVariants.{Read, Frame, OutOfMemory}
 
 module _ {P X : Type 0} (leads : P → X → P → Type 0) (request answer : X → List ℕ) where
-  -- so many of them, and nothing more
+  -- n of them, and nothing more
   pub record Answered (p : P) (unread written : Option (List ℕ)) (n : ℕ) (q : P) (unread' written' : Option (List ℕ)) : Type 0 where
     pub all : List X
     pub count : length all ≡ n
@@ -39,7 +39,7 @@ module _ {P X : Type 0} (leads : P → X → P → Type 0) (request answer : X �
         (Appends-trans w w' w'' (frames_of answer k.all) (frame (answer x)) k.wrote wrote);
   }
 
-  -- and then so many bytes more were read and written
+  -- and then some more bytes were read and written
   pub answered_then : (p : P) (r w : Option (List ℕ)) (n : ℕ) (q : P) (r' w' r'' w'' : Option (List ℕ)) (part more : List ℕ) →
       (k : Answered p r w n q r' w') → Consumes r' r'' part → Appends w' w'' more → HasAnswered leads request answer p k.all q part r r'' more w w''
   answered_then p r w n q r' w' r'' w'' part more k read wrote = record {
@@ -49,7 +49,7 @@ module _ {P X : Type 0} (leads : P → X → P → Type 0) (request answer : X �
     wrote = Appends-trans w w' w'' (frames_of answer k.all) more k.wrote wrote;
   }
 
--- which fault of the frames it was
+-- the fault of a frame, from the fault that it became
 pub was_read : (f : FrameFault) → frame_fault f ≡ Read → f ≡ frames.Read
 was_read frames.Read e = refl
 was_read frames.Frame e = absurd cc

@@ -8,7 +8,7 @@ use Rattle.oram_answering.specs.Answering.{Exchange, IsExchange, HasHosted, answ
 use Rattle.oram_answering.proofs.Answered.{Answered, answered_more, answered_then}
 
 module _ {H : Type 0} (serves : H → List ℕ → HostAnswer → H → Type 0) where
-  -- so many exchanges, and nothing more
+  -- n exchanges, and nothing more
   abbrev pub Hosted : H → Option (List ℕ) → Option (List ℕ) → ℕ → H → Option (List ℕ) → Option (List ℕ) → Type 0
   Hosted = Answered (IsExchange serves) (λ x. x.body) (λ x. answer_body x.answer)
 
@@ -16,12 +16,12 @@ module _ {H : Type 0} (serves : H → List ℕ → HostAnswer → H → Type 0) 
       Hosted p r w n q r' w' → IsExchange serves q x z → IsBody x.body → Consumes r' r'' (frame x.body) → Appends w' w'' (answer_frame x) → Hosted p r w (n + 1) z r'' w''
   hosted_more = answered_more (IsExchange serves) (λ x. x.body) (λ x. answer_body x.answer)
 
-  -- and then so many bytes more were read and written
+  -- and then some more bytes were read and written
   pub hosted_then : (p : H) (r w : Option (List ℕ)) (n : ℕ) (q : H) (r' w' r'' w'' : Option (List ℕ)) (part more : List ℕ) →
       (k : Hosted p r w n q r' w') → Consumes r' r'' part → Appends w' w'' more → HasHosted serves p k.all q part r r'' more w w''
   hosted_then = answered_then (IsExchange serves) (λ x. x.body) (λ x. answer_body x.answer)
 
-  -- and then so many bytes more were read, which left the server as it was
+  -- and then some more bytes were read, and the server stayed as it was
   pub hosted_kept : (p : H) (r w : Option (List ℕ)) (n : ℕ) (q z : H) (r' w' r'' w'' : Option (List ℕ)) (part : List ℕ) →
       (k : Hosted p r w n q r' w') → z ≡ q → Consumes r' r'' part → Appends w' w'' [] → HasHosted serves p k.all z part r r'' [] w w''
   hosted_kept p r w n q z r' w' r'' w'' part k same read wrote =

@@ -15,16 +15,17 @@ pub record Exchange : Type 0 where
 abbrev pub answer_frame : Exchange → List ℕ
 answer_frame x = frame (answer_body x.answer)
 
--- over a server that serves so
+-- for a server whose answers `serves` describes
 module _ {H : Type 0} (serves : H → List ℕ → HostAnswer → H → Type 0) where
-  -- the server carries out the request, and is this afterwards
+  -- the server carries out the request, and is in the state `after` then
   abbrev pub IsExchange : H → Exchange → H → Type 0
   IsExchange server x after = serves server x.body x.answer after × IsAnswer x.answer
 
-  -- The exchanges lead the server from one state to another, with what was read and written, and then so many bytes more.
+  -- The exchanges lead the server from one state to another. Their frames were read and written, and then the given
+  -- bytes.
   abbrev pub HasHosted : H → List Exchange → H → List ℕ → Option (List ℕ) → Option (List ℕ) → List ℕ → Option (List ℕ) → Option (List ℕ) → Type 0
   HasHosted = HasAnswered IsExchange (λ x. x.body) (λ x. answer_body x.answer)
 
--- What was read of a request that there was no memory for: its length, or all of it.
+-- What was read of a request for which memory ran out: its length, or all of it.
 abbrev pub IsUnanswered : List ℕ → Type 0
 IsUnanswered part = ((length part ≡ 4) × (length_at part ≤ LONGEST_BODY)) ⊎ ((body : List ℕ) × IsBody body × (part ≡ frame body))

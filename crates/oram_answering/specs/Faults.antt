@@ -1,4 +1,4 @@
--- What an end for a fault of the frames is told as.
+-- The fault of answering that a fault of reading a frame becomes.
 use Rattle.oram_wire.specs.declared.streaming.FrameFault.{FrameFault}
 use Rattle.oram_wire.specs.declared.streaming.FrameFault.TheVariants as frames
 use Rattle.oram_answering.specs.declared.faults.ServeFault.{ServeFault}

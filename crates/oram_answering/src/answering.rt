@@ -1,4 +1,4 @@
-//! The host's side of a link: request frames from a reader, answer frames to a writer, and a bucket server in between.
+//! The host's side of a link: it reads request frames, has a bucket server answer them, and writes answer frames.
 ghost use Rattle.std.specs.Prelude.{◌≡◌, ◌≢◌, ◌⊎◌, ℕ, ◌<◌, [], Err, List, length, take, IfOk, IfErr, IsErrOf, OnOk};
 ghost use Rattle.std.specs.Io.KnownBytes.{Appends, IsAtEnd};
 ghost use Rattle.oram_wire.specs.FrameStream.{IsBody, IsBroken, IsUnfinished, frame};
@@ -10,7 +10,7 @@ use oram_wire::{next_frame, put_frame};
 use std::alloc::Global;
 use std::io::{Read, Write};
 
-/// Writes a body as a frame, and lets nothing of it wait in a buffer.
+/// Writes a body as a frame, and flushes the writer.
 pub fn put_body<W: Write>(writer: &mut W, body: &[u8]) -> Result<(), ServeFault>
     requires { IsBody body.now }
     ensures ok { OnOk result (Appends (W.contents writer.old) (W.contents writer.new) (frame body.now)) }
@@ -25,10 +25,10 @@ pub fn put_body<W: Write>(writer: &mut W, body: &[u8]) -> Result<(), ServeFault>
     Ok(())
 }
 
-/// Carries out each request frame in turn, to the end of the input, and tells how many there were.
+/// Answers each request frame in turn, to the end of the input, and returns the number of requests.
 ///
-/// A body that is no request's is answered as the server refuses it. An answer is flushed before the next frame is read.
-/// `Stalled` never comes.
+/// A body that isn't a request gets the server's refusal as its answer. Each answer is flushed before the next frame is
+/// read. Never fails with `Stalled`.
 pub fn host_serve<R: Read, W: Write, H: BucketServer>(
     alloc: Global,
     reader: &mut R,
@@ -40,7 +40,7 @@ pub fn host_serve<R: Read, W: Write, H: BucketServer>(
         [] (W.contents writer.old) (W.contents writer.new)
         × IsAtEnd (R.remaining reader.new)) }
 
-    // A length that no frame has stood where one is due, or the input ended in a frame, or the reader failed in one.
+    // A frame began with a length that no frame has, or the input ended inside a frame, or the reader failed.
     ensures frame { IsErrOf result ServeFault.Frame
         → (xs : List Exchange) × (head : List ℕ) × (length head ≡ 4) × IsBroken head
         × HasHosted H.serves server.old xs server.new head (R.remaining reader.old) (R.remaining reader.new)
@@ -61,7 +61,7 @@ pub fn host_serve<R: Read, W: Write, H: BucketServer>(
         × HasHosted H.serves server.old xs mid (frame last.body) (R.remaining reader.old) (R.remaining reader.new)
         (take count (answer_frame last)) (W.contents writer.old) (W.contents writer.new) }
 
-    // Without memory nothing came of the last request.
+    // When memory ran out, the last request was not carried out.
     ensures memory { IsErrOf result ServeFault.OutOfMemory
         → (xs : List Exchange) × (part : List ℕ) × IsUnanswered part
         × HasHosted H.serves server.old xs server.new part (R.remaining reader.old) (R.remaining reader.new)

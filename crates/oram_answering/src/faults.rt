@@ -1,24 +1,24 @@
-//! Why the answering of frames ends early.
+//! Why answering frames ends early.
 ghost use Rattle.std.specs.Prelude.{◌≡◌};
 
 use oram_wire::{FrameFault, WriteFault};
 use std::alloc::AllocError;
 use std::fmt;
 
-/// Why frames are answered no further before their input ends.
+/// Why answering frames ended before the end of the input.
 #[derive(Clone, Copy, Debug, PartialEq, Eq)]
 pub enum ServeFault {
     /// The reader failed.
     Read,
     /// The writer failed.
     Write,
-    /// A length above the longest body's stood where a frame is due.
+    /// A frame began with a length above that of the longest body.
     Frame,
     /// The input ended inside a frame.
     Truncated,
-    /// One message to the host stalled four times, in a session.
+    /// In a session, one message to the host stalled four times.
     Stalled,
-    /// Memory was refused.
+    /// There was not enough memory.
     OutOfMemory,
 }
 

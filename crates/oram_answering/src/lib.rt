@@ -1,7 +1,8 @@
-//! The host's end of a link: request frames from a reader, answer frames to a writer, and a bucket server in between.
+//! The host's end of a link: it reads request frames, has a bucket server answer them, and writes answer frames.
 //!
-//! A [`BucketServer`] answers one request after the other, as `oram_host`'s `Server` does in memory. [`host_serve`] reads its
-//! requests and writes its answers, to the end of the input. [`put_body`] and [`ServeFault`] serve a client's sessions too.
+//! A [`BucketServer`] answers one request after the other; `oram_host`'s `Server` does so in memory. [`host_serve`]
+//! reads the requests and writes the answers, to the end of the input. Sessions with a client use [`put_body`] and
+//! [`ServeFault`] too.
 #![tactic(auto)]
 
 mod answering;

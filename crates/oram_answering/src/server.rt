@@ -1,4 +1,4 @@
-//! What answers the requests to a bucket host.
+//! The trait of bucket servers.
 ghost use Rattle.std.specs.Prelude.{◌≡◌, ℕ, List, IfOk, OnErr};
 ghost use Rattle.oram_wire.specs.FrameStream.{IsBody};
 ghost use Rattle.oram_wire.specs.HostMessages.{answer_body};
@@ -8,16 +8,17 @@ ghost use Rattle.oram_wire.specs.declared.host_messages.HostAnswer.{HostAnswer};
 use oram_host::Server;
 use std::alloc::{AllocError, Global};
 
-/// A bucket server.
+/// A server that answers the requests of a client, one after the other.
 pub trait BucketServer {
-    /// From the first value a request with these bytes may have this answer and leave the second.
+    /// Whether a server in the first state may give this answer to a body of these bytes, and be in the second state
+    /// afterwards.
     ghost serves: { Self → List ℕ → HostAnswer → Self → Type 0 };
 
-    /// The bytes of the answer to the body of a request. Where there is no memory to tell it, nothing is served.
+    /// Returns the bytes of the answer to the body of a request. If there is no memory to answer, it serves nothing.
     fn respond(&mut self, alloc: Global, body: &[u8]) -> Result<Vec<u8>, AllocError>
         ensures ok { IfOk result (λ v. (answer : HostAnswer) × serves self.old body.now answer self.new
             × IsAnswer answer × (v.items ≡ answer_body answer)) }
-        // A frame has room for it.
+        // The answer fits in a frame.
         ensures fits { IfOk result (λ v. IsBody v.items) }
         ensures err { OnErr result (self.new ≡ self.old) };
 }

@@ -1,4 +1,4 @@
--- The loop of the decoder, over what it has read and what is left.
+-- The loop of the decoder: what it has read, and what is left to read.
 use Rattle.std.proofs.Common.{◌≡◌, ℕ, ◌+◌, ◌*◌, ◌%◌, ◌^◌, ◌<◌, ◌≤◌, List, [], ◌∷◌, ◌++◌, length, drop, Option, Some, None, Result, Ok, Err, IfOk, IsOkAnd, sym, ap, ◌∙◌, inl, inr, arith, below_more, add-one, slice_index, subst}
 use Rattle.std.proofs.lemmas.Nat.{one_shl}
 use Rattle.oram_geometry.specs.declared.Sizes.{Sizes}
@@ -13,7 +13,7 @@ use Rattle.oram_bucket.proofs.Spelling.{HasFew, length-spelling, one_spelling, b
 use Rattle.oram_bucket.proofs.Slots.{no_fault, first_of_slots, spelled_without_fault, slot_without_fault}
 use Rattle.oram_bucket.proofs.SlotBySlot.{IsReadTo, read_real, read_dummy, read_all, next_slot, last_slot, bytes_dropped}
 
--- what holds after k slots, where these bytes are left to be cut into pieces of this size
+-- the loop's state after k slots, with these bytes left to cut into pieces of this size
 pub record IsAt (d : Sizes) (i : ℕ) (bytes : List ℕ) (k : ℕ) (rest : List ℕ) (size : ℕ) (before : Option ℕ) (held : List Cell → Type 0) : Type 0 where
   pub within : k ≤ d.slots
   pub rest_is : rest ≡ drop (k * slot_len d) bytes
@@ -24,21 +24,21 @@ pub record IsAt (d : Sizes) (i : ℕ) (bytes : List ℕ) (k : ℕ) (rest : List 
   pub read : IsReadTo d i bytes k before cells
   pub holds : held cells
 
--- the code's number of leaves
+-- the number of leaves as the code computes it
 leaves_are : (d : Sizes) (i depth : ℕ) → depth ≡ depth_of d i → depth ≤ 24 → (1 * 2 ^ depth) % 2 ^ 32 ≡ 2 ^ depth_of d i
 leaves_are d i depth is shallow = one_shl depth 32 (omega arith) ∙ ap (λ (n : ℕ). 2 ^ n) is
 
 pub size_of : (d : Sizes) (slots block : ℕ) → slots ≡ d.slots → block ≡ d.block_bytes → slots * (8 + block) ≡ bucket_len d
 size_of d slots block s b = ap (λ (n : ℕ). n * (8 + block)) s ∙ ap (λ (n : ℕ). d.slots * (8 + n)) b
 
--- one more block, where there was memory for it and for those before
+-- one more block, if there was memory for it and for those before
 pub more_held : {V E : Type 0} (items : V → List Cell) (blocks r : Result V E) (cells : List Cell) (x : Cell)
     → IfOk r (λ v. IsOkAnd blocks (λ u. items v ≡ items u ++ x ∷ [])) → IfOk blocks (λ u. items u ≡ cells) → IfOk r (λ v. items v ≡ cells ++ x ∷ [])
 more_held items blocks (Err e) cells x grown held = tt
 more_held items (Err e) (Ok v) cells x grown held = absurd grown
 more_held items (Ok u) (Ok v) cells x grown held = grown ∙ ap (λ (cs : List Cell). cs ++ x ∷ []) held
 
--- the next piece, and what was told of it
+-- the next piece, and the result of its test
 pub record IsPiece (d : Sizes) (i : ℕ) (bytes : List ℕ) (k : ℕ) (before : Option ℕ) (slot rest rest' : List ℕ) (size size' : ℕ) (told : Option BucketFault) : Type 0 where
   pub cut : rest ≡ slot ++ rest'
   pub long : length slot ≡ size
@@ -120,7 +120,7 @@ at_dummy d i bytes k before held slot rest rest' size size' at all p none =
       holds = at.holds;
     }
 
--- the same, where the count and the number are written otherwise
+-- the same, with the count and the number written in another form
 pub moved : (d : Sizes) (i : ℕ) (bytes : List ℕ) (k n : ℕ) (rest : List ℕ) (size number same : ℕ) (held : List Cell → Type 0) → n ≡ k + 1 → number ≡ same
     → IsAt d i bytes (k + 1) rest size (Some same) held → IsAt d i bytes n rest size (Some number) held
 moved d i bytes k n rest size number same held e f at =
@@ -136,7 +136,7 @@ at_fault d i bytes k before held slot rest rest' size size' f at all p =
     let next = next_slot d bytes k slot rest rest' all at.rest_is p.cut (p.long ∙ at.size_is) in
     first_of_slots d i bytes k f all next.within at.clean p.fault
 
--- what holds at the end
+-- the loop's state at the end
 pub record IsAtEnd (d : Sizes) (i : ℕ) (bytes : List ℕ) (held : List Cell → Type 0) : Type 0 where
   pub clean : first_fault d i bytes ≡ None
   pub cells : List Cell
@@ -154,7 +154,7 @@ at_end d i bytes k before held rest size at all short =
       holds = at.holds;
     }
 
--- what is spelled has no fault
+-- bytes that spell a bucket have no fault
 pub spelled_clean : (d : Sizes) (i : ℕ) (cells : List Cell) (bytes : List ℕ) → HasFew d i → IsSpelling d i cells bytes → first_fault d i bytes ≡ None
 spelled_clean d i cells bytes few spelled =
     no_fault d i bytes (ap length spelled.spelled ∙ length-spelling d i cells spelled.bucket) (spelled_without_fault d i cells bytes few spelled)

@@ -15,7 +15,7 @@ use Rattle.rand_chacha.specs.ChaCha.{ChaCha, next_word, word_at}
 use Rattle.oram_bucket.specs.Keystream.{next_words, key_byte, xored_from}
 use Rattle.oram_bucket.specs.ChaChaLaws.{length-xored}
 
--- the generator of a key and a nonce at a word of its stream
+-- the generator of a key and a nonce, at a given word of its stream
 abbrev pub generator_at : List ℕ → ℕ → ℕ → ChaCha
 generator_at key nonce pos = record { key = key; stream = nonce; word_pos = pos }
 
@@ -38,7 +38,7 @@ key_byte_in key nonce w r h =
 length-word : (n : ℕ) → length (to_le_bytes w32 n) ≡ 4
 length-word n = refl
 
--- after k words the generator is k words on
+-- taking k words moves the generator k words on
 words_on : (key : List ℕ) (nonce pos k : ℕ) → pos + k < 2 ^ 68 → (next_words k (generator_at key nonce pos)).1 ≡ generator_at key nonce (pos + k)
 unfolding word_bytes
 words_on key nonce pos zero h = ap (generator_at key nonce) (omega arith)
@@ -54,7 +54,7 @@ length-words key nonce pos (suc k) =
     let before = word_bytes (to_le_bytes w32) (next_word 10) k (generator_at key nonce pos) in
     omega (arith, length-append before.0 (to_le_bytes w32 (next_word 10 before.1).0), length-word (next_word 10 before.1).0, length-words key nonce pos k)
 
--- the bytes of k words are those of the keystream
+-- the bytes of the generator's k words are those of the keystream
 words_are : (key : List ℕ) (nonce pos k i : ℕ) → pos + k < 2 ^ 68 → i < 4 * k
     → get_or (next_words k (generator_at key nonce pos)).0 i 0 ≡ key_byte key nonce (4 * pos + i)
 unfolding word_bytes
@@ -75,7 +75,7 @@ words_are key nonce pos (suc k) i h l =
           ∙ ap (key_byte key nonce) (sym place)
     ]
 
--- bytes XORed lane by lane with the keystream's
+-- bytes XORed lane by lane with the keystream's bytes
 xored_front : (key : List ℕ) (nonce k : ℕ) (xs ys : List ℕ) → length xs ≤ length ys
     → ((i : ℕ) → i < length xs → get_or ys i 0 ≡ key_byte key nonce (k + i)) → zip2 bit_xor xs ys ≡ xored_from key nonce k xs
 xored_front key nonce k [] ys same each = refl
@@ -91,7 +91,7 @@ xored-append key nonce k (x ∷ xs) ys =
     ap (λ (r : List ℕ). bit_xor x (key_byte key nonce k) ∷ r) (xored-append key nonce (k + 1) xs ys
     ∙ ap (λ (n : ℕ). xored_from key nonce (k + 1) xs ++ xored_from key nonce n ys) (omega arith))
 
--- block i of those that a list is cut into
+-- block i of the blocks that a list is cut into
 pub get_or-first_chunks : (n k i : ℕ) (xs d : List ℕ) → i < k → get_or (first_chunks n k xs) i d ≡ take n (drop (n * i) xs)
 get_or-first_chunks n zero i xs d h = absurd (omega arith)
 get_or-first_chunks n (suc k) zero xs d h = let start : n * 0 ≡ 0 = omega arith in rw start refl
@@ -99,7 +99,7 @@ get_or-first_chunks n (suc k) (suc i) xs d h =
     let place : n + n * i ≡ n * suc i = omega arith in
     get_or-first_chunks n k i (drop n xs) d (omega arith) ∙ ap (take n) (drop-drop (n * i) n xs ∙ ap (λ (m : ℕ). drop m xs) place)
 
--- words of the generator, XORed lane by lane, are the keystream's
+-- XORing lane by lane with the generator's words is XORing with the keystream
 xored_words : (key : List ℕ) (nonce i : ℕ) (block : List ℕ) → 16 * i + 16 < 2 ^ 68 → length block ≡ 64
     → zip2 bit_xor block (next_words 16 (generator_at key nonce (16 * i))).0 ≡ xored_from key nonce (64 * i) block
 xored_words key nonce i block fits long =
@@ -108,7 +108,7 @@ xored_words key nonce i block fits long =
     let place : 4 * (16 * i) ≡ 64 * i = omega arith in
     xored_front key nonce (64 * i) block words (omega (arith, all, long)) (λ k h. words_are key nonce (16 * i) 16 k (omega arith) (omega (arith, long)) ∙ ap (λ (m : ℕ). key_byte key nonce (m + k)) place)
 
--- a block is XORed: what comes of it, and the generator a block on
+-- one XORed block: its bytes, and the generator one block further on
 pub record IsXored (key : List ℕ) (nonce i : ℕ) (block xored : List ℕ) (after : ChaCha) : Type 0 where
   pub value : xored ≡ xored_from key nonce (64 * i) block
   pub later : after ≡ generator_at key nonce (16 * (i + 1))
@@ -132,7 +132,7 @@ joined key nonce i block xored rest more long first then_more =
     ∙ ap (λ (m : ℕ). xored_from key nonce (64 * i) block ++ xored_from key nonce m rest) (sym place)
     ∙ sym (xored-append key nonce (64 * i) block rest)
 
--- a run is its four blocks
+-- a run consists of its four blocks
 pub quarters : (run : List ℕ) → length run ≡ 256
     → take 64 run ++ (take 64 (drop 64 run) ++ (take 64 (drop 128 run) ++ (take 64 (drop 192 run) ++ []))) ≡ run
 quarters run long =
@@ -175,7 +175,7 @@ lanes_are (w ∷ ws) each = first w (number_l (2 ^ 32) ws) (4 * length ws) _ _ (
         ∙ (λ i. byte0 i ∷ byte1 i ∷ byte2 i ∷ byte3 i ∷ digits_l 256 n (over i))
         ∙ ap (λ (l : List ℕ). to_le_bytes w32 x ++ l) is
 
--- a run has 256 bytes, XORed too
+-- a run has 256 bytes, and so has an XORed run
 pub run_long : (key : List ℕ) (nonce i : ℕ) (bytes run xored : List ℕ) → 256 * (i + 1) ≤ length bytes → run ≡ take 256 (drop (256 * i) bytes)
     → xored ≡ xored_from key nonce (256 * i) run → length xored ≡ 256
 run_long key nonce i bytes run xored fits is value =
@@ -205,11 +205,11 @@ take-xored key nonce k zero xs = refl
 take-xored key nonce k (suc n) [] = refl
 take-xored key nonce k (suc n) (x ∷ xs) = ap (λ (r : List ℕ). bit_xor x (key_byte key nonce k) ∷ r) (take-xored key nonce (k + 1) n xs)
 
--- the front of a list whose front was written over
+-- the front of a list whose front was overwritten
 pub front_of : (xs ys zs : List ℕ) → ys ≡ xs → take (length xs) (ys ++ zs) ≡ xs
 front_of xs ys zs same = ap (λ (l : List ℕ). take (length xs) (l ++ zs)) same ∙ take-append_seam xs zs
 
--- what fills no run, XORed as the front of one
+-- the bytes that don't fill a run, XORed as the front of a run
 pub rest_more : (key : List ℕ) (nonce i : ℕ) (bytes out all rest run xored : List ℕ) → rest ≡ drop (256 * i) bytes
     → out ++ xored_from key nonce (256 * i) (drop (256 * i) bytes) ≡ all → xored ≡ xored_from key nonce (256 * i) run → take (length rest) run ≡ rest
     → out ++ take (length rest) xored ≡ all

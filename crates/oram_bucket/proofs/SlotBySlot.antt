@@ -1,4 +1,4 @@
--- Slots without a fault, one after the other, spell the blocks that they say.
+-- Slots without a fault, one after the other, spell the blocks that they hold.
 use Rattle.std.proofs.Common.{◌≡◌, ℕ, zero, suc, ◌+◌, ◌-◌, ◌*◌, ◌^◌, ◌<◌, ◌≤◌, ◌==◌, ◌&&◌, Bool, true, false, List, [], ◌∷◌, ◌++◌, length, take, drop, All, replicate, Option, Some, None, refl, sym, ap, ◌∙◌, inl, inr, arith, append_assoc, nat_lt}
 use Rattle.std.proofs.Math.Nat.{mul-le-mul_right}
 use Rattle.std.proofs.Math.Seq.{take-add, take-append_seam, drop-append_seam}
@@ -20,7 +20,7 @@ use Rattle.oram_bucket.specs.Fault.{may_follow}
 use Rattle.oram_bucket.proofs.Spelling.{bytes_taken}
 use Rattle.oram_bucket.proofs.Slots.{IsRealSlot, IsDummySlot}
 
--- the first k slots hold these blocks and then dummies, and `before` is the last of these slots' number
+-- the first k slots hold these blocks and then dummies, and `before` is the number of the last of these slots
 pub record IsReadTo (d : Sizes) (i : ℕ) (bytes : List ℕ) (k : ℕ) (before : Option ℕ) (cells : List Cell) : Type 0 where
   pub dummies : ℕ
   pub count : k ≡ length cells + dummies
@@ -53,7 +53,7 @@ bytes_dropped zero xs all i = all i
 bytes_dropped (suc n) [] all i = omega arith
 bytes_dropped (suc n) (x ∷ xs) all i = bytes_dropped n xs (λ k. all (suc k)) i
 
--- a real slot spells the block that it says
+-- a real slot spells the block that it holds
 slot_again : (slot : List ℕ) → 8 ≤ length slot → IsBytes slot → 0 < number_of slot → slot_of (block_in slot) ≡ slot
 slot_again slot long bytes some =
     let first = take 4 slot in
@@ -145,7 +145,7 @@ read_all d i bytes k before cells end long read =
       spelled = sym (take_all (k * slot_len d) bytes full) ∙ read.spelled ∙ ap (λ (n : ℕ). flat_map slot_of cells ++ replicate (n * slot_len d) 0) dummies;
     }
 
--- the next of the pieces that the bytes are cut into is the next slot
+-- the next piece that the bytes are cut into is the next slot
 pub record IsNextSlot (d : Sizes) (bytes : List ℕ) (k : ℕ) (slot rest : List ℕ) : Type 0 where
   pub is : slot ≡ slot_at d bytes k
   pub after : rest ≡ drop ((k + 1) * slot_len d) bytes
@@ -168,7 +168,7 @@ next_slot d bytes k slot now rest all was cut long =
       ];
     }
 
--- where no whole piece is left, all slots were read
+-- if no whole piece is left, all slots have been read
 pub last_slot : (d : Sizes) (bytes : List ℕ) (k : ℕ) (rest : List ℕ) → length bytes ≡ bucket_len d → k ≤ d.slots → rest ≡ drop (k * slot_len d) bytes → length rest < slot_len d → k ≡ d.slots
 last_slot d bytes k rest all within is short = elim (cases_lt k d.slots) [
   | inl early ↦

@@ -67,7 +67,7 @@ pub fault_tested : (blocks leaves : ℕ) (before : Option ℕ) (slot : List ℕ)
 unfolding fault_behind
 fault_tested blocks leaves before slot = refl
 
--- what a real slot without a fault says
+-- the content of a real slot without a fault
 pub record IsRealSlot (blocks leaves : ℕ) (before : Option ℕ) (slot : List ℕ) : Type 0 where
   pub some : 0 < number_of slot
   pub address_in : number_of slot ≤ blocks
@@ -171,7 +171,7 @@ after_spelling d i cells j of low high =
     let whole = All-weaker (IsBlockOf d i) (λ x. length x.content ≡ d.block_bytes) (λ x b. b.whole) cells of.blocks in
     slot_dummy d.block_bytes (length cells) (d.slots - length cells) j (flat_map slot_of cells) (length-slots d.block_bytes cells whole) low (omega arith)
 
--- the number before a real slot of a spelling is less
+-- the number of the slot before a real slot of a spelling is less
 before_spelling : (d : Sizes) (i : ℕ) (cells : List Cell) (j : ℕ) (c : Cell) → HasFew d i → IsBucketOf d i cells → j < length cells
     → may_follow (number_before d (spelling d cells) j) ((get_or cells j c).address + 1) ≡ true
 before_spelling d i cells zero c few of h = refl

@@ -1,4 +1,4 @@
--- A bucket has one spelling, and a spelling is one bucket's.
+-- A bucket has exactly one spelling, and a spelling belongs to exactly one bucket.
 use Rattle.std.proofs.Common.{◌≡◌, ℕ, zero, suc, ◌+◌, ◌-◌, ◌*◌, ◌^◌, ◌<◌, ◌≤◌, List, [], ◌∷◌, ◌++◌, length, take, drop, get_or, All, replicate, Option, Some, refl, sym, ap, ◌∙◌, arith, append_assoc, length-append}
 use Rattle.std.proofs.Math.Seq.{take-append_seam, drop-append_seam}
 use Rattle.std.proofs.Math.Nat.{pow-le-pow_right}
@@ -15,7 +15,7 @@ use Rattle.oram_bucket.specs.Cell.{Cell}
 use Rattle.oram_bucket.specs.Reading.{Reads}
 use Rattle.oram_bucket.specs.Bucket.{IsBlockOf, IsBucketOf, spelling, slot_of, slot_len}
 
--- two joined lists are cut alike
+-- if two joined lists are equal and their first parts are equally long, their parts are equal
 cut : (a b c d : List ℕ) → length a ≡ length b → a ++ c ≡ b ++ d → (a ≡ b) × (c ≡ d)
 cut a b c d same e = (
   sym (take-append_seam a c) ∙ ap (λ (n : ℕ). take n (a ++ c)) same ∙ ap (take (length b)) e ∙ take-append_seam b d,
@@ -28,7 +28,7 @@ length-word n = refl
 word-injective : (m n : ℕ) → m < 2 ^ 32 → n < 2 ^ 32 → to_be_bytes w32 m ≡ to_be_bytes w32 n → m ≡ n
 word-injective m n hm hn e = sym (from_be_bytes-to_be_bytes_4 m hm) ∙ ap (from_be_bytes w32) e ∙ from_be_bytes-to_be_bytes_4 n hn
 
--- what a slot's fields need
+-- the bounds that a slot's fields need
 pub record IsSmall (len : ℕ) (c : Cell) : Type 0 where
   pub number : c.address + 1 < 2 ^ 32
   pub leaf_in : c.leaf < 2 ^ 32
@@ -80,7 +80,7 @@ slots-injective len a b (c ∷ xs) (d ∷ ys) x y e =
     let others : xs ≡ ys = slots-injective len a b xs ys (All-tail (IsSmall len) c xs x) (All-tail (IsSmall len) d ys y) parts.1 in
     cc
 
--- a device's trees have few blocks and leaves
+-- the bounds on the blocks and leaves of a device's trees
 pub record HasFew (d : Sizes) (i : ℕ) : Type 0 where
   pub blocks : blocks_in d i ≤ 2 ^ 24
   pub leaves : 2 ^ depth_of d i ≤ 2 ^ 24
@@ -109,11 +109,11 @@ one_spelling d i xs ys few x y e =
     slots-injective d.block_bytes ((d.slots - length xs) * slot_len d) ((d.slots - length ys) * slot_len d) xs ys
     (small_blocks d i xs few x.blocks) (small_blocks d i ys few y.blocks) e
 
--- two buckets with one spelling are one
+-- two buckets with the same spelling are equal
 pub spelling-injective : (d : Sizes) (i : ℕ) (xs ys : List Cell) → IsDevice d → IsBucketOf d i xs → IsBucketOf d i ys → spelling d xs ≡ spelling d ys → xs ≡ ys
 spelling-injective d i xs ys of x y e = one_spelling d i xs ys (few_of_device d i of) x y e
 
--- sealed bytes hold one list of blocks at most
+-- sealed bytes hold at most one list of blocks
 pub reads_once : (opening : List ℕ → Option (List ℕ)) (d : Sizes) (i : ℕ) (sealed : List ℕ) (xs ys : List Cell) → IsDevice d → Reads opening d i sealed xs → Reads opening d i sealed ys → xs ≡ ys
 reads_once opening d i sealed xs ys of x y =
     let same : x.plain ≡ y.plain = some_plain x.plain y.plain (sym x.opens ∙ y.opens) in
@@ -129,7 +129,7 @@ length-slots len (c ∷ cells) all =
     let rest = length-slots len cells (All-tail (λ (x : Cell). length x.content ≡ len) c cells all) in
     omega (arith, length-append (slot_of c) (flat_map slot_of cells), first, rest)
 
--- so many slots in a bucket, of which so many are full
+-- the bytes of the full slots and those of the other slots are the bytes of all slots
 shared : (slots full len : ℕ) → full ≤ slots → full * len + (slots - full) * len ≡ slots * len
 shared slots full len h =
     let parts : slots ≡ full + (slots - full) = omega arith in

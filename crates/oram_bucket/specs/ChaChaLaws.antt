@@ -1,4 +1,4 @@
--- The laws of a sealer, for the one by ChaCha20.
+-- The laws of a sealer hold for ChaCha20.
 use Rattle.std.proofs.Common.{◌≡◌, ℕ, suc, ◌+◌, ◌^◌, ◌<◌, ◌≤◌, List, [], ◌∷◌, length, Some, refl, ap, ◌∙◌, arith}
 use Rattle.std.proofs.lemmas.Bool.{le-ltb}
 use Rattle.std.proofs.lemmas.Nat.{from_be_bytes-to_be_bytes_8}
@@ -10,7 +10,7 @@ pub length-xored : (key : List ℕ) (nonce k : ℕ) (xs : List ℕ) → length (
 length-xored key nonce k [] = refl
 length-xored key nonce k (x ∷ xs) = ap suc (length-xored key nonce (k + 1) xs)
 
--- a byte XORed twice is itself
+-- XORing a byte twice gives the byte back
 xor_twice : (x y : ℕ) → bit_xor (bit_xor x y) y ≡ x
 xor_twice x y = xor_assoc x y y ∙ ap (bit_xor x) (xor_self y) ∙ xor_zero_r x
 

@@ -1,4 +1,4 @@
--- What is wrong with bytes that spell no bucket.
+-- The faults of bytes that spell no bucket.
 use Rattle.std.specs.Prelude.{ℕ, ◌^◌, ◌==◌, ◌&&◌, Bool, true, not, nat_lt, nat_le, if◌then◌else◌, List, length, slice_get, Option, Some, None}
 use Rattle.std.specs.List.{list_all, filter_map, range_with_len}
 use Rattle.oram_geometry.specs.declared.Sizes.{Sizes}
@@ -9,13 +9,13 @@ use Rattle.oram_bucket.specs.declared.codec.BucketFault.TheVariants.{Length, Add
 use Rattle.oram_bucket.specs.declared.sealing.OpenFault.{OpenFault}
 use Rattle.oram_bucket.specs.declared.sealing.OpenFault.TheVariants as opens
 
--- whether a real slot with this number may follow: no slot, or a real one with a lesser number
+-- whether a real slot with this number may follow `before`: no slot, or a real one with a lesser number
 abbrev pub may_follow : Option ℕ → ℕ → Bool
 may_follow None number = true
 may_follow (Some before) number = nat_lt 0 before && nat_lt before number
 
--- the fault of a slot in a tree with so many blocks and leaves, behind a slot whose first number is `before`:
--- in a dummy bytes that are left over, in a real slot the first of a wrong address, a wrong order and a wrong leaf
+-- the fault of a slot in a tree with this many blocks and leaves, if the slot before it has the number `before`:
+-- in a dummy, a byte that isn't zero; in a real slot, the first of a wrong address, a wrong order and a wrong leaf
 unfoldable pub fault_behind : ℕ → ℕ → Option ℕ → List ℕ → Option BucketFault
 fault_behind blocks leaves before slot =
     if number_of slot == 0 then (if list_all (λ b. b == 0) slot then None else Some Dummy)
@@ -28,13 +28,13 @@ fault_behind blocks leaves before slot =
 abbrev pub slot_fault : Sizes → ℕ → List ℕ → ℕ → Option BucketFault
 slot_fault d i bytes k = fault_behind (blocks_in d i) (2 ^ depth_of d i) (number_before d bytes k) (slot_at d bytes k)
 
--- the fault of the bytes of a bucket of tree i: the first of its slots', where they have the right length
+-- the fault of bytes as a bucket of tree i: a wrong length, or else the first fault of its slots
 unfoldable pub first_fault : Sizes → ℕ → List ℕ → Option BucketFault
 first_fault d i bytes =
     if length bytes == bucket_len d then slice_get (filter_map (slot_fault d i bytes) (range_with_len 0 d.slots)) 0
     else Some Length
 
--- the number by which a fault is named
+-- the number by which programs name a fault
 abbrev pub fault_number : BucketFault → Option ℕ
 fault_number Length = Some 1
 fault_number Address = Some 2
@@ -43,7 +43,7 @@ fault_number Leaf = Some 4
 fault_number Dummy = Some 5
 fault_number OutOfMemory = None
 
--- why a sealed bucket doesn't open whose plain bytes have this fault
+-- why a sealed bucket doesn't open, if its plain bytes have this fault
 abbrev pub opening_fault : BucketFault → OpenFault
 opening_fault OutOfMemory = opens.OutOfMemory
 opening_fault fault = opens.Broken

@@ -1,11 +1,11 @@
--- The slots of a bucket's bytes, and what each of them says.
+-- The slots of a bucket's bytes, and what each slot says.
 use Rattle.std.specs.Prelude.{ℕ, zero, suc, ◌-◌, ◌*◌, List, take, drop, Option, Some, None}
 use Rattle.std.specs.Int.{w32, from_be_bytes}
 use Rattle.oram_geometry.specs.declared.Sizes.{Sizes}
 use Rattle.oram_bucket.specs.Bucket.{slot_len}
 use Rattle.oram_bucket.specs.Cell.{Cell}
 
--- the first number of a slot: one more than the address, or 0 in a dummy
+-- the first number of a slot: the address plus one, or 0 in a dummy
 abbrev pub number_of : List ℕ → ℕ
 number_of slot = from_be_bytes w32 (take 4 slot)
 

@@ -21,7 +21,7 @@ impl Model for Block {
 }
 
 impl Block {
-    /// The same block, with its data on the heap anew.
+    /// Copies the block, with its data, to the heap. Fails only if memory runs out.
     pub fn copy(&self, alloc: Global) -> Result<Block, AllocError>
         ensures { IfOk result (λ block. block ≡ self.now) }
     {

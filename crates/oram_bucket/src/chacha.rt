@@ -1,4 +1,4 @@
-//! A sealer by the stream cipher ChaCha20.
+//! A sealer that uses the stream cipher ChaCha20.
 ghost use Rattle.std.specs.Prelude.{◌≡◌, ℕ, List, ◌+◌, ◌*◌, ◌^◌, ◌<◌, ◌++◌, OnOk, OnErr, length, vec_len, vec_capacity, bit_xor};
 ghost use Rattle.std.specs.Simd.Lanes.{zip2};
 ghost use Rattle.rand_chacha.specs.ChaCha.{key_of};
@@ -18,7 +18,7 @@ use std::simd::prelude::*;
 
 const NONCE_LEN: usize = 8;
 
-// What a block of ChaCha20 has, and a run of blocks, as many as the generator makes at a time.
+// A block of ChaCha20 has 64 bytes. A run is as many blocks as the generator makes at a time.
 const BLOCK_LEN: usize = 64;
 
 const RUN_BLOCKS: usize = 4;
@@ -27,16 +27,17 @@ const RUN_LEN: usize = 256;
 
 const RUN_WORDS: u128 = 64;
 
-/// ChaCha20 (RFC 8439) under one key, where each nonce has a stream of its own.
+/// ChaCha20 (RFC 8439) under one key, with a separate keystream for each nonce.
 ///
-/// Sealed bytes are the nonce, eight bytes big-endian, and the plain bytes, each XORed with a byte of that stream.
-/// Fewer than eight bytes are broken; whatever else the host changes opens as other plain bytes.
+/// Sealed bytes are the nonce, in eight bytes big-endian, and then the plain bytes, each XORed with its byte of the
+/// keystream. Fewer than eight sealed bytes are broken. Any other change by the host goes unnoticed here: the bytes
+/// open as other plain bytes.
 #[derive(Clone, Copy)]
 pub struct ChaChaSeal {
     pub key: [u8; 32],
 }
 
-// The key is not shown.
+// Doesn't show the key.
 impl fmt::Debug for ChaChaSeal {
     fn fmt<W: fmt::Write>(&self, f: &mut fmt::Formatter<W>) -> fmt::Result {
         f.write_str("ChaChaSeal { .. }")
@@ -60,7 +61,7 @@ impl Sealer for ChaChaSeal {
         Ok(sealed)
     }
 
-    // Once there is room for all of it, nothing that follows is refused.
+    // Reserves room for everything first, so that no later step can run out of memory.
     fn seal_to(
         &self,
         _alloc: Global,
@@ -92,7 +93,7 @@ impl Sealer for ChaChaSeal {
     ghost undoes = { λ s n plain h k. chacha_undoes s.key n plain h };
 }
 
-/// Puts bytes at the end of `out`, each XORed with its byte of the keystream.
+/// Appends `bytes` to `out`, each XORed with its byte of the keystream.
 fn append_xored(
     out: &mut Vec<u8>,
     key: [u8; 32],
@@ -115,7 +116,7 @@ fn append_xored(
     out.extend_from_slice(&xored.as_flattened()[..rest.len()])
 }
 
-/// The run at a place of a stream, XORed with its keystream.
+/// XORs the run number `place` of a stream with its part of the keystream.
 #[inline(always)]
 fn xored_run(
     generator: &mut ChaCha20Rng,
@@ -126,7 +127,7 @@ fn xored_run(
     ensures value { flat_map (λ x. x) result ≡ xored_from generator.old.key generator.old.stream (256 * place) run.now }
     ensures later { generator.new ≡ record generator.old { word_pos = 64 * (place + 1) } }
 {
-    // (told its place, the generator makes its words here, with no test before each)
+    // (once its position is set to the start of a run, the generator makes the words here, without a test before each)
     generator.set_word_pos(RUN_WORDS * place as u128);
     [
         xored_block(generator, &run[..BLOCK_LEN]),
@@ -136,7 +137,7 @@ fn xored_run(
     ]
 }
 
-/// A block XORed with the next one of the keystream, all lanes at once.
+/// XORs a block with the next 64 bytes of the keystream, all lanes at once.
 #[inline(always)]
 fn xored_block(generator: &mut ChaCha20Rng, block: &[u8]) -> [u8; BLOCK_LEN]
     requires { length block.now ≡ 64 }
@@ -146,7 +147,7 @@ fn xored_block(generator: &mut ChaCha20Rng, block: &[u8]) -> [u8; BLOCK_LEN]
     (u8x64::from_slice(block) ^ next_lanes(generator)).to_array()
 }
 
-/// The bytes of the next sixteen words.
+/// Returns the bytes of the generator's next sixteen words.
 #[inline(always)]
 fn next_lanes(generator: &mut ChaCha20Rng) -> u8x64
     ensures { (result, generator.new) ≡ next_words 16 generator.old }

@@ -1,8 +1,8 @@
 //! The bytes of a bucket.
 //!
-//! A bucket has as many slots as the device says. A slot has the block's address and one more, its leaf (both in
-//! four bytes, big-endian) and its data; a slot without a block, a dummy, is all zeros. The blocks stand first,
-//! by rising address.
+//! A bucket has as many slots as the device says. A slot holds the block's address plus one and its leaf, each in
+//! four bytes, big-endian, and then its data. A slot without a block is a dummy, and all its bytes are zero. The
+//! blocks come first, by rising address.
 ghost use Rattle.std.specs.Prelude.{◌≡◌, ◌≢◌, ◌+◌, ◌^◌, ◌<◌, ◌≤◌, ◌++◌, ◌∷◌, [], length, map, List, IfOk, IfErr, OnOk, IsOkAnd, MatchResult, MatchOption, IsOkUnless, Ok, ◌==◌};
 ghost use Rattle.std.specs.List.{list_all};
 ghost use Rattle.oram_geometry.specs.Sizes.{trees_of, bucket_len};
@@ -19,25 +19,25 @@ use std::alloc::{AllocError, Global};
 
 const HEAD_LEN: usize = 8;
 
-/// Why bytes are no bucket: the first fault from the left, and of the faults of one slot the first in this order.
+/// Why bytes are no bucket: the fault of the first slot that has one, and of that slot's faults the first in this order.
 #[derive(Clone, Copy, Debug, PartialEq, Eq)]
 pub enum BucketFault {
-    /// The bytes aren't as many as a bucket has.
+    /// The number of bytes isn't that of a bucket.
     Length,
-    /// An address is that of no block of the tree.
+    /// An address is too great for a block of the tree.
     Address,
-    /// A block stands behind a dummy, or its address isn't above the one before.
+    /// A block comes after a dummy, or its address isn't greater than the one before.
     Order,
-    /// A leaf is none of the tree's.
+    /// A leaf is too great for the tree.
     Leaf,
-    /// Bytes are left over in a dummy.
+    /// A dummy has a byte that isn't zero.
     Dummy,
-    /// There is no fault, but no memory for the blocks either.
+    /// The bytes have no fault, but there isn't enough memory for the blocks.
     OutOfMemory,
 }
 
 impl BucketFault {
-    /// The number by which the fault is named, from 1; a want of memory has none.
+    /// Returns the number by which programs name the fault, from 1, or `None` for `OutOfMemory`.
     pub fn number(self) -> Option<u8>
         ensures { result ≡ fault_number self }
     {
@@ -62,7 +62,7 @@ impl From<AllocError> for BucketFault {
     }
 }
 
-/// The bytes of a bucket with these blocks, which stand by rising address.
+/// Encodes `blocks`, whose addresses rise, as the bytes of a bucket. Fails only if memory runs out.
 pub fn encode_bucket(
     alloc: Global,
     device: &Device,
@@ -85,7 +85,7 @@ pub fn encode_bucket(
     Ok(bucket)
 }
 
-/// Replaces bytes by those of a bucket with these blocks.
+/// Replaces the bytes of `bucket` by those of a bucket with `blocks`.
 pub(crate) fn write_bucket(
     device: &Device,
     tree: u8,
@@ -108,7 +108,7 @@ pub(crate) fn write_bucket(
     Ok(())
 }
 
-/// Puts the slot of a block at the end.
+/// Appends the slot of `block` to `bucket`.
 fn append_slot(bucket: &mut Vec<u8>, block: &Block) -> Result<(), AllocError>
     requires { block.now.address + 1 < 2 ^ 32 }
     ensures slot { OnOk result (bucket.new.items ≡ bucket.old.items ++ slot_of block.now) }
@@ -121,7 +121,7 @@ fn append_slot(bucket: &mut Vec<u8>, block: &Block) -> Result<(), AllocError>
     bucket.extend_from_slice(&block.content)
 }
 
-/// The blocks that the bytes of a bucket spell, or the first fault.
+/// Decodes the bytes of a bucket to its blocks, or returns the first fault.
 pub fn decode_bucket(
     alloc: Global,
     device: &Device,
@@ -130,12 +130,12 @@ pub fn decode_bucket(
 ) -> Result<Vec<Block>, BucketFault>
     requires { tree < trees_of device.now }
 
-    // What is decoded is spelled so, and what is spelled so is decoded, unless memory runs out.
+    // The blocks that it returns have this spelling; and it decodes each spelling of blocks, unless memory runs out.
     ensures ok { IfOk result (λ v. IsSpelling device.now tree v.items bytes.now) }
     ensures only { (cells : List Cell) → IsSpelling device.now tree cells bytes.now →
         MatchResult result (λ v. v.items ≡ cells) (λ f. f ≡ BucketFault.OutOfMemory) }
 
-    // A fault is the first one, and comes before a want of memory.
+    // It returns the first fault, and prefers any fault to `OutOfMemory`.
     ensures fault { MatchOption (first_fault device.now tree bytes.now)
         (IsOkUnless result BucketFault.OutOfMemory) (λ f. result ≡ Err f) }
     ensures refused { IfErr result (λ f. f ≢ BucketFault.OutOfMemory →
@@ -147,7 +147,7 @@ pub fn decode_bucket(
     }
     let tree_blocks = device.blocks_in(tree);
     let tree_leaves = 1 << device.depth(tree);
-    // Where memory runs out, a slot that follows may still have a fault.
+    // If memory runs out, go on: a later slot may still have a fault.
     let mut blocks = Ok(Vec::new(alloc));
     let mut before = None;
     for slot in bytes.chunks_exact(slot_len) {
@@ -163,7 +163,7 @@ pub fn decode_bucket(
     Ok(blocks?)
 }
 
-/// One more than the address of the slot's block, or 0 in a dummy.
+/// Returns the address of the slot's block plus one, or 0 for a dummy.
 fn number_in(slot: &[u8]) -> u32
     requires { 8 ≤ length slot.now }
     ensures { result ≡ number_of slot.now }
@@ -178,7 +178,7 @@ fn leaf_in(slot: &[u8]) -> u32
     BigEndian::read_u32(&slot[4..])
 }
 
-/// What is wrong with a slot behind one whose number is `before`.
+/// Returns the fault of a slot, if it has one. `before` is the number of the slot before it.
 #[tactic(auto, unfolding(crate::specs::Fault::fault_behind))]
 fn fault_in(slot: &[u8], before: Option<u32>, blocks: u32, leaves: u32) -> Option<BucketFault>
     requires { 8 ≤ length slot.now }
@@ -205,7 +205,7 @@ fn fault_in(slot: &[u8], before: Option<u32>, blocks: u32, leaves: u32) -> Optio
 fn is_zero(bytes: &[u8]) -> bool
     ensures { result ≡ list_all (λ b. b == 0) bytes.now }
 {
-    // No byte ends the loop, so that many go at once.
+    // The loop doesn't stop at a byte that isn't zero, so that it can take many bytes at once.
     let mut mixed = 0;
     for byte in bytes {
         mixed |= *byte;
@@ -213,14 +213,15 @@ fn is_zero(bytes: &[u8]) -> bool
     mixed == 0
 }
 
-/// Whether a block may stand behind this slot: no slot, or one with a block of a lesser address.
+/// Returns whether a block with `number` may follow a slot with the number `before`: either no slot, or a block of a
+/// lesser address.
 fn may_follow(before: Option<u32>, number: u32) -> bool
     ensures { result ≡ may_follow before number }
 {
     before.is_none_or(|before| 0 < before && before < number)
 }
 
-/// The blocks so far and that of a slot, unless memory ran out.
+/// Appends the block of `slot` to `blocks`, unless memory runs out or has run out before.
 fn with_block(
     alloc: Global,
     blocks: Result<Vec<Block>, AllocError>,

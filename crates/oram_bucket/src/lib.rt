@@ -1,8 +1,8 @@
-//! Blocks of a tree, the bytes of a bucket, and what hides a bucket from the host.
+//! The blocks of a tree, the bytes of a bucket, and the sealer that hides a bucket from the host.
 //!
-//! A bucket of a Path ORAM (Stefanov et al., CCS 2013, section 3) holds a few blocks and is filled up with dummies. Its
-//! bytes spell one list of blocks, and a list of blocks has one spelling. A [`Sealer`] then makes of these bytes what
-//! the host sees; the layers above know it by its law alone.
+//! A bucket of a Path ORAM (Stefanov et al., CCS 2013, section 3) holds a few blocks, and dummies in its other slots.
+//! The bytes of a bucket spell exactly one list of blocks, and a list of blocks has exactly one spelling. A [`Sealer`]
+//! turns these bytes into the bytes that the host sees. The layers above know of a sealer only its laws.
 #![tactic(auto)]
 
 mod block;

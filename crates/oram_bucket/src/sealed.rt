@@ -1,4 +1,4 @@
-//! A bucket as the host keeps it: encoded, and then sealed.
+//! A bucket as the host keeps it: encoded and then sealed.
 ghost use Rattle.std.specs.Prelude.{◌≡◌, ◌+◌, ◌<◌, ◌++◌, length, map, vec_len, List, Some, Err, IfOk, OnOk, OnErr, MatchResult};
 ghost use Rattle.oram_geometry.specs.Sizes.{trees_of, bucket_len};
 ghost use Rattle.oram_bucket.specs.Cell.{Cell};
@@ -12,7 +12,7 @@ use crate::sealing::{OpenFault, Sealer};
 use oram_geometry::Device;
 use std::alloc::{AllocError, Global};
 
-/// The sealed bytes of a bucket with these blocks.
+/// Encodes `blocks` as a bucket of `tree` and seals it under `nonce`. Fails only if memory runs out.
 pub fn seal_bucket<S: Sealer>(
     alloc: Global,
     sealer: &S,
@@ -33,9 +33,9 @@ pub fn seal_bucket<S: Sealer>(
     sealer.seal(alloc, nonce, &plain)
 }
 
-/// Puts the sealed bytes of a bucket with these blocks at the end of a vector.
+/// Appends the sealed bytes of a bucket with `blocks` to `out`. On a failure, `out` has the same bytes as before.
 ///
-/// The bucket's own bytes are written to `plain`, whatever stood there, so that many buckets share one vector.
+/// It overwrites `plain` with the unsealed bytes, so that many buckets can share one vector.
 pub fn seal_bucket_to<S: Sealer>(
     alloc: Global,
     sealer: &S,
@@ -61,9 +61,9 @@ pub fn seal_bucket_to<S: Sealer>(
     sealer.seal_to(alloc, nonce, plain, out)
 }
 
-/// The blocks of a sealed bucket.
+/// Opens a sealed bucket of `tree` and returns its blocks.
 ///
-/// The bytes are `Broken` also where they open to bytes that are no bucket of the tree.
+/// Also returns `Broken` if the opened bytes are no bucket of the tree.
 pub fn open_bucket<S: Sealer>(
     alloc: Global,
     sealer: &S,

@@ -1,4 +1,4 @@
-//! What hides a bucket from the host.
+//! The sealer, which hides a bucket's bytes from the host.
 ghost use Rattle.std.specs.Prelude.{◌≡◌, ◌↔◌, ℕ, ◌≤◌, ◌<◌, ◌+◌, ◌^◌, ◌++◌, List, Option, Some, None, length, IfOk, OnOk, OnErr, refl};
 ghost use Rattle.std.proofs.Common.{arith};
 ghost use Rattle.oram_bucket.specs.Bytes.{IsBytes};
@@ -8,7 +8,7 @@ use std::alloc::{AllocError, Global};
 /// Why sealed bytes don't open.
 #[derive(Clone, Copy, Debug, PartialEq, Eq)]
 pub enum OpenFault {
-    /// The sealer gave no such bytes.
+    /// The sealer can't have made these bytes.
     Broken,
     OutOfMemory,
 }
@@ -23,28 +23,28 @@ impl From<AllocError> for OpenFault {
     }
 }
 
-/// Seals the bytes of a bucket before the host gets them, and opens what the host gives back.
+/// Seals the bytes of a bucket before the host gets them, and opens the bytes that the host gives back.
 ///
-/// Whether the host learns anything from sealed bytes is no part of the law.
+/// The laws of this trait don't say that the host learns nothing from sealed bytes.
 pub trait Sealer: Drop {
-    /// How many bytes a sealing adds.
+    /// The number of bytes that sealing adds.
     ghost overhead: { Self → ℕ };
 
-    /// The sealing of plain bytes under a nonce.
+    /// The sealed bytes of plain bytes under a nonce.
     ghost sealing: { Self → ℕ → List ℕ → List ℕ };
 
-    /// The plain bytes of sealed ones, or none where they are broken.
+    /// The plain bytes that sealed bytes open to, or none if they are broken.
     ghost opening: { Self → List ℕ → Option (List ℕ) };
 
-    /// How many bytes longer sealed bytes are than plain ones.
+    /// Returns how many bytes longer sealed bytes are than the plain ones, at most 64.
     fn overhead(&self) -> usize
         ensures { result ≡ overhead self.now };
 
-    /// Seals plain bytes. A nonce is to be used once.
+    /// Seals plain bytes. Use each nonce only once.
     fn seal(&self, alloc: Global, nonce: u64, plain: &[u8]) -> Result<Vec<u8>, AllocError>
         ensures { IfOk result (λ v. v.items ≡ sealing self.now nonce plain.now) };
 
-    /// Puts the sealing of plain bytes at the end of a vector. Without memory the vector is as it was.
+    /// Seals plain bytes and appends the result to `out`. If memory runs out, `out` is unchanged.
     fn seal_to(
         &self,
         alloc: Global,
@@ -60,7 +60,7 @@ pub trait Sealer: Drop {
         out.extend_from_slice(&sealed)
     }
 
-    /// Opens sealed bytes, under any nonce.
+    /// Opens sealed bytes, whatever nonce they were sealed under.
     fn open(&self, alloc: Global, sealed: &[u8]) -> Result<Vec<u8>, OpenFault>
         ensures ok { IfOk result (λ v. opening self.now sealed.now ≡ Some v.items) }
         ensures broken { (result ≡ Err OpenFault.Broken) ↔ (opening self.now sealed.now ≡ None) };
@@ -74,7 +74,7 @@ pub trait Sealer: Drop {
         opening s (sealing s n plain) ≡ Some plain };
 }
 
-/// No sealing at all: the identity.
+/// The identity as a sealer: it hides nothing.
 #[derive(Clone, Copy, Debug)]
 pub struct PlainSeal;
 

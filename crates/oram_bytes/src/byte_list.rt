@@ -1,4 +1,4 @@
-//! Bytes.
+//! A list of bytes on the heap.
 ghost use Rattle.std.specs.Prelude.{◌≡◌, ◌↔◌, ℕ, List, [], length, nat_eq, IfOk, IsTrue};
 ghost use Rattle.std.specs.Cmp.Lexicographic.{pointwise, nat_list_eq_equiv};
 ghost use Rattle.std.specs.Cmp.{partial_equiv_from_equiv};
@@ -33,14 +33,14 @@ impl Eq for Bytes {
 }
 
 impl Bytes {
-    /// The bytes of a vector, which is taken over as it is.
+    /// Takes over a vector as it is, without copying it.
     pub fn from_vec(items: Vec<u8>) -> Bytes
         ensures { result ≡ items.items }
     {
         Bytes { items }
     }
 
-    /// A copy of these bytes.
+    /// Copies `bytes` to the heap. Fails only if memory runs out.
     pub fn copy(alloc: Global, bytes: &[u8]) -> Result<Bytes, AllocError>
         ensures { IfOk result (λ copied. copied ≡ bytes.now) }
     {
@@ -48,7 +48,7 @@ impl Bytes {
         Ok(Bytes { items })
     }
 
-    /// The vector again.
+    /// Gives the vector back.
     pub fn into_vec(self) -> Vec<u8>
         ensures { result.items ≡ self }
     {
@@ -56,7 +56,7 @@ impl Bytes {
         items
     }
 
-    /// Overwrites the bytes by as many others, in place.
+    /// Overwrites the bytes in place with `bytes`, which has the same length.
     pub fn copy_from_slice(&mut self, bytes: &[u8])
         requires { length bytes.now ≡ length self.old }
         ensures { self.new ≡ bytes.now }

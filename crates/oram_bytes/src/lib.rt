@@ -1,8 +1,8 @@
-//! Lists of bytes and of words on the heap, which contracts see as lists of numbers.
+//! Lists of bytes and of words on the heap, which a contract sees as plain lists of numbers.
 //!
-//! A `Vec` in a clause is its items, its capacity and its allocator; what a message or a command holds is
-//! its items alone. So the enums of the layers above hold `Bytes` and `Words`, and two of them are equal
-//! where their items are.
+//! In a clause a `Vec` is its items, its capacity and its allocator; but of a message or a command only the items
+//! matter. So the enums of the layers above hold `Bytes` and `Words`, and two of these are equal if their items
+//! are equal.
 #![tactic(auto)]
 
 mod byte_list;

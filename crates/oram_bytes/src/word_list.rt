@@ -1,4 +1,4 @@
-//! Words of 64 bits.
+//! A list of 64-bit words on the heap.
 ghost use Rattle.std.specs.Prelude.{◌≡◌, ◌↔◌, ℕ, List, [], length, nat_eq, IfOk, IsTrue};
 ghost use Rattle.std.specs.Cmp.Lexicographic.{pointwise, nat_list_eq_equiv};
 ghost use Rattle.std.specs.Cmp.{partial_equiv_from_equiv};
@@ -6,7 +6,7 @@ ghost use Rattle.std.specs.Cmp.{partial_equiv_from_equiv};
 use std::alloc::{AllocError, Global};
 use std::marker::Model;
 
-/// Words of 64 bits on the heap.
+/// 64-bit words on the heap.
 #[derive(Debug, Drop)]
 pub struct Words {
     items: Vec<u64>,
@@ -33,14 +33,14 @@ impl Eq for Words {
 }
 
 impl Words {
-    /// The words of a vector, which is taken over as it is.
+    /// Takes over a vector as it is, without copying it.
     pub fn from_vec(items: Vec<u64>) -> Words
         ensures { result ≡ items.items }
     {
         Words { items }
     }
 
-    /// A copy of these words.
+    /// Copies `words` to the heap. Fails only if memory runs out.
     pub fn copy(alloc: Global, words: &[u64]) -> Result<Words, AllocError>
         ensures { IfOk result (λ copied. copied ≡ words.now) }
     {
@@ -48,7 +48,7 @@ impl Words {
         Ok(Words { items })
     }
 
-    /// The vector again.
+    /// Gives the vector back.
     pub fn into_vec(self) -> Vec<u64>
         ensures { result.items ≡ self }
     {

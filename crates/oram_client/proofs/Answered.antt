@@ -1,4 +1,4 @@
--- Messages that went ahead of their answers, by the bytes that were written and read.
+-- Messages that were sent ahead of their answers, by the bytes that were written and read.
 use Rattle.std.proofs.Common.{◌≡◌, ℕ, ◌+◌, ◌<◌, List, [], ◌∷◌, ◌++◌, length, Option, refl, sym, ap, ◌∙◌, subst, arith}
 use Rattle.std.specs.Prelude.{replicate}
 use Rattle.std.proofs.lemmas.Grind.{flat_map-append}
@@ -19,7 +19,7 @@ read_more a b c n some one =
     subst (Consumes a c) (dones_more n 1) (Consumes-trans a b c (dones n) (dones 1) some (subst (Consumes b c) (sym (append-nil (frame (128 ∷ [])))) one))
 
 module _ {R W : Type 0} (remaining : R → Option (List ℕ)) (contents : W → Option (List ℕ)) where
-  -- no answers yet, once what was written is flushed
+  -- no answers yet, after what was written is flushed
   pub drained_none : (a b : ToHost R W) → Keeps (contents a.writer) (contents b.writer) → b.reader ≡ a.reader → b.due ≡ a.due → IsDrained remaining contents a 0 b
   drained_none a b flushed same due = record {
     due = omega arith;
@@ -27,7 +27,7 @@ module _ {R W : Type 0} (remaining : R → Option (List ℕ)) (contents : W → 
     read = subst (λ (r : R). Consumes (remaining a.reader) (remaining r) []) (sym same) (Consumes-nil (remaining a.reader));
   }
 
-  -- one more
+  -- one answer more
   pub drained_more : (a b c : ToHost R W) (n : ℕ) → IsDrained remaining contents a n b → Consumes (remaining b.reader) (remaining c.reader) (frame (128 ∷ []))
       → c.due + 1 ≡ b.due → c.writer ≡ b.writer → IsDrained remaining contents a (n + 1) c
   drained_more a b c n before read due same = record {
@@ -36,7 +36,7 @@ module _ {R W : Type 0} (remaining : R → Option (List ℕ)) (contents : W → 
     read = read_more (remaining a.reader) (remaining b.reader) (remaining c.reader) n before.read read;
   }
 
-  -- a message behind them
+  -- a message after these answers
   pub put_behind : (a b c d : ToHost R W) (n : ℕ) (body : List ℕ) → IsDrained remaining contents a n b → Appends (contents b.writer) (contents c.writer) (frame body)
       → c.reader ≡ b.reader → c.due ≡ b.due → b.due < most_due → d ≡ record c { due = c.due + 1 } → IsPut remaining contents a body d
   put_behind a b c d n body before wrote same due room is = subst (IsPut remaining contents a body) (sym is) (record {
@@ -47,7 +47,7 @@ module _ {R W : Type 0} (remaining : R → Option (List ℕ)) (contents : W → 
     read = subst (λ (r : R). Consumes (remaining a.reader) (remaining r) (dones n)) (sym same) before.read;
   })
 
-  -- messages that are put
+  -- messages that were put one by one
   pub puts_all : (a : ToHost R W) (bodies : List (List ℕ)) (b : ToHost R W) → PutsAll (IsPut remaining contents) a bodies b → ArePut remaining contents a bodies b
   puts_all a [] b p = record {
     count = 0;
@@ -65,7 +65,7 @@ module _ {R W : Type 0} (remaining : R → Option (List ℕ)) (contents : W → 
             (Consumes-trans (remaining a.reader) (remaining next.reader) (remaining b.reader) (dones first.count) (dones rest.count) first.read rest.read);
       }
 
-  -- messages that were put, once the answers are read
+  -- messages that were put, once all answers are read
   pub taken_whole : (a b c : ToHost R W) (bodies : List (List ℕ)) → ArePut remaining contents a bodies b → IsDrained remaining contents b b.due c → AreTaken remaining contents a bodies c
   taken_whole a b c bodies put drained = record {
     due = (let e = drained.due in omega arith);
@@ -77,6 +77,6 @@ module _ {R W : Type 0} (remaining : R → Option (List ℕ)) (contents : W → 
         (Consumes-trans (remaining a.reader) (remaining b.reader) (remaining c.reader) (dones put.count) (dones b.due) put.read drained.read)));
   }
 
-  -- two messages that were put behind one another
+  -- two messages that were put one after the other
   pub put_both : (a b c : ToHost R W) (first second : List ℕ) → IsPut remaining contents a first b → IsPut remaining contents b second c → ArePut remaining contents a (first ∷ second ∷ []) c
   put_both a b c first second one two = puts_all a (first ∷ second ∷ []) c (b, one, (c, two, refl))

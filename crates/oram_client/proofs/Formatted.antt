@@ -1,4 +1,4 @@
--- A formatting by messages that went ahead of their answers.
+-- A formatting by messages that are sent ahead of their answers.
 use Rattle.std.proofs.Common.{◌≡◌, append_assoc, inl, inr, ℕ, ◌+◌, ◌<◌, List, [], ◌∷◌, ◌++◌, length, Option, refl, sym, ap, ◌∙◌, subst, arith, map, length-append, zero-add}
 use Rattle.std.specs.Prelude.{slice_index_or}
 use Rattle.std.proofs.lemmas.Grind.{flat_map-append}
@@ -33,7 +33,7 @@ use Rattle.oram_client.specs.Faults.{format_told, sink_told}
 use Rattle.oram_client.specs.Naming.{identity_messages}
 use Rattle.oram_client.proofs.Answered.{dones_more, puts_all}
 
--- the root digest of a tree is that of its parts
+-- The root digest of a tree is that of its parts.
 pub root_stands : (trees : List Tree) (items : List TreeParts) (n m : ℕ) (p : TreeParts) (root : List ℕ) → items ≡ map parts_of trees → m ≡ n → n < length trees → p ≡ slice_index_or items m p
     → root ≡ p.root → root ≡ (slice_index_or trees n no_tree).root
 root_stands trees items n m p root are is within at stands =
@@ -62,7 +62,8 @@ genuine_more v s n answers records d overhead root count before accepted device 
     (sym (get_or_append_left answers (records ∷ []) [] i (omega arith))) (before i within))
     (subst (λ (r : List ℕ). IsAccepted (path_of v.device n 0 v.overhead (slice_index_or (answers ++ records ∷ []) n [])) r) stands c)
 
--- a fault of the connection is told as such, whoever tells it first
+-- A fault of the connection becomes the same fault of the formatting, through whichever layer it
+-- comes.
 told_once : (read : Option Refusal) (why : SinkFault) → format_told read (format_fault why) ≡ sink_told read why
 told_once read sink.Refused = refl
 told_once read sink.Link = refl
@@ -72,14 +73,14 @@ regrouped : (a b c d : List ℕ) → a ++ ((b ++ c) ++ d) ≡ ((a ++ b) ++ c) ++
 regrouped a b c d = sym (simp append_assoc)
 
 module _ {R W : Type 0} (remaining : R → Option (List ℕ)) (contents : W → Option (List ℕ)) where
-  -- the same messages, in a list
+  -- the same messages as a list
   pub collects_all : (a : ToHost R W) (bodies : List (List ℕ)) (b : ToHost R W) (before : List (List ℕ)) → PutsAll (IsPut remaining contents) a bodies b
       → PutsAll Collects before bodies (before ++ bodies)
   collects_all a [] b before p = sym (append-nil before)
   collects_all a (body ∷ bodies) b before (next, first, others) =
       (before ++ body ∷ [], refl, subst (PutsAll Collects (before ++ body ∷ []) bodies) (append_assoc before (body ∷ []) bodies) (collects_all next bodies b (before ++ body ∷ []) others))
 
-  -- a path of one more tree
+  -- a genuine path of one more tree
   pub seen_more : (v : Shape) (s : State) (n : ℕ) (a b c : ToHost R W) (records : List ℕ) (d : Sizes) (overhead : ℕ) (root : List ℕ) → AreSeen remaining contents v s n a b
       → IsAsked remaining contents b (fetch_body n 0) (128 ∷ records) c → IsAccepted (path_of d n 0 overhead records) root
       → d ≡ v.device → overhead ≡ v.overhead → root ≡ (slice_index_or s.trees n no_tree).root → AreSeen remaining contents v s (n + 1) a c
@@ -101,7 +102,7 @@ module _ {R W : Type 0} (remaining : R → Option (List ℕ)) (contents : W → 
     puts_all remaining contents a h.format b h.puts,
   )
 
-  -- all of them were answered then, and a path of each tree fetched
+  -- All messages were answered then, and a path of each tree was fetched.
   pub trees_made : (u v : Shape) → u ≡ v → (a b c d : ToHost R W) (s : State) (count : ℕ) → IsNew v (IsPut remaining contents) a s b → IsDrained remaining contents b b.due c
       → count ≡ trees_of v.device → AreSeen remaining contents u s count c d → AreTreesMade remaining contents v a s d
   trees_made u v same a b c d s count new drained is seen_so =
@@ -126,7 +127,7 @@ module _ {R W : Type 0} (remaining : R → Option (List ℕ)) (contents : W → 
         genuine = subst (λ (n : ℕ). AreGenuine v s n seen.answers) is seen.genuine;
       }
 
-  -- no path was fetched yet
+  -- No path was fetched yet.
   pub seen_none : (v : Shape) (s : State) (a : ToHost R W) → AreSeen remaining contents v s 0 a a
   seen_none v s a = record {
     answers = [];
@@ -137,7 +138,7 @@ module _ {R W : Type 0} (remaining : R → Option (List ℕ)) (contents : W → 
     genuine = λ i below. absurd (omega (arith, below));
   }
 
-  -- a path was not had, under the root that the core knows
+  -- There was no genuine path of a tree, for the root digest that the core has.
   pub unheld_there : (v : Shape) (s : State) (n : ℕ) (a : ToHost R W) (fault : FormattingFault) (b : ToHost R W) (d : Sizes) (overhead : ℕ) (root : List ℕ)
       → IsUnheld remaining contents d overhead root n a fault b → d ≡ v.device → overhead ≡ v.overhead → root ≡ (slice_index_or s.trees n no_tree).root
       → IsUnheld remaining contents v.device v.overhead (slice_index_or s.trees n no_tree).root n a fault b
@@ -146,7 +147,7 @@ module _ {R W : Type 0} (remaining : R → Option (List ℕ)) (contents : W → 
       let e = subst (λ (o : ℕ). IsUnheld remaining contents v.device o root n a fault b) over c in
       subst (λ (r : List ℕ). IsUnheld remaining contents v.device v.overhead r n a fault b) stands e
 
-  -- it was broken off while messages were put
+  -- The formatting was broken off while messages were put,
   pub unmade : (v : Shape) (a : ToHost R W) (fault : FormatFault) (b : ToHost R W) → IsBrokenOff (IsPut remaining contents) (IsUnput remaining contents) (IsFormatBegun v) a fault b
       → AreTreesMadeInPart remaining contents v a (format_told b.refusal fault) b
   unmade v a fault b h = record {
@@ -162,14 +163,14 @@ module _ {R W : Type 0} (remaining : R → Option (List ℕ)) (contents : W → 
     );
   }
 
-  -- or while answers were read
+  -- or while answers were read,
   pub unsettled : (v : Shape) (a b c : ToHost R W) (s : State) (why : SinkFault) → IsNew v (IsPut remaining contents) a s b → IsStopped remaining contents b b.due why c
       → AreTreesMadeInPart remaining contents v a (sink_told c.refusal why) c
   unsettled v a b c s why new stopped =
       let made = made_ahead v a s b new in
       record { messages = made.0; mid = b; put = made.2; ended = inr (s, made.1, inl (why, stopped, refl)) }
 
-  -- or while paths were fetched
+  -- or while paths were fetched.
   pub unchecked : (u v : Shape) → u ≡ v → (a b c d : ToHost R W) (s : State) (fault : FormattingFault) → IsNew v (IsPut remaining contents) a s b → IsDrained remaining contents b b.due c
       → IsUnseen remaining contents u s c fault d → AreTreesMadeInPart remaining contents v a fault d
   unchecked u v same a b c d s fault new drained unseen =
@@ -177,7 +178,7 @@ module _ {R W : Type 0} (remaining : R → Option (List ℕ)) (contents : W → 
       let there = subst (λ (w : Shape). IsUnseen remaining contents w s c fault d) same unseen in
       record { messages = made.0; mid = b; put = made.2; ended = inr (s, made.1, inr (c, drained, there)) }
 
-  -- The identity was put, the trees were made and the identity was given back.
+  -- The identity was put, the trees were made, and the host gave back the identity.
   pub formatted_ahead : (v : Shape) (identity : List ℕ) (a b c d : ToHost R W) (s : State) → AreTaken remaining contents a (identity_messages identity) b → AreTreesMade remaining contents v b s c
       → IsAsked remaining contents c (fetch_body IDENTITY_TREE 0) (128 ∷ identity) d → IsFormattedAhead remaining contents v identity a s d
   formatted_ahead v identity a b c d s named made asked =

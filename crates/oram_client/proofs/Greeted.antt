@@ -8,7 +8,7 @@ use Rattle.oram_client.specs.declared.dialing.Trouble.{Trouble}
 use Rattle.oram_client.specs.declared.dialing.Trouble.TheVariants.{OutOfReach}
 
 module _ {S : Type 0} (remaining contents : S → Option (List ℕ)) where
-  -- it was asked so
+  -- The host was asked.
   pub asked : (reader writer : S) (before line : ToStreams S S) (body : List ℕ) (outcome : Outcome)
       → before ≡ record { reader = reader; writer = writer; faults = 0 } → body ≡ greeting → StreamCall remaining contents before body outcome line
       → Asks remaining contents reader writer outcome line
@@ -16,21 +16,21 @@ module _ {S : Type 0} (remaining contents : S → Option (List ℕ)) where
       subst (λ (b : ToStreams S S). StreamCall remaining contents b greeting outcome line) is
       (subst (λ (m : List ℕ). StreamCall remaining contents before m outcome line) greets called)
 
-  -- its answer was another
+  -- It gave another answer.
   pub another : (reader writer : S) (before line : ToStreams S S) (body identity answer : List ℕ) (trouble : Trouble)
       → before ≡ record { reader = reader; writer = writer; faults = 0 } → body ≡ greeting → StreamCall remaining contents before body (Ok answer) line
       → Shows identity answer trouble → IsUngreetedOver remaining contents reader writer identity trouble
   another reader writer before line body identity answer trouble is greets called shows =
       inr (Ok answer, line, asked reader writer before line body (Ok answer) is greets called, shows)
 
-  -- or there was none
+  -- It gave no answer.
   pub none : (reader writer : S) (before line : ToStreams S S) (body identity : List ℕ) (fault : LinkFault)
       → before ≡ record { reader = reader; writer = writer; faults = 0 } → body ≡ greeting → StreamCall remaining contents before body (Err fault) line
       → IsUngreetedOver remaining contents reader writer identity (OutOfReach fault)
   none reader writer before line body identity fault is greets called =
       inr (Err fault, line, asked reader writer before line body (Err fault) is greets called, refl)
 
-  -- over some connection
+  -- The connection may be any.
   pub somewhere : (reader writer : S) (identity : List ℕ) (trouble : Trouble) → IsUngreetedOver remaining contents reader writer identity trouble
       → IsUngreeted remaining contents identity trouble
   somewhere reader writer identity trouble shown = inr (reader, writer, shown)

@@ -1,10 +1,10 @@
--- What a loss of power leaves of a file that is put in its place.
+-- The file that is found if the machine loses its power while a file is replaced.
 use Rattle.std.proofs.Common.{◌≡◌, ◌⊎◌, inl, inr, refl, ℕ, Bool, true, false, List, [], ◌∷◌, Option, None, Some, ap}
 use Rattle.std.specs.Prelude.{MatchBool, ⊤}
 use Rattle.oram_client.specs.Placing.{Writes, Settles, SyncsFolder, Clears, Names, deeds_of, first_of, found}
 use Rattle.oram_client.specs.PowerLoss.{File, Disk, MayRead, MayStand, IsLeftByLoss, IsSure, AreLasting, LosesPowerIn, SyncedFilesLast, SyncsAreNeeded, behind, behind_all}
 
--- the bytes of a file, as processes see them
+-- the bytes of a file as processes see them
 abbrev read_now : Option File → Option (List ℕ)
 read_now None = None
 read_now (Some file) = Some file.bytes
@@ -17,7 +17,7 @@ may_read_now : (file : Option File) → MayRead file (read_now file)
 may_read_now None = refl
 may_read_now (Some file) = may_read_bytes file.synced file.bytes
 
--- what is found is the file of the name, or the one that was set aside
+-- The file that is found has the file's name, or was set aside.
 sure_found : (d : Disk) (old : Option (List ℕ)) (m : Names) → IsSure d old → MayStand (λ f. f.kept) (d.now ∷ d.before) m.kept → MayStand (λ f. f.aside) (d.now ∷ d.before) m.aside → found m ≡ old
 sure_found d old m sure kept aside =
     sure (record m { fresh = read_now d.now.fresh }) (record { kept = kept; fresh = inl (may_read_now d.now.fresh); aside = aside })
@@ -33,7 +33,7 @@ written_found d old m sync bytes sure left = sure_found d old m sure (unchanged 
 placed_found : (file : List ℕ) (m : Names) → m.kept ≡ Some file → found m ≡ Some file
 placed_found file m placed = ap (λ (kept : Option (List ℕ)). first_of kept m.aside) placed
 
--- the rename is there or not
+-- The rename is on the disk, or it isn't.
 settled_found : (file : List ℕ) (d : Disk) (old : Option (List ℕ)) (m : Names) → IsSure d old → IsLeftByLoss (behind (behind d (Writes true file)) Settles) m → (found m ≡ old) ⊎ (found m ≡ Some file)
 settled_found file d old m sure left =
     elim left.kept [
@@ -41,7 +41,7 @@ settled_found file d old m sure left =
       | inr before ↦ inl (sure_found d old m sure (unchanged before) (unchanged (unchanged left.aside)))
     ]
 
--- it is there
+-- The rename is on the disk.
 synced_found : (file : List ℕ) (d : Disk) (m : Names) → IsLeftByLoss (behind_all d (Writes true file ∷ Settles ∷ SyncsFolder ∷ [])) m → found m ≡ Some file
 synced_found file d m left = elim left.kept [ inl placed ↦ placed_found file m placed | inr before ↦ absurd before ]
 
@@ -62,7 +62,7 @@ meanwhile file old d sure m (inr (inr (inr (inr left)))) = inr (cleared_found fi
 pub synced_files_last : SyncedFilesLast
 synced_files_last file = record { meanwhile = meanwhile file; afterwards = cleared_found file }
 
--- a folder in which nothing was ever kept, and what it leaves
+-- a folder in which nothing was ever kept, and what a loss of power leaves of it
 abbrev blank : Disk
 blank = record { now = record { kept = None; fresh = None; aside = None }; before = [] }
 

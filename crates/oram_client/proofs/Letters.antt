@@ -1,16 +1,16 @@
--- The parts of a disk's file, behind one another.
+-- The parts of a kept file, one after the other.
 use Rattle.std.proofs.Common.{◌≡◌, ℕ, List, ◌∷◌, ◌++◌, sym, ap, ◌∙◌, take, drop, take-append-drop}
 use Rattle.std.proofs.lemmas.List.{drop_at}
 use Rattle.oram_client.specs.declared.kept_file.Head.{Head}
 use Rattle.oram_client.specs.KeptFile.{IsHead, behind_letters, sealer_byte}
 
--- two parts of 32 bytes, and what is behind them
+-- two parts of 32 bytes, and what follows them
 pub joined : (rest salt behind check others : List ℕ) → salt ≡ take 32 rest → behind ≡ drop 32 rest → check ≡ take 32 behind → others ≡ drop 32 behind → rest ≡ salt ++ (check ++ others)
 joined rest salt behind check others first after second last =
     let inner : check ++ others ≡ behind = ap (λ l. l ++ others) second ∙ ap (λ l. take 32 behind ++ l) last ∙ take-append-drop 32 behind in
     sym (ap (λ l. salt ++ l) (inner ∙ after) ∙ ap (λ l. l ++ drop 32 rest) first ∙ take-append-drop 32 rest)
 
--- the byte of the sealer and the state stand behind the salt and the key check
+-- The byte of the sealer and the state follow the salt and the key check.
 pub parted : (head : Head) (state rest behind others : List ℕ) → IsHead head → rest ≡ behind_letters head state → behind ≡ drop 32 rest → others ≡ drop 32 behind
     → others ≡ sealer_byte head.sealer ∷ state
 parted head state rest behind others is whole after last =

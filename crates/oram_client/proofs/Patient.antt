@@ -1,4 +1,4 @@
--- Tries to have an answer, one after the other.
+-- The tries of a call, one after the other.
 use Rattle.std.proofs.Common.{◌≡◌, ℕ, List, [], ◌∷◌, ◌++◌, Option, None, Some, sym, ap, ◌∙◌, subst}
 use Rattle.std.specs.Prelude.{MatchOption}
 use Rattle.std.specs.List.{FoldsTo}
@@ -10,13 +10,13 @@ use Rattle.oram_client.specs.Patience.{Patient, Attempt, IsTroubleIn, IsDelayed,
 
 module _ {D L : Type 0} (opens : D → Limits → L → D → Type 0) (fails : D → Limits → Trouble → D → Type 0) (pauses : D → ℕ → D → Type 0)
     (reads : D → Option ℕ → D → Type 0) (calls : L → List ℕ → Outcome → L → Type 0) where
-  -- the tries up to here
+  -- the tries so far
   abbrev pub Delayed : ℕ → Option ℕ → List ℕ → D → Option L → D → Option L → ℕ → ℕ → Type 0
   Delayed patience begin body first line now now_line pause left =
       (troubles : List Trouble) × FoldsTo {P = Waiting D L} (IsDelayed opens fails pauses reads calls patience begin body)
       (record { dialer = first; line = line; pause = first_pause; left = patience }) troubles (record { dialer = now; line = now_line; pause = pause; left = left })
 
-  -- none
+  -- no tries yet
   pub delayed_none : (begin : Option ℕ) (body : List ℕ) (l a : Patient D L) (left : ℕ) → a ≡ record l { dialer = a.dialer } → left ≡ a.patience
       → Delayed l.patience begin body a.dialer l.line a.dialer a.line first_pause left
   delayed_none begin body l a left same is = (
@@ -29,7 +29,7 @@ module _ {D L : Type 0} (opens : D → Limits → L → D → Type 0) (fails : D
     }),
   )
 
-  -- one more: a link `a` tries, which leaves `b`, tells of it, which leaves `t`, and pauses, which leaves `w`
+  -- One more try: the link `a` becomes `b` by trying, `t` by reporting the trouble, and `w` by pausing.
   pub delayed_more : (patience : ℕ) (begin : Option ℕ) (body : List ℕ) (first : D) (line : Option L) (a b t w : Patient D L) (pause left pause' left' : ℕ)
       (came : Attempt) (trouble : Trouble) → Delayed patience begin body first line a.dialer a.line pause left → a.patience ≡ patience
       → IsTried opens fails calls a.dialer a.line (limits a.patience left) body came b.dialer b.line → b ≡ record a { dialer = b.dialer; line = b.line }
@@ -49,7 +49,7 @@ module _ {D L : Type 0} (opens : D → Limits → L → D → Type 0) (fails : D
     }),
   )
 
-  -- the rest of the link is as before
+  -- The rest of the link is as before.
   pub rest_same : (patience faults : ℕ) (a b t w : Patient D L) → a.patience ≡ patience → a.trouble ≡ None → a.faults ≡ faults
       → b ≡ record a { dialer = b.dialer; line = b.line } → t ≡ b → w ≡ record t { dialer = w.dialer }
       → (w.patience ≡ patience) × (w.trouble ≡ None) × (w.faults ≡ faults)
@@ -59,7 +59,7 @@ module _ {D L : Type 0} (opens : D → Limits → L → D → Type 0) (fails : D
     ap (λ (p : Patient D L). p.faults) later ∙ ap (λ (p : Patient D L). p.faults) told_of ∙ ap (λ (p : Patient D L). p.faults) after ∙ counted,
   )
 
-  -- an answer ends them
+  -- An answer ends the tries.
   pub answered_behind : (begin : Option ℕ) (body : List ℕ) (first : D) (l a b m : Patient D L) (pause left : ℕ) (came : Attempt) (outcome : Outcome)
       → reads l.dialer begin first → Delayed l.patience begin body first l.line a.dialer a.line pause left → a.patience ≡ l.patience → a.trouble ≡ None
       → IsTried opens fails calls a.dialer a.line (limits a.patience left) body came b.dialer b.line → b ≡ record a { dialer = b.dialer; line = b.line }
@@ -84,7 +84,8 @@ module _ {D L : Type 0} (opens : D → Limits → L → D → Type 0) (fails : D
         says = says;
       }
 
-  -- or no patience is left: a link `a` tries, which leaves `b`, tells of it, which leaves `t`, reads the clock, which leaves `w`, and gives up
+  -- Or no patience is left: the link `a` becomes `b` by trying, `t` by reporting the trouble, and `w` by reading the
+  -- clock, and gives up.
   pub given_up_behind : (begin : Option ℕ) (body : List ℕ) (first : D) (l a b t w m : Patient D L) (pause left : ℕ) (came : Attempt) (trouble : Trouble) (outcome : Outcome)
       → reads l.dialer begin first → Delayed l.patience begin body first l.line a.dialer a.line pause left → a.patience ≡ l.patience
       → IsTried opens fails calls a.dialer a.line (limits a.patience left) body came b.dialer b.line → b ≡ record a { dialer = b.dialer; line = b.line }

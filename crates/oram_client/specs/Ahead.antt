@@ -1,4 +1,4 @@
--- Messages that go to a host ahead of its answers.
+-- A connection that sends messages to a host ahead of its answers.
 use Rattle.std.specs.Prelude.{◌≡◌, ◌≢◌, ℕ, ◌+◌, ◌<◌, ◌≤◌, List, [], ◌∷◌, Option, Some, ◌⊎◌, length, replicate}
 use Rattle.std.specs.Io.KnownBytes.{Appends, Consumes}
 use Rattle.std.specs.List.{flat_map}
@@ -12,34 +12,34 @@ use Rattle.oram_host.specs.declared.refusals.HostRefusal.TheVariants as host
 use Rattle.oram_client.specs.declared.refusals.Refusal.{Refusal}
 use Rattle.oram_client.specs.declared.refusals.Refusal.TheVariants.{Taken, NoRoom, Other}
 
--- a connection to a host
+-- the connection
 pub record ToHost (R W : Type 0) : Type 0 where
   pub reader : R
   pub writer : W
   pub due : ℕ  -- how many messages have no answer yet
   pub refusal : Option Refusal  -- what an answer meant that wasn't that the host is done, once there was one
 
--- the most that may have none
+-- the most messages that may be without an answer
 abbrev pub most_due : ℕ
 most_due = 256
 
--- so many answers that the host is done
+-- `count` answers that the host is done
 abbrev pub dones : ℕ → List ℕ
 dones count = flat_map frame (replicate count (128 ∷ []))
 
--- no frame is read where an answer is due, and what is told of that
+-- No frame is read where an answer is due, and the fault says why.
 abbrev pub GivesNone : Option (List ℕ) → Option (List ℕ) → SinkFault → Type 0
 GivesNone old new Refused = ⊥
 GivesNone old new Link = GivesPart old new ⊎ GivesBrokenHead old new
 GivesNone old new OutOfMemory = GivesHead old new
 
--- what an answer means that isn't that the host is done: the tree has a shape already, the host has no room, or anything else
+-- what an answer other than done means: the tree already has a shape, the host has no room, or anything else
 abbrev pub Means : List ℕ → Refusal → Type 0
 Means answer Taken = answer ≡ 129 ∷ code_of host.ShapeTaken ∷ []
 Means answer NoRoom = answer ≡ 129 ∷ code_of host.OutOfMemory ∷ []
 Means answer Other = (answer ≢ 129 ∷ code_of host.ShapeTaken ∷ []) × (answer ≢ 129 ∷ code_of host.OutOfMemory ∷ [])
 
--- an answer is read, and it isn't that the host is done
+-- An answer is read, and it is not that the host is done.
 pub record GivesOther (old new : Option (List ℕ)) (refusal : Option Refusal) (fault : SinkFault) : Type 0 where
   pub answer : List ℕ
   pub other : answer ≢ 128 ∷ []
@@ -49,27 +49,27 @@ pub record GivesOther (old new : Option (List ℕ)) (refusal : Option Refusal) (
   pub kept : refusal ≡ Some meaning
   pub told : fault ≡ Refused
 
--- over readers and writers that tell their bytes so
+-- for readers and writers whose bytes `remaining` and `contents` give
 module _ {R W : Type 0} (remaining : R → Option (List ℕ)) (contents : W → Option (List ℕ)) where
-  -- So many answers were read, each that the host is done, and nothing was written.
+  -- `count` answers were read, each that the host is done, and nothing was written.
   pub record IsDrained (a : ToHost R W) (count : ℕ) (b : ToHost R W) : Type 0 where
     pub due : b.due + count ≡ a.due
     pub wrote : Appends (contents a.writer) (contents b.writer) []
     pub read : Consumes (remaining a.reader) (remaining b.reader) (dones count)
 
-  -- The next answer isn't that the host is done, and nothing was written.
+  -- The next answer is not that the host is done, or can't be read. Nothing was written.
   pub record IsUndone (a : ToHost R W) (fault : SinkFault) (b : ToHost R W) : Type 0 where
     pub due : b.due ≡ a.due
     pub wrote : b.writer ≡ a.writer
     pub read : GivesNone (remaining a.reader) (remaining b.reader) fault ⊎ GivesOther (remaining a.reader) (remaining b.reader) b.refusal fault
 
-  -- So many answers were to be read. Fewer were, each that the host is done; the next one isn't. Or what was written before couldn't be
-  -- flushed, and nothing was read.
+  -- `count` answers should have been read. Fewer were, each that the host is done, and the next one is not; or what was
+  -- written before couldn't be flushed, and nothing was read.
   abbrev pub IsStopped : ToHost R W → ℕ → SinkFault → ToHost R W → Type 0
   IsStopped a count fault b =
       ((done : ℕ) × (mid : ToHost R W) × (done < count) × IsDrained a done mid × IsUndone mid fault b) ⊎ (IsDrained a 0 b × (b.reader ≡ a.reader) × (fault ≡ Link))
 
-  -- A message was written behind so many answers that were read, and its own is due.
+  -- A message was written after `count` answers were read, and its own answer is due.
   pub record IsPut (a : ToHost R W) (body : List ℕ) (b : ToHost R W) : Type 0 where
     pub count : ℕ
     pub due : b.due + count ≡ a.due + 1
@@ -77,14 +77,15 @@ module _ {R W : Type 0} (remaining : R → Option (List ℕ)) (contents : W → 
     pub wrote : Appends (contents a.writer) (contents b.writer) (frame body)
     pub read : Consumes (remaining a.reader) (remaining b.reader) (dones count)
 
-  -- A message wasn't written, or a part of it was, and nothing was read.
+  -- A message wasn't written, or only a part of it was, and nothing was read.
   pub record IsUnsent (a : ToHost R W) (body : List ℕ) (fault : SinkFault) (b : ToHost R W) : Type 0 where
     pub due : b.due ≡ a.due
     pub wrote : ((LONGEST_BODY < length body) × (b.writer ≡ a.writer)) ⊎ TakesPart (contents a.writer) (contents b.writer) (frame body)
     pub unread : b.reader ≡ a.reader
     pub told : fault ≡ Link
 
-  -- A message wasn't taken: as many answers were due as may be, and half of them were to be read; or, perhaps behind these, it wasn't written.
+  -- A message wasn't put. Either the most answers were due, and reading half of them stopped; or the message wasn't
+  -- written, perhaps after some answers were read.
   abbrev pub IsUnput : ToHost R W → List ℕ → SinkFault → ToHost R W → Type 0
   IsUnput a body fault b =
       ((a.due ≡ most_due) × IsStopped a 128 fault b) ⊎ ((count : ℕ) × (mid : ToHost R W) × IsDrained a count mid × IsUnsent mid body fault b)
@@ -101,24 +102,25 @@ module _ {R W : Type 0} (remaining : R → Option (List ℕ)) (contents : W → 
     pub wrote : Appends (contents a.writer) (contents b.writer) (frame body)
     pub read : GivesNone (remaining a.reader) (remaining b.reader) fault
 
-  -- It wasn't written, or not answered.
+  -- A message wasn't written, or not answered.
   abbrev pub IsUnasked : ToHost R W → List ℕ → SinkFault → ToHost R W → Type 0
   IsUnasked a body fault b = IsUnsent a body fault b ⊎ IsUnanswered a body fault b
 
-  -- Messages were written behind one another, and so many answers were read meanwhile, each that the host is done.
+  -- Messages were written one after another, and meanwhile `count` answers were read, each that the host is done.
   pub record ArePut (a : ToHost R W) (bodies : List (List ℕ)) (b : ToHost R W) : Type 0 where
     pub count : ℕ
     pub due : b.due + count ≡ a.due + length bodies
     pub wrote : Appends (contents a.writer) (contents b.writer) (flat_map frame bodies)
     pub read : Consumes (remaining a.reader) (remaining b.reader) (dones count)
 
-  -- So they were, and every answer that was due was read.
+  -- These messages were written, and all answers that were due were read.
   pub record AreTaken (a : ToHost R W) (bodies : List (List ℕ)) (b : ToHost R W) : Type 0 where
     pub due : b.due ≡ 0
     pub wrote : Appends (contents a.writer) (contents b.writer) (flat_map frame bodies)
     pub read : Consumes (remaining a.reader) (remaining b.reader) (dones (a.due + length bodies))
 
-  -- One of the messages wasn't put, behind those before it. Or all were, and one of the answers that were due isn't that the host is done.
+  -- One of these messages wasn't put, though those before it were; or all were put, and reading the answers that were
+  -- due stopped.
   abbrev pub AreUntaken : ToHost R W → List (List ℕ) → SinkFault → ToHost R W → Type 0
   AreUntaken a [] fault b = IsStopped a a.due fault b
   AreUntaken a (body ∷ bodies) fault b = IsUnput a body fault b ⊎ ((mid : ToHost R W) × IsPut a body mid × AreUntaken mid bodies fault b)

@@ -1,4 +1,4 @@
--- What can be wrong with a host, and a way over which the host of a disk has answered.
+-- What can be wrong with a host, and a connection over which the host of a disk has answered.
 use Rattle.std.specs.Prelude.{◌≡◌, ◌≢◌, ℕ, Bool, true, false, List, [], ◌∷◌, Option, Ok, Some, None, MatchResult, ◌⊎◌}
 use Rattle.oram_wire.specs.HostMessages.{fetch_body, answer_body}
 use Rattle.oram_wire.specs.declared.host_messages.HostAnswer.TheVariants.{Payload, Refused}
@@ -13,21 +13,21 @@ use Rattle.oram_session.specs.declared.link.LinkFault.TheVariants.{Io, Closed, O
 use Rattle.oram_client.specs.declared.dialing.Trouble.{Trouble}
 use Rattle.oram_client.specs.declared.dialing.Trouble.TheVariants.{OutOfReach, NoRoom, AnotherDisk, NoDisk}
 
--- a trouble that may pass while one waits
+-- whether a trouble may pass while one waits
 abbrev pub may_pass : Trouble → Bool
 may_pass (OutOfReach fault) = true
 may_pass NoRoom = true
 may_pass AnotherDisk = false
 may_pass NoDisk = false
 
--- what the caller of a link is told of it
+-- the fault that a link reports to its caller for a trouble
 abbrev pub fault_of : Trouble → LinkFault
 fault_of (OutOfReach fault) = fault
 fault_of NoRoom = Closed
 fault_of AnotherDisk = Closed
 fault_of NoDisk = Closed
 
--- what is wrong with a host where the link to it gave up, with this trouble as the last one
+-- what is wrong with a host after the link to it has given up with this last trouble
 abbrev pub given_up : Option Trouble → HostFault
 given_up (Some (OutOfReach fault)) = host.OutOfReach
 given_up (Some NoRoom) = host.NoRoom
@@ -39,7 +39,7 @@ given_up None = host.OutOfReach
 abbrev pub no_room : List ℕ
 no_room = answer_body (Refused (code_of refusal.OutOfMemory))
 
--- the host of a disk, and the identity of the disk that it has to keep
+-- the address of a disk's host, and the identity of the disk that it has to keep
 pub record Destination : Type 0 where
   pub address : List ℕ
   pub identity : List ℕ
@@ -48,32 +48,33 @@ pub record Destination : Type 0 where
 abbrev pub greeting : List ℕ
 greeting = fetch_body 255 0
 
--- what is wrong with the answer to it
+-- what is wrong with the answer to the greeting
 abbrev pub Shows : List ℕ → List ℕ → Trouble → Type 0
 Shows identity answer (OutOfReach fault) = (fault ≡ Io) × (answer ≡ [] ⊎ (first : ℕ) × (rest : List ℕ) × (answer ≡ first ∷ rest) × (first ≢ 128) × (first ≢ 129))
 Shows identity answer NoRoom = answer ≡ no_room
 Shows identity answer AnotherDisk = (other : List ℕ) × (answer ≡ answer_body (Payload other)) × (other ≢ identity)
 Shows identity answer NoDisk = (rest : List ℕ) × (answer ≡ 129 ∷ rest) × (answer ≢ no_room)
 
--- over streams that tell their bytes so
+-- for streams whose bytes `remaining` and `contents` give
 module _ {S : Type 0} (remaining contents : S → Option (List ℕ)) where
-  -- the first call over a connection asks for the identity
+  -- The first call over a connection asks for the identity.
   abbrev pub Asks : S → S → Outcome → ToStreams S S → Type 0
   Asks reader writer outcome line = StreamCall remaining contents (record { reader = reader; writer = writer; faults = 0 }) greeting outcome line
 
-  -- The answer was this identity.
+  -- The host answered with this identity.
   abbrev pub IsGreetedOver : S → S → List ℕ → ToStreams S S → Type 0
   IsGreetedOver reader writer identity line = Asks reader writer (Ok (answer_body (Payload identity))) line
 
-  -- There was no memory to ask, or the call had a fault, or the answer was another.
+  -- Memory ran out before the host was asked, or the call had a fault, or the host gave another
+  -- answer.
   abbrev pub IsUngreetedOver : S → S → List ℕ → Trouble → Type 0
   IsUngreetedOver reader writer identity trouble = (trouble ≡ OutOfReach OutOfMemory)
       ⊎ ((outcome : Outcome) × (line : ToStreams S S) × Asks reader writer outcome line × MatchResult outcome (λ answer. Shows identity answer trouble) (λ fault. trouble ≡ OutOfReach fault))
 
-  -- over some connection
+  -- The host answered with this identity over some connection.
   abbrev pub IsGreeted : List ℕ → ToStreams S S → Type 0
   IsGreeted identity line = (reader : S) × (writer : S) × IsGreetedOver reader writer identity line
 
-  -- there was no connection, or it was so over one
+  -- There was no connection, or the host didn't answer with this identity over one.
   abbrev pub IsUngreeted : List ℕ → Trouble → Type 0
   IsUngreeted identity trouble = ((fault : LinkFault) × (trouble ≡ OutOfReach fault)) ⊎ ((reader : S) × (writer : S) × IsUngreetedOver reader writer identity trouble)

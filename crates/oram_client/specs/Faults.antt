@@ -1,4 +1,4 @@
--- What a formatting tells of a fault of its connection.
+-- The faults of a formatting for the faults of its connection.
 use Rattle.std.specs.Prelude.{Option, None, Some}
 use Rattle.oram_wire.specs.declared.sinks.SinkFault.{SinkFault}
 use Rattle.oram_wire.specs.declared.sinks.SinkFault.TheVariants as sink
@@ -9,20 +9,22 @@ use Rattle.oram_client.specs.declared.faults.FormattingFault.TheVariants.{Taken,
 use Rattle.oram_client.specs.declared.refusals.Refusal.{Refusal}
 use Rattle.oram_client.specs.declared.refusals.Refusal.TheVariants as refusal
 
--- a refusal of the host, as a formatting tells it
+-- the formatting's fault for a refusal of the host
 abbrev pub refusal_told : Option Refusal → FormattingFault
 refusal_told (Some refusal.Taken) = Taken
 refusal_told (Some refusal.NoRoom) = NoRoom
 refusal_told (Some refusal.Other) = Refused
 refusal_told None = Refused
 
--- a fault of the connection, with the refusal that it has read
+-- the formatting's fault for a fault of its connection, where `read` is the refusal that was read
+-- last
 abbrev pub sink_told : Option Refusal → SinkFault → FormattingFault
 sink_told read sink.Refused = refusal_told read
 sink_told read sink.Link = Link
 sink_told read sink.OutOfMemory = OutOfMemory
 
--- the same of a fault of the making of trees
+-- the formatting's fault for a fault in making trees, where `read` is the refusal that was read
+-- last
 abbrev pub format_told : Option Refusal → FormatFault → FormattingFault
 format_told read (making.Sink why) = sink_told read why
 format_told read making.OutOfMemory = OutOfMemory

@@ -1,4 +1,4 @@
--- A keeper whose states go into a file.
+-- A keeper that writes a core's states to a file.
 use Rattle.std.specs.Prelude.{◌≡◌, ℕ, Bool, false, List, Option, None, IsSomeAnd, MatchBool, MatchOption}
 use Rattle.oram_client.specs.KeptFile.{kept_file}
 use Rattle.oram_client.specs.Placing.{Deed, DoesAll, IsBrokenOff, deeds_of}
@@ -11,15 +11,16 @@ pub record FileKeeping (P : Type 0) : Type 0 where
   pub sync : Bool
   pub failure : Option FileFailure  -- why a state was not kept, once one wasn't
 
--- over places where deeds are done so, or fail so
+-- for places where deeds are done, or fail, by `does`
 module _ {P : Type 0} (does : P → Deed → Bool → P → Type 0) where
-  -- The deeds are done that put the state's file in its place; or one fails, and why is known from then on.
+  -- All deeds that replace the file by the one with this state are done; or one fails, and the keeper
+  -- remembers why.
   abbrev pub PutsFile : FileKeeping P → List ℕ → Bool → FileKeeping P → Type 0
   PutsFile k state done m =
       let deeds = deeds_of k.sync (kept_file k.head state) in
       MatchBool done (DoesAll does k.place deeds m.place × (m.failure ≡ None)) (IsSomeAnd m.failure (λ why. IsBrokenOff does k.place deeds why.step m.place))
 
-  -- Once a state was not kept, none is.
+  -- Once the keeper has failed, it keeps nothing more.
   pub record KeepsFile (k : FileKeeping P) (state : List ℕ) (done : Bool) (m : FileKeeping P) : Type 0 where
     pub head : m.head ≡ k.head
     pub sync : m.sync ≡ k.sync

@@ -1,4 +1,4 @@
--- A disk that is formatted by messages that go ahead of their answers.
+-- A disk is formatted by messages that go ahead of their answers.
 use Rattle.std.specs.Prelude.{◌≡◌, ℕ, ◌+◌, ◌<◌, ◌⊎◌, List, [], ◌∷◌, ◌++◌, Option, length, map, slice_index_or}
 use Rattle.std.specs.Io.KnownBytes.{Appends, Consumes}
 use Rattle.std.specs.List.{flat_map, range_with_len}
@@ -19,31 +19,31 @@ use Rattle.oram_client.specs.Ahead.{ToHost, ArePut, AreTaken, IsAsked, IsDrained
 use Rattle.oram_client.specs.Faults.{sink_told}
 use Rattle.oram_client.specs.Naming.{IsUnnamed, IsUnrecognized, identity_messages}
 
--- one more message
+-- one message more
 abbrev pub Collects : List (List ℕ) → List ℕ → List (List ℕ) → Type 0
 Collects messages body more = more ≡ messages ++ body ∷ []
 
--- the frames that ask for the path to leaf 0 of each of the first trees
+-- the frames that ask for the path to leaf 0 of each of the first `count` trees
 abbrev pub fetches : ℕ → List ℕ
 fetches count = flat_map frame (map (λ tree. fetch_body tree 0) (range_with_len 0 count))
 
--- the frames that answer them
+-- the frames that answer with these paths
 abbrev pub paths : List (List ℕ) → List ℕ
 paths answers = flat_map (λ records. frame (128 ∷ records)) answers
 
--- these are the records of a path of each of the first trees, under its root digest
+-- `answers` are the records of a path of each of the first `count` trees, and each path has the tree's root digest.
 abbrev pub AreGenuine : Shape → State → ℕ → List (List ℕ) → Type 0
 AreGenuine v s count answers =
     (i : ℕ) → i < count → IsAccepted (path_of v.device i 0 v.overhead (slice_index_or answers i [])) (slice_index_or s.trees i no_tree).root
 
--- the answer isn't a genuine path of this tree to leaf 0, under this root digest
+-- The answer isn't a path of this tree to leaf 0 with this root digest.
 abbrev pub IsFalse : Sizes → ℕ → List ℕ → ℕ → List ℕ → Type 0
 IsFalse d overhead root tree answer =
     (records : List ℕ) → answer ≡ 128 ∷ records → ¬ IsAccepted (path_of d tree 0 overhead records) root
 
--- over readers and writers that tell their bytes so
+-- for readers and writers whose bytes `remaining` and `contents` give
 module _ {R W : Type 0} (remaining : R → Option (List ℕ)) (contents : W → Option (List ℕ)) where
-  -- A path of each of the first trees was fetched.
+  -- A path of each of the first `count` trees was fetched, and is genuine.
   pub record AreSeen (v : Shape) (s : State) (count : ℕ) (a b : ToHost R W) : Type 0 where
     pub answers : List (List ℕ)
     pub answers_count : length answers ≡ count
@@ -52,13 +52,14 @@ module _ {R W : Type 0} (remaining : R → Option (List ℕ)) (contents : W → 
     pub read : Consumes (remaining a.reader) (remaining b.reader) (paths answers)
     pub genuine : AreGenuine v s count answers
 
-  -- The path of a tree was asked for and not had: there was no answer, or one that isn't genuine.
+  -- The path of a tree was asked for, but there was no answer, or one that isn't genuine.
   abbrev pub IsUnheld : Sizes → ℕ → List ℕ → ℕ → ToHost R W → FormattingFault → ToHost R W → Type 0
   IsUnheld d overhead root tree a fault b =
       ((why : SinkFault) × IsUnasked remaining contents a (fetch_body tree 0) why b × (fault ≡ sink_told b.refusal why))
       ⊎ ((answer : List ℕ) × IsAsked remaining contents a (fetch_body tree 0) answer b × IsFalse d overhead root tree answer × (fault ≡ Unheld))
 
-  -- A path of each of the first trees was fetched. Then memory was refused elsewhere, or the path of the next one wasn't had.
+  -- Genuine paths of the first trees were fetched. Then memory ran out elsewhere, or there was no genuine path of the
+  -- next tree.
   pub record IsUnseen (v : Shape) (s : State) (a : ToHost R W) (fault : FormattingFault) (b : ToHost R W) : Type 0 where
     pub count : ℕ
     pub mid : ToHost R W
@@ -66,8 +67,8 @@ module _ {R W : Type 0} (remaining : R → Option (List ℕ)) (contents : W → 
     pub ended : ((fault ≡ OutOfMemory) × (b ≡ mid))
         ⊎ ((count < trees_of v.device) × IsUnheld v.device v.overhead (slice_index_or s.trees count no_tree).root count mid fault b)
 
-  -- The messages that make the device's trees were written, and those that fetch a path of each. Each of the former was answered as
-  -- done, and the paths are genuine.
+  -- The messages that make the device's trees were written, and then those that fetch a path of each. The host is done
+  -- with the former, and the paths are genuine.
   pub record AreTreesMade (v : Shape) (a : ToHost R W) (s : State) (b : ToHost R W) : Type 0 where
     pub messages : List (List ℕ)
     pub new : IsNew v Collects [] s messages
@@ -78,7 +79,8 @@ module _ {R W : Type 0} (remaining : R → Option (List ℕ)) (contents : W → 
     pub read : Consumes (remaining a.reader) (remaining b.reader) (dones (a.due + length messages) ++ paths answers)
     pub genuine : AreGenuine v s (trees_of v.device) answers
 
-  -- These messages are a beginning of those that make the device's trees. Then memory was refused elsewhere, or the next one wasn't taken.
+  -- These messages are the first ones of those that make the device's trees. Then memory ran out elsewhere, or the next
+  -- message wasn't put.
   abbrev pub IsUnmade : Shape → List (List ℕ) → ToHost R W → FormattingFault → ToHost R W → Type 0
   IsUnmade v messages a fault b =
       IsFormatBegun v messages
@@ -86,21 +88,23 @@ module _ {R W : Type 0} (remaining : R → Option (List ℕ)) (contents : W → 
       ⊎ ((body : List ℕ) × (why : SinkFault) × IsFormatBegun v (messages ++ body ∷ []) × IsUnput remaining contents a body why b
       × (fault ≡ sink_told b.refusal why)))
 
-  -- All of them were written. Then one of the answers that were due isn't that the host is done; or all are, and a path wasn't had.
+  -- All messages that make the trees were written. Then reading the answers that were due stopped; or all were read,
+  -- and there was no genuine path of some tree.
   abbrev pub IsUnchecked : Shape → State → ToHost R W → FormattingFault → ToHost R W → Type 0
   IsUnchecked v s a fault b =
       ((why : SinkFault) × IsStopped remaining contents a a.due why b × (fault ≡ sink_told b.refusal why))
       ⊎ ((mid : ToHost R W) × IsDrained remaining contents a a.due mid × IsUnseen v s mid fault b)
 
-  -- That was broken off, while the messages were put or behind them.
+  -- Making the trees was broken off, while their messages were put or afterwards.
   pub record AreTreesMadeInPart (v : Shape) (a : ToHost R W) (fault : FormattingFault) (b : ToHost R W) : Type 0 where
     pub messages : List (List ℕ)
     pub mid : ToHost R W
     pub put : ArePut remaining contents a messages mid
     pub ended : IsUnmade v messages mid fault b ⊎ ((s : State) × IsNew v Collects [] s messages × IsUnchecked v s mid fault b)
 
-  -- The messages of the identity were written, those that make the device's trees, those that fetch a path of each, and the one that
-  -- fetches the identity. Those that put something were answered as done, the paths are genuine, and the identity was given back.
+  -- The messages of the identity were written, then those that make the device's trees, those that fetch a path of
+  -- each, and the one that fetches the identity. The host is done with those that put something, the paths are genuine,
+  -- and the host gave back the identity.
   pub record IsFormattedAhead (v : Shape) (identity : List ℕ) (a : ToHost R W) (s : State) (b : ToHost R W) : Type 0 where
     pub messages : List (List ℕ)
     pub new : IsNew v Collects [] s messages
@@ -113,7 +117,7 @@ module _ {R W : Type 0} (remaining : R → Option (List ℕ)) (contents : W → 
         (dones (a.due + length (identity_messages identity ++ messages)) ++ paths answers ++ frame (128 ∷ identity))
     pub genuine : AreGenuine v s (trees_of v.device) answers
 
-  -- A formatting was broken off: while the identity was put, while the trees were made, or when the identity was fetched.
+  -- A formatting was broken off: while it put the identity, while it made the trees, or when it fetched the identity.
   abbrev pub IsFormattedInPart : Shape → List ℕ → ToHost R W → FormattingFault → ToHost R W → Type 0
   IsFormattedInPart v identity a fault b =
       IsUnnamed remaining contents identity a fault b

@@ -8,19 +8,20 @@ use Rattle.oram_client.specs.declared.naming.TheConstants.{IDENTITY_TREE, IDENTI
 use Rattle.oram_client.specs.Ahead.{ToHost, AreUntaken, IsAsked, IsUnasked}
 use Rattle.oram_client.specs.Faults.{sink_told}
 
--- the messages that keep a disk's identity at its host
+-- the messages that put a disk's identity at its host
 abbrev pub identity_messages : List ℕ → List (List ℕ)
 identity_messages identity = shape_body IDENTITY_TREE 0 IDENTITY_LEN ∷ put_body IDENTITY_TREE 0 identity ∷ []
 
--- over readers and writers that tell their bytes so
+-- for readers and writers whose bytes `remaining` and `contents` give
 module _ {R W : Type 0} (remaining : R → Option (List ℕ)) (contents : W → Option (List ℕ)) where
-  -- Memory was refused before anything was sent, or one of the identity's messages wasn't taken.
+  -- Memory ran out before anything was sent, or one of the identity's messages wasn't put or not
+  -- answered with done.
   abbrev pub IsUnnamed : List ℕ → ToHost R W → FormattingFault → ToHost R W → Type 0
   IsUnnamed identity a fault b =
       ((fault ≡ OutOfMemory) × (b ≡ a))
       ⊎ ((why : SinkFault) × AreUntaken remaining contents a (identity_messages identity) why b × (fault ≡ sink_told b.refusal why))
 
-  -- The identity was asked for and not had: there was no answer, or another one.
+  -- The identity was asked for, but there was no answer, or another one.
   abbrev pub IsUnrecognized : List ℕ → ToHost R W → FormattingFault → ToHost R W → Type 0
   IsUnrecognized identity a fault b =
       ((why : SinkFault) × IsUnasked remaining contents a (fetch_body IDENTITY_TREE 0) why b × (fault ≡ sink_told b.refusal why))

@@ -9,7 +9,7 @@ use Rattle.oram_client.specs.declared.dialing.Limits.{Limits}
 use Rattle.oram_client.specs.declared.dialing.Trouble.{Trouble}
 use Rattle.oram_client.specs.declared.dialing.Trouble.TheVariants.{OutOfReach, NoRoom}
 
--- what opens ways, the way that is open, and times in milliseconds
+-- a patient link: what opens its connections, the open connection, and times in milliseconds
 pub record Patient (D L : Type 0) : Type 0 where
   pub dialer : D
   pub line : Option L
@@ -17,22 +17,22 @@ pub record Patient (D L : Type 0) : Type 0 where
   pub trouble : Option Trouble  -- why it gave up, once it has
   pub faults : ℕ  -- how many calls had a fault
 
--- what comes of a try: an answer of the host, or why there is none
+-- the outcome of a try: an answer of the host, or why there is none
 abbrev pub Attempt : Type 0
 Attempt = Result (List ℕ) Trouble
 
--- without where the bytes lie in memory
+-- an attempt, without where the answer's bytes lie in memory
 abbrev pub attempt_of : Result (Vec ℕ) Trouble → Attempt
 attempt_of (Ok answer) = Ok answer.items
 attempt_of (Err trouble) = Err trouble
 
--- Why this is nothing to give to the caller; none where it is an answer to give.
+-- why an attempt brought nothing to give to the caller; `None` where it brought an answer to give
 abbrev pub IsTroubleIn : Attempt → Option Trouble → Type 0
 IsTroubleIn (Ok answer) None = answer ≢ no_room
 IsTroubleIn (Ok answer) (Some trouble) = (answer ≡ no_room) × (trouble ≡ NoRoom)
 IsTroubleIn (Err why) trouble = trouble ≡ Some why
 
--- what the caller is told of it
+-- what the caller receives for an attempt
 abbrev pub told : Attempt → Outcome
 told (Ok answer) = Ok answer
 told (Err trouble) = Err (fault_of trouble)
@@ -44,28 +44,28 @@ first_pause = 100
 abbrev pub most_pause : ℕ
 most_pause = 5000
 
--- how long a try may take, by the whole patience and what is left of it
+-- how long a try may take, given the whole patience and what is left of it
 abbrev pub limits : ℕ → ℕ → Limits
 limits patience left = record { opening = max left 1; silence = max 1000 (min patience 60000); answering = max patience 1000 }
 
--- from one reading of the clock to another; where one of them failed, no time is known to have passed
+-- the time between two readings of the clock, or 0 where one of them failed
 abbrev pub elapsed : Option ℕ → Option ℕ → ℕ
 elapsed (Some from) (Some to) = to - from
 elapsed (Some from) None = 0
 elapsed None to = 0
 
--- what is left of the patience after this trouble, at this reading. A pause counts even where the clock can't be read, and nothing is left
--- where the trouble won't pass.
+-- What is left of the patience after a trouble, when the clock reads `now`. Pauses count even where the clock can't be
+-- read, and nothing is left where the trouble won't pass.
 abbrev pub left_at : (patience : ℕ) (begin : Option ℕ) (left : ℕ) → Trouble → (now : Option ℕ) → ℕ
 left_at patience begin left trouble now = cond (may_pass trouble) (min left (patience - elapsed begin now)) 0
 
--- ways are opened, tries to open one fail, and calls go over ways so
+-- for dialers that open connections by `opens` or fail by `fails`, and connections with calls by `calls`
 module _ {D L : Type 0} (opens : D → Limits → L → D → Type 0) (fails : D → Limits → Trouble → D → Type 0) (calls : L → List ℕ → Outcome → L → Type 0) where
-  -- the way that is open, or a new one
+  -- the open connection, or a new one
   abbrev pub HasLine : D → Option L → Limits → L → D → Type 0
   HasLine dialer line limits way dialer' = MatchOption line (opens dialer limits way dialer') (λ held. (way ≡ held) × (dialer' ≡ dialer))
 
-  -- The dialer opens no way to the host, so nothing is sent.
+  -- The dialer opens no connection to the host, so nothing is sent.
   pub record IsUnopened (dialer : D) (line : Option L) (limits : Limits) (came : Attempt) (dialer' : D) (line' : Option L) : Type 0 where
     pub none : line ≡ None
     pub why : Trouble
@@ -73,7 +73,7 @@ module _ {D L : Type 0} (opens : D → Limits → L → D → Type 0) (fails : D
     pub says : came ≡ Err why
     pub still_none : line' ≡ None
 
-  -- The message goes over a way, once. Where that has a fault, the way is closed.
+  -- The message goes over a connection once. If the call has a fault, the connection is closed.
   pub record IsCalled (dialer : D) (line : Option L) (limits : Limits) (body : List ℕ) (came : Attempt) (dialer' : D) (line' : Option L) : Type 0 where
     pub way : L
     pub had : HasLine dialer line limits way dialer'
@@ -85,9 +85,10 @@ module _ {D L : Type 0} (opens : D → Limits → L → D → Type 0) (fails : D
   abbrev pub IsTried : D → Option L → Limits → List ℕ → Attempt → D → Option L → Type 0
   IsTried dialer line limits body came dialer' line' = IsUnopened dialer line limits came dialer' line' ⊎ IsCalled dialer line limits body came dialer' line'
 
--- Pauses end and the clock is read so, with this much patience from this reading of the clock on.
+-- for dialers that pause by `pauses` and read the clock by `reads`, with this much patience since the clock read
+-- `begin`
 module _ {D : Type 0} (pauses : D → ℕ → D → Type 0) (reads : D → Option ℕ → D → Type 0) (patience : ℕ) (begin : Option ℕ) where
-  -- There is a pause. The next one is twice as long, and none is longer than what is left.
+  -- There is a pause, which isn't longer than what is left. The next one is twice as long, up to the longest.
   pub record IsPaused (dialer : D) (pause left : ℕ) (trouble : Trouble) (dialer' : D) (pause' left' : ℕ) : Type 0 where
     pub now : Option ℕ
     pub mid : D
@@ -103,14 +104,14 @@ module _ {D : Type 0} (pauses : D → ℕ → D → Type 0) (reads : D → Optio
     pub read : reads dialer now dialer'
     pub none_left : left_at patience begin left trouble now ≡ 0
 
--- what the next try begins with
+-- what the next try starts with
 pub record Waiting (D L : Type 0) : Type 0 where
   pub dialer : D
   pub line : Option L
   pub pause : ℕ  -- the next one
   pub left : ℕ  -- of the patience
 
--- all of these go so
+-- for dialers and connections that do all of this by these relations
 module _ {D L : Type 0} (opens : D → Limits → L → D → Type 0) (fails : D → Limits → Trouble → D → Type 0) (pauses : D → ℕ → D → Type 0)
     (reads : D → Option ℕ → D → Type 0) (calls : L → List ℕ → Outcome → L → Type 0) where
   -- A try brings nothing to give, and there is a pause.
@@ -121,7 +122,8 @@ module _ {D L : Type 0} (opens : D → Limits → L → D → Type 0) (fails : D
     pub shows : IsTroubleIn came (Some trouble)
     pub paused : IsPaused pauses reads patience begin mid w.pause w.left trouble x.dialer x.pause x.left
 
-  -- The same message is tried again and again, with a pause behind each try but the last. That one brings an answer to give, or no patience is left behind it.
+  -- The same message is tried again and again, with a pause after each try but the last. The last one brings an answer
+  -- to give, or no patience is left after it.
   pub record Persists (l : Patient D L) (body : List ℕ) (outcome : Outcome) (dialer : D) (line : Option L) (trouble : Option Trouble) : Type 0 where
     pub begin : Option ℕ
     pub first : D

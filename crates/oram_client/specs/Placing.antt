@@ -1,9 +1,9 @@
--- How a file is put in its place, step after step, and what is found where a process ends on the way.
+-- How a new file replaces an old one, step after step, and what is found if a process ends meanwhile.
 use Rattle.std.specs.Prelude.{◌≡◌, ◌⊎◌, ℕ, Bool, true, false, List, [], ◌∷◌, Option, None, Some, MatchBool}
 use Rattle.oram_client.specs.declared.file_step.FileStep.{FileStep}
 use Rattle.oram_client.specs.declared.file_step.FileStep.TheVariants as step
 
--- what is done to a file, to the new one beside it and to the one that was set aside
+-- what is done to a file, to the new one beside it, and to the one that was set aside
 pub data Deed : Type 0 where
   Writes : Bool → List ℕ → Deed  -- the new one; true where it is synced too
   SetsAside : Deed  -- the file, if there is one
@@ -11,8 +11,8 @@ pub data Deed : Type 0 where
   SyncsFolder : Deed
   Clears : Deed  -- the one that was set aside goes
 
--- Where nothing is synced, the old file is never replaced by a rename: a file system that then puts the new one on its disk first would
--- make each file wait for that.
+-- Without sync, no rename replaces the old file: some file systems would then write the new one to the disk first, and
+-- each keeping would wait for that.
 abbrev pub deeds_of : Bool → List ℕ → List Deed
 deeds_of true file = Writes true file ∷ Settles ∷ SyncsFolder ∷ Clears ∷ []
 deeds_of false file = Writes false file ∷ SetsAside ∷ Settles ∷ Clears ∷ []
@@ -25,20 +25,20 @@ IsStepOf Settles at = at ≡ step.Rename
 IsStepOf SyncsFolder at = at ≡ step.SyncFolder
 IsStepOf Clears at = at ≡ step.Clear
 
--- over places where deeds are done so, or fail so
+-- for places where deeds are done, or fail, by `does`
 module _ {P : Type 0} (does : P → Deed → Bool → P → Type 0) where
-  -- one after the other
+  -- All deeds are done, one after the other.
   abbrev pub DoesAll : P → List Deed → P → Type 0
   DoesAll p [] q = q ≡ p
   DoesAll p (deed ∷ deeds) q = (between : P) × does p deed true between × DoesAll between deeds q
 
-  -- One fails in this step, and none behind it is done.
+  -- One deed fails, in this step, and none after it is done.
   abbrev pub IsBrokenOff : P → List Deed → FileStep → P → Type 0
   IsBrokenOff p [] at q = ⊥
   IsBrokenOff p (deed ∷ deeds) at q =
       (does p deed false q × IsStepOf deed at) ⊎ ((between : P) × does p deed true between × IsBrokenOff between deeds at q)
 
--- what the names hold
+-- the bytes of the files with these names
 pub record Names : Type 0 where
   pub kept : Option (List ℕ)
   pub fresh : Option (List ℕ)
@@ -48,11 +48,11 @@ abbrev pub first_of : Option (List ℕ) → Option (List ℕ) → Option (List �
 first_of None aside = aside
 first_of (Some file) aside = Some file
 
--- what is read back
+-- the file that is read back
 abbrev pub found : Names → Option (List ℕ)
 found n = first_of n.kept n.aside
 
--- what a deed makes of them
+-- how a deed changes the names
 abbrev pub Makes : Names → Deed → Names → Type 0
 Makes n (Writes sync file) m = m ≡ record n { fresh = Some file }
 Makes n SetsAside m = m ≡ record n { kept = None; aside = first_of n.kept n.aside }
@@ -60,7 +60,8 @@ Makes n Settles m = (file : List ℕ) × (n.fresh ≡ Some file) × (m ≡ recor
 Makes n SyncsFolder m = m ≡ n
 Makes n Clears m = m ≡ record n { aside = None }
 
--- What is left where a process ends in a deed: a new file that is torn. Each other deed is done at once, or not at all.
+-- What a process leaves if it ends during a deed. The new file may be torn; each other deed is done at once, or not at
+-- all.
 abbrev pub Leaves : Names → Deed → Names → Type 0
 Leaves n (Writes sync file) m = (torn : Option (List ℕ)) × (m ≡ record n { fresh = torn })
 Leaves n SetsAside m = (m ≡ n) ⊎ Makes n SetsAside m
@@ -68,7 +69,7 @@ Leaves n Settles m = (m ≡ n) ⊎ Makes n Settles m
 Leaves n SyncsFolder m = m ≡ n
 Leaves n Clears m = (m ≡ n) ⊎ Makes n Clears m
 
--- A process that is to do these ends in one of them, or behind them.
+-- A process that does these deeds ends during one of them, or after all of them.
 abbrev pub EndsIn : Names → List Deed → Names → Type 0
 EndsIn n [] m = m ≡ n
 EndsIn n (deed ∷ deeds) m = Leaves n deed m ⊎ ((between : Names) × Makes n deed between × EndsIn between deeds m)
@@ -77,11 +78,11 @@ EndsIn n (deed ∷ deeds) m = Leaves n deed m ⊎ ((between : Names) × Makes n 
 abbrev pub FilesStayWhole : Type 0
 FilesStayWhole = (sync : Bool) (file : List ℕ) (n m : Names) → EndsIn n (deeds_of sync file) m → (found m ≡ found n) ⊎ (found m ≡ Some file)
 
--- Behind the last deed it is the new file.
+-- After the last deed it is the new file.
 abbrev pub FilesAreKept : Type 0
 FilesAreKept = (sync : Bool) (file : List ℕ) (n m : Names) → DoesAll (λ k deed _. Makes k deed) n (deeds_of sync file) m → found m ≡ Some file
 
--- a deed is done, or fails and leaves what it leaves where a process ends in it
+-- A deed is done, or fails and leaves what a process leaves if it ends during it.
 abbrev pub DoesToNames : Names → Deed → Bool → Names → Type 0
 DoesToNames n deed done m = MatchBool done (Makes n deed m) (Leaves n deed m)
 

@@ -1,4 +1,4 @@
--- What is found of a file once the machine has lost its power.
+-- The file that is found after the machine has lost its power.
 use Rattle.std.specs.Prelude.{◌≡◌, ◌⊎◌, ℕ, Bool, true, false, List, [], ◌∷◌, Option, None, Some, ⊤, MatchBool}
 use Rattle.oram_client.specs.Placing.{Deed, Writes, SetsAside, Settles, SyncsFolder, Clears, Names, deeds_of, found}
 
@@ -7,34 +7,35 @@ pub record File : Type 0 where
   pub synced : Bool
   pub bytes : List ℕ
 
--- the files that the names stand for
+-- the files with these names
 pub record Folder : Type 0 where
   pub kept : Option File
   pub fresh : Option File
   pub aside : Option File
 
--- the folder as processes see it, and as it was since it was last synced
+-- the folder as processes see it now, and as it was at each moment since it was last synced
 pub record Disk : Type 0 where
   pub now : Folder
   pub before : List Folder
 
--- what may be read of a file after a loss of power: anything, and even nothing, where it wasn't synced
+-- what may be read of a file after a loss of power: if it wasn't synced, anything, even nothing
 abbrev pub MayRead : Option File → Option (List ℕ) → Type 0
 MayRead None read = read ≡ None
 MayRead (Some file) read = MatchBool file.synced (read ≡ Some file.bytes) ⊤
 
--- A name stands for what it did at one of these moments.
+-- A name has the file that it had at one of these moments.
 abbrev pub MayStand : (Folder → Option File) → List Folder → Option (List ℕ) → Type 0
 MayStand name [] read = ⊥
 MayStand name (moment ∷ moments) read = MayRead (name moment) read ⊎ MayStand name moments read
 
--- After a loss of power each name stands for what it did at any moment since the folder was synced, whatever the others stand for.
+-- After a loss of power each name has the file that it had at any moment since the folder was last synced, whatever the
+-- others have.
 pub record IsLeftByLoss (d : Disk) (m : Names) : Type 0 where
   pub kept : MayStand (λ f. f.kept) (d.now ∷ d.before) m.kept
   pub fresh : MayStand (λ f. f.fresh) (d.now ∷ d.before) m.fresh
   pub aside : MayStand (λ f. f.aside) (d.now ∷ d.before) m.aside
 
--- After a loss of power this is found, and nothing else.
+-- Whatever a loss of power leaves, this file is found.
 abbrev pub IsSure : Disk → Option (List ℕ) → Type 0
 IsSure d file = (m : Names) → IsLeftByLoss d m → found m ≡ file
 
@@ -45,7 +46,7 @@ abbrev pub first_file : Option File → Option File → Option File
 first_file None aside = aside
 first_file (Some file) aside = Some file
 
--- a disk once a deed is done
+-- a disk after a deed
 abbrev pub behind : Disk → Deed → Disk
 behind d (Writes sync bytes) = changed d (record d.now { fresh = Some (record { synced = sync; bytes = bytes }) })
 behind d SetsAside = changed d (record d.now { kept = None; aside = first_file d.now.kept d.now.aside })
@@ -57,27 +58,27 @@ abbrev pub behind_all : Disk → List Deed → Disk
 behind_all d [] = d
 behind_all d (deed ∷ deeds) = behind_all (behind d deed) deeds
 
--- and while it is done: a file that is written isn't synced before it is whole
+-- a disk during a deed: a file isn't synced before it is whole
 abbrev pub amid : Disk → Deed → Disk
 amid d (Writes sync bytes) = behind d (Writes false bytes)
 amid d deed = d
 
--- The machine loses its power in one of the deeds, or behind them, and leaves this.
+-- The machine loses its power during one of the deeds, or after all of them, and leaves this.
 abbrev pub LosesPowerIn : Disk → List Deed → Names → Type 0
 LosesPowerIn d [] m = IsLeftByLoss d m
 LosesPowerIn d (deed ∷ deeds) m = IsLeftByLoss (amid d deed) m ⊎ LosesPowerIn (behind d deed) deeds m
 
--- By these deeds a file is kept whenever the machine loses its power: meanwhile what is found is what was sure before or the new file, and
--- behind them it is the new file.
+-- These deeds keep a file even if the machine loses its power: during them, the file that is found is the one that was
+-- sure before or the new one; after them it is the new one.
 pub record AreLasting (file : List ℕ) (deeds : List Deed) : Type 0 where
   pub meanwhile : (old : Option (List ℕ)) (d : Disk) → IsSure d old → (m : Names) → LosesPowerIn d deeds m → (found m ≡ old) ⊎ (found m ≡ Some file)
   pub afterwards : (d : Disk) → IsSure (behind_all d deeds) (Some file)
 
--- The deeds of a file that is synced are such.
+-- The deeds that write a file with sync do so.
 abbrev pub SyncedFilesLast : Type 0
 SyncedFilesLast = (file : List ℕ) → AreLasting file (deeds_of true file)
 
--- Without one of the two syncs they are not.
+-- Without one of the two syncs they don't.
 abbrev pub SyncsAreNeeded : Type 0
 SyncsAreNeeded = (file : List ℕ) → (¬ AreLasting file (Writes false file ∷ Settles ∷ SyncsFolder ∷ Clears ∷ []))
     × (¬ AreLasting file (Writes true file ∷ Settles ∷ Clears ∷ []))

@@ -1,4 +1,4 @@
-//! Messages that go to a host ahead of its answers.
+//! A connection that sends messages to a host ahead of its answers.
 ghost use Rattle.std.specs.Prelude.{◌≡◌, ◌↔◌, ◌+◌, ◌<◌, ◌≤◌, ℕ, [], ◌∷◌, None, IfErr, IfOk, IsTrue, MatchBool, OnOk};
 ghost use Rattle.std.specs.Io.KnownBytes.{Appends, Consumes, Keeps};
 ghost use Rattle.oram_wire.specs.FrameStream.{frame};
@@ -15,18 +15,19 @@ use std::alloc::Global;
 use std::io::{Read, Write};
 use std::marker::Model;
 
-/// The most messages that may be without an answer. A host that answers each of them by a frame of 6 bytes at most, as hosts do, has
-/// room for these in the buffers of any socket: so it never waits with an answer for a client that waits with a message.
+/// The most messages that may be without an answer. A host answers each with a frame of at most 6 bytes, so the answers
+/// fit into the buffers of any socket: the host never waits to write an answer while the client waits to write a
+/// message.
 const MOST_DUE: u64 = 256;
 
-/// Hears how far a formatting is.
+/// Receives the progress of a formatting.
 pub trait Progress {
-    /// The host has answered so many messages of so many.
+    /// Reports that the host has answered `messages` messages out of `of`.
     fn answered(&mut self, messages: u64, of: u64);
 }
 
-/// A connection to a host over which the messages of a formatting go ahead of their answers. What it writes and reads is to be
-/// buffered.
+/// A connection to a host that sends the messages of a formatting ahead of their answers. Its reader and its writer
+/// should be buffered.
 #[derive(Debug, Drop)]
 pub struct Ahead<R, W, P> {
     alloc: Global,
@@ -50,7 +51,8 @@ impl<R, W, P> Model for Ahead<R, W, P> {
     ghost invariant = { λ a. a.due ≤ most_due };
 }
 
-/// How many messages make a disk: for each tree a SHAPE, and a PUT for each of its nodes, and these two for the disk's identity.
+/// Returns how many messages make a disk: for each tree a SHAPE and a PUT for each of its nodes, and one of each for
+/// the disk's identity.
 fn messages_of(device: &Device) -> u64 {
     let mut messages = 2u64;
     for tree in 0..device.trees() {
@@ -59,7 +61,7 @@ fn messages_of(device: &Device) -> u64 {
     messages
 }
 
-/// Whether an answer is the one byte that tells that the host is done.
+/// Returns whether an answer is the one byte by which a host says that it is done.
 fn is_done(answer: &[u8]) -> bool
     ensures { IsTrue result ↔ (answer.now ≡ 128 ∷ []) }
 {
@@ -67,7 +69,7 @@ fn is_done(answer: &[u8]) -> bool
 }
 
 impl<R, W, P> Ahead<R, W, P> {
-    /// For the formatting of this device. It takes no memory.
+    /// Makes the connection for formatting `device`. Allocates nothing.
     pub fn new(alloc: Global, device: &Device, reader: R, writer: W, progress: P) -> Ahead<R, W, P>
         ensures { result ≡ record { reader = reader; writer = writer; due = 0; refusal = None } }
     {
@@ -83,14 +85,14 @@ impl<R, W, P> Ahead<R, W, P> {
         }
     }
 
-    /// What an answer meant that wasn't that the host is done, once there was one.
+    /// Returns what the last answer other than done meant, if there was one.
     pub(crate) fn refusal(&self) -> Option<Refusal>
         ensures { result ≡ self.now.refusal }
     {
         self.refusal
     }
 
-    /// Whether as many messages are without an answer as may be.
+    /// Returns whether [`MOST_DUE`] messages are without an answer.
     fn is_full(&self) -> bool
         ensures most { self.now.due ≤ most_due }
         ensures value { MatchBool result (self.now.due ≡ most_due) (self.now.due < most_due) }
@@ -100,7 +102,8 @@ impl<R, W, P> Ahead<R, W, P> {
 }
 
 impl<R: Read, W: Write, P> Ahead<R, W, P> {
-    /// Writes a message, which may wait in a buffer.
+    /// Writes a message, which may stay in a buffer. Fails with `Link` if the message is longer than a frame's body or
+    /// the writer fails.
     fn send(&mut self, body: &[u8]) -> Result<(), SinkFault>
         ensures ok { OnOk result (Appends (W.contents self.old.writer) (W.contents self.new.writer) (frame body.now)) }
         ensures err { IfErr result (λ fault. IsUnsent R.remaining W.contents self.old body.now fault self.new) }
@@ -115,7 +118,7 @@ impl<R: Read, W: Write, P> Ahead<R, W, P> {
         }
     }
 
-    /// Lets nothing that was written wait in a buffer.
+    /// Writes out everything that is still in the writer's buffer.
     fn flush(&mut self) -> Result<(), SinkFault>
         ensures wrote { Keeps (W.contents self.old.writer) (W.contents self.new.writer) }
         ensures fault { IfErr result (λ fault. fault ≡ SinkFault.Link) }
@@ -127,7 +130,7 @@ impl<R: Read, W: Write, P> Ahead<R, W, P> {
         }
     }
 
-    /// The next answer.
+    /// Reads the next answer.
     fn receive(&mut self) -> Result<Vec<u8>, SinkFault>
         ensures ok { IfOk result (λ v. Consumes (R.remaining self.old.reader) (R.remaining self.new.reader) (frame v.items)) }
         ensures err { IfErr result (λ fault. GivesNone (R.remaining self.old.reader) (R.remaining self.new.reader) fault) }
@@ -143,7 +146,7 @@ impl<R: Read, W: Write, P> Ahead<R, W, P> {
         }
     }
 
-    /// What is answered to a FETCH of the path to leaf 0 of a tree, where no other answer is due.
+    /// Fetches the path to leaf 0 of a tree and returns the host's answer. Call only while no other answer is due.
     pub(crate) fn fetch(&mut self, tree: u8) -> Result<Vec<u8>, SinkFault>
         ensures ok { IfOk result (λ v. IsAsked R.remaining W.contents self.old (fetch_body tree 0) v.items self.new) }
         ensures err { IfErr result (λ fault. IsUnasked R.remaining W.contents self.old (fetch_body tree 0) fault self.new) }
@@ -155,7 +158,7 @@ impl<R: Read, W: Write, P> Ahead<R, W, P> {
 }
 
 impl<R: Read, W: Write, P: Progress> Ahead<R, W, P> {
-    /// Reads the next answer, which is to be that the host is done.
+    /// Reads the next answer, and fails with `Refused` if it isn't that the host is done.
     fn take_answer(&mut self) -> Result<(), SinkFault>
         requires { 0 < self.old.due }
         ensures ok { OnOk result (Consumes (R.remaining self.old.reader) (R.remaining self.new.reader) (frame (128 ∷ []))) }
@@ -174,7 +177,7 @@ impl<R: Read, W: Write, P: Progress> Ahead<R, W, P> {
         Ok(())
     }
 
-    /// Reads so many answers.
+    /// Reads `count` answers.
     fn take_answers(&mut self, count: u64) -> Result<(), SinkFault>
         requires { count ≤ self.old.due }
         ensures ok { OnOk result (IsDrained R.remaining W.contents self.old count self.new) }
@@ -187,8 +190,8 @@ impl<R: Read, W: Write, P: Progress> Ahead<R, W, P> {
         Ok(())
     }
 
-    /// Makes room for one more message without an answer: reads half of the answers where all of them are due, so that the host has
-    /// always some of the messages to go on with.
+    /// Makes room for one more message without an answer. If all that are allowed are due, it reads half of them, so
+    /// that the host always has some messages to go on with.
     fn make_room(&mut self) -> Result<(), SinkFault>
         ensures ok { OnOk result ((count : ℕ) × IsDrained R.remaining W.contents self.old count self.new × (self.new.due < most_due)) }
         ensures err { IfErr result (λ fault. (self.old.due ≡ most_due) × IsStopped R.remaining W.contents self.old 128 fault self.new) }
@@ -199,7 +202,7 @@ impl<R: Read, W: Write, P: Progress> Ahead<R, W, P> {
         Ok(())
     }
 
-    /// Reads the answers that are due.
+    /// Reads all answers that are due.
     pub(crate) fn settle(&mut self) -> Result<(), SinkFault>
         ensures ok { OnOk result (IsDrained R.remaining W.contents self.old self.old.due self.new) }
         ensures err { IfErr result (λ fault. IsStopped R.remaining W.contents self.old self.old.due fault self.new) }

@@ -1,4 +1,4 @@
-//! How a way to a host is opened, what can be wrong with a host, and who hears of it.
+//! How a connection to a host is opened, what can be wrong with a host, and who is notified of it.
 ghost use Rattle.std.specs.Prelude.{◌≡◌, ℕ, Option, IfOk, IfErr};
 ghost use Rattle.oram_client.specs.Dialing as spec;
 
@@ -7,10 +7,10 @@ use oram_session::{Link, LinkFault};
 use std::alloc::Global;
 use std::io;
 
-/// Why a host has no answer that is of use.
+/// Why a host gives no answer that is of use.
 #[derive(Clone, Copy, Debug, PartialEq, Eq)]
 pub enum Trouble {
-    /// No connection was to be had, or it broke, or the host was silent for too long.
+    /// No connection could be opened, or it broke, or the host was silent for too long.
     OutOfReach(LinkFault),
     /// The host has no room.
     NoRoom,
@@ -24,7 +24,7 @@ impl Trouble {
     ghost use Rattle.std.specs.Prelude.{◌≡◌};
     ghost use Rattle.oram_client.specs.Dialing.{fault_of, may_pass};
 
-    /// Whether it may pass while one waits. A host that keeps another disk goes on doing so.
+    /// Returns whether the trouble may pass if one waits. A host that keeps another disk goes on doing so.
     pub fn may_pass(self) -> bool
         ensures { result ≡ may_pass self }
     {
@@ -34,7 +34,7 @@ impl Trouble {
         }
     }
 
-    /// What the caller of a link is told of it.
+    /// Returns the fault that a link reports to its caller for this trouble.
     pub fn fault(self) -> LinkFault
         ensures { result ≡ fault_of self }
     {
@@ -45,7 +45,7 @@ impl Trouble {
     }
 }
 
-/// What is wrong with a host where the link to it gave up, with this trouble as the last one.
+/// Returns what is wrong with a host after the link to it has given up with `trouble` as the last trouble.
 pub fn given_up(trouble: Option<Trouble>) -> HostFault
     ensures { result ≡ spec.given_up trouble }
 {
@@ -80,52 +80,56 @@ impl From<io::Error> for Trouble {
     }
 }
 
-/// How long a host may take, in milliseconds.
+/// The times that a host may take, in milliseconds.
 #[derive(Clone, Copy, Debug, PartialEq, Eq)]
 pub struct Limits {
-    /// Until a way to it is open.
+    /// To accept a connection and answer the greeting.
     pub opening: u64,
-    /// Over a way that is open, until it takes or gives the next bytes.
+    /// To take or give the next bytes over an open connection.
     pub silence: u64,
-    /// Over a way that is open, until it has given a whole answer.
+    /// To give a whole answer over an open connection.
     pub answering: u64,
 }
 
-/// Opens ways to a host, and has the clock by which they are waited for.
+/// Opens connections to a host, and has the clock that measures the waiting.
 pub trait Dial {
     ghost use Rattle.oram_client.specs.declared.dialing.Limits.{Limits};
     ghost use Rattle.oram_client.specs.declared.dialing.Trouble.{Trouble};
 
-    /// A way, which is used until a call over it has a fault.
+    /// A connection. It is used until a call over it has a fault.
     type Line: Link + Drop;
 
-    /// From the first value a try within these limits may open this way, and leave the second.
+    /// `opens old limits line new`: a try within `limits` may open `line`, and turns the dialer from `old` into `new`.
     ghost opens: { Self → Limits → Self.Line → Self → Type 0 };
 
-    /// From the first value a try within these limits may have this trouble, and leave the second.
+    /// `fails old limits trouble new`: a try within `limits` may fail with `trouble`, and turns the dialer from `old`
+    /// into `new`.
     ghost fails: { Self → Limits → Trouble → Self → Type 0 };
 
-    /// What a pause of so many milliseconds leaves.
+    /// `pauses old milliseconds new`: a pause of `milliseconds` turns the dialer from `old` into `new`.
     ghost pauses: { Self → ℕ → Self → Type 0 };
 
-    /// Reading the clock turns the first value into the second, and may give this number of milliseconds, or none where it fails.
+    /// `reads old now new`: reading the clock may give `now`, which is `None` if the clock fails, and turns the dialer
+    /// from `old` into `new`.
     ghost reads: { Self → Option ℕ → Self → Type 0 };
 
-    /// Tries to open a way, once.
+    /// Tries once to open a connection.
     fn dial(&mut self, alloc: Global, limits: Limits) -> Result<Self::Line, Trouble>
         ensures ok { IfOk result (λ line. opens self.old limits line self.new) }
         ensures err { IfErr result (λ trouble. fails self.old limits trouble self.new) };
 
-    /// Waits so many milliseconds.
+    /// Waits for `milliseconds`.
     fn pause(&mut self, milliseconds: u64)
         ensures { pauses self.old milliseconds self.new };
 
-    /// The milliseconds since some moment, by a clock that isn't set. `None` where it can't be read.
+    /// Returns the milliseconds since some fixed moment, by a clock that nobody sets; `None` if the clock can't be
+    /// read.
     fn now(&mut self) -> Option<u64>
         ensures { reads self.old result self.new };
 }
 
-/// Hears when a host is lost, when it has no room, and when it answers again: each once until it has answered again.
+/// Is notified when the host is lost, when it has no room, and when it answers again. Each trouble is reported once
+/// until the host has answered again.
 pub trait Watch {
     fn lost(&mut self);
 

@@ -9,21 +9,21 @@ use oram_wire::SinkFault;
 use std::alloc::AllocError;
 use thiserror::Error;
 
-/// Why a disk wasn't formatted. What the host has taken of it stays there, so it is to be formatted anew on a host without records.
+/// Why a disk wasn't formatted. The host keeps what it has taken so far, so the next try needs a host without records.
 #[derive(Clone, Copy, Debug, PartialEq, Eq, Error)]
 pub enum FormattingFault {
-    /// A tree of the disk has a shape at the host.
+    /// The host already has a shape for a tree of the disk.
     #[error("the host keeps a disk already")]
     Taken,
-    /// The host found no room for a message.
+    /// The host has no room for a message.
     #[error("the host has no room")]
     NoRoom,
-    /// Another answer wasn't that the host is done.
+    /// The host gave any other answer than that it is done.
     #[error("the host refused a message of the formatting")]
     Refused,
     #[error("the connection to the host failed")]
     Link,
-    /// The identity or the path that was fetched at the end isn't the one that was put there.
+    /// The identity or a path, fetched at the end, isn't what was put there.
     #[error("the host doesn't hold what it was given")]
     Unheld,
     #[error("out of memory")]
@@ -41,7 +41,7 @@ impl From<AllocError> for FormattingFault {
 }
 
 impl<R, W, P> Ahead<R, W, P> {
-    /// What a fault of this connection is to a formatting. Which refusal it was tells the answer that was read last.
+    /// Returns the formatting's fault for a fault of this connection. The last answer read says which refusal it was.
     pub(crate) fn formatting_fault(&self, fault: SinkFault) -> FormattingFault
         ensures { result ≡ sink_told self.now.refusal fault }
     {
@@ -56,7 +56,7 @@ impl<R, W, P> Ahead<R, W, P> {
         }
     }
 
-    /// The same of a fault of the making of trees over it.
+    /// Returns the formatting's fault for a fault in making trees over this connection.
     pub(crate) fn trees_fault(&self, fault: FormatFault) -> FormattingFault
         ensures { result ≡ format_told self.now.refusal fault }
     {

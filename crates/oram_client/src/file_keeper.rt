@@ -1,4 +1,4 @@
-//! A core's states are kept in a file.
+//! A keeper that writes a core's states to a file.
 ghost use Rattle.std.specs.Prelude.{◌≡◌, None};
 
 use crate::file_step::FileFailure;
@@ -7,10 +7,11 @@ use crate::placing::{Place, put_file};
 use oram_keep::{Keeper, Unkept};
 use std::marker::Model;
 
-/// Keeps states in a file's place, each behind the disk's head: in a new file beside it, which takes its place once it is whole.
+/// Keeps each state in a file, after the disk's head. It writes a new file beside the old one, and renames it into
+/// place once it is whole.
 ///
-/// With `sync`, a state that is kept is on the disk, so that it outlives the machine and not only the process. Once a state was not
-/// kept, none is, since what the file then holds may be that state or the one before it.
+/// With `sync`, a kept state is on the disk, so that it outlives the machine and not only the process. After a failure
+/// the keeper keeps nothing more, since the file may then hold the failed state or the one before it.
 #[derive(Debug, Drop)]
 pub struct FileKeeper<P> {
     place: P,
@@ -28,7 +29,7 @@ impl<P> Model for FileKeeper<P> {
 }
 
 impl<P> FileKeeper<P> {
-    /// Nothing is made or opened yet.
+    /// Makes the keeper. Creates and opens no file yet.
     pub fn new(place: P, head: Head, sync: bool) -> FileKeeper<P>
         ensures { result ≡ record { place = place; head = head; sync = sync; failure = None } }
     {
@@ -40,7 +41,7 @@ impl<P> FileKeeper<P> {
         }
     }
 
-    /// Why a state was not kept, once one wasn't.
+    /// Returns why a state was not kept, once one wasn't.
     pub fn failure(&self) -> Option<FileFailure>
         ensures { result ≡ self.now.failure }
     {

@@ -14,13 +14,14 @@ use std::path::Path;
 use std::rt::Files;
 use std::{fs, io};
 
-/// For the owner alone, since a state tells where each block lies.
+/// Only the owner may open the file, since a state shows where each block lies.
 const OWNERS_ALONE: u32 = 0o600;
 
-/// How often the two names are looked at in turn. A file that is kept meanwhile has always one of them, but may change it between two looks.
+/// How many times [`kept_bytes`] looks at both names. A file that is being kept meanwhile always has one of the two
+/// names, but may change from one to the other between two looks.
 const LOOKS: u32 = 4;
 
-/// The name of the file that is set aside.
+/// Returns the name of the file that is set aside.
 fn aside_name(alloc: Global, name: &str) -> Result<String, AllocError>
     ensures { IfOk result (λ aside. string_bytes aside ≡ name.now ++ codes ".aside") }
 {
@@ -29,7 +30,7 @@ fn aside_name(alloc: Global, name: &str) -> Result<String, AllocError>
     Ok(aside)
 }
 
-/// The name of the new file.
+/// Returns the name of the new file.
 fn new_name(alloc: Global, name: &str) -> Result<String, AllocError>
     ensures { IfOk result (λ new. string_bytes new ≡ name.now ++ codes ".new") }
 {
@@ -38,7 +39,7 @@ fn new_name(alloc: Global, name: &str) -> Result<String, AllocError>
     Ok(new)
 }
 
-/// The folder of the file of this name.
+/// Returns the folder of the file `name`.
 fn folder_of(name: &str) -> &str {
     match Path::new(name).parent() {
         Some(folder) if folder.as_str() != "" => folder.as_str(),
@@ -46,7 +47,7 @@ fn folder_of(name: &str) -> &str {
     }
 }
 
-/// That there was no such file is fine.
+/// Returns `Ok` if the only trouble was that the file doesn't exist.
 fn if_there(done: io::Result<()>) -> io::Result<()> {
     match done {
         Err(error) if error.kind() == ErrorKind::NotFound => Ok(()),
@@ -54,7 +55,8 @@ fn if_there(done: io::Result<()>) -> io::Result<()> {
     }
 }
 
-/// The file of a name, with `.new` behind the name of the new one and `.aside` behind that of the one that is set aside.
+/// The place of a file with a given name. The new file's name is this one with `.new` appended, and that of the file
+/// that is set aside is this one with `.aside` appended.
 #[derive(Debug, Drop)]
 pub struct FilePlace<R> {
     rt: R,
@@ -67,7 +69,7 @@ pub struct FilePlace<R> {
 impl<R> Model for FilePlace<R> {
     ghost use Rattle.std.specs.Prelude.{◌≡◌, ◌++◌, List, ℕ, codes, string_bytes};
 
-    /// The name.
+    /// Modelled by the name alone.
     ghost Value = { List ℕ };
 
     ghost view = { λ p. string_bytes p.name };
@@ -77,7 +79,7 @@ impl<R> Model for FilePlace<R> {
 }
 
 impl<R> FilePlace<R> {
-    /// Nothing is made or opened yet.
+    /// Makes the place of the file `name`. Creates and opens no file yet.
     pub fn new(rt: R, alloc: Global, name: &str) -> Result<FilePlace<R>, AllocError>
     where
         R: Drop,
@@ -94,7 +96,7 @@ impl<R> FilePlace<R> {
 }
 
 impl<R: Files> FilePlace<R> {
-    /// A new file, for the owner alone.
+    /// Creates the new file, for the owner alone.
     fn create(&self) -> io::Result<R::File> {
         let mut options = OpenOptions::new();
         options
@@ -117,7 +119,7 @@ impl<R: Files> FilePlace<R> {
 impl<R: Files> Place for FilePlace<R> {
     ghost use Rattle.std.specs.Prelude.{◌≡◌};
 
-    // What the system does to its files can't be said.
+    // The model doesn't know what the system does to its files.
     ghost does = { λ p _ _ q. q ≡ p };
 
     fn write(&mut self, head: &Head, state: &[u8], sync: bool) -> Result<(), FileFailure> {
@@ -150,7 +152,7 @@ impl<R: Files> Place for FilePlace<R> {
     }
 }
 
-/// The name under which a file is found that is kept under this name: this one, or that of the file that was set aside.
+/// Returns the name under which the kept file `name` is found now: its own, or that of the file that was set aside.
 pub fn kept_name<R: Files>(rt: &R, alloc: Global, name: &str) -> Result<Option<String>, AllocError>
     ensures { IfOk result (λ found. IfSome found (λ it. (string_bytes it ≡ name.now) ⊎ (string_bytes it ≡ name.now ++ codes ".aside"))) }
 {
@@ -162,8 +164,8 @@ pub fn kept_name<R: Files>(rt: &R, alloc: Global, name: &str) -> Result<Option<S
     Ok(None)
 }
 
-/// All bytes of the file that is kept under this name. Where there is none, those of the one that was set aside: a process that ended before
-/// the new one had its place left it so.
+/// Reads the kept file `name`. If there is none, it reads the file that was set aside: a process that ended before it
+/// renamed the new file into place has left only that one.
 pub fn kept_bytes<R: Files + AllocGlobal>(rt: &R, name: &str) -> Result<Vec<u8>, FileFault> {
     let aside_name = aside_name(rt.alloc(), name)?;
     for _ in 0..LOOKS {

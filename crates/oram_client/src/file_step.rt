@@ -1,10 +1,10 @@
-//! The steps by which a file is kept, and why one failed.
+//! The steps that keep a file, and why a step failed.
 ghost use Rattle.std.specs.Prelude.{◌≡◌, IfErr, IfOk, Ok};
 
 use std::io::ErrorKind;
 use std::{fmt, io};
 
-/// What is done to keep a file, step after step.
+/// A step of keeping a file. They come in this order.
 #[derive(Clone, Copy, Debug, PartialEq, Eq)]
 pub enum FileStep {
     Create,
@@ -36,7 +36,7 @@ pub enum FileReason {
     NoRoom,
     Forbidden,
     Missing,
-    /// Another one, as that the disk fails.
+    /// Another reason, such as a disk that fails.
     Failed,
 }
 
@@ -75,7 +75,7 @@ impl fmt::Display for FileFailure {
     }
 }
 
-/// What a step gave, or that it failed.
+/// Returns the value of a system call, or the failure of `step` if the call failed.
 pub(crate) fn stepped<T>(step: FileStep, given: io::Result<T>) -> Result<T, FileFailure>
     ensures ok { IfOk result (λ value. given ≡ Ok value) }
     ensures err { IfErr result (λ failure. failure.step ≡ step) }

@@ -67,7 +67,7 @@ fn check_trees<S: Sealer, R: Read, W: Write, P>(
     Ok(())
 }
 
-/// Makes the trees of a device on the host at the other end of a connection, and gives their core.
+/// Makes the trees of a device at the host, checks a path of each, and returns their core.
 fn format_trees<S: Sealer, R: Read, W: Write, P: Progress>(
     alloc: Global,
     device: Device,
@@ -92,12 +92,13 @@ fn format_trees<S: Sealer, R: Read, W: Write, P: Progress>(
     Ok(core)
 }
 
-/// Formats a disk of this identity on the host at the other end of a connection, and gives its core.
+/// Formats a disk with `identity` at the host at the other end of a connection, and returns its core.
 ///
-/// The identity goes first, so that a host that keeps a disk already refuses at once. The messages of the trees go ahead of their
-/// answers, which are checked as they come: whichever is another than `80` fails the formatting as a whole. At the end a path of each tree
-/// is fetched and checked under its root digest, and the identity is fetched. A host may gather the PUTs and make them last in groups, but
-/// it has to be done with all of them before it answers anything else: so behind that, the formatting is on its disk.
+/// The identity goes first, so that a host that already keeps a disk refuses at once. The trees' messages go ahead of
+/// their answers, which are checked as they come: any answer other than `80` fails the whole formatting. At the end it
+/// fetches a path of each tree, checks it against the tree's root digest, and fetches the identity. A host may collect
+/// PUTs and make them durable in groups, but it has to finish all of them before it answers any other request. So once
+/// these fetches are answered, the formatting is on the host's disk.
 pub fn format_ahead<S: Sealer, R: Read, W: Write, P: Progress>(
     alloc: Global,
     device: Device,

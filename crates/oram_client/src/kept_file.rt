@@ -11,23 +11,23 @@ use std::io;
 use std::io::Write;
 use thiserror::Error;
 
-/// What each file begins with.
+/// The letters that each file begins with.
 const LETTERS: &[u8; 8] = b"VIDLAQE2";
 
-/// What the files of the older form begin with.
+/// The letters that files of the older format begin with.
 const OLDER_LETTERS: &[u8; 8] = b"VIDLAQE1";
 
-/// What seals the buckets of a disk.
+/// How the buckets of a disk are sealed.
 #[derive(Clone, Copy, Debug, PartialEq, Eq)]
 pub enum SealerKind {
-    /// Nothing: the host reads what it keeps.
+    /// Not at all: the host can read what it keeps.
     Plain,
-    /// The stream of ChaCha20 (RFC 8439).
+    /// With the stream of ChaCha20 (RFC 8439).
     ChaCha20,
 }
 
 impl SealerKind {
-    /// The byte that names it in a file.
+    /// Returns the byte for this sealer in a file.
     fn byte(self) -> u8
         ensures { result ≡ sealer_byte self }
     {
@@ -37,7 +37,7 @@ impl SealerKind {
         }
     }
 
-    /// The sealer that a byte names.
+    /// Returns the sealer that `byte` names.
     fn of(byte: u8) -> Option<SealerKind>
         ensures some { IfSome result (λ kind. byte ≡ sealer_byte kind) }
         ensures none { result ≡ None → (kind : SealerKind) → byte ≢ sealer_byte kind }
@@ -50,7 +50,7 @@ impl SealerKind {
     }
 }
 
-/// What a file keeps of a disk in front of the core's state.
+/// What a kept file says of a disk before the core's state.
 #[derive(Clone, Copy, Debug, PartialEq, Eq)]
 pub struct Head {
     pub salt: Salt,
@@ -59,7 +59,7 @@ pub struct Head {
 }
 
 impl Head {
-    /// The head of a disk that is formatted with this key, salt and sealer.
+    /// Makes the head of a disk that is formatted with this key, salt and sealer.
     pub fn new(key: &DiskKey, salt: Salt, sealer: SealerKind) -> Head
         ensures salt { result.salt ≡ salt }
         ensures key_check { result.key_check.0 ≡ keys.key_check key.now.0 salt.0 }
@@ -73,7 +73,7 @@ impl Head {
     }
 }
 
-/// What a file keeps of a disk.
+/// The parts of a kept file.
 #[derive(Clone, Copy, Debug)]
 pub struct KeptFile<'a> {
     pub head: Head,
@@ -81,17 +81,18 @@ pub struct KeptFile<'a> {
     pub state: &'a [u8],
 }
 
-/// Why bytes are no file of a disk.
+/// Why some bytes are not a kept file.
 #[derive(Clone, Copy, Debug, PartialEq, Eq, Error)]
 pub enum KeptFault {
-    /// They are of the older form, which had no key check and no sealer.
+    /// They have the older format, which had no key check and no sealer.
     #[error("a file of an older disk")]
     Older,
     #[error("no file of a disk")]
     NotOurs,
 }
 
-/// Writes the file of a disk. The state isn't copied. Where the writer fails, nothing is known of what it took.
+/// Writes a kept file, without copying the state. If the writer fails, it is unknown how much of the file it
+/// took.
 pub fn put_kept_file<W: Write>(writer: &mut W, head: &Head, state: &[u8]) -> io::Result<()>
     ensures { OnOk result (Appends (W.contents writer.old) (W.contents writer.new) (kept_file head.now state.now)) }
 {
@@ -102,14 +103,14 @@ pub fn put_kept_file<W: Write>(writer: &mut W, head: &Head, state: &[u8]) -> io:
     writer.write_all(state)
 }
 
-/// Whether a file begins as those of the older form do.
+/// Returns whether a file begins with the letters of the older format.
 fn is_older(file: &[u8]) -> bool
     ensures { IsTrue result ↔ IsOlder file.now }
 {
     file.starts_with(OLDER_LETTERS)
 }
 
-/// The head and the state behind the letters of a file.
+/// Reads the head and the state that follow the letters.
 fn read_parts(rest: &[u8]) -> Option<KeptFile<'_>>
     ensures some { IfSome result (λ kept. rest.now ≡ behind_letters kept.head kept.state.now) }
     ensures none { result ≡ None → (head : Head) (state : List ℕ) → IsHead head → rest.now ≢ behind_letters head state }
@@ -125,7 +126,8 @@ fn read_parts(rest: &[u8]) -> Option<KeptFile<'_>>
     Some(KeptFile { head, state })
 }
 
-/// Reads the file of a disk. What stands where the state is due isn't looked at.
+/// Reads a kept file. It takes the rest after the head as the state, unchecked. Fails with [`KeptFault::Older`]
+/// if the file has the older format, and with [`KeptFault::NotOurs`] if it is no kept file at all.
 pub fn read_kept_file(file: &[u8]) -> Result<KeptFile<'_>, KeptFault>
     ensures ok { IfOk result (λ kept. file.now ≡ kept_file kept.head kept.state.now) }
     ensures older { IsErrOf result KeptFault.Older ↔ IsOlder file.now }

@@ -1,4 +1,4 @@
-//! The keys of a formatting, and what names its disk.
+//! The keys of a formatting, and the identity of its disk.
 ghost use Rattle.std.specs.Prelude.{◌≡◌, codes};
 ghost use Rattle.oram_client.specs.Keys.{derived_key};
 ghost use Rattle.oram_client.specs.Keys as spec;
@@ -6,7 +6,7 @@ ghost use Rattle.oram_client.specs.Keys as spec;
 use sha2::{Digest, Sha256};
 use std::fmt;
 
-/// Drawn once at a formatting, so that no two of them have keys in common.
+/// A value drawn once for each formatting, so that no two formattings have keys in common.
 #[derive(Clone, Copy, Debug, PartialEq, Eq)]
 pub struct Salt(pub [u8; 32]);
 
@@ -43,15 +43,17 @@ impl fmt::Debug for TapeKey {
     }
 }
 
-/// Tells whether a key is the one that a disk was formatted with. The key can't be computed from it.
+/// A value that shows whether a key is the one that a disk was formatted with. The key can't be
+/// computed from it.
 #[derive(Clone, Copy, Debug, PartialEq, Eq)]
 pub struct KeyCheck(pub [u8; 32]);
 
-/// Names a disk at its host. It is new with each formatting, and no key can be computed from it.
+/// The name of a disk at its host. It is new with each formatting, and no key can be computed from
+/// it.
 #[derive(Clone, Copy, Debug, PartialEq, Eq)]
 pub struct Identity(pub [u8; 32]);
 
-/// The key for a purpose: one step of SHA-256 (NIST SP 800-56C rev. 2, 4.1, option 1).
+/// Derives the key for a purpose by one step of SHA-256 (NIST SP 800-56C rev. 2, 4.1, option 1).
 fn derived(key: &DiskKey, purpose: &[u8], salt: &Salt) -> [u8; 32]
     ensures { result ≡ derived_key key.now.0 purpose.now salt.now.0 }
 {
@@ -63,28 +65,28 @@ fn derived(key: &DiskKey, purpose: &[u8], salt: &Salt) -> [u8; 32]
     hasher.finalize()
 }
 
-/// The key that seals the buckets of the formatting with this salt.
+/// Derives the key that seals the buckets of the formatting with this salt.
 pub fn sealer_key(key: &DiskKey, salt: &Salt) -> SealerKey
     ensures { result.0 ≡ spec.bucket_key key.now.0 salt.now.0 }
 {
     SealerKey(derived(key, b"vidlaqe bucket key", salt))
 }
 
-/// The key of the tape of the formatting with this salt.
+/// Derives the key of the tape of the formatting with this salt.
 pub fn tape_key(key: &DiskKey, salt: &Salt) -> TapeKey
     ensures { result.0 ≡ spec.tape_key key.now.0 salt.now.0 }
 {
     TapeKey(derived(key, b"vidlaqe tape key", salt))
 }
 
-/// The key check of the formatting with this salt.
+/// Computes the key check of the formatting with this salt.
 pub fn key_check(key: &DiskKey, salt: &Salt) -> KeyCheck
     ensures { result.0 ≡ spec.key_check key.now.0 salt.now.0 }
 {
     KeyCheck(derived(key, b"vidlaqe key check", salt))
 }
 
-/// The identity of the disk of the formatting with this salt.
+/// Computes the identity of the disk of the formatting with this salt.
 pub fn disk_identity(key: &DiskKey, salt: &Salt) -> Identity
     ensures { result.0 ≡ spec.identity key.now.0 salt.now.0 }
 {

@@ -1,12 +1,13 @@
-//! What a client of a disk keeps, and how it reaches its host.
+//! What a client keeps of a disk, and how it reaches the disk's host.
 //!
-//! [`put_kept_file`] and [`read_kept_file`] are for the file that is kept of a disk: a [`Head`] and the core's state. [`keys_for`] gives
-//! the keys of the disk of a head, where the key that is given is the one that the disk was formatted with.
-//! A [`FileKeeper`] keeps a core's state in such a file, in a [`FilePlace`]. It does so by steps ([`put_file`]), and wherever the process
-//! ends among them, the file is found whole; [`kept_bytes`] reads it back.
-//! A [`PatientLink`] tries until the host answers, for as long as its patience lasts; a [`TcpDialer`] opens its ways, and only to a host that
-//! keeps the disk, and [`given_up`] says what is wrong with a host that a link gave up.
-//! [`format_ahead`] formats a disk over an [`Ahead`], a connection on which messages go ahead of their answers.
+//! [`put_kept_file`] and [`read_kept_file`] write and read the kept file of a disk: a [`Head`] and the core's state.
+//! [`keys_for`] returns the keys of the disk with a head, if it gets the key that the disk was formatted with.
+//! A [`FileKeeper`] keeps a core's state in such a file, in a [`FilePlace`]. It does so in steps ([`put_file`]), and
+//! wherever the process ends between them, the file is found whole; [`kept_bytes`] reads it back.
+//! A [`PatientLink`] tries until the host answers, for as long as its patience lasts. A [`TcpDialer`] opens its
+//! connections, and only to a host that keeps the disk. [`given_up`] says what is wrong with a host once a link has
+//! given up.
+//! [`format_ahead`] formats a disk over an [`Ahead`], a connection that sends messages ahead of their answers.
 #![tactic(auto)]
 
 mod ahead;

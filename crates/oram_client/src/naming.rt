@@ -12,13 +12,13 @@ use oram_wire::{GOOD, HostRequest, Sink, SinkFault};
 use std::alloc::{AllocError, Global};
 use std::io::{Read, Write};
 
-/// The tree that a disk's identity is kept in. A device has fewer trees.
+/// The tree that holds a disk's identity. No device has that many trees.
 pub const IDENTITY_TREE: u8 = 255;
 
-/// The bytes of an identity.
+/// The length of an identity in bytes.
 pub const IDENTITY_LEN: u32 = 32;
 
-/// The message that gives the tree its shape: one node.
+/// Returns the message that gives the identity's tree its shape: one node.
 fn shape_message(alloc: Global) -> Result<Vec<u8>, AllocError>
     ensures { IfOk result (λ v. v.items ≡ shape_body IDENTITY_TREE 0 IDENTITY_LEN) }
 {
@@ -30,7 +30,7 @@ fn shape_message(alloc: Global) -> Result<Vec<u8>, AllocError>
     shape.encode(alloc)
 }
 
-/// The message that puts an identity there.
+/// Returns the message that puts an identity into that tree.
 fn record_message(alloc: Global, identity: &Identity) -> Result<Vec<u8>, AllocError>
     ensures { IfOk result (λ v. v.items ≡ put_body IDENTITY_TREE 0 identity.now.0) }
 {
@@ -42,7 +42,7 @@ fn record_message(alloc: Global, identity: &Identity) -> Result<Vec<u8>, AllocEr
     put.encode(alloc)
 }
 
-/// Puts two messages, and waits until the host is done with all that it was sent.
+/// Puts two messages, and waits until the host is done with all messages that it was sent.
 fn put_both<R: Read, W: Write, P: Progress>(
     ahead: &mut Ahead<R, W, P>,
     first: &[u8],
@@ -56,7 +56,7 @@ fn put_both<R: Read, W: Write, P: Progress>(
     ahead.settle()
 }
 
-/// Gives the host a disk's identity. A host that keeps a disk already refuses it.
+/// Puts a disk's identity at the host. A host that already keeps a disk refuses it.
 pub(crate) fn put_identity<R: Read, W: Write, P: Progress>(
     alloc: Global,
     identity: &Identity,
@@ -73,7 +73,7 @@ pub(crate) fn put_identity<R: Read, W: Write, P: Progress>(
     }
 }
 
-/// Whether an answer gives back these bytes.
+/// Returns whether an answer gives back the bytes `kept`.
 fn gives(answer: &[u8], kept: &[u8]) -> bool
     ensures { IsTrue result ↔ (answer.now ≡ 128 ∷ kept.now) }
 {
@@ -83,7 +83,7 @@ fn gives(answer: &[u8], kept: &[u8]) -> bool
     }
 }
 
-/// Fetches the disk's identity, which the host has to give back.
+/// Fetches the disk's identity, and fails if the host doesn't give back `identity`.
 pub(crate) fn check_identity<R: Read, W: Write, P>(
     identity: &Identity,
     ahead: &mut Ahead<R, W, P>,

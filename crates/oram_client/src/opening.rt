@@ -1,4 +1,4 @@
-//! Which keys a disk is opened with.
+//! The keys that a disk is opened with.
 ghost use Rattle.std.specs.Prelude.{◌≡◌, ◌↔◌, IfOk, IsOk};
 ghost use Rattle.oram_client.specs.Keys as spec;
 
@@ -21,7 +21,7 @@ pub struct Keys {
 #[error("the key is not the disk's")]
 pub struct WrongKey;
 
-/// The keys of the disk of this head, where this key is the one that it was formatted with.
+/// Returns the keys of the disk with this head. Fails if it was formatted with another key.
 pub fn keys_for(key: &DiskKey, head: &Head) -> Result<Keys, WrongKey>
     ensures right { IsOk result ↔ (spec.key_check key.now.0 head.now.salt.0 ≡ head.now.key_check.0) }
     ensures sealer { IfOk result (λ keys. keys.sealer.0 ≡ spec.bucket_key key.now.0 head.now.salt.0) }

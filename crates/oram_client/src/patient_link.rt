@@ -10,19 +10,19 @@ use oram_wire::REFUSED;
 use std::alloc::Global;
 use std::marker::Model;
 
-/// The first pause before another try, in milliseconds. Each next one is twice as long.
+/// The pause before the second try, in milliseconds. Each later pause is twice as long as the one before.
 const FIRST_PAUSE: u64 = 100;
 
 /// The longest pause, in milliseconds.
 const MOST_PAUSE: u64 = 5_000;
 
-/// The least time that a host has over a way, in milliseconds.
+/// The least time that a host has to answer over a connection, in milliseconds.
 const LEAST_LIMIT: u64 = 1_000;
 
-/// The longest that a host may be silent over a way, in milliseconds.
+/// The longest time that a host may be silent over a connection, in milliseconds.
 const MOST_SILENCE: u64 = 60_000;
 
-/// Tells the watch how it is with the host, each thing once until the host has answered again.
+/// Reports to the watch, and each trouble only once until the host has answered again.
 #[derive(Debug, Drop)]
 struct News<W> {
     watch: W,
@@ -63,17 +63,18 @@ impl<W: Watch> News<W> {
 struct Wait {
     /// The next pause.
     pause: u64,
-    /// What is left of the patience.
+    /// How much patience is left.
     left: u64,
 }
 
-/// A link over a way that is opened again when it was lost.
+/// A link that opens its connection again after losing it.
 ///
-/// A call tries until it has an answer, or until its patience is used up. A way whose call had a fault is closed, and the same message goes
-/// over a new one; where the host has no room, it goes over the same way again. There is a pause before each try but the first. To send a
-/// message again changes nothing at an honest host, which does it once more to the same end, and a session repeats one that had a fault in the
-/// same way. The patience is time by the clock, from the beginning of the call on, so a link that nobody uses loses none. Once it is used up, or
-/// the host turned out to keep another disk or none, later calls try nothing.
+/// A call tries until it has an answer, or until its patience is used up. If a call over a connection has a fault, the
+/// link closes that connection and sends the same message over a new one; if the host has no room, it sends the message
+/// again over the same one. It pauses before each try but the first. Sending a message again changes nothing at an
+/// honest host, which carries it out once more with the same result; a session repeats a message after a fault in the
+/// same manner. The patience is time by the clock from the beginning of the call, so a link that nobody uses loses
+/// none. Once it is used up, or the host turned out to keep another disk or none, later calls try nothing.
 #[derive(Debug, Drop)]
 pub struct PatientLink<D: Dial, W> {
     dialer: D,
@@ -81,7 +82,7 @@ pub struct PatientLink<D: Dial, W> {
     line: Option<D::Line>,
     /// In milliseconds.
     patience: u64,
-    /// Why it gave up.
+    /// Why the link gave up.
     trouble: Option<Trouble>,
     faults: u64,
 }
@@ -94,7 +95,7 @@ impl<D: Dial, W> Model for PatientLink<D, W> {
     ghost view = { λ l. record { dialer = l.dialer; line = l.line; patience = l.patience; trouble = l.trouble; faults = l.faults } };
 }
 
-/// Why this is nothing to give to the caller.
+/// Returns why an attempt brought nothing to give to the caller; `None` if it brought an answer to give.
 fn trouble_in(came: &Result<Vec<u8>, Trouble>) -> Option<Trouble>
     ensures { IsTroubleIn (attempt_of came.now) result }
 {
@@ -106,7 +107,7 @@ fn trouble_in(came: &Result<Vec<u8>, Trouble>) -> Option<Trouble>
     }
 }
 
-/// What the caller is told.
+/// Returns what the caller receives for an attempt.
 fn told(came: Result<Vec<u8>, Trouble>) -> Result<Vec<u8>, LinkFault>
     ensures { outcome_of result ≡ told (attempt_of came) }
 {
@@ -116,7 +117,7 @@ fn told(came: Result<Vec<u8>, Trouble>) -> Result<Vec<u8>, LinkFault>
     }
 }
 
-/// How long it is from one reading of the clock to another, as far as it is known.
+/// Returns the time between two readings of the clock, or 0 if one of them failed.
 pub(crate) fn elapsed(begin: Option<u64>, now: Option<u64>) -> u64
     ensures { result ≡ elapsed begin now }
 {
@@ -126,7 +127,7 @@ pub(crate) fn elapsed(begin: Option<u64>, now: Option<u64>) -> u64
     }
 }
 
-/// What is left of the patience after this trouble.
+/// Returns how much patience is left after `trouble`: none if the trouble won't pass.
 fn left_at(patience: u64, begin: Option<u64>, left: u64, trouble: Trouble, now: Option<u64>) -> u64
     ensures left { result ≡ left_at patience begin left trouble now }
     ensures most { result ≤ left }
@@ -139,7 +140,7 @@ fn left_at(patience: u64, begin: Option<u64>, left: u64, trouble: Trouble, now: 
 }
 
 impl<D: Dial, W: Watch> PatientLink<D, W> {
-    /// A link without a way yet, and with so many seconds of patience. It takes no memory.
+    /// Makes a link with no connection yet and with `seconds` of patience. Allocates nothing.
     pub fn new(_alloc: Global, dialer: D, watch: W, seconds: u64) -> PatientLink<D, W>
         ensures { result ≡ record { dialer = dialer; line = None; patience = min (seconds * 1000) (2 ^ 64 - 1); trouble = None; faults = 0 } }
     {
@@ -158,15 +159,16 @@ impl<D: Dial, W: Watch> PatientLink<D, W> {
         }
     }
 
-    /// Why the link has given up, once it has.
+    /// Returns why the link has given up, once it has.
     pub fn trouble(&self) -> Option<Trouble>
         ensures { result ≡ self.now.trouble }
     {
         self.trouble
     }
 
-    /// Waits until the host answers: to know at the start that it is there, and keeps the disk. It is sent a message of no bytes, which
-    /// a host refuses.
+    /// Waits until the host answers. A program calls this at its start, to know that the host is there and keeps the
+    /// disk. It sends a message of no bytes, which a host refuses. Fails with the trouble for which the link has given
+    /// up.
     pub fn reach(&mut self, alloc: Global) -> Result<(), Trouble>
         ensures called { (outcome : Outcome) × PatientCall D.opens D.fails D.pauses D.reads D.Line.calls self.old [] outcome self.new }
         ensures told { MatchOption self.new.trouble (IsOk result) (λ trouble. result ≡ Err trouble) }
@@ -178,7 +180,7 @@ impl<D: Dial, W: Watch> PatientLink<D, W> {
         }
     }
 
-    /// Takes the way that is open, or opens a new one. The link holds none then.
+    /// Takes out the open connection, or opens a new one. Afterwards the link itself holds none.
     fn take_line(&mut self, alloc: Global, left: u64) -> Result<D::Line, Trouble>
         ensures ok { IfOk result (λ line. HasLine D.opens D.fails D.Line.calls
             self.old.dialer self.old.line (limits self.old.patience left) line self.new.dialer) }
@@ -199,7 +201,7 @@ impl<D: Dial, W: Watch> PatientLink<D, W> {
         }
     }
 
-    /// Tries once to have an answer.
+    /// Sends a message once, over the open connection or a new one. After a fault the connection is closed.
     fn attempt(&mut self, alloc: Global, body: &[u8], left: u64) -> Result<Vec<u8>, Trouble>
         ensures tried { IsTried D.opens D.fails D.Line.calls
             self.old.dialer self.old.line (limits self.old.patience left) body.now (attempt_of result) self.new.dialer self.new.line }
@@ -215,7 +217,7 @@ impl<D: Dial, W: Watch> PatientLink<D, W> {
         }
     }
 
-    /// Pauses after this trouble, and gives how the message goes on waiting. `None` where no patience is left.
+    /// Pauses after `trouble`, and returns how the message goes on waiting; `None` if no patience is left.
     fn wait(&mut self, begin: Option<u64>, wait: Wait, trouble: Trouble) -> Option<Wait>
         requires some { 0 < wait.pause }
         requires most { wait.pause ≤ MOST_PAUSE }
@@ -246,7 +248,7 @@ impl<D: Dial, W: Watch> PatientLink<D, W> {
         self.dialer.now()
     }
 
-    /// Notes why there is no answer, for good.
+    /// Gives up for good because of `trouble`.
     fn give_up(&mut self, trouble: Trouble)
         ensures { self.new ≡ record self.old { trouble = Some trouble } }
     {
@@ -265,7 +267,7 @@ impl<D: Dial, W: Watch> PatientLink<D, W> {
         self.news.tell_answer();
     }
 
-    /// Tries until there is an answer to give, or no patience is left. Counts nothing.
+    /// Tries until there is an answer to give, or no patience is left. Doesn't count faults.
     fn persist(&mut self, alloc: Global, body: &[u8]) -> Result<Vec<u8>, LinkFault>
         requires { self.old.trouble ≡ None }
         ensures answer { Persists D.opens D.fails D.pauses D.reads D.Line.calls
@@ -295,7 +297,7 @@ impl<D: Dial, W: Watch> PatientLink<D, W> {
         }
     }
 
-    /// Passes a message on, unless the link has given up. Counts nothing.
+    /// Passes a message on, unless the link has given up. Doesn't count faults.
     fn pass(&mut self, alloc: Global, body: &[u8]) -> Result<Vec<u8>, LinkFault>
         ensures answer { Passes D.opens D.fails D.pauses D.reads D.Line.calls self.old body.now (outcome_of result) self.new }
         ensures patience { self.new.patience ≡ self.old.patience }

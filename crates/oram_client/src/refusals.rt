@@ -1,4 +1,4 @@
-//! What a host means that doesn't do what a message of a formatting asks for.
+//! Why a host doesn't do what a message of a formatting asks for.
 ghost use Rattle.oram_client.specs.Ahead.{Means};
 
 use oram_host::HostRefusal;
@@ -11,16 +11,16 @@ const OUT_OF_MEMORY: u8 = HostRefusal::OutOfMemory as u8;
 /// Why a host refused a message of a formatting.
 #[derive(Clone, Copy, Debug, PartialEq, Eq)]
 pub(crate) enum Refusal {
-    /// The tree has a shape already.
+    /// The tree already has a shape.
     Taken,
     /// The host has no room.
     NoRoom,
-    /// For another reason, or by what is no answer.
+    /// The host refused for another reason, or sent bytes that are no answer.
     Other,
 }
 
 impl Refusal {
-    /// What an answer means that isn't that the host is done.
+    /// Returns what an answer other than done means.
     pub(crate) fn of(answer: &[u8]) -> Refusal
         ensures { Means answer.now result }
     {

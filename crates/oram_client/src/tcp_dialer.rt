@@ -1,4 +1,4 @@
-//! Ways to the host of a disk over TCP.
+//! Connections over TCP to the host of a disk.
 ghost use Rattle.std.specs.Prelude.{◌≡◌, OnOk, IfOk, IfErr, string_bytes};
 ghost use Rattle.oram_wire.specs.HostMessages.{answer_body};
 ghost use Rattle.oram_wire.specs.declared.host_messages.HostAnswer.TheVariants.{Payload};
@@ -20,12 +20,13 @@ use std::rt::Clock;
 use std::time::Duration;
 use std::{io, thread};
 
-/// The longest that connecting to a host may take, in milliseconds.
+/// The longest time to connect to a host, in milliseconds.
 const LONGEST_CONNECTING: u64 = 10_000;
 
 /// Connects to the host of a disk.
 ///
-/// A connection is a way to it once the host has answered over it with the identity of that disk. Nothing else is asked before.
+/// On each new connection it first asks for the identity of the disk, and uses the connection only if the host answers
+/// with the right one.
 #[derive(Debug, Drop)]
 pub struct TcpDialer<R> {
     rt: R,
@@ -43,7 +44,8 @@ impl<R> Model for TcpDialer<R> {
 }
 
 impl<R> TcpDialer<R> {
-    /// Connects to the host at this address, a name or an IP address and a port, if it keeps the disk of this identity.
+    /// Makes a dialer for the host at `address`, which is a name or an IP address and a port. The host has to keep the
+    /// disk with `identity`.
     pub fn new(rt: R, address: String, identity: [u8; 32]) -> TcpDialer<R>
         ensures { result ≡ record { address = string_bytes address; identity = identity } }
     {
@@ -55,7 +57,7 @@ impl<R> TcpDialer<R> {
     }
 }
 
-/// Sets how many milliseconds the other side may be silent. Both halves of a connection have it then.
+/// Sets how many milliseconds the other side may be silent, for both halves of a connection.
 fn limit_silence<S: OpenStream>(stream: &S, milliseconds: u64) -> io::Result<()> {
     let silence = Some(Duration::from_millis(milliseconds));
     stream.set_read_timeout(silence)?;
@@ -79,8 +81,8 @@ fn judge(answer: &[u8], identity: &[u8; 32]) -> Result<(), Trouble>
     }
 }
 
-/// Asks the host over a new connection for the identity of its disk. The host has `limit` milliseconds to answer. If it answers with `identity`,
-/// the connection is a way to the disk's host.
+/// Asks the host over a new connection for the identity of its disk. The host has `limit` milliseconds to answer.
+/// Returns a link over the connection if the answer is `identity`.
 fn greet<S: Read + Write, C: Clock + Copy>(
     alloc: Global,
     reader: S,
@@ -114,7 +116,7 @@ impl<R: Net + Clock + Copy> Dial for TcpDialer<R> {
 
     ghost fails = { λ d _ trouble e. IsUngreeted R.Stream.remaining R.Stream.contents d.identity trouble × (e ≡ d) };
 
-    // How long it was can't be said, nor what the clock reads.
+    // The model knows neither how long a pause was nor what the clock reads.
     ghost pauses = { λ d _ e. e ≡ d };
 
     ghost reads = { λ d _ e. e ≡ d };

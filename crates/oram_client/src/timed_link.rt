@@ -1,4 +1,4 @@
-//! A connection over which each call has to end in time.
+//! A connection on which each call has a time limit.
 ghost use Rattle.std.specs.Prelude.{◌≡◌, IfOk, IfErr};
 
 use oram_session::{Link, LinkFault, StreamLink};
@@ -10,23 +10,23 @@ use std::marker::Model;
 use std::rc::Rc;
 use std::rt::Clock;
 
-/// The milliseconds since some moment, by a clock that isn't set. `None` where it can't be read.
+/// Returns the milliseconds since some fixed moment, by a clock that nobody sets; `None` if the clock can't be read.
 pub(crate) fn milliseconds<C: Clock>(clock: &C) -> Option<u64> {
     let since_start = clock.monotonic().ok()?;
     u64::try_from(since_start.as_millis()).ok()
 }
 
-/// A half of a connection. Once the time of a call is over it takes and gives nothing more.
+/// One half of a connection. Once the time of a call is over, reads and writes fail.
 #[derive(Drop)]
 pub(crate) struct Timed<S, C> {
     stream: S,
     clock: C,
-    /// When the time of the call is over, in milliseconds by the clock.
+    /// When the time of the call ends, in milliseconds by the clock.
     ends: Rc<Cell<u64>>,
 }
 
 impl<S, C> Model for Timed<S, C> {
-    /// The stream.
+    /// Modelled by the stream alone.
     ghost Value = { S };
 
     ghost view = { λ t. t.stream };
@@ -67,13 +67,13 @@ impl<S: Write, C: Clock> Write for Timed<S, C> {
     }
 }
 
-/// A link over both halves of a connection, whose calls have a time to end in. A host that gives its answer a byte at a time doesn't
-/// hold a call for longer, but for the time that it may be silent before the last of them.
+/// A link over both halves of a connection, with a time limit for each call. A host that sends its answer byte by byte
+/// can't hold a call for longer than the limit, except for the time that it may be silent before the last byte.
 #[derive(Drop)]
 pub struct TimedLink<S, C> {
     line: StreamLink<Timed<S, C>, Timed<S, C>>,
     clock: C,
-    /// What a call may take, in milliseconds.
+    /// How long a call may take, in milliseconds.
     limit: u64,
     ends: Rc<Cell<u64>>,
 }
@@ -87,7 +87,8 @@ impl<S, C> Model for TimedLink<S, C> {
 }
 
 impl<S, C: Copy> TimedLink<S, C> {
-    /// A link over the two halves of a connection. Each call may take `limit` milliseconds, and fails after that.
+    /// Makes a link over the two halves of a connection. Each call may take `limit` milliseconds, and fails after that.
+    /// Fails if memory runs out.
     pub fn new(
         alloc: Global,
         reader: S,

@@ -30,7 +30,7 @@ use Rattle.oram_core.proofs.Sound.{Outstanding, at_hand, tree_within}
 use Rattle.oram_core.proofs.Meeting.{Waits}
 use Rattle.oram_core.proofs.Hearing.{IsTreeAt}
 
--- the tree at work stands in the world, and has the command's block at the leaf whose path came, or not at all
+-- the tree at work stands in the world, and has the command's block at the leaf whose path was fetched, or not at all
 pub record IsReadyTree (v : Shape) (s : State) (w : World) (x : Submission) (t : Tree) : Type 0 where
   pub stored : IsStoredWith v.opening v.overhead v.device t (w.records (stage_tree v.device s.stage)) (w.content (stage_tree v.device s.stage))
   pub at_leaf : IsAtOrAbsent (w.content (stage_tree v.device s.stage)) (block_of v.device (stage_tree v.device s.stage) x) (asked s.last).leaf
@@ -51,7 +51,7 @@ ready_tree v s w t o h even fits at =
       ready = ready;
     }
 
--- an access that the tree has made is taken over by the rule
+-- the core takes over an access of the tree by the rule
 pub access_moves : (v : Shape) (s : State) (w : World) (t new : Tree) (path : Path) (found : Bool) (before records : List ℕ) (why : Reason) (y : Reaction) (u : State) (o : Waits s) → IsSound v.device v.overhead s → s.stage % 2 ≡ 0 → Fits v s w → IsTreeAt v s t →
     path ≡ path_of v.device (stage_tree v.device s.stage) (asked s.last).leaf v.overhead path.bytes → length records ≡ (depth_of v.device (stage_tree v.device s.stage) + 1) * record_len v → new.number ≡ t.number →
     (let i = stage_tree v.device s.stage in let c : Cell = record { address = block_of v.device i o.oldest; leaf = new_leaf v.device i o.oldest; content = block_after v.device i o.oldest before } in

@@ -44,7 +44,7 @@ state_again d overhead s h = elim s.failure as (λ f. IsWhole d overhead s f →
   | Some e ↦ λ w. ended_again d s e w.1
 ] h.whole
 
--- and are parts of one
+-- and they can be parts of a core
 parts_right : (d : Sizes) (overhead : ℕ) (s : State) → IsSound d overhead s → All (λ t. IsRising t.stash) (map tree_parts s.trees) → AreParts overhead (parts_of d s)
 parts_right d overhead s h rising = record { sound = subst (IsSound d overhead) (sym (state_again d overhead s h)) h; rising = rising }
 

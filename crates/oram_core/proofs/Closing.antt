@@ -1,4 +1,4 @@
--- What a method owes at its end: the fields as it leaves them are sound, and what it has done is what it was to do.
+-- What a method has to prove at its end: the fields that it leaves are sound, and it has done what it should.
 use Rattle.std.proofs.Common.{◌≡◌, ℕ, ◌+◌, ◌-◌, ◌*◌, ◌%◌, ◌^◌, ◌<◌, ◌≤◌, ◌==◌, ◌&&◌, ◌||◌, not, nat_lt, Bool, true, false, inl, inr, if◌then◌else◌, List, [], ◌∷◌, ◌++◌, length, drop, Result, IfOk, slice_set, refl, ap, sym, ◌∙◌, subst, arith}
 use Rattle.std.proofs.lemmas.Bool.{cases_eq}
 use Rattle.std.proofs.lemmas.Bool.Decides.{nat_tests}
@@ -23,7 +23,7 @@ use Rattle.oram_core.proofs.Heard.{if_ok}
 use Rattle.oram_core.proofs.Small.{named_none}
 use Rattle.oram_core.proofs.Sound.{HasOldest, has_oldest, stage_within, fetched_as, finished_as, stored_as}
 
--- stages are few
+-- the number of stages is small
 pub stage_small : (d : Sizes) (o : ℕ) (s : State) → IsSound d o s → s.stage < 26
 stage_small d o s h =
     let few : trees_of d ≤ 13 = trees_of-few d h.ranges in
@@ -34,7 +34,7 @@ stage_small d o s h =
 pub leaf_here : (d : Sizes) (o : ℕ) (s : State) → IsSound d o s → status_in s ≡ Waiting → (asked s.last).leaf < 2 ^ depth_of d (stage_tree d s.stage)
 leaf_here d o s h now = (has_oldest d o s h now).work.leaf
 
--- a path goes back
+-- a path is stored
 pub commit_sound : (d : Sizes) (o : ℕ) (s : State) (tree block leaf named nonce : ℕ) (before table kept last : List ℕ) → IsSound d o s → status_in s ≡ Waiting → s.stage % 2 ≡ 0 → tree ≡ stage_tree d s.stage →
     length before ≡ d.block_bytes → IsPathStore d o tree (asked s.last).leaf last →
     ((x : Submission) (rest : List Submission) → s.queue ≡ x ∷ rest → (block ≡ block_of d tree x) × (leaf ≡ new_leaf d tree x) × (named ≡ next_named d tree x before)) →
@@ -66,7 +66,7 @@ only_one : (x : Submission) (rest : List Submission) → length (x ∷ rest) ≡
 only_one x [] one = refl
 only_one x (y ∷ rest) one = absurd (omega arith)
 
--- the last command has its reply
+-- the last command gets its reply
 pub end_sound : (d : Sizes) (o : ℕ) (s : State) (queue : List Submission) (before last : List ℕ) → IsSound d o s → status_in s ≡ Waiting → s.stage + 1 ≡ 2 * trees_of d → length s.queue ≡ 1 →
     queue ≡ drop 1 s.queue → before ≡ [] → last ≡ [] → IsSound d o (record s { queue = queue; stage = 0; named = 0; before = before; last = last })
 end_sound d o s queue before last h now end alone q b l =
@@ -79,7 +79,7 @@ next_sent : (d : Sizes) (o : ℕ) (s : State) (x : Submission) (rest : List Subm
 next_sent d o s x [] last q more next = absurd (omega (arith, ap length q))
 next_sent d o s x (y ∷ rest) last q more next = next x y rest q
 
--- another one has, and the next begins
+-- another command gets its reply, and the next one begins
 pub pass_sound : (d : Sizes) (o : ℕ) (s : State) (queue : List Submission) (before last : List ℕ) → IsSound d o s → status_in s ≡ Waiting → s.stage + 1 ≡ 2 * trees_of d → 1 < length s.queue →
     ((x y : Submission) (rest : List Submission) → s.queue ≡ x ∷ y ∷ rest → last ≡ first_message d s y) →
     queue ≡ drop 1 s.queue → before ≡ [] → IsSound d o (record s { queue = queue; stage = 0; named = 0; before = before; last = last })
@@ -87,14 +87,14 @@ pass_sound d o s queue before last h now end more next q b =
     let w : HasOldest d s = has_oldest d o s h now in
     finished_as d o s w.oldest w.rest queue before last h w.healthy w.queue w.calm end (q ∙ ap (drop 1) w.queue) b (next_sent d o s w.oldest w.rest last w.queue more next)
 
--- what was done where nothing waits behind the oldest command
+-- what the core did if no command waits after the oldest one
 pub ended_by : (v : Shape) (s : State) (x : Submission) (rest queue : List Submission) (replies : List Reply) (sends : List (List ℕ)) (before last : List ℕ) → IsSound v.device v.overhead s → s.queue ≡ x ∷ rest → length s.queue ≡ 1 →
     replies ≡ (record { session = x.session; ticket = x.ticket; body = body_from s.before x.command }) ∷ [] → sends ≡ [] → queue ≡ drop 1 s.queue → before ≡ [] → last ≡ [] →
     (let d : Done = record { note = Taken; replies = replies; sends = sends; state = record s { queue = queue; stage = 0; named = 0; before = before; last = last } } in d ≡ finished_by v s x rest)
 ended_by v s x [] queue replies sends before last h q alone r m k b l = let e : queue ≡ [] = k ∙ ap (drop 1) q in cc
 ended_by v s x (y ∷ rest) queue replies sends before last h q alone r m k b l = absurd (omega (arith, ap length q))
 
--- and where one does
+-- and if one does
 pub passed_by : (v : Shape) (s : State) (x : Submission) (rest queue : List Submission) (replies : List Reply) (sends : List (List ℕ)) (before last : List ℕ) → IsSound v.device v.overhead s → s.queue ≡ x ∷ rest → 1 < length s.queue →
     ((x y : Submission) (rest : List Submission) → s.queue ≡ x ∷ y ∷ rest → last ≡ first_message v.device s y) →
     replies ≡ (record { session = x.session; ticket = x.ticket; body = body_from s.before x.command }) ∷ [] → sends ≡ last ∷ [] → queue ≡ drop 1 s.queue → before ≡ [] →
@@ -106,7 +106,7 @@ passed_by v s x (y ∷ rest) queue replies sends before last h q more next r m k
     let one : sends ≡ first_message v.device s y ∷ [] = m ∙ ap (λ b. b ∷ []) l in
     cc
 
--- what was done where another tree's path is fetched
+-- what the core did if it fetched another tree's path
 pub fetched_so : (v : Shape) (s : State) (x : Submission) (replies : List Reply) (sends : List (List ℕ)) (last : List ℕ) → IsSound v.device v.overhead s →
     last ≡ fetch_of (fetch_at v.device (s.stage + 1) s.named x) → sends ≡ last ∷ [] → replies ≡ [] →
     (let d : Done = record { note = Taken; replies = replies; sends = sends; state = record s { stage = s.stage + 1; last = last } } in d ≡ fetched_by v s x)
@@ -114,7 +114,7 @@ fetched_so v s x replies sends last h l m r =
     let one : sends ≡ fetch_of (fetch_at v.device (s.stage + 1) s.named x) ∷ [] = m ∙ ap (λ b. b ∷ []) l in
     cc
 
--- what was done where a path goes back
+-- what the core did if it stored a path
 pub stored_so : (v : Shape) (s : State) (x : Submission) (tree block new named : ℕ) (before records kept : List ℕ) → tree ≡ stage_tree v.device s.stage → block ≡ block_of v.device tree x → new ≡ new_leaf v.device tree x →
     named ≡ next_named v.device tree x before → kept ≡ store_body tree (asked s.last).leaf records →
     (let d : Done = record {
@@ -145,7 +145,7 @@ not_both : (a b : Bool) → a ≡ true → (a && b) ≡ false → b ≡ false
 not_both true b first e = e
 not_both false b first e = absurd (let no_way : false ≡ true = first in cc)
 
--- where the map leads right, it names a leaf of the tree below
+-- if the map hasn't led astray, it names a leaf of the tree below
 pub led_right : (v : Shape) (s : State) (x : Submission) (found : Bool) (before : List ℕ) (tree named : ℕ) → is_misled v s x found before ≡ false → tree ≡ stage_tree v.device s.stage → named ≡ next_named v.device tree x before →
     named ≤ 2 ^ depth_of v.device (tree - 1)
 led_right v s x found before tree named right t m =
@@ -166,11 +166,11 @@ none_sent : (queue : List Submission) (m : List ℕ) → 0 < length queue → se
 none_sent [] m some = absurd (omega arith)
 none_sent (x ∷ rest) m some = refl
 
--- what is done of a command that joins the queue, by what is sent
+-- what a core does with an accepted command, given what it sends
 abbrev joined : State → Submission → List (List ℕ) → Done
 joined s x sends = record { note = Accepted x.ticket; replies = []; sends = sends; state = record s { next = s.next + 1; queue = s.queue ++ x ∷ []; last = latest sends s.last } }
 
--- an idle core fetches the first path of a command,
+-- an idle core fetches the first path of the command,
 pub begun_so : {E : Type 0} (v : Shape) (s t : State) (x y : Submission) (r : Result Reaction E) → length s.queue ≡ 0 → y ≡ x → y.ticket ≡ s.next →
     IfOk r (λ a. done a t ≡ (let m = first_message v.device s y in record { note = Accepted s.next; replies = []; sends = m ∷ []; state = record s { next = s.next + 1; queue = s.queue ++ y ∷ []; last = m } })) → IfOk r (λ a. done a t ≡ accepted_by v s x)
 begun_so v s t x y r none same ticket h =
@@ -178,7 +178,7 @@ begun_so v s t x y r none same ticket h =
     let numbered = ap (λ (n : ℕ). let d : Done = record { note = Accepted n; replies = []; sends = m ∷ []; state = record s { next = s.next + 1; queue = s.queue ++ y ∷ []; last = m } } in d) (sym ticket) in
     if_ok _ _ r (λ a e. e ∙ numbered ∙ ap (joined s y) (sym (first_sent s.queue m none)) ∙ ap (accepted_by v s) same) h
 
--- and in one that isn't the command waits
+-- and in any other core the command waits
 pub enqueued_so : {E : Type 0} (v : Shape) (s t : State) (x y : Submission) (r : Result Reaction E) → 0 < length s.queue → y ≡ x → y.ticket ≡ s.next →
     IfOk r (λ a. done a t ≡ record { note = Accepted s.next; replies = []; sends = []; state = record s { next = s.next + 1; queue = s.queue ++ y ∷ [] } }) → IfOk r (λ a. done a t ≡ accepted_by v s x)
 enqueued_so v s t x y r some same ticket h =

@@ -62,7 +62,7 @@ rising_from : (d : Sizes) (i : ℕ) (ts : List TreeParts) → AreTrees d i ts �
 rising_from d i [] h = All-nil (λ t. IsRising t.stash)
 rising_from d i (t ∷ ts) h = All-cons (λ u. IsRising u.stash) t ts h.0.rising (rising_from d (i + 1) ts h.1)
 
--- how many commands have their reply
+-- the number of commands that have their reply
 answered_is : (p : Parts) → p.tickets - length (state_of p).queue ≡ p.tickets - length p.waiting
 answered_is p = ap (λ (n : ℕ). p.tickets - n) (commands_length (p.tickets - length p.waiting) p.waiting)
 
@@ -155,7 +155,7 @@ trees_by o p (Some e) w rising = subst (AreTrees p.device 0) (sym (no_trees p.tr
 pub trees_of_parts : (o : ℕ) (p : Parts) → AreParts o p → AreTrees p.device 0 p.trees
 trees_of_parts o p h = trees_by o p p.failure h.sound.whole h.rising
 
--- there are no more of them than the device has trees
+-- there are no more trees than the device has
 few_by : (o : ℕ) (p : Parts) (f : Option Reason) → IsFitting o p f → length p.trees ≤ trees_of p.device
 few_by o p None w = omega (arith, w.count)
 few_by o p (Some e) w = omega (arith, ap length w.nothing.trees)
@@ -171,6 +171,6 @@ begun_by o p (Some e) w = omega (arith, ap length w.nothing.waiting)
 pub begun_waiting : (o : ℕ) (p : Parts) → IsFitting o p p.failure → length p.waiting ≤ p.tickets
 begun_waiting o p w = begun_by o p p.failure w
 
--- what is known of an error is known of the one that it is
+-- a property of an error is one of the error that it equals
 pub told_err : {A E : Type 0} (r : Result A E) (P : E → Type 0) (e : E) → r ≡ Err e → IsErrAnd r P → P e
 told_err {A = A} {E = E} r P e is h = subst (λ (q : Result A E). IsErrAnd q P) is h

@@ -1,4 +1,4 @@
--- What becomes of an answer that is waited for, whoever gives it.
+-- The effect of an answer that a core waits for, whatever host gives it.
 use Rattle.std.proofs.Common.{◌∙◌, ◌≡◌, ℕ, ◌+◌, ◌*◌, ◌%◌, ◌<◌, Bool, true, false, if◌then◌else◌, List, ◌∷◌, map, Result, Ok, Err, IfOk, IsOk, OnErr, refl, ap, sym, subst, arith, inl, inr}
 use Rattle.std.specs.Result.{IsErr}
 use Rattle.oram_geometry.specs.Sizes.{trees_of}
@@ -15,12 +15,12 @@ use Rattle.oram_core.specs.Doing.{done, failed_by, fetched_by, finished_by, stor
 use Rattle.oram_core.specs.Steps.{Heard}
 use Rattle.oram_core.proofs.Sound.{HasOldest, has_oldest}
 
--- what is claimed of an Ok follows from what is known of it
+-- a claim about an Ok follows from what is known about it
 pub if_ok : {A E : Type 0} (P Q : A → Type 0) (r : Result A E) → ((a : A) → P a → Q a) → IfOk r P → IfOk r Q
 if_ok P Q (Ok a) f h = f a h
 if_ok P Q (Err e) f h = h
 
--- what holds anyway holds at an Err
+-- a property that always holds also holds at an Err
 pub on_err : {A E : Type 0} (P : Type 0) (r : Result A E) → P → OnErr r P
 on_err P (Ok a) h = tt
 on_err P (Err e) h = h
@@ -45,11 +45,11 @@ fetch_heard v s r t h now more does =
     let o : HasOldest v.device s = has_oldest v.device v.overhead s h now in
     if_ok _ _ r (λ y e. subst (Heard v s) (sym e) (inr (inl (record { note = refl; replies = refl; sends = refl; queue = refl; waits = now; next = refl; stage = refl; within = more; fetched = λ odd. record { oldest = o.oldest; rest = o.rest; queue = o.queue; does = refl } })))) (does o.oldest o.rest o.queue)
 
--- the device fails, whatever the trees are by then
+-- the device fails, whatever the trees are then
 pub failed_heard : (v : Shape) (s t : State) (e : Reason) → t.queue ≡ s.queue → t.next ≡ s.next → t.nonce ≡ s.nonce → Heard v s (failed_by t e)
 failed_heard v s t e same next nonce = inl (record { reason = e; note = refl; replies = ap (map failed_reply) same; sends = refl; state = ap (λ (n : ℕ). failed_state n t.nonce e) next ∙ ap (λ (n : ℕ). failed_state s.next n e) nonce })
 
--- the path of an access goes back
+-- the path of an access is stored
 pub stored_heard : (v : Shape) (s : State) (trees : List Tree) (x : Submission) (before records : List ℕ) → status_in s ≡ Waiting → s.stage % 2 ≡ 0 → s.stage < 2 * trees_of v.device → Heard v s (stored_by v (record s { trees = trees }) x before records)
 stored_heard v s trees x before records now even within =
     inr (inl (record { note = refl; replies = refl; sends = refl; queue = refl; waits = now; next = refl; stage = refl; within = omega arith; fetched = λ odd. absurd (let both = sym even ∙ odd in cc) }))

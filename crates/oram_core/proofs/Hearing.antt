@@ -1,4 +1,4 @@
--- What the code makes of an answer is what the answer means.
+-- The code's verdict on an answer agrees with what the answer means.
 use Rattle.std.proofs.Common.{◌≡◌, ◌≢◌, ◌⊎◌, ◌↔◌, ℕ, ◌+◌, ◌*◌, ◌%◌, ◌^◌, ◌<◌, ◌≤◌, ◌==◌, ◌&&◌, Bool, true, false, if◌then◌else◌, List, [], ◌∷◌, length, drop, slice_index, slice_index_or, slice_set, nat_le, nat_lt, not, Option, Some, None, Result, Ok, Err, IsOk, MatchResult, refl, ap, sym, ◌∙◌, subst, arith, inl, inr}
 use Rattle.std.specs.List.{All}
 use Rattle.std.proofs.lemmas.List.{get_or_read}
@@ -33,7 +33,7 @@ use Rattle.oram_core.specs.declared.verdicts.Verdict.{Verdict}
 use Rattle.oram_core.proofs.Meeting.{waits, holds_of}
 use Rattle.oram_core.proofs.Sound.{Outstanding, at_hand, healthy_of, sound_accessed, tree_within}
 
--- a checked path of the right length is the tree's, where no two records of one digest stand in it
+-- a checked path of the right length is the tree's, unless it shows two records with the same digest
 path_told : (v : Shape) (records : ℕ → ℕ → List ℕ) (e : Entry) (bytes : List ℕ) → e.fetch ≡ true → HasLength (answered_path v e (128 ∷ bytes)) → pair_in v records e (128 ∷ bytes) ≡ false →
     (IsPathOf (records e.tree) (answered_path v e (128 ∷ bytes)) ⊎ Collides (records e.tree) (answered_path v e (128 ∷ bytes))) → IsPathOf (records e.tree) (answered_path v e (128 ∷ bytes))
 path_told v records e bytes fetch whole apart (inl told) = told
@@ -50,7 +50,7 @@ fetch_out v s h now even =
     let e = work.fetch even in
     (ap (λ (x : Entry). x.fetch) e, ap (λ (x : Entry). x.tree) e, work.leaf)
 
--- the host's records stand under the root of the tree at work
+-- the host's records are stored under the root digest of the tree at work
 stored_now : (v : Shape) (s : State) (w : World) → IsSound v.device v.overhead s → status_in s ≡ Waiting → Fits v s w →
     IsStored (depth_of v.device (stage_tree v.device s.stage)) (record_len v) (tree_now v s).root (w.records (stage_tree v.device s.stage))
 stored_now v s w h now fits =
@@ -58,7 +58,7 @@ stored_now v s w h now fits =
     let stands : Stands v i (tree_now v s) (w.records i) (w.content i) = holds_of v s w fits (waits s now).healthy i (tree_within v.device v.overhead s h) in
     subst (λ (k : ℕ). IsStored (depth_of v.device k) (record_len v) (tree_now v s).root (w.records i)) stands.number stands.stored.stands
 
--- the answer means what its check told
+-- the answer means what its check says
 pub path_means : {A : Type 0} (v : Shape) (s : State) (w : World) (bytes : List ℕ) (r : Result A HashFault) → IsSound v.device v.overhead s → status_in s ≡ Waiting → s.stage % 2 ≡ 0 → Fits v s w →
     pair_in v w.records (asked s.last) (128 ∷ bytes) ≡ false → IsChecked v s bytes r → outcome_of v w.records (asked s.last) (128 ∷ bytes) ≡ outcome_by (stage_tree v.device s.stage) r
 path_means v s w bytes r h now even fits apart checked =
@@ -81,7 +81,7 @@ pub path_same : (v : Shape) (s : State) (number leaf overhead : ℕ) (device : S
     path_of device number leaf overhead bytes ≡ path_now v s bytes
 path_same v s number leaf overhead device bytes d n l o = cc
 
--- the check's own words
+-- the result of the check, case by case
 pub checked_as : {A : Type 0} (v : Shape) (s : State) (number leaf overhead : ℕ) (device : Sizes) (t : Tree) (bytes : List ℕ) (r : Result A HashFault) → device ≡ v.device → number ≡ stage_tree v.device s.stage → leaf ≡ (asked s.last).leaf → overhead ≡ v.overhead → t ≡ tree_now v s →
     (let p = path_of device number leaf overhead bytes in IsOk r ↔ IsAccepted p t.root) →
     (let p = path_of device number leaf overhead bytes in (r ≡ Err fault.Length) ↔ (¬ HasLength p)) →
@@ -110,7 +110,7 @@ whole_by p a r ok short = elim (cases_eq (length p.bytes) ((p.depth + 1) * p.rec
 told_ok : {A P C : Type 0} (Q : HashFault → Type 0) (r : Result A HashFault) (a : A) → r ≡ Ok a → MatchResult r (λ _. P) Q ⊎ C → P ⊎ C
 told_ok {A} {P} {C} Q r a ok h = subst (λ (o : Result A HashFault). MatchResult o (λ _. P) Q ⊎ C) ok h
 
--- and a path that passes is the one that stands there
+-- and a path that passes the check is the one last stored
 pub path_stands : {A : Type 0} (v : Shape) (s : State) (w : World) (bytes : List ℕ) (a : A) (r : Result A HashFault) → IsSound v.device v.overhead s → status_in s ≡ Waiting → s.stage % 2 ≡ 0 → Fits v s w →
     pair_in v w.records (asked s.last) (128 ∷ bytes) ≡ false → IsChecked v s bytes r → r ≡ Ok a → IsPathOf (w.records (stage_tree v.device s.stage)) (path_now v s bytes)
 path_stands v s w bytes a r h now even fits apart checked ok =
@@ -139,7 +139,7 @@ tree_at v s t i tree h now from of read =
     let kept : IsTreeKept v.device n t = subst (IsTreeKept v.device n) (sym is) (q.kept n within) in
     record { is = is; number = kept.number; blocks = kept.blocks }
 
--- The core that lends the tree at work, as a method of it sees them: what it keeps inside is what it was seen as.
+-- A core from which a method borrows the tree at work: inside the method it is the same as outside.
 pub record Lends (v : Shape) (s : State) (t : Tree) (tree : ℕ) : Type 0 where
   pub sound : IsSound v.device v.overhead s
   pub at : IsTreeAt v s t
@@ -154,7 +154,7 @@ lends overhead sealing opening inside now t i tree same sound waiting from of re
     let at : IsTreeAt v now.state t = tree_at v now.state t i tree here waiting from of (subst (λ (u : CoreValue _). t ≡ slice_index_or u.state.trees i t) same read) in
     record { sound = here; at = at; number = at.number ∙ sym of }
 
--- The tree at work is one of them.
+-- The index of the tree at work is one of the trees' indices.
 pub lent_within : {S : Type 0} (overhead : S → ℕ) (inside now : CoreValue S) (i tree count : ℕ) → inside ≡ now → IsSound inside.device (overhead inside.sealer) inside.state → status_in now.state ≡ Waiting → i ≡ tree → tree < trees_of now.device →
     count ≡ length inside.state.trees → i < count
 lent_within overhead inside now i tree count same sound waiting from within all =
@@ -163,7 +163,7 @@ lent_within overhead inside now i tree count same sound waiting from within all 
     let kept : length inside.state.trees ≡ length now.state.trees = ap (λ (u : CoreValue _). length u.state.trees) same in
     omega (arith, whole, kept, all, from, within)
 
--- It is sound again with another tree in the place of that one.
+-- The core is sound again with another tree in place of that one.
 pub gives_back : {S : Type 0} (overhead : S → ℕ) (inside now : CoreValue S) (t new : Tree) (i tree : ℕ) → inside ≡ now → IsSound inside.device (overhead inside.sealer) inside.state → status_in now.state ≡ Waiting →
     i ≡ tree → tree < trees_of now.device → t.number ≡ tree → new.number ≡ t.number → All (IsBlockOf inside.device t.number) new.stash →
     IsSound inside.device (overhead inside.sealer) (record inside.state { trees = slice_set inside.state.trees i new })
@@ -211,7 +211,7 @@ refused_so (x ∷ y ∷ z ∷ more) code e =
     let long : (length (x ∷ y ∷ z ∷ more) == 2) ≡ false = grind (arith, nat_tests) in
     absurd (let no_way : None ≡ Some code = sym (ap (λ (b : Bool). if not b then None else if not (x == 129) then None else if y == 0 then None else if nat_lt 8 y then None else Some y) long) ∙ e in cc)
 
--- nothing of the kind
+-- the answer is no refusal
 pub record IsNoRefusal (bytes : List ℕ) : Type 0 where
   pub refusal : is_refusal bytes ≡ false
   pub room : bytes ≢ 129 ∷ 8 ∷ []
@@ -232,11 +232,11 @@ nothing : (bytes : List ℕ) → length bytes ≡ 0 → bytes ≡ []
 nothing [] none = refl
 nothing (x ∷ bytes) none = absurd (omega arith)
 
--- byte 80 alone answers a store,
+-- byte 80 alone is a good answer to a STORE,
 pub stored_means : (v : Shape) (s : State) (w : World) (records : List ℕ) → IsSound v.device v.overhead s → status_in s ≡ Waiting → s.stage % 2 ≡ 1 → length records ≡ 0 → outcome_of v w.records (asked s.last) (128 ∷ records) ≡ Good
 stored_means v s w records h now odd none = stored_is v w.records (asked s.last) (128 ∷ records) (store_out v s h now odd) (ap (λ r. 128 ∷ r) (nothing records none))
 
--- more than that doesn't,
+-- more bytes than that are not,
 pub longer_means : (v : Shape) (s : State) (w : World) (records : List ℕ) → IsSound v.device v.overhead s → status_in s ≡ Waiting → s.stage % 2 ≡ 1 → 0 < length records → outcome_of v w.records (asked s.last) (128 ∷ records) ≡ Fails Malformed
 longer_means v s w records h now odd some = malformed_store v w.records (asked s.last) (128 ∷ records) (store_out v s h now odd) refl (λ same. absurd (omega (arith, ap length same)))
 

@@ -1,4 +1,4 @@
--- What the code tells of an answer is what the core's own digests, stashes and map say of it.
+-- The code's verdict on an answer is the one that the core's own digests, stashes and map give.
 use Rattle.std.proofs.Common.{◌≡◌, ◌≢◌, ℕ, ◌+◌, ◌*◌, ◌%◌, ◌<◌, ◌≤◌, ◌==◌, ◌&&◌, Bool, true, false, if◌then◌else◌, List, [], ◌∷◌, length, drop, slice_index, nat_le, Some, None, refl, ap, sym, ◌∙◌, subst, arith, inl, inr}
 use Rattle.std.proofs.lemmas.Bool.Decides.{nat_tests}
 use Rattle.oram_geometry.specs.Sizes.{depth_of}
@@ -47,14 +47,14 @@ use_told v s bytes p Stalled t u = absurd u
 use_told v s bytes p Resent t u = absurd u
 use_told v s bytes p Unexpected t u = absurd u
 
--- a store that is answered well
+-- a STORE with a good answer
 pub stored_told : (v : Shape) (s : State) (bytes : List ℕ) → Tells v s bytes verdict.Stored → IsVerdict v s bytes Taken
 stored_told v s bytes t = record {
   fetched = λ even. absurd (let odd : s.stage % 2 ≡ 1 = t.0 in omega arith);
   stored = λ odd. t.1;
 }
 
--- an access that was made, and what the core makes of it
+-- an access that was made, and what the core does with it
 use_by : (v : Shape) (s : State) (trees : List Tree) (x : Submission) (rest : List Submission) (p : Path) (found : Bool) (before records : List ℕ) (b : Bool) → s.queue ≡ x ∷ rest → IsReadableNow v s p →
     IsLookup (IsNear (reads_now v s) p (tree_now v s).stash) v.device.block_bytes (block_of v.device (stage_tree v.device s.stage) x) found before → is_misled v s x found before ≡ b →
     (let t : State = record s { trees = trees } in
@@ -96,7 +96,7 @@ looked_now v s t p block x found before at here h =
     (subst (λ (k : Tree). IsLookup (IsNear (reads_now v s) p k.stash) v.device.block_bytes block found before) at.is
     (subst (λ (i : ℕ). IsLookup (IsNear (Reads v.opening v.device i) p t.stash) v.device.block_bytes block found before) at.number h))
 
--- the code's words on an answer
+-- the code's verdict on an answer, case by case
 
 nothing : (bytes : List ℕ) → length bytes ≡ 0 → bytes ≡ []
 nothing [] none = refl
@@ -125,7 +125,7 @@ payload_is_none xs = elim (length (128 ∷ xs) == 2) as (λ a. (a && (128 == 129
 formed_len : (v : Shape) (s : State) (xs : List ℕ) → length xs ≢ answer_len v s → is_formed v s (128 ∷ xs) ≡ false
 formed_len v s xs other = grind (arith, nat_tests, other)
 
--- bytes behind the first one answer no store
+-- bytes after the first one aren't the answer to a STORE
 pub longer_tells : (v : Shape) (s : State) (xs : List ℕ) → s.stage % 2 ≡ 1 → 0 < length xs → IsReasonFor v s (128 ∷ xs) Malformed
 longer_tells v s xs odd some =
     let turn : (s.stage % 2 == 0) ≡ false = grind (arith, nat_tests) in
@@ -135,7 +135,7 @@ longer_tells v s xs odd some =
 pub stored_tells : (v : Shape) (s : State) (xs : List ℕ) → s.stage % 2 ≡ 1 → length xs ≡ 0 → Tells v s (128 ∷ xs) verdict.Stored
 stored_tells v s xs odd none = (odd, ap (λ r. 128 ∷ r) (nothing xs none))
 
--- a path of another length than the one that is outstanding
+-- a path of another length than the outstanding one
 pub short_tells : (v : Shape) (s : State) (xs : List ℕ) → s.stage % 2 ≡ 0 → ¬ HasLength (path_now v s xs) → IsReasonFor v s (128 ∷ xs) Malformed
 short_tells v s xs even short =
     let turn : (s.stage % 2 == 0) ≡ true = grind (arith, nat_tests) in

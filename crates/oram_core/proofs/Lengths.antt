@@ -2,7 +2,7 @@
 use Rattle.std.proofs.Common.{◌≡◌, ℕ, ◌+◌, ◌*◌, ◌^◌, ◌<◌, ◌≤◌, arith}
 use Rattle.std.proofs.Math.Nat.{mul-le-mul}
 
--- a depth and one more
+-- a depth plus one
 pub levels_fit : (n depth : ℕ) → n ≡ depth → depth ≤ 24 → n + 1 < 2 ^ 64
 levels_fit n depth same deep = omega arith
 
@@ -17,6 +17,6 @@ path_fits n depth len same deep long = omega (arith, path_small n depth len same
 pub message_fits : (n depth len : ℕ) → n ≡ depth → depth ≤ 24 → len ≤ 32960 → 6 + (n + 1) * len < 2 ^ 64
 message_fits n depth len same deep long = omega (arith, path_small n depth len same deep long)
 
--- which a message may have
+-- which is a length that a message can have
 pub store_fits : (n depth len : ℕ) → n ≡ depth → depth ≤ 24 → len ≤ 32960 → (n + 1) * len + 6 < 2 ^ 32
 store_fits n depth len same deep long = omega (arith, path_small n depth len same deep long)

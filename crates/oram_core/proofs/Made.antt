@@ -1,4 +1,4 @@
--- How a device's formatting goes on, tree by tree, and what it gives.
+-- How the formatting of a device goes on, tree by tree, and what it makes.
 use Rattle.std.proofs.Common.{◌/◌, ◌*◌, None, ◌≡◌, ℕ, suc, ◌+◌, ◌-◌, ◌^◌, ◌<◌, ◌≤◌, List, [], ◌∷◌, ◌++◌, Option, false, length, slice_index_or, replicate, inl, inr, refl, ap, sym, subst, ◌∙◌, arith}
 use Rattle.std.specs.List.{All}
 use Rattle.std.proofs.lemmas.Bool.{cases_eq}
@@ -101,7 +101,7 @@ module _ {K : Type 0} (v : Shape) (putting : K → List ℕ → K → Type 0) wh
       })
 
   module _ (refusing : K → List ℕ → SinkFault → K → Type 0) (device : IsDevice v.device) (law : IsLawful v) where
-    -- memory was refused after some trees
+    -- memory ran out after some trees
     pub broken_between : (from to : K) (n : ℕ) (trees : List Tree) (fault : FormatFault) → n ≤ trees_of v.device → AreMade v putting from n trees to → fault ≡ OutOfMemory → IsBrokenOff putting refusing (IsFormatBegun v) from fault to
     broken_between from to n trees fault few a memory = record { taken = a.messages; begun = begun_between v n trees a.messages device law few a.made; mid = to; puts = a.puts; ended = inl (memory, refl) }
 

@@ -1,4 +1,4 @@
--- What the code of a step does meets the local rule.
+-- What the code of a step does follows the local rule.
 use Rattle.std.proofs.Common.{◌≡◌, ◌≢◌, ◌⊎◌, inl, inr, ◌&&◌, ℕ, ◌+◌, ◌*◌, ◌%◌, ◌<◌, ◌==◌, Bool, true, false, if◌then◌else◌, List, [], ◌∷◌, length, Option, Some, None, unwrap_or, Result, Ok, Err, IfOk, refl, ap, sym, ◌∙◌, subst, arith}
 use Rattle.std.specs.Str.{bytes_eq}
 use Rattle.std.proofs.lemmas.Slice.Eq.{bytes_eq-Decides}
@@ -46,12 +46,12 @@ waits s now = waits_by s s.failure s.queue s.lost refl refl refl now
 pub holds_of : (v : Shape) (s : State) (w : World) → Fits v s w → s.failure ≡ None → AllStand v s w
 holds_of v s w fits healthy = (fits healthy).0
 
--- what is claimed of an Ok follows from what is known of it
+-- a claim about an Ok follows from what is known about it
 if_ok : {A E : Type 0} (P Q : A → Type 0) (r : Result A E) → ((a : A) → P a → Q a) → IfOk r P → IfOk r Q
 if_ok P Q (Ok a) f h = f a h
 if_ok P Q (Err e) f h = h
 
--- the last path of a command is back
+-- the last path of a command is stored
 pub finish_moves : {E : Type 0} (v : Shape) (s : State) (r : Result Reaction E) (t : State) → status_in s ≡ Waiting → s.stage % 2 ≡ 1 → s.stage + 1 ≡ 2 * trees_of v.device →
     ((x : Submission) (rest : List Submission) → s.queue ≡ x ∷ rest → IfOk r (λ y. done y t ≡ finished_by v s x rest)) →
     (w : World) → Fits v s w → IfOk r (λ y. MovesTo v s w (goes_on v s w s.queue) (shown y) t)
@@ -63,7 +63,7 @@ finish_moves v s r t now odd end h w fits =
     if_ok _ _ r (λ y e. subst (λ (m : Moved). MovesTo v s w m (shown y) t) (sym rule)
     (subst (λ (d : Done). Meets v s w (finishes v s w o.oldest o.rest) d) (sym e) (finishes_met v s w o.oldest o.rest (holds_of v s w fits)))) (h o.oldest o.rest o.queue)
 
--- the path of another tree is back
+-- the path of another tree is stored
 pub fetch_moves : {E : Type 0} (v : Shape) (s : State) (r : Result Reaction E) (t : State) → status_in s ≡ Waiting → s.stage % 2 ≡ 1 → s.stage + 1 < 2 * trees_of v.device →
     ((x : Submission) (rest : List Submission) → s.queue ≡ x ∷ rest → IfOk r (λ y. done y t ≡ fetched_by v s x)) →
     (w : World) → Fits v s w → IfOk r (λ y. MovesTo v s w (goes_on v s w s.queue) (shown y) t)
@@ -75,7 +75,7 @@ fetch_moves v s r t now odd more h w fits =
     if_ok _ _ r (λ y e. subst (λ (m : Moved). MovesTo v s w m (shown y) t) (sym rule)
     (subst (λ (d : Done). Meets v s w (fetches v s w o.oldest) d) (sym e) (fetches_met v s w o.oldest (holds_of v s w fits)))) (h o.oldest o.rest o.queue)
 
--- What a plain step does is the whole promise of it.
+-- If a step is the plain step, it keeps everything that a step promises.
 plain_steps : (v : Shape) (s : State) (event : Event) (d : Done) (y : Reaction) (t : State) → plain_step v s event ≡ Some d → ((w : World) → Fits v s w → Meets v s w (moved v s w event) d) →
     ((bytes : List ℕ) → event ≡ Answer bytes → status_in s ≡ Waiting → ⊥) → done y t ≡ d → Steps v s event (shown y) t
 plain_steps v s event d y t is met unheard e = record {
@@ -136,7 +136,7 @@ resend_steps v s r t now h =
     if_ok _ _ r (λ y e. plain_steps v s Retry (resent_by s) y t (ap (λ n. Some (retried_by s n)) now)
     (λ w fits. subst (λ n. Meets v s w (on_retry s w n) (resent_by s)) (sym now) (resends_met v s w (holds_of v s w fits))) (λ bytes answer waiting. absurd (let no_way : Retry ≡ Answer bytes = answer in cc)) e) h
 
--- what nobody waits for
+-- events that the core doesn't expect
 loss_by : (s : State) (n : Status) → is_waiting n ≡ false → lost_by s n ≡ noted s Unexpected
 loss_by s Waiting other = absurd (let no_way : true ≡ false = other in cc)
 loss_by s Idle other = refl
@@ -173,13 +173,13 @@ answer_rule v s w Idle o other = refl
 answer_rule v s w Stalling o other = refl
 answer_rule v s w Over o other = refl
 
--- what an event is without effect leaves
+-- after an event without effect
 ignored : (v : Shape) (s : State) (event : Event) (y : Reaction) (t : State) → plain_step v s event ≡ Some (noted s Unexpected) → ((w : World) → moved v s w event ≡ stays s w Unexpected) → ((bytes : List ℕ) → event ≡ Answer bytes → status_in s ≡ Waiting → ⊥) → done y t ≡ noted s Unexpected → Steps v s event (shown y) t
 ignored v s event y t is rule unheard h =
     plain_steps v s event (noted s Unexpected) y t is
     (λ w fits. subst (λ (m : Moved). Meets v s w m (noted s Unexpected)) (sym (rule w)) (stays_met v s w Unexpected (holds_of v s w fits))) unheard h
 
--- a loss that nobody waits for
+-- a loss that the core doesn't expect
 pub loss_ignored : (v : Shape) (s : State) (event : Event) (y : Reaction) (t : State) → MeansLoss v s event → is_waiting (status_in s) ≡ false → done y t ≡ noted s Unexpected → Steps v s event (shown y) t
 loss_ignored v s event y t means other h =
     ignored v s event y t (means.plain ∙ ap (λ d. Some d) (loss_by s (status_in s) other)) (λ w. means.rule w ∙ loss_rule s w (status_in s) other) (λ bytes answer waiting. means.mute bytes answer) h
@@ -188,7 +188,7 @@ loss_ignored v s event y t means other h =
 pub retry_ignored : (v : Shape) (s : State) (y : Reaction) (t : State) → is_stalled (status_in s) ≡ false → done y t ≡ noted s Unexpected → Steps v s Retry (shown y) t
 retry_ignored v s y t other h = ignored v s Retry y t (ap (λ d. Some d) (retry_by s (status_in s) other)) (λ w. retry_rule s w (status_in s) other) (λ bytes answer waiting. absurd (let no_way : Retry ≡ Answer bytes = answer in cc)) h
 
--- an answer that nobody waits for
+-- an answer that the core doesn't wait for
 pub answer_ignored : (v : Shape) (s : State) (bytes : List ℕ) (y : Reaction) (t : State) → is_waiting (status_in s) ≡ false → done y t ≡ noted s Unexpected → Steps v s (Answer bytes) (shown y) t
 answer_ignored v s bytes y t other h = ignored v s (Answer bytes) y t (answer_by s (bytes_eq bytes (129 ∷ 8 ∷ [])) (status_in s) other) (λ w. answer_rule v s w (status_in s) (outcome_of v w.records (asked s.last) bytes) other)
     (λ given answer waiting. absurd (let no_way : true ≡ false = sym (ap is_waiting waiting) ∙ other in cc)) h
@@ -202,7 +202,7 @@ plain_answer v s bytes y t d now room h =
     let told = told_room s d (bytes_eq bytes (129 ∷ 8 ∷ [])) (sym (ap (unheard_by s (bytes_eq bytes (129 ∷ 8 ∷ []))) now) ∙ h) in
     room ((bytes_eq-Decides bytes (129 ∷ 8 ∷ [])).0 told.0) ∙ told.1
 
--- an answer that is waited for
+-- an answer that the core waits for
 pub hear_steps : {E : Type 0} (v : Shape) (s : State) (bytes : List ℕ) (r : Result Reaction E) (t : State) → status_in s ≡ Waiting →
     ((w : World) → Fits v s w → pair_in v w.records (asked s.last) bytes ≡ false → IfOk r (λ y. MovesTo v s w (on_answer v s w Waiting (outcome_of v w.records (asked s.last) bytes)) (shown y) t)) →
     (bytes ≢ 129 ∷ 8 ∷ [] → IfOk r (λ y. Heard v s (done y t))) → (bytes ≢ 129 ∷ 8 ∷ [] → IfOk r (λ y. IsVerdict v s bytes y.note)) → (bytes ≡ 129 ∷ 8 ∷ [] → IfOk r (λ y. done y t ≡ stalled_by s)) →
@@ -216,12 +216,12 @@ hear_steps v s bytes (Ok y) t now moves heard verdict room = record {
       (moves w fits (sym (ap (λ n. is_waiting n && pair_in v w.records (asked s.last) bytes) now) ∙ apart));
 }
 
--- what an answer does, by what it means
+-- the effect of an answer, by what it means
 pub moves_by : {E : Type 0} (v : Shape) (s : State) (w : World) (bytes : List ℕ) (o : Outcome) (r : Result Reaction E) (t : State) → outcome_of v w.records (asked s.last) bytes ≡ o →
     IfOk r (λ y. MovesTo v s w (on_answer v s w Waiting o) (shown y) t) → IfOk r (λ y. MovesTo v s w (on_answer v s w Waiting (outcome_of v w.records (asked s.last) bytes)) (shown y) t)
 moves_by v s w bytes o r t means h = subst (λ (p : Outcome). IfOk r (λ y. MovesTo v s w (on_answer v s w Waiting p) (shown y) t)) (sym means) h
 
--- a reaction of a note alone
+-- a reaction that is only a note
 pub only_noted : (s : State) (y : Reaction) (n : Note) → y.note ≡ n → y.replies.items ≡ [] → y.sends.items ≡ [] → done y s ≡ noted s n
 only_noted s y n note replies sends = rw (note, replies, sends) refl
 
@@ -237,7 +237,7 @@ stalling_by Idle h = absurd (let no_way : false ≡ true = h in cc)
 stalling_by Waiting h = absurd (let no_way : false ≡ true = h in cc)
 stalling_by Over h = absurd (let no_way : false ≡ true = h in cc)
 
--- a command that joins the queue takes memory
+-- accepting a command needs memory
 pub accept_bound : (v : Shape) (s : State) (session : ℕ) (c : Command) (words : List ℕ) (d : Done) → refusal_of v.device (is_over (status_in s)) (length s.queue) s.next c words ≡ None →
     plain_step v s (Submit session c words) ≡ Some d → is_free_note d.note ≡ true → ⊥
 accept_bound v s session c words d free is note =
@@ -247,7 +247,7 @@ accept_bound v s session c words d free is note =
     let no_way : false ≡ true = ap (λ (k : Done). is_free_note k.note) same ∙ note in
     cc
 
--- and so does a message that is sent again
+-- and so does sending a message again
 pub resend_bound : (v : Shape) (s : State) (d : Done) → status_in s ≡ Stalling → plain_step v s Retry ≡ Some d → is_free_note d.note ≡ true → ⊥
 resend_bound v s d now is note =
     let rule : Some (retried_by s (status_in s)) ≡ Some (resent_by s) = ap (λ n. Some (retried_by s n)) now in
@@ -255,7 +255,7 @@ resend_bound v s d now is note =
     let no_way : false ≡ true = ap (λ (k : Done). is_free_note k.note) same ∙ note in
     cc
 
--- of the answers that are waited for, what is known outright is the refusal for want of room
+-- of the answers that the core waits for, only the refusal for lack of room has a plain step
 pub plain_refusal : (v : Shape) (s : State) (bytes : List ℕ) (d : Done) → status_in s ≡ Waiting → plain_step v s (Answer bytes) ≡ Some d → bytes ≡ 129 ∷ 8 ∷ []
 plain_refusal v s bytes d now is =
     let told = told_room s d (bytes_eq bytes (129 ∷ 8 ∷ [])) (sym (ap (unheard_by s (bytes_eq bytes (129 ∷ 8 ∷ []))) now) ∙ is) in

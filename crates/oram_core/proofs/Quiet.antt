@@ -1,4 +1,4 @@
--- Steps that ask nothing of the trees meet the local rule in every world.
+-- Steps that don't depend on the trees follow the local rule in every world.
 use Rattle.std.proofs.Math.Path.{fun_ext}
 use Rattle.std.proofs.Common.{◌≡◌, ℕ, ◌+◌, ◌-◌, ◌==◌, true, false, not, if◌then◌else◌, List, [], ◌∷◌, ◌++◌, slice_index, Option, Some, None, refl, ap, sym, subst, arith}
 use Rattle.std.specs.List.{All}
@@ -18,15 +18,15 @@ use Rattle.oram_run.specs.declared.events.Submission.{Submission}
 use Rattle.oram_run.proofs.Others.{all_none, all_one}
 use Rattle.oram_core.specs.Doing.{Done, noted, fetch_of, first_message, sent_if_idle, accepted_by, stalled_by, resent_by, failed_by, fetched_by, finished_by}
 
--- what is shown of it
+-- what it shows of a step
 abbrev pub shown_by : Done → Shown
 shown_by d = record { note = d.note; replies = d.replies; sends = d.sends }
 
--- what a core has done is what a rule allows in a world
+-- the step of a core follows the rule in a world
 abbrev pub Meets : Shape → State → World → Moved → Done → Type 0
 Meets v s w m d = MovesTo v s w m (shown_by d) d.state
 
--- a FETCH leaves nothing at the host
+-- a FETCH leaves no record at the host
 written_fetch : (v : Shape) (tree leaf i n : ℕ) → written v (fetch_body tree leaf) i n ≡ None
 unfolding written
 written_fetch v tree leaf i n = elim (tree == i) as (λ b. let o : Option (List ℕ) = if not b then None else None in o ≡ None) [ true ↦ refl | false ↦ refl ]
@@ -38,7 +38,7 @@ fetch_leaves v records tree leaf = fun_ext (λ i. fun_ext (λ n. rw (written_fet
 is_fetch : (v : Shape) (e : Entry) → e.fetch ≡ true → IsMessage v e (fetch_of e)
 is_fetch v e f = record { records = []; body = rw f refl; length_is = rw f refl }
 
--- the trees of a core are those of another, in the same world
+-- the trees of one core are those of another, in the same world
 holds_same : (v : Shape) (s t : State) (w : World) (e : Entry) → t.trees ≡ s.trees → AllStand v s w → AllStand v t (record { records = records_after v w.records (fetch_of e ∷ []); content = w.content })
 holds_same v s t w e same h = subst (λ (r : ℕ → ℕ → List ℕ). AllStand v t (record { records = r; content = w.content })) (sym (fetch_leaves v w.records e.tree e.leaf)) (λ i below. rw same (h i below))
 

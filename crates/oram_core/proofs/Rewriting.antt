@@ -1,4 +1,4 @@
--- The answer to a fetch is taken over: the tree has the access, and its path goes back.
+-- The core takes over the answer to a FETCH: the tree has changed by the access, and the path is stored.
 use Rattle.std.proofs.Math.Path.{fun_ext}
 use Rattle.std.proofs.Common.{◌≡◌, ℕ, ◌+◌, ◌-◌, ◌*◌, ◌^◌, ◌<◌, ◌≤◌, ◌==◌, ◌&&◌, not, nat_lt, Bool, true, false, if◌then◌else◌, List, [], ◌∷◌, length, slice_index_or, slice_set, None, refl, ap, sym, ◌∙◌, subst, arith}
 use Rattle.std.proofs.lemmas.Bool.Decides.{nat_tests}
@@ -49,7 +49,7 @@ both_ways : (b : Bool) → (not b && not (not b)) ≡ false
 both_ways true = refl
 both_ways false = refl
 
--- where the trees agree, the map leads to what is there
+-- if the core is ready for the FETCH, the map doesn't lead astray
 pub not_misled : (v : Shape) (s : State) (w : World) (x : Submission) (path : Path) (tree : Tree) (found : Bool) (before records : List ℕ) →
     IsReadyFor v s w x → IsAccess v s w x path tree found before records → is_misled v s x found before ≡ false
 not_misled v s w x path tree found before records ready a =
@@ -61,7 +61,7 @@ not_misled v s w x path tree found before records ready a =
     let none : (nat_lt 0 i && nat_lt (2 ^ depth_of d (i - 1)) (next_named d i x before)) ≡ false = rw leaf (elim (nat_lt 0 i) as (λ b. (b && false) ≡ false) [ true ↦ refl | false ↦ refl ]) in
     rw (there, both_ways (named_now v.device s x == 0)) none
 
--- The access is taken over by the rule, where it found what the tree's content has.
+-- The core takes over the access by the rule, if the access found what the tree's content has.
 taken_over : (v : Shape) (s : State) (w : World) (x : Submission) (path : Path) (tree : Tree) (found : Bool) (records : List ℕ) → IsSound v.device v.overhead s → s.failure ≡ None → Outstanding v.device s x → AllStand v s w →
     IsAccess v s w x path tree found (found_in v.device (w.content (stage_tree v.device s.stage) (block_of v.device (stage_tree v.device s.stage) x))) records →
     Meets v s w (stores v s w x) (stored_by v (record s { trees = slice_set s.trees (stage_tree v.device s.stage) tree }) x (found_in v.device (w.content (stage_tree v.device s.stage) (block_of v.device (stage_tree v.device s.stage) x))) records)

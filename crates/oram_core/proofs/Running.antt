@@ -23,7 +23,7 @@ use Rattle.oram_core.specs.Formatting.{IsNew}
 use Rattle.oram_core.specs.Runs.{IsCutShort, MakeAllTrees}
 use Rattle.oram_core.specs.declared.outcome.Run.{Run}
 
--- The steps so far lead to a state, and whatever steps follow make one list with them.
+-- The steps so far lead to a state, and any further steps from it make one list with them.
 pub record Along (v : Shape) (s : State) (events rest : List Event) (xs : List Shown) (t : State) : Type 0 where
   pub whole : (ys : List Shown) → StepsAlong v t rest ys → StepsAlong v s events (xs ++ ys)
 
@@ -65,19 +65,19 @@ kept_all from to [] puts = sym puts ∙ sym (append-nil from)
 kept_all from to (body ∷ bodies) puts =
     kept_all puts.0 to bodies puts.2 ∙ ap (λ ks. ks ++ bodies) puts.1 ∙ append_assoc from (body ∷ []) bodies
 
--- where a formatting into one is broken off, it has a beginning
+-- if a formatting into such a sink is broken off, the sink has a beginning of the messages
 pub kept_begun : (v : Shape) (fault : FormatFault) (to : List (List ℕ)) → IsBrokenOff keeps keeps_none (IsFormatBegun v) [] fault to → IsFormatBegun v to
 kept_begun v fault to b =
     let same : to ≡ b.mid = elim b.ended [ inl own ↦ own.1 | inr r ↦ r.refused.0 ] in
     subst (IsFormatBegun v) (sym (same ∙ kept_all [] b.mid b.taken b.puts)) b.begun
 
--- and where it isn't, they make all trees
+-- and if it isn't, the sink's messages make all trees
 pub kept_whole : (v : Shape) (s : State) (to : List (List ℕ)) → IsNew v keeps [] s to → (trees : List Tree) × (let setting : Setting = record { shape = v; format = to } in IsFormatted setting trees × (s ≡ new_state setting trees))
 kept_whole v s to n =
     let W = λ (format : List (List ℕ)). (let setting : Setting = record { shape = v; format = format } in IsFormatted setting n.trees × (s ≡ new_state setting n.trees)) in
     (n.trees, subst W (sym (kept_all [] to n.format n.puts)) (n.formatted, n.state))
 
--- What a run into a new sink gives, where the formatting was done and where it wasn't.
+-- The result of a run into a new sink, whether the formatting was done or broken off.
 
 pub right_along : (v u : Shape) (s : State) (from to format : List (List ℕ)) (events : List Event) (xs : List Shown) → from ≡ [] → format ≡ to → u ≡ v → IsNew v keeps from s to → StepsAlong u s events xs
     → (let setting : Setting = record { shape = v; format = format } in AllRight setting [] events xs)
@@ -101,7 +101,7 @@ cut_short v fault from to r fresh is none told b =
     let B = λ (f : List (List ℕ)). IsBrokenOff keeps keeps_none (IsFormatBegun v) f fault to in
     record { begun = subst (IsFormatBegun v) (sym is) (kept_begun v fault to (subst B fresh b)); nothing = none; told = told }
 
--- whether memory was refused at a step tells how many reactions there are
+-- whether memory ran out at a step says how many reactions there are
 
 pub all_carried : {T E : Type 0} (r : Result T E) (b : Bool) (m n : ℕ) → b ≡ is_err r → OnOk r (m ≡ n) → b ≡ false → m ≡ n
 all_carried (Ok x) b m n is h told = h

@@ -22,13 +22,13 @@ use Rattle.oram_run.specs.declared.events.Submission.{Submission}
 use Rattle.oram_geometry.proofs.Measuring.{blocks_in-zero}
 use Rattle.oram_run.specs.Agree.{IsAllowed}
 
--- tree 0 names nothing
+-- a block of tree 0 has no map entries
 pub named_none : (d : Sizes) (i : ℕ) (x : Submission) (bytes : List ℕ) → i ≡ 0 → 0 ≡ next_named d i x bytes
 unfolding next_named
 named_none d zero x bytes e = refl
 named_none d (suc i) x bytes e = absurd (omega arith)
 
--- a map block names the block of the tree below
+-- a map block has an entry for the command's block in the tree below
 pub named_some : (d : Sizes) (i : ℕ) (x : Submission) (bytes : List ℕ) → 0 < i → (let j = block_of d (i - 1) x % fanout d in from_be_bytes w32 (slice_range bytes (4 * j) (4 * j + 4)) ≡ next_named d i x bytes)
 unfolding next_named entry_in
 named_some d zero x bytes e = absurd (omega arith)
@@ -70,7 +70,7 @@ fine d false waiting taken c words free =
 pub fine_allowed : (d : Sizes) (waiting taken session ticket : ℕ) (c : Command) (words : List ℕ) → IsFine d waiting taken c words → IsAllowed d (record { session = session; ticket = ticket; command = c; words = words })
 fine_allowed d waiting taken session ticket c words f = record { address = f.address; words = f.words_count; data_length = f.bytes }
 
--- a core whose state refuses nothing allows a command,
+-- if a core's state gives no reason to refuse a command, the device allows it,
 pub granted : (d : Sizes) (s : State) (c : Command) (words : List ℕ) → refusal_of d (is_over (status_in s)) (length s.queue) s.next c words ≡ None → IsFine d (length s.queue) s.next c words
 granted d s c words free = (fine d (is_over (status_in s)) (length s.queue) s.next c words free).1
 
@@ -78,7 +78,7 @@ not_over : (failure : Option Reason) (queue : List Submission) (lost : Bool) →
 not_over None queue lost h = refl
 not_over (Some e) queue lost h = absurd (let no_way : true ≡ false = h in cc)
 
--- and has not failed
+-- and the core hasn't failed
 pub unfailed : (d : Sizes) (s : State) (c : Command) (words : List ℕ) → refusal_of d (is_over (status_in s)) (length s.queue) s.next c words ≡ None → s.failure ≡ None
 unfailed d s c words free = not_over s.failure s.queue s.lost (fine d (is_over (status_in s)) (length s.queue) s.next c words free).0
 
@@ -87,7 +87,7 @@ pub copied : (session n m : ℕ) (c d : Command) (w u x : List ℕ) → n ≡ m 
     (let y : Submission = record { session = session; ticket = n; command = d; words = u } in let z : Submission = record { session = session; ticket = m; command = c; words = x } in y ≡ z)
 copied session n m c d w u x ticket command words whole = cc
 
--- a read leaves its block,
+-- a read leaves its block unchanged,
 pub block_read : (d : Sizes) (i : ℕ) (x : Submission) (a : ℕ) (bytes : List ℕ) → i ≡ 0 → x.command ≡ Read a → bytes ≡ block_after d i x bytes
 block_read d zero x a bytes none is = sym (block_after-zero d x bytes ∙ ap (λ c. left_by d c bytes) is)
 block_read d (suc i) x a bytes none is = absurd (omega arith)
@@ -97,12 +97,12 @@ pub block_written : (d : Sizes) (i : ℕ) (x : Submission) (a : ℕ) (new bytes 
 block_written d zero x a new bytes none is = sym (block_after-zero d x bytes ∙ ap (λ c. left_by d c bytes) is)
 block_written d (suc i) x a new bytes none is = absurd (omega arith)
 
--- a discard makes it zeros,
+-- a discard replaces it by zeros,
 pub block_discarded : (d : Sizes) (i : ℕ) (x : Submission) (a : ℕ) (bytes : List ℕ) → i ≡ 0 → x.command ≡ Discard a → replicate d.block_bytes 0 ≡ block_after d i x bytes
 block_discarded d zero x a bytes none is = sym (block_after-zero d x bytes ∙ ap (λ c. left_by d c bytes) is)
 block_discarded d (suc i) x a bytes none is = absurd (omega arith)
 
--- and in a map an entry changes
+-- and in a map block an entry changes
 pub block_mapped : (d : Sizes) (i : ℕ) (x : Submission) (bytes : List ℕ) (j leaf : ℕ) → 0 < i → j ≡ block_of d (i - 1) x % fanout d → leaf ≡ new_leaf d (i - 1) x → with_entry bytes j (leaf + 1) ≡ block_after d i x bytes
 block_mapped d zero x bytes j leaf some place is = absurd (omega arith)
 block_mapped d (suc i) x bytes j leaf some place is =

@@ -1,4 +1,4 @@
--- What holds of each core stays so.
+-- The properties that every core has stay true at each step.
 use Rattle.std.proofs.Common.{◌⊎◌, ◌≡◌, ℕ, zero, suc, ◌+◌, ◌-◌, ◌*◌, ◌%◌, ◌^◌, ◌<◌, ◌≤◌, ◌≢◌, ◌==◌, Bool, true, false, if◌then◌else◌, List, [], ◌∷◌, ◌++◌, length, length-append, slice_index, slice_set, Option, Some, None, refl, ap, sym, ◌∙◌, subst, arith, inl, inr}
 use Rattle.std.specs.List.{All}
 use Rattle.std.specs.Int.{w32, to_be_bytes}
@@ -41,7 +41,7 @@ leaf_for-range d i named x fits = elim (cases_eq named 0) [
   | inr some ↦ let e : (named == 0) ≡ false = grind (arith, nat_tests) in rw e (omega arith)
 ]
 
--- what a FETCH asks for
+-- what a FETCH asks for,
 pub asked_fetch : (i leaf : ℕ) → leaf < 2 ^ 32 → asked (fetch_body i leaf) ≡ record { fetch = true; tree = i; leaf = leaf }
 unfolding asked
 asked_fetch i leaf small = ap (λ (k : ℕ). record { fetch = true; tree = i; leaf = k }) (from_be_bytes-to_be_bytes_4 leaf small)
@@ -66,7 +66,7 @@ entry_small [] n k h = omega arith
 entry_small (x ∷ xs) n zero h = All-head (λ e. e ≤ n) x xs h
 entry_small (x ∷ xs) n (suc k) h = entry_small xs n k (All-tail (λ e. e ≤ n) x xs h)
 
--- what the outstanding message of a command says, and what is held beside it
+-- what the outstanding message of a command asks for, and what is held beside it
 pub record Outstanding (d : Sizes) (s : State) (x : Submission) : Type 0 where
   pub stage : s.stage < 2 * trees_of d
   pub header : 6 ≤ length s.last
@@ -76,7 +76,7 @@ pub record Outstanding (d : Sizes) (s : State) (x : Submission) : Type 0 where
   pub named : s.named ≤ 2 ^ depth_of d (stage_tree d (s.stage + s.stage % 2))
   pub before : s.stage + 1 ≡ 2 * trees_of d → length s.before ≡ d.block_bytes
 
--- the first tree of a command is the last one
+-- a command accesses the last tree first
 last_tree : (d : Sizes) → stage_tree d 0 ≡ trees_of d - 1
 last_tree d = omega arith
 
@@ -99,7 +99,7 @@ most_amid d stage some more =
     let last : (stage + 1 == 2 * trees_of d) ≡ false = grind (arith, nat_tests, more) in
     rw (first, last) refl
 
--- at its last store
+-- at its last STORE
 most_at_end : (d : Sizes) (stage : ℕ) → stage + 1 ≡ 2 * trees_of d → most_named d stage ≡ 0
 most_at_end d stage end = elim (stage == 0) as (λ b. (if b then 0 else if stage + 1 == 2 * trees_of d then 0 else 2 ^ depth_of d (stage_tree d (stage + stage % 2))) ≡ 0) [
   | true ↦ refl
@@ -117,7 +117,7 @@ named_first : (d : Sizes) (o : ℕ) (s : State) (x : Submission) → IsHealthy d
 named_first d o s x h = subst (λ (i : ℕ). slice_index s.table (block_of d (trees_of d - 1) x) ≤ 2 ^ depth_of d i) (sym (last_tree d))
     (entry_small s.table (2 ^ depth_of d (trees_of d - 1)) (block_of d (trees_of d - 1) x) h.names)
 
--- what is named for the block of the outstanding fetch
+-- the map entry of the block of the outstanding FETCH
 named_fits : (d : Sizes) (o : ℕ) (s : State) (x : Submission) → IsHealthy d o s → s.named ≤ most_named d s.stage → s.stage % 2 ≡ 0 → named_now d s x ≤ 2 ^ depth_of d (stage_tree d s.stage)
 named_fits d o s x h named even =
     elim (cases_eq s.stage 0) [
@@ -167,7 +167,7 @@ even_or_odd n = elim (cases_eq (n % 2) 0) [ inl even ↦ inl even | inr odd ↦ 
 outstanding_by : (d : Sizes) (o : ℕ) (s : State) (x : Submission) → IsHealthy d o s → IsAtWork d o s x → Outstanding d s x
 outstanding_by d o s x h w = elim (even_or_odd s.stage) [ inl even ↦ fetch_outstanding d o s x h w even | inr odd ↦ store_outstanding d o s x w odd ]
 
--- one that has not failed is healthy
+-- a sound core that hasn't failed is healthy
 pub healthy_of : (d : Sizes) (o : ℕ) (s : State) → IsSound d o s → s.failure ≡ None → IsHealthy d o s
 healthy_of d o s h alive = subst (IsWhole d o s) alive h.whole
 
@@ -176,14 +176,14 @@ at_hand d o s x rest h alive queue =
     let whole = healthy_of d o s h alive in
     outstanding_by d o s x whole (subst (AtWork d o s) queue whole.work)
 
--- what is healthy is sound
+-- a healthy core is sound
 sound_by : (d : Sizes) (o : ℕ) (t : State) → IsDevice d → o ≤ 64 → t.next ≤ d.lifetime → t.failure ≡ None → IsHealthy d o t → IsSound d o t
 sound_by d o t ranges small next alive whole = record { ranges = ranges; small = small; next = next; whole = subst (IsWhole d o t) (sym alive) whole }
 
 abbrev setting : Sizes → Setting
 setting d = record { shape = record { device = d; overhead = 0; sealing = λ n plain. plain; opening = λ sealed. None }; format = [] }
 
--- the nonce goes on with each entry
+-- how the nonce rises from stage to stage
 next_stored : (d : Sizes) (n r : ℕ) → r < 2 * trees_of d → r % 2 ≡ 0 → next_nonce d n (r + 1) ≡ next_nonce d n r + (depth_of d (stage_tree d r) + 1)
 next_stored d n r few even =
     let g : ℕ = n * (2 * trees_of d) + r in
@@ -212,7 +212,7 @@ alone : (d : Sizes) (o : ℕ) (t : State) (queue : List Submission) (x : Submiss
 alone d o t [] x none w = w
 alone d o t (y ∷ rest) x none w = absurd (omega arith)
 
--- a command begins: its first fetch was sent
+-- a command begins, once its first FETCH was sent
 begun_work : (d : Sizes) (o : ℕ) (s t : State) (x : Submission) → t.stage ≡ 0 → t.named ≡ 0 → t.before ≡ [] → t.table ≡ s.table → t.last ≡ first_message d s x → IsAtWork d o t x
 begun_work d o s t x stage named before table last =
     let n : ℕ = slice_index s.table (block_of d (trees_of d - 1) x) in
@@ -227,7 +227,7 @@ begun_work d o s t x stage named before table last =
       before = ap length before ∙ sym (length_amid d t.stage (λ end. absurd (omega (arith, stage, end, some))));
     }
 
--- one more command than none
+-- a command joins an empty queue
 pub sound_begun : (d : Sizes) (o : ℕ) (s : State) (x : Submission) → IsSound d o s → s.failure ≡ None → length s.queue ≡ 0 → s.next < d.lifetime → IsAllowed d x → x.ticket ≡ s.next →
     IsSound d o (record s { next = s.next + 1; queue = s.queue ++ x ∷ []; last = first_message d s x })
 sound_begun d o s x h alive none room allowed ticket =
@@ -249,12 +249,12 @@ sound_begun d o s x h alive none room allowed ticket =
       nonce = q.nonce ∙ ap (λ (k : ℕ). next_nonce d k s.stage) (sym same);
     })
 
--- the same command is at work where another one waits behind it
+-- the same command stays at work if another one begins to wait
 work_pushed : (d : Sizes) (o : ℕ) (s : State) (queue whole : List Submission) (x : Submission) (next : ℕ) → 0 < length queue → AtWork d o s queue → AtWork d o (record s { next = next; queue = whole }) (queue ++ x ∷ [])
 work_pushed d o s [] whole x next some w = absurd (omega arith)
 work_pushed d o s (y ∷ rest) whole x next some w = record { stage = w.stage; fetch = w.fetch; store = w.store; named = w.named; before = w.before }
 
--- one more command than some
+-- a command joins a queue that isn't empty
 pub sound_pushed : (d : Sizes) (o : ℕ) (s : State) (x : Submission) → IsSound d o s → s.failure ≡ None → 0 < length s.queue → length s.queue < 64 → s.next < d.lifetime → IsAllowed d x → x.ticket ≡ s.next →
     IsSound d o (record s { next = s.next + 1; queue = s.queue ++ x ∷ [] })
 sound_pushed d o s x h alive some few room allowed ticket =
@@ -309,7 +309,7 @@ next_work : (d : Sizes) (o : ℕ) (s t : State) (rest : List Submission) → t.l
 next_work d o s t [] lost stage named before table last = record { stage = stage; named = named; before = before; last = last; lost = lost }
 next_work d o s t (y ∷ rest) lost stage named before table last = begun_work d o s t y stage named before table last
 
--- the oldest command has its reply
+-- the oldest command gets its reply
 pub sound_finished : (d : Sizes) (o : ℕ) (s : State) (x : Submission) (rest : List Submission) → IsSound d o s → s.failure ≡ None → s.queue ≡ x ∷ rest → s.lost ≡ false → s.stage + 1 ≡ 2 * trees_of d →
     IsSound d o (record s { queue = rest; stage = 0; named = 0; before = []; last = latest (first_messages d s rest) [] })
 sound_finished d o s x rest h alive queue calm end =
@@ -339,7 +339,7 @@ work_lost : (d : Sizes) (o : ℕ) (s : State) (b : Bool) (queue : List Submissio
 work_lost d o s b [] some w = absurd (omega (arith, some))
 work_lost d o s b (x ∷ rest) some w = record { stage = w.stage; fetch = w.fetch; store = w.store; named = w.named; before = w.before }
 
--- the message counts as lost, or goes out again
+-- the message counts as lost, or is sent again
 pub sound_lost : (d : Sizes) (o : ℕ) (s : State) (b : Bool) → IsSound d o s → s.failure ≡ None → 0 < length s.queue → IsSound d o (record s { lost = b })
 sound_lost d o s b h alive some =
     let q = healthy_of d o s h alive in
@@ -360,7 +360,7 @@ sound_lost d o s b h alive some =
 pub sound_failed : (d : Sizes) (o : ℕ) (s : State) (e : Reason) → IsSound d o s → IsReasonOf d e → IsSound d o (failed_state s.next s.nonce e)
 sound_failed d o s e h reason = record { ranges = h.ranges; small = h.small; next = h.next; whole = (reason, refl) }
 
--- one tree has an access
+-- one tree changes by an access
 pub sound_accessed : (d : Sizes) (o : ℕ) (s : State) (i : ℕ) (tree : Tree) → IsSound d o s → s.failure ≡ None → i < trees_of d → IsTreeKept d i tree → IsSound d o (record s { trees = slice_set s.trees i tree })
 sound_accessed d o s i tree h alive inside is =
     let q = healthy_of d o s h alive in
@@ -381,7 +381,7 @@ sound_accessed d o s i tree h alive inside is =
       nonce = q.nonce;
     })
 
--- what the table holds after a new leaf in it
+-- the table after a new leaf is entered
 names_set : (d : Sizes) (o : ℕ) (s : State) (x : Submission) → IsHealthy d o s →
     All (λ e. e ≤ 2 ^ depth_of d (trees_of d - 1)) (slice_set s.table (block_of d (stage_tree d 0) x) (new_leaf d (stage_tree d 0) x + 1))
 names_set d o s x h =
@@ -389,7 +389,7 @@ names_set d o s x h =
     All-set (λ e. e ≤ 2 ^ depth_of d (trees_of d - 1)) s.table (block_of d (stage_tree d 0) x) (new_leaf d (stage_tree d 0) x + 1)
     (subst (λ (i : ℕ). new_leaf d (stage_tree d 0) x + 1 ≤ 2 ^ depth_of d i) (last_tree d) (omega arith)) h.names
 
--- the block of tree 0 is kept at a command's last store, and nothing before
+-- the block of tree 0 is held at a command's last STORE, and at no other stage
 kept_long : (d : Sizes) (i : ℕ) (before : List ℕ) → length before ≡ d.block_bytes → length (kept_of i before) ≡ (if i == 0 then d.block_bytes else 0)
 kept_long d zero before long = long
 kept_long d (suc i) before long = let none : (suc i == 0) ≡ false = grind (arith, nat_tests) in rw none refl
@@ -405,7 +405,7 @@ kept_here d stage before within even long =
       | inr some ↦ let e : m ≢ n = λ same. some (from same) in grind (arith, nat_tests, e, some)
     ]
 
--- what a map block names for the tree below is a leaf there, and tree 0 names none
+-- the entry of a map block for the tree below is a leaf there or 0; tree 0 has no such entry
 named_next : (d : Sizes) (stage : ℕ) (x : Submission) (before : List ℕ) → stage < 2 * trees_of d → stage % 2 ≡ 0 → next_named d (stage_tree d stage) x before ≤ 2 ^ depth_of d (stage_tree d stage - 1) →
     next_named d (stage_tree d stage) x before ≤ most_named d (stage + 1)
 named_next d stage x before within even fits = elim (cases_eq (stage + 1 + 1) (2 * trees_of d)) [
@@ -417,7 +417,7 @@ named_next d stage x before within even fits = elim (cases_eq (stage + 1 + 1) (2
       subst (λ (k : ℕ). next_named d (stage_tree d stage) x before ≤ k) (sym (most_amid d (stage + 1) (omega arith) more)) (subst (λ (i : ℕ). next_named d (stage_tree d stage) x before ≤ 2 ^ depth_of d i) below fits)
 ]
 
--- the path of an access goes back
+-- the path of an access is stored
 pub sound_stored : (d : Sizes) (o : ℕ) (s : State) (x : Submission) (rest : List Submission) (before records : List ℕ) → IsSound d o s → s.failure ≡ None → s.queue ≡ x ∷ rest → s.stage % 2 ≡ 0 → length before ≡ d.block_bytes →
     length records ≡ (depth_of d (stage_tree d s.stage) + 1) * record_len_of d o →
     next_named d (stage_tree d s.stage) x before ≤ 2 ^ depth_of d (stage_tree d s.stage - 1) →
@@ -470,7 +470,7 @@ sound_stored d o s x rest before records h alive queue even long whole fits =
       nonce = ap (λ (k : ℕ). k + (depth_of d i + 1)) q.nonce ∙ sym (next_stored d n s.stage within even);
     })
 
--- the states that the code writes down
+-- the states in the form in which the code writes them
 
 pub begun_as : (d : Sizes) (o : ℕ) (s : State) (x : Submission) (queue : List Submission) (last : List ℕ) → IsSound d o s → s.failure ≡ None → length s.queue ≡ 0 → s.next < d.lifetime → IsAllowed d x → x.ticket ≡ s.next →
     queue ≡ s.queue ++ x ∷ [] → last ≡ first_message d s x → IsSound d o (record s { next = s.next + 1; queue = queue; last = last })
@@ -528,20 +528,20 @@ oldest_by d o s None (x ∷ rest) false h f q l now = record { oldest = x; rest 
 pub has_oldest : (d : Sizes) (o : ℕ) (s : State) → IsSound d o s → status_in s ≡ Waiting → HasOldest d s
 has_oldest d o s h now = oldest_by d o s s.failure s.queue s.lost h refl refl refl now
 
--- a core with a command has not failed
+-- a core with a command hasn't failed
 pub some_healthy : (d : Sizes) (o : ℕ) (s : State) → IsSound d o s → 0 < length s.queue → s.failure ≡ None
 some_healthy d o s h some = elim s.failure as (λ f. IsWhole d o s f → f ≡ None) [
   | None ↦ λ w. refl
   | Some e ↦ λ w. absurd (let none : length s.queue ≡ 0 = ap (λ (t : State). length t.queue) w.1 in omega (arith, some, none))
 ] h.whole
 
--- how many buckets are sealed in the formatting and for one command, at most
+-- bounds on the number of buckets sealed in the formatting and for one command
 pub buckets_small : (d : Sizes) (n : ℕ) → buckets_below d n ≤ 25 * n
 unfolding buckets_below
 buckets_small d zero = omega arith
 buckets_small d (suc n) = let deep : depth_of d n ≤ 24 = depth_small d n in omega (arith, buckets_small d n)
 
--- the nonces that are left are many
+-- the next nonce is far below its limit
 pub nonce_low : (d : Sizes) (o : ℕ) (s : State) → IsSound d o s → s.failure ≡ None → s.nonce < 2 ^ 62
 nonce_low d o s h alive =
     let q = healthy_of d o s h alive in
@@ -554,7 +554,7 @@ nonce_low d o s h alive =
     let is = q.nonce in
     omega (arith, is, many, f, one)
 
--- those of a command's store fit
+-- and the nonces of a STORE are below it
 pub nonce_small : (d : Sizes) (o : ℕ) (s : State) → IsSound d o s → s.failure ≡ None → s.nonce + depth_of d (stage_tree d s.stage) < 2 ^ 64
 nonce_small d o s h alive =
     let deep : depth_of d (stage_tree d s.stage) ≤ 24 = depth_small d (stage_tree d s.stage) in
@@ -564,7 +564,7 @@ stage_by : (d : Sizes) (overhead : ℕ) (s : State) (queue : List Submission) �
 stage_by d overhead s [] w = let some : 0 < trees_of d = some_trees d in omega (arith, w.stage, some)
 stage_by d overhead s (x ∷ rest) w = w.stage
 
--- the entry at work is one of a command's
+-- the outstanding entry is one of the command's entries
 pub stage_within : (d : Sizes) (o : ℕ) (s : State) → IsSound d o s → s.stage < 2 * trees_of d
 stage_within d o s h = elim s.failure as (λ f. IsWhole d o s f → s.stage < 2 * trees_of d) [
   | None ↦ λ w. stage_by d o s s.queue w.work

@@ -1,4 +1,4 @@
--- A core as plain data, and what holds of each.
+-- A core as plain data, and the properties that every core has.
 use Rattle.std.specs.Prelude.{◌≡◌, ℕ, ◌+◌, ◌-◌, ◌*◌, ◌%◌, ◌^◌, ◌<◌, ◌≤◌, ◌==◌, if◌then◌else◌, false, List, [], ◌∷◌, length, slice_index_or, Option, Some, None}
 use Rattle.std.specs.List.{All}
 use Rattle.oram_geometry.specs.declared.Sizes.{Sizes}
@@ -17,25 +17,25 @@ use Rattle.oram_run.specs.declared.events.Reason.TheVariants.{Malformed, Tampere
 use Rattle.oram_run.specs.declared.events.Submission.{Submission}
 use Rattle.oram_core.specs.Doing.{fetch_of}
 
--- what a clause sees of a core
+-- a core, as clauses see it
 pub record CoreValue (S : Type 0) : Type 0 where
   pub device : Sizes
   pub sealer : S
   pub state : State
 
--- a device under a sealer, by what the sealer does
+-- a device with a sealer, given by what the sealer does
 abbrev pub shape_with : {S : Type 0} → (S → ℕ) → (S → ℕ → List ℕ → List ℕ) → (S → List ℕ → Option (List ℕ)) → Sizes → S → Shape
 shape_with overhead sealing opening d s = record { device = d; overhead = overhead s; sealing = sealing s; opening = opening s }
 
--- that of a core
+-- the shape of a core
 abbrev pub shape_of : {S : Type 0} → (S → ℕ) → (S → ℕ → List ℕ → List ℕ) → (S → List ℕ → Option (List ℕ)) → CoreValue S → Shape
 shape_of overhead sealing opening c = shape_with overhead sealing opening c.device c.sealer
 
--- the device and the sealer stay
+-- the device and the sealer are the same
 abbrev pub IsSameDevice : {S : Type 0} → CoreValue S → CoreValue S → Type 0
 IsSameDevice c d = (d.device ≡ c.device) × (d.sealer ≡ c.sealer)
 
--- tree i as the core keeps it
+-- the core's tree i has this number and only blocks that can be in tree i
 pub record IsTreeKept (d : Sizes) (i : ℕ) (t : Tree) : Type 0 where
   pub number : t.number ≡ i
   pub blocks : All (IsBlockOf d i) t.stash
@@ -52,13 +52,14 @@ pub record IsStoreOf (d : Sizes) (overhead i : ℕ) (message : List ℕ) : Type 
   pub inside : leaf < 2 ^ depth_of d i
   pub stores : IsPathStore d overhead i leaf message
 
--- The most that may be named for a block at this entry of a command: a leaf of the tree that is fetched next, or was fetched last.
--- At the first fetch the table names it, and behind the last one there is none.
+-- The greatest map entry that can be held at this stage of a command: a leaf of the tree that is fetched next, or was
+-- fetched last, plus one. It is 0 at the first FETCH, whose entry is in the table, and at the last STORE, which no
+-- FETCH follows.
 abbrev pub most_named : Sizes → ℕ → ℕ
 most_named d stage = if stage == 0 then 0 else if stage + 1 == 2 * trees_of d then 0 else 2 ^ depth_of d (stage_tree d (stage + stage % 2))
 
--- The oldest command is at work: its message is the FETCH of the leaf that is named for its block, or the STORE of a path of that
--- tree. The block of tree 0 is held at the last one.
+-- The oldest command is at work: the message sent last is its FETCH of the leaf that the map names for its block, or a
+-- STORE of a path of that tree. The block of tree 0 is held at the last STORE.
 pub record IsAtWork (d : Sizes) (overhead : ℕ) (s : State) (x : Submission) : Type 0 where
   pub stage : s.stage < 2 * trees_of d
   pub fetch : s.stage % 2 ≡ 0 → s.last ≡ fetch_of (fetch_at d s.stage (named_now d s x) x)
@@ -78,7 +79,7 @@ abbrev pub AtWork : Sizes → ℕ → State → List Submission → Type 0
 AtWork d overhead s [] = IsResting s
 AtWork d overhead s (x ∷ rest) = IsAtWork d overhead s x
 
--- a core that has not failed
+-- the state of a core that hasn't failed
 pub record IsHealthy (d : Sizes) (overhead : ℕ) (s : State) : Type 0 where
   pub table : length s.table ≡ blocks_in d (trees_of d - 1)
   pub names : All (λ e. e ≤ 2 ^ depth_of d (trees_of d - 1)) s.table
@@ -91,18 +92,18 @@ pub record IsHealthy (d : Sizes) (overhead : ℕ) (s : State) : Type 0 where
   pub work : AtWork d overhead s s.queue
   pub nonce : s.nonce ≡ next_nonce d (s.next - length s.queue) s.stage
 
--- a reason names a tree of the device and a level of it, or a code of the host
+-- the reason names a tree of the device and a level of that tree, or a code of the host
 abbrev pub IsReasonOf : Sizes → Reason → Type 0
 IsReasonOf d Malformed = Unit {0}
 IsReasonOf d (Tampered i level) = (i < trees_of d) × (level ≤ depth_of d i)
 IsReasonOf d (HostRefused code) = (0 < code) × (code < 8)
 
--- one that has failed holds nothing else
+-- the state is healthy, or it is that of a failed core, which holds nothing else
 abbrev pub IsWhole : Sizes → ℕ → State → Option Reason → Type 0
 IsWhole d overhead s None = IsHealthy d overhead s
 IsWhole d overhead s (Some e) = IsReasonOf d e × (s ≡ failed_state s.next s.nonce e)
 
--- what holds of each core, under a sealer of this overhead
+-- the properties of every core, under a sealer with this overhead
 pub record IsSound (d : Sizes) (overhead : ℕ) (s : State) : Type 0 where
   pub ranges : IsDevice d
   pub small : overhead ≤ 64

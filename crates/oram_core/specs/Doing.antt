@@ -1,4 +1,4 @@
--- What the steps of a core do that ask nothing of the trees.
+-- The steps of a core that don't depend on the trees.
 use Rattle.std.specs.Prelude.{ℕ, ◌+◌, ◌-◌, ◌^◌, ◌==◌, ◌&&◌, ◌||◌, not, Bool, true, false, if◌then◌else◌, List, [], ◌∷◌, ◌++◌, length, slice_index, slice_set, Option, Some, None, map, nat_lt}
 use Rattle.std.specs.Str.{bytes_eq}
 use Rattle.oram_geometry.specs.declared.Sizes.{Sizes}
@@ -25,7 +25,7 @@ use Rattle.oram_run.specs.declared.events.Reply.{Reply}
 use Rattle.oram_run.specs.declared.events.Reaction.{Reaction}
 use Rattle.oram_run.specs.declared.events.Submission.{Submission}
 
--- what a core shows, and what it is afterwards
+-- what a core shows at a step, and its state afterwards
 pub record Done : Type 0 where
   pub note : Note
   pub replies : List Reply
@@ -35,7 +35,7 @@ pub record Done : Type 0 where
 abbrev pub done : Reaction → State → Done
 done r s = record { note = r.note; replies = r.replies.items; sends = r.sends.items; state = s }
 
--- nothing is shown but the note
+-- the core shows only a note
 abbrev pub noted : State → Note → Done
 noted s note = record { note = note; replies = []; sends = []; state = s }
 
@@ -69,13 +69,13 @@ resent_by s = record { note = Resent; replies = []; sends = s.last ∷ []; state
 abbrev pub failed_by : State → Reason → Done
 failed_by s e = record { note = FailedNow e; replies = map failed_reply s.queue; sends = []; state = failed_state s.next s.nonce e }
 
--- the next tree's path is fetched
+-- the core fetches the path of the next tree
 abbrev pub fetched_by : Shape → State → Submission → Done
 fetched_by v s x =
     let m = fetch_of (fetch_at v.device (s.stage + 1) s.named x) in
     record { note = Taken; replies = []; sends = m ∷ []; state = record s { stage = s.stage + 1; last = m } }
 
--- the oldest command has its reply
+-- the core replies to the oldest command
 abbrev pub finished_by : Shape → State → Submission → List Submission → Done
 finished_by v s x rest =
     let sends = first_messages v.device s rest in
@@ -86,7 +86,7 @@ finished_by v s x rest =
       state = record s { queue = rest; stage = 0; named = 0; before = []; last = latest sends [] };
     }
 
--- a path is stored, in a tree that holds the access already
+-- the core stores a path; the tree in s has changed by the access already
 abbrev pub stored_by : Shape → State → Submission → List ℕ → List ℕ → Done
 stored_by v s x before records =
     let d = v.device in
@@ -118,40 +118,40 @@ is_stalled Idle = false
 is_stalled Waiting = false
 is_stalled Over = false
 
--- the path's map led astray: it names a block that isn't found, or names below what is no leaf there
+-- the map has led astray: it names a block that isn't found, or its entry for the tree below is no leaf there
 abbrev pub is_misled : Shape → State → Submission → Bool → List ℕ → Bool
 is_misled v s x found before =
     let i = stage_tree v.device s.stage in
     (not (named_now v.device s x == 0) && not found) || (nat_lt 0 i && nat_lt (2 ^ depth_of v.device (i - 1)) (next_named v.device i x before))
 
--- a submission is refused, or joins the queue
+-- the core refuses a submission, or adds it to the queue
 abbrev pub submitted_by : Shape → State → Submission → Option Refusal → Done
 submitted_by v s x (Some e) = noted s (Refused e)
 submitted_by v s x None = accepted_by v s x
 
--- the outstanding message is lost
+-- a loss: the outstanding message counts as lost
 abbrev pub lost_by : State → Status → Done
 lost_by s Waiting = stalled_by s
 lost_by s Idle = noted s Unexpected
 lost_by s Stalling = noted s Unexpected
 lost_by s Over = noted s Unexpected
 
--- the message that was lost is to be sent again
+-- a retry: the core sends a lost message again
 abbrev pub retried_by : State → Status → Done
 retried_by s Stalling = resent_by s
 retried_by s Idle = noted s Unexpected
 retried_by s Waiting = noted s Unexpected
 retried_by s Over = noted s Unexpected
 
--- an answer that nobody waits for, or that the host has no room
+-- an answer that the core doesn't wait for, or the answer that the host has no room; none for any other
 abbrev pub unheard_by : State → Bool → Status → Option Done
 unheard_by s no_room Waiting = if no_room then Some (stalled_by s) else None
 unheard_by s no_room Idle = Some (noted s Unexpected)
 unheard_by s no_room Stalling = Some (noted s Unexpected)
 unheard_by s no_room Over = Some (noted s Unexpected)
 
--- What a core does at an event whatever stands at the host: at any but an answer that it waits for, unless that is the refusal
--- for want of room.
+-- What a core does at an event whatever the host keeps. It is known for each event except an answer that the core
+-- waits for and that isn't the refusal for lack of room.
 abbrev pub plain_step : Shape → State → Event → Option Done
 plain_step v s (Submit session c words) =
     Some (submitted_by v s (record { session = session; ticket = s.next; command = c; words = words }) (refusal_of v.device (is_over (status_in s)) (length s.queue) s.next c words))
@@ -160,7 +160,7 @@ plain_step v s Lost = Some (lost_by s (status_in s))
 plain_step v s Reopen = Some (lost_by s (status_in s))
 plain_step v s Retry = Some (retried_by s (status_in s))
 
--- whether a step with this note takes no memory: it refuses, is not expected, or stalls
+-- whether a step with this note needs no memory: it refuses, is unexpected, or stalls
 abbrev pub is_free_note : Note → Bool
 is_free_note (Accepted t) = false
 is_free_note (Refused e) = true

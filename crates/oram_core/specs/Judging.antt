@@ -1,4 +1,5 @@
--- What an answer is to a core that waits for it: judged by the root digests, the stashes and the map that the core itself has.
+-- What an answer means to a core that waits for it, judged by the root digests, the stashes and the map that the core
+-- itself has.
 use Rattle.std.specs.Prelude.{◌≡◌, ℕ, ◌+◌, ◌*◌, ◌%◌, ◌≤◌, ◌⊎◌, ◌↔◌, ◌==◌, ◌&&◌, Bool, true, false, if◌then◌else◌, List, [], ◌∷◌, length, slice_index_or, Result, Err, IsOk, MatchResult}
 use Rattle.oram_geometry.specs.Sizes.{depth_of}
 use Rattle.oram_bucket.specs.Cell.{Cell}
@@ -22,19 +23,20 @@ use Rattle.oram_run.specs.declared.events.Reason.TheVariants.{Malformed, Tampere
 use Rattle.oram_run.specs.declared.events.Submission.{Submission}
 use Rattle.oram_core.specs.Doing.{is_misled}
 
--- the tree whose path is outstanding, as the core has it
+-- the tree of the outstanding path, as the core has it
 abbrev pub tree_now : Shape → State → Tree
 tree_now v s = slice_index_or s.trees (stage_tree v.device s.stage) no_tree
 
--- bytes as the path that is outstanding
+-- these bytes, taken as the outstanding path
 abbrev pub path_now : Shape → State → List ℕ → Path
 path_now v s records = path_of v.device (stage_tree v.device s.stage) (asked s.last).leaf v.overhead records
 
--- which blocks a sealed bucket of that tree reads as
+-- relates a sealed bucket of that tree to the blocks that it reads as
 abbrev pub reads_now : Shape → State → List ℕ → List Cell → Type 0
 reads_now v s = Reads v.opening v.device (stage_tree v.device s.stage)
 
--- The check of these records as that path, under the root of its tree: by digests, and against every stored tree under the root.
+-- The result of checking these records as that path, under the root digest of its tree: in terms of digests, and
+-- compared with every stored tree under this root digest.
 pub record IsChecked {A : Type 0} (v : Shape) (s : State) (records : List ℕ) (checked : Result A HashFault) : Type 0 where
   pub accepted : IsOk checked ↔ IsAccepted (path_now v s records) (tree_now v s).root
   pub short : (checked ≡ Err fault.Length) ↔ (¬ HasLength (path_now v s records))
@@ -42,11 +44,11 @@ pub record IsChecked {A : Type 0} (v : Shape) (s : State) (records : List ℕ) (
   pub judged : (stored : ℕ → List ℕ) → IsStored (depth_of v.device (stage_tree v.device s.stage)) (record_len v) (tree_now v s).root stored →
       MatchResult checked (λ _. IsPathOf stored (path_now v s records)) (IsFaultOf stored (path_now v s records)) ⊎ Collides stored (path_now v s records)
 
--- bytes behind the first one of an answer that has the right length: a path's to a fetch, none to a store
+-- the number of bytes that should follow the first byte of the answer: those of a path after a FETCH, none after a STORE
 abbrev pub answer_len : Shape → State → ℕ
 answer_len v s = if s.stage % 2 == 0 then (depth_of v.device (stage_tree v.device s.stage) + 1) * record_len v else 0
 
--- byte 80, and the right length
+-- the answer is byte 80 and the right number of bytes
 abbrev pub is_formed : Shape → State → List ℕ → Bool
 is_formed v s [] = false
 is_formed v s (first ∷ rest) = (first == 128) && (length rest == answer_len v s)
@@ -54,8 +56,9 @@ is_formed v s (first ∷ rest) = (first == 128) && (length rest == answer_len v 
 abbrev pub IsReadableNow : Shape → State → Path → Type 0
 IsReadableNow v s p = IsReadable (reads_now v s) p (tree_now v s).stash
 
--- The path is readable, and the oldest command's block is looked for on it and in the stash. The map leads astray where it names
--- a block that isn't found, and where what the block names for the next tree is no leaf there.
+-- The path is readable, and `lookup` is the result of looking for the oldest command's block on it and in the stash.
+-- `astray` says whether the map has led astray: it names a block that isn't found, or the block's entry for the next
+-- tree is no leaf there.
 pub record Leads (v : Shape) (s : State) (p : Path) (astray : Bool) : Type 0 where
   pub readable : IsReadableNow v s p
   pub oldest : Submission
@@ -66,11 +69,11 @@ pub record Leads (v : Shape) (s : State) (p : Path) (astray : Bool) : Type 0 whe
   pub lookup : IsLookup (IsNear (reads_now v s) p (tree_now v s).stash) v.device.block_bytes (block_of v.device (stage_tree v.device s.stage) oldest) found before
   pub led : is_misled v s oldest found before ≡ astray
 
--- a path that passes the check, and is of no use
+-- the path can't be read, or the map has led astray
 abbrev pub IsUseless : Shape → State → Path → Type 0
 IsUseless v s p = (¬ IsReadableNow v s p) ⊎ Leads v s p true
 
--- what the use of such a path is told as
+-- the note that the core gives when it uses a path that passed the check
 abbrev pub IsUseOf : Shape → State → Path → Note → Type 0
 IsUseOf v s p (FailedNow e) = (e ≡ Tampered (stage_tree v.device s.stage) 0) × IsUseless v s p
 IsUseOf v s p Taken = Leads v s p false
@@ -80,7 +83,8 @@ IsUseOf v s p Stalled = ⊥
 IsUseOf v s p Resent = ⊥
 IsUseOf v s p Unexpected = ⊥
 
--- a path of the right length, spoilt at a level: the first record that hasn't its expected digest, or, told as level 0, all of it
+-- a path of the right length that is tampered with: at the first record that doesn't have its expected digest, or, at
+-- level 0, as a path that is useless though it passes the check
 pub record IsSpoilt (v : Shape) (s : State) (bytes : List ℕ) (level : ℕ) : Type 0 where
   pub fetched : s.stage % 2 ≡ 0
   pub records : List ℕ
@@ -94,19 +98,19 @@ IsReasonFor v s bytes (HostRefused code) = (bytes ≡ 129 ∷ code ∷ []) × (1
 IsReasonFor v s bytes Malformed = (is_refusal bytes ≡ false) × (is_formed v s bytes ≡ false)
 IsReasonFor v s bytes (Tampered i level) = (i ≡ stage_tree v.device s.stage) × IsSpoilt v s bytes level
 
--- the answer is a path that passes the check and is of use
+-- the answer is a path that passes the check and can be used
 pub record IsUseful (v : Shape) (s : State) (bytes : List ℕ) : Type 0 where
   pub records : List ℕ
   pub answer : bytes ≡ 128 ∷ records
   pub accepted : IsAccepted (path_now v s records) (tree_now v s).root
   pub leads : Leads v s (path_now v s records) false
 
--- the answer is a good one, as far as the core can tell
+-- the answer is good, as far as the core can tell
 pub record IsGood (v : Shape) (s : State) (bytes : List ℕ) : Type 0 where
   pub fetched : s.stage % 2 ≡ 0 → IsUseful v s bytes
   pub stored : s.stage % 2 ≡ 1 → bytes ≡ 128 ∷ []
 
--- what an answer that is waited for, other than for want of room, is told as
+-- the note that the core gives for an answer that it waits for, except for the refusal for lack of room
 abbrev pub IsVerdict : Shape → State → List ℕ → Note → Type 0
 IsVerdict v s bytes (FailedNow e) = IsReasonFor v s bytes e
 IsVerdict v s bytes Taken = IsGood v s bytes

@@ -1,4 +1,4 @@
--- What a client keeps of a core in its state file.
+-- The parts of a core that a client keeps in its state file.
 use Rattle.std.specs.Prelude.{ℕ, ◌+◌, ◌-◌, Bool, List, [], ◌∷◌, Option, length, map}
 use Rattle.std.specs.List.{All}
 use Rattle.oram_geometry.specs.declared.Sizes.{Sizes}
@@ -45,21 +45,21 @@ parts_of d s = record {
   stalled = s.lost;
 }
 
--- and with it
+-- and a command with its ticket
 abbrev pub submission_at : ℕ → Pending → Submission
 submission_at t p = record { session = p.session; ticket = t; command = p.command; words = p.words }
 
--- the commands with their tickets, from this one on
+-- the commands with their tickets, from ticket t on
 abbrev pub submissions_from : ℕ → List Pending → List Submission
 submissions_from t [] = []
 submissions_from t (p ∷ rest) = submission_at t p ∷ submissions_from (t + 1) rest
 
--- the trees by their numbers, from this one on
+-- the trees with their numbers, from tree i on
 abbrev pub trees_from : ℕ → List TreeParts → List Tree
 trees_from i [] = []
 trees_from i (p ∷ rest) = tree_of i p ∷ trees_from (i + 1) rest
 
--- the core of the parts
+-- the state that the parts make
 abbrev pub state_of : Parts → State
 state_of p = record {
   table = p.table;
@@ -75,8 +75,8 @@ state_of p = record {
   failure = p.failure;
 }
 
--- They may be the parts of a core under a sealer of this overhead: what holds of each core holds of the one that they make, and
--- the blocks of each stash stand by rising address.
+-- These can be the parts of a core under a sealer with this overhead: the state that they make has the properties of
+-- every core, and the blocks of each stash rise by address.
 pub record AreParts (overhead : ℕ) (p : Parts) : Type 0 where
   pub sound : IsSound p.device overhead (state_of p)
   pub rising : All (λ t. IsRising t.stash) p.trees

@@ -1,8 +1,8 @@
--- Room for what a step shows.
+-- Room for everything that a step shows.
 use Rattle.std.specs.Prelude.{◌≡◌, ℕ, ◌<◌, ◌≤◌, [], vec_len, vec_capacity}
 use Rattle.oram_core.specs.declared.messages.Room.{Room}
 
--- there is room for a message of this length, for one message, and for so many replies
+-- there is room for a message of this length, for a list of one message, and for this many replies
 pub record IsRoom (message_len waiting : ℕ) (r : Room) : Type 0 where
   pub sent : r.sent.items ≡ []
   pub sent_none : vec_len r.sent ≡ 0

@@ -1,4 +1,4 @@
--- What a whole run gives.
+-- The result of a whole run.
 use Rattle.std.specs.Prelude.{◌≡◌, ℕ, ◌<◌, true, false, List, [], length}
 use Rattle.std.specs.Global.{Vec}
 use Rattle.oram_wire.specs.ListOfBodies.{bodies_in}
@@ -9,7 +9,7 @@ use Rattle.oram_run.specs.Shape.{Shape}
 use Rattle.oram_run.specs.declared.events.Event.{Event}
 use Rattle.oram_core.specs.declared.outcome.Run.{Run}
 
--- the setting of a run that was formatted so
+-- the setting of a run with these formatting messages
 abbrev pub setting_by : Shape → List (Vec ℕ) → Setting
 setting_by v bodies = record { shape = v; format = bodies_in bodies }
 
@@ -17,13 +17,13 @@ setting_by v bodies = record { shape = v; format = bodies_in bodies }
 abbrev pub MakeAllTrees : Shape → List (Vec ℕ) → Type 0
 MakeAllTrees v bodies = (trees : List Tree) × IsFormatted (setting_by v bodies) trees
 
--- All trees were made. Each event has its reaction, and where memory was refused the last of them have none.
+-- All trees were made. Each event has its reaction; if memory ran out, the last events have none.
 pub record IsCarriedOut (v : Shape) (events : List Event) (r : Run) : Type 0 where
   pub whole : MakeAllTrees v r.format.items
   pub all : r.out_of_memory ≡ false → length r.reactions.items ≡ length events
   pub fewer : r.out_of_memory ≡ true → length r.reactions.items < length events
 
--- memory was refused at the formatting, and no step was made
+-- memory ran out during the formatting, and no step was made
 pub record IsCutShort (v : Shape) (r : Run) : Type 0 where
   pub begun : IsFormatBegun v (bodies_in r.format.items)
   pub nothing : r.reactions.items ≡ []

@@ -1,4 +1,4 @@
--- The whole promise of a step.
+-- Everything that a step promises.
 use Rattle.std.specs.Prelude.{◌≡◌, ◌≢◌, ℕ, ◌+◌, ◌*◌, ◌%◌, ◌<◌, ◌⊎◌, false, List, [], ◌∷◌, length, Some, map}
 use Rattle.oram_geometry.specs.Sizes.{trees_of}
 use Rattle.oram_run.specs.Events.{failed_reply}
@@ -18,7 +18,7 @@ use Rattle.oram_core.specs.Judging.{IsVerdict}
 abbrev pub did : Shown → State → Done
 did x t = record { note = x.note; replies = x.replies; sends = x.sends; state = t }
 
--- the device fails, each command without a reply is answered so, and the core forgets its trees
+-- the device fails: each command without a reply is answered as failed, and the core forgets its trees
 pub record Fails (s : State) (d : Done) : Type 0 where
   pub reason : Reason
   pub note : d.note ≡ FailedNow reason
@@ -26,14 +26,14 @@ pub record Fails (s : State) (d : Done) : Type 0 where
   pub sends : d.sends ≡ []
   pub state : d.state ≡ failed_state s.next s.nonce reason
 
--- the path that was named for the oldest command's block is fetched, and nothing else changes
+-- the core fetches the path that the map named for the oldest command's block, and changes nothing else
 pub record IsNextFetched (v : Shape) (s : State) (d : Done) : Type 0 where
   pub oldest : Submission
   pub rest : List Submission
   pub queue : s.queue ≡ oldest ∷ rest
   pub does : d ≡ fetched_by v s oldest
 
--- the oldest command's next message goes out
+-- the core sends the oldest command's next message
 pub record GoesOn (v : Shape) (s : State) (d : Done) : Type 0 where
   pub note : d.note ≡ Taken
   pub replies : d.replies ≡ []
@@ -43,10 +43,10 @@ pub record GoesOn (v : Shape) (s : State) (d : Done) : Type 0 where
   pub next : d.state.next ≡ s.next
   pub stage : d.state.stage ≡ s.stage + 1
   pub within : d.state.stage < 2 * trees_of v.device
-  -- behind a STORE it is the FETCH of the path that was named
+  -- after a STORE, that is the FETCH of the path that the map named
   pub fetched : s.stage % 2 ≡ 1 → IsNextFetched v s d
 
--- the oldest command has its reply, a block as long as blocks are, and the next one begins
+-- the oldest command gets its reply, with a whole block of data, and the next command begins
 pub record Replies (v : Shape) (s : State) (d : Done) : Type 0 where
   pub oldest : Submission
   pub rest : List Submission
@@ -54,17 +54,18 @@ pub record Replies (v : Shape) (s : State) (d : Done) : Type 0 where
   pub does : d ≡ finished_by v s oldest rest
   pub long : length s.before ≡ v.device.block_bytes
 
--- what becomes of an answer that is waited for, whoever gives it
+-- the effect of an answer that the core waits for, whatever host gives it
 abbrev pub Heard : Shape → State → Done → Type 0
 Heard v s d = Fails s d ⊎ (GoesOn v s d ⊎ Replies v s d)
 
--- A step at an event, which shows x and leaves the core as t.
+-- A step at an event, which shows x and leaves the core in the state t.
 pub record Steps (v : Shape) (s : State) (event : Event) (x : Shown) (t : State) : Type 0 where
-  -- what asks nothing of the trees is known outright
+  -- if the effect of the event doesn't depend on the trees, it is the plain step
   pub plain : (d : Done) → plain_step v s event ≡ Some d → did x t ≡ d
-  -- any other answer that is waited for, from whatever host,
+  -- any other answer that the core waits for, from whatever host, fails it, makes it go on, or gives a reply
   pub heard : (bytes : List ℕ) → event ≡ Answer bytes → status_in s ≡ Waiting → bytes ≢ 129 ∷ 8 ∷ [] → Heard v s (did x t)
-  -- told as what it is by the core's own digests, stashes and map,
+  -- the note says what such an answer is by the core's own digests, stashes and map
   pub verdict : (bytes : List ℕ) → event ≡ Answer bytes → status_in s ≡ Waiting → bytes ≢ 129 ∷ 8 ∷ [] → IsVerdict v s bytes x.note
-  -- and in each world that it can go on in, in which no two records of one digest stand in the answer, it does what the local rule allows
+  -- in each world that the core fits, the step follows the local rule, unless the answer shows two records with the
+  -- same digest
   pub moves : (w : World) → Fits v s w → shows_in v s w event ≡ false → Moves v s w event x t

@@ -1,4 +1,4 @@
--- What a verdict says of an answer.
+-- What a verdict says about an answer.
 use Rattle.std.specs.Prelude.{◌≡◌, ℕ, ◌%◌, ◌==◌, not, if◌then◌else◌, List, [], ◌∷◌, length, slice_index, Option, Some, None, nat_lt}
 use Rattle.oram_hash.specs.Path.{IsAccepted}
 use Rattle.oram_hash.specs.Tree.{IsPathOf}
@@ -12,21 +12,21 @@ use Rattle.oram_core.specs.Judging.{path_now, tree_now, IsReasonFor}
 use Rattle.oram_core.specs.declared.verdicts.Verdict.{Verdict}
 use Rattle.oram_core.specs.declared.verdicts.Verdict.TheVariants as verdict
 
--- in a world
+-- the verdict agrees with the answer's outcome in a world
 abbrev pub Means : Shape → State → World → List ℕ → Verdict → Type 0
 Means v s w bytes (verdict.Path p) = (outcome_of v w.records (asked s.last) bytes ≡ Good) × IsPathOf (w.records (stage_tree v.device s.stage)) p
 Means v s w bytes verdict.Stored = outcome_of v w.records (asked s.last) bytes ≡ Good
 Means v s w bytes verdict.NoRoom = outcome_of v w.records (asked s.last) bytes ≡ NoRoom
 Means v s w bytes (verdict.Bad e) = outcome_of v w.records (asked s.last) bytes ≡ Fails e
 
--- by the core's own digests
+-- the verdict is right by the core's own digests
 abbrev pub Tells : Shape → State → List ℕ → Verdict → Type 0
 Tells v s bytes (verdict.Path p) = (s.stage % 2 ≡ 0) × (bytes ≡ 128 ∷ p.bytes) × (p ≡ path_now v s p.bytes) × IsAccepted p (tree_now v s).root
 Tells v s bytes verdict.Stored = (s.stage % 2 ≡ 1) × (bytes ≡ 128 ∷ [])
 Tells v s bytes verdict.NoRoom = bytes ≡ 129 ∷ 8 ∷ []
 Tells v s bytes (verdict.Bad e) = IsReasonFor v s bytes e
 
--- byte 81 and a code from 1 to 8
+-- the code of a refusal: byte 81 and a code from 1 to 8
 abbrev pub refusal_in : List ℕ → Option ℕ
 refusal_in bytes =
     if not (length bytes == 2) then None

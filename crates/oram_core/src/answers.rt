@@ -1,4 +1,4 @@
-//! What a core makes of the host's answers.
+//! What a core does with the host's answers.
 ghost use Rattle.std.specs.Prelude.{◌≡◌, ◌≢◌, ◌-◌, ◌<◌, false, [], ◌∷◌, map, IsOk, IfOk, OnErr};
 ghost use Rattle.oram_run.specs.Answers.{outcome_of, pair_in};
 ghost use Rattle.oram_run.specs.Events.{failed_reply};
@@ -21,7 +21,7 @@ use oram_run::{Note, Reaction, Reason, Reply};
 use std::alloc::{AllocError, Global};
 
 impl<S: Sealer> Core<S> {
-    /// An answer to the outstanding message.
+    /// Takes the host's answer to the outstanding message. If memory runs out, the core is unchanged.
     pub(crate) fn hear(&mut self, alloc: Global, bytes: &[u8]) -> Result<Reaction, AllocError>
         requires { status_in self.old.state ≡ Waiting }
         ensures kept { IsSameDevice self.old self.new }
@@ -48,7 +48,8 @@ impl<S: Sealer> Core<S> {
         }
     }
 
-    /// The device is of no more use: each command without a reply is answered so, and the trees are forgotten.
+    /// Fails the device: forgets the trees and the commands, and returns the given replies, which say of each command
+    /// that it failed.
     pub(crate) fn fail(&mut self, alloc: Global, reason: Reason, replies: Vec<Reply>) -> Reaction
         requires replies { replies.items ≡ map failed_reply self.old.state.queue }
         requires reason { IsReasonOf self.old.device reason }

@@ -24,13 +24,14 @@ use oram_tree::Edit;
 pub(crate) struct Errand {
     pub tree: u8,
     pub block: u32,
-    /// The leaf whose path has come.
+    /// The leaf whose path was fetched.
     pub leaf: u32,
-    /// The leaf that the block is mapped to.
+    /// The leaf that the block gets.
     pub new_leaf: u32,
 }
 
-/// What the map block of a command names for its block in the tree below: 0, or one more than its leaf.
+/// Returns the entry that `map_block`, a block of `tree`, has for the command's block in the tree below: 0, or its leaf
+/// plus one. Returns 0 for tree 0, which is no map.
 pub(crate) fn named_below(
     device: &Device,
     tree: u8,
@@ -48,7 +49,7 @@ pub(crate) fn named_below(
     }
 }
 
-/// An entry of a map block.
+/// Returns the entry of a map block with this index.
 fn entry_in(map_block: &[u8], index: usize) -> u32
     requires { 4 * index + 4 ≤ length map_block.now }
     ensures { result ≡ from_be_bytes w32 (slice_range map_block.now (4 * index) (4 * index + 4)) }
@@ -56,7 +57,7 @@ fn entry_in(map_block: &[u8], index: usize) -> u32
     BigEndian::read_u32(&map_block[4 * index..4 * index + 4])
 }
 
-/// The number of the entry that a map block has for a command's block of the tree below it.
+/// Returns the index of the entry that a map block has for the command's block in the tree `below`.
 fn entry_of(device: &Device, below: u8, submission: &Submission) -> usize
     requires tree { below < trees_of device.now }
     requires allowed { IsAllowed device.now submission.now }
@@ -66,7 +67,7 @@ fn entry_of(device: &Device, below: u8, submission: &Submission) -> usize
     device.address_in(below, submission.command.address()) as usize % device.fanout()
 }
 
-/// The leaf of a command's new word for a tree.
+/// Returns the leaf that the command's new word names in `tree`.
 pub(crate) fn new_leaf(device: &Device, tree: u8, submission: &Submission) -> u32
     requires tree { tree < trees_of device.now }
     requires allowed { IsAllowed device.now submission.now }
@@ -76,7 +77,8 @@ pub(crate) fn new_leaf(device: &Device, tree: u8, submission: &Submission) -> u3
     device.leaf_of(tree, submission.words.as_slice()[2 * usize::from(tree) + 1])
 }
 
-/// The leaf whose path is fetched in a tree where the map names this for the block, by a command with these words.
+/// Returns the leaf whose path a command with these words fetches in `tree`. `named` is the map entry of the command's
+/// block; if it is 0, the command's spare word names the leaf.
 pub(crate) fn leaf_for(device: &Device, tree: u8, named: u32, words: &[u64]) -> u32
     requires tree { tree < trees_of device.now }
     requires named { named ≤ 2 ^ depth_of device.now tree }
@@ -90,18 +92,18 @@ pub(crate) fn leaf_for(device: &Device, tree: u8, named: u32, words: &[u64]) -> 
     }
 }
 
-/// A block of zeros is a part of these, as many as a block's bytes at most.
+/// Zeros for a block of any size.
 static ZEROS: [u8; 4096] = [0; 4096];
 
-/// The data of a block that was discarded.
+/// Returns the data of a discarded block.
 fn zeros(device: &Device) -> &'static [u8]
     ensures { result.now ≡ replicate device.now.block_bytes 0 }
 {
     &ZEROS[..device.block_bytes()]
 }
 
-/// What an access to a tree does for a command: to tree 0 what the command says; in a map it names the new leaf of the
-/// block in the tree below.
+/// Returns the edit that a command makes in `tree`: in tree 0 the command's own change; in a map tree, an entry for the
+/// new leaf of the command's block in the tree below.
 pub(crate) fn edit_for<'a>(device: &Device, tree: u8, submission: &'a Submission) -> Edit<'a>
     requires tree { tree < trees_of device.now }
     requires allowed { IsAllowed device.now submission.now }
@@ -122,7 +124,7 @@ pub(crate) fn edit_for<'a>(device: &Device, tree: u8, submission: &'a Submission
 }
 
 impl<S: Sealer> Core<S> {
-    /// The tree of the outstanding message.
+    /// Returns the tree that the outstanding message is for.
     pub(crate) fn tree_at_work(&self) -> u8
         ensures value { result ≡ stage_tree self.now.device self.now.state.stage }
         ensures range { result < trees_of self.now.device }
@@ -130,7 +132,7 @@ impl<S: Sealer> Core<S> {
         self.device.trees() - 1 - self.stage / 2
     }
 
-    /// The oldest command without a reply.
+    /// Returns the oldest command without a reply.
     pub(crate) fn oldest(&self) -> &Submission
         requires { 0 < length self.now.state.queue }
         ensures first { (x : Submission) (rest : List Submission) → self.now.state.queue ≡ x ∷ rest → result.now ≡ x }
@@ -139,7 +141,7 @@ impl<S: Sealer> Core<S> {
         &self.queue[0]
     }
 
-    /// The access that the path which has come is for.
+    /// Returns the access for which the outstanding FETCH was sent.
     pub(crate) fn errand(&self) -> Errand
         requires { status_in self.now.state ≡ Waiting }
         ensures tree { result.tree ≡ stage_tree self.now.device self.now.state.stage }

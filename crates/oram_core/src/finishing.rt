@@ -1,4 +1,4 @@
-//! A path that was sent is stored: the next one is fetched, or the oldest command has its reply.
+//! The host has stored a path: the core fetches the next path, or replies to the oldest command.
 ghost use Rattle.std.specs.Prelude.{◌≡◌, ◌+◌, ◌-◌, ◌*◌, ◌%◌, ◌<◌, List, [], ◌∷◌, length, map, IfOk, OnOk, OnErr, None, drop, ◌==◌};
 ghost use Rattle.oram_geometry.specs.Sizes.{trees_of};
 ghost use Rattle.oram_run.specs.Answers.Outcome.{Good};
@@ -23,7 +23,7 @@ use std::alloc::{AllocError, Global};
 use std::collections::VecDeque;
 use std::mem;
 
-/// The reply to a command whose block was this before.
+/// Makes the reply to a command, given its block's data before the command.
 fn reply_to(submission: &Submission, before: Bytes) -> Reply
     ensures { result ≡ record { session = submission.now.session; ticket = submission.now.ticket; body = body_from before submission.now.command } }
 {
@@ -38,7 +38,7 @@ fn reply_to(submission: &Submission, before: Bytes) -> Reply
     }
 }
 
-/// The reply to the oldest command, which leaves the queue.
+/// Takes the oldest command out of the queue and makes the reply to it.
 fn replied(
     alloc: Global,
     queue: &mut VecDeque<Submission>,
@@ -65,7 +65,7 @@ fn replied(
 }
 
 impl<S: Sealer> Core<S> {
-    /// The path that was sent is stored.
+    /// Goes on after the host has stored a path.
     pub(crate) fn go_on(&mut self, alloc: Global) -> Result<Reaction, AllocError>
         requires waiting { status_in self.old.state ≡ Waiting }
         requires stage { self.old.state.stage % 2 ≡ 1 }
@@ -84,7 +84,7 @@ impl<S: Sealer> Core<S> {
         }
     }
 
-    /// The fetch of the next tree's path, which the map named.
+    /// Makes the FETCH of the path in the next tree that the map names.
     fn next_fetch(&self, alloc: Global) -> Result<Sending, AllocError>
         requires waiting { status_in self.now.state ≡ Waiting }
         requires stage { self.now.state.stage % 2 ≡ 1 }
@@ -103,7 +103,7 @@ impl<S: Sealer> Core<S> {
         Sending::fetch(alloc, tree, leaf)
     }
 
-    /// The path of the next tree is fetched, to the block's leaf that the map named.
+    /// Fetches the path in the next tree that the map names for the block.
     fn fetch_next(&mut self, alloc: Global) -> Result<Reaction, AllocError>
         requires waiting { status_in self.old.state ≡ Waiting }
         requires stage { self.old.state.stage % 2 ≡ 1 }
@@ -123,7 +123,7 @@ impl<S: Sealer> Core<S> {
         })
     }
 
-    /// The last path of the oldest command is stored: its reply goes out, and the next command begins.
+    /// Replies to the oldest command, whose last path is stored, and begins the next command.
     fn finish(&mut self, alloc: Global) -> Result<Reaction, AllocError>
         requires waiting { status_in self.old.state ≡ Waiting }
         requires last { self.old.state.stage + 1 ≡ 2 * trees_of self.old.device }

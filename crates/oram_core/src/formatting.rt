@@ -1,4 +1,4 @@
-//! The formatting of a device.
+//! Formats a device.
 ghost use Rattle.std.specs.Prelude.{◌≡◌, ◌≢◌, ◌+◌, ◌<◌, Err, IfOk, IfErr};
 ghost use Rattle.oram_geometry.specs.Sizes.{trees_of};
 ghost use Rattle.oram_tree.specs.Format.{IsBegun, IsBrokenOff};
@@ -16,14 +16,14 @@ use oram_wire::{Sink, SinkFault};
 use std::alloc::{AllocError, Global};
 use std::collections::VecDeque;
 
-/// Trees that were formatted, from tree 0 on, and how many buckets were sealed for them.
+/// The trees that are formatted so far, from tree 0 on, and the number of buckets that were sealed for them.
 #[derive(Drop)]
 struct Formatted {
     trees: Vec<Tree>,
     nonce: u64,
 }
 
-/// Formats the next tree, and joins it to those so far.
+/// Formats the next tree and adds it to `so_far`.
 fn format_next<S: Sealer, K: Sink>(
     alloc: Global,
     device: &Device,
@@ -75,8 +75,8 @@ fn format_trees<S: Sealer, K: Sink>(
 }
 
 impl<S: Sealer> Core<S> {
-    /// Formats a device and gives its core: the sink takes the messages, for each tree its shape and a record of an empty
-    /// bucket for each of its nodes.
+    /// Formats a device and returns its core. Sends the messages to the sink: for each tree its SHAPE, and a PUT of an
+    /// empty bucket's record for each of its nodes.
     pub fn format<K: Sink>(
         alloc: Global,
         device: Device,

@@ -1,8 +1,9 @@
-//! The core of the block store: a machine over events, which says what to reply and what to send the host.
+//! The core of the client: a machine that takes events, and returns what to reply and which messages to send to the
+//! host.
 //!
 //! One event is one atomic step. The core keeps the trees' root digests and stashes, the position map of the last tree,
-//! the commands without a reply and the message that is outstanding (Path ORAM, CCS 2013, sections 3 and 4, with the
-//! position map of each tree in the next one). What it is to do is told by `oram_run`.
+//! the commands without a reply, and the outstanding message (Path ORAM, CCS 2013, sections 3 and 4; the position map of
+//! each tree is kept in the next tree). `oram_run` defines what the core has to do.
 #![tactic(auto)]
 
 mod answers;

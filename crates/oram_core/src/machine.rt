@@ -1,4 +1,4 @@
-//! The core.
+//! The core and its steps.
 ghost use Rattle.std.specs.Prelude.{◌≡◌, ◌==◌, ◌+◌, ◌*◌, ◌%◌, ◌<◌, ◌≤◌, ◌^◌, ℕ, true, false, List, [], ◌∷◌, ◌++◌, length, IsOk, IfOk, OnOk, OnErr, Option, Some, None, slice_index, slice_index_or};
 ghost use Rattle.oram_geometry.specs.Sizes.{trees_of, depth_of};
 ghost use Rattle.oram_wire.specs.HostMessages.{fetch_body};
@@ -23,33 +23,35 @@ use std::alloc::{AllocError, Global};
 use std::collections::VecDeque;
 use std::marker::Model;
 
-/// Commands that may wait for a reply.
+/// The greatest number of commands that can wait for a reply.
 pub const MOST_WAITING: usize = 64;
 
-/// The core of a device: it takes events and says what to reply and to send.
+/// The core of a device: takes events, and returns what to reply and what to send.
 #[derive(Drop)]
 pub struct Core<S: Sealer> {
     pub(crate) device: Device,
     pub(crate) sealer: S,
-    /// By block of the last tree: 0, or one more than the leaf that the block is mapped to.
+    /// For each block of the last tree: 0, or the leaf that the block is mapped to plus one.
     pub(crate) table: Vec<u32>,
-    /// From tree 0, which holds the data, to the last one.
+    /// The trees, from tree 0, which holds the data, to the last one.
     pub(crate) trees: Vec<Tree>,
     /// The next ticket.
     pub(crate) next: u64,
-    /// The nonce of the next bucket that is sealed.
+    /// The nonce for the next bucket to be sealed.
     pub(crate) nonce: u64,
     /// The commands without a reply, the oldest first.
     pub(crate) queue: VecDeque<Submission>,
-    /// The entry of the oldest command that is outstanding: the fetch and the store of each tree, from the last one on.
+    /// Which of the oldest command's messages is outstanding, counted from 0. A command has a FETCH and a STORE for each
+    /// tree, from the last tree to tree 0.
     pub(crate) stage: u8,
-    /// What the map named for the block of the tree whose path is fetched next, or was fetched last.
+    /// The map entry of the oldest command's block in the tree whose path is fetched next, or was fetched last: 0, or
+    /// the block's leaf plus one.
     pub(crate) named: u32,
-    /// The block of tree 0 as it was read.
+    /// The data of the block of tree 0 as it was read, until the reply goes out.
     pub(crate) before: Bytes,
     /// The message that was sent last.
     pub(crate) last: Bytes,
-    /// Whether that message counts as lost.
+    /// Whether the message sent last counts as lost.
     pub(crate) lost: bool,
     pub(crate) failure: Option<Reason>,
 }
@@ -93,44 +95,44 @@ impl<S: Sealer> Model for Core<S> {
 }
 
 impl<S: Sealer> Core<S> {
-    /// The device.
+    /// Returns the device.
     pub fn device(&self) -> &Device
         ensures value { result.now ≡ self.now.device }
-        // What holds of each core can be asked of any.
+        // A core is always sound, so any caller can learn this here.
         ensures sound { IsSound self.now.device (S.overhead self.now.sealer) self.now.state }
     {
         &self.device
     }
 
-    /// The ticket of the next accepted command, which is how many were accepted.
+    /// Returns the ticket of the next accepted command, which is the number of commands accepted so far.
     pub fn next_ticket(&self) -> u64
         ensures { result ≡ self.now.state.next }
     {
         self.next
     }
 
-    /// How many accepted commands have no reply.
+    /// Returns the number of accepted commands that have no reply.
     pub fn waiting(&self) -> usize
         ensures { result ≡ length self.now.state.queue }
     {
         self.queue.len()
     }
 
-    /// Whether every accepted command has its reply, and the device has not failed.
+    /// Returns whether every accepted command has its reply, and the device hasn't failed.
     pub fn is_idle(&self) -> bool
         ensures { result ≡ is_idle (status_in self.now.state) }
     {
         self.queue.is_empty() && self.failure.is_none()
     }
 
-    /// Whether a STORE is outstanding.
+    /// Returns whether a STORE is outstanding.
     pub fn is_storing(&self) -> bool
         ensures { result ≡ (self.now.state.stage % 2 == 1) }
     {
         self.stage % 2 == 1
     }
 
-    /// How many blocks of a tree lie in no bucket; none once the device has failed, which forgets its trees.
+    /// Returns the number of blocks in the stash of `tree`, or 0 once the device has failed and forgotten its trees.
     pub fn stash_len(&self, tree: u8) -> usize
         requires { tree < trees_of self.now.device }
         ensures { result ≡ length (slice_index_or self.now.state.trees tree no_tree).stash }
@@ -138,28 +140,29 @@ impl<S: Sealer> Core<S> {
         self.trees.get(usize::from(tree)).map_or(0, Tree::stash_len)
     }
 
-    /// Why the device failed, if it did.
+    /// Returns why the device failed, if it did.
     pub fn failure(&self) -> Option<Reason>
         ensures { result ≡ self.now.state.failure }
     {
         self.failure
     }
 
-    /// Whether a message is outstanding.
+    /// Returns whether a message is outstanding and doesn't count as lost.
     fn is_waiting(&self) -> bool
         ensures { result ≡ is_waiting (status_in self.now.state) }
     {
         !self.lost && !self.queue.is_empty() && self.failure.is_none()
     }
 
-    /// Whether the message sent last counts as lost.
+    /// Returns whether the message sent last counts as lost.
     fn is_stalled(&self) -> bool
         ensures { result ≡ is_stalled (status_in self.now.state) }
     {
         self.lost && !self.queue.is_empty() && self.failure.is_none()
     }
 
-    /// Makes one step. Without memory the core stays as it was, and the step may be made again.
+    /// Makes one step: takes an event and returns the reaction to it. If memory runs out, the core is unchanged, and the
+    /// caller can make the same step again.
     pub fn step(&mut self, alloc: Global, event: &Event) -> Result<Reaction, AllocError>
         ensures kept { IsSameDevice self.old self.new }
         ensures promise { let v = shape_of S.overhead S.sealing S.opening self.old in
@@ -186,7 +189,7 @@ impl<S: Sealer> Core<S> {
         }
     }
 
-    /// The first refusal that applies.
+    /// Returns the first reason to refuse the command, if there is one.
     fn refusal(&self, command: &Command, words: &Words) -> Option<Refusal>
         ensures { let s = self.now.state in
             result ≡ refusal_of self.now.device (is_over (status_in s)) (length s.queue) s.next command.now words.now }
@@ -214,7 +217,7 @@ impl<S: Sealer> Core<S> {
         None
     }
 
-    /// A command that isn't refused joins the queue.
+    /// Accepts a command that there is no reason to refuse.
     fn accept(
         &mut self,
         alloc: Global,
@@ -243,7 +246,7 @@ impl<S: Sealer> Core<S> {
         }
     }
 
-    /// An idle core fetches the first path of a command.
+    /// Begins a command on an idle core: sends the FETCH of its first path.
     fn begin(&mut self, alloc: Global, submission: Submission) -> Result<Reaction, AllocError>
         requires allowed { IsAllowed self.old.device submission }
         requires ticket { submission.ticket ≡ self.old.state.next }
@@ -272,7 +275,7 @@ impl<S: Sealer> Core<S> {
         })
     }
 
-    /// A command waits behind the others.
+    /// Adds a command to the queue, after those that wait already.
     fn enqueue(&mut self, alloc: Global, submission: Submission) -> Result<Reaction, AllocError>
         requires allowed { IsAllowed self.old.device submission }
         requires ticket { submission.ticket ≡ self.old.state.next }
@@ -299,7 +302,7 @@ impl<S: Sealer> Core<S> {
         })
     }
 
-    /// The fetch of a command in the last tree, whose map is the table.
+    /// Makes the first FETCH of a command, in the last tree, whose map is the table.
     pub(crate) fn first_fetch(
         &self,
         alloc: Global,
@@ -319,7 +322,7 @@ impl<S: Sealer> Core<S> {
         Sending::fetch(alloc, tree, leaf)
     }
 
-    /// The outstanding message counts as lost.
+    /// Counts the outstanding message as lost.
     pub(crate) fn stall(&mut self, alloc: Global) -> Reaction
         requires { status_in self.old.state ≡ Waiting }
         ensures kept { IsSameDevice self.old self.new }
@@ -329,7 +332,7 @@ impl<S: Sealer> Core<S> {
         Reaction::only(alloc, Note::Stalled)
     }
 
-    /// Sends the message that counts as lost again.
+    /// Sends the message that counts as lost again, byte for byte.
     fn resend(&mut self, alloc: Global) -> Result<Reaction, AllocError>
         ensures kept { IsSameDevice self.old self.new }
         ensures ok { IfOk result (λ r. done r self.new.state ≡ resent_by self.old.state) }

@@ -12,7 +12,7 @@ use oram_wire::{HEADER_LEN, fetch_header, store_header};
 use std::alloc::{AllocError, Global};
 use std::collections::VecDeque;
 
-/// The leaf that a message names.
+/// Returns the leaf that a FETCH or a STORE names.
 pub fn leaf_named(message: &[u8]) -> u32
     requires { 6 ≤ length message.now }
     ensures { result ≡ message_place message.now }
@@ -20,7 +20,7 @@ pub fn leaf_named(message: &[u8]) -> u32
     BigEndian::read_u32(&message[2..HEADER_LEN])
 }
 
-/// A message as it is kept, in case that it is lost, and as it is sent.
+/// A message in two copies: one to keep in case the message is lost, and one to send.
 #[derive(Drop)]
 pub struct Sending {
     pub kept: Bytes,
@@ -28,7 +28,7 @@ pub struct Sending {
 }
 
 impl Sending {
-    /// The message that asks for a path.
+    /// Makes the FETCH of a path.
     pub fn fetch(alloc: Global, tree: u8, leaf: u32) -> Result<Sending, AllocError>
         ensures kept { IfOk result (λ s. s.kept ≡ fetch_body tree leaf) }
         ensures sends { IfOk result (λ s. s.sends.items ≡ fetch_body tree leaf ∷ []) }
@@ -41,7 +41,7 @@ impl Sending {
     }
 }
 
-/// The beginning of a STORE, with room for its records.
+/// Makes the beginning of a STORE, with room for its records.
 pub fn begun_store(
     alloc: Global,
     tree: u8,
@@ -58,7 +58,7 @@ pub fn begun_store(
     Ok(bytes)
 }
 
-/// Room for what a step shows, taken before anything changes, so that nothing is refused afterwards.
+/// Room for everything that a step shows, allocated before anything changes, so that nothing can fail afterwards.
 #[derive(Drop)]
 pub struct Room {
     sent: Vec<u8>,
@@ -67,7 +67,8 @@ pub struct Room {
 }
 
 impl Room {
-    /// Room for a message of this length, or for the replies of a failure to so many commands.
+    /// Allocates room for a message of `message_len` bytes, and for the replies to `waiting` commands if the device
+    /// fails.
     pub fn new(alloc: Global, message_len: usize, waiting: usize) -> Result<Room, AllocError>
         ensures { IfOk result (IsRoom message_len waiting) }
     {
@@ -81,7 +82,7 @@ impl Room {
         })
     }
 
-    /// The message, as it is kept and as it is sent.
+    /// Puts a message into the room, as a copy to keep and one to send.
     pub fn send(self, message: Vec<u8>) -> Sending
         requires { (waiting : ℕ) × IsRoom (length message.items) waiting self }
         ensures kept { result.kept ≡ message.items }
@@ -104,7 +105,7 @@ impl Room {
         }
     }
 
-    /// Says of each command without a reply that it failed.
+    /// Makes a reply to each command without a reply, saying that it failed.
     pub fn fail(self, queue: &VecDeque<Submission>) -> Vec<Reply>
         requires { (len : ℕ) × IsRoom len (length queue.now.items) self }
         ensures { result.items ≡ map failed_reply queue.now.items }
@@ -113,14 +114,14 @@ impl Room {
     }
 }
 
-/// Says of each command without a reply that it failed.
+/// Makes a reply to each command without a reply, saying that it failed.
 pub fn failed_replies(alloc: Global, queue: &VecDeque<Submission>) -> Result<Vec<Reply>, AllocError>
     ensures { IfOk result (λ v. v.items ≡ map failed_reply queue.now.items) }
 {
     Ok(fill_failed(Vec::with_capacity(alloc, queue.len())?, queue))
 }
 
-/// Puts a reply for each command into a vector that has room for them.
+/// Fills a vector, which has room for them, with a failed reply to each command.
 fn fill_failed(mut replies: Vec<Reply>, queue: &VecDeque<Submission>) -> Vec<Reply>
     requires empty { replies.items ≡ [] }
     requires none { vec_len replies ≡ 0 }

@@ -1,13 +1,13 @@
-//! What a whole run gives.
+//! The result of a whole run.
 
 use oram_run::Reaction;
 
-/// What a run gave.
+/// The result of a run.
 #[derive(Debug, Drop)]
 pub struct Run {
     /// The messages of the formatting, the oldest first.
     pub format: Vec<Vec<u8>>,
-    /// One an event, the oldest first; where memory was refused, those to a beginning of the events.
+    /// One reaction for each event, the oldest first. If memory ran out, only those to the first events.
     pub reactions: Vec<Reaction>,
     pub out_of_memory: bool,
 }

@@ -1,4 +1,4 @@
-//! What a client keeps of a core in its state file.
+//! The parts of a core that a client keeps in its state file.
 ghost use Rattle.std.specs.Prelude.{◌≡◌, ◌+◌, length, map, All, IfOk, IsOk, Err};
 ghost use Rattle.oram_bucket.specs.Cell.{IsRising};
 ghost use Rattle.oram_tree.specs.Parts.{parts_of as tree_parts};
@@ -17,41 +17,43 @@ use std::alloc::{AllocError, Global};
 use std::collections::VecDeque;
 use std::marker::Model;
 
-/// A command without a reply. Its ticket follows from its place among them and how many were accepted.
+/// A command without a reply. Its ticket follows from its index among these commands and from the number of accepted
+/// commands.
 #[derive(Debug, Drop, PartialEq, Eq)]
 pub struct Pending {
     pub session: u32,
     pub command: Command,
-    /// Two of the tape for each tree.
+    /// Two words of the tape for each tree.
     pub words: Words,
 }
 
-/// What a client keeps of a core, beside its sealer. Of an idle core nothing waits, and of a failed one there are neither
-/// table nor trees; what then says nothing is empty, 0 or false.
+/// The parts of a core that a client keeps, except the sealer. No command waits in an idle core, and a failed one has
+/// neither commands nor a table nor trees. Fields that have no meaning then are empty, 0 or false.
 #[derive(Debug, Drop)]
 pub struct Parts {
     pub device: Device,
-    /// How many commands were accepted.
+    /// The number of accepted commands.
     pub tickets: u64,
-    /// The nonce of the next bucket that is sealed.
+    /// The nonce for the next bucket to be sealed.
     pub nonce: u64,
-    /// By block of the last tree: 0, or one more than the leaf that the block is mapped to.
+    /// For each block of the last tree: 0, or the leaf that the block is mapped to plus one.
     pub table: Vec<u32>,
-    /// From tree 0, which holds the data, to the last one.
+    /// The trees, from tree 0, which holds the data, to the last one.
     pub trees: Vec<TreeParts>,
     pub failure: Option<Reason>,
-    /// The commands without a reply, the oldest first; 64 at most.
+    /// The commands without a reply, the oldest first; at most 64.
     pub waiting: Vec<Pending>,
-    /// The entry of the oldest of them that is outstanding: the fetch and the store of each tree, from the last one on.
+    /// Which of the oldest of these commands' messages is outstanding, counted from 0. A command has a FETCH and a STORE
+    /// for each tree, from the last tree to tree 0.
     pub r: u32,
-    /// What the map named for the block of the tree whose path is fetched next, or was fetched last; 0 at the first fetch
-    /// and the last store.
+    /// The map entry of the oldest command's block in the tree whose path is fetched next, or was fetched last; 0 at the
+    /// first FETCH and at the last STORE.
     pub held_entry: u32,
-    /// At the last store, the block of tree 0 as it was read.
+    /// At the last STORE, the data of the block of tree 0 as it was read.
     pub held_data: Bytes,
     /// The message that was sent last.
     pub message: Bytes,
-    /// Whether that message counts as lost.
+    /// Whether the message sent last counts as lost.
     pub stalled: bool,
 }
 
@@ -76,7 +78,7 @@ impl Model for Parts {
     } };
 }
 
-/// Copies of the commands, without their tickets.
+/// Copies the commands, without their tickets.
 fn pendings(alloc: Global, queue: &VecDeque<Submission>) -> Result<Vec<Pending>, AllocError>
     ensures { IfOk result (λ v. v.items ≡ map pending_of queue.now.items) }
 {
@@ -92,7 +94,7 @@ fn pendings(alloc: Global, queue: &VecDeque<Submission>) -> Result<Vec<Pending>,
     Ok(waiting)
 }
 
-/// The parts of the trees, with copies of their blocks.
+/// Returns the parts of the trees, with copies of their blocks.
 fn trees_parts(alloc: Global, trees: &[Tree]) -> Result<Vec<TreeParts>, AllocError>
     ensures same { IfOk result (λ v. v.items ≡ map tree_parts trees.now) }
     ensures rising { IfOk result (λ v. All (λ t. IsRising t.stash) v.items) }
@@ -104,7 +106,7 @@ fn trees_parts(alloc: Global, trees: &[Tree]) -> Result<Vec<TreeParts>, AllocErr
     Ok(parts)
 }
 
-/// A copy of the table.
+/// Copies the table.
 fn table_copy(alloc: Global, table: &[u32]) -> Result<Vec<u32>, AllocError>
     ensures { IfOk result (λ v. v.items ≡ table.now) }
 {
@@ -114,14 +116,15 @@ fn table_copy(alloc: Global, table: &[u32]) -> Result<Vec<u32>, AllocError>
 }
 
 impl<S: Sealer> Core<S> {
-    /// How many bytes the core's sealer adds to a bucket.
+    /// Returns the number of bytes that the core's sealer adds to a bucket.
     pub fn overhead(&self) -> usize
         ensures { result ≡ S.overhead self.now.sealer }
     {
         self.sealer.overhead()
     }
 
-    /// What a client keeps of the core, in copies. `from_parts` makes the same core of it.
+    /// Returns copies of the parts that a client keeps. `from_parts` makes the same core from them. Fails only if
+    /// memory runs out.
     pub fn parts(&self, alloc: Global) -> Result<Parts, AllocError>
         ensures same { IfOk result (λ p. p ≡ parts_of self.now.device self.now.state) }
         ensures right { IfOk result (λ p. AreParts (S.overhead self.now.sealer) p) }
@@ -131,7 +134,7 @@ impl<S: Sealer> Core<S> {
         self.parts_beside(alloc, trees)
     }
 
-    /// The parts, with these of the trees.
+    /// Returns the core's parts, with these parts of its trees.
     fn parts_beside(&self, alloc: Global, trees: Vec<TreeParts>) -> Result<Parts, AllocError>
         requires { trees.items ≡ map tree_parts self.now.state.trees }
         ensures { IfOk result (λ p. p ≡ parts_of self.now.device self.now.state) }

@@ -1,4 +1,4 @@
-//! A path that has come is stored again, with the oldest command's block changed.
+//! The core has received a path: it changes the oldest command's block and stores the path again.
 ghost use Rattle.std.specs.Prelude.{◌≡◌, ◌+◌, ◌-◌, ◌*◌, ◌%◌, ◌<◌, ◌≤◌, ◌^◌, ℕ, List, [], ◌∷◌, length, map, IfOk, OnErr, slice_set, ◌==◌, if◌then◌else◌};
 ghost use Rattle.oram_geometry.specs.Sizes.{trees_of, depth_of, blocks_in};
 ghost use Rattle.oram_hash.specs.Path.{path_of};
@@ -32,7 +32,7 @@ use oram_tree::{Lookup, TreeFault};
 use oram_wire::HEADER_LEN;
 use std::alloc::{AllocError, Global};
 
-/// In a command's first access the table names the new leaf of its block.
+/// At a command's first access, enters the new leaf of its block into the table.
 fn name_block(table: &mut Vec<u32>, stage: u8, block: u32, leaf: u32)
     requires block { stage ≡ 0 → block < length table.old.items }
     requires leaf { leaf < 2 ^ 24 }
@@ -43,7 +43,7 @@ fn name_block(table: &mut Vec<u32>, stage: u8, block: u32, leaf: u32)
     }
 }
 
-/// What is kept for a reply: the block of tree 0.
+/// Returns the data to keep for the reply: that of the block in tree 0, and nothing in a map tree.
 fn kept_for_reply(alloc: Global, tree: u8, before: Vec<u8>) -> Bytes
     ensures { result ≡ kept_of tree before.items }
 {
@@ -54,7 +54,8 @@ fn kept_for_reply(alloc: Global, tree: u8, before: Vec<u8>) -> Bytes
 }
 
 impl<S: Sealer> Core<S> {
-    /// The path of the oldest command has come: its block is read or changed and mapped anew, and the path goes back.
+    /// Takes the path that the oldest command fetched: reads or changes its block, gives the block a new leaf, and
+    /// sends the path back. Fails the device if the path can't be read, or the map has led astray.
     pub(crate) fn store(
         &mut self,
         alloc: Global,
@@ -102,8 +103,8 @@ impl<S: Sealer> Core<S> {
         }
     }
 
-    /// Whether what was found is not what the map leads to: a block that the map names is missing, or what it names for
-    /// the tree below is no leaf there.
+    /// Returns whether the map has led astray: it names a block that wasn't found, or the entry that it has for the tree
+    /// below is no leaf there.
     fn is_misled(&self, errand: &Errand, found: bool, named: u32) -> bool
         requires healthy { self.now.state.failure ≡ None }
         requires tree { errand.now.tree ≡ stage_tree self.now.device self.now.state.stage }
@@ -122,7 +123,7 @@ impl<S: Sealer> Core<S> {
         is_missing || is_no_leaf
     }
 
-    /// An access was made: the core takes it over, and stores the path.
+    /// Goes on after an access to a tree: stores the path, or fails the device if the map has led astray.
     fn take_over(
         &mut self,
         alloc: Global,
@@ -159,7 +160,7 @@ impl<S: Sealer> Core<S> {
         self.commit(alloc, errand, before, named, room.send(message))
     }
 
-    /// The path of an access goes back to the host.
+    /// Sends the path of an access to the host, and changes the state accordingly.
     fn commit(
         &mut self,
         alloc: Global,

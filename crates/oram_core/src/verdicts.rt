@@ -1,4 +1,4 @@
-//! What an answer to the outstanding message is.
+//! Judges an answer to the outstanding message.
 ghost use Rattle.std.specs.Prelude.{◌≡◌, ◌≢◌, ◌↔◌, ◌%◌, ℕ, false, List, [], ◌∷◌, IfOk};
 ghost use Rattle.oram_run.specs.Answers.{outcome_of, pair_in};
 ghost use Rattle.oram_run.specs.Messages.{asked};
@@ -14,19 +14,19 @@ use crate::messages::leaf_named;
 use oram_bucket::Sealer;
 use oram_hash::{HashFault, PathView};
 use oram_run::Reason;
-/// What an answer to the outstanding message is.
+/// The verdict on an answer to the outstanding message.
 pub(crate) enum Verdict<'a> {
-    /// The records that were last stored on the path that was asked for.
+    /// The records of the requested path, as they were last stored.
     Path(PathView<'a>),
-    /// The path was stored.
+    /// The host has stored the path.
     Stored,
     /// The host has no room; the message counts as lost.
     NoRoom,
-    /// No good answer, and why.
+    /// The answer isn't good, for this reason.
     Bad(Reason),
 }
 
-/// The code from 1 to 8 by which a host refuses, if it does.
+/// Returns the code from 1 to 8 of a refusal by the host, if the answer is one.
 fn refusal_in(bytes: &[u8]) -> Option<u8>
     ensures { result ≡ refusal_in bytes.now }
 {
@@ -46,7 +46,7 @@ fn refusal_in(bytes: &[u8]) -> Option<u8>
 }
 
 impl<S: Sealer> Core<S> {
-    /// What an answer to the outstanding message is.
+    /// Judges an answer to the outstanding message.
     pub(crate) fn verdict<'a>(&self, bytes: &'a [u8]) -> Verdict<'a>
         requires { status_in self.now.state ≡ Waiting }
         ensures means { let v = shape_of S.overhead S.sealing S.opening self.now in let s = self.now.state in
@@ -69,7 +69,7 @@ impl<S: Sealer> Core<S> {
         self.payload_verdict(&bytes[1..])
     }
 
-    /// What byte 80 and these bytes after it are.
+    /// Judges an answer that consists of byte 80 and these bytes.
     fn payload_verdict<'a>(&self, records: &'a [u8]) -> Verdict<'a>
         requires { status_in self.now.state ≡ Waiting }
         ensures means { let v = shape_of S.overhead S.sealing S.opening self.now in let s = self.now.state in
@@ -86,7 +86,7 @@ impl<S: Sealer> Core<S> {
         Verdict::Bad(Reason::Malformed)
     }
 
-    /// What the records are that answer a fetch.
+    /// Judges the records that answer a FETCH.
     fn path_verdict<'a>(&self, records: &'a [u8]) -> Verdict<'a>
         requires waiting { status_in self.now.state ≡ Waiting }
         requires stage { self.now.state.stage % 2 ≡ 0 }
@@ -104,7 +104,7 @@ impl<S: Sealer> Core<S> {
         }
     }
 
-    /// The records as the path that was asked for, under the root that its tree has.
+    /// Checks these records as the requested path, against the root digest of its tree.
     fn checked<'a>(&self, records: &'a [u8]) -> Result<PathView<'a>, HashFault>
         requires { status_in self.now.state ≡ Waiting }
         ensures sound { IsSound self.now.device (S.overhead self.now.sealer) self.now.state }

@@ -1,4 +1,4 @@
-//! A whole run.
+//! A whole run: a formatting, and a step for each event.
 ghost use Rattle.std.specs.Prelude.{◌≡◌, ◌⊎◌, ℕ, false, List, [], ◌<◌, length, map, OnOk, OnErr};
 ghost use Rattle.oram_trace.specs.Tape.{ArePlacesApart};
 ghost use Rattle.oram_run.specs.Law.{StepsAlong};
@@ -15,15 +15,15 @@ use oram_run::{Event, Reaction};
 use oram_wire::ListSink;
 use std::alloc::{AllocError, Global};
 
-/// Formats a device and makes one step an event. At the first refusal of memory it ends.
+/// Formats a device and makes a step for each event. Ends as soon as memory runs out.
 pub fn run<S: Sealer>(alloc: Global, device: Device, sealer: S, events: &[Event]) -> Run
-    // Each reply is the plain array's, in order of submission, and each message shows the tape's word at a place that
-    // the addresses alone fix, up to an answer in which two records of one digest stand.
+    // Each reply is that of the plain array, in the order of submission. Each message shows the word at a place of the
+    // tape that the addresses alone determine. Both hold until an answer shows two records with the same digest.
     ensures right { let v = shape_with S.overhead S.sealing S.opening device sealer in
         AllRight (setting_by v result.format.items) [] events.now (map shown result.reactions.items) }
-    // No place is shown by two commands.
+    // No two commands show the same place of the tape.
     ensures places { (addresses : List ℕ) → ArePlacesApart device addresses }
-    // No nonce is of two sealed buckets.
+    // No nonce is used for two buckets.
     ensures nonces { AreNoncesApart device }
     ensures complete { result.out_of_memory ≡ false → length result.reactions.items ≡ length events.now }
     ensures formatted { let v = shape_with S.overhead S.sealing S.opening device sealer in
@@ -46,7 +46,7 @@ pub fn run<S: Sealer>(alloc: Global, device: Device, sealer: S, events: &[Event]
     }
 }
 
-/// Makes one step an event, and keeps the reactions.
+/// Makes a step for each event and collects the reactions.
 fn step_all<S: Sealer>(
     alloc: Global,
     core: &mut Core<S>,

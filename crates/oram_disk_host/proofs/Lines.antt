@@ -1,4 +1,4 @@
--- A line that is put together in one way is that in another.
+-- A line that is joined in one way is the line that is joined in another.
 use Rattle.std.proofs.Common.{◌≡◌, ℕ, List, ◌++◌, refl, append_assoc}
 
 pub grouped : (a peer b from c until d messages e received f sent g ended failed h : List ℕ) →

@@ -1,4 +1,4 @@
--- A request is served alike by what is the same host.
+-- Two equal hosts serve a request in the same way.
 use Rattle.std.proofs.Common.{◌≡◌, ℕ, List, subst}
 use Rattle.oram_redo.specs.FilePair.{Contents}
 use Rattle.oram_wire.specs.declared.host_messages.HostAnswer.{HostAnswer}

@@ -1,4 +1,4 @@
--- How the program ends where it can't go on: a line, and its exit status.
+-- How the program ends if it can't go on: a line, and its exit status.
 use Rattle.std.specs.Global.{Global}
 use Rattle.std.specs.Prelude.{ℕ, List, ◌++◌, String, codes, string_bytes}
 use Rattle.std.specs.declared.io.ErrorKind.{ErrorKind}
@@ -30,24 +30,24 @@ status_of OutOfMemory = 3
 status_of Accept = 5
 status_of Random = 15
 
--- the fault of the program where a file can't be read or kept
+-- the fault of the program if a file can't be read or kept
 abbrev pub kept_fault : FileFault → Fault
 kept_fault (file.File name) = Of (kind.File reason.Other) name
 kept_fault file.OutOfMemory = OutOfMemory
 
--- the reason of the system's error
+-- the reason for the system's error
 abbrev pub reason_of : ErrorKind → FileReason
 reason_of error.NotFound = reason.Missing
 reason_of error.PermissionDenied = reason.NotPermitted
 reason_of error.StorageFull = reason.DiskFull
 reason_of any_other = reason.Other
 
--- what such an error of a call on the file or folder of this name is to the program
+-- the fault of the program for such an error of a call on the file or folder `name`
 abbrev pub file_fault : ErrorKind → String Global → Fault
 file_fault error.OutOfMemory name = OutOfMemory
 file_fault any_other name = Of (kind.File (reason_of any_other)) name
 
--- the fault of the program where the store in the file of this name can't be opened, or has stopped
+-- the fault of the program if the store in the file `name` can't be opened, or has stopped
 abbrev pub store_fault : StoreFault → String Global → Fault
 store_fault store.Busy name = Of kind.Busy name
 store_fault store.NotOurs name = Of kind.NotOurs name

@@ -26,7 +26,8 @@ is_lost (Some fault.Io) = true
 is_lost (Some fault.Closed) = true
 is_lost (Some _) = false
 
--- The store answers the body of a request, and the tally counts both. What is answered as done is sure, but for a PUT.
+-- The store answers the body of a request, and the tally counts both. When a request other than a PUT is answered as
+-- done, its effect is durable.
 pub record Serves {F : Type 0} (seen : F → Contents) (may_leave : F → Contents → Type 0) (moment : F → ℕ) (left_since : F → ℕ → Contents → Type 0)
     (is_honest : F → Type 0) (before : HostedValue F) (body : List ℕ) (answer : HostAnswer) (after : HostedValue F) : Type 0 where
   pub counts : Counts before.tally body (answer_body answer) after.tally
@@ -37,6 +38,6 @@ pub record Serves {F : Type 0} (seen : F → Contents) (may_leave : F → Conten
   pub goes_on : (message : HostRequest) → HasNumbers message → body ≡ request_body message → IsGranted answer → after.store.file.has_stopped ≡ false
   pub op : names_request body ≡ false → answer_body answer ≡ answer_body (Refused 7)
   pub misfit : IsMisfit body → answer_body answer ≡ answer_body (Refused 4)
-  -- where there is no room, the tally tells why
+  -- if there is no room, the tally says why
   pub full : answer_body answer ≡ answer_body (Refused 8) → after.tally.failure ≡ after.store.failure
   pub spare : answer_body answer ≢ answer_body (Refused 8) → after.tally.failure ≡ before.tally.failure

@@ -1,4 +1,4 @@
--- The kinds of faults: what stands before and behind the name in the line, and the exit status.
+-- The kinds of faults: the text before and after the name in the line, and the exit status.
 use Rattle.std.specs.Prelude.{ℕ, List, codes}
 use Rattle.oram_edge.specs.declared.hosts.HostFault.TheVariants as host
 use Rattle.oram_settings.specs.declared.differences.FixedKey.{FixedKey}
@@ -7,7 +7,7 @@ use Rattle.oram_disk_host.specs.declared.kinds.FileReason.TheVariants as reason
 use Rattle.oram_disk_host.specs.declared.kinds.FaultKind.{FaultKind}
 use Rattle.oram_disk_host.specs.declared.kinds.FaultKind.TheVariants.{CommandLine, Settings, Device, File, Unformatted, Address, NotOurs, OlderFile, NewerFile, WithoutLog, OthersLog, LogAlone, Damaged, Busy, NoFile, FileExists, Exists, Formatted, NotADisk, OlderState, WrongKey, Changed, Host, Unkept, UsedUp, InUse, Failed, NotFailed}
 
--- before the name of the settings with a changed value
+-- the text before the name of the settings with a changed value
 abbrev pub changed : FixedKey → List ℕ
 changed fixed.Size = codes "oramdisk: size in "
 changed fixed.Block = codes "oramdisk: block in "
@@ -15,7 +15,7 @@ changed fixed.Slots = codes "oramdisk: slots in "
 changed fixed.Table = codes "oramdisk: table in "
 changed fixed.Sealer = codes "oramdisk: sealer in "
 
--- what stands before the name
+-- the text before the name
 abbrev pub front : FaultKind → List ℕ
 front Device = codes "oramdisk: bad numbers in "
 front Unformatted = codes "oramdisk: the disk isn't formatted yet: start its host, and then say oramdisk format "
@@ -79,11 +79,12 @@ rest InUse = codes " is in use by another process: end that one first\n"
 rest Failed = codes " has failed, and oramdisk status says why: see that its own host is reached, with its own file, and then say oramdisk retry\n"
 rest NotFailed = codes " has not failed, and is left as it is\n"
 
--- 2: words or settings; 4: a file; 5: a socket; 6 to 8: a host's file that is none, damaged, or held; 9: what is there already;
--- 10: a state that is none; 11, 12: a host out of reach, or that refuses; 13: a state that can't be kept; 14: no access left;
--- 16: a disk in use; 17: a disk that has failed; 18: one that has not; 19: a host's file that is missing;
--- 20 to 22: a host with another disk, with none, or without room; 23, 24: a key or another value that isn't the formatting's;
--- 25: a host's file of another version; 26: a file without its log, or a log without its file
+-- 2: words or settings; 4: a file; 5: a socket; 6 to 8: a host's file that isn't one, is damaged, or is held; 9:
+-- something that exists already; 10: a state that isn't one; 11, 12: a host that is out of reach, or that refuses; 13:
+-- a state that can't be kept; 14: no access left; 16: a disk in use; 17: a disk that has failed; 18: a disk that
+-- hasn't; 19: a host's file that is missing; 20 to 22: a host with another disk, with none, or without room; 23, 24: a
+-- key or another value that isn't the one of the formatting; 25: a host's file of another version; 26: a file without
+-- its log, or a log without its file
 abbrev pub status : FaultKind → ℕ
 status CommandLine = 2
 status Settings = 2

@@ -6,15 +6,15 @@ use Rattle.oram_disk_host.specs.declared.tallies.Tally.{Tally}
 abbrev pub none : Tally
 none = record { messages = 0; received = 0; sent = 0; failure = None }
 
--- a sum that stays at its greatest number
+-- a sum that stops at the greatest number
 abbrev pub capped : ℕ → ℕ
 capped n = min n (2 ^ 64 - 1)
 
--- the bytes of the frame of a body
+-- the number of bytes of the frame of a body
 abbrev pub frame_len : List ℕ → ℕ
 frame_len body = capped (length body + 4)
 
--- a message and its answer more
+-- the tally with one more message and its answer
 pub record Counts (before : Tally) (body answer : List ℕ) (after : Tally) : Type 0 where
   pub messages : after.messages ≡ capped (before.messages + 1)
   pub received : after.received ≡ capped (before.received + frame_len body)

@@ -1,4 +1,4 @@
--- The line of a connection.
+-- The line that is printed for a connection.
 use Rattle.std.specs.Prelude.{ℕ, List, [], ◌++◌, Option, Some, None, codes, decimal, string_bytes}
 use Rattle.oram_answering.specs.declared.faults.ServeFault.TheVariants as serve
 use Rattle.oram_store.specs.declared.faults.StoreFault.{StoreFault}
@@ -8,7 +8,7 @@ use Rattle.oram_disk_host.specs.declared.visits.EarlyEnd.{EarlyEnd}
 use Rattle.oram_disk_host.specs.declared.visits.EarlyEnd.TheVariants as early
 use Rattle.oram_disk_host.specs.declared.visits.Visit.{Visit}
 
--- what is told of an early end
+-- what the line says of an early end
 abbrev pub ending : Option EarlyEnd → List ℕ
 ending None = []
 ending (Some early.Displaced) = codes ", a newer connection took its place"
@@ -20,7 +20,7 @@ ending (Some (early.Fault serve.Truncated)) = codes ", a frame was cut short"
 ending (Some (early.Fault serve.Stalled)) = codes ", it stalled"
 ending (Some (early.Fault serve.OutOfMemory)) = codes ", out of memory"
 
--- what is told of a file that had no room
+-- what the line says of a file that had no room
 abbrev pub failing : Option StoreFault → List ℕ
 failing None = []
 failing (Some store.NoRoom) = codes ", the disk was full"

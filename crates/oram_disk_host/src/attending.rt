@@ -1,4 +1,4 @@
-//! How long those who are connected may let the host wait, and who comes first.
+//! How long a connection may let the host wait, and which connection comes first.
 
 use crate::visits::EarlyEnd;
 use oram_answering::ServeFault;
@@ -13,8 +13,8 @@ const LONGEST_SILENCE: u64 = 60;
 
 /// Lets a connection be idle for as long as nobody else connects, and silent in the middle of a message for a minute.
 ///
-/// The newest connection comes first: one of the disk's owner whose way here is frozen can't be told from one that is idle, and he is to
-/// reach his disk by another way at once.
+/// The newest connection comes first. If the owner's connection freezes, the host can't tell it from an idle one, and
+/// the owner must be able to reach the disk over another connection at once.
 #[derive(Debug, Drop)]
 pub(crate) struct HostAttendant {
     is_within_message: Cell<bool>,
@@ -29,7 +29,7 @@ impl HostAttendant {
         }
     }
 
-    /// Why the connection ended, where its service ended so.
+    /// Returns why the connection ended before its input did, if that is so.
     pub(crate) fn early_end(&self, served: Result<u64, ServeFault>) -> Option<EarlyEnd> {
         match served {
             Ok(_) => None,

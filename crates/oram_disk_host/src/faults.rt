@@ -1,4 +1,4 @@
-//! How the program ends where it can't go on.
+//! How the program ends if it can't go on.
 
 ghost use Rattle.std.specs.Prelude.{◌≡◌, ◌++◌};
 ghost use Rattle.oram_host.specs.Transfers.{Begins};
@@ -14,9 +14,9 @@ use std::io::Write;
 /// Why the program ends.
 #[derive(Drop)]
 pub enum Fault {
-    /// A fault of this kind, and the name or the address of what it is about.
+    /// A fault of a kind, with the name or the address that it is about.
     Of(FaultKind, String),
-    /// No disk has so many bytes as are asked for.
+    /// No disk has the size that is asked for.
     Size,
     OutOfMemory,
     /// No more connections can be accepted.
@@ -48,7 +48,7 @@ impl From<FileFault> for Fault {
     }
 }
 
-/// The fault of the program where the store in the file of this name can't be opened, or has stopped.
+/// Returns the program's fault if the store in the file `name` can't be opened, or has stopped.
 pub fn store_fault(name: String, why: StoreFault) -> Fault
     ensures { result ≡ spec.store_fault why name }
 {
@@ -69,7 +69,7 @@ pub fn store_fault(name: String, why: StoreFault) -> Fault
 }
 
 impl Fault {
-    /// The line, as what stands before a name, the name, and what stands behind it.
+    /// Returns the line in three parts: the text before a name, the name, and the text after it.
     fn texts(&self) -> (&str, &str, &str)
         ensures { result.0.now ++ result.1.now ++ result.2.now ≡ spec.line_of self.now }
     {
@@ -94,7 +94,7 @@ impl Fault {
         }
     }
 
-    /// The exit status.
+    /// Returns the exit status.
     fn status(&self) -> u8
         ensures { result ≡ spec.status_of self.now }
     {
@@ -117,9 +117,9 @@ impl fmt::Debug for Fault {
     }
 }
 
-/// Writes the line of a fault, as far as the writer takes it, and gives the exit status. It takes no memory.
+/// Writes the line of a fault, as far as the writer takes it, and returns the exit status. Allocates nothing.
 pub fn report<W: Write>(writer: &mut W, fault: &Fault) -> u8
-    // All of the line, unless the writer failed.
+    // It writes the whole line, unless the writer fails.
     ensures line { Begins (W.contents writer.old) (W.contents writer.new) (spec.line_of fault.now) }
     ensures status { result ≡ spec.status_of fault.now }
 {

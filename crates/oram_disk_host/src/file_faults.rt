@@ -1,4 +1,4 @@
-//! Faults of files, by the system's own reason.
+//! Faults of files, with the reason that the system gives.
 
 ghost use Rattle.std.specs.IoError.{error_kind};
 ghost use Rattle.std.specs.Prelude.{◌≡◌};
@@ -11,7 +11,7 @@ use std::io::ErrorKind;
 use std::rt::Files;
 use std::{fs, io, str};
 
-/// The reason of an error of this kind.
+/// Returns the reason for an error of this kind.
 fn reason_of(kind: ErrorKind) -> FileReason
     ensures { result ≡ spec.reason_of kind }
 {
@@ -23,7 +23,7 @@ fn reason_of(kind: ErrorKind) -> FileReason
     }
 }
 
-/// What a failed call on the file or folder of this name is to the program.
+/// Returns the program's fault for a failed call on the file or folder `name`.
 pub fn file_fault(name: String, error: &io::Error) -> Fault
     ensures { result ≡ spec.file_fault (error_kind error.now) name }
 {
@@ -33,7 +33,7 @@ pub fn file_fault(name: String, error: &io::Error) -> Fault
     }
 }
 
-/// All bytes of a settings file.
+/// Reads a whole settings file.
 pub fn settings_bytes<R: Files + AllocGlobal>(rt: &R, name: &str) -> Result<Vec<u8>, Fault> {
     match fs::read(rt, name) {
         Ok(bytes) => Ok(bytes),
@@ -41,7 +41,7 @@ pub fn settings_bytes<R: Files + AllocGlobal>(rt: &R, name: &str) -> Result<Vec<
     }
 }
 
-/// The text that the bytes of the settings file of this name are.
+/// Returns the bytes of the settings file `name` as text. Fails if they aren't UTF-8.
 pub fn text_of<'a>(alloc: Global, bytes: &'a [u8], name: &str) -> Result<&'a str, Fault> {
     match str::from_utf8(bytes) {
         Ok(text) => Ok(text),

@@ -34,7 +34,7 @@ impl<F: FilePair> Model for Hosted<F> {
 }
 
 impl<F: FilePair> Hosted<F> {
-    /// A store, before the first connection.
+    /// Returns a store before its first connection.
     pub fn new(store: Store<F>) -> Hosted<F>
         ensures { (result.store ≡ store) × (result.tally ≡ none) }
     {
@@ -51,14 +51,14 @@ impl<F: FilePair> Hosted<F> {
         self.tally = Tally::new();
     }
 
-    /// The tally of the connection so far.
+    /// Returns the tally of the connection so far.
     pub fn tally(&self) -> Tally
         ensures { result ≡ self.now.tally }
     {
         self.tally
     }
 
-    /// Makes sure of what a formatting has put so far. Where that fails, the tally tells why.
+    /// Makes the records durable that a formatting has put so far. If that fails, the tally says why.
     pub fn settle(&mut self)
         ensures settled { (self.new.store.pending ≡ []) ⊎ IsSome self.new.tally.failure }
         ensures calm { self.old.store.pending ≡ [] → self.new ≡ self.old }
@@ -77,7 +77,7 @@ impl<F: FilePair> Hosted<F> {
         }
     }
 
-    /// The file has to be opened again, since its disk failed.
+    /// Returns whether the disk has failed, so that the file has to be opened again.
     pub fn has_failed(&self) -> bool
         ensures { result ≡ is_lost self.now.tally.failure }
     {
@@ -87,7 +87,8 @@ impl<F: FilePair> Hosted<F> {
         )
     }
 
-    /// Why there was no room, where this is the answer that there isn't.
+    /// Returns why there was no room, if `answer` says that there is none, or else the reason that the tally has
+    /// already.
     fn failure(&self, answer: &[u8]) -> Option<StoreFault>
         ensures full { answer.now ≡ answer_body (HostAnswer.Refused 8) → result ≡ self.now.store.failure }
         ensures spare { answer.now ≢ answer_body (HostAnswer.Refused 8) → result ≡ self.now.tally.failure }
@@ -103,7 +104,7 @@ impl<F: FilePair> Hosted<F> {
 impl<F: FilePair> BucketServer for Hosted<F> {
     ghost serves = { λ before body answer after. Serves F.seen F.may_leave F.moment F.left_since F.is_honest before body answer after };
 
-    // Once the disk has failed nothing more is answered, so that the connection ends and the file is opened again.
+    // Once the disk has failed, it answers nothing more, so that the connection ends and the file is opened again.
     fn respond(&mut self, alloc: Global, body: &[u8]) -> Result<Vec<u8>, AllocError> {
         if self.has_failed() {
             return Err(AllocError);

@@ -1,4 +1,4 @@
-//! The host: connections that are served one after the other, out of a store in a file.
+//! The host, which serves connections one after the other, out of a store in a file.
 
 ghost use Rattle.std.specs.Prelude.{◌≡◌, ◌⊎◌, [], IsSome};
 
@@ -27,7 +27,8 @@ use std::{fs, thread};
 /// How many seconds a host waits before it tries again to open a file whose disk has failed.
 const RETRY_AFTER: u64 = 1;
 
-/// The settings in the file of this name, where the name of the file of buckets is as seen from here.
+/// Reads the settings file `name`. It gives the file of buckets relative to the folder of the settings; this makes its
+/// name one that can be opened from here.
 fn settings_in<R: Files + AllocGlobal>(rt: &R, name: String) -> Result<HostSettings, Fault> {
     let alloc = rt.alloc();
     let bytes = settings_bytes(rt, name.as_str())?;
@@ -54,7 +55,7 @@ pub fn listen_at<R: Net>(rt: &R, address: String) -> Result<R::Listener, Fault> 
     }
 }
 
-/// The clock's time in whole seconds of UTC, as RFC 3339 writes it.
+/// Returns the clock's time in whole seconds of UTC, as RFC 3339 writes it.
 pub fn time<R: Clock + AllocGlobal>(rt: &R) -> Result<String, AllocError> {
     let alloc = rt.alloc();
     match Timestamp::now(rt) {
@@ -63,14 +64,14 @@ pub fn time<R: Clock + AllocGlobal>(rt: &R) -> Result<String, AllocError> {
     }
 }
 
-/// Serves a connection to its end, and tells why that came early.
+/// Serves a connection to its end, and returns why that came early, if it did.
 fn serve<R: Net + Clock + AllocGlobal, T: Read + Write + OpenStream + AsRawFd + Drop, F: FilePair>(
     rt: &R,
     listener: RawFd,
     stream: T,
     hosted: &mut Hosted<F>,
 ) -> Option<EarlyEnd>
-    // Behind it each record of a formatting is sure, or the tally tells why not.
+    // After this, each record of a formatting is durable, or the tally says why not.
     ensures { hosted.old.store.pending ≡ [] → (hosted.new.store.pending ≡ []) ⊎ IsSome hosted.new.tally.failure }
 {
     let alloc = rt.alloc();
@@ -88,13 +89,13 @@ fn serve<R: Net + Clock + AllocGlobal, T: Read + Write + OpenStream + AsRawFd + 
     let served = host_serve(alloc, &mut reader, &mut writer, hosted);
     hosted.settle();
     if hosted.has_failed() {
-        // The tally tells why.
+        // The tally says why.
         return None;
     }
     attendant.early_end(served)
 }
 
-/// Serves a connection, and writes its line.
+/// Serves a connection, and prints its line.
 fn receive<
     R: Net + Clock + Eprint + AllocGlobal,
     T: Read + Write + OpenStream + AsRawFd + Drop,
@@ -124,7 +125,7 @@ fn receive<
     Ok(())
 }
 
-/// What keeps one connection from being accepted, and not the next.
+/// Returns whether an error keeps only one connection from being accepted, and not the next.
 fn passes(kind: ErrorKind) -> bool {
     matches!(
         kind,
@@ -138,7 +139,7 @@ fn passes(kind: ErrorKind) -> bool {
     )
 }
 
-/// What it is to the program that a connection wasn't accepted.
+/// Returns the program's fault for a connection that wasn't accepted, or `Ok` if the next one may be.
 pub fn not_accepted(error: &Error) -> Result<(), Fault> {
     match error.kind() {
         ErrorKind::OutOfMemory => Err(Fault::OutOfMemory),
@@ -189,8 +190,8 @@ where
     }
 }
 
-/// Refuses a file that is missing, and, where a new one is asked for, one that is there. So a host that was started in the wrong folder
-/// says so, in place of serving an empty file.
+/// Refuses a file that is missing and, if a new one is asked for, a file that exists. So a host that was started in the
+/// wrong folder says so, instead of serving an empty file.
 fn check_presence<R: Files + AllocGlobal>(rt: &R, file: &str, is_new: bool) -> Result<(), Fault> {
     let alloc = rt.alloc();
     let is_there = match fs::exists(rt, file) {
@@ -205,7 +206,7 @@ fn check_presence<R: Files + AllocGlobal>(rt: &R, file: &str, is_new: bool) -> R
     Err(Fault::Of(kind, String::from_str(alloc, file)?))
 }
 
-/// Tells of a file that was opened: whether it was made, and where it is served.
+/// Prints that a file was opened: whether it is a new one, and where it is served.
 fn tell_opened(
     rt: &HostRuntime,
     address: &str,
@@ -241,8 +242,8 @@ where
     serve_opened(rt, listener, opened, file)
 }
 
-/// Serves the file again whose disk has failed. As long as it can't be opened the host waits for it, and says so once: what it lies on,
-/// as a volume over a network, may come back.
+/// Serves the file again after its disk has failed. As long as the file can't be opened, the host waits for it, and
+/// says so once: the storage that it is on, such as a volume over a network, may come back.
 fn serve_again<L: OpenListener + AsRawFd>(
     rt: &HostRuntime,
     listener: &L,
@@ -268,7 +269,8 @@ where
     Ok(())
 }
 
-/// Keeps buckets for others, until it is ended. It listens before it opens the file, so a port that is taken leaves the file alone.
+/// Keeps buckets for others, until it is ended. It listens before it opens the file, so if the port is taken, the file
+/// stays as it is.
 pub fn host(rt: &HostRuntime, name: String, is_new: bool) -> Result<(), Fault> {
     let HostSettings { listen, file } = settings_in(rt, name)?;
     let listener = listen_at(rt, String::from_str(rt.alloc(), listen.as_str())?)?;

@@ -9,51 +9,53 @@ use oram_settings::FixedKey;
 /// Why a file or folder can't be opened, read or written.
 #[derive(Clone, Copy, Debug, PartialEq, Eq)]
 pub enum FileReason {
-    /// There is none of that name.
+    /// There is no file or folder of this name.
     Missing,
-    /// The system refuses it.
+    /// The system doesn't permit it.
     NotPermitted,
-    /// Its disk has no room.
+    /// The disk that it is on has no room.
     DiskFull,
     Other,
 }
 
-/// Why the program ends, where that is about something that has a name.
+/// Why the program ends, if that is about something with a name.
 #[derive(Clone, Copy, Debug)]
 pub enum FaultKind {
-    /// The words of the command line ask for nothing. In place of a name there is what is wrong with them, and how the program is used.
+    /// The command line asks for nothing. Instead of a name, it comes with what is wrong with the words, and how the
+    /// program is used.
     CommandLine,
-    /// A file isn't the settings that it has to be. In place of a name there is which file it is, and what is wrong with it.
+    /// A file doesn't have the settings that it must have. Instead of a name, it comes with which file it is, and what
+    /// is wrong with it.
     Settings,
-    /// The numbers in the file of this name are no disk's.
+    /// No disk can have the numbers in the file of this name.
     Device,
     /// The file or folder of this name can't be opened, read or written.
     File(FileReason),
     /// The disk whose settings are in the file of this name isn't formatted yet.
     Unformatted,
-    /// Nothing can be listened to at this address.
+    /// The program can't listen at this address.
     Address,
-    /// The file of this name isn't one of buckets.
+    /// The file of this name isn't a file of buckets.
     NotOurs,
-    /// The file of buckets of this name is an older version's, or a newer one's.
+    /// The file of buckets of this name is from an older version, or from a newer one.
     OlderFile,
     NewerFile,
-    /// The log beside the file of buckets of this name isn't there, or is another file's.
+    /// The log beside the file of buckets of this name is missing, or belongs to another file.
     WithoutLog,
     OthersLog,
-    /// Of the file of buckets of this name there is the log alone.
+    /// The file of buckets of this name is missing, but its log is there.
     LogAlone,
-    /// The file of this name holds what no host writes.
+    /// The file of this name holds something that no host writes.
     Damaged,
     /// Another process has the file of this name open.
     Busy,
     /// There is no file of buckets of this name.
     NoFile,
-    /// There is a file of this name, where a new one was asked for.
+    /// There is a file of this name, although a new one was asked for.
     FileExists,
     /// There is something of this name already.
     Exists,
-    /// The file of this name holds the state of a disk, or something else.
+    /// There is a file of this name already, with the state of a disk or with something else.
     Formatted,
     /// The file of this name isn't a disk's state.
     NotADisk,
@@ -63,13 +65,13 @@ pub enum FaultKind {
     WrongKey,
     /// The value of a key in the settings of this name isn't the one that the disk was formatted with.
     Changed(FixedKey),
-    /// The host at this address is of no use.
+    /// The disk can't use the host at this address.
     Host(HostFault),
     /// The state can't be kept in the file of this name.
     Unkept,
-    /// The disk whose state is in the file of this name has made all the accesses that it may.
+    /// The disk whose state is in the file of this name has made all its accesses.
     UsedUp,
-    /// Another process has the disk whose state is in the file of this name.
+    /// Another process uses the disk whose state is in the file of this name.
     InUse,
     /// The disk whose state is in the file of this name has failed.
     Failed,
@@ -77,7 +79,7 @@ pub enum FaultKind {
     NotFailed,
 }
 
-/// What stands before the name where a value was changed.
+/// Returns the text before the name, for a value that was changed.
 fn changed(key: FixedKey) -> &'static str
     ensures { result.now ≡ spec.changed key }
 {
@@ -91,7 +93,7 @@ fn changed(key: FixedKey) -> &'static str
 }
 
 impl FaultKind {
-    /// What stands before the name in the line.
+    /// Returns the text before the name in the line.
     pub(crate) fn front(self) -> &'static str
         ensures { result.now ≡ spec.front self }
     {
@@ -118,7 +120,7 @@ impl FaultKind {
         }
     }
 
-    /// What stands behind the name in the line.
+    /// Returns the text after the name in the line.
     pub(crate) fn rest(self) -> &'static str
         ensures { result.now ≡ spec.rest self }
     {
@@ -185,7 +187,7 @@ impl FaultKind {
         }
     }
 
-    /// The exit status.
+    /// Returns the exit status.
     pub(crate) fn status(self) -> u8
         ensures { result ≡ spec.status self }
     {

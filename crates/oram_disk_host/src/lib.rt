@@ -1,8 +1,10 @@
-//! The host's side of a disk's program: it keeps buckets in a file for others. What ends the program on either side is told here too.
+//! The host's side of a disk's program: it keeps buckets in a file for others. It also has the faults that end the
+//! program, on either side.
 //!
-//! [`host`] serves a file of buckets, whose settings [`read_host_settings`] reads. [`Hosted`] is a store that is served, with the
-//! [`Tally`] of a connection, and [`line`] tells of a [`Visit`]. A [`Fault`] is why the program ends, on either side, mostly of a
-//! [`FaultKind`] and of something with a name: [`report`] writes its line, and gives its status.
+//! [`host`] serves a file of buckets; [`read_host_settings`] reads its settings. [`Hosted`] is a store that is served,
+//! with the [`Tally`] of a connection, and [`line`] is the line that is printed for a [`Visit`]. A [`Fault`] is why the
+//! program ends, on either side: mostly a [`FaultKind`] and the name of what it is about. [`report`] writes its line,
+//! and returns its status.
 #![tactic(auto)]
 
 mod attending;

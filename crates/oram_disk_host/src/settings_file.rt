@@ -9,12 +9,12 @@ use oram_edge::{InputFault, address_at, has_only, name_at, table_of};
 use std::alloc::Global;
 use toml::Table;
 
-/// What the settings file of a bucket host says.
+/// The settings of a bucket host.
 #[derive(Debug, Drop)]
 pub struct HostSettings {
-    /// Where it listens.
+    /// The address at which the host listens.
     pub listen: String,
-    /// The file that its buckets are kept in.
+    /// The file in which the host keeps its buckets.
     pub file: String,
 }
 
@@ -38,9 +38,9 @@ fn host_in(alloc: Global, table: &Table) -> Result<HostSettings, InputFault>
 
 /// Reads a host's settings from a TOML document.
 pub fn read_host_settings(alloc: Global, text: &str) -> Result<HostSettings, InputFault>
-    // The text is a document whose table is that of these settings.
+    // The text is a document whose table has these settings.
     ensures ok { IfOk result (λ s. IsDocumentOf text.now (shown s)) }
-    // Bad comes only where it is no such document of any settings.
+    // `Bad` comes only if the text is no such document for any settings.
     ensures bad { IsErrOf result InputFault.Bad → (s : _) → IsDocumentOf text.now s → ⊥ }
 {
     let table = table_of(alloc, text)?;

@@ -4,23 +4,23 @@ ghost use Rattle.std.specs.Prelude.{◌≡◌};
 
 use oram_store::StoreFault;
 
-/// What was answered over a connection. The numbers stay at `u64::MAX`.
+/// What was answered over a connection. The numbers stop at `u64::MAX`.
 #[derive(Clone, Copy, Debug, PartialEq, Eq)]
 pub struct Tally {
-    /// How many messages.
+    /// The number of messages.
     pub messages: u64,
-    /// The bytes of their frames.
+    /// The number of bytes of their frames.
     pub received: u64,
-    /// The bytes of the frames of the answers.
+    /// The number of bytes of the frames of the answers.
     pub sent: u64,
-    /// Why the store had no room, the last time that it hadn't.
+    /// Why the store had no room, the last time that it had none.
     pub failure: Option<StoreFault>,
 }
 
 impl Tally {
     ghost use Rattle.oram_disk_host.specs.Tallies.{Counts, frame_len, none};
 
-    /// Nothing yet.
+    /// Returns the tally before the first message.
     pub fn new() -> Tally
         ensures { result ≡ none }
     {
@@ -32,14 +32,14 @@ impl Tally {
         }
     }
 
-    /// The bytes of the frame of a body.
+    /// Returns the number of bytes of the frame of a body.
     fn frame_len(body: &[u8]) -> u64
         ensures { result ≡ frame_len body.now }
     {
         (body.len() as u64).saturating_add(4)
     }
 
-    /// The tally with one message more, and its answer.
+    /// Returns the tally with one more message and its answer.
     pub fn with(&self, body: &[u8], answer: &[u8]) -> Tally
         ensures { Counts self.now body.now answer.now result }
     {

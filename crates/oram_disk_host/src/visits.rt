@@ -1,4 +1,4 @@
-//! The line of a connection.
+//! The line that is printed for a connection.
 
 ghost use Rattle.std.specs.Prelude.{◌≡◌, string_bytes, IfOk};
 ghost use Rattle.oram_disk_host.specs.Visits as spec;
@@ -15,14 +15,14 @@ pub enum EarlyEnd {
     Fault(ServeFault),
     /// A newer connection took its place.
     Displaced,
-    /// It was silent in the middle of a message, or left an answer unread.
+    /// The connection was silent in the middle of a message, or left an answer unread.
     Silent,
 }
 
 /// A connection that has ended.
 #[derive(Debug, Drop)]
 pub struct Visit {
-    /// The other side's address.
+    /// The address of the other side.
     pub peer: String,
     /// When it began, and when it ended.
     pub from: String,
@@ -31,7 +31,7 @@ pub struct Visit {
     pub ended: Option<EarlyEnd>,
 }
 
-/// What is told of an early end.
+/// Returns what the line says of an early end.
 fn ending(ended: Option<EarlyEnd>) -> &'static str
     ensures { result.now ≡ spec.ending ended }
 {
@@ -48,7 +48,7 @@ fn ending(ended: Option<EarlyEnd>) -> &'static str
     }
 }
 
-/// What is told of a file that had no room.
+/// Returns what the line says of a file that had no room.
 fn failing(failure: Option<StoreFault>) -> &'static str
     ensures { result.now ≡ spec.failing failure }
 {
@@ -58,12 +58,12 @@ fn failing(failure: Option<StoreFault>) -> &'static str
         Some(StoreFault::Io) => ", the disk failed",
         Some(StoreFault::Closed) => ", the disk had failed",
         Some(StoreFault::OutOfMemory) => ", there was no memory",
-        // The others are told where a file is opened.
+        // The others are reported when a file is opened.
         Some(_) => ", the file wasn't as it has to be",
     }
 }
 
-/// The line of a connection.
+/// Returns the line of a connection.
 pub fn line(alloc: Global, visit: &Visit) -> Result<String, AllocError>
     ensures { IfOk result (λ text. string_bytes text ≡ spec.line_of visit.now) }
 {

@@ -1,4 +1,4 @@
--- From clap's answer to what its matches name.
+-- What clap's matches name, from clap's answer.
 use Rattle.std.proofs.Common.{◌≡◌, ◌∙◌, sym, ap, ap₂, refl, List, [], ◌∷◌, Option, Some, None, true, inl, inr, option_map, codes}
 use Rattle.std.specs.Prelude.{◌≢◌, Box, option_and_then}
 use Rattle.std.specs.Box.{box_value}
@@ -17,7 +17,8 @@ use Rattle.clap.specs.declared.parser.matches.SubCommand.{SubCommand}
 use Rattle.clap.specs.declared.parser.matches.ArgMatches.TheViews.{out-SubCommand}
 use Rattle.oram_edge.specs.Words.{named_by, named_in, unless_faulty}
 
--- an error that memory has no part in is a fault that clap finds, and then the words name nothing
+-- an error other than running out of memory is a fault that clap finds, and then the words name
+-- nothing
 refused : (kinds : Kinds) (e : Error) (named : Option (Text × Text)) → HasKind kinds e → kind_of e ≢ OutOfMemory → unless_faulty kinds named ≡ None
 refused [] e named (inl memory) other = absurd (other memory)
 refused [] e named (inr h) other = absurd h
@@ -49,7 +50,7 @@ no_rows : (s : Option (Text × List Row)) → None ≡ option_map (λ (p : Text 
 no_rows None e = refl
 no_rows (Some p) e = cc
 
--- where a parse of the words entered no subcommand, they name nothing
+-- if a parse of the words entered no subcommand, they name nothing
 pub named_none : (a : App) (words : List Text) (m : ArgMatches) → is_simple_and_free a ≡ true → (is_simple_and_free a ≡ true → fault_of a words ≡ []) → HasMatchesOf a words m
     → None ≡ option_map (λ (p : Text × List Row). p.1) (subcommand_rows_of m) → named_in a words ≡ None
 named_none a words m free sound matches none =

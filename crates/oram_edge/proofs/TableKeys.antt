@@ -20,7 +20,7 @@ use Rattle.oram_edge.specs.declared.input.InputFault.TheVariants.{Bad}
 abbrev Entry : Type 0
 Entry = String Global × Value
 
--- the key is one of these
+-- whether the key is one of `keys`
 abbrev is_in : List (List ℕ) → String Global → Bool
 is_in keys key = list_any (λ k. bytes_eq k (string_bytes key)) keys
 
@@ -58,7 +58,7 @@ only_to keys (e ∷ es) h =
     let more = only_to keys es (λ key found. h key (found_later (slice_cmp nat_cmp key (string_bytes e.0)) _ _ found)) in
     both (is_in keys e.0) (list_all (is_in keys) (map (λ e. e.0) es)) here more
 
--- what is read as a text is one
+-- a value that is read as a text is a text
 pub text_is : (o : Option Data) (s : List ℕ) → Some s ≡ option_and_then as_str o → o ≡ Some (string s)
 text_is None s e = cc
 text_is (Some (string t)) s e = cc
@@ -69,7 +69,7 @@ text_is (Some (datetime d)) s e = cc
 text_is (Some (array ds)) s e = cc
 text_is (Some (table ms)) s e = cc
 
--- where the key of the sealer by ChaCha20 is bad, the table has no sealer
+-- if the key of the ChaCha20 sealer is bad, the table has no sealer
 pub no_sealer : (t : Members) (e : InputFault) → HasText t (codes "seal") (codes "chacha") → (e ≡ Bad → (k : List ℕ) → HasHex t (codes "seal_key") k → ⊥)
     → e ≡ Bad → (x : Option (List ℕ)) → HasSealer t x → ⊥
 no_sealer t e seal none bad None h = let both = sym seal ∙ h.0 in cc

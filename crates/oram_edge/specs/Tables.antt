@@ -1,4 +1,4 @@
--- What stands at the keys of a TOML table.
+-- The values at the keys of a TOML table.
 use Rattle.std.specs.Prelude.{◌≡◌, ◌≤◌, ◌<◌, ◌++◌, ℕ, pos, true, List, length, codes, decimal, is_some, Option, Some, None, Result, Ok, MatchResult}
 use Rattle.std.specs.List.{list_any}
 use Rattle.std.specs.Str.{bytes_eq}
@@ -13,7 +13,7 @@ use Rattle.oram_edge.specs.declared.input.InputFault.TheVariants.{Bad}
 abbrev pub IsPort : List ℕ → Type 0
 IsPort text = (port : ℕ) × (1 ≤ port) × (port ≤ 65535) × (text ≡ decimal port)
 
--- the loopback's address and a port
+-- the loopback address and a port
 abbrev pub IsAddress : List ℕ → Type 0
 IsAddress text = (port : List ℕ) × IsPort port × (text ≡ codes "127.0.0.1:" ++ port)
 
@@ -39,17 +39,18 @@ HasNumber table key n = get_member key table ≡ Some (integer (pos n))
 abbrev pub HasHex : Members → List ℕ → List ℕ → Type 0
 HasHex table key bytes = (text : List ℕ) × HasText table key text × SpellsKey text bytes
 
--- a sealer that leaves bytes as they are has no key
+-- the sealer's key; the plain sealer, which leaves bytes as they are, has none
 abbrev pub HasSealer : Members → Option (List ℕ) → Type 0
 HasSealer table None = HasText table (codes "seal") (codes "plain") × (get_member (codes "seal_key") table ≡ None)
 HasSealer table (Some key) = HasText table (codes "seal") (codes "chacha") × HasHex table (codes "seal_key") key
 
--- each key of the table is one of these
+-- each key of the table is one of `keys`
 abbrev pub HasOnly : List (List ℕ) → Members → Type 0
 HasOnly keys table = (key : List ℕ) → is_some (get_member key table) ≡ true → list_any (λ k. bytes_eq k key) keys ≡ true
 
 -- ---- what is read
 
--- An Ok shows what P holds of. Bad comes only where P holds of nothing.
+-- The value of an Ok, seen through `view`, is one that P holds of. Bad comes only if P holds of
+-- nothing.
 abbrev pub Finds : {X Y : Type 0} → (Y → X) → (X → Type 0) → Result Y InputFault → Type 0
 Finds {X} view P r = MatchResult r (λ y. P (view y)) (λ e. e ≡ Bad → (x : X) → P x → ⊥)

@@ -1,4 +1,4 @@
--- What a command line names, by clap's own account of it.
+-- What a command line names, by clap's own definitions.
 use Rattle.std.specs.Prelude.{List, [], ◌∷◌, true, Option, None, codes, option_and_then, option_map}
 use Rattle.clap.specs.Walk.{Row, Text, first_of}
 use Rattle.clap.specs.Simple.{App, Shape, new_rule, new_shape, subcommand_of}
@@ -13,7 +13,7 @@ word_taker name = record (new_shape name) { rules = record (new_rule (codes "wor
 abbrev pub named_by : Text × List Row → Option (Text × Text)
 named_by matches = option_map (λ word. (matches.0, word)) (first_of (codes "word") matches.1)
 
--- nothing where clap finds a fault
+-- nothing if clap finds a fault
 abbrev pub unless_faulty : Kinds → Option (Text × Text) → Option (Text × Text)
 unless_faulty [] named = named
 unless_faulty (fault ∷ more) named = None

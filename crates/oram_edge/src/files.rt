@@ -1,4 +1,4 @@
-//! The files that programs read and keep.
+//! Files that a program reads as a whole, and files that it replaces as a whole.
 
 ghost use Rattle.std.specs.IoError.{error_kind};
 ghost use Rattle.std.specs.Prelude.{◌≡◌, ◌++◌, codes, string_bytes, IfOk};
@@ -12,10 +12,10 @@ use std::rt::Files;
 use std::{fs, io};
 use thiserror::Error;
 
-/// Why a file was not read or written.
+/// Why a file could not be read or written.
 #[derive(Debug, PartialEq, Eq, Drop, Error)]
 pub enum FileFault {
-    /// The file of this name can't be read or written, or is there already.
+    /// The file of this name can't be read or written, is missing, or exists although it must not.
     #[error("file {0}")]
     File(String),
     #[error("out of memory")]
@@ -30,7 +30,7 @@ impl From<AllocError> for FileFault {
     }
 }
 
-/// The fault of the file of this name.
+/// Returns the fault for the file `name`, or `OutOfMemory` if there is no memory for the name.
 fn file_fault(alloc: Global, name: &str) -> FileFault
     ensures { IsFaultOf name.now result }
 {
@@ -40,7 +40,7 @@ fn file_fault(alloc: Global, name: &str) -> FileFault
     }
 }
 
-/// What a failed call on the file of this name is.
+/// Returns the fault to report for a call on the file `name` that failed with `error`.
 pub fn call_fault(alloc: Global, name: &str, error: &io::Error) -> FileFault
     ensures name { IsFaultOf name.now result }
     ensures memory { error_kind error.now ≡ ErrorKind.OutOfMemory → result ≡ FileFault.OutOfMemory }
@@ -52,7 +52,7 @@ pub fn call_fault(alloc: Global, name: &str, error: &io::Error) -> FileFault
     }
 }
 
-/// All bytes of a file.
+/// Reads a whole file.
 pub fn bytes_in<R: Files + AllocGlobal>(rt: &R, name: &str) -> Result<Vec<u8>, FileFault> {
     match fs::read(rt, name) {
         Ok(bytes) => Ok(bytes),
@@ -60,7 +60,7 @@ pub fn bytes_in<R: Files + AllocGlobal>(rt: &R, name: &str) -> Result<Vec<u8>, F
     }
 }
 
-/// The name under which a file is written before it is renamed.
+/// Returns the name under which a file is written before it is renamed.
 fn new_name(alloc: Global, name: &str) -> Result<String, AllocError>
     ensures { IfOk result (λ new. string_bytes new ≡ name.now ++ codes ".new") }
 {
@@ -69,8 +69,8 @@ fn new_name(alloc: Global, name: &str) -> Result<String, AllocError>
     Ok(new)
 }
 
-/// A file that is written as a whole, under another name first. Both names are there before there is anything to write, so that a
-/// want of memory later keeps nothing from being saved.
+/// A file that is replaced as a whole: written under another name first, then renamed. It allocates both names at the
+/// start, so that a save doesn't fail because there is no memory for a name.
 #[derive(Debug, Drop)]
 pub struct KeptFile {
     name: String,
@@ -87,17 +87,17 @@ impl KeptFile {
         self.name.as_str()
     }
 
-    /// What a failed call on the file is.
+    /// Returns the fault to report for a call on the file that failed with `error`.
     pub fn fault(&self, alloc: Global, error: &io::Error) -> FileFault {
         call_fault(alloc, self.name.as_str(), error)
     }
 
-    /// That there is such a file is the fault of this name.
+    /// Fails with [`FileFault::File`] if the file exists, or if that can't be found out.
     pub fn check_absent<R: Files + AllocGlobal>(&self, rt: &R) -> Result<(), FileFault> {
         self.check_presence(rt, false)
     }
 
-    /// That there is no such file is the fault of this name.
+    /// Fails with [`FileFault::File`] if the file doesn't exist, or if that can't be found out.
     pub fn check_present<R: Files + AllocGlobal>(&self, rt: &R) -> Result<(), FileFault> {
         self.check_presence(rt, true)
     }
@@ -114,12 +114,12 @@ impl KeptFile {
         }
     }
 
-    /// A file under the other name, to be written.
+    /// Creates the file under its other name, so that it can be written.
     pub fn begin<R: Files>(&self, rt: &R) -> io::Result<R::File> {
         fs::create(rt, self.new_name.as_str())
     }
 
-    /// Gives a file that was begun and written its own name, once it is on its disk.
+    /// Syncs a file that `begin` created, and renames it to its own name.
     pub fn settle<R: Files>(&self, rt: &R, file: &R::File) -> io::Result<()> {
         file.sync_all()?;
         fs::rename(rt, self.new_name.as_str(), self.name.as_str())
@@ -131,7 +131,7 @@ impl KeptFile {
         self.settle(rt, &file)
     }
 
-    /// Writes all of the file.
+    /// Replaces the whole file with one that holds `bytes`.
     pub fn save_bytes<R: Files + AllocGlobal>(
         &self,
         rt: &R,

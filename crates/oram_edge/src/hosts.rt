@@ -1,18 +1,18 @@
 //! What can be wrong with the host of a disk.
 
-/// Why the host of a disk is of no use to it.
+/// Why a disk can't use its host.
 #[derive(Clone, Copy, Debug, PartialEq, Eq)]
 pub enum HostFault {
-    /// It can't be reached, or doesn't answer.
+    /// The host can't be reached, or doesn't answer.
     OutOfReach,
-    /// It has no room.
+    /// The host has no room.
     NoRoom,
-    /// It keeps another disk.
+    /// The host keeps another disk.
     AnotherDisk,
-    /// It keeps no disk.
+    /// The host keeps no disk.
     NoDisk,
-    /// It keeps a disk already, and another one was to be formatted there.
+    /// The host keeps a disk already, although a new one should be formatted there.
     Taken,
-    /// It refused a message of a formatting, or didn't hold what it was given.
+    /// The host refused a message of a formatting, or didn't keep what it was sent.
     Refused,
 }

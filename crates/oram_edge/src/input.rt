@@ -1,4 +1,4 @@
-//! Why what a program is given isn't read.
+//! Why a program can't read its command line or its settings.
 
 ghost use Rattle.std.specs.Prelude.{◌≡◌};
 ghost use Rattle.oram_edge.specs.declared.input.InputFault.TheVariants.{OutOfMemory};
@@ -6,7 +6,7 @@ ghost use Rattle.oram_edge.specs.declared.input.InputFault.TheVariants.{OutOfMem
 use std::alloc::{AllocError, AllocFailed};
 use thiserror::Error;
 
-/// Why words or settings were not read.
+/// Why a command line or settings could not be read.
 #[derive(Clone, Copy, Debug, PartialEq, Eq, Error)]
 pub enum InputFault {
     #[error("they are none that the program takes")]

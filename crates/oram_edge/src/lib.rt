@@ -1,11 +1,11 @@
-//! What the store's programs share at their edge: the words that they are given, the tables of their settings, the texts that they
-//! write, their files and their sockets.
+//! What the programs share at their edge: reading command lines and settings, writing texts, files and sockets.
 //!
-//! [`read_named`] reads a command line of subcommands with a word each. [`table_of`] reads a TOML document, and the functions named
-//! for what stands at a key, as [`address_at`], read its table. [`put`] and those named after it write texts, or tell that a
-//! beginning of them was written. A [`KeptFile`] is written as a whole, and [`lock_state`]
-//! keeps other processes from what it holds. [`listen`], [`connect`], [`connect_within`] and
-//! [`buffered`] are for sockets. A [`HostFault`] is what can be wrong with the host of a disk.
+//! [`read_named`] reads a command line of subcommands with a word each. [`table_of`] reads a TOML document, and the
+//! functions that are named after what they find at a key, such as [`address_at`], read its table. [`put`] and the
+//! functions named after it write texts; their contracts say that a writer which fails has taken a beginning of the
+//! text. A [`KeptFile`] is replaced as a whole, and [`lock_state`] keeps other processes away from a state. [`listen`],
+//! [`connect`], [`connect_within`] and [`buffered`] are for sockets. A [`HostFault`] says why a disk can't use its
+//! host.
 #![tactic(auto)]
 
 mod files;

@@ -1,4 +1,4 @@
-//! One process at a time has a state.
+//! The lock on a state, which one process at a time can hold.
 
 ghost use Rattle.std.specs.Prelude.{◌≡◌, ◌++◌, codes, string_bytes, IfOk};
 ghost use Rattle.oram_edge.specs.declared.locks.LockFault.TheVariants as lock;
@@ -10,13 +10,13 @@ use std::io;
 use std::os::unix::fs::OpenOptionsExt;
 use thiserror::Error;
 
-/// Why a process doesn't get a state for itself.
+/// Why a process can't lock a state.
 #[derive(Debug, PartialEq, Eq, Drop, Error)]
 pub enum LockFault {
-    /// Another process has it.
+    /// Another process holds the lock.
     #[error("in use by another process")]
     InUse,
-    /// The file beside the state can't be made or locked.
+    /// The lock file beside the state can't be created or locked.
     #[error("{0}")]
     File(FileFault),
 }
@@ -29,13 +29,14 @@ impl From<FileFault> for LockFault {
     }
 }
 
-/// The lock of a state. Another process may have it once this is dropped, or its process has ended.
+/// A lock on a state. Another process can take it once this is dropped, or once this process has
+/// ended.
 #[derive(Drop)]
 pub struct StateLock {
     _file: File,
 }
 
-/// The name of the file beside a state that is locked.
+/// Returns the name of the lock file of a state.
 fn lock_name(alloc: Global, state: &str) -> Result<String, FileFault>
     ensures { IfOk result (λ name. string_bytes name ≡ state.now ++ codes ".lock") }
 {
@@ -44,14 +45,16 @@ fn lock_name(alloc: Global, state: &str) -> Result<String, FileFault>
     Ok(name)
 }
 
-/// It stays there, empty.
+/// Opens the lock file, and creates it if it is missing. The file stays there, empty, after the
+/// lock is released.
 fn open_lock(rt: &HostRuntime, name: &str) -> io::Result<File> {
     let mut options = OpenOptions::new();
     options.write(true).create(true).mode(0o600);
     options.open(rt, name)
 }
 
-/// Takes the lock of the state in the file of this name, which need not be there.
+/// Takes the lock of the state in the file `state`, which need not exist. Fails at once if another
+/// process holds it.
 pub fn lock_state(rt: &HostRuntime, state: &str) -> Result<StateLock, LockFault> {
     let alloc = rt.alloc();
     let name = lock_name(alloc, state)?;

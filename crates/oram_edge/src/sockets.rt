@@ -1,4 +1,4 @@
-//! The sockets that programs read and write.
+//! Sockets that programs listen at and connect to.
 
 use std::alloc::Global;
 use std::io;
@@ -32,22 +32,23 @@ pub fn listen<R: Net>(rt: &R, address: &str) -> Result<R::Listener, SocketFault>
     Ok(TcpListener::bind(rt, address)?)
 }
 
-/// Both directions of a stream. What is written goes out at once.
+/// Returns the two directions of a stream, the reader first. What is written goes out at once.
 fn halves<S: OpenStream + Drop>(stream: S) -> io::Result<(S, S)> {
     stream.set_nodelay(true)?;
     let writer = stream.try_clone()?;
     Ok((stream, writer))
 }
 
-/// Connects to an address, and gives what reads from it and what writes to it.
+/// Connects to an address, and returns the reader and the writer of the connection.
 pub fn connect<R: Net>(rt: &R, address: &str) -> Result<(R::Stream, R::Stream), SocketFault> {
     Ok(halves(TcpStream::connect(rt, address)?)?)
 }
 
-/// The least time in which a connection is tried, in milliseconds.
+/// The shortest time that is given to one attempt to connect, in milliseconds.
 const SHORTEST_TRY: u64 = 1;
 
-/// What is left of a time, as far as the clock can be read, and no less than a try takes.
+/// Returns what is left of `limit` since `begin`, but at least the time of one attempt. If the clock can't be read, all
+/// of it is left.
 fn left_of<R: Clock>(rt: &R, begin: Option<Instant>, limit: Duration) -> Duration {
     let passed = begin
         .and_then(|begin| begin.elapsed(rt).ok())
@@ -57,8 +58,9 @@ fn left_of<R: Clock>(rt: &R, begin: Option<Instant>, limit: Duration) -> Duratio
         .max(Duration::from_millis(SHORTEST_TRY))
 }
 
-/// Connects to an address within this time, and gives what reads from it and what writes to it. Where a name stands for several addresses, each
-/// is tried in turn, with the time that the ones before have left. How long it takes to look a name up is not limited.
+/// Connects to an address within `limit`, and returns the reader and the writer of the connection. If a name has
+/// several addresses, it tries each in turn, with the time that the earlier ones have left. The time for looking up a
+/// name isn't limited.
 pub fn connect_within<R: Net + Clock>(
     rt: &R,
     address: &str,
@@ -74,7 +76,7 @@ pub fn connect_within<R: Net + Clock>(
     Err(SocketFault::Failed)
 }
 
-/// What reads from a stream and what writes to it, each by way of a buffer.
+/// Returns a buffered reader and a buffered writer for a stream.
 pub fn buffered<S: Read + Write + OpenStream + Drop>(
     alloc: Global,
     stream: S,

@@ -1,4 +1,4 @@
-//! What stands at the keys of a TOML table.
+//! Reads the values at the keys of a TOML table.
 
 ghost use Rattle.std.specs.Prelude.{◌≡◌, ◌↔◌, ◌≤◌, Some, map, is_some, IsTrue, option_map, option_and_then, slice_index, string_bytes};
 ghost use Rattle.std.specs.List.{list_all, list_any};
@@ -14,7 +14,7 @@ use hex::FromHex;
 use std::alloc::Global;
 use toml::Table;
 
-/// The table that a text is.
+/// Reads a TOML document. Fails with [`InputFault::Bad`] if the text isn't one.
 pub fn table_of(alloc: Global, text: &str) -> Result<Table, InputFault>
     ensures { Finds table_view (λ t. parse_document text.now ≡ Some t) result }
 {
@@ -28,7 +28,7 @@ pub fn table_of(alloc: Global, text: &str) -> Result<Table, InputFault>
     }
 }
 
-/// The text at a key.
+/// Returns the text at a key.
 fn text_at<'a>(table: &'a Table, key: &str) -> Option<&'a str>
     ensures { option_map (λ s. s.now) result ≡ option_and_then as_str (get_member key.now (table_view table.now)) }
 {
@@ -38,7 +38,7 @@ fn text_at<'a>(table: &'a Table, key: &str) -> Option<&'a str>
     }
 }
 
-/// The integer at a key.
+/// Returns the integer at a key.
 fn integer_at(table: &Table, key: &str) -> Option<i64>
     ensures { result ≡ option_and_then as_integer (get_member key.now (table_view table.now)) }
 {
@@ -48,14 +48,14 @@ fn integer_at(table: &Table, key: &str) -> Option<i64>
     }
 }
 
-/// Something stands at a key.
+/// Returns whether the table has a key.
 fn has(table: &Table, key: &str) -> bool
     ensures { result ≡ is_some (get_member key.now (table_view table.now)) }
 {
     table.contains_key(key)
 }
 
-/// The whole number at a key.
+/// Returns the number at a key, which must not be negative.
 pub fn number_at(table: &Table, key: &str) -> Result<u64, InputFault>
     ensures { Finds (λ n. n) (HasNumber (table_view table.now) key.now) result }
 {
@@ -65,7 +65,7 @@ pub fn number_at(table: &Table, key: &str) -> Result<u64, InputFault>
     }
 }
 
-/// The number of connections at a key.
+/// Returns the number of connections at a key, from 1 to 1,000,000.
 pub fn count_at(table: &Table, key: &str) -> Result<u64, InputFault>
     ensures { Finds (λ n. n) (λ n. HasNumber (table_view table.now) key.now n × IsCount n) result }
 {
@@ -77,14 +77,14 @@ pub fn count_at(table: &Table, key: &str) -> Result<u64, InputFault>
     }
 }
 
-/// A digit other than 0 comes first.
+/// Returns whether a text begins with a digit other than 0.
 fn begins_number(text: &str) -> bool
     ensures { IsTrue result ↔ ((49 ≤ slice_index text.now 0) × (slice_index text.now 0 ≤ 57)) }
 {
     matches!(text.as_bytes(), [b'1'..=b'9', ..])
 }
 
-/// A port in decimal, which 0 doesn't begin.
+/// Returns whether a text is a port from 1 on, in decimal without leading zeros.
 fn is_port(text: &str) -> bool
     ensures { IsTrue result ↔ IsPort text.now }
 {
@@ -100,7 +100,7 @@ fn is_address(text: &str) -> bool
     }
 }
 
-/// The address of a socket at a key.
+/// Returns the socket address at a key: `127.0.0.1:` and a port.
 pub fn address_at<'a>(table: &'a Table, key: &str) -> Result<&'a str, InputFault>
     ensures { Finds (λ s. s.now) (λ s. HasText (table_view table.now) key.now s × IsAddress s) result }
 {
@@ -110,7 +110,7 @@ pub fn address_at<'a>(table: &'a Table, key: &str) -> Result<&'a str, InputFault
     }
 }
 
-/// The name of a file at a key.
+/// Returns the file name at a key, which must not be empty.
 pub fn name_at<'a>(table: &'a Table, key: &str) -> Result<&'a str, InputFault>
     ensures { Finds (λ s. s.now) (λ s. HasText (table_view table.now) key.now s × IsName s) result }
 {
@@ -120,14 +120,14 @@ pub fn name_at<'a>(table: &'a Table, key: &str) -> Result<&'a str, InputFault>
     }
 }
 
-/// The 32 bytes that a text spells in hexadecimal digits.
+/// Returns the 32 bytes that a text spells in hexadecimal digits.
 fn key_of(text: &str) -> Result<[u8; 32], InputFault>
     ensures { Finds (λ k. k) (SpellsKey text.now) result }
 {
     <[u8; 32] as FromHex>::from_hex(text).map_err(|_| InputFault::Bad)
 }
 
-/// The key of a cipher at a key of the table.
+/// Returns the cipher key at a key of the table, which has it in hexadecimal digits.
 pub fn key_at(table: &Table, key: &str) -> Result<[u8; 32], InputFault>
     ensures { Finds (λ k. k) (HasHex (table_view table.now) key.now) result }
 {
@@ -137,7 +137,8 @@ pub fn key_at(table: &Table, key: &str) -> Result<[u8; 32], InputFault>
     }
 }
 
-/// The sealer's key, or none for the sealer that leaves bytes as they are.
+/// Returns the sealer's key, or none if the settings ask for the plain sealer, which leaves bytes
+/// as they are.
 pub fn sealer_in(table: &Table) -> Result<Option<[u8; 32]>, InputFault>
     ensures { Finds (λ k. k) (HasSealer (table_view table.now)) result }
 {
@@ -166,7 +167,7 @@ fn are_among(table: &Table, keys: &[&str]) -> bool
     table.keys().all(|key| is_among(key.as_str(), keys))
 }
 
-/// Nothing stands at another key.
+/// Returns whether the table has no keys except `keys`.
 pub fn has_only(table: &Table, keys: &[&str]) -> bool
     ensures { IsTrue result ↔ HasOnly (texts keys.now) (table_view table.now) }
 {

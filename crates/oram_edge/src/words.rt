@@ -1,4 +1,4 @@
-//! The words of a command line, which name one of several subcommands and give it a word.
+//! Command lines that name a subcommand and give it one word.
 
 ghost use Rattle.std.specs.Prelude.{◌≡◌, ◌≢◌, None, Some, false, true, map, string_bytes, IfOk, IsErrOf};
 ghost use Rattle.clap.specs.Faults.{is_simple_and_free};
@@ -15,7 +15,7 @@ use std::alloc::{AllocError, Global};
 use std::rt::Env;
 use std::{env, io};
 
-/// The words that the program was started with. Where one is no text they are bad.
+/// Returns the words that the program was started with. Fails with [`InputFault::Bad`] if one of them isn't text.
 pub fn arguments<R: Env + AllocGlobal>(rt: &R) -> Result<Vec<String>, InputFault> {
     let args = match env::args(rt) {
         Ok(args) => args,
@@ -30,7 +30,7 @@ pub fn arguments<R: Env + AllocGlobal>(rt: &R) -> Result<Vec<String>, InputFault
     Ok(args.collect(rt.alloc())?)
 }
 
-/// The texts of words, one for each.
+/// Returns the text of each word.
 pub fn texts_of<'a>(alloc: Global, words: &'a [String]) -> Result<Vec<&'a str>, AllocError>
     ensures { IfOk result (λ v. texts v.items ≡ map string_bytes words.now) }
 {
@@ -41,7 +41,7 @@ pub fn texts_of<'a>(alloc: Global, words: &'a [String]) -> Result<Vec<&'a str>, 
     Ok(texts)
 }
 
-/// A subcommand that takes one word.
+/// Returns a subcommand that takes one word.
 pub fn word_taker<'a>(alloc: Global, name: &'a str) -> Result<Command<'a>, AllocError>
     ensures local { IfOk result (λ c. (fields_of c).has_globals ≡ false) }
     ensures shape { IfOk result (λ c. shape_of c ≡ spec.word_taker name.entry.now) }
@@ -49,7 +49,7 @@ pub fn word_taker<'a>(alloc: Global, name: &'a str) -> Result<Command<'a>, Alloc
     Command::new(alloc, name).arg(Arg::new(alloc, "word").required(true))
 }
 
-/// What an error of clap's is to the program.
+/// Returns the program's fault for an error of clap.
 fn input_fault(error: &Error) -> InputFault
     ensures { result ≡ InputFault.Bad → kind_of error.now ≢ ErrorKind.OutOfMemory }
 {
@@ -60,16 +60,16 @@ fn input_fault(error: &Error) -> InputFault
     }
 }
 
-/// The subcommand that words name, and the word that they give it. The first of the words is the program's name. Help isn't among
-/// what can be asked for.
+/// Returns the subcommand that the words name, and the word that they give it. The first of `words` is the program's
+/// name. Nobody can ask for help here.
 pub fn read_named<'a>(
     command: Command<'a>,
     words: &'a [&'a str],
 ) -> Result<(&'a str, &'a str), InputFault>
-    // Of such a command clap says which words it takes.
+    // For such a command clap says which words it takes.
     requires { is_simple_and_free (app_of command) ≡ true }
     ensures ok { IfOk result (λ p. named_in (app_of command.entry) (texts words.now) ≡ Some (p.0.now, p.1.now)) }
-    // Bad comes only where they name none, or give it no word or more than one.
+    // `Bad` comes only if the words name no subcommand, or give it no word or more than one.
     ensures bad { IsErrOf result InputFault.Bad → named_in (app_of command.entry) (texts words.now) ≡ None }
 {
     let matches = match command.try_get_matches_from(words) {

@@ -1,4 +1,4 @@
-//! Texts are written, and a beginning of them where the writer fails.
+//! Writing texts to a writer that may fail.
 
 ghost use Rattle.std.specs.Prelude.{◌++◌, decimal, OnOk};
 ghost use Rattle.std.specs.Io.KnownBytes.{Appends};
@@ -7,7 +7,7 @@ ghost use Rattle.oram_host.specs.Transfers.{Begins};
 use oram_wire::WriteFault;
 use std::io::{ErrorKind, Write};
 
-/// Writes all of the text, or a beginning of it.
+/// Writes a text. If the writer fails, it has taken a beginning of the text.
 pub fn put<W: Write>(writer: &mut W, text: &[u8]) -> Result<(), WriteFault>
     ensures ok { OnOk result (Appends (W.contents writer.old) (W.contents writer.new) text.now) }
     ensures begun { Begins (W.contents writer.old) (W.contents writer.new) text.now }
@@ -30,7 +30,7 @@ pub fn put<W: Write>(writer: &mut W, text: &[u8]) -> Result<(), WriteFault>
     Err(WriteFault)
 }
 
-/// Writes one text behind the other.
+/// Writes two texts, one after the other.
 pub fn put_both<W: Write>(writer: &mut W, front: &[u8], rest: &[u8]) -> Result<(), WriteFault>
     ensures ok { OnOk result (Appends (W.contents writer.old) (W.contents writer.new) (front.now ++ rest.now)) }
     ensures begun { Begins (W.contents writer.old) (W.contents writer.new) (front.now ++ rest.now) }
@@ -53,7 +53,7 @@ pub fn put_between<W: Write>(
     put(writer, rest)
 }
 
-/// Writes a text, and a number behind it in decimal.
+/// Writes a text, and then a number in decimal.
 pub fn put_number<W: Write>(writer: &mut W, front: &[u8], number: u8) -> Result<(), WriteFault>
     ensures ok { OnOk result (Appends (W.contents writer.old) (W.contents writer.new) (front.now ++ decimal number)) }
     ensures begun { Begins (W.contents writer.old) (W.contents writer.new) (front.now ++ decimal number) }

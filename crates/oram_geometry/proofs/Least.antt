@@ -2,7 +2,7 @@
 use Rattle.std.proofs.Common.{◌≡◌, ℕ, zero, suc, ◌+◌, ◌≤◌, Bool, true, false, refl, ap, ◌∙◌, subst, arith}
 use Rattle.oram_geometry.specs.Least.{IsLeastFrom, least_from}
 
--- where `from` fails, the search goes on from the next
+-- if `from` fails the test, the search goes on from the next number
 pub least_from-fails : (test : ℕ → Bool) (from more : ℕ) → test from ≡ false → least_from test from (suc more) ≡ least_from test (from + 1) more
 unfolding least_from
 least_from-fails test from more h = rw h refl
@@ -15,11 +15,11 @@ pub least_from-zero : (test : ℕ → Bool) (from : ℕ) → least_from test fro
 unfolding least_from
 least_from-zero test from = refl
 
--- what passes isn't what fails
+-- a number that passes differs from one that fails
 differ : (test : ℕ → Bool) (m n : ℕ) → test m ≡ false → test n ≡ true → m ≡ n → ⊥
 differ test m n fails passes same = let both : test m ≡ test n = ap test same in cc
 
--- a least number within reach is what the search gives
+-- the search finds the least number that passes, if it is within reach
 pub least_from-is : (test : ℕ → Bool) (from more n : ℕ) → IsLeastFrom test from n → n ≤ from + more → least_from test from more ≡ n
 least_from-is test from zero n l h = least_from-zero test from ∙ (let low = l.begins in omega arith)
 least_from-is test from (suc more) n l h =
@@ -32,7 +32,7 @@ least_from-is test from (suc more) n l h =
           (record { begins = omega arith; passes = l.passes; least = λ m above h. l.least m (omega arith) h }) (omega arith)
     ] refl
 
--- where the last one within reach passes, the search gives the least that does
+-- if the last number within reach passes, the search finds the least one that passes
 pub least_from-least : (test : ℕ → Bool) (from more : ℕ) → test (from + more) ≡ true → IsLeastFrom test from (least_from test from more)
 least_from-least test from zero h =
     rw (least_from-zero test from) (record { begins = omega arith; passes = (let e : from + 0 ≡ from = omega arith in subst (λ n. test n ≡ true) e h); least = λ m above passes. above })

@@ -22,7 +22,7 @@ blocks_in-suc d i = refl
 pub blocks_in-next : (d : Sizes) (i : ℕ) → blocks_in d (i + 1) ≡ div_ceil (blocks_in d i) (fanout d)
 blocks_in-next d i = rw add-one (blocks_in-suc d i)
 
--- dividing rounded up by four or more divides by four at least
+-- dividing by four or more, rounded up, gives at most the quotient by four, rounded up
 pub div_ceil-quarter : (x k m : ℕ) → 4 ≤ k → x ≤ 4 * m → div_ceil x k ≤ m
 div_ceil-quarter x k m four h =
     let q = div_ceil x k in
@@ -35,7 +35,7 @@ div_ceil-quarter x k m four h =
       | inr within ↦ within
     ]
 
--- and keeps a number from 1 to m there
+-- and it keeps a number from 1 to m in that range
 pub div_ceil-within : (x k m : ℕ) → 2 ≤ k → 1 ≤ x → x ≤ m → (1 ≤ div_ceil x k) × (div_ceil x k ≤ m)
 div_ceil-within x k m two low high =
     let whole : x / k * k + x % k ≡ x = div-add-mod' x k in
@@ -61,7 +61,7 @@ blocks_in-range d r (suc i) =
     let fan = fanout-range d r in
     rw (blocks_in-suc d i) (div_ceil-within (blocks_in d i) (fanout d) (2 ^ 24) (omega arith) before.0 before.1)
 
--- the next tree has a quarter of the blocks at most
+-- the next tree has at most a quarter of the blocks, rounded up
 blocks_in-quarter : (d : Sizes) → IsDevice d → (i m : ℕ) → blocks_in d i ≤ 4 * m → blocks_in d (suc i) ≤ m
 blocks_in-quarter d r i m h = rw (blocks_in-suc d i) (div_ceil-quarter (blocks_in d i) (fanout d) m (fanout-range d r).0 h)
 
@@ -74,12 +74,12 @@ blocks_in-last d r =
 pub last_fits : (d : Sizes) → IsDevice d → fits_table d 13 ≡ true
 last_fits d r = let one = blocks_in-last d r in let top = r.some_top in grind (arith, nat_tests)
 
--- the number of trees is the least whose last tree the table has room for
+-- the number of trees is the least for which the table has room for the last tree
 pub trees_of-least : (d : Sizes) → IsDevice d → IsLeastFrom (fits_table d) 1 (trees_of d)
 unfolding trees_of
 trees_of-least d r = least_from-least (fits_table d) 1 12 (last_fits d r)
 
--- what passes isn't before the first that does
+-- a number that passes isn't before the first that does
 least_by : (test : ℕ → Bool) (n m : ℕ) → test m ≡ true → (m < n → test m ≡ false) → n ≤ m
 least_by test n m passes before = elim (cases_lt m n) [ inl below ↦ absurd (let fails = before below in cc) | inr above ↦ above ]
 
@@ -135,7 +135,7 @@ address_in-below d i a some h =
 pub address_in-zero : (d : Sizes) (a : ℕ) → address_in d 0 a ≡ a
 address_in-zero d a = rw (pow-zero (fanout d)) (div-one a)
 
--- where the table has no room for the last of t trees, there are more, and never more than 13
+-- if the table has no room for the last of t trees, there are more than t trees, and never more than 13
 pub more_trees : (d : Sizes) (t n : ℕ) → IsDevice d → t ≤ 13 → n ≡ blocks_in d (t - 1) → d.top < n → (t < 13) × (fits_table d t ≡ false)
 more_trees d t n r few e short =
     let fails : fits_table d t ≡ false = grind (arith, nat_tests) in (
@@ -146,7 +146,7 @@ more_trees d t n r few e short =
       fails,
     )
 
--- the first number of trees with room in the table is the least
+-- the first number of trees for which the table has room is the least
 pub first_trees : (d : Sizes) (t n : ℕ) → 1 ≤ t → t ≤ 13 → n ≡ blocks_in d (t - 1) → n ≤ d.top → ((h : ℕ) → 1 ≤ h → h < t → fits_table d h ≡ false) → t ≡ trees_of d
 first_trees d t n low few e room before =
     let here : fits_table d t ≡ true = grind (arith, nat_tests) in

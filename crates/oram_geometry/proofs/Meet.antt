@@ -15,13 +15,13 @@ quotient_up deep x k l le within =
 pub MeetsAt-nearer : (deep x y k l : ℕ) → k ≤ l → l ≤ deep → MeetsAt deep x y l → MeetsAt deep x y k
 MeetsAt-nearer deep x y k l le within meets = quotient_up deep x k l le within ∙ ap (λ n. n / 2 ^ (l - k)) meets ∙ sym (quotient_up deep y k l le within)
 
--- one level up is one halving
+-- going one level up halves once
 pub halved : (deep x l : ℕ) → 0 < l → l ≤ deep → x / 2 ^ (deep - (l - 1)) ≡ x / 2 ^ (deep - l) / 2
 halved deep x l some within =
     let one : l - (l - 1) ≡ 1 = omega arith in
     quotient_up deep x (l - 1) l (omega arith) within ∙ ap (λ n. x / 2 ^ (deep - l) / 2 ^ n) one
 
--- the levels at which two paths meet are those up to the one from which on they don't
+-- two paths that meet at level l and at none below it meet at exactly the levels up to l
 pub meets_up_to : (deep x y l : ℕ) → l ≤ deep → MeetsAt deep x y l → ((k : ℕ) → l < k → k ≤ deep → MeetsAt deep x y k → ⊥) → (k : ℕ) → k ≤ deep → MeetsAt deep x y k ↔ (k ≤ l)
 meets_up_to deep x y l within meets apart k le = (λ here. elim (cases_lt l k) as (λ _. k ≤ l) [ inl below ↦ absurd (apart k below le here) | inr at_most ↦ at_most ], λ nearer. MeetsAt-nearer deep x y k l nearer within meets)
 

@@ -14,11 +14,11 @@ node_on-zero depth leaf h =
 half : (leaf k : ℕ) → leaf / 2 ^ (k + 1) ≡ leaf / 2 ^ k / 2
 half leaf k = sym (shr-shr leaf k 1)
 
--- the arithmetic of a step, over the power p of the level and the quotient q at the next
+-- the arithmetic of one step, with p for the power of two of the level and q for the quotient at the next level
 doubled : (p q r n m : ℕ) → 0 < p → r ≡ q / 2 → n ≡ p - 1 + r → m ≡ p * 2 - 1 + q → (m ≡ 2 * n + 1) ⊎ (m ≡ 2 * n + 2)
 doubled p q r n m pos e f g = grind arith
 
--- each next node of a path is a child of the one before
+-- each node of a path is a child of the one before it
 pub node_on-child : (depth leaf level : ℕ) → level < depth → (node_on depth leaf (level + 1) ≡ 2 * node_on depth leaf level + 1) ⊎ (node_on depth leaf (level + 1) ≡ 2 * node_on depth leaf level + 2)
 unfolding node_on
 node_on-child depth leaf level h =
@@ -45,7 +45,7 @@ node_on-leaf depth leaf h =
     let part : leaf / 2 ^ (depth - depth) ≤ leaf = shr_le leaf (depth - depth) in
     (omega arith, omega (arith, pow_pos depth))
 
--- a path goes to higher node numbers
+-- node numbers rise along a path
 pub node_on-rises : (depth leaf i k : ℕ) → i + k + 1 ≤ depth → node_on depth leaf i < node_on depth leaf (i + k + 1)
 node_on-rises depth leaf i zero h =
     elim (node_on-child depth leaf i (omega arith)) [
@@ -66,7 +66,7 @@ rises_to depth leaf i l h fits =
     let P : ℕ → Type 0 = λ x. node_on depth leaf i < node_on depth leaf x in
     subst P (sym z) (node_on-rises depth leaf i (l - (i + 1)) (omega arith))
 
--- a path has a node at one level only
+-- a path has a node at only one level
 pub node_on-injective : (depth leaf i l : ℕ) → i ≤ depth → l ≤ depth → node_on depth leaf i ≡ node_on depth leaf l → i ≡ l
 node_on-injective depth leaf i l hi hl e =
     elim (cases_order i l) [
@@ -99,7 +99,7 @@ on_or_off depth leaf node =
       | inr none ↦ inr (λ l h. none l (omega arith))
     ]
 
--- the node above a node of a path
+-- the parent of a node of a path is on the path
 above : (depth leaf n c level : ℕ) → leaf < 2 ^ depth → level ≤ depth → (c ≡ 2 * n + 1) ⊎ (c ≡ 2 * n + 2) → c ≡ node_on depth leaf level → (k : ℕ) × (k < depth) × (n ≡ node_on depth leaf k) × (level ≡ k + 1)
 above depth leaf n c zero fits h which e = absurd (elim which [ inl f ↦ omega (arith, node_on-zero depth leaf fits) | inr f ↦ omega (arith, node_on-zero depth leaf fits) ])
 above depth leaf n c (suc k) fits h which e =
@@ -120,7 +120,7 @@ off_child depth leaf n c fits which off level h e =
     let up = above depth leaf n c level fits h which e in
     off up.0 (omega arith) up.2
 
--- of two children of a node of a path, the one that isn't the path's next is off it
+-- of the two children of a node of a path, the one that isn't the path's next node is off the path
 pub off_sibling : (depth leaf level c : ℕ) → leaf < 2 ^ depth → level < depth → (c ≡ 2 * node_on depth leaf level + 1) ⊎ (c ≡ 2 * node_on depth leaf level + 2) → c ≢ node_on depth leaf (level + 1) → IsOffPath depth leaf c
 off_sibling depth leaf level c fits h which ne l hl e =
     let up = above depth leaf (node_on depth leaf level) c l fits hl which e in

@@ -1,11 +1,11 @@
--- Five numbers without a fault are in their ranges.
+-- If five numbers have no fault, each is in its range.
 use Rattle.std.proofs.Common.{◌≡◌, ℕ, ◌≤◌, ◌%◌, ◌^◌, ◌==◌, ◌&&◌, Bool, true, false, if◌then◌else◌, not, Option, Some, None, refl, arith}
 use Rattle.std.proofs.lemmas.Bool.Decides.{nat_tests}
 use Rattle.oram_geometry.specs.declared.Sizes.{Sizes}
 use Rattle.oram_geometry.specs.Sizes.{IsDevice, is_between, range_fault}
 use Rattle.oram_geometry.specs.declared.ShapeFault.{ShapeFault}
 
--- the next test, where the one before named no fault
+-- the next test, if the one before it found no fault
 passed : (ok : Bool) (f : ShapeFault) (rest : Option ShapeFault) → (if not ok then Some f else rest) ≡ None → (ok ≡ true) × (rest ≡ None)
 passed true f rest e = (refl, e)
 passed false f rest e = cc

@@ -6,7 +6,7 @@ use Rattle.oram_geometry.specs.Least.{least_from}
 use Rattle.oram_geometry.specs.Path.{node_on}
 use Rattle.oram_geometry.specs.declared.ShapeFault.TheVariants.{BlockBytes}
 
--- 64 blocks of 16 bytes, of whose position map the client keeps four entries
+-- 64 blocks of 16 bytes, with four entries of the position map in the client's table
 abbrev recursive : Sizes
 recursive = record { blocks = 64; block_bytes = 16; slots = 4; top = 4; lifetime = 100 }
 
@@ -21,7 +21,7 @@ depths = (refl, refl, refl)
 map_blocks : (address_in recursive 1 37 ≡ 9) × (address_in recursive 2 37 ≡ 2) × (address_in recursive 1 38 ≡ 9)
 map_blocks = (refl, refl, refl)
 
--- eight blocks, of which the client keeps every entry
+-- eight blocks, with every entry in the client's table
 abbrev small : Sizes
 small = record { blocks = 8; block_bytes = 16; slots = 4; top = 8; lifetime = 100 }
 

@@ -9,11 +9,11 @@ node_on depth leaf level = 2 ^ level - 1 + leaf / 2 ^ (depth - level)
 abbrev pub IsOffPath : ℕ → ℕ → ℕ → Type 0
 IsOffPath depth leaf node = (level : ℕ) → level ≤ depth → node ≢ node_on depth leaf level
 
--- the paths of the leaves x and y have one node at level l
+-- the paths of the leaves x and y have the same node at level l
 abbrev pub MeetsAt : ℕ → ℕ → ℕ → ℕ → Type 0
 MeetsAt depth x y l = x / 2 ^ (depth - l) ≡ y / 2 ^ (depth - l)
 
--- the greatest level at which the paths of x and y have one node
+-- the greatest level at which the paths of x and y have the same node
 pub record IsGreatestMeeting (depth x y level : ℕ) : Type 0 where
   pub within : level ≤ depth
   pub meets : MeetsAt depth x y level

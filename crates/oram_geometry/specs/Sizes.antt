@@ -6,20 +6,20 @@ use Rattle.oram_geometry.specs.declared.Sizes.{Sizes}
 use Rattle.oram_geometry.specs.declared.ShapeFault.{ShapeFault}
 use Rattle.oram_geometry.specs.declared.ShapeFault.TheVariants.{Blocks, BlockBytes, Slots, Top, Lifetime}
 
--- entries of a map block: four bytes each
+-- the number of entries of a map block, at four bytes each
 abbrev pub fanout : Sizes → ℕ
 fanout d = d.block_bytes / 4
 
--- blocks of tree i: a block of tree i + 1 has the entries of as many blocks of tree i as it has room for
+-- the number of blocks of tree i; each block of tree i + 1 has `fanout d` entries, one for each block of tree i
 unfoldable pub blocks_in : Sizes → ℕ → ℕ
 blocks_in d zero = d.blocks
 blocks_in d (suc i) = div_ceil (blocks_in d i) (fanout d)
 
--- whether the client's table has room for the last of h trees
+-- whether the client's table has room for the entries of the last tree, if there are h trees
 abbrev pub fits_table : Sizes → ℕ → Bool
 fits_table d h = nat_le (blocks_in d (h - 1)) d.top
 
--- the number of trees: the least from 1 on whose last tree the table has room for
+-- the number of trees: the least number, at least 1, for which the table has room for the last tree's entries
 unfoldable pub trees_of : Sizes → ℕ
 trees_of d = least_from (fits_table d) 1 12
 
@@ -27,27 +27,27 @@ trees_of d = least_from (fits_table d) 1 12
 unfoldable pub level_for : ℕ → ℕ
 level_for n = least_from (λ l. nat_le n (2 ^ l)) 0 24
 
--- whether a tree of depth l has a leaf for each block of tree i
+-- whether a tree of depth l has at least as many leaves as tree i has blocks
 abbrev pub has_leaves : Sizes → ℕ → ℕ → Bool
 has_leaves d i l = nat_le (blocks_in d i) (2 ^ l)
 
--- the depth of tree i: the least level with at least as many nodes as it has blocks
+-- the depth of tree i: the least level with at least as many nodes as the tree has blocks
 abbrev pub depth_of : Sizes → ℕ → ℕ
 depth_of d i = level_for (blocks_in d i)
 
--- the address in tree i of the device's block a
+-- the address in tree i of the block that leads to the device's block a
 abbrev pub address_in : Sizes → ℕ → ℕ → ℕ
 address_in d i a = a / fanout d ^ i
 
--- the leaf of a word in tree i
+-- the leaf that a word names in tree i
 abbrev pub leaf_of : Sizes → ℕ → ℕ → ℕ
 leaf_of d i word = word % 2 ^ depth_of d i
 
--- bytes of a bucket: a slot is an address, a leaf and a block
+-- the number of bytes of a bucket: each slot has an address, a leaf and a block
 abbrev pub bucket_len : Sizes → ℕ
 bucket_len d = d.slots * (8 + d.block_bytes)
 
--- bytes of a record: a sealed bucket, which sealing made longer by the overhead, and two digests
+-- the number of bytes of a record: a bucket, the overhead that sealing adds to it, and two digests
 unfoldable pub record_len_of : Sizes → ℕ → ℕ
 record_len_of d overhead = bucket_len d + overhead + 64
 
@@ -68,7 +68,7 @@ abbrev pub device_unless : Sizes → Option ShapeFault → Result Sizes ShapeFau
 device_unless d None = Ok d
 device_unless d (Some fault) = Err fault
 
--- the device of five numbers, or the first fault
+-- the device that the five numbers define, or the fault of the first one that is out of its range
 abbrev pub device_of : Sizes → Result Sizes ShapeFault
 device_of d = device_unless d (range_fault d)
 

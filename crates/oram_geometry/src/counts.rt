@@ -1,18 +1,18 @@
-//! What follows from a device's five numbers.
+//! The values that follow from a device's five numbers.
 ghost use Rattle.std.specs.Prelude.{◌≡◌, ◌+◌, ◌^◌, ◌<◌, ◌≤◌, ℕ, length, slice_index};
 ghost use Rattle.oram_geometry.specs.declared.Sizes.{Sizes};
 ghost use Rattle.oram_geometry.specs.Sizes.{IsDevice, blocks_in, trees_of, level_for, is_between, range_fault};
 
 use crate::{MOST_TREES, ShapeFault, Sizes};
 
-/// Whether a number lies in a range, its ends included.
+/// Returns whether `number` lies between `low` and `high`, both included.
 fn is_between(low: u64, high: u64, number: u64) -> bool
     ensures { result ≡ is_between low high number }
 {
     (low..=high).contains(&number)
 }
 
-/// The first number that is out of its range.
+/// Returns the first number that is out of its range.
 pub(crate) fn shape_fault(sizes: &Sizes) -> Option<ShapeFault>
     ensures { result ≡ range_fault sizes.now }
 {
@@ -31,7 +31,7 @@ pub(crate) fn shape_fault(sizes: &Sizes) -> Option<ShapeFault>
     }
 }
 
-/// The blocks of each tree that a device may have, used or not.
+/// Returns the number of blocks of each tree, also of trees that this device doesn't need.
 pub(crate) fn block_counts(sizes: &Sizes) -> [u32; MOST_TREES]
     requires { IsDevice sizes.now }
     ensures { (i : ℕ) → i < 13 → slice_index result i ≡ blocks_in sizes.now i }
@@ -44,7 +44,7 @@ pub(crate) fn block_counts(sizes: &Sizes) -> [u32; MOST_TREES]
     counts
 }
 
-/// The least number of trees whose last one's entries the client's table has room for.
+/// Returns the least number of trees for which the client's table has room for the last tree's entries.
 pub(crate) fn tree_count(sizes: &Sizes, counts: &[u32; MOST_TREES]) -> u8
     requires ranges { IsDevice sizes.now }
     requires counts { (i : ℕ) → i < 13 → slice_index counts.now i ≡ blocks_in sizes.now i }
@@ -57,7 +57,7 @@ pub(crate) fn tree_count(sizes: &Sizes, counts: &[u32; MOST_TREES]) -> u8
     trees
 }
 
-/// The least level that has this many nodes.
+/// Returns the least level that has at least `blocks` nodes.
 fn depth_for(blocks: u32) -> u8
     requires { blocks ≤ 2 ^ 24 }
     ensures { result ≡ level_for blocks }
@@ -69,7 +69,7 @@ fn depth_for(blocks: u32) -> u8
     level
 }
 
-/// The depths of trees with these many blocks.
+/// Returns the depth of each tree, given the number of its blocks.
 pub(crate) fn depths_for(counts: &[u32; MOST_TREES]) -> [u8; MOST_TREES]
     requires { (i : ℕ) → i < 13 → slice_index counts.now i ≤ 2 ^ 24 }
     ensures { (i : ℕ) → i < 13 → slice_index result i ≡ level_for (slice_index counts.now i) }

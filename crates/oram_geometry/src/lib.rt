@@ -1,9 +1,9 @@
 //! The sizes of a block device, and the leaves and nodes of its trees.
 //!
-//! Blocks of a Path ORAM (Stefanov et al., CCS 2013, section 3) lie in a binary tree of buckets, with levels from 0
-//! (the root) to the tree's depth (the leaves). Tree 0 holds the device's data; a block of tree i + 1 holds the
-//! position map entries of as many blocks of tree i as its bytes have room for, at four bytes each. The client
-//! keeps the entries of the last tree.
+//! A Path ORAM (Stefanov et al., CCS 2013, section 3) keeps its blocks in a binary tree of buckets, with levels
+//! from 0 (the root) to the tree's depth (the leaves). Tree 0 holds the device's data. Tree i + 1 holds the position
+//! map of tree i: each of its blocks has as many entries of four bytes as fit, one for each block of tree i. The
+//! client itself keeps the entries of the last tree, in its table.
 #![tactic(auto)]
 
 ghost use Rattle.std.specs.Prelude.{◌≡◌, ◌+◌, ◌-◌, ◌^◌, ◌<◌, ◌≤◌, ◌↔◌, ℕ, slice_index};
@@ -17,10 +17,10 @@ mod counts;
 use counts::{block_counts, depths_for, shape_fault, tree_count};
 use std::marker::Model;
 
-/// More trees than this no device has.
+/// The greatest number of trees that a device can have.
 pub const MOST_TREES: usize = 13;
 
-/// The five numbers of a device.
+/// The five numbers that define a device.
 #[derive(Clone, Copy, Debug, PartialEq, Eq)]
 pub struct Sizes {
     /// Blocks of the device, from 1 to 2^24.
@@ -35,7 +35,7 @@ pub struct Sizes {
     pub lifetime: u64,
 }
 
-/// Why five numbers make no device: the first that is out of its range.
+/// Why five numbers define no device: names the first number that is out of its range.
 #[derive(Clone, Copy, Debug, PartialEq, Eq)]
 pub enum ShapeFault {
     Blocks,
@@ -46,7 +46,7 @@ pub enum ShapeFault {
 }
 
 impl ShapeFault {
-    /// The number by which programs name the fault, from 1.
+    /// Returns the number by which programs name the fault, from 1.
     pub fn number(self) -> u8
         ensures { result ≡ fault_number self }
     {
@@ -60,7 +60,7 @@ impl ShapeFault {
     }
 }
 
-/// A block device: five numbers in their ranges, and what follows from them, computed once.
+/// A block device: its five numbers, each in its range, and the values that follow from them, computed once.
 #[derive(Debug, Drop)]
 pub struct Device {
     sizes: Sizes,
@@ -82,7 +82,7 @@ impl Model for Device {
 }
 
 impl Device {
-    /// A device of these sizes, or the first fault.
+    /// Makes a device of these sizes, or returns the fault of the first size that is out of its range.
     pub fn new(
         blocks: u64,
         block_bytes: u64,
@@ -113,7 +113,7 @@ impl Device {
         })
     }
 
-    /// The same device again.
+    /// Returns a copy of the device.
     pub fn copy(&self) -> Device
         ensures { result ≡ self.now }
     {
@@ -125,7 +125,7 @@ impl Device {
         }
     }
 
-    /// How many trees there are.
+    /// Returns the number of trees, from 1 to 13.
     pub fn trees(&self) -> u8
         ensures count { result ≡ trees_of self.now }
         ensures least { IsLeastFrom (fits_table self.now) 1 result }
@@ -135,7 +135,7 @@ impl Device {
         self.trees
     }
 
-    /// Bytes of a block.
+    /// Returns the number of bytes of a block.
     pub fn block_bytes(&self) -> usize
         ensures value { result ≡ self.now.block_bytes }
         ensures range { (16 ≤ result) × (result ≤ 4096) }
@@ -143,7 +143,7 @@ impl Device {
         self.sizes.block_bytes as usize
     }
 
-    /// Slots of a bucket.
+    /// Returns the number of slots of a bucket.
     pub fn slots(&self) -> usize
         ensures value { result ≡ self.now.slots }
         ensures range { (1 ≤ result) × (result ≤ 8) }
@@ -151,7 +151,7 @@ impl Device {
         self.sizes.slots as usize
     }
 
-    /// The greatest number of entries of the client's table.
+    /// Returns the greatest number of entries of the client's table.
     pub fn top(&self) -> u64
         ensures value { result ≡ self.now.top }
         ensures range { (1 ≤ result) × (result ≤ 2 ^ 24) }
@@ -159,7 +159,7 @@ impl Device {
         self.sizes.top
     }
 
-    /// The greatest number of accepted commands.
+    /// Returns the greatest number of commands that the device accepts in its lifetime.
     pub fn lifetime(&self) -> u64
         ensures value { result ≡ self.now.lifetime }
         ensures range { (1 ≤ result) × (result ≤ 2 ^ 40) }
@@ -167,7 +167,7 @@ impl Device {
         self.sizes.lifetime
     }
 
-    /// Entries of a map block.
+    /// Returns the number of position map entries in a map block, at four bytes each.
     pub fn fanout(&self) -> usize
         ensures value { result ≡ fanout self.now }
         ensures range { (4 ≤ result) × (result ≤ 1024) }
@@ -175,7 +175,7 @@ impl Device {
         self.block_bytes() / 4
     }
 
-    /// Blocks of a tree.
+    /// Returns the number of blocks of `tree`.
     pub fn blocks_in(&self, tree: u8) -> u32
         requires { tree < trees_of self.now }
         ensures count { result ≡ blocks_in self.now tree }
@@ -185,7 +185,7 @@ impl Device {
         self.blocks[tree as usize]
     }
 
-    /// The level of a tree's leaves: it has 2^depth of them.
+    /// Returns the level of the tree's leaves. The tree has 2^depth leaves.
     pub fn depth(&self, tree: u8) -> u8
         requires { tree < trees_of self.now }
         ensures count { result ≡ depth_of self.now tree }
@@ -196,7 +196,8 @@ impl Device {
         self.depths[tree as usize]
     }
 
-    /// Bytes of a record, with the bytes that sealing adds to a bucket: the sealed bucket and two digests of 32 bytes.
+    /// Returns the number of bytes of a record: a bucket, the `overhead` bytes that sealing adds to it, and two
+    /// digests of 32 bytes.
     pub fn record_len(&self, overhead: usize) -> usize
         requires { overhead ≤ 64 }
         ensures value { result ≡ record_len_of self.now overhead }
@@ -206,7 +207,8 @@ impl Device {
         self.slots() * (8 + self.block_bytes()) + overhead + 64
     }
 
-    /// The address in a tree of what belongs to the device's block of this address.
+    /// Returns the address in `tree` of the block that leads to the device's block `address`, in tree 0 that block
+    /// itself.
     pub fn address_in(&self, tree: u8, address: u32) -> u32
         requires tree { tree < trees_of self.now }
         requires address { address < blocks_in self.now 0 }
@@ -221,7 +223,7 @@ impl Device {
         within
     }
 
-    /// The leaf that a word names in a tree.
+    /// Returns the leaf that a word of the tape names in `tree`.
     pub fn leaf_of(&self, tree: u8, word: u64) -> u32
         requires { tree < trees_of self.now }
         ensures value { result ≡ leaf_of self.now tree word }
@@ -231,7 +233,8 @@ impl Device {
         (word % (1 << self.depth(tree))) as u32
     }
 
-    /// The number of the node at a level of a leaf's path, counted from the root, level by level and from the left.
+    /// Returns the number of the node at `level` on the path of `leaf`. Nodes are numbered from the root, level by level
+    /// and from the left.
     pub fn node_on(&self, tree: u8, leaf: u32, level: u8) -> u32
         requires tree { tree < trees_of self.now }
         requires leaf { leaf < 2 ^ depth_of self.now tree }
@@ -243,7 +246,7 @@ impl Device {
         (1 << level) - 1 + (leaf >> (depth - level))
     }
 
-    /// The greatest level at which the paths of two leaves have the same node.
+    /// Returns the greatest level at which the paths of the leaves `x` and `y` have the same node.
     pub fn shared_level(&self, tree: u8, x: u32, y: u32) -> u8
         requires tree { tree < trees_of self.now }
         requires x_in { x < 2 ^ depth_of self.now tree }

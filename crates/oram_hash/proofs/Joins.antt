@@ -1,4 +1,4 @@
--- Records that are joined of sealed parts and a path's digests.
+-- Records that are joined from sealed parts and a path's digests.
 use Rattle.std.proofs.Common.{◌≡◌, ℕ, zero, suc, ◌+◌, ◌-◌, ◌*◌, ◌<◌, ◌≤◌, ◌==◌, refl, sym, arith, ap, ◌∙◌, inl, inr, List, [], ◌∷◌, ◌++◌, length, take, drop, slice_index_or, All, append_assoc, length-append, true, false}
 use Rattle.std.proofs.Math.Seq.{take-add}
 use Rattle.std.proofs.lemmas.Bool.{cases_eq, eq-eqb, ne_eqb}
@@ -18,7 +18,7 @@ pub digests_at-above : (p : Path) (level : ℕ) → level < p.depth → digests_
 unfolding digests_at
 digests_at-above p level h = rw (ne_eqb level p.depth (λ e. omega arith)) refl
 
--- the end of a record is both its digests
+-- a record ends with its two digests
 pub both_digests : (r : List ℕ) → 64 ≤ length r → take (length r - (length r - 64)) (drop (length r - 64) r) ≡ left_digest r ++ right_digest r
 unfolding left_digest right_digest
 both_digests r h =
@@ -29,7 +29,7 @@ both_digests r h =
     rw (whole, left, right) (take-add 32 32 (drop (length r - 64) r)
     ∙ ap (λ (xs : List ℕ). take 32 (drop (length r - 64) r) ++ take 32 xs) (drop-drop 32 (length r - 64) r ∙ ap (λ (m : ℕ). drop m r) seam))
 
--- what ends each record of a path is two digests long
+-- each record of a path ends with the bytes of two digests
 abbrev pub HasDigests : Path → Type 0
 HasDigests p = (level : ℕ) → level ≤ p.depth → length (digests_at p level) ≡ 64
 
@@ -45,7 +45,7 @@ length-digests_at p whole room level h = elim (cases_eq level p.depth) [
 abbrev pub AreParts : Path → List (List ℕ) → Type 0
 AreParts p parts = All (λ part. length part + 64 ≡ p.record_len) parts
 
--- one more part, and the path's digests behind it
+-- one more part, followed by the path's digests
 pub joined_more : (p : Path) (level : ℕ) (parts : List (List ℕ)) (part : List ℕ) → joined_from p level (parts ++ part ∷ []) ≡ joined_from p level parts ++ part ++ digests_at p (level + length parts)
 joined_more p level [] part = append-nil (part ++ digests_at p level) ∙ ap (λ (l : ℕ). part ++ digests_at p l) (omega arith)
 joined_more p level (x ∷ parts) part =
@@ -66,7 +66,7 @@ first_len p level x parts digests all h =
     let first : length x + 64 ≡ p.record_len = All-head (λ (part : List ℕ). length part + 64 ≡ p.record_len) x parts all in
     length-append x (digests_at p level) ∙ omega (arith, digests level h, first)
 
--- the record of a level
+-- the record at a level
 pub part_of_joined : (p : Path) (from : ℕ) (parts : List (List ℕ)) (k : ℕ) → HasDigests p → AreParts p parts → from + length parts ≤ p.depth + 1 → k < length parts
     → take p.record_len (drop (k * p.record_len) (joined_from p from parts)) ≡ slice_index_or parts k [] ++ digests_at p (from + k)
 part_of_joined p from [] k digests all room h = absurd (omega arith)

@@ -1,4 +1,4 @@
--- How joined records are linked, from the leaf's up.
+-- How joined records are linked, from the leaf's record up.
 use Rattle.std.proofs.Common.{◌≡◌, ℕ, ◌+◌, ◌-◌, ◌*◌, ◌<◌, ◌≤◌, refl, sym, arith, ap, subst, ◌∙◌, List, [], ◌++◌, length, take, drop, slice_index_or, append_assoc, length-append, length-drop, Bool, true, false}
 use borrow.Rule.Slice.PartMut.{put_mid}
 use Rattle.std.proofs.Math.Nat.{mul-le-mul_right}
@@ -49,7 +49,7 @@ link_right p level part below bytes a k whole room h side len at width joined =
     omega (arith, ap length is, length-append (part ++ left_digest (record_at p level)) (right_digest (record_at p level)), r) in
     rw side (ap (λ (bs : List ℕ). put_mid a k bs below) is ∙ put_second part (left_digest (record_at p level)) (right_digest (record_at p level)) below a k start (omega (arith, r)))
 
--- from this level on the records are linked, and above it they are as they were joined
+-- from this level on the records are linked; above it they are still as joined
 pub record IsLinkedFrom (p : Path) (parts : List (List ℕ)) (bytes digest : List ℕ) (level : ℕ) : Type 0 where
   pub within : level ≤ p.depth
   pub built : IsBuiltFrom p parts bytes level
@@ -81,7 +81,7 @@ linked_leaf p parts bytes digest level a end digests joined at is =
       above = λ l h. record_at-joined p parts bytes l digests joined (omega arith);
     })
 
--- a write to one record's place leaves those before it
+-- a write to one record leaves the records before it unchanged
 record_at-before : (p : Path) (bytes piece : List ℕ) (level l a k : ℕ) → HasLength (with_bytes p bytes) → l < level → level ≤ p.depth → a ≡ level * p.record_len
     → record_at (with_bytes p (put_mid a k bytes piece)) l ≡ record_at (with_bytes p bytes) l
 unfolding record_at

@@ -23,7 +23,7 @@ parity w q n pos e = elim (cases_eq (q % 2) 0) [
       rw (one, even) refl
 ]
 
--- below the root a path's node is a left child where the quotient of its level is even
+-- below the root, a path's node is a left child if the leaf's quotient at its level is even
 pub is_left_child-node_on : (depth leaf level : ℕ) → 0 < level → is_left_child (node_on depth leaf level) ≡ nat_eq (leaf / 2 ^ (depth - level) % 2) 0
 unfolding is_left_child node_on
 is_left_child-node_on depth leaf level pos =

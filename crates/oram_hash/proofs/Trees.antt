@@ -60,7 +60,7 @@ at_leaf p q new linked e = record { left_held = ap left_digest e ∙ linked.last
 same_digests : (r s a b : List ℕ) → r ≡ s → HoldsDigests s a b → HoldsDigests r a b
 same_digests r s a b e held = record { left_held = ap left_digest e ∙ held.left_held; right_held = ap right_digest e ∙ held.right_held }
 
--- a tree whose path is relinked stands under the digest of the path's first record
+-- a tree with a relinked path is a stored tree under the digest of the path's first record
 pub relinked_stands : (p q : Path) (root : List ℕ) (old new : ℕ → List ℕ) → p.leaf < 2 ^ p.depth → IsStored p.depth p.record_len root old → IsPathOf old p → IsRelinked p q → IsReplaced p q old new → IsStored p.depth p.record_len (sha256 (record_at q 0)) new
 relinked_stands p q root old new fits stored path linked put =
     record {

@@ -1,4 +1,4 @@
-//! The records that take a path's place.
+//! Makes the records that replace a path.
 ghost use Rattle.std.specs.Prelude.{All, map, vec_len, ◌++◌, ◌≡◌, ◌≤◌, ◌<◌, ◌+◌, ℕ, List, length, IfOk, OnOk, OnErr};
 ghost use Rattle.sha2.specs.Sha256.{sha256};
 ghost use Rattle.oram_hash.specs.Path.{digests_at, record_over};
@@ -8,8 +8,7 @@ use crate::{DIGEST_LEN, PathView, node_digest};
 use std::alloc::{AllocError, Global};
 
 impl<'a> PathView<'a> {
-    /// Puts the digests that end the path's record at a level at the end of a vector: those of the view, and zeros at
-    /// the leaf's.
+    /// Appends to `out` the two digests that end the path's record at `level`, or zeros at the leaf's level.
     pub fn append_digests(&self, level: u8, out: &mut Vec<u8>) -> Result<(), AllocError>
         requires { level ≤ self.now.depth }
         ensures ok { OnOk result (out.new.items ≡ out.old.items ++ digests_at self.now level) }
@@ -18,8 +17,8 @@ impl<'a> PathView<'a> {
         out.extend_from_slice(self.digests(level))
     }
 
-    /// Links the path's new records, root first: each gets the digest of the next one, from the leaf up. Gives the new
-    /// root digest. Each record is hashed once.
+    /// Links the path's new records, which are given root first: from the leaf up, writes into each record the digest of
+    /// the next one. Returns the new root digest. Hashes each record once.
     pub fn relink(&self, records: &mut [u8]) -> [u8; 32]
         requires { (parts : List (List ℕ)) × IsJoined self.now parts records.old }
         ensures rebuilt { (parts : List (List ℕ)) → IsJoined self.now parts records.old
@@ -34,7 +33,8 @@ impl<'a> PathView<'a> {
         digest
     }
 
-    /// Writes the digest of the path's next record into the record at a level, and gives that one's digest.
+    /// Writes `below`, the digest of the path's next record, into the record at `level`, and returns that record's
+    /// digest.
     fn link(&self, level: u8, below: &[u8; 32], bytes: &mut [u8]) -> [u8; 32]
         requires level { level < self.now.depth }
         requires len { length bytes.old ≡ self.now.record_len }
@@ -53,8 +53,8 @@ impl<'a> PathView<'a> {
     }
 }
 
-/// The path's records under new sealed parts, root first, with the siblings' digests as they were, and the new root
-/// digest. It hashes each new record once, and allocates the bytes once.
+/// Makes the path's new records, root first, from new sealed buckets, with the siblings' digests unchanged. Also returns
+/// the new root digest. Hashes each new record once and allocates once. Fails only if memory runs out.
 pub fn rebuild(
     alloc: Global,
     path: &PathView<'_>,
@@ -70,7 +70,7 @@ pub fn rebuild(
     Ok((records, root))
 }
 
-/// The path's records under new sealed parts, not linked yet.
+/// Joins the new sealed buckets with the path's digests, without linking the records yet.
 fn joined(alloc: Global, path: &PathView<'_>, sealed: &[Vec<u8>]) -> Result<Vec<u8>, AllocError>
     requires levels { length sealed.now ≡ path.now.depth + 1 }
     requires lengths { All (λ part. vec_len part + 64 ≡ path.now.record_len) sealed.now }

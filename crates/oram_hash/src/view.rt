@@ -1,4 +1,4 @@
-//! A path as it lies in the host's answer, and its check.
+//! A path as the host's answer contains it, and the check of its digests.
 ghost use Rattle.std.specs.Prelude.{MatchResult, IsOk, ◌≡◌, ◌^◌, ◌<◌, ◌≤◌, ◌+◌, ◌-◌, ◌*◌, ◌↔◌, ◌⊎◌, ℕ, List, length, IsTrue, IfOk};
 ghost use Rattle.oram_geometry.specs.Sizes.{trees_of, depth_of, record_len_of};
 ghost use Rattle.oram_hash.specs.Path.{path_of, IsAccepted, IsTamperedAt, Path, HasLength, IsGenuine, digest_for, expected, node_at, record_at, digests_at};
@@ -12,7 +12,7 @@ use std::marker::Model;
 
 /// The records of a path, root first.
 ///
-/// It lends the parts of the bytes that it was made from, without copying.
+/// It borrows the bytes that it was made from, and lends parts of them without copying.
 #[derive(Debug, Drop)]
 pub struct PathView<'a> {
     pub(crate) depth: u8,
@@ -30,7 +30,7 @@ impl<'a> Model for PathView<'a> {
 }
 
 impl<'a> PathView<'a> {
-    /// The record at a level.
+    /// Returns the record at `level`.
     fn record(&self, level: u8) -> &'a [u8]
         requires { level ≤ self.now.depth }
         ensures exact { result.now ≡ record_at self.now level }
@@ -41,7 +41,7 @@ impl<'a> PathView<'a> {
         &self.bytes[start..start + self.record_len]
     }
 
-    /// The sealed bucket at a level.
+    /// Returns the sealed bucket at `level`.
     pub fn sealed(&self, level: u8) -> &'a [u8]
         requires { level ≤ self.now.depth }
         ensures exact { result.now ≡ sealed_part (record_at self.now level) }
@@ -51,7 +51,7 @@ impl<'a> PathView<'a> {
         &record[..record.len() - DIGESTS_LEN]
     }
 
-    /// The digest of the left child of the node at a level.
+    /// Returns the digest of the left child of the path's node at `level`.
     pub fn left(&self, level: u8) -> &'a [u8]
         requires { level ≤ self.now.depth }
         ensures exact { result.now ≡ left_digest (record_at self.now level) }
@@ -61,7 +61,7 @@ impl<'a> PathView<'a> {
         &record[record.len() - DIGESTS_LEN..record.len() - DIGEST_LEN]
     }
 
-    /// The digest of the right child of the node at a level.
+    /// Returns the digest of the right child of the path's node at `level`.
     pub fn right(&self, level: u8) -> &'a [u8]
         requires { level ≤ self.now.depth }
         ensures exact { result.now ≡ right_digest (record_at self.now level) }
@@ -71,7 +71,7 @@ impl<'a> PathView<'a> {
         &record[record.len() - DIGEST_LEN..]
     }
 
-    /// Both digests that end the record at a level, and at the leaf's what stands in place of them.
+    /// Returns the two digests that end the record at `level`, or zeros at the leaf's level.
     pub(crate) fn digests(&self, level: u8) -> &'a [u8]
         requires { level ≤ self.now.depth }
         ensures { result.now ≡ digests_at self.now level }
@@ -83,7 +83,7 @@ impl<'a> PathView<'a> {
         &record[record.len() - DIGESTS_LEN..]
     }
 
-    /// Whether the path goes from the node at a level to its left child.
+    /// Returns whether the path goes from its node at `level` to the left child.
     pub(crate) fn goes_left(&self, level: u8) -> bool
         requires { level < self.now.depth }
         ensures { result ≡ is_left_child (node_at self.now (level + 1)) }
@@ -91,7 +91,7 @@ impl<'a> PathView<'a> {
         (self.leaf >> (self.depth - level - 1)) % 2 == 0
     }
 
-    /// The digest that the record above a level's holds for it.
+    /// Returns the digest that the record above `level` holds for the path's node at `level`.
     fn digest_above(&self, level: u8) -> &'a [u8]
         requires below_root { 0 < level }
         requires within { level ≤ self.now.depth }
@@ -104,7 +104,7 @@ impl<'a> PathView<'a> {
         }
     }
 
-    /// Whether the record at a level has its expected digest.
+    /// Returns whether the record at `level` has its expected digest.
     fn is_genuine(&self, root: &[u8; 32], level: u8) -> bool
         requires { level ≤ self.now.depth }
         ensures { IsTrue result ↔ IsGenuine self.now root.now level }
@@ -118,7 +118,10 @@ impl<'a> PathView<'a> {
     }
 }
 
-/// Reads bytes as the records of a path, root first, and checks them against the root digest.
+/// Takes `bytes` as the records of a path, root first, and checks them against the root digest.
+///
+/// Fails with `Length` if the number of bytes is wrong, and with `Tampered` at the first level, from the root on, whose
+/// record doesn't have its expected digest.
 #[tactic(auto, using(crate::proofs::Checks::accepted_matches, crate::proofs::Checks::tampered_matches))]
 pub fn check_path<'a>(
     device: &Device,
@@ -137,7 +140,7 @@ pub fn check_path<'a>(
     ensures length { (result ≡ Err HashFault.Length) ↔ (¬ HasLength (path_of device.now tree leaf overhead bytes.now)) }
     ensures tampered { (level : ℕ) → (result ≡ Err (HashFault.Tampered level)) ↔ IsTamperedAt (path_of device.now tree leaf overhead bytes.now) root.now level }
 
-    // Against a stored tree of the root.
+    // The verdict compared with the records of any stored tree that has this root digest.
     ensures judged { let p = path_of device.now tree leaf overhead bytes.now in
         (records : ℕ → List ℕ) → IsStored p.depth p.record_len root.now records
         → MatchResult result (λ _. IsPathOf records p) (IsFaultOf records p) ⊎ Collides records p }

@@ -1,4 +1,4 @@
--- A host is formatted: it takes each message, unless it has no room, and then keeps each tree whole.
+-- A host is formatted: it takes each message, unless it has no room, and then it keeps each tree whole.
 use Rattle.std.proofs.Common.{◌≡◌, ◌⊎◌, ℕ, ◌+◌, ◌-◌, ◌*◌, ◌^◌, ◌<◌, ◌≤◌, List, [], ◌∷◌, ◌++◌, length, map, slice_index_or, append_assoc, Option, Some, None, unwrap_or, refl, ap, sym, ◌∙◌, subst, arith, inl, inr, zero, suc}
 use Rattle.std.specs.Prelude.{MatchOption}
 use Rattle.std.specs.List.{flat_map}
@@ -35,7 +35,7 @@ use Rattle.oram_host.specs.Serving.{Serves, fault_by}
 use Rattle.oram_honest.specs.Honest.{Refusing, Takes, KeepsAll}
 use Rattle.oram_honest.proofs.Handed.{kept_same, IsFull}
 
--- the shape of each tree is one that a host takes
+-- a host takes the shape of each tree
 
 module _ (v : Shape) (device : IsDevice v.device) (light : v.overhead ≤ 64) where
   record_small : (record_len v ≤ 32960) × (0 < record_len v)
@@ -58,12 +58,12 @@ pub record HasShape (v : Shape) (i : ℕ) (host : Host) : Type 0 where
   pub depth : kept.depth ≡ depth_of v.device i
   pub record_len : kept.record_len ≡ record_len v
 
--- it has those of the trees below n, and of no other
+-- it has the shapes of the trees before tree n, and of no others
 pub record HasShapes (v : Shape) (n : ℕ) (host : Host) : Type 0 where
   pub shaped : (i : ℕ) → i < n → HasShape v i host
   pub free : (i : ℕ) → n ≤ i → tree_at host i ≡ None
 
--- the body puts a record of a tree below n
+-- the body puts a record of a tree before tree n
 pub record IsPutBelow (v : Shape) (n : ℕ) (body : List ℕ) : Type 0 where
   pub tree : ℕ
   pub node : ℕ
@@ -73,7 +73,8 @@ pub record IsPutBelow (v : Shape) (n : ℕ) (body : List ℕ) : Type 0 where
   pub whole : length bytes ≡ record_len v
   pub is : body ≡ put_body tree node bytes
 
--- bodies that come where n trees have their shape, and after which m have: the shape of the next tree, or a record
+-- bodies that follow when n trees have their shape, and after which m have: each is the shape of the next tree, or a
+-- record
 abbrev pub Grows : Shape → ℕ → List (List ℕ) → ℕ → Type 0
 Grows v n [] m = n ≡ m
 Grows v n (b ∷ bs) m =
@@ -105,7 +106,7 @@ put_room kept node bytes Missing inside whole r = absurd r
 put_room kept node bytes BadOp inside whole r = absurd r
 put_room kept node bytes OutOfMemory inside whole r = refl
 
--- the body was carried out, and so many trees have their shape, or there was no room
+-- the body was carried out, and this many trees have their shape; or there was no room
 abbrev pub Taken : Shape → ℕ → Host → HostAnswer → Host → Type 0
 Taken v n host answer after = ((answer ≡ Done) × HasShapes v n after) ⊎ IsFull host answer after
 
@@ -190,7 +191,7 @@ taken_by : (v : Shape) (n : ℕ) (host after : Host) → Taken v n host Done aft
 taken_by v n host after (inl done) = done.1
 taken_by v n host after (inr full) = absurd (refused_not host after full)
 
--- where some bodies were carried out, those that are left come next
+-- if some bodies were carried out, the remaining ones follow
 pub record Midway (v : Shape) (rest : List (List ℕ)) (m : ℕ) (host : Host) : Type 0 where
   pub count : ℕ
   pub shapes : HasShapes v count host
@@ -210,9 +211,9 @@ next_taken : (v : Shape) (n m : ℕ) (body : List ℕ) (rest : List (List ℕ)) 
 next_taken v n m body rest host after answer fits h (inl shape) serves = elim (shape_handed v n body host after answer (fits n) h shape.0 serves) [ inl done ↦ inl done.0 | inr full ↦ inr full ]
 next_taken v n m body rest host after answer fits h (inr put) serves = elim (put_handed v n body host after answer h put.0 serves) [ inl done ↦ inl done.0 | inr full ↦ inr full ]
 
--- the messages of a formatting are such bodies
+-- the messages of a formatting are bodies of this kind
 
--- what holds of each node of a tree
+-- a property of each node of a tree
 each_within : (P : List ℕ → Type 0) (f : ℕ → List ℕ) (h n m : ℕ) → (n + 2) * 2 ^ h ≤ m + 1
     → ((k : ℕ) → k < m → P (f k)) → Each P (map f (post_order h n))
 each_within P f zero n m most all = subst (Each P) (sym (order_leaf f n)) (all n (omega arith), tt)
@@ -268,7 +269,7 @@ all_grow v n trees messages made =
     (parts_grow v trees made.parts 0 (λ k below.
     subst (λ (j : ℕ). IsTreeMade v j (slice_index_or trees j no_tree) (slice_index_or made.parts k [])) (let z : k ≡ 0 + k = omega arith in z) (made.each k (omega (arith, made.parts_count))))))
 
--- which records stand then
+-- the records that the host keeps then
 
 -- the host keeps this record at node n of tree i
 pub record HasRecord (i n : ℕ) (r : List ℕ) (host : Host) : Type 0 where
@@ -276,7 +277,7 @@ pub record HasRecord (i n : ℕ) (r : List ℕ) (host : Host) : Type 0 where
   pub there : tree_at host i ≡ Some kept
   pub here : record_of kept n ≡ Some r
 
--- where it is carried out the body leaves it there, or puts it there
+-- if a host carries the body out, this record stays there, or is put there
 abbrev Spares : ℕ → ℕ → List ℕ → List ℕ → Type 0
 Spares i n r body = (host after : Host) → Takes host body after → HasRecord i n r host → HasRecord i n r after
 
@@ -372,7 +373,7 @@ module _ (v : Shape) (fits : (j : ℕ) → IsShape (depth_of v.device j) (record
 no_shapes : (v : Shape) → HasShapes v 0 []
 no_shapes v = record { shaped = λ i below. absurd (omega arith); free = λ i above. refl }
 
--- what the host has gathered once it took all messages
+-- what the host keeps once it has taken all messages
 all_shapes : (v : Shape) (n : ℕ) (bodies : List (List ℕ)) (to : Host) → ((j : ℕ) → IsShape (depth_of v.device j) (record_len v))
     → Grows v 0 bodies n → PutsAll Takes [] bodies to → HasShapes v n to
 all_shapes v n bodies to fits grows puts =
@@ -417,7 +418,7 @@ room_alone answer why host after (inr full) is = ap format_fault (why_is why (sy
     why_is : (w : SinkFault) → Some w ≡ Some sinking.OutOfMemory → w ≡ sinking.OutOfMemory
     why_is w e = ap (λ (o : Option SinkFault). unwrap_or o sinking.OutOfMemory) e
 
--- So the formatting of a new server is broken off for want of memory alone.
+-- So the formatting of a new server can be broken off only because memory runs out.
 pub broken_off_for_room : (v : Shape) (fault : FormatFault) (to : Host) → IsDevice v.device → v.overhead ≤ 64
     → IsBrokenOff Takes Refusing (IsFormatBegun v) [] fault to → fault ≡ formatting.OutOfMemory
 broken_off_for_room v fault to device light broken = elim broken.ended [

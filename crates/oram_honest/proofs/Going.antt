@@ -1,4 +1,4 @@
--- What an event of an honest host leads a core to.
+-- The effect of an event of an honest host on a core.
 use Rattle.std.proofs.Common.{◌≡◌, ◌≢◌, ℕ, ◌+◌, ◌-◌, ◌*◌, ◌%◌, ◌^◌, ◌<◌, ◌≤◌, ◌==◌, Bool, false, if◌then◌else◌, List, [], ◌∷◌, ◌++◌, length, slice_index, Option, Some, None, refl, ap, sym, ◌∙◌, subst, arith, inl, inr}
 use Rattle.std.proofs.Math.Nat.{pow-le-pow_right}
 use Rattle.std.proofs.lemmas.Nat.{pow_pos}
@@ -32,7 +32,7 @@ pub record Stays (v : Shape) (t : State) (u : World) : Type 0 where
   pub holds : AllStand v t u
   pub agrees : Agrees v t u
 
--- What is done doesn't fail the device, and the host keeps the records of the world that it leaves.
+-- The event doesn't fail the device, and the host keeps the records of the world after it.
 pub record Goes (v : Shape) (s : State) (w : World) (host : Host) (m : Moved) : Type 0 where
   pub alive : m.state.failure ≡ None
   pub calm : fails_now m.note ≡ false
@@ -65,7 +65,7 @@ hosts_same : (v : Shape) (s t : State) (w u : World) (host : Host) → t.queue �
 hosts_same v s t w u host queue stage last same h =
     subst (HostsBy v t u host) (sym queue) (hosts_by v s t w u host s.queue stage last same h)
 
--- nothing is sent
+-- no message is sent
 silent : (v : Shape) (s : State) (w : World) (m : Moved) (x : Shown) (t : State) → m.ask ≡ Nothing → MovesTo v s w m x t
     → x.sends ≡ []
 silent v s w m x t ask mv = subst (λ (a : Ask). Sends v s.last a x.sends) ask mv.sends
@@ -90,7 +90,7 @@ goes_quiet v s w host m alive calm ask queue stage last h = record {
       (silent_records v w m x.sends ask) h;
 }
 
--- the last message goes out again
+-- the last message is sent again
 pub goes_again : (v : Shape) (s : State) (w : World) (host : Host) → s.failure ≡ None → Hosts v s w host
     → Goes v s w host (resends s w)
 goes_again v s w host alive h = record {
@@ -101,7 +101,7 @@ goes_again v s w host alive h = record {
       (ap (λ (u : State). u.last) mv.state ∙ ap (λ (xs : List (List ℕ)). latest xs s.last) mv.sends) refl h;
 }
 
--- a new message goes out, for a path of the tree that is at work
+-- a new message is sent, for a path of the tree at work
 hosts_sent : (v : Shape) (t : State) (u w : World) (x : Submission) (rest : List Submission) (e : Entry) (m : List ℕ) (host : Host)
     → e.tree ≡ stage_tree v.device t.stage → e.leaf < 2 ^ depth_of v.device (stage_tree v.device t.stage) → IsMessage v e m
     → t.queue ≡ x ∷ rest → t.last ≡ m → u.records ≡ records_after v w.records (m ∷ []) → KeepsAll v w.records host
@@ -122,7 +122,7 @@ hosts_sent v t u w x rest e m host tree leaf is queue last leaves keeps =
       keeps = inl keeps;
     })
 
--- so it does where an entry is asked for
+-- the same, if the rule asks for an entry
 hosts_asked : (v : Shape) (s t : State) (w : World) (host : Host) (m : Moved) (x : Shown) (y : Submission) (rest : List Submission) (e : Entry)
     → m.ask ≡ For e → e.tree ≡ stage_tree v.device m.state.stage
     → e.leaf < 2 ^ depth_of v.device (stage_tree v.device m.state.stage) → m.state.queue ≡ y ∷ rest → KeepsAll v w.records host
@@ -136,7 +136,7 @@ hosts_asked v s t w host m x y rest e ask tree leaf queue keeps mv =
     (ap (λ (u : State). u.last) mv.state ∙ ap (λ (xs : List (List ℕ)). latest xs m.state.last) sent.1)
     (ap (λ (a : Ask). records_next v w.records a x.sends) ask ∙ ap (λ (xs : List (List ℕ)). records_after v w.records xs) sent.1) keeps
 
--- what is named for the outstanding fetch is a leaf of its tree, or nothing
+-- the map entry of the outstanding FETCH names a leaf of its tree, or none
 
 leaf_inside : (d : Sizes) (i named : ℕ) (x : Submission) → named ≤ 2 ^ depth_of d i → leaf_for d i named x < 2 ^ depth_of d i
 leaf_inside d i named x few =
@@ -174,7 +174,7 @@ goes_fetch v s w host m y rest fit alive calm ask queue even keeps = record {
       (leaf_inside v.device (stage_tree v.device m.state.stage) (named_now v.device m.state y) y small) queue keeps mv;
 }
 
--- a command joins those that wait
+-- a command joins the queue
 
 joins : (v : Shape) (s : State) (w : World) (host : Host) (x : Submission) (queue : List Submission) → IsFit v.device
     → s.failure ≡ None → IsOrderly v s → s.queue ≡ queue → HostsBy v s w host queue → Goes v s w host (accepts v s w x)
@@ -252,7 +252,7 @@ pub goes_stalled : (v : Shape) (s : State) (w : World) (host : Host) → s.failu
     → Goes v s w host (stalls s w)
 goes_stalled v s w host alive h = goes_quiet v s w host (stalls s w) alive refl refl refl refl refl h
 
--- nothing happens but a note
+-- nothing happens except a note
 pub goes_unchanged : (v : Shape) (s : State) (w : World) (host : Host) (note : Note) → s.failure ≡ None
     → fails_now note ≡ false → Hosts v s w host → Goes v s w host (stays s w note)
 goes_unchanged v s w host note alive calm h = goes_quiet v s w host (stays s w note) alive calm refl refl refl refl h

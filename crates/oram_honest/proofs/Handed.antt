@@ -1,4 +1,4 @@
--- A host that keeps the trees of a device is handed a message of a run.
+-- A host that keeps the trees of a device receives a message of a run.
 use Rattle.std.proofs.Math.Path.{fun_ext}
 use Rattle.std.proofs.Common.{◌≡◌, ◌≢◌, ◌⊎◌, ℕ, ◌+◌, ◌-◌, ◌*◌, ◌^◌, ◌<◌, ◌≤◌, ◌==◌, ◌&&◌, not, Bool, true, false, if◌then◌else◌, cond, List, [], ◌∷◌, length, take, drop, slice_index, Option, Some, None, unwrap_or, refl, ap, sym, ◌∙◌, subst, arith, inl, inr, zero, suc}
 use Rattle.std.specs.Prelude.{MatchOption}
@@ -35,7 +35,7 @@ use Rattle.oram_run.proofs.Replaced.{store_replaces, store_leaves}
 use Rattle.oram_host.specs.Serving.{Serves}
 use Rattle.oram_honest.specs.Honest.{KeepsTree, KeepsAll}
 
--- the two spellings of a node and of a record on a path
+-- the two forms of a node, and of a record on a path
 pub node_same : (depth leaf level : ℕ) → host_node depth leaf level ≡ node_on depth leaf level
 unfolding host_node node_on
 node_same depth leaf level = refl
@@ -65,7 +65,7 @@ bytes_alike o k l a b = ap (λ (x : Option (List ℕ)). unwrap_or x []) (sym a �
 not_none : (o : Option (List ℕ)) (r : List ℕ) → o ≡ Some r → o ≢ None
 not_none o r some none = absurd (let both : Some r ≡ None = sym some ∙ none in cc)
 
--- a whole tree refuses for want of room alone
+-- a host with a whole tree refuses only for lack of room
 
 fetch_room : (kept : Kept) (leaf : ℕ) (why : HostRefusal) → leaf < 2 ^ kept.depth
     → ((l : ℕ) → l ≤ kept.depth → record_of kept (host_node kept.depth leaf l) ≢ None) → RefusesFetch kept leaf why
@@ -129,7 +129,7 @@ module _ (v : Shape) (i leaf : ℕ) (records : ℕ → List ℕ) (host : Host) (
         ∙ ap (λ n. host_record n bytes l) (sym k.record_len)
         ∙ bytes_alike _ _ _ (path.each l within) (on_level l within)
 
--- the host once it stored a path
+-- the host after it has stored a path
 stored_host : (v : Shape) (records : ℕ → ℕ → List ℕ) (host after : Host) (i leaf : ℕ) (bytes : List ℕ)
     → i < trees_of v.device → leaf < 2 ^ depth_of v.device i → depth_of v.device i ≤ 24 → KeepsAll v records host
     → IsStored host i leaf bytes after → KeepsAll v (records_after v records (store_body i leaf bytes ∷ [])) after
@@ -167,7 +167,7 @@ stored_host v records host after i leaf bytes below fits few keeps is j inside =
       })
 ]
 
--- a FETCH leaves nothing
+-- a FETCH changes no record
 written_fetch : (v : Shape) (j leaf i n : ℕ) → written v (fetch_body j leaf) i n ≡ None
 unfolding written
 written_fetch v j leaf i n =
@@ -179,7 +179,7 @@ pub fetch_leaves : (v : Shape) (records : ℕ → ℕ → List ℕ) (j leaf : �
 fetch_leaves v records j leaf =
     fun_ext (λ i. fun_ext (λ n. ap (λ o. unwrap_or o (records i n)) (written_fetch v j leaf i n)))
 
--- an answer with the records that stand there
+-- an answer with the records that the host keeps
 
 none_in : (p : ℕ → Bool) (a n : ℕ) → ((k : ℕ) → a ≤ k → k < a + n → p k ≡ false) → find p (range_with_len a n) ≡ None
 none_in p a zero h = refl
@@ -209,8 +209,8 @@ payload_by v e bytes fetch whole =
     let long : (length (128 ∷ bytes) == 1 + (depth_of v.device e.tree + 1) * record_len v) ≡ true = grind (arith, nat_tests) in
     rw (fetch, long) refl
 
--- The host was handed the message m of an entry: its answer is good and it keeps what the messages have left then, or it had no
--- room and has changed nothing.
+-- The host has received the message m of an entry: its answer is good, and it keeps what the messages so far have
+-- left; or it had no room and has changed nothing.
 pub record IsGood (v : Shape) (records : ℕ → ℕ → List ℕ) (e : Entry) (answer : HostAnswer) (after : Host) : Type 0 where
   pub outcome : outcome_of v records e (answer_body answer) ≡ Good
   pub apart : pair_in v records e (answer_body answer) ≡ false

@@ -44,7 +44,7 @@ busy_by v s w host [] qu alive waits h =
     absurd (let both : Waiting ≡ Idle = sym waits ∙ idle in let no_way : ⊥ = cc in no_way)
 busy_by v s w host (x ∷ rest) qu alive waits h = record { oldest = x; rest = rest; queue = qu; work = h }
 
--- the host as it is after a loss, or before it
+-- the host after a loss, or before it
 heard_hosts : (v : Shape) (s : State) (w : World) (host after : Host) → IsBusy v s w host → HeardOrNot s.last host after
     → Hosts v s w after
 heard_hosts v s w host after b (inl same) = subst (HostsBy v s w after) (sym b.queue) (subst (HostsWork v s w) (sym same) b.work)
@@ -52,11 +52,11 @@ heard_hosts v s w host after b (inr late) =
     subst (HostsBy v s w after) (sym b.queue) (met_hosts v s w host after late.0 b.work (met v s w host after late.0 b.work late.1))
 
 module _ (v : Shape) (s : State) (w : World) (fit : IsFit v.device) (alive : s.failure ≡ None) (o : IsOrderly v s) where
-  -- an event of which the host hears nothing
+  -- an event at which the host receives nothing
   kept : (host after : Host) → Hosts v s w host → after ≡ host → Hosts v s w after
   kept host after h same = subst (Hosts v s w) (sym same) h
 
-  -- the answer to the outstanding message is good, or tells of want of room
+  -- the answer to the outstanding message is good, or says that there is no room
 
   meaning : (bytes : List ℕ) → Outcome
   meaning bytes = outcome_of v w.records (asked s.last) bytes
@@ -98,7 +98,7 @@ module _ (v : Shape) (s : State) (w : World) (fit : IsFit v.device) (alive : s.f
   goes_retried host after Over h honest = goes_unchanged v s w after Unexpected alive refl (kept host after h honest)
   goes_retried host after Stalling h honest = goes_again v s w after alive (kept host after h honest)
 
-  -- a submission is nothing to the host, and a reopening is a loss
+  -- at a submission the host receives nothing, and a reopening is a loss
   unheard : (host after : Host) (now : Status) (e : Event) → IsHonest now s.last e host after
       → ((last : List ℕ) → IsHonest Waiting last e host after → after ≡ host) → after ≡ host
   unheard host after Idle e honest waiting = honest
@@ -123,7 +123,7 @@ module _ (v : Shape) (s : State) (w : World) (fit : IsFit v.device) (alive : s.f
   goes host after Reopen h honest = goes_lost host after (status_in s) refl h (as_lost host after (status_in s) honest)
   goes host after Retry h honest = goes_retried host after (status_in s) h honest
 
-  -- no two records of one digest stand in an answer
+  -- an answer shows no two records with the same digest
 
   met_apart : (host after : Host) (answer : HostAnswer) → Met v s w host answer after
       → pair_in v w.records (asked s.last) (answer_body answer) ≡ false
@@ -148,7 +148,7 @@ module _ (v : Shape) (s : State) (w : World) (fit : IsFit v.device) (alive : s.f
   apart host after Reopen h honest = refl
   apart host after Retry h honest = refl
 
--- what is done to the core doesn't fail it, and shows no two records of one digest
+-- the event doesn't fail the core, and shows no two records with the same digest
 pub served_on : (v : Shape) (s t : State) (w : World) (array : ℕ → List ℕ) (event : Event) (x : Shown) (after : Host) → IsDevice v.device
     → IsServing v s w array → shows_in v s w event ≡ false → Goes v s w after (moved v s w event) → StepsByRule v s event x t
     → GoesOnHosted v s t w array event x after

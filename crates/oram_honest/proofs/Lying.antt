@@ -1,4 +1,4 @@
--- Whatever a host answers, a core that serves an array goes on so, or fails.
+-- Whatever a host answers, a core that serves an array still serves it, or fails.
 use Rattle.std.proofs.Common.{◌≡◌, ◌≢◌, ◌⊎◌, ℕ, zero, suc, ◌+◌, ◌<◌, ◌≤◌, ◌&&◌, not, Bool, true, false, if◌then◌else◌, cond, List, [], ◌∷◌, Option, Some, None, unwrap_or, refl, ap, sym, ◌∙◌, subst, arith, inl, inr}
 use Rattle.std.specs.List.{find, range_with_len}
 use Rattle.std.specs.Option.{option_map_or}
@@ -37,7 +37,7 @@ use Rattle.oram_honest.proofs.Handed.{fetch_leaves}
 use Rattle.oram_honest.proofs.Honest.{IsBusy, busy_by, served_on}
 use Rattle.oram_honest.proofs.Meeting.{Met, met, met_hosts}
 
--- what two tests that both passed say of each
+-- two tests that both pass, each by itself
 
 both : (a b : Bool) → (a && b) ≡ true → (a ≡ true) × (b ≡ true)
 both true b h = (refl, h)
@@ -60,7 +60,7 @@ alike_unless xs ys h = alike xs ys (elim (bytes_eq xs ys) as (λ b. not b ≡ fa
 differ_by : (xs ys : List ℕ) → not (bytes_eq xs ys) ≡ true → xs ≢ ys
 differ_by xs ys h same = let off : not (bytes_eq xs ys) ≡ false = ap not (bytes_same xs ys same) in let no : false ≡ true = sym off ∙ h in cc
 
--- the first number of a range that passed
+-- the first number of a range that passes
 record IsFound (p : ℕ → Bool) (a n l : ℕ) : Type 0 where
   least : a ≤ l
   most : l < a + n
@@ -93,7 +93,7 @@ found p a (suc n) l h = by (λ q. found p (a + 1) n l q) (p a) refl h
           ];
         }
 
--- where two records of one digest are told of, they are shown
+-- if two records with the same digest are found, the answer shows them
 
 collides : (v : Shape) (records : ℕ → ℕ → List ℕ) (e : Entry) (bytes : List ℕ) → pair_in v records e bytes ≡ true
     → (is_payload v e bytes ≡ true) × Collides (records e.tree) (answered_path v e bytes)
@@ -144,7 +144,7 @@ module _ (v : Shape) (s : State) (w : World) (fit : IsFit v.device) (alive : s.f
       by true e = absurd (none (shown v s w host bytes b.work e))
       by false e = refl
 
-  -- an answer goes on only where the honest host keeps what it tells of
+  -- an answer lets the core go on only if the honest host keeps what it says
   lied : (answer : HostAnswer) → Met v s w host answer after → answer ≢ Refused 8 → (o : Outcome)
       → Goes v s w after (on_answer v s w Waiting o) ⊎ ((e : Reason) × (o ≡ Fails e))
   lied answer (inl good) room Good =

@@ -1,4 +1,4 @@
--- An honest host is handed the message that is outstanding.
+-- An honest host receives the outstanding message.
 use Rattle.std.proofs.Math.Path.{fun_ext}
 use Rattle.std.proofs.Common.{◌≡◌, ◌⊎◌, ℕ, ◌^◌, ◌<◌, List, [], ◌∷◌, Option, Some, None, unwrap_or, refl, ap, sym, ◌∙◌, subst, arith, inl, inr}
 use Rattle.oram_geometry.specs.Sizes.{trees_of, depth_of}
@@ -19,7 +19,7 @@ again_at : (v : Shape) (records : ℕ → ℕ → List ℕ) (m : List ℕ) (i n 
     → records_after v (records_after v records (m ∷ [])) (m ∷ []) i n ≡ records_after v records (m ∷ []) i n
 again_at v records m i n = elim (written v m i n) as (λ (o : Option (List ℕ)). unwrap_or o (unwrap_or o (records i n)) ≡ unwrap_or o (records i n)) [ None ↦ refl | Some r ↦ refl ]
 
--- the same message again leaves what it has left
+-- the same message again changes nothing
 pub again : (v : Shape) (records : ℕ → ℕ → List ℕ) (m : List ℕ)
     → records_after v (records_after v records (m ∷ [])) (m ∷ []) ≡ records_after v records (m ∷ [])
 again v records m = fun_ext (λ i. fun_ext (λ n. again_at v records m i n))
@@ -47,7 +47,7 @@ met v s w host after answer b serves =
       | inr whole ↦ subst (λ (r : ℕ → ℕ → List ℕ). IsGood v r e answer after ⊎ IsFull host answer after) (again_now v s w host b) (from w.records whole)
     ]
 
--- and keeps the records as before, or as the message leaves them
+-- and it keeps the records as before, or as the message leaves them
 pub met_hosts : (v : Shape) (s : State) (w : World) (host after : Host) (answer : HostAnswer) → HostsWork v s w host
     → Met v s w host answer after → HostsWork v s w after
 met_hosts v s w host after answer b (inl good) = record { posted = b.posted; before = b.before; leaves = b.leaves; keeps = inr good.keeps }

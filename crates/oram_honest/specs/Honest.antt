@@ -14,11 +14,11 @@ use Rattle.oram_run.specs.Progress.Status.{Idle, Waiting, Stalling, Over}
 use Rattle.oram_run.specs.declared.events.Event.{Event}
 use Rattle.oram_run.specs.declared.events.Event.TheVariants.{Submit, Answer, Lost, Reopen, Retry}
 
--- a body that the host carries out
+-- the host carries out a body and then is `after`
 abbrev pub Takes : Host → List ℕ → Host → Type 0
 Takes host body after = Serves host body Done after
 
--- the host keeps tree i of the device, with these records, one at each node
+-- the host keeps tree i of the device, with one of these records at each node
 pub record KeepsTree (v : Shape) (i : ℕ) (records : ℕ → List ℕ) (host : Host) : Type 0 where
   pub kept : Kept
   pub there : tree_at host i ≡ Some kept
@@ -26,16 +26,16 @@ pub record KeepsTree (v : Shape) (i : ℕ) (records : ℕ → List ℕ) (host : 
   pub record_len : kept.record_len ≡ record_len v
   pub each : (n : ℕ) → n < node_count (depth_of v.device i) → record_of kept n ≡ Some (records n)
 
--- and so each tree
+-- the host keeps each tree of the device in this way
 abbrev pub KeepsAll : Shape → (ℕ → ℕ → List ℕ) → Host → Type 0
 KeepsAll v records host = (i : ℕ) → i < trees_of v.device → KeepsTree v i (records i) host
 
--- a message was lost, or the host's answer to it
+-- a message was lost, or the host's answer to it was
 abbrev pub HeardOrNot : List ℕ → Host → Host → Type 0
 HeardOrNot message host after = (after ≡ host) ⊎ ((answer : HostAnswer) × Serves host message answer after)
 
--- What an event has to do with the host while a message is outstanding: an answer is the host's to that message, and a loss is
--- that of the message, or of its answer.
+-- What an honest host does at an event while a message is outstanding: an answer is the host's answer to that message;
+-- at a loss, the message was lost or the host's answer to it was.
 abbrev pub IsHonestWaiting : List ℕ → Event → Host → Host → Type 0
 IsHonestWaiting message (Answer bytes) host after =
     (answer : HostAnswer) × (bytes ≡ answer_body answer) × Serves host message answer after
@@ -44,14 +44,14 @@ IsHonestWaiting message Reopen host after = HeardOrNot message host after
 IsHonestWaiting message Retry host after = after ≡ host
 IsHonestWaiting message (Submit s c w) host after = after ≡ host
 
--- At an event the host does what an honest one does, where the core has this status and sent this message last: otherwise
--- nothing comes to it.
+-- What an honest host does at an event, if the core has this status and sent this message last. Unless the core waits,
+-- the host receives nothing.
 abbrev pub IsHonest : Status → List ℕ → Event → Host → Host → Type 0
 IsHonest Waiting message event host after = IsHonestWaiting message event host after
 IsHonest Idle message event host after = after ≡ host
 IsHonest Stalling message event host after = after ≡ host
 IsHonest Over message event host after = after ≡ host
 
--- how a server that is formatted refuses a body
+-- how a server refuses a body of a formatting
 abbrev pub Refusing : Host → List ℕ → SinkFault → Host → Type 0
 Refusing host body fault after = (answer : HostAnswer) × Serves host body answer after × (fault_by answer ≡ Some fault)

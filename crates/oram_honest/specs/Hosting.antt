@@ -1,4 +1,4 @@
--- A host that keeps the records of a core's world, while the core goes from message to message.
+-- A host that keeps the records of a core's world, from message to message.
 use Rattle.std.specs.Prelude.{◌≡◌, ◌⊎◌, ℕ, ◌<◌, ◌^◌, false, List, [], ◌∷◌, None}
 use Rattle.oram_geometry.specs.Sizes.{depth_of}
 use Rattle.oram_host.specs.Host.{Host}
@@ -13,13 +13,14 @@ use Rattle.oram_run.specs.declared.events.Event.{Event}
 use Rattle.oram_run.specs.declared.events.Submission.{Submission}
 use Rattle.oram_honest.specs.Honest.{KeepsAll}
 
--- The message sent last asks for a path of the tree that is at work.
+-- The message sent last asks for a path of the tree at work.
 pub record IsPosted (v : Shape) (s : State) : Type 0 where
   pub whole : IsMessage v (asked s.last) s.last
   pub tree : (asked s.last).tree ≡ stage_tree v.device s.stage
   pub leaf : (asked s.last).leaf < 2 ^ depth_of v.device (stage_tree v.device s.stage)
 
--- While a command is at work the host keeps the world's records, or, where its message hasn't come yet, those before it.
+-- While a command is at work, the host keeps the world's records, or those before the last message if that hasn't
+-- reached it yet.
 pub record HostsWork (v : Shape) (s : State) (w : World) (host : Host) : Type 0 where
   pub posted : IsPosted v s
   pub before : ℕ → ℕ → List ℕ
@@ -30,12 +31,12 @@ abbrev pub HostsBy : Shape → State → World → Host → List Submission → 
 HostsBy v s w host [] = KeepsAll v w.records host
 HostsBy v s w host (x ∷ rest) = HostsWork v s w host
 
--- otherwise it keeps the world's
+-- the host keeps the world's records; while a command is at work, perhaps those before the last message
 abbrev pub Hosts : Shape → State → World → Host → Type 0
 Hosts v s w host = HostsBy v s w host s.queue
 
--- An event of an honest host: it shows no two records of one digest and doesn't fail the device, the core goes on and serves the
--- array, and the host keeps the records of the world that the event leaves.
+-- After an event of an honest host: it showed no two records with the same digest and didn't fail the device, the core
+-- goes on and serves the array, and the host keeps the records of the world after the event.
 pub record GoesOnHosted (v : Shape) (s t : State) (w : World) (array : ℕ → List ℕ) (event : Event) (x : Shown) (after : Host) : Type 0 where
   pub apart : shows_in v s w event ≡ false
   pub calm : fails_now x.note ≡ false

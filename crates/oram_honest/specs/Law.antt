@@ -1,4 +1,4 @@
--- What an honest host makes sure of.
+-- What an honest host guarantees.
 use Rattle.std.specs.Prelude.{◌≡◌, ℕ, ◌≤◌, List, [], None, replicate}
 use Rattle.oram_geometry.specs.Sizes.{IsDevice}
 use Rattle.oram_host.specs.Host.{Host}
@@ -14,13 +14,13 @@ use Rattle.oram_run.specs.declared.events.Event.{Event}
 use Rattle.oram_honest.specs.Honest.{IsHonest, Takes}
 use Rattle.oram_honest.specs.Hosting.{Hosts, GoesOnHosted}
 
--- A core that serves an array over an honest host goes on so at any event, and never fails.
+-- A core that serves an array over an honest host still serves it after any event, and never fails.
 abbrev pub HonestHostsServe : Type 0
 HonestHostsServe = (v : Shape) (s t : State) (w : World) (array : ℕ → List ℕ) (event : Event) (x : Shown) (host after : Host)
     → IsDevice v.device → s.failure ≡ None → IsServing v s w array → Hosts v s w host → StepsByRule v s event x t
     → IsHonest (status_in s) s.last event host after → GoesOnHosted v s t w array event x after
 
--- A device that was just formatted, over a host that kept nothing and took each message, serves an array of zeros.
+-- A device that has just been formatted, over a host that kept nothing and took each message, serves an array of zeros.
 pub record IsNewHosted (v : Shape) (s : State) (w : World) (host : Host) : Type 0 where
   pub serving : IsServing v s w (λ a. replicate v.device.block_bytes 0)
   pub hosts : Hosts v s w host

@@ -1,4 +1,4 @@
--- A host that may answer anything, told beside an honest one that hears the same messages.
+-- A host that may answer anything, compared with an honest one that receives the same messages.
 use Rattle.std.specs.Prelude.{◌≡◌, ◌≢◌, ◌⊎◌, ℕ, true, List, map, Some, None}
 use Rattle.oram_geometry.specs.Sizes.{IsDevice}
 use Rattle.oram_hash.specs.Tree.{Collides}
@@ -19,29 +19,29 @@ use Rattle.oram_run.specs.declared.events.Reason.{Reason}
 use Rattle.oram_honest.specs.Honest.{KeepsTree}
 use Rattle.oram_honest.specs.Hosting.{Hosts, GoesOnHosted}
 
--- The answer has the records of the path that was asked for, and the first that isn't the one that the honest host keeps there has the
--- digest of that one.
+-- The answer has the records of the requested path, and the first of them that isn't the one that the honest host
+-- keeps there has the same digest as that one.
 pub record ShowsPair (v : Shape) (host : Host) (message bytes : List ℕ) : Type 0 where
   pub payload : is_payload v (asked message) bytes ≡ true
   pub records : ℕ → List ℕ
   pub kept : KeepsTree v (asked message).tree records host
   pub pair : Collides records (answered_path v (asked message) bytes)
 
--- The message is answered by these bytes, whatever they are, and heard by the honest host, which has room for it. No two records of one
--- digest are shown.
+-- The message is answered with these bytes, whatever they are. The honest host receives the message too, and has room
+-- for it. The answer shows no two records with the same digest.
 pub record IsLie (v : Shape) (host : Host) (message bytes : List ℕ) (after : Host) : Type 0 where
   pub answer : HostAnswer
   pub heard : Serves host message answer after
   pub room : answer ≢ Refused 8
   pub apart : ¬ ShowsPair v host message bytes
 
--- the device fails, and each command without a reply is told so
+-- the device fails, and each command without a reply is answered as failed
 pub record FailsAll (s : State) (x : Shown) (t : State) : Type 0 where
   pub reason : Reason
   pub failure : t.failure ≡ Some reason
   pub replies : x.replies ≡ map failed_reply s.queue
 
--- Whatever a host answers, a core that serves an array over the honest one goes on so, or fails.
+-- Whatever a host answers, a core that serves an array over the honest host still serves it, or fails.
 abbrev pub LyingHostsFail : Type 0
 LyingHostsFail = (v : Shape) (s t : State) (w : World) (array : ℕ → List ℕ) (bytes : List ℕ) (x : Shown) (host after : Host)
     → IsDevice v.device → s.failure ≡ None → status_in s ≡ Waiting → IsServing v s w array → Hosts v s w host

@@ -1,7 +1,8 @@
-//! What is known of a device over an honest host: one that answers each message as a bucket server does, or loses it.
+//! Laws about a device over an honest host, which answers each message as a bucket server does, or loses it.
 //!
-//! A core that serves an array, whose records such a host keeps, goes on so at every event and never fails; so does one that
-//! was just formatted over a new server. Nothing here runs: the laws are for whoever drives a core over a server of its own.
+//! If such a host keeps the records of a core that serves an array, the core still serves the array after every event
+//! and never fails. The same holds of a core that has just been formatted over a new server. Nothing here runs: the
+//! laws are for crates that drive a core over a server of their own.
 #![tactic(auto)]
 
 mod law;

@@ -1,4 +1,4 @@
--- What is read is spelled so: a text of bytes that reads as a host is its image.
+-- Everything is read from its own text only: a text of bytes that reads as a host is its image.
 use Rattle.std.proofs.Common.{◌≡◌, ℕ, zero, suc, ◌+◌, ◌-◌, ◌^◌, ◌<◌, ◌≤◌, Bool, true, false, cond, eqb, leb, ltb, List, [], ◌∷◌, ◌++◌, length, get_or, take, drop, All, Result, Ok, Err, ◌↔◌, inl, inr, refl, sym, ap, subst, ◌∙◌, append_assoc, append-nil, arith}
 use Rattle.std.specs.Prelude.{◌&&◌, codes, nat_eq}
 use Rattle.std.specs.Int.{w32, from_be_bytes, to_be_bytes}
@@ -89,7 +89,7 @@ number_takes text x h e =
 
 -- ---- entries by rising number
 
--- an entry that is read is spelled so
+-- an entry is read from its own text only
 abbrev IsSpelled : {X : Type 0} → (ℕ → List ℕ → Reading (ℕ × X)) → (ℕ × X → List ℕ) → (ℕ × X → Type 0) → Type 0
 IsSpelled {X} next_entry text_of Fits = (least : ℕ) (text : List ℕ) (x : (ℕ × X) × List ℕ) → IsBytes text → next_entry least text ≡ Ok x → Takes text (text_of x.0) x.1 × Fits x.0 × (least ≤ x.0.0)
 
@@ -217,6 +217,6 @@ bytes_from_all text all i =
       | inr le ↦ rw (get_or_past text i 0 le) (omega arith)
     ]
 
--- a text of bytes is read as a host exactly where it is its image
+-- a text of bytes is read as a host if and only if it is its image
 pub exact_image : (text : List ℕ) (host : Host) → All (λ b. b < 256) text → (host_in text ≡ Ok host) ↔ (IsHost host × (text ≡ image host))
 exact_image text host all = (λ e. host_takes text host (bytes_from_all text all) e, λ h. ap host_in h.1 ∙ host_again host h.0)

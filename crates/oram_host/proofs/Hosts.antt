@@ -43,7 +43,7 @@ pub fetched : {T : Type 0} (items : T → List ℕ) (front : List ℕ) (host : H
 fetched items front host tree leaf kept (Ok v) shaped h = (h.1.0, h.1.1, (record { kept = kept; shaped = shaped; leaf_in = h.0; path = h.1.2.0 }, h.1.2.1))
 fetched items front host tree leaf kept (Err why) shaped h = with_shape (tree_at host tree) kept (why ≡ NoShape) (λ k. RefusesFetch k leaf why) shaped h
 
--- what is kept after a tree has changed, in place
+-- what the host keeps after a tree has changed in place
 pub keeps_written : (old new : BTreeMap ℕ Tree) (before after : Host) (n : ℕ) (tree : Tree) → host_of old ≡ before → host_of new ≡ after → IsSome (get nat_cmp old n) → WritesThrough nat_cmp (nat_cmp n) old tree new → Keeps before n (kept_by tree) after
 keeps_written old new before after n tree old_view new_view some h =
     let updates = h.3 some in
@@ -65,7 +65,7 @@ step_same true e es more old tree same found rest =
     ap (λ (k : Kept). (e.0, k) ∷ map {B = ℕ × Kept} (λ x. (x.0, kept_by x.1)) es) (same ∙ ap kept_by (sym here))
 step_same false e es more old tree same found rest = ap (λ (h : Host). (e.0, kept_by e.1) ∷ h) (rest refl)
 
--- a tree that keeps the same leaves the host as it was
+-- if a tree keeps the same records, the host is as it was
 same_written : (test : ℕ → Bool) (es : List (ℕ × Tree)) (old tree : Tree) → lookup test es ≡ Some old → kept_by tree ≡ kept_by old
     → map {B = ℕ × Kept} (λ x. (x.0, kept_by x.1)) (set_value test es tree) ≡ map {B = ℕ × Kept} (λ x. (x.0, kept_by x.1)) es
 same_written test [] old tree found same = refl

@@ -29,12 +29,12 @@ cond_length : (b : Bool) (e : ℕ × List ℕ) (es : List (ℕ × List ℕ)) (r 
 cond_length true e es r rs same = ap (λ (n : ℕ). suc n) same
 cond_length false e es r rs same = same
 
--- as many values are there as records
+-- there are as many filled values as filled entries
 pub length-filter_values : (es : List (ℕ × List ℕ)) → length (filter is_there (values_of es)) ≡ length (filter (λ e. is_there e.1) es)
 length-filter_values [] = refl
 length-filter_values (e ∷ es) = cond_length (is_there e.1) e (filter (λ x. is_there x.1) es) e.1 (filter is_there (values_of es)) (length-filter_values es)
 
--- each of rising numbers is at least its place
+-- the number at a place of rising numbers is at least that place
 at_least_place : (ks : List ℕ) (i : ℕ) → IsStrictlySortedBy nat_cmp ks → i < length ks → i ≤ get_or ks i 0
 at_least_place ks zero sorted h = omega arith
 at_least_place ks (suc i) sorted h = omega (arith, at_least_place ks i sorted (omega arith), below_from_sorted ks i (suc i) 0 sorted (omega arith) h)
@@ -45,7 +45,7 @@ few_numbers (k ∷ ks) n sorted below =
     let last = length ks in
     omega (arith, at_least_place (k ∷ ks) last sorted (omega arith), below last 0 (omega arith))
 
--- rising numbers below n are at most n
+-- there are at most n rising numbers below n
 pub few_keys : {X : Type 0} (m : BTreeMap ℕ X) (n : ℕ) → IsOrdered nat_cmp m → All (λ k. k < n) (keys m) → length m.entries ≤ n
 few_keys {X} m n ordered below =
     omega (arith, few_numbers (keys m) n ordered below, length-map m.entries (λ (e : ℕ × X). e.0))

@@ -17,7 +17,7 @@ some_of : (o : Option (List ℕ)) → IsSome o → (x : List ℕ) × (o ≡ Some
 some_of None h = absurd cc
 some_of (Some x) h = (x, refl)
 
--- the record in the map has the length of the tree's
+-- the record in the map is as long as the records of its tree
 pub whole_in_map : (tree : Tree) (node : ℕ) (bytes : List ℕ) → IsTree tree → IsSome (record_of (kept_by tree) node) → get nat_cmp tree.records node ≡ Some bytes → length bytes ≡ tree.record_len
 whole_in_map tree node bytes h some there =
     let stored = some_of (record_of (kept_by tree) node) some in
@@ -42,7 +42,7 @@ overwritten tree new node was bytes h some there whole written =
       puts_record tree changed node bytes h.ordered written.4 refl refl at.node whole h.shape.long (written.3 found),
     )
 
--- the records of a path are overwritten down to this level, and no other
+-- the records of a path are overwritten down to this level, and no others
 pub record IsOverwritten (old : Kept) (leaf : ℕ) (bytes : List ℕ) (level : ℕ) (new : Kept) : Type 0 where
   pub depth : new.depth ≡ old.depth
   pub record_len : new.record_len ≡ old.record_len

@@ -48,7 +48,7 @@ path_more kept depth leaf len level bytes record_bytes whole long found each k h
 pub length_more : (len level : ℕ) (bytes record_bytes : List ℕ) → length bytes ≡ level * len → length record_bytes ≡ len → length bytes + length record_bytes ≡ (level + 1) * len
 length_more len level bytes record_bytes whole long = omega (arith, step_is level len)
 
--- bytes that go on stand behind the same ones
+-- more bytes are appended to those after a front
 pub more_behind : (front bytes more new : List ℕ) → bytes ≡ front ++ drop (length front) bytes → new ≡ bytes ++ more
     → (drop (length front) new ≡ drop (length front) bytes ++ more) × (new ≡ front ++ drop (length front) new)
 more_behind front bytes more new behind grown =
@@ -58,7 +58,7 @@ more_behind front bytes more new behind grown =
       grown ∙ ap (λ (xs : List ℕ). xs ++ more) behind ∙ append_assoc front (drop (length front) bytes) more ∙ ap (λ (xs : List ℕ). front ++ xs) (sym rest),
     )
 
--- what is left of the copies, and the one that was taken off the end
+-- the copies that are left, and the one that was taken off the end
 pub popped : (all copies rest : List (List ℕ)) (copy : List ℕ) → copies ≡ take (length copies) all → copies ≡ rest ++ copy ∷ []
     → (rest ≡ take (length rest) all) × (slice_get all (length rest) ≡ Some copy) × (length copies ≡ length rest + 1)
 popped all copies rest copy front split =

@@ -1,4 +1,4 @@
--- A field that was written is read again, and what fails after it fails the whole.
+-- A field is read again as it was written, and a fault after it is the fault of the whole.
 use Rattle.std.proofs.Common.{◌≡◌, ◌≢◌, ℕ, suc, ◌+◌, ◌-◌, ◌^◌, ◌<◌, ◌≤◌, Bool, true, false, cond, ltb, List, [], ◌∷◌, ◌++◌, length, take, drop, Option, Some, None, Result, Ok, Err, refl, sym, ap, ◌∙◌, append_assoc, append-nil, add-zero, zero-add, arith, lit<}
 use Rattle.std.specs.Prelude.{IfSome, codes, nat_eq}
 use Rattle.std.specs.Int.{w32, to_be_bytes}
@@ -25,7 +25,7 @@ after_known None b bytes next whole why consumed passes h = tt
 after_known (Some x) None bytes next whole why consumed passes h = absurd consumed
 after_known (Some x) (Some y) bytes next whole why consumed passes h = ap whole consumed ∙ passes y h
 
--- what fails after these bytes
+-- a fault that comes after these bytes
 pub fails_after : {X Y : Type 0} (why : ImageFault) (a b : Option (List ℕ)) (bytes : List ℕ) (next : List ℕ → Result X ImageFault) (whole : List ℕ → Result Y ImageFault) → Consumes a b bytes
     → ((rest : List ℕ) → next rest ≡ Err why → whole (bytes ++ rest) ≡ Err why) → IsFirstFault next why b → IsFirstFault whole why a
 fails_after Io a b bytes next whole consumed passes h = tt
@@ -38,7 +38,7 @@ here_known None b bytes whole why consumed fails = tt
 here_known (Some x) None bytes whole why consumed fails = absurd consumed
 here_known (Some x) (Some y) bytes whole why consumed fails = ap whole consumed ∙ fails y
 
--- what is refused once these bytes are read, whatever follows
+-- a fault that comes once these bytes are read, whatever follows
 pub fails_here : {Y : Type 0} (why : ImageFault) (a b : Option (List ℕ)) (bytes : List ℕ) (whole : List ℕ → Result Y ImageFault) → Consumes a b bytes
     → ((rest : List ℕ) → whole (bytes ++ rest) ≡ Err why) → IsFirstFault whole why a
 fails_here Io a b bytes whole consumed fails = tt
@@ -50,7 +50,7 @@ first_known : {X Y : Type 0} (a : Option (List ℕ)) (first : List ℕ → Resul
 first_known None first whole why passes h = tt
 first_known (Some x) first whole why passes h = passes x h
 
--- what fails at the front
+-- a fault that comes at the front
 pub fails_first : {X Y : Type 0} (why : ImageFault) (a : Option (List ℕ)) (first : List ℕ → Result X ImageFault) (whole : List ℕ → Result Y ImageFault)
     → ((text : List ℕ) → first text ≡ Err why → whole text ≡ Err why) → IsFirstFault first why a → IsFirstFault whole why a
 fails_first Io a first whole passes h = tt
@@ -171,7 +171,7 @@ rising_fails next_entry text_of Fits again es count rest why rises fits more fai
     ap (λ n. next_rising next_entry n 0 (flat_map text_of es ++ rest)) left ∙ begun_again next_entry text_of Fits again es 0 (suc (count - (length es + 1))) rest rises fits
     ∙ rw fails refl
 
--- ---- so many entries
+-- ---- a list of entries
 
 pub entries_first : {X : Type 0} (most : ℕ) (next_entry : ℕ → List ℕ → Reading (ℕ × X)) (text : List ℕ) (why : ImageFault) → next_number text ≡ Err why → next_entries most next_entry text ≡ Err why
 unfolding next_entries

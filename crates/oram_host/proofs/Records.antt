@@ -1,4 +1,4 @@
--- The records of a tree, by what the map of records and rooms has.
+-- The records of a tree, by its map of records and of room for records.
 use Rattle.std.proofs.Common.{◌≡◌, ◌≢◌, ℕ, ◌<◌, Bool, true, false, cond, List, [], ◌∷◌, length, filter, Option, Some, None, ◌↔◌, ◌+◌, ◌-◌, ◌^◌, IsSome, All, refl, ap, subst, ◌∙◌, sym, arith, inl, inr}
 use Rattle.std.specs.Map.{keys_of, lookup, values_of}
 use Rattle.std.specs.BTreeMap.{BTreeMap, IsOrdered, Updates, get, insert_entry, is_at, keys, values}
@@ -16,7 +16,7 @@ use Rattle.oram_host.specs.Path.{PutsRecord}
 use Rattle.oram_host.specs.Trees.{AreNodes, IsRecord, is_there, kept_by}
 use Rattle.oram_host.specs.declared.trees.Tree.{Tree}
 
--- what a node was given, by what the map has there
+-- the record of a node, by what the map has there
 pub record_of-kept : (tree : Tree) (node : ℕ) → IsOrdered nat_cmp tree.records → record_of (kept_by tree) node ≡ option_filter is_there (get nat_cmp tree.records node)
 record_of-kept tree node ordered = lookup-filter-values (eq_by_cmp_equiv nat_cmp_total) is_there node tree.records.entries (IsDistinct-from_sorted nat_cmp (keys tree.records) ordered)
 
@@ -27,7 +27,7 @@ room_step Less node e es more none same = refl
 room_step Equal node e es more none same = absurd cc
 room_step Greater node e es more none same = ap (λ (xs : List (ℕ × List ℕ)). cond (is_there e.1) (e ∷ xs) xs) (same none)
 
--- room for a record is no record
+-- room for a record isn't a record
 pub records-insert_room : (node : ℕ) (es : List (ℕ × List ℕ)) → lookup (is_at (nat_cmp node)) es ≡ None → filter (λ x. is_there x.1) (insert_entry nat_cmp es node []) ≡ filter (λ x. is_there x.1) es
 records-insert_room node [] none = refl
 records-insert_room node (e ∷ es) none = room_step (nat_cmp node e.0) node e es (insert_entry nat_cmp es node []) none (records-insert_room node es)
@@ -73,11 +73,11 @@ IsSome_cond : (b : Bool) (x y : Option (List ℕ)) → IsSome x → IsSome y →
 IsSome_cond true x y h k = h
 IsSome_cond false x y h k = k
 
--- what was there is there, and one thing more
+-- what was in the map is still there, after one thing was added
 pub still_some : (old new : BTreeMap ℕ (List ℕ)) (node q : ℕ) (bytes : List ℕ) → Updates nat_cmp old new node (Some bytes) → IsSome (get nat_cmp old q) → IsSome (get nat_cmp new q)
 still_some old new node q bytes updates some = rw (updates.0 q) (IsSome_cond (is_at (nat_cmp node) q) (Some bytes) (get nat_cmp old q) refl some)
 
--- a record that is written keeps the nodes and the lengths as they should be
+-- after a record was written, the nodes are still in the tree, and the lengths are right
 pub nodes-insert : (depth node : ℕ) (bytes : List ℕ) (old new : BTreeMap ℕ (List ℕ)) → new.entries ≡ insert_entry nat_cmp old.entries node bytes → node < 2 ^ (depth + 1) - 1 → AreNodes depth (keys old) → AreNodes depth (keys new)
 nodes-insert depth node bytes old new entries within h =
     let P : List (ℕ × List ℕ) → Type 0 = λ es. AreNodes depth (keys_of es) in

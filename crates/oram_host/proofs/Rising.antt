@@ -74,7 +74,7 @@ pub RisesFrom-values : {X Y : Type 0} (f : X → Y) (es : List (ℕ × X)) (leas
 RisesFrom-values f [] least rises = tt
 RisesFrom-values f (e ∷ es) least rises = (rises.0, RisesFrom-values f es (e.0 + 1) rises.1)
 
--- rising numbers below n are at most n
+-- there are at most n rising numbers below n
 pub few_rising : {X : Type 0} (es : List (ℕ × X)) (least n : ℕ) → RisesFrom least es → AllByRecursion (λ e. e.0 < n) es → least ≤ n → length es + least ≤ n
 few_rising [] least n rises below h = omega arith
 few_rising (e ∷ es) least n rises below h = omega (arith, rises.0, below.0, few_rising es (e.0 + 1) n rises.1 below.1 (omega (arith, below.0)))

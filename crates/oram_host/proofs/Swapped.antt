@@ -1,4 +1,4 @@
--- Records that are exchanged.
+-- Exchanging records.
 use Rattle.std.proofs.Common.{◌≡◌, ◌≢◌, ℕ, ◌<◌, ◌≤◌, ◌^◌, ◌⊎◌, Bool, true, false, cond, inl, inr, List, [], length, All, Option, Some, None, IsSome, IfSome, refl, ap, subst, sym, ◌∙◌, arith}
 use Rattle.std.specs.Option.{option_and_then, option_map}
 use Rattle.std.specs.BTreeMap.{BTreeMap, Updates, WritesThrough, get, is_at}
@@ -20,7 +20,7 @@ use Rattle.oram_host.proofs.Records.{not_at, record_of-kept}
 some_is : {X : Type 0} (x y : X) → Some x ≡ Some y → x ≡ y
 some_is x y e = cc
 
--- a tree of a host is a tree
+-- each tree of a host is sound
 tree_is : (trees : BTreeMap ℕ Tree) (t : ℕ) (kept : Tree) → AreTrees trees → get nat_cmp trees t ≡ Some kept → IsTree kept
 tree_is trees t kept h found =
     let P : Option Tree → Type 0 = λ o. IfSome o IsTree in
@@ -46,7 +46,7 @@ shape_in-same : (old new : BTreeMap ℕ Tree) (t : ℕ) → get nat_cmp new t �
 unfolding shape_in
 shape_in-same old new t same = ap (option_map (λ x. (x.depth, x.record_len))) same
 
--- what a host shows of a slot
+-- the record that a host shows for a slot
 shown : (o : Option Tree) (n : ℕ) → ((kept : Tree) → o ≡ Some kept → IsTree kept)
     → option_and_then (λ (k : Kept). record_of k n) (option_map kept_by o) ≡ option_filter is_there (option_and_then (λ (x : Tree). get nat_cmp x.records n) o)
 shown None n are = refl
@@ -73,7 +73,7 @@ filtered (Some x) bytes e = kept_or_not (is_there x) x bytes e
     kept_or_not true x bytes e = e
     kept_or_not false x bytes e = absurd cc
 
--- a record that its tree has is there
+-- a record that a tree has satisfies `IsThere`
 pub is_there_at : (trees : BTreeMap ℕ Tree) (t n : ℕ) (kept : Tree) (bytes : List ℕ) → AreTrees trees → get nat_cmp trees t ≡ Some kept → record_of (kept_by kept) n ≡ Some bytes → length bytes ≡ kept.record_len
     → IsThere trees t n kept.record_len
 is_there_at trees t n kept bytes h found stored long =
@@ -104,7 +104,7 @@ no_slot trees t n some none = none_some (slot_at trees t n) (slot_at-absent tree
     none_some None e h = absurd cc
     none_some (Some x) e h = cc
 
--- a tree at one of whose nodes other bytes were put
+-- a tree after other bytes were put at one of its nodes
 pub tree_given : (tree : Tree) (new : BTreeMap ℕ (List ℕ)) (node : ℕ) (bytes : List ℕ) → IsTree tree → WritesThrough nat_cmp (nat_cmp node) tree.records bytes new → IsRecord tree.record_len bytes
     → IsTree (record { depth = tree.depth; record_len = tree.record_len; records = new })
 tree_given tree new node bytes h written fits =

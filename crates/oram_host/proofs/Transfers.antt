@@ -25,7 +25,7 @@ cut_at count piece rest = sym (append_assoc (take count piece) (drop count piece
 pub begun_first : (a b : Option (List ℕ)) (piece rest text : List ℕ) → Begins a b piece → piece ++ rest ≡ text → Begins a b text
 begun_first a b piece rest text p e = begun a b (take p.0 piece) (drop p.0 piece ++ rest) text p.1 (cut_at p.0 piece rest ∙ e)
 
--- the front was written, and a beginning of the piece behind it
+-- the front was written, and then a beginning of the next piece
 pub begun_next : (a b c : Option (List ℕ)) (front piece rest text : List ℕ) → Appends a b front → Begins b c piece → (front ++ piece) ++ rest ≡ text → Begins a c text
 begun_next a b c front piece rest text p q e =
     let cut = take q.0 piece in
@@ -34,7 +34,7 @@ begun_next a b c front piece rest text p q e =
     append_assoc front cut left ∙ ap (λ (l : List ℕ). front ++ l) (cut_at q.0 piece rest) ∙ sym (append_assoc front piece rest) in
     begun a c (front ++ cut) left text (Appends-trans a b c front cut p q.1) (same ∙ e)
 
--- the front was written, and a beginning of the last piece
+-- the front was written, and then a beginning of the last piece
 pub begun_last : (a b c : Option (List ℕ)) (front piece : List ℕ) → Appends a b front → Begins b c piece → Begins a c (front ++ piece)
 begun_last a b c front piece p q = begun_next a b c front piece [] (front ++ piece) p q (append-nil (front ++ piece))
 

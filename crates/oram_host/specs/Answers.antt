@@ -1,4 +1,4 @@
--- What a host answers to a request, and what it keeps then.
+-- What a host answers to a request, and what it keeps afterwards.
 use Rattle.std.specs.Prelude.{◌≡◌, ◌≢◌, ℕ, ◌^◌, ◌<◌, List, [], None, Some}
 use Rattle.oram_wire.specs.declared.host_messages.HostAnswer.{HostAnswer}
 use Rattle.oram_wire.specs.declared.host_messages.HostAnswer.TheVariants.{Done, Payload, Refused}
@@ -9,12 +9,12 @@ use Rattle.oram_host.specs.Host.{Host, IsShape, Kept, tree_at}
 use Rattle.oram_host.specs.Path.{IsPath, PutsRecord, StoresPath}
 use Rattle.oram_host.specs.Refusals.{Refuses, code_of}
 
--- this is kept of the tree now, and of every other tree what was
+-- the host keeps `kept` of the tree now, and of every other tree what it kept before
 pub record Keeps (old : Host) (tree : ℕ) (kept : Kept) (new : Host) : Type 0 where
   pub here : tree_at new tree ≡ Some kept
   pub others : (other : ℕ) → other ≢ tree → tree_at new other ≡ tree_at old other
 
--- the records of the path that is asked for
+-- the records of the path of a leaf
 pub record IsFetched (host : Host) (tree leaf : ℕ) (bytes : List ℕ) : Type 0 where
   pub kept : Kept
   pub shaped : tree_at host tree ≡ Some kept
@@ -35,13 +35,13 @@ pub record IsPut (old : Host) (tree node : ℕ) (bytes : List ℕ) (new : Host) 
   pub puts : PutsRecord kept node bytes changed
   pub keeps : Keeps old tree changed new
 
--- a new shape, and no record yet
+-- the tree has a new shape, and no record yet
 pub record IsShaped (old : Host) (tree depth record_len : ℕ) (new : Host) : Type 0 where
   pub shape : IsShape depth record_len
   pub free : tree_at old tree ≡ None
   pub keeps : Keeps old tree (record { depth = depth; record_len = record_len; records = [] }) new
 
--- the answer to a request, and what is kept after it
+-- the answer to a request, and what the host keeps after it
 abbrev pub Answers : Host → HostRequest → HostAnswer → Host → Type 0
 Answers old message (Refused code) new = (why : HostRefusal) × (code ≡ code_of why)
     × Refuses old message why × (new ≡ old)

@@ -6,8 +6,8 @@ use Rattle.std.specs.BTreeMap.{is_at}
 use Rattle.std.specs.Ordering.{nat_cmp}
 use Rattle.oram_wire.specs.declared.TheConstants.{LONGEST_BODY}
 
--- A tree that has a shape: its depth, the length of its records, and those that it was given, by
--- rising node.
+-- A tree that has a shape: its depth, the length of its records, and the records that it was given,
+-- by rising node.
 pub record Kept : Type 0 where
   pub depth : ℕ
   pub record_len : ℕ
@@ -25,7 +25,7 @@ tree_at host tree = lookup (is_at (nat_cmp tree)) host
 abbrev pub record_of : Kept → ℕ → Option (List ℕ)
 record_of kept node = lookup (is_at (nat_cmp node)) kept.records
 
--- a shape that a tree may have: a STORE of a path fits a frame
+-- a shape that a tree may have: a STORE of a path has to fit in a frame
 pub record IsShape (depth record_len : ℕ) : Type 0 where
   pub deep : depth ≤ 24
   pub long : 0 < record_len
@@ -36,7 +36,7 @@ abbrev pub RisesFrom : {X : Type 0} → ℕ → List (ℕ × X) → Type 0
 RisesFrom least [] = ⊤
 RisesFrom least (e ∷ es) = (least ≤ e.0) × RisesFrom (e.0 + 1) es
 
--- a record of this length, at one of so many nodes
+-- a record of `record_len` bytes, at one of the first `nodes` nodes
 pub record IsRecordOf (nodes record_len : ℕ) (e : ℕ × List ℕ) : Type 0 where
   pub node : e.0 < nodes
   pub whole : length e.1 ≡ record_len

@@ -15,14 +15,14 @@ fault_number Content = Some 4
 fault_number Io = None
 fault_number OutOfMemory = None
 
--- Reading what the reader held meets this fault first, where that is known. That the reader failed or memory was refused
--- tells nothing of it.
+-- Reading what the reader held meets this fault first, if the bytes are known. Io and OutOfMemory say nothing about the
+-- bytes.
 abbrev pub IsFirstFault : {X : Type 0} → (List ℕ → Result X ImageFault) → ImageFault → Option (List ℕ) → Type 0
 IsFirstFault reading Io held = ⊤
 IsFirstFault reading OutOfMemory held = ⊤
 IsFirstFault reading why held = IfSome held (λ text. reading text ≡ Err why)
 
--- what stands at the front of a text, and the text after it
+-- what is read from the front of a text and the text after it, or a fault
 abbrev pub Reading : Type 0 → Type 0
 Reading X = Result (X × List ℕ) ImageFault
 
@@ -31,7 +31,7 @@ abbrev pub ◌>>=◌ : {X Y : Type 0} → Result X ImageFault → (X → Result 
 (Ok x) >>= next = next x
 (Err why) >>= next = Err why
 
--- what every host keeps to
+-- a condition that every host fulfils
 abbrev pub lawful : Bool → Result (Unit {0}) ImageFault
 lawful true = Ok tt
 lawful false = Err Content
@@ -48,7 +48,7 @@ next_number text = do
   bytes ← next_bytes 4 text
   Ok (from_be_bytes w32 bytes.0, bytes.1)
 
--- so many entries by rising number, from `least` on
+-- `count` entries by rising number, from `least` on
 unfoldable pub next_rising : {X : Type 0} → (ℕ → List ℕ → Reading (ℕ × X)) → ℕ → ℕ → List ℕ → Reading (List (ℕ × X))
 next_rising next_entry zero least text = Ok ([], text)
 next_rising next_entry (suc count) least text = do
@@ -56,7 +56,7 @@ next_rising next_entry (suc count) least text = do
   others ← next_rising next_entry count (first.0.0 + 1) first.1
   Ok (first.0 ∷ others.0, others.1)
 
--- the number of the entries, at most so many, and the entries
+-- the number of the entries, which is at most `most`, and the entries
 unfoldable pub next_entries : {X : Type 0} → ℕ → (ℕ → List ℕ → Reading (ℕ × X)) → List ℕ → Reading (List (ℕ × X))
 next_entries most next_entry text = do
   count ← next_number text
@@ -74,7 +74,7 @@ next_record nodes record_len least text = do
 abbrev pub is_shape : ℕ → ℕ → Bool
 is_shape depth record_len = nat_le depth 24 && nat_lt 0 record_len && nat_le ((depth + 1) * record_len + 6) LONGEST_BODY
 
--- a shape, and the records of as many nodes at most
+-- a shape, and at most one record for each node
 unfoldable pub next_kept : List ℕ → Reading Kept
 next_kept text = do
   depth ← next_byte text
@@ -92,7 +92,7 @@ next_tree least text = do
   kept ← next_kept number.1
   Ok ((number.0, kept.0), kept.1)
 
--- the text after the eight letters
+-- the text after the eight letters that it begins with
 unfoldable pub after_letters : List ℕ → Result (List ℕ) ImageFault
 after_letters text = if starts_with nat_eq text (codes "ORAMHOST") then Ok (drop 8 text) else Err Magic
 
@@ -101,12 +101,12 @@ after_version text = do
   version ← next_number text
   if version.0 == 1 then Ok version.1 else Err Version
 
--- no text goes on
+-- the text must end here
 unfoldable pub after_end : List ℕ → Result (Unit {0}) ImageFault
 after_end [] = Ok tt
 after_end (b ∷ text) = Err Length
 
--- all of the text
+-- the host whose image is the whole text
 unfoldable pub host_in : List ℕ → Result Host ImageFault
 host_in text = do
   letters ← after_letters text

@@ -7,7 +7,7 @@ use Rattle.oram_host.specs.Host.{Kept, record_of}
 unfoldable pub node_on : ℕ → ℕ → ℕ → ℕ
 node_on depth leaf level = 2 ^ level - 1 + leaf / 2 ^ (depth - level)
 
--- the record of a level, where records of this length stand one after the other, root first
+-- the record of a level, in bytes that are records of `record_len` bytes each, root first
 abbrev pub record_at : ℕ → List ℕ → ℕ → List ℕ
 record_at record_len bytes level = slice_range bytes (level * record_len) ((level + 1) * record_len)
 
@@ -36,11 +36,11 @@ pub record PutsRecord (old : Kept) (node : ℕ) (bytes : List ℕ) (new : Kept) 
   pub put : record_of new node ≡ Some bytes
   pub others : (other : ℕ) → other ≢ node → record_of new other ≡ record_of old other
 
--- records that an answer has room for: some, and fewer bytes than a frame's
+-- records that fit in an answer: at least one byte, and fewer than a frame can hold
 pub record FitsAnswer (bytes : List ℕ) : Type 0 where
   pub some : 0 < length bytes
   pub few : length bytes < LONGEST_BODY
 
--- the bytes are these in front, and behind them some that are so
+-- the bytes are `front` and then bytes that P holds of
 abbrev pub IsBehind : List ℕ → (List ℕ → Type 0) → List ℕ → Type 0
 IsBehind front P bytes = (rest : List ℕ) × (bytes ≡ front ++ rest) × P rest

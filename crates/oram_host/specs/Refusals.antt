@@ -17,7 +17,7 @@ code_of Missing = 6
 code_of BadOp = 7
 code_of OutOfMemory = 8
 
--- a FETCH, by a tree that has a shape
+-- why a tree that has a shape refuses a FETCH
 abbrev pub RefusesFetch : Kept → ℕ → HostRefusal → Type 0
 RefusesFetch kept leaf BadLeaf = 2 ^ kept.depth ≤ leaf
 RefusesFetch kept leaf Missing = (leaf < 2 ^ kept.depth) × (level : ℕ) × (level ≤ kept.depth)
@@ -26,7 +26,7 @@ RefusesFetch kept leaf OutOfMemory = (leaf < 2 ^ kept.depth) × ((level : ℕ) �
     → IsSome (record_of kept (node_on kept.depth leaf level)))
 RefusesFetch kept leaf _ = ⊥
 
--- a STORE, by a tree that has a shape
+-- why a tree that has a shape refuses a STORE
 abbrev pub RefusesStore : Kept → ℕ → List ℕ → HostRefusal → Type 0
 RefusesStore kept leaf records BadLeaf = 2 ^ kept.depth ≤ leaf
 RefusesStore kept leaf records BadLength = (leaf < 2 ^ kept.depth)
@@ -35,7 +35,7 @@ RefusesStore kept leaf records OutOfMemory = (leaf < 2 ^ kept.depth)
     × (length records ≡ (kept.depth + 1) * kept.record_len)
 RefusesStore kept leaf records _ = ⊥
 
--- a PUT, by a tree that has a shape
+-- why a tree that has a shape refuses a PUT
 abbrev pub RefusesPut : Kept → ℕ → List ℕ → HostRefusal → Type 0
 RefusesPut kept node bytes BadNode = 2 ^ (kept.depth + 1) - 1 ≤ node
 RefusesPut kept node bytes BadLength = (node < 2 ^ (kept.depth + 1) - 1)
@@ -44,14 +44,14 @@ RefusesPut kept node bytes OutOfMemory = (node < 2 ^ (kept.depth + 1) - 1)
     × (length bytes ≡ kept.record_len)
 RefusesPut kept node bytes _ = ⊥
 
--- a SHAPE, where this is kept of the tree
+-- why a SHAPE is refused, by what is kept of the tree
 abbrev pub RefusesShape : Option Kept → ℕ → ℕ → HostRefusal → Type 0
 RefusesShape kept depth record_len BadLength = ¬ IsShape depth record_len
 RefusesShape kept depth record_len ShapeTaken = IsShape depth record_len × (kept ≢ None)
 RefusesShape kept depth record_len OutOfMemory = IsShape depth record_len × (kept ≡ None)
 RefusesShape kept depth record_len _ = ⊥
 
--- a request, by the host
+-- why a host refuses a request
 abbrev pub Refuses : Host → HostRequest → HostRefusal → Type 0
 Refuses host (request.Fetch tree leaf) why = MatchOption (tree_at host tree) (why ≡ NoShape)
     (λ kept. RefusesFetch kept leaf why)

@@ -1,4 +1,4 @@
--- What a bucket host does with whatever it is sent.
+-- What a bucket host does with any body that it is sent.
 use Rattle.std.specs.Prelude.{◌≡◌, ℕ, ◌==◌, false, if◌then◌else◌, List, Option, Some, None}
 use Rattle.oram_wire.specs.HostMessages.{request_body}
 use Rattle.oram_wire.specs.HostReading.{HasNumbers, IsMisfit, names_request}
@@ -13,20 +13,20 @@ use Rattle.oram_host.specs.Path.{IsBehind}
 use Rattle.oram_host.specs.declared.serving.Served.{Served}
 use Rattle.oram_host.specs.declared.serving.Served.TheVariants as served
 
--- The host is sent a body, answers it so, and is this afterwards: a request's body as requests are answered, and any other is
--- refused and changes nothing.
+-- The host is sent a body, gives this answer, and is `after` afterwards. It answers a request as `Answers` says; it
+-- refuses any other body and stays as it is.
 pub record Serves (host : Host) (body : List ℕ) (answer : HostAnswer) (after : Host) : Type 0 where
   pub request : (message : HostRequest) → HasNumbers message → body ≡ request_body message → Answers host message answer after
   pub op : names_request body ≡ false → (answer ≡ Refused 7) × (after ≡ host)
   pub misfit : IsMisfit body → (answer ≡ Refused 4) × (after ≡ host)
 
--- what an answer is to whoever formats the host
+-- the fault that an answer is for the formatting of the host
 abbrev pub fault_by : HostAnswer → Option SinkFault
 fault_by Done = None
 fault_by (Payload bytes) = Some fault.Refused
 fault_by (Refused code) = if code == 8 then Some fault.OutOfMemory else Some fault.Refused
 
--- what came of a request stands for an answer that is so: its records are behind these bytes
+-- the outcome of a request is an answer that P holds of; its records come after `front`
 abbrev pub StandsFor : List ℕ → Served → (HostAnswer → Type 0) → Type 0
 StandsFor front (served.Records bytes) P = IsBehind front (λ records. P (Payload records)) bytes.items
 StandsFor front served.Done P = P Done

@@ -1,4 +1,4 @@
--- Two stored records that are exchanged.
+-- Exchanging two stored records.
 use Rattle.std.specs.Prelude.{◌≡◌, ◌≢◌, ℕ, List, length, Option, Some}
 use Rattle.std.specs.Option.{option_and_then, option_map}
 use Rattle.oram_host.specs.Host.{Host, record_of, tree_at}
@@ -23,7 +23,7 @@ pub record IsSwapped (old : Host) (tree_a node_a tree_b node_b : ℕ) (new : Hos
   pub others : (tree node : ℕ) → (tree ≡ tree_a → node ≢ node_a) → (tree ≡ tree_b → node ≢ node_b) → stored_at new tree node ≡ stored_at old tree node
   pub shapes : (tree : ℕ) → shape_at new tree ≡ shape_at old tree
 
--- a record isn't there, or the two have different lengths
+-- a record is missing, or the two have different lengths
 abbrev pub LacksPair : Host → ℕ → ℕ → ℕ → ℕ → Type 0
 LacksPair host tree_a node_a tree_b node_b =
     (a b : List ℕ) → stored_at host tree_a node_a ≡ Some a → stored_at host tree_b node_b ≡ Some b → length a ≢ length b

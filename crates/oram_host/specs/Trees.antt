@@ -1,4 +1,4 @@
--- A tree in memory, and what is kept by it.
+-- A tree in memory, and what it keeps.
 use Rattle.std.specs.Prelude.{◌≡◌, ◌≢◌, ℕ, ◌+◌, ◌-◌, ◌^◌, ◌<◌, ◌⊎◌, Bool, nat_lt, List, [], length, filter, map, All, Option, Some}
 use Rattle.std.specs.Option.{option_and_then, option_map}
 use Rattle.std.specs.BTreeMap.{BTreeMap, IsOrdered, get, keys, values}
@@ -7,7 +7,7 @@ use Rattle.oram_host.specs.declared.trees.Tree.{Tree}
 use Rattle.oram_host.specs.Host.{Host, IsShape, Kept}
 use Rattle.oram_host.specs.Swaps.{stored_at}
 
--- a record is there: one without bytes is room for a record
+-- a record exists; empty bytes are only room for one
 abbrev pub is_there : List ℕ → Bool
 is_there bytes = nat_lt 0 (length bytes)
 
@@ -42,7 +42,7 @@ pub record AreTrees (trees : BTreeMap ℕ Tree) : Type 0 where
   pub each : All IsTree (values trees)
   pub numbers : All (λ number. number < 256) (keys trees)
 
--- what lies at a node of one of the trees: a record, or room for one
+-- the bytes at a node of one of the trees: a record, or room for one
 unfoldable pub slot_at : BTreeMap ℕ Tree → ℕ → ℕ → Option (List ℕ)
 slot_at trees tree node = option_and_then (λ kept. get nat_cmp kept.records node) (get nat_cmp trees tree)
 
@@ -50,13 +50,13 @@ slot_at trees tree node = option_and_then (λ kept. get nat_cmp kept.records nod
 unfoldable pub shape_in : BTreeMap ℕ Tree → ℕ → Option (ℕ × ℕ)
 shape_in trees tree = option_map (λ kept. (kept.depth, kept.record_len)) (get nat_cmp trees tree)
 
--- these bytes lie at a node now, and nothing else changed
+-- the bytes at a node are `bytes` now, and nothing else changed
 pub record IsExchanged (old : BTreeMap ℕ Tree) (tree node : ℕ) (bytes : List ℕ) (new : BTreeMap ℕ Tree) : Type 0 where
   pub here : slot_at new tree node ≡ Some bytes
   pub others : (t n : ℕ) → (t ≡ tree → n ≢ node) → slot_at new t n ≡ slot_at old t n
   pub shapes : (t : ℕ) → shape_in new t ≡ shape_in old t
 
--- a record of this length, which is that of its tree's records, is there
+-- a node has a record of `len` bytes, which is the length of its tree's records
 pub record IsThere (trees : BTreeMap ℕ Tree) (tree node len : ℕ) : Type 0 where
   pub bytes : List ℕ
   pub long : length bytes ≡ len

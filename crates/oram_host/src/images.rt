@@ -17,17 +17,17 @@ use std::alloc::{AllocError, AllocFailed};
 /// Why an image could not be saved or loaded.
 #[derive(Clone, Copy, Debug, PartialEq, Eq)]
 pub enum ImageFault {
-    /// It does not begin with the eight letters.
+    /// The file doesn't begin with the eight letters.
     Magic,
-    /// The version is not known.
+    /// The version isn't known.
     Version,
-    /// It ends too early, or goes on after its end.
+    /// The file ends too early, or goes on after the image.
     Length,
-    /// It holds what no host keeps.
+    /// The file holds something that no host keeps.
     Content,
     /// The reader or the writer failed.
     Io,
-    /// Memory was refused.
+    /// There was not enough memory.
     OutOfMemory,
 }
 
@@ -35,15 +35,15 @@ const MAGIC: [u8; 8] = *b"ORAMHOST";
 
 const VERSION: u32 = 1;
 
-/// A text of bytes is read as a host exactly where it is that host's image.
+/// A text of bytes is read as a host if and only if it is the image of that host.
 pub fn images_are_exact()
     ensures { (text : List ℕ) (host : Host) → All (λ b. b < 256) text
         → (host_in text ≡ Ok host) ↔ (IsHost host × (text ≡ image host)) }
 {}
 
 impl ImageFault {
-    /// The number that is shown, from 1 to 4 in the order above. What a reader or a writer failed at
-    /// and refused memory have none.
+    /// Returns the number that is shown for the fault, from 1 to 4 in the order above. `Io` and
+    /// `OutOfMemory` have none.
     pub fn number(self) -> Option<u8>
         ensures { result ≡ fault_number self }
     {

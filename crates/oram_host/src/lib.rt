@@ -1,7 +1,7 @@
-//! The bucket host: it keeps the records of trees, and gives for a path those that it was last
-//! given.
+//! The bucket host in memory. It keeps the records of trees, and returns for a path the records
+//! that it was last given.
 //!
-//! What a request may be is told by the messages of `oram_wire`; `Server::handle` answers one.
+//! `oram_wire` defines the requests; `Server::handle` answers one.
 #![tactic(auto)]
 
 mod images;

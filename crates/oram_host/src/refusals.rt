@@ -6,7 +6,7 @@ ghost use Rattle.oram_host.specs.Refusals.{code_of};
 
 use std::alloc::{AllocError, AllocFailed};
 
-/// Why a host refuses a request. Each has its number as its code.
+/// Why a host refuses a request. The number of each is the code that is sent.
 #[derive(Clone, Copy, Debug, PartialEq, Eq)]
 pub enum HostRefusal {
     /// The tree has no shape.
@@ -15,20 +15,20 @@ pub enum HostRefusal {
     BadLeaf = 2,
     /// The tree has no such node.
     BadNode = 3,
-    /// The body is too short or too long, or no tree has such a shape.
+    /// The body is too short or too long, or no tree can have this shape.
     BadLength = 4,
     /// The tree has a shape already.
     ShapeTaken = 5,
-    /// A node of the path was never given a record.
+    /// A node of the path has never been given a record.
     Missing = 6,
     /// The first byte names no request.
     BadOp = 7,
-    /// Memory was refused.
+    /// The host is out of memory.
     OutOfMemory = 8,
 }
 
 impl HostRefusal {
-    /// The code that is sent.
+    /// Returns the code that is sent.
     pub fn code(self) -> u8
         ensures { result ≡ code_of self }
     {

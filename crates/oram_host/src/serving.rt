@@ -27,16 +27,16 @@ use std::collections::BTreeMap;
 use std::io::{Read, Write};
 use std::marker::Model;
 
-/// A bucket host in memory. It takes room for the records that it is given, whatever the shapes.
+/// A bucket host in memory. It takes memory only for the records that it is given, however large the shapes are.
 #[derive(Debug, Drop)]
 pub struct Server {
     alloc: Global,
     trees: BTreeMap<u8, Tree>,
 }
 
-/// What came of a request that was carried out.
+/// The outcome of a request that was carried out.
 enum Served {
-    /// The records that it asks for, behind other bytes.
+    /// The bytes that stand in front, and then the records that the request asks for.
     Records(Vec<u8>),
     Done,
 }
@@ -53,7 +53,7 @@ impl Model for Server {
     ghost invariant = { λ s. AreTrees s.trees };
 }
 
-/// The tree and the node of these numbers, where there can be such.
+/// Returns a tree and a node of these numbers, or `None` if a number is too great for one.
 fn place(tree: u64, node: u64) -> Option<(u8, u32)>
     ensures { MatchOption result ((256 ≤ tree) ⊎ (2 ^ 32 ≤ node)) (λ p. (p.0 ≡ tree) × (p.1 ≡ node)) }
 {
@@ -65,7 +65,7 @@ fn place(tree: u64, node: u64) -> Option<(u8, u32)>
 impl Server {
     ghost use Rattle.oram_wire.specs.declared.host_messages.HostRequest.{HostRequest};
 
-    /// A host without trees.
+    /// Returns a host without trees.
     pub fn new(alloc: Global) -> Server
         ensures { result ≡ [] }
     {
@@ -75,7 +75,7 @@ impl Server {
         }
     }
 
-    /// The records of a path, behind other bytes.
+    /// Returns `front` and then the records of a path.
     fn fetch(&self, tree: u8, leaf: u32, front: &[u8]) -> Result<Vec<u8>, HostRefusal>
         requires { length front.now ≤ 1 }
         ensures { MatchResult result
@@ -132,7 +132,7 @@ impl Server {
         Ok(())
     }
 
-    /// Carries out a request, and puts records that it asks for behind other bytes.
+    /// Carries out a request. If it asks for records, they come after `front`.
     fn serve(&mut self, request: HostView<'_>, front: &[u8]) -> Result<Served, HostRefusal>
         requires { length front.now ≤ 1 }
         ensures { MatchResult result (λ served. StandsFor front.now served (λ answer.
@@ -167,7 +167,7 @@ impl Server {
         }
     }
 
-    /// Carries out the request that a body is, and puts records that it asks for behind other bytes.
+    /// Carries out the request in a body. If it asks for records, they come after `front`.
     fn serve_body(&mut self, body: &[u8], front: &[u8]) -> Result<Served, HostRefusal>
         requires { length front.now ≤ 1 }
         ensures { MatchResult result (λ served. StandsFor front.now served (λ answer.
@@ -182,18 +182,18 @@ impl Server {
         }
     }
 
-    /// Answers the body of a request. A request that is refused changes nothing.
+    /// Answers the body of a request. A request that it refuses changes nothing.
     pub fn handle(&mut self, body: &[u8]) -> HostAnswer
         ensures request { (message : HostRequest) → HasNumbers message
             → body.now ≡ request_body message → Answers self.old message result self.new }
 
-        // A body that is no request's is refused.
+        // A body that isn't a request is refused.
         ensures op { names_request body.now ≡ false → (result ≡ HostAnswer.Refused 7)
             × (self.new ≡ self.old) }
         ensures misfit { IsMisfit body.now → (result ≡ HostAnswer.Refused 4)
             × (self.new ≡ self.old) }
 
-        // The answer has a body.
+        // The answer can be written as a body.
         ensures spelled { IsAnswer result }
     {
         match self.serve_body(body, &[]) {
@@ -203,14 +203,14 @@ impl Server {
         }
     }
 
-    /// The bytes of the answer to the body of a request, which `handle` would answer alike. Records stand in one vector
-    /// with the byte before them, so they are copied once.
+    /// Returns the bytes of the answer that `handle` would give to the body of a request. The records stand in one
+    /// vector with the byte before them, so they are copied once.
     ///
-    /// Room for an answer without records is taken first: where there is none, nothing is served.
+    /// It allocates a short answer before it serves the request; if that fails, it serves nothing.
     pub fn answer(&mut self, alloc: Global, body: &[u8]) -> Result<Vec<u8>, AllocError>
         ensures ok { IfOk result (λ v. (answer : HostAnswer) × Serves self.old body.now answer self.new
             × IsAnswer answer × (v.items ≡ answer_body answer)) }
-        // A frame has room for it.
+        // The answer fits in a frame.
         ensures fits { IfOk result (λ v. IsBody v.items) }
         ensures err { OnErr result (self.new ≡ self.old) }
     {
@@ -228,7 +228,7 @@ impl Server {
         }
     }
 
-    /// A server that keeps the same.
+    /// Returns a server that keeps the same records.
     pub fn copy(&self, alloc: Global) -> Result<Server, AllocError>
         ensures { IfOk result (λ copied. copied ≡ self.now) }
     {
@@ -236,8 +236,7 @@ impl Server {
         Ok(Server { alloc, trees })
     }
 
-    /// Flips the lowest bit of a byte of a node's record, and tells whether there is that byte. It takes
-    /// no memory.
+    /// Flips the lowest bit of a byte of a node's record, and returns whether there is such a byte. Allocates nothing.
     pub fn flip(&mut self, tree: u64, node: u64, offset: u64) -> bool
         ensures { MatchBool result (IsFlipped self.old tree node offset self.new)
             (IsByteless self.old tree node offset × (self.new ≡ self.old)) }
@@ -255,7 +254,7 @@ impl Server {
         kept.flip(alloc, node, offset)
     }
 
-    /// Exchanges two stored records, and tells whether both are there and have one length. It takes no memory.
+    /// Exchanges two stored records, and returns whether both exist and have the same length. Allocates nothing.
     pub fn swap(&mut self, tree_a: u64, node_a: u64, tree_b: u64, node_b: u64) -> bool
         ensures swapped { MatchBool result (IsSwapped self.old tree_a node_a tree_b node_b self.new)
             (LacksPair self.old tree_a node_a tree_b node_b × (self.new ≡ self.old)) }
@@ -271,8 +270,8 @@ impl Server {
         swap_records(alloc, &mut self.trees, a.0, a.1, b.0, b.1)
     }
 
-    /// Reads an image, which is all that the reader holds: the server is the one that was saved. The
-    /// image is read from front to back, and of several faults the first is answered.
+    /// Reads an image, and returns the server that was saved. The reader must hold nothing after the image. The image
+    /// is read from front to back; of several faults, the first is returned.
     pub fn load_image<R: Read>(alloc: Global, reader: &mut R) -> Result<Server, ImageFault>
         ensures ok { IfOk result (λ server. Consumes (R.remaining reader.old) (R.remaining reader.new)
             (image server)) }
@@ -280,7 +279,7 @@ impl Server {
         ensures host { IfOk result (λ server. IsHost server) }
         ensures consumed { TakesFrom (R.remaining reader.old) (R.remaining reader.new) }
 
-        // The image of a host is read as that host, unless the reader failed or memory was refused.
+        // The image of a host is read as that host, unless the reader fails or memory runs out.
         ensures saved { (host : Host) → IsHost host → R.remaining reader.old ≡ Some (image host)
             → MatchResult result (λ server. server ≡ host) (λ why. fault_number why ≡ None) }
         ensures fault { IfErr result (λ why. IsFirstFault host_in why (R.remaining reader.old)) }
@@ -289,8 +288,8 @@ impl Server {
         Ok(Server { alloc, trees })
     }
 
-    /// Writes the image of what is kept. It takes no memory. An interrupted write is made again, and a
-    /// writer that takes no byte has failed.
+    /// Writes the image of what the server keeps. Allocates nothing. It repeats an interrupted write; a writer that
+    /// takes no byte has failed.
     pub fn save_image<W: Write>(&self, writer: &mut W) -> Result<(), ImageFault>
         ensures ok { OnOk result (Appends (W.contents writer.old) (W.contents writer.new)
             (image self.now)) }

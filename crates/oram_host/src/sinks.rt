@@ -1,14 +1,14 @@
-//! A server as what takes the messages of its own formatting.
+//! A server as the sink that takes the messages of its own formatting.
 
 ghost use Rattle.std.specs.Prelude.{OnOk, IfErr};
 
 use crate::serving::Server;
 use oram_wire::{HostAnswer, Sink, SinkFault};
 
-/// The code of a server that has no room.
+/// The code with which a server says that it is out of memory.
 const NO_ROOM: u8 = 8;
 
-// A sink that hands each body to the server.
+// The sink hands each body to the server.
 impl Sink for Server {
     ghost use Rattle.std.specs.Prelude.{◌≡◌, Some};
     ghost use Rattle.oram_wire.specs.declared.host_messages.HostAnswer.{HostAnswer};

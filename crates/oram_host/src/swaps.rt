@@ -1,4 +1,4 @@
-//! Two stored records that are exchanged.
+//! Exchanging two stored records.
 
 ghost use Rattle.std.specs.Prelude.{◌≡◌, ◌≢◌, ℕ, IsSome, Some, None, MatchBool, MatchOption};
 ghost use Rattle.oram_host.specs.Swaps.{IsSwapped, LacksPair, stored_at};
@@ -9,7 +9,7 @@ use oram_bytes::Bytes;
 use std::alloc::Global;
 use std::collections::BTreeMap;
 
-/// The length of a record that is there.
+/// Returns the length of the record at a node, if there is one.
 fn len_at(trees: &BTreeMap<u8, Tree>, tree: u8, node: u32) -> Option<u32>
     requires { AreTrees trees.now }
     ensures { MatchOption result (stored_at (host_of trees.now) tree node ≡ None)
@@ -24,7 +24,7 @@ fn len_at(trees: &BTreeMap<u8, Tree>, tree: u8, node: u32) -> Option<u32>
     }
 }
 
-/// Exchanges what lies at a node of a tree for other bytes. It takes no memory.
+/// Exchanges the bytes at a node of a tree with `bytes`. Allocates nothing.
 fn exchange(trees: &mut BTreeMap<u8, Tree>, tree: u8, node: u32, bytes: &mut Bytes)
     requires trees { AreTrees trees.old }
     requires there { IsSome (slot_at trees.old tree node) }
@@ -40,7 +40,7 @@ fn exchange(trees: &mut BTreeMap<u8, Tree>, tree: u8, node: u32, bytes: &mut Byt
     }
 }
 
-/// Whether two places are one.
+/// Returns whether two places are the same.
 fn is_same(tree_a: u8, node_a: u32, tree_b: u8, node_b: u32) -> bool
     ensures { MatchBool result ((tree_a ≡ tree_b) × (node_a ≡ node_b))
         (tree_b ≡ tree_a → node_b ≢ node_a) }
@@ -48,7 +48,8 @@ fn is_same(tree_a: u8, node_a: u32, tree_b: u8, node_b: u32) -> bool
     tree_a == tree_b && node_a == node_b
 }
 
-/// Exchanges two records of one length, where both are there. It takes no memory.
+/// Exchanges two records, if both exist and have the same length, and returns whether they do.
+/// Allocates nothing.
 pub(crate) fn swap_records(
     alloc: Global,
     trees: &mut BTreeMap<u8, Tree>,

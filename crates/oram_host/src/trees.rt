@@ -22,7 +22,7 @@ pub(crate) struct Tree {
     pub(crate) depth: u8,
     /// The length of each record, in bytes.
     pub(crate) record_len: u32,
-    /// By node. Bytes of length 0 are room for a record that was never put.
+    /// The records by node. Empty bytes are room for a record that was never put.
     pub(crate) records: BTreeMap<u32, Bytes>,
 }
 
@@ -31,7 +31,7 @@ const DEEPEST: u8 = 24;
 /// The bytes of a STORE before its records.
 const STORE_HEAD: usize = 6;
 
-/// A tree may have this shape: a STORE of one of its paths fits a frame.
+/// Returns whether a tree may have this shape. A STORE of one of its paths has to fit in a frame.
 pub(crate) fn is_shape(depth: u8, record_len: u32) -> bool
     ensures { IsTrue result ↔ IsShape depth record_len }
 {
@@ -41,7 +41,7 @@ pub(crate) fn is_shape(depth: u8, record_len: u32) -> bool
     (depth as usize + 1) * record_len as usize + STORE_HEAD <= LONGEST_BODY
 }
 
-/// How many nodes a tree has.
+/// Returns the number of nodes of a tree.
 pub(crate) fn node_count(depth: u8) -> u32
     requires { depth ≤ 24 }
     ensures { result ≡ 2 ^ (depth + 1) - 1 }
@@ -49,7 +49,7 @@ pub(crate) fn node_count(depth: u8) -> u32
     (1 << (depth + 1)) - 1
 }
 
-/// The node at a level of a leaf's path.
+/// Returns the node at a level of a leaf's path.
 fn node_at(depth: u8, leaf: u32, level: u8) -> u32
     requires deep { depth ≤ 24 }
     requires leaf { leaf < 2 ^ depth }
@@ -60,7 +60,7 @@ fn node_at(depth: u8, leaf: u32, level: u8) -> u32
     (1 << level) - 1 + (leaf >> (depth - level))
 }
 
-/// Copies of the records of a path, root first.
+/// Copies the records of a path, root first.
 fn copied_records(
     alloc: Global,
     levels: u8,
@@ -128,7 +128,7 @@ fn make_room(
     Ok(())
 }
 
-/// Replaces the records of a path, for which there is room, from the leaf up.
+/// Replaces the records of a path, for which `make_room` has made room, from the leaf up.
 fn replace_records(records: &mut BTreeMap<u32, Bytes>, depth: u8, leaf: u32, mut copies: Vec<Bytes>)
     requires deep { depth ≤ 24 }
     requires leaf { leaf < 2 ^ depth }
@@ -156,14 +156,14 @@ fn replace_records(records: &mut BTreeMap<u32, Bytes>, depth: u8, leaf: u32, mut
     }
 }
 
-/// How many records there are.
+/// Counts the records.
 fn count_there(records: &BTreeMap<u32, Bytes>) -> usize
     ensures { result ≡ count_by is_there (values records.now) }
 {
     records.values().filter(|bytes| bytes.len() > 0).count()
 }
 
-/// A copy of records and of rooms for records.
+/// Copies the records, and the room for records.
 fn copied_entries(
     alloc: Global,
     records: &BTreeMap<u32, Bytes>,
@@ -178,7 +178,7 @@ fn copied_entries(
     Ok(copied)
 }
 
-/// A copy of trees.
+/// Copies the trees.
 pub(crate) fn copied_trees(
     alloc: Global,
     trees: &BTreeMap<u8, Tree>,
@@ -194,7 +194,7 @@ pub(crate) fn copied_trees(
     Ok(copied)
 }
 
-/// Flips the lowest bit of a byte. It takes no memory.
+/// Flips the lowest bit of the byte at `offset`. Allocates nothing.
 fn flip_byte(alloc: Global, bytes: &mut Bytes, offset: usize)
     requires { offset < length bytes.old }
     ensures { bytes.new ≡ flipped bytes.old offset }
@@ -205,7 +205,7 @@ fn flip_byte(alloc: Global, bytes: &mut Bytes, offset: usize)
 }
 
 impl Tree {
-    /// The record that a node was given.
+    /// Returns the record of a node, if it was given one.
     pub(crate) fn record(&self, node: u32) -> Option<&Bytes>
         requires { IsTree self.now }
         ensures there { MatchOption result (record_of (kept_by self.now) node ≡ None)
@@ -218,7 +218,7 @@ impl Tree {
         }
     }
 
-    /// How many records there are.
+    /// Counts the records.
     pub(crate) fn count(&self) -> u32
         requires { IsTree self.now }
         ensures { result ≡ length (kept_by self.now).records }
@@ -226,7 +226,7 @@ impl Tree {
         count_there(&self.records) as u32
     }
 
-    /// How many bytes the records of a path have.
+    /// Returns the number of bytes of the records of a path.
     fn path_len(&self) -> usize
         requires { IsTree self.now }
         ensures { result ≡ (self.now.depth + 1) * self.now.record_len }
@@ -234,7 +234,7 @@ impl Tree {
         (self.depth as usize + 1) * self.record_len as usize
     }
 
-    /// A node of the path of a leaf has no record.
+    /// Returns whether a node of the path of `leaf` has no record.
     fn lacks(&self, leaf: u32) -> bool
         requires tree { IsTree self.now }
         requires leaf { leaf < 2 ^ self.now.depth }
@@ -251,7 +251,8 @@ impl Tree {
         false
     }
 
-    /// The records of a path, each of which is there, root first, behind other bytes.
+    /// Returns `front` and then the records of the path of `leaf`, root first. Each node of the
+    /// path must have a record.
     fn path(&self, alloc: Global, leaf: u32, front: &[u8]) -> Result<Vec<u8>, AllocError>
         requires tree { IsTree self.now }
         requires leaf { leaf < 2 ^ self.now.depth }
@@ -272,7 +273,7 @@ impl Tree {
         Ok(bytes)
     }
 
-    /// The records of the path of a leaf, root first, behind other bytes.
+    /// Returns `front` and then the records of the path of `leaf`, root first.
     pub(crate) fn fetch(
         &self,
         alloc: Global,
@@ -296,7 +297,7 @@ impl Tree {
         Ok(records)
     }
 
-    /// Overwrites a record in place. It takes no memory.
+    /// Overwrites a record in place. Allocates nothing.
     fn overwrite(&mut self, node: u32, bytes: &[u8])
         requires tree { IsTree self.old }
         requires there { IsSome (record_of (kept_by self.old) node) }
@@ -310,7 +311,8 @@ impl Tree {
         }
     }
 
-    /// Overwrites the records of a path, each of which is there. It takes no memory.
+    /// Overwrites the records of a path in place. Each node of the path must have one. Allocates
+    /// nothing.
     fn overwrite_path(&mut self, leaf: u32, records: &[u8])
         requires tree { IsTree self.old }
         requires leaf { leaf < 2 ^ self.old.depth }
@@ -328,7 +330,8 @@ impl Tree {
         }
     }
 
-    /// Replaces the records of the path of a leaf, in place where each of them is there.
+    /// Replaces the records of the path of `leaf`. If each node has a record, it overwrites them in
+    /// place.
     pub(crate) fn store(
         &mut self,
         alloc: Global,
@@ -357,7 +360,7 @@ impl Tree {
         Ok(())
     }
 
-    /// Replaces the record of a node, in place where there is one.
+    /// Replaces the record of a node. If the node has one, it overwrites that in place.
     pub(crate) fn put(&mut self, alloc: Global, node: u32, bytes: &[u8]) -> Result<(), HostRefusal>
         requires { IsTree self.old }
         ensures tree { IsTree self.new }
@@ -379,7 +382,7 @@ impl Tree {
         Ok(())
     }
 
-    /// Exchanges what lies at a node for other bytes. It takes no memory.
+    /// Exchanges the bytes at a node with `bytes`. Allocates nothing.
     pub(crate) fn exchange(&mut self, node: u32, bytes: &mut Bytes)
         requires tree { IsTree self.old }
         requires there { IsSome (get nat_cmp self.old.records node) }
@@ -408,7 +411,7 @@ impl Tree {
         })
     }
 
-    /// The record of a node has a byte at this place.
+    /// Returns whether the record of a node has a byte at `offset`.
     fn has_byte(&self, node: u32, offset: u64) -> bool
         requires { IsTree self.now }
         ensures { MatchBool result (HasByte (kept_by self.now) node offset) (LacksByte
@@ -420,7 +423,7 @@ impl Tree {
         }
     }
 
-    /// Flips the lowest bit of a byte of a record, where there is that byte.
+    /// Flips the lowest bit of a byte of a record, and returns whether there is such a byte.
     pub(crate) fn flip(&mut self, alloc: Global, node: u32, offset: u64) -> bool
         requires { IsTree self.old }
         ensures tree { IsTree self.new }

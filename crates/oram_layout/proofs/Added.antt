@@ -138,7 +138,7 @@ pub tree_added : TreeIsAdded
 tree_added trees more c new n tree is added base same =
     subst (λ (e : Content). KeepsRecords trees c more e) (sym (content_is (put_all (tree_patch n tree ∷ []) c) new same)) (added_is trees more c n tree is added base)
 
--- a list of trees that is written at a free number has that tree more
+-- writing a tree at a free number of a list adds that tree
 pub adds_set : (trees : Trees) (number : ℕ) (tree : Tree) → length trees ≡ 256 → number < 256 → tree_at trees number ≡ None → AddsTree trees number tree (set trees number (Some tree))
 adds_set trees number tree long h free = record {
   within = h;
@@ -148,7 +148,7 @@ adds_set trees number tree long h free = record {
   others = λ n differ. get_or-set_other trees number n (Some tree) None differ;
 }
 
--- a list with no tree at each number
+-- a list that has no tree at any number
 pub has_no_tree : (n : ℕ) (trees : Trees) → n ≡ 256 → trees ≡ replicate n None → HasNoTree trees
 has_no_tree n trees all is = record {
   all = ap length is ∙ length-replicate n None ∙ all;

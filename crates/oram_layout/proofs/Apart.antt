@@ -33,7 +33,7 @@ tree_within trees n tree there =
 pub apart_all : (tree : Tree) (others : Trees) (i : ℕ) → length others ≤ i → IsApartBelow tree others i → IsApartFrom tree others
 apart_all tree others i all below n other there = below n other (omega (arith, tree_within others n other there)) there
 
--- the trees below a number lie behind the header, and apart
+-- the trees below a number are after the header, and apart
 pub record AreApartBelow (trees : Trees) (i : ℕ) : Type 0 where
   pub from : (n : ℕ) (tree : Tree) → n < i → tree_at trees n ≡ Some tree → 8192 ≤ tree.base
   pub even : (n : ℕ) (tree : Tree) → n < i → tree_at trees n ≡ Some tree → tree.base % 2 ≡ 0

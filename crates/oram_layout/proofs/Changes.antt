@@ -150,7 +150,7 @@ module _ (trees : Trees) (apart : AreApart trees) (c : Content) where
   off_misses_rest p off i high =
       inr (omega (arith, off.ends, cell_before_next trees apart off.number off.tree off.node (record { is_there = off.is_there; within = off.within })))
 
-  -- where a cell and a patch off the records are: the patch lies in that cell, or misses it whole
+  -- how a cell and a patch off the records lie: the patch is in that cell, or misses it whole
   off_in_cell : (p : Patch) → IsOffRecords trees c p → (n : ℕ) (tree : Tree) (node : ℕ) → HasNode trees n tree node
       → ((cell_at tree node < p.0) × (c (cell_at tree node) ≢ 1)) ⊎ ((p.0 + length p.1 ≤ cell_at tree node) ⊎ (cell_at tree node + len_of tree ≤ p.0))
   off_in_cell p off n tree node has =
@@ -243,7 +243,7 @@ marks_kept trees cells c is all =
     (λ i high. put_all_spares (marks cells) c i (marks_spare trees cells i all (λ cell its. inr (omega (arith, its.place, cell_fits its.tree.shape.record_len, cell_before_next trees is.apart its.number its.tree its.node (record { is_there = its.is_there; within = its.within }))))))
 
 module _ (trees : Trees) (apart : AreApart trees) (cells : List ℕ) (all : All (IsCell trees) cells) (n : ℕ) (tree : Tree) (node : ℕ) (has : HasNode trees n tree node) where
-  -- no mark lies behind the first byte of a cell
+  -- no mark is after the first byte of a cell
   behind_mark : (i : ℕ) → cell_at tree node < i → i < cell_at tree node + len_of tree → Spares (marks cells) i
   behind_mark i from below = marks_spare trees cells i all (λ cell its. misses cell its)
     where
@@ -282,7 +282,7 @@ module _ (trees : Trees) (apart : AreApart trees) (cells : List ℕ) (all : All 
           put_all_heals (marks cells) new c i (λ spared. same i ∙ put_outside bytes (suc (cell_at tree node)) c i out)
           ∙ sym (put_outside bytes (suc (cell_at tree node)) (put_all (marks cells) c) i out)
 
--- a mark over a record that stands there is the record's patch
+-- setting the mark over a record that is in its cell is the record's patch
 mark_over : (cell : ℕ) (bytes : List ℕ) (marked now : Content) → ((i : ℕ) → i ≢ cell → now i ≡ put bytes (suc cell) marked i) → Agrees (put (1 ∷ []) cell now) (put (1 ∷ bytes) cell marked)
 mark_over cell bytes marked now same i =
     elim (cases_eq i cell) [

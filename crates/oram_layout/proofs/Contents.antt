@@ -1,4 +1,4 @@
--- Which changes of a content leave a bucket file, and which leave a record.
+-- Which changes of a content keep a bucket file, and which keep a record.
 use Rattle.std.proofs.Common.{◌≡◌, ◌≢◌, inl, inr, ℕ, suc, ◌+◌, ◌<◌, ◌≤◌, Bool, true, false, List, Option, Some, None, refl, sym, ◌∙◌, ap, subst, arith, nat_lt, ◌==◌, ◌&&◌, if◌then◌else◌}
 use Rattle.std.proofs.lemmas.Bool.{cases_eq, cases_lt, and_right, ne_eqb, le-ltb, lt-ltb, and_left, cond-true, cond-false, and_from, eq-eqb}
 use Rattle.oram_redo.specs.Content.{Content, Agrees, bytes_at}
@@ -11,7 +11,7 @@ use Rattle.oram_layout.specs.Records.{record_in, records_in}
 use Rattle.oram_layout.specs.Trees.{Trees, cell_at, next_of, sizes_of, tree_at}
 use Rattle.oram_layout.specs.declared.trees.Tree.{Tree}
 
--- nothing changed in the header, nor behind the last tree
+-- nothing changed in the header, nor after the last tree
 pub file_same : (trees : Trees) (c d : Content) → IsBucketFile trees c → ((i : ℕ) → i < 8192 → d i ≡ c i) → ((i : ℕ) → next_of trees ≤ i → d i ≡ c i) → IsBucketFile trees d
 file_same trees c d is low high = record {
   front = has_same letters 0 c d (λ i from below. low i (omega arith)) is.front;
@@ -33,7 +33,7 @@ marked_same within b b' bytes bytes' e same =
           cond-false (within && (b == 1)) (Some bytes') None off ∙ sym (cond-false (within && (b == 1)) (Some bytes) None off)
     ]
 
--- the mark is as it was, and so are the bytes behind it where it is 1
+-- the mark is as it was, and so are the bytes after it if the mark is 1
 abbrev pub CellIsSame : Tree → ℕ → Content → Content → Type 0
 CellIsSame tree node c d =
     (d (cell_at tree node) ≡ c (cell_at tree node))
@@ -58,11 +58,11 @@ at_same (Some tree) node c d same =
       | inr out ↦ record_outside tree node d out ∙ sym (record_outside tree node c out)
     ]
 
--- a record is as it was where its cell is
+-- a record is as it was if its cell is
 pub records_same : (trees : Trees) (c d : Content) (n node : ℕ) → ((tree : Tree) → HasNode trees n tree node → CellIsSame tree node c d) → records_in trees d n node ≡ records_in trees c n node
 records_same trees c d n node same = at_same (tree_at trees n) node c d (λ tree is within. same tree (record { is_there = is; within = within }))
 
--- a record is there where its mark is
+-- there is a record if its mark is set
 pub record_marked : (trees : Trees) (c : Content) (n node : ℕ) (tree : Tree) → HasNode trees n tree node → c (cell_at tree node) ≡ 1
     → records_in trees c n node ≡ Some (bytes_at tree.shape.record_len (suc (cell_at tree node)) c)
 record_marked trees c n node tree has one =
@@ -70,7 +70,7 @@ record_marked trees c n node tree has one =
     ap (λ (found : Option Tree). record_in found node c) has.is_there
     ∙ cond-true (nat_lt node (nodes_of (sizes_of tree.shape)) && (c (cell_at tree node) == 1)) (Some (bytes_at tree.shape.record_len (suc (cell_at tree node)) c)) None on
 
--- and not where it isn't
+-- and there is none if it isn't
 pub record_unmarked : (trees : Trees) (c : Content) (n node : ℕ) (tree : Tree) → tree_at trees n ≡ Some tree → c (cell_at tree node) ≢ 1 → records_in trees c n node ≡ None
 record_unmarked trees c n node tree is other =
     let off : (nat_lt node (nodes_of (sizes_of tree.shape)) && (c (cell_at tree node) == 1)) ≡ false = and_right (nat_lt node (nodes_of (sizes_of tree.shape))) (c (cell_at tree node) == 1) (ne_eqb (c (cell_at tree node)) 1 other) in

@@ -47,14 +47,14 @@ is_a_shape shape =
     (and_from (nat_le shape.depth 24) (nat_lt 0 shape.record_len) (le-leb shape.depth 24 shape.deep) (lt-ltb 0 shape.record_len shape.filled))
     (le-leb ((shape.depth + 1) * shape.record_len + 6) LONGEST_BODY shape.fits)
 
--- an entry with numbers that are no shape's is no tree's
+-- an entry whose numbers make no shape isn't that of a tree
 pub no_shape : (bs : List ℕ) (len : ℕ) → len < 2 ^ 32 → four_bytes len ≡ take 4 (drop 4 bs) → is_shape (get_or bs 1 0) len ≡ false → (tree : Tree) → bs ≡ entry_bytes (Some tree) → ⊥
 no_shape bs len fits said off tree is =
     let same : is_shape (get_or bs 1 0) len ≡ is_shape tree.shape.depth tree.shape.record_len =
     ap (λ (d : ℕ). is_shape d len) (reads bs tree is).0 ∙ ap (λ (l : ℕ). is_shape tree.shape.depth l) (len_read bs tree len is fits said) in
     false≢true (sym off ∙ same ∙ is_a_shape tree.shape)
 
--- and so is one with a place that leaves no room for the cells
+-- and neither is an entry whose place leaves no room for the cells
 pub no_place : (bs : List ℕ) (shape : Shape) (base : ℕ) → shape.depth ≡ get_or bs 1 0 → four_bytes shape.record_len ≡ take 4 (drop 4 bs) → base < 2 ^ 64 → eight_bytes base ≡ take 8 (drop 8 bs)
     → 2 ^ 62 < base + cells_len (sizes_of shape) → (tree : Tree) → bs ≡ entry_bytes (Some tree) → ⊥
 no_place bs shape base depth len fits said past tree is =

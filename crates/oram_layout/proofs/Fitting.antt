@@ -1,4 +1,4 @@
--- The patches have room in a redo log over a file of the longest length.
+-- The patches fit in a redo log over a file of the greatest length.
 use Rattle.std.proofs.Common.{◌≡◌, ℕ, zero, suc, ◌+◌, ◌*◌, ◌^◌, ◌<◌, ◌≤◌, List, [], ◌∷◌, length, All, Some, arith}
 use Rattle.oram_host.specs.Path.{node_on, record_at}
 use Rattle.oram_host.proofs.Nodes.{node_on-within}
@@ -13,7 +13,7 @@ use Rattle.oram_layout.proofs.Changes.{length-record_at}
 use Rattle.oram_layout.proofs.Places.{cell_fits, cells_rise, len_of}
 use Rattle.oram_layout.proofs.TreeEntries.{length-entry_bytes, record_len_small}
 
--- a cell ends where files may end
+-- a cell ends within the greatest length of a file
 pub cell_within : (tree : Tree) (node : ℕ) → node < nodes_of (sizes_of tree.shape) → cell_at tree node + len_of tree ≤ 2 ^ 62
 cell_within tree node h =
     let ends : end_of tree ≤ 2 ^ 62 = tree.within in

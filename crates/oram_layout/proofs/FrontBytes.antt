@@ -26,7 +26,7 @@ letters_spelled : letters ≡ bucket_name ++ eight_bytes 1
 unfolding eight_bytes
 letters_spelled = refl
 
--- a file of this version is of no newer one
+-- a file of this version isn't of a newer one
 pub ours_not_newer : (identity : Identity) (bytes : List ℕ) → IsFront letters identity bytes → IsNewer bytes → ⊥
 ours_not_newer identity bytes is newer =
     let same : bucket_name ++ eight_bytes newer.version ≡ bucket_name ++ eight_bytes 1 = sym newer.begins ∙ front_letters_are letters identity bytes refl is ∙ letters_spelled in

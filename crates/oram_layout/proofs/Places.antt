@@ -1,4 +1,4 @@
--- Where cells lie: behind the header, before the next tree's, and no two of them share a byte.
+-- Where cells are: after the header and before the next tree's, and no two of them share a byte.
 use Rattle.std.proofs.Common.{◌%◌, ◌/◌, ◌≡◌, ◌≢◌, ◌⊎◌, inl, inr, ℕ, zero, suc, ◌+◌, ◌*◌, ◌<◌, ◌≤◌, [], ◌∷◌, ◌++◌, length, take, Option, Some, None, refl, sym, ◌∙◌, ap, subst, arith, max, nat_le, if◌then◌else◌}
 use Rattle.std.proofs.Math.Nat.{add-mul, div-div-eq-div-mul, mul-le-mul_right, mul_assoc, mul_comm}
 use Rattle.std.proofs.lemmas.Bool.{cases_eq, cases_order}
@@ -70,14 +70,14 @@ next_even (None ∷ trees) even = next_even trees (λ n tree is. even (suc n) tr
 next_even (Some first ∷ trees) even =
     larger_even (next_of trees) (end_of first) (next_even trees (λ n tree is. even (suc n) tree is)) (cell_even first (nodes_of (sizes_of first.shape)) (even zero first refl))
 
--- the next tree begins no later than where all trees have ended
+-- the next tree begins no later than a place by which all trees have ended
 pub next_at_most : (trees : Trees) (most : ℕ) → 8192 ≤ most → ((n : ℕ) (tree : Tree) → tree_at trees n ≡ Some tree → end_of tree ≤ most) → next_of trees ≤ most
 next_at_most [] most low each = low
 next_at_most (None ∷ trees) most low each = next_at_most trees most low (λ n tree is. each (suc n) tree is)
 next_at_most (Some first ∷ trees) most low each =
     larger_most (next_of trees) (end_of first) most (next_at_most trees most low (λ n tree is. each (suc n) tree is)) (each zero first refl)
 
--- where the next tree begins behind one tree more
+-- where the next tree begins if there is one more tree
 abbrev pub next_with : Option Tree → ℕ → ℕ
 next_with None next = next
 next_with (Some tree) next = if nat_le next (end_of tree) then end_of tree else next

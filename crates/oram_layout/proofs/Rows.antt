@@ -15,7 +15,7 @@ use Rattle.oram_layout.specs.declared.trees.Tree.{Tree}
 abbrev narrow : Tree
 narrow = record { shape = record { depth = 1; record_len = 3; deep = lit≤ tt; filled = lit< tt; fits = lit≤ tt }; base = 8192; within = lit≤ tt }
 
--- the same with records of 4 bytes, behind it
+-- the same with records of 4 bytes, after it
 abbrev wide : Tree
 wide = record { shape = record { depth = 1; record_len = 4; deep = lit≤ tt; filled = lit< tt; fits = lit≤ tt }; base = 8204; within = lit≤ tt }
 
@@ -38,7 +38,7 @@ row_patch : tree_patch 2 wide ≡ (4128, 1 ∷ 1 ∷ 0 ∷ 0 ∷ 4 ∷ 0 ∷ 0 �
 unfolding four_bytes eight_bytes
 row_patch = refl
 
--- the next tree's cells are behind those of all trees, in whatever order they stand
+-- the next tree's cells are after those of all trees, in whatever order they are
 row_next : (next_of [] ∷ next_of (None ∷ Some narrow ∷ []) ∷ next_of (Some narrow ∷ None ∷ Some wide ∷ []) ∷ next_of (Some wide ∷ Some narrow ∷ []) ∷ []) ≡ 8192 ∷ 8204 ∷ 8222 ∷ 8222 ∷ []
 row_next = refl
 

@@ -1,4 +1,4 @@
--- The entries of a header, one behind the other.
+-- The entries of a header, one after the other.
 use Rattle.std.proofs.Common.{◌≡◌, inl, inr, ℕ, ◌+◌, ◌-◌, ◌*◌, ◌<◌, ◌≤◌, List, [], ◌∷◌, ◌++◌, length, take, drop, slice_range, Option, None, sym, ◌∙◌, ap, subst, arith}
 use Rattle.std.proofs.lemmas.Bool.{cases_eq}
 use Rattle.std.proofs.lemmas.List.{drop_at, get_or_append_left, get_or_push, length_push, take_at}
@@ -12,7 +12,7 @@ use Rattle.oram_layout.specs.declared.trees.Tree.{Tree}
 abbrev pub slot : List ℕ → ℕ → List ℕ
 slot bytes n = slice_range bytes (n * 16) ((n + 1) * 16)
 
--- the first entries say these trees
+-- the first entries are those of these trees
 pub record HasSlots (bytes : List ℕ) (trees : Trees) (n : ℕ) : Type 0 where
   pub long : length trees ≡ n
   pub each : (k : ℕ) → k < n → slot bytes k ≡ entry_bytes (tree_at trees k)
@@ -54,6 +54,6 @@ slots_all bytes trees n long all slots c has = record {
   each = λ k h. sym (slot_is bytes c k long has h) ∙ slots.each k (omega arith);
 }
 
--- an entry that says nothing is in no header
+-- an entry that isn't that of a tree or of none is in no header
 pub slot_damaged : (bytes : List ℕ) (n : ℕ) → length bytes ≡ 4096 → n < 256 → ((found : Option Tree) → slot bytes n ≡ entry_bytes found → ⊥) → (trees : Trees) (c : Content) → Has bytes 4096 c → HasTrees trees c → ⊥
 slot_damaged bytes n long h none trees c has its = none (tree_at trees n) (slot_is bytes c n long has h ∙ its.each n h)

@@ -1,4 +1,4 @@
--- A header has one list of trees: an entry says one tree, or none.
+-- A header has only one list of trees: an entry is that of one tree, or of none.
 use Rattle.std.proofs.Common.{◌≡◌, ℕ, ◌+◌, ◌-◌, ◌*◌, ◌/◌, ◌^◌, ◌<◌, ◌≤◌, List, ◌++◌, length, take, drop, Option, Some, None, refl, sym, ◌∙◌, ap, subst, arith}
 use Rattle.std.specs.Coded.{le_prop}
 use Rattle.std.specs.Int.{w32, w64, to_le_bytes, from_le_bytes}
@@ -48,7 +48,7 @@ record_len_small shape =
 pub record_len_fits : (shape : Shape) → shape.record_len < 2 ^ 32
 record_len_fits shape = omega (arith, record_len_small shape)
 
--- two shapes of one depth and one length of records are one, and so are two trees of one shape and one place
+-- two shapes of the same depth and record length are equal, and so are two trees of the same shape and place
 module _ (d l : ℕ) (deep deep' : d ≤ 24) (filled filled' : 0 < l) (fits fits' : (d + 1) * l + 6 ≤ 1_048_576) where
   same_shape : Path Shape (record { depth = d; record_len = l; deep = deep; filled = filled; fits = fits }) (record { depth = d; record_len = l; deep = deep'; filled = filled'; fits = fits' })
   same_shape = λ i. record { depth = d; record_len = l; deep = le_prop deep deep' i; filled = le_prop filled filled' i; fits = le_prop fits fits' i }

@@ -4,7 +4,8 @@ use Rattle.oram_redo.specs.Content.{Content, Has}
 use Rattle.oram_layout.specs.Header.{HasTrees, letters}
 use Rattle.oram_layout.specs.Trees.{AreApart, Trees, next_of}
 
--- The content is a bucket file's with these trees. Behind them nothing was ever written, so the next tree begins without records.
+-- The content is that of a bucket file with these trees. Nothing was ever written after them, so the next tree begins
+-- without records.
 pub record IsBucketFile (trees : Trees) (c : Content) : Type 0 where
   pub front : Has letters 0 c
   pub trees_stand : HasTrees trees c

@@ -8,25 +8,26 @@ use Rattle.oram_layout.specs.Limits.{cell_len, nodes_of}
 use Rattle.oram_layout.specs.Trees.{Trees, cell_at, sizes_of, tree_at}
 use Rattle.oram_layout.specs.declared.trees.Tree.{Tree}
 
--- a record goes into a cell, behind the mark that says that it is there
+-- writes a record into its cell, with the mark that says that it is there
 abbrev pub record_patch : Tree → ℕ → List ℕ → Patch
 record_patch tree node bytes = (cell_at tree node, 1 ∷ bytes)
 
--- The record without its mark: it isn't there yet. This finds out whether the disk has room for both, since they share a block.
+-- Writes a record without its mark, so that it doesn't count yet. Since the two share a block, this shows whether the
+-- disk has room for both.
 abbrev pub unmarked_patch : Tree → ℕ → List ℕ → Patch
 unmarked_patch tree node bytes = (suc (cell_at tree node), bytes)
 
--- patches for the records of a leaf's path, for this many levels from the given one on
+-- patches for the records of a leaf's path: n levels, from `level` on
 abbrev pub path_patches : Tree → ℕ → List ℕ → ℕ → ℕ → List Patch
 path_patches tree leaf bytes level zero = []
 path_patches tree leaf bytes level (suc n) =
     record_patch tree (node_on tree.shape.depth leaf level) (record_at tree.shape.record_len bytes level) ∷ path_patches tree leaf bytes (suc level) n
 
--- a tree goes into the header
+-- writes a tree into the header
 abbrev pub tree_patch : ℕ → Tree → Patch
 tree_patch number tree = (entry_at number, entry_bytes (Some tree))
 
--- the marks of these cells
+-- sets the marks of these cells
 abbrev pub marks : List ℕ → List Patch
 marks cells = map (λ cell. (cell, 1 ∷ [])) cells
 
@@ -39,7 +40,7 @@ pub record IsCell (trees : Trees) (cell : ℕ) : Type 0 where
   pub within : node < nodes_of (sizes_of tree.shape)
   pub place : cell ≡ cell_at tree node
 
--- A patch that touches no record: it lies in a cell that has none, behind the mark.
+-- A patch that touches no record: it lies in a cell that has none, after the mark.
 pub record IsOffRecords (trees : Trees) (c : Content) (patch : Patch) : Type 0 where
   pub number : ℕ
   pub tree : Tree

@@ -21,7 +21,7 @@ bucket_name = 86 ∷ 73 ∷ 68 ∷ 76 ∷ 65 ∷ 81 ∷ 69 ∷ 66 ∷ []
 abbrev pub front_bytes : List ℕ → Identity → List ℕ
 front_bytes letters identity = letters ++ identity.0
 
--- the bytes begin so
+-- the bytes begin with these letters and this identity
 pub record IsFront (letters : List ℕ) (identity : Identity) (bytes : List ℕ) : Type 0 where
   pub whole : length identity.0 ≡ 16
   pub begins : take 32 bytes ≡ front_bytes letters identity

@@ -13,59 +13,59 @@ use Rattle.oram_layout.specs.Trees.{AddsTree, AreApart, HasNoTree, Trees, cell_a
 use Rattle.oram_layout.specs.declared.fronts.Identity.{Identity}
 use Rattle.oram_layout.specs.declared.trees.Tree.{Tree}
 
--- the node is one of the tree's with this number
+-- the tree has this number, and the node is one of its nodes
 pub record HasNode (trees : Trees) (number : ℕ) (tree : Tree) (node : ℕ) : Type 0 where
   pub is_there : tree_at trees number ≡ Some tree
   pub within : node < nodes_of (sizes_of tree.shape)
 
--- The new content is a bucket file's too, and each record is as it was.
+-- The new content is a bucket file too, and each record is as it was.
 pub record KeepsRecords (old_trees : Trees) (old : Content) (trees : Trees) (new : Content) : Type 0 where
   pub is_file : IsBucketFile trees new
   pub kept : AreKept (records_in old_trees old) (records_in trees new)
 
--- The new content is a bucket file's too, with this record, and each other as it was.
+-- The new content is a bucket file too, with this record, and every other record is as it was.
 pub record PutsRecord (trees : Trees) (old : Content) (number node : ℕ) (bytes : List ℕ) (new : Content) : Type 0 where
   pub is_file : IsBucketFile trees new
   pub there : records_in trees new number node ≡ Some bytes
   pub others : KeepsOthers (records_in trees old) number node (records_in trees new)
 
--- The new content is a bucket file's too, with these records on a leaf's path, and each other as it was.
+-- The new content is a bucket file too, with these records on a leaf's path, and every other record is as it was.
 pub record PutsPath (trees : Trees) (old : Content) (number : ℕ) (tree : Tree) (leaf : ℕ) (bytes : List ℕ) (new : Content) : Type 0 where
   pub is_file : IsBucketFile trees new
   pub path : IsPathOf (records_in trees new) number (sizes_of tree.shape) leaf bytes
   pub others : KeepsOffPath (records_in trees old) number (sizes_of tree.shape) leaf (records_in trees new)
 
--- A content that agrees with a bucket file's everywhere is one with the same records.
+-- A content that agrees with a bucket file's everywhere is a bucket file with the same records.
 abbrev pub SameRecords : Type 0
 SameRecords = (trees : Trees) (c d : Content) → IsBucketFile trees c → Agrees d c → KeepsRecords trees c trees d
 
--- A header has one list of trees.
+-- A header has only one list of trees.
 abbrev pub TreesAreOne : Type 0
 TreesAreOne = (trees others : Trees) (c : Content) → HasTrees trees c → HasTrees others c → trees ≡ others
 
--- Zeros behind a front are a bucket file without trees.
+-- A front and then zeros are a bucket file without trees.
 abbrev pub IsFileAtFirst : Type 0
 IsFileAtFirst = (trees : Trees) (identity : Identity) (c : Content) → HasNoTree trees → length identity.0 ≡ 16
     → Agrees c (put (front_bytes letters identity) 0 (λ i. 0)) → IsBucketFile trees c
 
--- A record's patch puts that record, and no other.
+-- A record's patch writes that record, and no other.
 abbrev pub RecordIsPut : Type 0
 RecordIsPut = (trees : Trees) (c new : Content) (number : ℕ) (tree : Tree) (node : ℕ) (bytes : List ℕ) → IsBucketFile trees c
     → HasNode trees number tree node → length bytes ≡ tree.shape.record_len
     → Agrees new (put_all (record_patch tree node bytes ∷ []) c) → PutsRecord trees c number node bytes new
 
--- A path's patches put its records, and no others.
+-- A path's patches write its records, and no others.
 abbrev pub PathIsPut : Type 0
 PathIsPut = (trees : Trees) (c new : Content) (number : ℕ) (tree : Tree) (leaf : ℕ) (bytes : List ℕ) → IsBucketFile trees c
     → tree_at trees number ≡ Some tree → leaf < 2 ^ tree.shape.depth → length bytes ≡ (tree.shape.depth + 1) * tree.shape.record_len
     → Agrees new (put_all (path_patches tree leaf bytes 0 (tree.shape.depth + 1)) c) → PutsPath trees c number tree leaf bytes new
 
--- Whatever stands in places off the records, the records are the same.
+-- Whatever bytes are in places off the records, the records are the same.
 abbrev pub LooseKeepsRecords : Type 0
 LooseKeepsRecords = (trees : Trees) (loose : List Patch) (c d : Content) → IsBucketFile trees c → All (IsOffRecords trees c) loose
     → AgreesBut loose c d → KeepsRecords trees c trees d
 
--- Where a node has no record, an unmarked patch is off the records.
+-- If a node has no record, an unmarked patch for it is off the records.
 abbrev pub UnmarkedIsOff : Type 0
 UnmarkedIsOff = (trees : Trees) (c : Content) (number : ℕ) (tree : Tree) (node : ℕ) (bytes : List ℕ) → HasNode trees number tree node
     → c (cell_at tree node) ≢ 1 → length bytes ≤ tree.shape.record_len → IsOffRecords trees c (unmarked_patch tree node bytes)
@@ -75,14 +75,15 @@ abbrev pub OffStaysOff : Type 0
 OffStaysOff = (trees : Trees) (loose : List Patch) (c new : Content) (patch : Patch) → IsBucketFile trees c → All (IsOffRecords trees c) loose
     → IsOffRecords trees c patch → Agrees new (put patch.1 patch.0 c) → All (IsOffRecords trees new) (loose ++ patch ∷ [])
 
--- Cells are to be marked, and then a record is written without its mark: with its cell among them, the marks put that record, and no other.
+-- Some cells still have to be marked, and then a record is written without its mark. Setting the marks, with that of
+-- its cell among them, puts this record, and no other.
 abbrev pub MarkPutsRecord : Type 0
 MarkPutsRecord = (trees : Trees) (cells : List ℕ) (c new : Content) (number : ℕ) (tree : Tree) (node : ℕ) (bytes : List ℕ) → IsBucketFile trees c
     → All (IsCell trees) cells → HasNode trees number tree node → length bytes ≡ tree.shape.record_len
     → Agrees new (put bytes (suc (cell_at tree node)) c)
     → PutsRecord trees (put_all (marks cells) c) number node bytes (put_all (marks (cells ++ cell_at tree node ∷ [])) new)
 
--- With cells marked, a bucket file is one still.
+-- A bucket file is still one after some of its cells are marked.
 abbrev pub MarksKeepFile : Type 0
 MarksKeepFile = (trees : Trees) (cells : List ℕ) (c : Content) → IsBucketFile trees c → All (IsCell trees) cells → IsBucketFile trees (put_all (marks cells) c)
 
@@ -105,6 +106,6 @@ pub record PatchesFit (bounds : Bounds) : Type 0 where
   pub of_marks : (trees : Trees) (cells : List ℕ) → All (IsCell trees) cells → All (Fits bounds) (marks cells)
   pub of_tree : (number : ℕ) (tree : Tree) → number < 256 → Fits bounds (tree_patch number tree)
 
--- So it is where the records' file may have 2^62 bytes.
+-- Each fits if the records' file may have 2^62 bytes.
 abbrev pub AllPatchesFit : Type 0
 AllPatchesFit = (bounds : Bounds) → bounds.records_end ≡ 2 ^ 62 → PatchesFit bounds

@@ -15,7 +15,7 @@ record_in None node c = None
 record_in (Some t) node c =
     if nat_lt node (nodes_of (sizes_of t.shape)) && (c (cell_at t node) == 1) then Some (bytes_at t.shape.record_len (suc (cell_at t node)) c) else None
 
--- those of a file's trees
+-- the records of a file's trees
 abbrev pub records_in : Trees → Content → Records
 records_in trees c tree node = record_in (tree_at trees tree) node c
 
@@ -28,15 +28,15 @@ pub record IsPathOf (records : Records) (tree : ℕ) (s : TreeShape) (leaf : ℕ
   pub whole : length bytes ≡ (s.depth + 1) * s.record_len
   pub each : (level : ℕ) → level ≤ s.depth → records tree (node_on s.depth leaf level) ≡ Some (record_at s.record_len bytes level)
 
--- a record of the path isn't there
+-- a record of the path is missing
 abbrev pub LacksOn : Records → ℕ → TreeShape → ℕ → Type 0
 LacksOn records tree s leaf = (level : ℕ) × (level ≤ s.depth) × (records tree (node_on s.depth leaf level) ≡ None)
 
--- each record but those of the path is as it was
+-- each record except those of the path is as it was
 abbrev pub KeepsOffPath : Records → ℕ → TreeShape → ℕ → Records → Type 0
 KeepsOffPath old tree s leaf new =
     (other node : ℕ) → ((other ≢ tree) ⊎ ((level : ℕ) → level ≤ s.depth → node ≢ node_on s.depth leaf level)) → new other node ≡ old other node
 
--- each record but this one is as it was
+-- each record except this one is as it was
 abbrev pub KeepsOthers : Records → ℕ → ℕ → Records → Type 0
 KeepsOthers old tree node new = (other n : ℕ) → ((other ≢ tree) ⊎ (n ≢ node)) → new other n ≡ old other n

@@ -7,7 +7,7 @@ use Rattle.oram_layout.specs.declared.trees.Tree.{Tree}
 abbrev pub sizes_of : Shape → TreeShape
 sizes_of shape = record { depth = shape.depth; record_len = shape.record_len }
 
--- by number, from tree 0 on
+-- the trees by number, from tree 0 on; None where a number has no tree
 abbrev pub Trees : Type 0
 Trees = List (Option Tree)
 
@@ -29,23 +29,23 @@ cell_at tree node = tree.base + node * cell_len tree.shape.record_len
 abbrev pub end_of : Tree → ℕ
 end_of tree = cell_at tree (nodes_of (sizes_of tree.shape))
 
--- where the cells of the next tree will begin: behind the header, and behind every tree that there is
+-- where the cells of the next tree will begin: after the header, and after every tree of the list
 abbrev pub next_of : Trees → ℕ
 next_of [] = 8192
 next_of (None ∷ trees) = next_of trees
 next_of (Some tree ∷ trees) = if nat_le (next_of trees) (end_of tree) then end_of tree else next_of trees
 
--- the tree shares no byte with one of these
+-- the tree shares no byte with any of `trees`
 abbrev pub IsApartFrom : Tree → Trees → Type 0
 IsApartFrom tree trees = (n : ℕ) (other : Tree) → tree_at trees n ≡ Some other → (end_of other ≤ tree.base) ⊎ (end_of tree ≤ other.base)
 
--- the tree has its cells behind the header, from an even place on, and shares no byte with one of these
+-- the tree's cells are after the header, begin at an even place, and share no byte with `others`
 pub record IsPlaced (tree : Tree) (others : Trees) : Type 0 where
   pub from : 8192 ≤ tree.base
   pub even : tree.base % 2 ≡ 0
   pub apart : IsApartFrom tree others
 
--- the same trees but for this number, which has the tree and had none
+-- the same trees, except that this number had no tree and now has `tree`
 pub record AddsTree (old : Trees) (number : ℕ) (tree : Tree) (new : Trees) : Type 0 where
   pub within : number < 256
   pub all : length new ≡ 256
@@ -58,7 +58,7 @@ pub record HasNoTree (trees : Trees) : Type 0 where
   pub all : length trees ≡ 256
   pub none : (n : ℕ) → tree_at trees n ≡ None
 
--- Each tree has its cells behind the header, from an even place on, and shares no byte with another.
+-- The cells of each tree are after the header, begin at an even place, and share no byte with another tree's.
 pub record AreApart (trees : Trees) : Type 0 where
   pub from : (n : ℕ) (t : Tree) → tree_at trees n ≡ Some t → 8192 ≤ t.base
   pub even : (n : ℕ) (t : Tree) → tree_at trees n ≡ Some t → t.base % 2 ≡ 0

@@ -1,4 +1,4 @@
-//! The header's entries of trees.
+//! The entries of trees in the header.
 ghost use Rattle.std.specs.Prelude.{◌≡◌, ◌<◌, ◌≤◌, ◌+◌, ◌*◌, ◌^◌, ◌↔◌, ℕ, Option, length, IfOk, IsErrOf, IsTrue, MatchOption, OnErr, Some};
 ghost use Rattle.oram_redo.specs.Content.{Content, Has};
 ghost use Rattle.oram_layout.specs.Header.{HasTrees, entry_at, entry_bytes};
@@ -10,13 +10,13 @@ use crate::numbers::{eight_bytes_in, four_bytes_in};
 use crate::{CELLS_AT, ENTRY_LEN, LayoutFault, Shape, Tree};
 use std::alloc::Global;
 
-/// How many trees a header has entries for.
+/// The number of trees that a header has entries for.
 pub const TREES: usize = 256;
 
 /// Where the header's entries begin.
 const ENTRIES_AT: u64 = 4096;
 
-/// Where the header has a tree's entry.
+/// Returns the place of a tree's entry in the header.
 pub fn entry_place(number: u8) -> u64
     ensures { result ≡ entry_at number }
 {
@@ -38,7 +38,7 @@ pub fn read_trees(alloc: Global, bytes: &[u8]) -> Result<Vec<Option<Tree>>, Layo
     Ok(trees)
 }
 
-/// Where the cells of the next tree will begin.
+/// Returns the place where the cells of the next tree will begin.
 pub fn next_base(trees: &[Option<Tree>]) -> u64
     ensures place { result ≡ next_of trees.now }
     ensures within { result ≤ 2 ^ 62 }
@@ -52,7 +52,7 @@ pub fn next_base(trees: &[Option<Tree>]) -> u64
     next
 }
 
-// The trees that the entries say, which may share bytes.
+// Returns the trees that the entries describe. They may share bytes.
 fn listed(alloc: Global, bytes: &[u8]) -> Result<Vec<Option<Tree>>, LayoutFault>
     requires { length bytes.now ≡ 4096 }
     ensures trees { IfOk result (λ trees. (c : Content) → Has bytes.now 4096 c → HasTrees trees.items c) }
@@ -65,7 +65,7 @@ fn listed(alloc: Global, bytes: &[u8]) -> Result<Vec<Option<Tree>>, LayoutFault>
     Ok(trees)
 }
 
-// What an entry says: a tree, or that there is none.
+// Reads an entry: a tree, or none.
 fn read_entry(entry: &[u8]) -> Result<Option<Tree>, LayoutFault>
     requires { length entry.now ≡ ENTRY_LEN }
     ensures found { IfOk result (λ found. entry.now ≡ entry_bytes found) }
@@ -104,14 +104,14 @@ fn are_apart(trees: &[Option<Tree>]) -> bool
     true
 }
 
-// The tree has its cells behind the header, from an even place on, and shares no byte with any of these.
+// Returns whether the tree's cells are after the header, begin at an even place, and share no byte with `others`.
 fn is_placed(tree: &Tree, others: &[Option<Tree>]) -> bool
     ensures { IsTrue result ↔ IsPlaced tree.now others.now }
 {
     tree.base >= CELLS_AT && tree.base % 2 == 0 && is_apart(tree, others)
 }
 
-// The tree shares no byte with any of these.
+// Returns whether the tree shares no byte with any of `others`.
 fn is_apart(tree: &Tree, others: &[Option<Tree>]) -> bool
     ensures { IsTrue result ↔ IsApartFrom tree.now others.now }
 {

@@ -5,7 +5,7 @@ use std::alloc::{AllocError, AllocFailed};
 /// Why the trees of a header can't be read.
 #[derive(Clone, Copy, Debug, PartialEq, Eq)]
 pub enum LayoutFault {
-    /// An entry is no tree's, or two trees share a byte.
+    /// An entry isn't that of a tree, or two trees share a byte.
     Damaged,
     OutOfMemory,
 }

@@ -1,4 +1,4 @@
-//! The beginnings of the two files: letters, which say what the file is, a version, and an identity that the two share.
+//! The first bytes of the two files: letters that say what the file is, a version, and an identity that the two share.
 ghost use Rattle.std.specs.Prelude.{◌≡◌, ◌<◌, ◌↔◌, ℕ, ◌++◌, All, IfSome, IsTrue, length, take, drop, Some};
 ghost use Rattle.oram_layout.specs.Fronts.{IfOurs, IsFront, IsNewer, front_bytes, log_letters, sqlite_letters};
 ghost use Rattle.oram_layout.specs.Header.{letters};
@@ -6,13 +6,13 @@ ghost use Rattle.oram_layout.specs.declared.fronts.Identity.{Identity};
 
 use crate::numbers::eight_bytes_in;
 
-/// How many bytes of a file say what it is.
+/// The number of bytes at the beginning of a file that say what it is.
 pub const FRONT_LEN: usize = 32;
 
-/// How many of them are letters and the version.
+/// The number of these bytes that are letters and version.
 const LETTERS_LEN: usize = 16;
 
-/// How many of these are letters.
+/// The number of these bytes that are letters.
 const NAME_LEN: usize = 8;
 
 const LETTERS: [u8; 16] = *b"VIDLAQEB\x01\0\0\0\0\0\0\0";
@@ -21,7 +21,7 @@ const LOG_LETTERS: [u8; 16] = *b"VIDLAQEL\x01\0\0\0\0\0\0\0";
 
 const SQLITE_LETTERS: [u8; 16] = *b"SQLite format 3\0";
 
-/// Bytes that a bucket file and its log share, and no other pair of files.
+/// Bytes that a bucket file shares with its log, and with no other file.
 #[derive(Clone, Copy, Debug, PartialEq, Eq)]
 pub struct Identity(pub [u8; 16]);
 
@@ -30,31 +30,31 @@ pub struct Identity(pub [u8; 16]);
 pub enum Front {
     /// A bucket file of this version.
     Ours(Identity),
-    /// A bucket file of a version that comes later.
+    /// A bucket file of a later version.
     NewerVersion,
-    /// A database of SQLite's, as an earlier version kept its buckets in.
+    /// A SQLite database, in which an earlier version kept its buckets.
     Sqlite,
-    /// It has only zeros, if any bytes at all.
+    /// Only zeros, or no bytes at all.
     Empty,
     /// Something else.
     Another,
 }
 
-/// The first bytes of a bucket file.
+/// Returns the first bytes of a bucket file.
 pub fn front_of(identity: &Identity) -> [u8; 32]
     ensures { result ≡ front_bytes letters identity.now }
 {
     front_with(&LETTERS, identity)
 }
 
-/// The first bytes of a log.
+/// Returns the first bytes of a log.
 pub fn log_front_of(identity: &Identity) -> [u8; 32]
     ensures { result ≡ front_bytes log_letters identity.now }
 {
     front_with(&LOG_LETTERS, identity)
 }
 
-/// What a file is, by its first 32 bytes, or by all that it has.
+/// Returns what a file is, by its first 32 bytes, or by all of its bytes if it has fewer.
 pub fn read_front(bytes: &[u8]) -> Front
     ensures ours { IfOurs result (λ identity. IsFront letters identity bytes.now) }
     ensures read_again { (identity : Identity) → IsFront letters identity bytes.now → result ≡ Front.Ours identity }
@@ -75,7 +75,7 @@ pub fn read_front(bytes: &[u8]) -> Front
     }
 }
 
-/// A log's identity, by its first 32 bytes, or `None` where it is no log of this version.
+/// Returns a log's identity, by its first 32 bytes, or `None` if it isn't a log of this version.
 pub fn read_log_front(bytes: &[u8]) -> Option<Identity>
     ensures ours { IfSome result (λ identity. IsFront log_letters identity bytes.now) }
     ensures read_again { (identity : Identity) → IsFront log_letters identity bytes.now → result ≡ Some identity }
@@ -92,7 +92,7 @@ fn front_with(front_letters: &[u8; 16], identity: &Identity) -> [u8; 32]
     front
 }
 
-// The identity behind these letters, where the bytes begin with both.
+// Returns the identity after `front_letters`, if the bytes begin with both.
 fn identity_behind(front_letters: &[u8; 16], bytes: &[u8]) -> Option<Identity>
     ensures found { IfSome result (λ identity. IsFront front_letters.now identity bytes.now) }
     ensures read_again { (identity : Identity) → IsFront front_letters.now identity bytes.now → result ≡ Some identity }
@@ -114,7 +114,7 @@ fn is_newer(bytes: &[u8]) -> bool
     eight_bytes_in(&bytes[NAME_LEN..LETTERS_LEN]) > 1
 }
 
-/// Each byte is 0.
+/// Returns whether each byte is 0.
 pub fn is_blank(bytes: &[u8]) -> bool
     ensures { IsTrue result ↔ All (λ byte. byte ≡ 0) bytes.now }
 {

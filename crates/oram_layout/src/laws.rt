@@ -1,39 +1,39 @@
 //! Laws of the layout, as contracts of functions that do nothing.
 ghost use Rattle.oram_layout.specs.Laws.{AllPatchesFit, IsFileAtFirst, LooseKeepsRecords, MarkPutsRecord, MarkSharesBlock, MarksKeepFile, OffStaysOff, PathIsPut, RecordIsPut, SameRecords, TreeIsAdded, TreesAreOne, UnmarkedIsOff};
 
-/// A content that agrees with a bucket file's is one, with the same records.
+/// A content that agrees with a bucket file's everywhere is a bucket file with the same records.
 pub fn same_content()
     ensures { SameRecords }
 {}
 
-/// A header has one list of trees.
+/// A header has only one list of trees.
 pub fn one_list_of_trees()
     ensures { TreesAreOne }
 {}
 
-/// Zeros behind a front are a bucket file without trees.
+/// A front and then zeros are a bucket file without trees.
 pub fn an_empty_file()
     ensures { IsFileAtFirst }
 {}
 
-/// A record's patch puts that record, and no other.
+/// A record's patch writes that record, and no other.
 pub fn a_record_is_put()
     ensures { RecordIsPut }
 {}
 
-/// A path's patches put its records, and no others.
+/// A path's patches write its records, and no others.
 pub fn the_path_is_put()
     ensures { PathIsPut }
 {}
 
-/// Patches off the records change none, whatever a crash makes of them.
+/// Patches off the records change no record, whatever a crash leaves of them.
 pub fn loose_patches()
     ensures kept { LooseKeepsRecords }
     ensures off { UnmarkedIsOff }
     ensures more { OffStaysOff }
 {}
 
-/// Records that were written without their marks are put by the marks.
+/// Setting the marks puts the records that were written without them.
 pub fn marked_records()
     ensures put { MarkPutsRecord }
     ensures file { MarksKeepFile }
@@ -49,7 +49,7 @@ pub fn a_mark_shares_a_block()
     ensures { MarkSharesBlock }
 {}
 
-/// Each patch that changes a bucket file fits a redo log whose records end at `CELLS_END`.
+/// Each patch that changes a bucket file fits in a redo log whose records end at `CELLS_END`.
 pub fn patches_fit()
     ensures { AllPatchesFit }
 {}

@@ -1,11 +1,13 @@
-//! Where a bucket file has what: its header with the trees, and a cell for the record of each node.
+//! The layout of a bucket file: a header that lists the trees, and a cell for the record of each node.
 //!
-//! A tree has a known number of records of one length, so each record has its place, as in the image of a disk: a sparse file grows with what
-//! is stored, and nothing of it has to be read to find a record. A cell's first byte, its mark, is 1 where there is a record. It is a byte of
-//! its own, so that a write that a crash tears never touches another cell. `specs/Header.antt` and `specs/Limits.antt` have the layout to the byte.
+//! A tree has a known number of records of one length, so each record has its place, as in a disk image: a sparse file
+//! grows with what is stored, and to find a record nothing has to be read. The first byte of a cell, its mark, is 1 if
+//! the cell has a record. The mark is a byte of its own, so that a torn write never touches another cell.
+//! `specs/Header.antt` and `specs/Limits.antt` define the layout to the byte.
 //!
-//! Nothing here reads or writes a file. `specs/BucketFile.antt` says of a file's content that it holds trees, and `specs/Records.antt` which
-//! records these have. `specs/Changes.antt` has the patches that change them, and the laws say what each patch does.
+//! Nothing here reads or writes a file. `specs/BucketFile.antt` says when the content of a file holds trees, and
+//! `specs/Records.antt` which records they have. `specs/Changes.antt` has the patches that change them, and the laws
+//! say what each patch does.
 #![tactic(auto)]
 
 mod entries;

@@ -5,7 +5,7 @@ ghost use Rattle.oram_layout.specs.Limits.{is_shape};
 
 use oram_wire::{HEADER_LEN, LONGEST_BODY};
 
-/// The deepest tree that a host keeps.
+/// The greatest depth of a tree that a host keeps.
 const DEEPEST: u8 = 24;
 
 /// The depth of a tree, and the length of each of its records in bytes.
@@ -19,7 +19,8 @@ pub struct Shape {
 }
 
 impl Shape {
-    /// A tree may have this shape: a STORE of one of its paths fits a frame.
+    /// Returns a shape, or `None` if no tree may have it. A STORE of one of a tree's paths has to
+    /// fit in a frame.
     pub fn new(depth: u8, record_len: u32) -> Option<Shape>
         ensures { MatchOption result (is_shape depth record_len ≡ false) (λ s. (is_shape depth record_len ≡ true) × (s.depth ≡ depth) × (s.record_len ≡ record_len)) }
     {
@@ -32,28 +33,28 @@ impl Shape {
         Some(Shape { depth, record_len })
     }
 
-    /// How many leaves a tree has.
+    /// Returns the number of leaves of a tree.
     pub fn leaves(&self) -> u32
         ensures { result ≡ 2 ^ self.now.depth }
     {
         1 << self.depth
     }
 
-    /// How many nodes a tree has.
+    /// Returns the number of nodes of a tree.
     pub fn nodes(&self) -> u32
         ensures { result ≡ 2 ^ (self.now.depth + 1) - 1 }
     {
         (1 << (self.depth + 1)) - 1
     }
 
-    /// How many bytes the records of a path have.
+    /// Returns the number of bytes of the records of a path.
     pub fn path_len(&self) -> usize
         ensures { result ≡ (self.now.depth + 1) * self.now.record_len }
     {
         (self.depth as usize + 1) * self.record_len as usize
     }
 
-    /// The node at a level of a leaf's path.
+    /// Returns the node at a level of a leaf's path.
     pub fn node_at(&self, leaf: u32, level: u8) -> u32
         requires leaf { leaf < 2 ^ self.now.depth }
         requires level { level ≤ self.now.depth }

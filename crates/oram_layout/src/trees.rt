@@ -3,20 +3,20 @@ ghost use Rattle.std.specs.Prelude.{◌≡◌, ◌<◌, ◌≤◌, ◌+◌, ◌-
 
 use crate::shapes::Shape;
 
-/// Where the cells of trees end at the latest. Systems have no longer files.
+/// The place by which the cells of all trees must end. Operating systems allow no longer files.
 pub const CELLS_END: u64 = 1 << 62;
 
-/// Where the first tree's cells begin.
+/// The place where the first tree's cells begin.
 pub const CELLS_AT: u64 = 8192;
 
-/// The bytes of an entry of the header.
+/// The length of an entry of the header, in bytes.
 pub const ENTRY_LEN: usize = 16;
 
 /// A tree of a bucket file.
 #[derive(Clone, Copy, Debug, PartialEq, Eq)]
 pub struct Tree {
     pub shape: Shape,
-    /// The place of its first cell.
+    /// The place of the tree's first cell.
     pub base: u64,
     ghost within: { base + (2 ^ (shape.depth + 1) - 1) * (2 * ((shape.record_len + 2) / 2)) ≤ 2 ^ 62 },
 }
@@ -26,7 +26,7 @@ impl Tree {
     ghost use Rattle.oram_layout.specs.Limits.{cell_len, cells_len, nodes_of};
     ghost use Rattle.oram_layout.specs.Trees.{cell_at, end_of, sizes_of};
 
-    /// A tree whose cells begin at this place, or `None` where they would end behind [`CELLS_END`].
+    /// Returns a tree whose cells begin at `base`, or `None` if they would end after [`CELLS_END`].
     pub fn place(shape: Shape, base: u64) -> Option<Tree>
         ensures { MatchOption result (CELLS_END < base + cells_len (sizes_of shape)) (λ tree. (tree.shape ≡ shape) × (tree.base ≡ base)) }
     {
@@ -37,7 +37,7 @@ impl Tree {
         Some(Tree { shape, base })
     }
 
-    /// The place of a node's cell.
+    /// Returns the place of a node's cell.
     pub fn cell_at(&self, node: u32) -> u64
         requires { node < nodes_of (sizes_of self.now.shape) }
         ensures place { result ≡ cell_at self.now node }
@@ -46,7 +46,7 @@ impl Tree {
         self.base + u64::from(node) * cell_len_of(self.shape.record_len)
     }
 
-    /// Where its cells end.
+    /// Returns the place where the tree's cells end.
     pub fn end(&self) -> u64
         ensures place { result ≡ end_of self.now }
         ensures within { result ≤ CELLS_END }
@@ -54,7 +54,7 @@ impl Tree {
         self.base + u64::from(self.shape.nodes()) * cell_len_of(self.shape.record_len)
     }
 
-    /// Its entry in the header.
+    /// Returns the tree's entry in the header.
     pub fn entry(&self) -> [u8; 16]
         ensures { result ≡ entry_bytes (Some self.now) }
     {
@@ -81,7 +81,7 @@ impl Tree {
     }
 }
 
-// How many bytes the cell of a record of this length has: an even number.
+// Returns the length of the cell for a record of `record_len` bytes, an even number.
 fn cell_len_of(record_len: u32) -> u64
     ensures { result ≡ 2 * ((record_len + 2) / 2) }
 {

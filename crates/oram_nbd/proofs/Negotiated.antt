@@ -77,7 +77,7 @@ module _ (name : List ℕ) (size preferred : ℕ) (zeroes : Bool) where
         (Appends-trans held holds hold (greeting ++ answered s.all) x.answer s.wrote wrote);
   }
 
-  -- and then so many bytes more were read and written
+  -- and then some more bytes were read and written
   pub negotiated_then : (from held : Option (List ℕ)) (count : ℕ) (to holds later hold : Option (List ℕ)) (part more : List ℕ) →
       (s : Negotiated from held count to holds) → Consumes to later part → Appends holds hold more → HasNegotiated name size preferred zeroes s.all part from later more held hold
   negotiated_then from held count to holds later hold part more s came wrote = record {
@@ -103,7 +103,7 @@ module _ (name : List ℕ) (size preferred : ℕ) (zeroes : Bool) where
   negotiated_on from held count to holds mid later hold h x s same long is head rest wrote =
       negotiated_next from held count to holds later hold x s is (asked_whole to mid later h x same long head rest) wrote
 
-  -- the client went, or the last exchange ended it
+  -- the client left, or the last exchange ended the handshake
   pub agreed_gone : (from held : Option (List ℕ)) (count : ℕ) (to holds later : Option (List ℕ)) →
       Negotiated from held count to holds → Consumes to later [] → IsAtEnd later → HasAgreed name size preferred Gone from later held holds
   agreed_gone from held count to holds later s nothing ended =
@@ -134,7 +134,7 @@ module _ (name : List ℕ) (size preferred : ℕ) (zeroes : Bool) where
   some_bytes : (h : OptionHead) (bytes : List ℕ) → 0 < length (option_head h.option h.length ++ bytes)
   some_bytes h bytes = omega (arith, length-append (option_head h.option h.length) bytes)
 
-  -- it stopped behind the head of an option
+  -- it stopped after the head of an option
   pub stopped_behind : (from held : Option (List ℕ)) (count : ℕ) (to holds mid later hold : Option (List ℕ)) (h : OptionHead) (f : NbdFault) →
       Negotiated from held count to holds → IsHead h → Consumes to mid (option_head h.option h.length) → StopsAt name size preferred zeroes h f mid later holds hold → StopsChoosing name size preferred f from later held hold
   stopped_behind from held count to holds mid later hold h fault.Read s is head ((part, few, came), wrote) = (

@@ -44,7 +44,7 @@ refuses_more failed [] turn h last = (λ f. last (inl f), tt)
 refuses_more failed (t ∷ turns) turn (first, rest) last =
     (first, refuses_more (failed ⊎ (t.reply ≡ Refused Io)) turns turn rest (λ e. last (elim e [ inl d ↦ elim d [ inl f ↦ inl f | inr io ↦ inr (inl io) ] | inr later ↦ inr (inr later) ])))
 
--- what holds once the device has failed holds behind one turn more
+-- what holds once the device has failed holds after one more turn too
 pub still_failed : (failed now later : Type 0) (turns : List Turn) (turn : Turn) → (failed ⊎ SaysFailed turns → now) → (now → later) → (turn.reply ≡ Refused Io → later) → failed ⊎ SaysFailed (turns ++ turn ∷ []) → later
 still_failed failed now later turns turn so_far keeps fails (inl f) = keeps (so_far (inl f))
 still_failed failed now later [] turn so_far keeps fails (inr (inl io)) = fails io
@@ -95,7 +95,7 @@ module _ (sound failed : Type 0) (size : ℕ) (held : List ℕ → Type 0) where
     wrote = subst (Appends text told'') (ap (λ (l : List ℕ). told s.turns ++ l) (sym (append-nil (replying turn))) ∙ sym (flat_map-append replying s.turns (turn ∷ []))) (Appends-trans text told' told'' (told s.turns) (replying turn) s.wrote wrote);
   }
 
-  -- and then so many bytes more were read and written
+  -- and then some more bytes were read and written
   pub exchanged : (from text : Option (List ℕ)) (count : ℕ) (held' : List ℕ → Type 0) (to told' later told'' : Option (List ℕ)) (part more : List ℕ) →
       (s : Served from text count held' to told') → Consumes to later part → Appends told' told'' more → HasExchanged s.turns from later part text told'' more
   exchanged from text count held' to told' later told'' part more s came wrote = record {
@@ -122,7 +122,7 @@ module _ (sound failed : Type 0) (size : ℕ) (held : List ℕ → Type 0) where
   some_bytes : (r : Request) (bytes : List ℕ) → 0 < length (request_text r ++ bytes)
   some_bytes r bytes = omega (arith, length-append (request_text r) bytes)
 
-  -- not all came that a request writes
+  -- only a part of the bytes of a write came
   pub stopped_at_payload : (from text : Option (List ℕ)) (count : ℕ) (held' : List ℕ → Type 0) (to told' mid later : Option (List ℕ)) (r : Request) (f : NbdFault) →
       Served from text count held' to told' → IsRequest r → Consumes to mid (request_text r) → ComesShort 0 (payload_len r.command r.length) f mid later → StopsServing sound failed size held held' f from later text told'
   stopped_at_payload from text count held' to told' mid later r fault.Read s is head (part, few, came) = (
@@ -149,7 +149,7 @@ module _ (sound failed : Type 0) (size : ℕ) (held : List ℕ → Type 0) where
   stopped_at_payload from text count held' to told' mid later r fault.OutOfMemory s is head h = absurd h
   stopped_at_payload from text count held' to told' mid later r fault.Stopped s is head h = absurd h
 
-  -- not all of a reply was written
+  -- only a part of a reply was written
   pub stopped_at_reply : (from text : Option (List ℕ)) (count : ℕ) (held' held'' : List ℕ → Type 0) (to told' later told'' : Option (List ℕ)) (turn : Turn) →
       (s : Served from text count held' to told') → HasServed sound failed size held held'' (s.turns ++ turn ∷ []) → Consumes to later (asking turn) → IsBegunText told' told'' (replying turn) →
       StopsServing sound failed size held held'' fault.Write from later text told''
@@ -180,7 +180,7 @@ module _ (sound failed : Type 0) (size : ℕ) (held : List ℕ → Type 0) where
     exchanged from text count held' to told' later told' (request_text r ++ payload) [] s came (Appends-nil told'),
   )
 
--- a request that is refused without being carried out, for want of memory or since the device has failed
+-- a request that is refused without being carried out, because memory runs out or the device has failed
 pub refused_later : (held : List ℕ → Type 0) (size : ℕ) → ((bytes : List ℕ) → held bytes → length bytes ≡ size) → (r : Request) (text : List ℕ) (e : NbdError) → (e ≡ Io) ⊎ (e ≡ NoMemory) → refusal_of size r ≡ None →
     Leads held (λ old new. IsAnswer old r text (Refused e) new) held
 refused_later held size sized r text e why fits = λ bytes h.

@@ -13,7 +13,7 @@ front_4 : (a b : ℕ) (x y : List ℕ) → a < 2 ^ 32 → b < 2 ^ 32 → to_be_b
 front_4 a b x y p q e =
     (sym (from_be_bytes-to_be_bytes_4 a p) ∙ ap (λ (l : List ℕ). from_be_bytes w32 (take 4 l)) e ∙ from_be_bytes-to_be_bytes_4 b q, ap (drop 4) e)
 
--- what is read is asked for
+-- the name that is read is the one that is asked for
 pub wants : (content : List ℕ) (n : ℕ) (rest name back : List ℕ) (count : ℕ) (asked : List ℕ) → n < 2 ^ 32 → count < 2 ^ 16 → content ≡ to_be_bytes w32 n ++ rest → n ≤ length rest →
     name ≡ take n rest → back ≡ drop n rest → back ≡ to_be_bytes w16 count ++ asked → length asked ≡ 2 * count → Wants content name
 wants content n rest name back count asked fits few whole within front behind text all =
@@ -29,7 +29,8 @@ wants content n rest name back count asked fits few whole within front behind te
       text = whole ∙ ap (λ (m : ℕ). to_be_bytes w32 m ++ rest) (sym long) ∙ ap (λ (l : List ℕ). to_be_bytes w32 (length name) ++ l) parts;
     }
 
--- what isn't has too few bytes for its length, its name or its count, or another number of them than it counts
+-- a content without such a name has too few bytes for its length, its name or its count, or another number of bytes
+-- than it counts
 pub no_length : (content : List ℕ) → length content < 4 → IsMalformed content
 no_length content few = λ name w.
     omega (arith, ap length w.text)

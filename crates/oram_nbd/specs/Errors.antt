@@ -1,4 +1,4 @@
--- The protocol's numbers of errors, and what a fault below a connection is told as.
+-- The protocol's numbers of errors, and the fault of a connection for a fault of reading.
 use Rattle.std.specs.Prelude.{ℕ}
 use Rattle.oram_wire.specs.declared.streaming.FrameFault.{FrameFault}
 use Rattle.oram_wire.specs.declared.streaming.FrameFault.TheVariants as frames

@@ -1,4 +1,4 @@
--- What a server tells of itself and of its export, option by option.
+-- The answers of a server to the options of a handshake.
 use Rattle.std.specs.Prelude.{◌≡◌, ◌⊎◌, ℕ, List, [], ◌∷◌, ◌++◌, length, Bool, true, false, Option, Some, None, replicate, if◌then◌else◌}
 use Rattle.std.specs.Int.{w32, w64, to_be_bytes}
 use Rattle.oram_nbd.specs.Options.{option_reply, IsMalformed, Wants}
@@ -9,23 +9,23 @@ use Rattle.oram_nbd.specs.declared.options.HandshakeOption.TheVariants as option
 use Rattle.oram_nbd.specs.declared.options.ReplyKind.{ReplyKind}
 use Rattle.oram_nbd.specs.declared.options.ReplyKind.TheVariants as kind
 
--- the letters of a server, and its flags: the fixed newstyle, and that it knows of a client that wants no zeroes
+-- the letters of a server, and its flags: it speaks the fixed newstyle, and supports clients that want no zeroes
 abbrev pub greeting : List ℕ
 greeting = to_be_bytes w64 0x4E42444D41474943 ++ to_be_bytes w64 0x49484156454F5054 ++ (0 ∷ 3 ∷ [])
 
--- the flags of a client that is served: the fixed newstyle, with zeroes behind the answer to EXPORT_NAME or without
+-- the flags of a client that is served: the fixed newstyle, with or without zeroes after the answer to EXPORT_NAME
 abbrev pub IsFixed : ℕ → Bool → Type 0
 IsFixed flags true = flags ≡ 1
 IsFixed flags false = flags ≡ 3
 
--- it has flags, and serves FLUSH, FUA, TRIM and WRITE_ZEROES
+-- the flags of the export: it has flags, and serves FLUSH, FUA, TRIM and WRITE_ZEROES
 abbrev pub export_flags : List ℕ
 export_flags = 0 ∷ 109 ∷ []
 
 abbrev pub size_text : ℕ → List ℕ
 size_text size = (0 ∷ 0 ∷ []) ++ to_be_bytes w64 size ++ export_flags
 
--- requests of 1 byte at least, so many at best, and 32 MiB at most
+-- requests of 1 byte at least, preferably of `preferred` bytes, and of 32 MiB at most
 abbrev pub block_text : ℕ → List ℕ
 block_text preferred = (0 ∷ 3 ∷ 0 ∷ 0 ∷ 0 ∷ 1 ∷ []) ++ to_be_bytes w32 preferred ++ to_be_bytes w32 33554432
 
@@ -36,11 +36,11 @@ export_text size zeroes = to_be_bytes w64 size ++ export_flags ++ (if zeroes the
 abbrev pub refused : HandshakeOption → ReplyKind → List ℕ
 refused o k = option_reply o k []
 
--- an empty name is that of the one export
+-- the empty name is that of the only export
 abbrev pub IsNamed : List ℕ → List ℕ → Type 0
 IsNamed name asked = (asked ≡ []) ⊎ (asked ≡ name)
 
--- what an export of so many bytes, with requests of so many at best, is told as
+-- the description of an export of `size` bytes, for requests preferably of `preferred` bytes
 abbrev pub described : ℕ → ℕ → HandshakeOption → List ℕ
 described size preferred o = option_reply o kind.Info (size_text size) ++ option_reply o kind.Info (block_text preferred) ++ option_reply o kind.Ack []
 
@@ -59,9 +59,10 @@ abbrev pub list_text : List ℕ → List ℕ → List ℕ
 list_text name [] = option_reply option.List kind.Server (name_text name) ++ option_reply option.List kind.Ack []
 list_text name (b ∷ content) = refused option.List kind.Invalid
 
--- of an export of this name, of so many bytes, with requests of so many at best, for a client that wants zeroes or doesn't
+-- for an export with this name and `size` bytes, and requests preferably of `preferred` bytes; `zeroes` if the client
+-- wants zeroes
 module _ (name : List ℕ) (size preferred : ℕ) (zeroes : Bool) where
-  -- The answer to each option, and what the handshake comes to by it, if it doesn't go on.
+  -- The answer to each option, and how it ends the handshake, if it does.
   abbrev pub Answers : HandshakeOption → List ℕ → List ℕ → Option Agreement → Type 0
   Answers option.ExportName content text ends = IsNamed name content × (text ≡ export_text size zeroes) × (ends ≡ Some Transmission)
   Answers option.Abort content text ends = (text ≡ refused option.Abort kind.Ack) × (ends ≡ Some Gone)

@@ -6,7 +6,7 @@ pub record MemBlocks : Type 0 where
   pub block_len : ℕ
   pub blocks : ℕ
 
--- so many blocks, each of so many bytes, one at least
+-- whole blocks of at least one byte each
 pub record IsWhole (d : MemBlocks) : Type 0 where
   pub some : 0 < d.block_len
   pub whole : d.block_len * d.blocks ≡ length d.bytes

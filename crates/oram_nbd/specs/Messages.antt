@@ -17,7 +17,7 @@ command_code command.Trim = 4
 command_code command.WriteZeroes = 6
 command_code (command.Other code) = code
 
--- no other command has the number of one that is served
+-- a command that isn't served has a number of its own
 abbrev pub IsTold : Command → Type 0
 IsTold (command.Other code) = (code ≢ 0) × (code ≢ 1) × (code ≢ 2) × (code ≢ 3) × (code ≢ 4) × (code ≢ 6)
 IsTold _ = Unit {0}
@@ -28,7 +28,7 @@ request_text r =
     to_be_bytes w32 0x25609513 ++ to_be_bytes w16 r.flags ++ to_be_bytes w16 (command_code r.command)
     ++ to_be_bytes w64 r.cookie ++ to_be_bytes w64 r.offset ++ to_be_bytes w32 r.length
 
--- what has a spelling
+-- a request that can be written: its numbers fit their fields
 pub record IsRequest (r : Request) : Type 0 where
   pub told : IsTold r.command
   pub code : command_code r.command < 2 ^ 16
@@ -37,12 +37,12 @@ pub record IsRequest (r : Request) : Type 0 where
   pub offset : r.offset < 2 ^ 64
   pub length : r.length < 2 ^ 32
 
--- how many bytes follow a request
+-- the number of bytes that follow a request
 abbrev pub payload_len : Command → ℕ → ℕ
 payload_len command.Write n = n
 payload_len _ n = 0
 
--- 0 where the request was carried out
+-- the error number of a reply, 0 if the request was carried out
 abbrev pub reply_number : SimpleReply → ℕ
 reply_number (reply.Done bytes) = 0
 reply_number (reply.Refused e) = error_number e
@@ -52,7 +52,7 @@ abbrev pub reply_bytes : SimpleReply → List ℕ
 reply_bytes (reply.Done bytes) = bytes
 reply_bytes (reply.Refused e) = []
 
--- a reply's 16 bytes
+-- the 16 bytes of a reply's head
 abbrev pub reply_head : ℕ → SimpleReply → List ℕ
 reply_head cookie r = to_be_bytes w32 0x67446698 ++ to_be_bytes w32 (reply_number r) ++ to_be_bytes w64 cookie
 

@@ -1,4 +1,4 @@
--- What is read and written in a handshake, up to what it comes to or a fault.
+-- What is read and written in a handshake, up to its end or a fault.
 use Rattle.std.specs.Prelude.{◌≡◌, ◌⊎◌, ℕ, ◌<◌, ◌≤◌, ◌^◌, List, [], ◌++◌, length, take, Bool, Option, Some, None, All}
 use Rattle.std.specs.Int.{w32, to_be_bytes}
 use Rattle.std.specs.List.{flat_map}
@@ -22,7 +22,7 @@ pub record Exchange : Type 0 where
   pub content : List ℕ
   pub answer : List ℕ
 
--- what the client asked at an exchange
+-- what the client sent at an exchange
 abbrev pub asking : Exchange → List ℕ
 asking x = option_text x.option x.content
 
@@ -32,13 +32,13 @@ asked xs = flat_map asking xs
 abbrev pub answered : List Exchange → List ℕ
 answered xs = flat_map (λ x. x.answer) xs
 
--- less than an option: of its 16 bytes, or of those that it carries
+-- less than a whole option: some of its 16 bytes, or all of these and some of the bytes that it carries
 abbrev pub IsUnfinishedOption : List ℕ → Type 0
 IsUnfinishedOption part =
     (length part < 16)
     ⊎ ((h : OptionHead) × (bytes : List ℕ) × IsHead h × (length bytes < h.length) × (part ≡ option_head h.option h.length ++ bytes))
 
--- 16 bytes that no option has
+-- 16 bytes that aren't the head of an option
 abbrev pub IsNoOption : List ℕ → Type 0
 IsNoOption part = (length part ≡ 16) × ((h : OptionHead) → IsHead h → part ≡ option_head h.option h.length → ⊥)
 
@@ -46,12 +46,12 @@ IsNoOption part = (length part ≡ 16) × ((h : OptionHead) → IsHead h → par
 abbrev pub IsNoneOrAll : ℕ → List ℕ → Type 0
 IsNoneOrAll n content = (content ≡ []) ⊎ (length content ≡ n)
 
--- an option that there was no memory for: its 16 bytes alone, or all of it
+-- an option for which there was no memory: its 16 bytes alone, or all of it
 abbrev pub IsUnanswered : List ℕ → Type 0
 IsUnanswered part =
     (h : OptionHead) × (content : List ℕ) × IsHead h × IsNoneOrAll h.length content × (part ≡ option_head h.option h.length ++ content)
 
--- What is known where the handshake stops before the client's flags are known to be good.
+-- What is known if the handshake stops before the client's flags are known to be good.
 abbrev pub StopsGreeting : NbdFault → Option (List ℕ) → Option (List ℕ) → Option (List ℕ) → Option (List ℕ) → Type 0
 StopsGreeting Read unread unread' written written' = ComesShort 0 4 Read unread unread' × Appends written written' greeting
 StopsGreeting Truncated unread unread' written written' = ComesShort 0 4 Truncated unread unread' × Appends written written' greeting
@@ -65,7 +65,7 @@ StopsGreeting TooManyOptions unread unread' written written' = ⊥
 StopsGreeting OutOfMemory unread unread' written written' = ⊥
 StopsGreeting Stopped unread unread' written written' = ⊥
 
--- of an export of this name, of so many bytes, with requests of so many at best
+-- for an export with this name and `size` bytes, and requests preferably of `preferred` bytes
 module _ (name : List ℕ) (size preferred : ℕ) where
   -- an option that carries too much is refused, whichever it is
   abbrev pub IsAnswered : Bool → HandshakeOption → List ℕ → List ℕ → Option Agreement → Type 0
@@ -73,14 +73,14 @@ module _ (name : List ℕ) (size preferred : ℕ) where
       ((length content ≤ LONGEST_OPTION) × Answers name size preferred zeroes o content text ends)
       ⊎ ((LONGEST_OPTION < length content) × (text ≡ refused o TooBig) × (ends ≡ None))
 
-  -- the exchange comes to this, or goes on
+  -- the exchange ends the handshake in this way, or the handshake goes on
   pub record IsExchange (zeroes : Bool) (x : Exchange) (ends : Option Agreement) : Type 0 where
     pub known : IsOption x.option
     pub code : option_code x.option < 2 ^ 32
     pub short : length x.content < 2 ^ 32
     pub answer : IsAnswered zeroes x.option x.content x.answer ends
 
-  -- What is known where it stops at an option whose head was read.
+  -- What is known if the handshake stops at an option whose head was read.
   abbrev pub StopsAt : Bool → OptionHead → NbdFault → Option (List ℕ) → Option (List ℕ) → Option (List ℕ) → Option (List ℕ) → Type 0
   StopsAt zeroes h Read unread unread' written written' = ComesShort 0 h.length Read unread unread' × Appends written written' []
   StopsAt zeroes h Truncated unread unread' written written' = ComesShort 0 h.length Truncated unread unread' × Appends written written' []
@@ -97,7 +97,8 @@ module _ (name : List ℕ) (size preferred : ℕ) where
   StopsAt zeroes h TooManyOptions unread unread' written written' = ⊥
   StopsAt zeroes h Stopped unread unread' written written' = ⊥
 
-  -- The client's flags were read, and exchanges made that all go on; and then so many bytes more were read and written.
+  -- The client's flags were read, and exchanges were made that don't end the handshake. Then `part` was read, and
+  -- `more` was written.
   pub record HasNegotiated (zeroes : Bool) (xs : List Exchange) (part : List ℕ) (unread unread' : Option (List ℕ)) (more : List ℕ) (written written' : Option (List ℕ)) : Type 0 where
     pub flags : ℕ
     pub fixed : IsFixed flags zeroes
@@ -105,14 +106,14 @@ module _ (name : List ℕ) (size preferred : ℕ) where
     pub read : Consumes unread unread' (to_be_bytes w32 flags ++ asked xs ++ part)
     pub wrote : Appends written written' (greeting ++ answered xs ++ more)
 
-  -- The handshake came to this, by a last exchange, or by the end of the input where an option is due.
+  -- The handshake ended in this agreement: by a last exchange, or because the input ended where an option was due.
   abbrev pub HasAgreed : Agreement → Option (List ℕ) → Option (List ℕ) → Option (List ℕ) → Option (List ℕ) → Type 0
   HasAgreed agreement unread unread' written written' =
       (zeroes : Bool) × (xs : List Exchange) × (
       ((agreement ≡ Gone) × IsAtEnd unread' × HasNegotiated zeroes xs [] unread unread' [] written written')
       ⊎ ((x : Exchange) × IsExchange zeroes x (Some agreement) × HasNegotiated zeroes xs (asking x) unread unread' x.answer written written'))
 
-  -- What is known where it stops at the options.
+  -- What is known if the handshake stops at the options.
   abbrev pub StopsChoosing : NbdFault → Option (List ℕ) → Option (List ℕ) → Option (List ℕ) → Option (List ℕ) → Type 0
   StopsChoosing Read unread unread' written written' =
       (zeroes : Bool) × (xs : List Exchange) × (part : List ℕ) × HasNegotiated zeroes xs part unread unread' [] written written' × IsUnfinishedOption part

@@ -15,19 +15,19 @@ option_code option.Info = 6
 option_code option.Go = 7
 option_code (option.Other code) = code
 
--- no other option has the number of one that is answered
+-- an option that isn't answered has a number of its own
 abbrev pub IsOption : HandshakeOption → Type 0
 IsOption (option.Other code) = (code ≢ 1) × (code ≢ 2) × (code ≢ 3) × (code ≢ 6) × (code ≢ 7)
 IsOption _ = Unit {0}
 
--- the 16 bytes of an option, and those behind them
+-- the 16 bytes of an option's head, and the whole option
 abbrev pub option_head : HandshakeOption → ℕ → List ℕ
 option_head o n = to_be_bytes w64 0x49484156454F5054 ++ to_be_bytes w32 (option_code o) ++ to_be_bytes w32 n
 
 abbrev pub option_text : HandshakeOption → List ℕ → List ℕ
 option_text o content = option_head o (length content) ++ content
 
--- what has a spelling
+-- a head that can be written: its numbers fit their fields
 pub record IsHead (h : OptionHead) : Type 0 where
   pub known : IsOption h.option
   pub code : option_code h.option < 2 ^ 32
@@ -42,14 +42,14 @@ kind_code kind.Invalid = 0x80000003
 kind_code kind.Unknown = 0x80000006
 kind_code kind.TooBig = 0x80000009
 
--- a reply's 20 bytes, and those behind them
+-- the 20 bytes of a reply's head, and the whole reply
 abbrev pub option_reply_head : HandshakeOption → ReplyKind → ℕ → List ℕ
 option_reply_head o k n = to_be_bytes w64 0x0003E889045565A9 ++ to_be_bytes w32 (option_code o) ++ to_be_bytes w32 (kind_code k) ++ to_be_bytes w32 n
 
 abbrev pub option_reply : HandshakeOption → ReplyKind → List ℕ → List ℕ
 option_reply o k body = option_reply_head o k (length body) ++ body
 
--- what INFO and GO carry: a name, and two bytes for each thing that is asked for
+-- what INFO and GO carry: a name, and two bytes for each piece of information that is requested
 abbrev pub wanted_text : List ℕ → ℕ → List ℕ → List ℕ
 wanted_text name count asked = to_be_bytes w32 (length name) ++ name ++ to_be_bytes w16 count ++ asked
 

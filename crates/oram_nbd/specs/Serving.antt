@@ -1,4 +1,4 @@
--- What the service of requests is: each is answered as an array of bytes answers it.
+-- The service of requests: each is answered as an array of bytes answers it.
 use Rattle.std.specs.Prelude.{◌≡◌, ◌⊎◌, ℕ, ◌+◌, List, [], ◌∷◌, ◌++◌, length, Option, Some, None, nat_lt, if◌then◌else◌}
 use Rattle.std.specs.List.{flat_map}
 use Rattle.oram_nbd.specs.Bytes.{bytes_at, written, zeroes, IsBegun}
@@ -11,20 +11,20 @@ use Rattle.oram_nbd.specs.declared.requests.Request.{Request}
 use Rattle.oram_nbd.specs.declared.replies.SimpleReply.{SimpleReply}
 use Rattle.oram_nbd.specs.declared.replies.SimpleReply.TheVariants.{Done, Refused}
 
--- the greatest flags of a command: FUA at each, and NO_HOLE where zeroes are written
+-- the greatest flags of a command: FUA for each, and NO_HOLE too where zeroes are written
 abbrev pub greatest_flags : Command → ℕ
 greatest_flags WriteZeroes = 3
 greatest_flags _ = 1
 
--- an error where the range doesn't lie within so many bytes
+-- the error `e` if the range doesn't lie within `size` bytes
 abbrev pub outside : NbdError → ℕ → ℕ → ℕ → Option NbdError
 outside e size at n = if nat_lt size (at + n) then Some e else None
 
--- the most bytes of one request
+-- Invalid if a request has more bytes than one may have, or else `error`
 abbrev pub short : Option NbdError → ℕ → Option NbdError
 short error n = if nat_lt 33554432 n then Some Invalid else error
 
--- why a command on a range of a device of so many bytes is refused
+-- why a command on a range of a device of `size` bytes is refused
 abbrev pub misfit : Command → ℕ → ℕ → ℕ → Option NbdError
 misfit Read size at n = short (outside Invalid size at n) n
 misfit Write size at n = short (outside NoSpace size at n) n
@@ -38,23 +38,23 @@ misfit (Other code) size at n = Some Invalid
 abbrev pub refusal_of : ℕ → Request → Option NbdError
 refusal_of size r = if nat_lt (greatest_flags r.command) r.flags then Some Invalid else misfit r.command size r.offset r.length
 
--- what an array of bytes gives to a command
+-- the bytes that a command returns from an array of bytes
 abbrev pub given : Command → List ℕ → ℕ → ℕ → List ℕ
 given Read bytes at n = bytes_at bytes at n
 given _ bytes at n = []
 
--- how many bytes that is
+-- their number
 abbrev pub given_len : Command → ℕ → ℕ
 given_len Read n = n
 given_len _ n = 0
 
--- what it is after the command; a trim leaves it as it is
+-- the array after the command; a trim leaves it as it is
 abbrev pub after : Command → List ℕ → ℕ → ℕ → List ℕ → List ℕ
 after Write bytes at n payload = written bytes at payload
 after WriteZeroes bytes at n payload = written bytes at (zeroes n)
 after _ bytes at n payload = bytes
 
--- what it is where the device failed in the middle: the command came as far as some byte of its range
+-- the array if the device failed in the middle: the command came as far as some byte of its range
 abbrev pub IsPartly : Command → List ℕ → ℕ → ℕ → List ℕ → List ℕ → Type 0
 IsPartly Write old at n payload new = IsBegun old at payload new
 IsPartly WriteZeroes old at n payload new = IsBegun old at (zeroes n) new
@@ -68,18 +68,18 @@ IsAnswer old r payload (Refused e) new =
     ((refusal_of (length old) r ≡ Some e) × (new ≡ old))
     ⊎ ((refusal_of (length old) r ≡ None) × ((e ≡ Io) ⊎ (e ≡ NoMemory)) × IsPartly r.command old r.offset r.length payload new)
 
--- a reply that fits the request, whatever a device of so many bytes holds
+-- a reply that fits the request, whatever a device of `size` bytes holds
 abbrev pub IsReply : ℕ → Request → SimpleReply → Type 0
 IsReply size r (Done bytes) = (refusal_of size r ≡ None) × (length bytes ≡ given_len r.command r.length)
 IsReply size r (Refused e) = (refusal_of size r ≡ Some e) ⊎ ((refusal_of size r ≡ None) × ((e ≡ Io) ⊎ (e ≡ NoMemory)))
 
--- a request, the bytes behind it, and the reply
+-- a request, the bytes after it, and the reply
 pub record Turn : Type 0 where
   pub request : Request
   pub payload : List ℕ
   pub reply : SimpleReply
 
--- the turn by itself
+-- the turn fits, whatever the device holds
 pub record IsReplied (size : ℕ) (turn : Turn) : Type 0 where
   pub request : IsRequest turn.request
   pub payload : length turn.payload ≡ payload_len turn.request.command turn.request.length
@@ -96,7 +96,7 @@ abbrev pub IsService : List ℕ → List Turn → List ℕ → Type 0
 IsService old [] new = new ≡ old
 IsService old (turn ∷ turns) new = (mid : List ℕ) × IsTurn old turn mid × IsService mid turns new
 
--- what the client said at a turn, and what it was told
+-- what the client sent at a turn, and what it was sent
 abbrev pub asking : Turn → List ℕ
 asking turn = request_text turn.request ++ turn.payload
 
@@ -124,7 +124,7 @@ abbrev pub SaysFailed : List Turn → Type 0
 SaysFailed [] = ⊥
 SaysFailed (turn ∷ turns) = (turn.reply ≡ Refused Io) ⊎ SaysFailed turns
 
--- From when the device has failed, before these turns or at one of them that says so, no reply acknowledges anything.
+-- Once the device has failed, before these turns or at one of them that says so, no reply acknowledges anything.
 abbrev pub FailsForGood : Type 0 → List Turn → Type 0
 FailsForGood failed [] = Unit {0}
 FailsForGood failed (turn ∷ turns) = (failed → IsRefusal turn.reply) × FailsForGood (failed ⊎ (turn.reply ≡ Refused Io)) turns

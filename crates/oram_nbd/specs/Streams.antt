@@ -1,14 +1,14 @@
--- What is read and written where a message is cut off.
+-- What is read and written if a message is cut off.
 use Rattle.std.specs.Prelude.{◌≡◌, ℕ, ◌<◌, ◌≤◌, List, length, take, Option}
 use Rattle.std.specs.Io.KnownBytes.{Appends, Consumes, IsAtEnd}
 use Rattle.oram_nbd.specs.declared.faults.NbdFault.{NbdFault}
 use Rattle.oram_nbd.specs.declared.faults.NbdFault.TheVariants.{Read, Truncated, Magic, Write, OldClient, UnknownExport, TooManyOptions, OutOfMemory, Stopped}
 
--- so many bytes were read, whatever they are
+-- n bytes were read, whatever they are
 abbrev pub IsSkip : Option (List ℕ) → Option (List ℕ) → ℕ → Type 0
 IsSkip old new n = (bytes : List ℕ) × (length bytes ≡ n) × Consumes old new bytes
 
--- Of so many bytes a part was read: the reader failed behind it, or the input ended there, with so many bytes at least.
+-- Only a part of n bytes was read: the reader failed after it, or the input ended there, after at least `least` bytes.
 abbrev pub ComesShort : ℕ → ℕ → NbdFault → Option (List ℕ) → Option (List ℕ) → Type 0
 ComesShort least n Read old new = (part : List ℕ) × (length part < n) × Consumes old new part
 ComesShort least n Truncated old new = (part : List ℕ) × (length part < n) × Consumes old new part × (least ≤ length part) × IsAtEnd new
@@ -24,7 +24,7 @@ ComesShort least n Stopped old new = ⊥
 abbrev pub IsBegunText : Option (List ℕ) → Option (List ℕ) → List ℕ → Type 0
 IsBegunText old new text = (count : ℕ) × Appends old new (take count text)
 
--- Where a message is due that has a head, less than it came, or what is no such message.
+-- A message with a head was due, but only a part of it came, or bytes that are no such message.
 abbrev pub Misses : (List ℕ → Type 0) → (List ℕ → Type 0) → NbdFault → Option (List ℕ) → Option (List ℕ) → Type 0
 Misses unfinished none Read old new = (part : List ℕ) × unfinished part × Consumes old new part
 Misses unfinished none Truncated old new = (part : List ℕ) × unfinished part × Consumes old new part × (0 < length part) × IsAtEnd new

@@ -1,4 +1,4 @@
--- What is read and written while requests are served, up to its end or a fault.
+-- What is read and written while requests are served, up to their end or a fault.
 use Rattle.std.specs.Prelude.{◌≡◌, ◌⊎◌, ℕ, ◌<◌, List, [], ◌∷◌, ◌++◌, length, take, Option, None, All}
 use Rattle.std.specs.Io.KnownBytes.{Appends, Consumes, IsAtEnd}
 use Rattle.oram_nbd.specs.Messages.{payload_len, request_text, IsRequest}
@@ -9,13 +9,13 @@ use Rattle.oram_nbd.specs.declared.faults.NbdFault.TheVariants.{Read, Truncated,
 use Rattle.oram_nbd.specs.declared.requests.Command.TheVariants.{Disconnect}
 use Rattle.oram_nbd.specs.declared.requests.Request.{Request}
 
--- less than a request: of its 28 bytes, or of the bytes that it writes
+-- less than a whole request: some of its 28 bytes, or all of these and some of the bytes of its write
 abbrev pub IsUnfinished : List ℕ → Type 0
 IsUnfinished part =
     (length part < 28)
     ⊎ ((r : Request) × (bytes : List ℕ) × IsRequest r × (length bytes < payload_len r.command r.length) × (part ≡ request_text r ++ bytes))
 
--- 28 bytes that no request has
+-- 28 bytes that aren't a request
 abbrev pub IsNoRequest : List ℕ → Type 0
 IsNoRequest part = (length part ≡ 28) × ((r : Request) → IsRequest r → part ≡ request_text r → ⊥)
 
@@ -24,22 +24,22 @@ abbrev pub IsLast : Option (List ℕ) → List ℕ → Type 0
 IsLast new last =
     ((last ≡ []) × IsAtEnd new) ⊎ ((r : Request) × IsRequest r × (r.command ≡ Disconnect) × (last ≡ request_text r))
 
--- The turns were read and told, and then so many bytes more were read and written.
+-- The turns were read and their replies written. Then `part` was read, and `more` was written.
 pub record HasExchanged (turns : List Turn) (unread unread' : Option (List ℕ)) (part : List ℕ) (written written' : Option (List ℕ)) (more : List ℕ) : Type 0 where
   pub read : Consumes unread unread' (said turns ++ part)
   pub wrote : Appends written written' (told turns ++ more)
 
--- Of a device of `size` bytes. `sound` says that it is sound, and `failed` that it had failed before. `held` are the arrays that it held before,
--- and `held'` those that it holds now.
+-- For a device of `size` bytes. `sound` says that it is sound, and `failed` that it had failed before. `held` are the
+-- arrays that it held before, and `held'` those that it holds now.
 module _ (sound failed : Type 0) (size : ℕ) (held held' : List ℕ → Type 0) where
-  -- The turns were made. Whichever array was held, they lead from it to one that is held.
+  -- The turns were made. From each array that was held, they lead to one that is held.
   pub record HasServed (turns : List Turn) : Type 0 where
     pub fits : All (λ turn. IsReplied size turn) turns
     pub never : sound → NeverFails turns
     pub refused : FailsForGood failed turns
     pub service : Leads held (λ old new. IsService old turns new) held'
 
-  -- The turns were made, and then a request came that the device stopped at, with these bytes.
+  -- The turns were made, and then a request came, with these bytes, at which the device stopped.
   pub record HasStopped (turns : List Turn) (r : Request) (payload : List ℕ) : Type 0 where
     pub fits : All (λ turn. IsReplied size turn) turns
     pub never : sound → NeverFails turns
@@ -49,7 +49,7 @@ module _ (sound failed : Type 0) (size : ℕ) (held held' : List ℕ → Type 0)
     pub accepted : refusal_of size r ≡ None
     pub service : Leads held (λ old new. (mid : List ℕ) × IsService old turns mid × IsPartly r.command mid r.offset r.length payload new) held'
 
-  -- so many requests were answered, and then they ended
+  -- `count` requests were answered, and then the requests ended
   pub record HasTransmitted (count : ℕ) (unread unread' written written' : Option (List ℕ)) : Type 0 where
     pub turns : List Turn
     pub last : List ℕ
@@ -58,8 +58,8 @@ module _ (sound failed : Type 0) (size : ℕ) (held held' : List ℕ → Type 0)
     pub exchanged : HasExchanged turns unread unread' last written written' []
     pub ended : IsLast unread' last
 
-  -- What is known at a fault. After a failed write the last turn was made, and its reply came as far as some byte. Where the device
-  -- stopped, nothing was told of the last request.
+  -- What is known at a fault. After a failed write, the last turn was made, and a beginning of its reply was written.
+  -- If the device stopped, the last request has no reply.
   abbrev pub StopsServing : NbdFault → Option (List ℕ) → Option (List ℕ) → Option (List ℕ) → Option (List ℕ) → Type 0
   StopsServing Read unread unread' written written' =
       (turns : List Turn) × (part : List ℕ) × HasServed turns × HasExchanged turns unread unread' part written written' [] × IsUnfinished part

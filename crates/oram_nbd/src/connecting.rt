@@ -1,4 +1,4 @@
-//! A whole connection.
+//! Serves a whole connection.
 
 ghost use Rattle.std.specs.Prelude.{◌≡◌, ◌≤◌, ◌↔◌, length, Err, IfOk, IfErr, IsTrue};
 ghost use Rattle.oram_nbd.specs.Connection.{preferred_of, HasConnected, StopsConnection};
@@ -13,7 +13,7 @@ use crate::transmitting::transmit;
 use std::alloc::Global;
 use std::io::{Read, Write};
 
-/// How many bytes a request has at best: as many as a block, where clients take such a number.
+/// Returns the preferred number of bytes of a request: that of a block, if clients accept that number.
 fn preferred(block_bytes: u32) -> u32
     ensures { result ≡ preferred_of block_bytes }
 {
@@ -24,15 +24,17 @@ fn preferred(block_bytes: u32) -> u32
     }
 }
 
-/// Hears when the handshake of a connection is done, as one does who gives a client only so long for it.
+/// A watcher of a connection's handshake, for example one that limits a client's time for it.
 pub trait HandshakeWatch {
-    /// The client has agreed with the server, and its requests follow.
+    /// Is called when the client has agreed with the server, before its requests.
     fn agreed(&self);
 }
 
-/// Serves one connection, from its greeting until its client goes, and tells how many requests were answered.
+/// Serves one connection, from its greeting until its client leaves, and returns the number of requests that were
+/// answered.
 ///
-/// The device is the one export, under this name and under none. `watch` hears when the handshake is done.
+/// The device is the only export, under the name `name` and under the empty one. `watch` is notified when the handshake
+/// is done.
 pub fn serve<R: Read, W: Write, D: Disk, H: HandshakeWatch>(
     alloc: Global,
     reader: &mut R,
@@ -66,7 +68,7 @@ pub fn serve<R: Read, W: Write, D: Disk, H: HandshakeWatch>(
     }
 }
 
-/// Whether the service of a connection ended since its disk stopped.
+/// Returns whether the service of a connection ended because its disk has stopped.
 pub fn is_stop(served: Result<u64, NbdFault>) -> bool
     ensures { IsTrue result ↔ (served ≡ Err NbdFault.Stopped) }
 {

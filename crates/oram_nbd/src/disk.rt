@@ -8,27 +8,27 @@ use std::alloc::Global;
 
 /// A device of whole blocks, all of one length. It holds the array of its blocks' bytes.
 ///
-/// After [`DiskFault::Stopped`] a connection asks nothing more of it.
+/// After [`DiskFault::Stopped`] a connection makes no more calls of it.
 pub trait Disk {
-    /// How many bytes a block has.
+    /// The number of bytes of a block.
     ghost block_len: { Self → ℕ };
 
-    /// How many bytes there are.
+    /// The number of bytes of the device.
     ghost size: { Self → ℕ };
 
-    /// It holds these bytes, block after block.
+    /// The device holds these bytes, block after block.
     ghost holds: { Self → List ℕ → Type 0 };
 
-    /// It does not fail, unless memory is refused. It may stop.
+    /// The device doesn't fail, unless memory runs out. It may stop.
     ghost is_sound: { Self → Type 0 };
 
-    /// It has failed, for good: it acknowledges nothing.
+    /// The device has failed, for good: it acknowledges nothing.
     ghost failed: { Self → Type 0 };
 
-    /// A call that found the first and left the second met what stops the device.
+    /// A call that began at the first state and ended at the second has met what stops the device.
     ghost stops: { Self → Self → Type 0 };
 
-    /// Whether it has failed.
+    /// Returns whether the device has failed.
     fn has_failed(&self) -> bool
         ensures value { IsTrue result ↔ failed self.now }
         ensures sound { is_sound self.now → failed self.now → ⊥ };
@@ -42,7 +42,7 @@ pub trait Disk {
         ensures bound { size self.now < 2 ^ 63 }
         ensures held { (bytes : List ℕ) → holds self.now bytes → length bytes ≡ size self.now };
 
-    /// The bytes of a block.
+    /// Reads a block.
     fn read(&mut self, alloc: Global, block: u64) -> Result<Vec<u8>, DiskFault>
         requires { block_len self.old * block + block_len self.old ≤ size self.old }
         ensures len { IfOk result (λ v. length v.items ≡ block_len self.old) }
@@ -57,7 +57,7 @@ pub trait Disk {
         ensures lasting { failed self.old → failed self.new }
         ensures shape { (block_len self.new ≡ block_len self.old) × (size self.new ≡ size self.old) };
 
-    /// Replaces a block. After an `Err` it is as before, or replaced.
+    /// Replaces a block. After an `Err` the block is as before, or replaced.
     fn write(&mut self, alloc: Global, block: u64, payload: &[u8]) -> Result<(), DiskFault>
         requires within { block_len self.old * block + block_len self.old ≤ size self.old }
         requires whole { length payload.now ≡ block_len self.old }
@@ -73,8 +73,8 @@ pub trait Disk {
         ensures lasting { failed self.old → failed self.new }
         ensures shape { (block_len self.new ≡ block_len self.old) × (size self.new ≡ size self.old) };
 
-    /// Lets a block's bytes go: they are zeroes from then on. After an `Err` they are, or are as
-    /// before.
+    /// Discards a block: its bytes are zeroes from then on. After an `Err` the block is as before,
+    /// or discarded.
     fn discard(&mut self, alloc: Global, block: u64) -> Result<(), DiskFault>
         requires { block_len self.old * block + block_len self.old ≤ size self.old }
         ensures ok { OnOk result ((bytes : List ℕ) → holds self.old bytes

@@ -1,4 +1,4 @@
-//! What can go wrong: at the device, with a request, with a connection.
+//! The faults of a device, of a request and of a connection.
 
 ghost use Rattle.std.specs.Prelude.{◌≡◌};
 
@@ -6,14 +6,14 @@ use oram_wire::{FrameFault, WriteFault};
 use std::alloc::AllocError;
 use thiserror::Error;
 
-/// Why a device didn't do what it was told.
+/// Why a device didn't carry out a call.
 #[derive(Clone, Copy, Debug, PartialEq, Eq)]
 pub enum DiskFault {
     /// The device failed.
     Failed,
-    /// Memory was refused.
+    /// There was not enough memory.
     OutOfMemory,
-    /// The device can't go on: the connection ends, and the command that was at work is done, or isn't.
+    /// The device can't go on. The connection ends, and the command in progress is done, or isn't.
     Stopped,
 }
 
@@ -32,7 +32,7 @@ impl From<AllocError> for DiskFault {
 pub enum NbdError {
     /// The device failed.
     Io,
-    /// Memory was refused.
+    /// There was not enough memory.
     NoMemory,
     /// The request is malformed, or lies outside the device.
     Invalid,
@@ -43,7 +43,7 @@ pub enum NbdError {
 impl NbdError {
     ghost use Rattle.oram_nbd.specs.Errors.{error_number};
 
-    /// The protocol's number.
+    /// Returns the protocol's number of the error.
     pub fn number(self) -> u32
         ensures { result ≡ error_number self }
     {

@@ -1,4 +1,4 @@
-//! What a server tells of its export, option by option.
+//! The answers of a server to the options of a handshake.
 
 ghost use Rattle.std.specs.Prelude.{◌≡◌, ◌<◌, ◌≤◌, ◌^◌, ◌++◌, List, [], length, IfOk, OnOk, IsTrue, ◌↔◌, MatchOption};
 ghost use Rattle.oram_nbd.specs.Handshake.{block_text, described, export_text, list_text, name_text, refused, size_text, Answers, Describes, IsNamed};
@@ -11,19 +11,19 @@ use std::alloc::{AllocError, Global};
 
 const REPLY_MAGIC: u64 = 0x0003_E889_0455_65A9;
 
-/// What is told of an export: it has flags, and serves FLUSH, FUA, TRIM and WRITE_ZEROES.
+/// The flags of an export: it has flags, and serves FLUSH, FUA, TRIM and WRITE_ZEROES.
 const EXPORT_FLAGS: u16 = 1 | 4 | 8 | 32 | 64;
 
-/// What a handshake comes to.
+/// How a handshake ends.
 #[derive(Clone, Copy, Debug, PartialEq, Eq)]
 pub enum Agreement {
     /// Requests follow.
     Transmission,
-    /// The client went.
+    /// The client has left.
     Gone,
 }
 
-/// The answer to an option, and what the handshake comes to by it; without that it goes on.
+/// The answer to an option, and how it ends the handshake. Without `ends` the handshake goes on.
 #[derive(Debug, Drop)]
 pub(crate) struct Answer {
     pub(crate) text: Vec<u8>,
@@ -49,17 +49,18 @@ impl Answer {
     }
 }
 
-/// What is told of an export.
+/// What a server says about an export.
 #[derive(Clone, Copy, Debug)]
 pub struct Export<'a> {
     pub name: &'a [u8],
-    /// How many bytes it has.
+    /// The size of the export, in bytes.
     pub size: u64,
-    /// How many bytes a request has at best: a power of two from 512 to 32 MiB, or else some clients go.
+    /// The preferred number of bytes of a request: a power of two from 512 to 32 MiB, because some clients leave at any
+    /// other number.
     pub preferred: u32,
 }
 
-/// The head of a reply to an option, whose body has so many bytes.
+/// Returns the head of a reply to an option, whose body has `length` bytes.
 fn reply_head(option: HandshakeOption, kind: ReplyKind, length: u32) -> [u8; 20]
     ensures { result ≡ option_reply_head option kind length }
 {
@@ -71,7 +72,7 @@ fn reply_head(option: HandshakeOption, kind: ReplyKind, length: u32) -> [u8; 20]
     head
 }
 
-/// Adds a reply to an option.
+/// Appends a reply to an option.
 fn push_reply(
     text: &mut Vec<u8>,
     option: HandshakeOption,
@@ -87,7 +88,7 @@ fn push_reply(
     Ok(())
 }
 
-/// A reply that says no more than its kind.
+/// Returns a reply without a body.
 pub(crate) fn bare_reply(
     alloc: Global,
     option: HandshakeOption,
@@ -101,14 +102,14 @@ pub(crate) fn bare_reply(
 }
 
 impl Export<'_> {
-    /// An empty name is that of the one export.
+    /// Returns whether a name asks for the export. The empty name does, because there is only one.
     fn is_named(&self, name: &[u8]) -> bool
         ensures { IsTrue result ↔ IsNamed self.now.name.now name.now }
     {
         name.is_empty() || name == self.name
     }
 
-    /// The answer to EXPORT_NAME.
+    /// Returns the answer to EXPORT_NAME.
     fn told(&self, alloc: Global, zeroes: bool) -> Result<Vec<u8>, AllocError>
         ensures { IfOk result (λ v. v.items ≡ export_text self.now.size zeroes) }
     {
@@ -121,7 +122,7 @@ impl Export<'_> {
         Ok(text)
     }
 
-    /// The size and the flags, as INFO and GO tell them.
+    /// Returns the size and the flags, in the form that INFO and GO report.
     fn size_info(&self, alloc: Global) -> Result<Vec<u8>, AllocError>
         ensures { IfOk result (λ v. v.items ≡ size_text self.now.size) }
     {
@@ -132,7 +133,7 @@ impl Export<'_> {
         Ok(text)
     }
 
-    /// The least, the best and the greatest length of a request.
+    /// Returns the least, the preferred and the greatest length of a request.
     fn block_info(&self, alloc: Global) -> Result<Vec<u8>, AllocError>
         ensures { IfOk result (λ v. v.items ≡ block_text self.now.preferred) }
     {
@@ -143,7 +144,7 @@ impl Export<'_> {
         Ok(text)
     }
 
-    /// The name, behind its length.
+    /// Returns the name, after its length.
     fn listed(&self, alloc: Global) -> Result<Vec<u8>, AllocError>
         requires { length self.now.name.now ≤ 4096 }
         ensures { IfOk result (λ v. v.items ≡ name_text self.now.name.now) }
@@ -155,7 +156,7 @@ impl Export<'_> {
         Ok(text)
     }
 
-    /// The answer to LIST.
+    /// Returns the answer to LIST.
     fn list(&self, alloc: Global, content: &[u8]) -> Result<Vec<u8>, AllocError>
         requires { length self.now.name.now ≤ 4096 }
         ensures { IfOk result (λ v. v.items ≡ list_text self.now.name.now content.now) }
@@ -170,7 +171,7 @@ impl Export<'_> {
         Ok(text)
     }
 
-    /// All that INFO and GO tell of the export.
+    /// Returns everything that INFO and GO report about the export.
     fn described(&self, alloc: Global, option: HandshakeOption) -> Result<Vec<u8>, AllocError>
         ensures { IfOk result (λ v. v.items ≡ described self.now.size self.now.preferred option) }
     {
@@ -183,7 +184,7 @@ impl Export<'_> {
         Ok(text)
     }
 
-    /// The answer to INFO or GO, and whether they ask for this export.
+    /// Returns the answer to INFO or GO, and whether they ask for this export.
     fn describe(
         &self,
         alloc: Global,
@@ -204,7 +205,7 @@ impl Export<'_> {
         Ok((text, true))
     }
 
-    /// The answer to an option, or none to an EXPORT_NAME that asks for another export.
+    /// Returns the answer to an option, or `None` for an EXPORT_NAME that asks for another export.
     pub(crate) fn answer(
         &self,
         alloc: Global,

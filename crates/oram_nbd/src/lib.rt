@@ -1,10 +1,10 @@
 //! The NBD protocol over a device of whole blocks: its handshake, its requests and replies, and the service of one connection.
 //!
-//! The protocol is the public one (NetworkBlockDevice/nbd, doc/proto.md): the fixed newstyle handshake, simple replies, and the
-//! commands READ, WRITE, FLUSH, TRIM, WRITE_ZEROES and DISC. A [`Disk`] is what is served: an array of bytes that is read and
-//! written by whole blocks. [`read_range`], [`write_range`] and [`zero_range`] carry out a byte range on it.
-//! [`negotiate`] is the handshake, [`transmit`] the requests behind it, and [`serve`] a whole connection; [`is_stop`] says whether
-//! that left a disk which goes on no more.
+//! The protocol is the public one (NetworkBlockDevice/nbd, doc/proto.md): the fixed newstyle handshake, simple replies,
+//! and the commands READ, WRITE, FLUSH, TRIM, WRITE_ZEROES and DISC. The server serves a [`Disk`]: an array of bytes
+//! that is read and written by whole blocks. [`read_range`], [`write_range`] and [`zero_range`] carry out a byte range
+//! on it. [`negotiate`] does the handshake, [`transmit`] answers the requests after it, and [`serve`] serves a whole
+//! connection. [`is_stop`] says whether a connection ended because its disk has stopped.
 #![tactic(auto)]
 
 mod connecting;
@@ -34,13 +34,13 @@ pub use replies::SimpleReply;
 pub use requests::{Command, Request};
 pub use transmitting::transmit;
 
-/// The most bytes that one READ or WRITE may have.
+/// The greatest number of bytes of one READ or WRITE.
 pub const LONGEST_PAYLOAD: u32 = 33_554_432;
 
-/// The most bytes that an option of the handshake may carry: what is longer is refused.
+/// The greatest number of bytes that an option of the handshake may carry. A longer option is refused.
 pub const LONGEST_OPTION: u32 = 65_536;
 
-/// How many options a handshake may take.
+/// The greatest number of options of a handshake.
 pub const MOST_OPTIONS: u32 = 1_000;
 
 /// The longest name of an export, in bytes.

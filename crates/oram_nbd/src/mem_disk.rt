@@ -28,7 +28,7 @@ impl Model for MemDisk {
 impl MemDisk {
     ghost use Rattle.oram_nbd.specs.Bytes.{zeroes};
 
-    /// A device of so many blocks of zeroes, each of so many bytes.
+    /// Returns a device of `blocks` blocks of zeroes, each of `block_bytes` bytes.
     pub fn new(alloc: Global, block_bytes: u32, blocks: u64) -> Result<MemDisk, AllocError>
         requires some { 0 < block_bytes }
         requires bound { block_bytes * blocks < 2 ^ 63 }

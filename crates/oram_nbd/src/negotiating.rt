@@ -19,17 +19,17 @@ use oram_wire::{fill, read_body};
 use std::alloc::Global;
 use std::io::{Read, Write};
 
-/// The letters that a server begins with, those before its options and the client's, and its flags: the fixed newstyle, and that
-/// it knows of clients that want no zeroes.
+/// The greeting of a server: its letters, the letters that options begin with, and its flags. The flags say that it
+/// speaks the fixed newstyle, and that it supports clients that want no zeroes.
 const GREETING: [u8; 18] = *b"NBDMAGICIHAVEOPT\0\x03";
 
-/// The flags of a client of the fixed newstyle: zeroes are to follow the answer to EXPORT_NAME.
+/// The flags of a client of the fixed newstyle that wants zeroes after the answer to EXPORT_NAME.
 const FIXED_NEWSTYLE: u32 = 1;
 
-/// The flags of a client of the fixed newstyle: no zeroes are to follow it.
+/// The flags of a client of the fixed newstyle that wants no zeroes there.
 const FIXED_NEWSTYLE_NO_ZEROES: u32 = 3;
 
-/// Greets a client, and reads whether zeroes are to follow the answer to EXPORT_NAME.
+/// Greets a client, and returns whether zeroes have to follow the answer to EXPORT_NAME.
 fn greet<R: Read, W: Write>(reader: &mut R, writer: &mut W) -> Result<bool, NbdFault>
     ensures ok { IfOk result (λ zeroes. (flags : ℕ) × IsFixed flags zeroes
         × Consumes (R.remaining reader.old) (R.remaining reader.new) (to_be_bytes w32 flags)
@@ -49,7 +49,7 @@ fn greet<R: Read, W: Write>(reader: &mut R, writer: &mut W) -> Result<bool, NbdF
     }
 }
 
-/// The head of the next option, or none at the end of the input.
+/// Reads the head of the next option. Returns `None` at the end of the input.
 fn next_option<R: Read>(reader: &mut R) -> Result<Option<OptionHead>, NbdFault>
     ensures ok { IfOk result (λ next. MatchOption next
         (GivesEnd (R.remaining reader.old) (R.remaining reader.new))
@@ -66,7 +66,7 @@ fn next_option<R: Read>(reader: &mut R) -> Result<Option<OptionHead>, NbdFault>
     }
 }
 
-/// Reads what an option carries, and answers it. It tells what the handshake comes to, if it doesn't go on.
+/// Reads what an option carries, and answers it. Returns how the handshake ends, if it doesn't go on.
 fn take_option<R: Read, W: Write>(
     alloc: Global,
     reader: &mut R,
@@ -100,8 +100,8 @@ fn take_option<R: Read, W: Write>(
 
 /// Agrees with a client on the export.
 ///
-/// An option that carries more than `LONGEST_OPTION` bytes is refused, and its bytes are passed over. A client that takes
-/// `MOST_OPTIONS` options without an end is let go.
+/// It refuses an option that carries more than `LONGEST_OPTION` bytes, and skips these bytes. It fails with
+/// `TooManyOptions` after `MOST_OPTIONS` options that don't end the handshake.
 pub fn negotiate<R: Read, W: Write>(
     alloc: Global,
     reader: &mut R,

@@ -3,7 +3,7 @@
 ghost use Rattle.std.specs.Prelude.{◌≡◌, ◌++◌, ◌<◌, length, IfSome, IfNone};
 ghost use Rattle.std.specs.Int.{w16, w32, w64, to_be_bytes};
 
-/// The number in the first two bytes, and what follows them.
+/// Returns the number in the first two bytes, and the bytes after them.
 pub(crate) fn front_u16(bytes: &[u8]) -> Option<(u16, &[u8])>
     ensures found { IfSome result (λ p. bytes.now ≡ to_be_bytes w16 p.0 ++ p.1.now) }
     ensures none { IfNone result (length bytes.now < 2) }
@@ -14,7 +14,7 @@ pub(crate) fn front_u16(bytes: &[u8]) -> Option<(u16, &[u8])>
     Some((u16::from_be_bytes([*a, *b]), rest))
 }
 
-/// The number in the first four bytes, and what follows them.
+/// Returns the number in the first four bytes, and the bytes after them.
 pub(crate) fn front_u32(bytes: &[u8]) -> Option<(u32, &[u8])>
     ensures found { IfSome result (λ p. bytes.now ≡ to_be_bytes w32 p.0 ++ p.1.now) }
     ensures none { IfNone result (length bytes.now < 4) }
@@ -25,7 +25,7 @@ pub(crate) fn front_u32(bytes: &[u8]) -> Option<(u32, &[u8])>
     Some((u32::from_be_bytes([*a, *b, *c, *d]), rest))
 }
 
-/// The number in the first eight bytes, and what follows them.
+/// Returns the number in the first eight bytes, and the bytes after them.
 pub(crate) fn front_u64(bytes: &[u8]) -> Option<(u64, &[u8])>
     ensures found { IfSome result (λ p. bytes.now ≡ to_be_bytes w64 p.0 ++ p.1.now) }
     ensures none { IfNone result (length bytes.now < 8) }
@@ -36,7 +36,7 @@ pub(crate) fn front_u64(bytes: &[u8]) -> Option<(u64, &[u8])>
     Some((u64::from_be_bytes([*a, *b, *c, *d, *e, *f, *g, *h]), rest))
 }
 
-/// The number that four bytes spell.
+/// Returns the number that four bytes spell.
 pub(crate) fn number_u32(bytes: [u8; 4]) -> u32
     ensures { to_be_bytes w32 result ≡ bytes }
 {

@@ -8,7 +8,7 @@ use std::alloc::{AllocError, Global};
 
 const MAGIC: u64 = 0x4948_4156_454F_5054;
 
-/// What a client asks in the handshake.
+/// An option that a client sends in the handshake.
 #[derive(Clone, Copy, Debug, PartialEq, Eq)]
 pub enum HandshakeOption {
     ExportName,
@@ -21,7 +21,7 @@ pub enum HandshakeOption {
 }
 
 impl HandshakeOption {
-    /// The option of a number.
+    /// Returns the option with the number `code`.
     pub fn of(code: u32) -> HandshakeOption
         ensures code { option_code result ≡ code }
         ensures known { IsOption result }
@@ -36,7 +36,7 @@ impl HandshakeOption {
         }
     }
 
-    /// The number of the option.
+    /// Returns the number of the option.
     pub fn code(self) -> u32
         ensures { result ≡ option_code self }
     {
@@ -51,7 +51,7 @@ impl HandshakeOption {
     }
 }
 
-/// The head of an option: which it is, and how many bytes it carries.
+/// The head of an option: which option it is, and how many bytes it carries.
 #[derive(Clone, Copy, Debug, PartialEq, Eq)]
 pub struct OptionHead {
     pub option: HandshakeOption,
@@ -59,13 +59,13 @@ pub struct OptionHead {
 }
 
 impl OptionHead {
-    /// How many bytes a head takes.
+    /// The number of bytes of a head.
     pub const BYTES: usize = 16;
 
-    /// The head that the bytes spell.
+    /// Reads a head. Returns `None` if the bytes aren't one.
     pub fn decode(bytes: &[u8]) -> Option<OptionHead>
         ensures found { IfSome result (λ h. IsHead h × (bytes.now ≡ option_head h.option h.length)) }
-        // What is spelled so is read.
+        // The bytes of a head are always read as that head.
         ensures only { (h : OptionHead) → IsHead h → bytes.now ≡ option_head h.option h.length → result ≡ Some h }
     {
         let (magic, rest) = front_u64(bytes)?;
@@ -80,7 +80,7 @@ impl OptionHead {
         })
     }
 
-    /// The bytes that spell the head.
+    /// Returns the bytes of the head.
     pub fn encode(&self, alloc: Global) -> Result<Vec<u8>, AllocError>
         ensures { IfOk result (λ v. v.items ≡ option_head self.now.option self.now.length) }
     {
@@ -92,7 +92,7 @@ impl OptionHead {
     }
 }
 
-/// Of which kind a reply to an option is.
+/// The kind of a reply to an option.
 #[derive(Clone, Copy, Debug, PartialEq, Eq)]
 pub enum ReplyKind {
     Ack,
@@ -105,7 +105,7 @@ pub enum ReplyKind {
 }
 
 impl ReplyKind {
-    /// The protocol's number.
+    /// Returns the protocol's number of the kind.
     pub fn code(self) -> u32
         ensures { result ≡ kind_code self }
     {
@@ -121,8 +121,9 @@ impl ReplyKind {
     }
 }
 
-/// The name that an INFO or a GO asks for: its length in four bytes, the name, and a count of two bytes with two more for each
-/// thing that is asked of it.
+/// Returns the name that an INFO or a GO asks for. Their content is the length of the name in four bytes, the name, a
+/// count in two bytes, and two more bytes for each piece of information that they request. Returns `None` if the
+/// content is malformed.
 pub fn wanted_name(content: &[u8]) -> Option<&[u8]>
     ensures found { IfSome result (λ name. Wants content.now name.now) }
     ensures none { IfNone result (IsMalformed content.now) }

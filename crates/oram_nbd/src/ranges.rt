@@ -1,4 +1,4 @@
-//! Byte ranges as calls of whole blocks.
+//! Carries out byte ranges by calls of whole blocks.
 
 ghost use Rattle.std.specs.Prelude.{◌≡◌, ◌⊎◌, ℕ, List, ◌+◌, ◌-◌, ◌*◌, ◌<◌, ◌≤◌, ◌++◌, length, take, IfOk, OnOk, OnErr, IsErrOf};
 ghost use Rattle.oram_nbd.specs.Bytes.{bytes_at, written, zeroes, IsBegun};
@@ -36,7 +36,8 @@ impl Part {
     }
 }
 
-/// Adds the bytes from a place on, as far as its block goes, and tells how many.
+/// Reads at most `most` bytes from a place on, as far as its block goes. Appends them to `out`, and returns their
+/// number.
 fn read_part<D: Disk>(
     alloc: Global,
     disk: &mut D,
@@ -65,7 +66,7 @@ fn read_part<D: Disk>(
     Ok(part.count as u64)
 }
 
-/// The bytes of a range. The device holds what it held.
+/// Reads the bytes of a range. The device holds what it held.
 pub fn read_range<D: Disk>(
     alloc: Global,
     disk: &mut D,
@@ -93,7 +94,7 @@ pub fn read_range<D: Disk>(
     Ok(out)
 }
 
-/// A block with other bytes from a place in it on.
+/// Returns a block after `payload` is written into it from `start` on.
 fn spliced(alloc: Global, block: &[u8], start: usize, payload: &[u8]) -> Result<Vec<u8>, AllocError>
     requires { start + length payload.now ≤ length block.now }
     ensures { IfOk result (λ v. v.items ≡ written block.now start payload.now) }
@@ -105,7 +106,7 @@ fn spliced(alloc: Global, block: &[u8], start: usize, payload: &[u8]) -> Result<
     Ok(whole)
 }
 
-/// Writes bytes that lie in one block. A block that is written in part is read first.
+/// Writes bytes that lie in one block. If they are only part of the block, it reads the block first.
 fn write_in_block<D: Disk>(
     alloc: Global,
     disk: &mut D,
@@ -135,7 +136,7 @@ fn write_in_block<D: Disk>(
     disk.write(alloc, block, &whole)
 }
 
-/// Writes the bytes at the front of the payload that lie in the block of a place, and tells how many.
+/// Writes those bytes at the front of the payload that lie in the block of a place, and returns their number.
 fn write_part<D: Disk>(
     alloc: Global,
     disk: &mut D,
@@ -170,7 +171,7 @@ pub fn write_range<D: Disk>(
 ) -> Result<(), DiskFault>
     requires { offset + length payload.now ≤ D.size disk.old }
     ensures ok { OnOk result ((bytes : List ℕ) → D.holds disk.old bytes → D.holds disk.new (written bytes offset payload.now)) }
-    // As far as it came.
+    // On an error, a beginning of the payload may be written.
     ensures err { OnErr result (Leads (D.holds disk.old) (λ old new. IsBegun old offset payload.now new) (D.holds disk.new)) }
     ensures sound { IsErrOf result DiskFault.Failed → D.is_sound disk.old → ⊥ }
     ensures failing { IsErrOf result DiskFault.Failed → D.failed disk.new }
@@ -187,8 +188,8 @@ pub fn write_range<D: Disk>(
     Ok(())
 }
 
-/// Makes the bytes from a place on zeroes, as far as its block goes, and tells how many. A whole
-/// block is discarded.
+/// Makes at most `most` bytes from a place on zeroes, as far as its block goes, and returns their number. If these are
+/// a whole block, it discards that.
 fn zero_part<D: Disk>(alloc: Global, disk: &mut D, at: u64, most: u64) -> Result<u64, DiskFault>
     requires within { at + most ≤ D.size disk.old }
     requires some { 0 < most }
@@ -215,7 +216,7 @@ fn zero_part<D: Disk>(alloc: Global, disk: &mut D, at: u64, most: u64) -> Result
     Ok(part.count as u64)
 }
 
-/// Makes a range zeroes.
+/// Makes the bytes of a range zeroes.
 pub fn zero_range<D: Disk>(
     alloc: Global,
     disk: &mut D,

@@ -9,7 +9,7 @@ use oram_bytes::Bytes;
 
 const MAGIC: u32 = 0x6744_6698;
 
-/// A reply: that the request was carried out, with the bytes of a read, or an error.
+/// A reply: the request was carried out, with the bytes of a read, or it was refused with an error.
 #[derive(Debug, Drop, PartialEq, Eq)]
 pub enum SimpleReply {
     Done(Bytes),
@@ -17,10 +17,10 @@ pub enum SimpleReply {
 }
 
 impl SimpleReply {
-    /// How many bytes a reply has before those of a read.
+    /// The number of bytes of a reply before those of a read.
     pub const HEAD: usize = 16;
 
-    /// The head of the reply to the request of this cookie.
+    /// Returns the head of the reply to the request with this cookie.
     pub fn head(&self, cookie: u64) -> [u8; SimpleReply::HEAD]
         ensures { result ≡ reply_head cookie self.now }
     {
@@ -35,7 +35,7 @@ impl SimpleReply {
         head
     }
 
-    /// The bytes of a read, which stand behind the head.
+    /// Returns the bytes of a read, which come after the head.
     pub fn bytes(&self) -> &[u8]
         ensures { result.now ≡ reply_bytes self.now }
     {

@@ -8,7 +8,7 @@ use std::alloc::{AllocError, Global};
 
 const MAGIC: u32 = 0x2560_9513;
 
-/// What a client wants done.
+/// The command of a request.
 #[derive(Clone, Copy, Debug, PartialEq, Eq)]
 pub enum Command {
     Read,
@@ -22,7 +22,7 @@ pub enum Command {
 }
 
 impl Command {
-    /// The command of a number.
+    /// Returns the command with the number `code`.
     pub fn of(code: u16) -> Command
         ensures code { command_code result ≡ code }
         ensures told { IsTold result }
@@ -38,7 +38,7 @@ impl Command {
         }
     }
 
-    /// The number of the command.
+    /// Returns the number of the command.
     pub fn code(self) -> u16
         ensures { result ≡ command_code self }
     {
@@ -59,26 +59,26 @@ impl Command {
 pub struct Request {
     pub command: Command,
     pub flags: u16,
-    /// The client's name for the request, which its reply has too.
+    /// The client's name for the request, which the reply repeats.
     pub cookie: u64,
     pub offset: u64,
     pub length: u32,
 }
 
 impl Request {
-    /// How many bytes a request takes.
+    /// The number of bytes of a request.
     pub const BYTES: usize = 28;
 
-    /// Flag: the reply comes once the write lasts.
+    /// Flag: the reply comes only once the write is durable.
     pub const FUA: u16 = 1;
 
-    /// Flag: zeroes are to be written, and not discarded.
+    /// Flag: zeroes have to be written, not discarded.
     pub const NO_HOLE: u16 = 2;
 
-    /// The request that the bytes spell.
+    /// Reads a request. Returns `None` if the bytes aren't one.
     pub fn decode(bytes: &[u8]) -> Option<Request>
         ensures found { IfSome result (λ r. IsRequest r × (bytes.now ≡ request_text r)) }
-        // What is spelled so is read.
+        // The bytes of a request are always read as that request.
         ensures only { (r : Request) → IsRequest r → bytes.now ≡ request_text r → result ≡ Some r }
     {
         let (magic, rest) = front_u32(bytes)?;
@@ -99,7 +99,7 @@ impl Request {
         })
     }
 
-    /// How many bytes follow the request.
+    /// Returns the number of bytes that follow the request.
     pub fn payload_len(&self) -> u32
         ensures { result ≡ payload_len self.now.command self.now.length }
     {
@@ -109,7 +109,7 @@ impl Request {
         }
     }
 
-    /// The bytes that spell the request.
+    /// Returns the bytes of the request.
     pub fn encode(&self, alloc: Global) -> Result<Vec<u8>, AllocError>
         ensures { IfOk result (λ v. v.items ≡ request_text self.now) }
     {

@@ -14,8 +14,8 @@ use crate::requests::{Command, Request};
 use oram_bytes::Bytes;
 use std::alloc::Global;
 
-/// Why a request is refused before a device of so many bytes is asked. The flags that are known are
-/// the lowest ones.
+/// Returns why a request is refused before a device of `size` bytes is asked, if it is. The known flags are the lowest
+/// bits, so a greater number has an unknown flag.
 fn refusal(request: &Request, size: u64) -> Option<NbdError>
     ensures { result ≡ refusal_of size request.now }
 {
@@ -38,14 +38,14 @@ fn refusal(request: &Request, size: u64) -> Option<NbdError>
     }
 }
 
-/// Tells whether a range lies within so many bytes.
+/// Returns whether a range lies within `size` bytes.
 fn is_within(size: u64, offset: u64, count: u32) -> bool
     ensures { result ≡ nat_le (offset + count) size }
 {
     offset <= size && u64::from(count) <= size - offset
 }
 
-/// Carries a request out, and gives the bytes of its reply.
+/// Carries out a request, and returns the bytes of its reply.
 fn carry_out<D: Disk>(
     alloc: Global,
     disk: &mut D,
@@ -81,13 +81,13 @@ fn carry_out<D: Disk>(
             zero_range(alloc, disk, offset, u64::from(length))?;
             Ok(none)
         }
-        // The protocol allows that a trim lets nothing go, and no access is also what tells the host least.
+        // The protocol allows a trim that discards nothing, and making no access also tells the host least.
         Command::Trim | Command::Flush | Command::Disconnect | Command::Other(_) => Ok(none),
     }
 }
 
-/// The reply to a request, or none where the device has stopped. A device that has failed acknowledges nothing. The bytes that it writes are
-/// missing where there was no memory for them, or where they are too many.
+/// Returns the reply to a request, or `None` if the device has stopped. A device that has failed acknowledges nothing.
+/// `payload` is `None` if there was no memory for the bytes of a write, or if they are too many.
 pub(crate) fn answer<D: Disk>(
     alloc: Global,
     disk: &mut D,

@@ -1,4 +1,4 @@
-//! Heads of messages from a reader, and whole messages to a writer.
+//! Reads heads of messages, and writes whole messages.
 
 ghost use Rattle.std.specs.Prelude.{◌≡◌, ◌<◌, ◌++◌, length, IfOk, IfErr, OnOk};
 ghost use Rattle.std.specs.Bool.{MatchBool};
@@ -10,7 +10,7 @@ use crate::faults::NbdFault;
 use oram_wire::{fill, write};
 use std::io::{Read, Write};
 
-/// Fills a head, or tells that the input ends before it.
+/// Fills a head. Returns `false` if the input ends before it.
 pub(crate) fn next_head<R: Read>(reader: &mut R, head: &mut [u8]) -> Result<bool, NbdFault>
     requires { 0 < length head.old }
     ensures ok { IfOk result (λ found. MatchBool found
@@ -28,7 +28,7 @@ pub(crate) fn next_head<R: Read>(reader: &mut R, head: &mut [u8]) -> Result<bool
     Ok(true)
 }
 
-/// Passes over so many bytes.
+/// Skips `count` bytes.
 pub(crate) fn skip<R: Read>(reader: &mut R, count: u64) -> Result<(), NbdFault>
     ensures ok { OnOk result (IsSkip (R.remaining reader.old) (R.remaining reader.new) count) }
     ensures err { IfErr result (λ fault. ComesShort 0 count fault (R.remaining reader.old) (R.remaining reader.new)) }
@@ -46,7 +46,7 @@ pub(crate) fn skip<R: Read>(reader: &mut R, count: u64) -> Result<(), NbdFault>
     Ok(())
 }
 
-/// Writes a message in two pieces, and lets nothing of it wait in a buffer.
+/// Writes a message in two pieces, and flushes the writer.
 pub(crate) fn send<W: Write>(writer: &mut W, head: &[u8], rest: &[u8]) -> Result<(), NbdFault>
     ensures ok { OnOk result (Appends (W.contents writer.old) (W.contents writer.new) (head.now ++ rest.now)) }
     ensures err { IfErr result (λ fault. (fault ≡ NbdFault.Write)

@@ -1,4 +1,4 @@
-//! Requests from a reader, replies to a writer, and a device in between.
+//! Reads requests, has a device carry them out, and writes replies.
 
 ghost use Rattle.std.specs.Prelude.{◌≡◌, ℕ, List, length, IfOk, IfErr, OnOk, IfSome, MatchOption};
 ghost use Rattle.std.specs.Io.KnownBytes.{Appends, Consumes};
@@ -19,7 +19,7 @@ use oram_wire::{FrameFault, read_body};
 use std::alloc::Global;
 use std::io::{Read, Write};
 
-/// The next request, without the bytes that it writes, or none at the end of the input.
+/// Reads the next request, without the bytes of a write. Returns `None` at the end of the input.
 fn next_request<R: Read>(reader: &mut R) -> Result<Option<Request>, NbdFault>
     ensures ok { IfOk result (λ next. MatchOption next
         (GivesEnd (R.remaining reader.old) (R.remaining reader.new))
@@ -36,7 +36,7 @@ fn next_request<R: Read>(reader: &mut R) -> Result<Option<Request>, NbdFault>
     }
 }
 
-/// Passes over so many bytes, and holds none of them.
+/// Skips `count` bytes, and keeps none of them.
 fn pass_over<R: Read>(reader: &mut R, count: u32) -> Result<Option<Vec<u8>>, NbdFault>
     ensures ok { IfOk result (λ payload. (bytes : List ℕ) × (length bytes ≡ count)
         × Consumes (R.remaining reader.old) (R.remaining reader.new) bytes × IfSome payload (λ p. p.items ≡ bytes)) }
@@ -46,7 +46,7 @@ fn pass_over<R: Read>(reader: &mut R, count: u32) -> Result<Option<Vec<u8>>, Nbd
     Ok(None)
 }
 
-/// The bytes that a request writes, or none where they are too many or there is no memory for them: then they are passed over.
+/// Reads the bytes of a write. If they are too many, or there is no memory for them, it skips them and returns `None`.
 fn read_payload<R: Read>(
     alloc: Global,
     reader: &mut R,
@@ -66,7 +66,7 @@ fn read_payload<R: Read>(
     }
 }
 
-/// Writes a reply to the request of this cookie.
+/// Writes a reply to the request with this cookie.
 fn put_reply<W: Write>(writer: &mut W, cookie: u64, reply: &SimpleReply) -> Result<(), NbdFault>
     ensures ok { OnOk result (Appends (W.contents writer.old) (W.contents writer.new) (reply_text cookie reply.now)) }
     ensures err { IfErr result (λ fault. (fault ≡ NbdFault.Write)
@@ -76,12 +76,13 @@ fn put_reply<W: Write>(writer: &mut W, cookie: u64, reply: &SimpleReply) -> Resu
     send(writer, &head, reply.bytes())
 }
 
-/// Answers each request in turn, until the client goes, and tells how many there were.
+/// Answers each request in turn, until the client leaves, and returns their number.
 ///
-/// A reply is written and flushed before the next request is read, so a client that reads none holds back its own requests
-/// once the buffers between the two are full. A reader with a buffer, as a `BufReader`, takes requests ahead of their replies.
-/// No want of memory ends it: a request without memory is refused with `NoMemory`, and the bytes that it writes are passed over.
-/// A device that stops ends it, and the request that it stopped at has no reply.
+/// A reply is written and flushed before the next request is read. So a client that reads no replies holds back its own
+/// requests, once the buffers between the two are full. A reader with a buffer, such as a `BufReader`, reads requests
+/// ahead of their replies. Running out of memory doesn't end the service: the request is refused with `NoMemory`, and
+/// the bytes of its write are skipped. A device that stops ends the service, and the request at which it stopped gets
+/// no reply.
 pub fn transmit<R: Read, W: Write, D: Disk>(
     alloc: Global,
     reader: &mut R,

@@ -28,13 +28,13 @@ get_or-patches [] k d e h = absurd (omega arith)
 get_or-patches (x ∷ xs) zero d e h = refl
 get_or-patches (x ∷ xs) (suc k) d e h = get_or-patches xs k d e (omega arith)
 
--- what all patches have, the one at k has
+-- what holds of all patches holds of the one at k
 pub patch_has : (P : model.Patch → Type 0) (xs : List Patch) (k : ℕ) (d : Patch) → All P (patches_of xs) → k < length xs → P (patch_of (get_or xs k d))
 patch_has P xs k d all h =
     let long : length (patches_of xs) ≡ length xs = length-map xs patch_of in
     subst P (get_or-patches xs k d (0, []) h) (all k (0, []) (omega arith))
 
--- a place that a batch spares lies before or behind each of its patches
+-- a place that a batch spares lies before or after each of its patches
 pub spares_each : (xs : List Patch) (k : ℕ) (d : Patch) (i : ℕ) → k < length xs → Spares (patches_of xs) i
     → (i < (get_or xs k d).at ⊎ (get_or xs k d).at + length (get_or xs k d).bytes.now ≤ i)
 spares_each [] k d i h spared = absurd (omega arith)

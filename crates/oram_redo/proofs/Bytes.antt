@@ -1,4 +1,4 @@
--- Bytes that stand at a place of a content, and what a write puts there.
+-- The bytes at a place of a content, and what a write puts there.
 use Rattle.std.proofs.Common.{◌≡◌, ◌⊎◌, ℕ, zero, suc, ◌+◌, ◌<◌, ◌≤◌, List, [], ◌∷◌, ◌++◌, length, refl, sym, ◌∙◌, ap, subst, arith, length-append}
 use Rattle.std.proofs.lemmas.Bool.Decides.{nat_tests}
 use Rattle.oram_redo.specs.Content.{Content, bytes_at, Has, put}

@@ -19,7 +19,7 @@ use Rattle.oram_redo.proofs.Settled.{gate_written}
 pub nothing_yet : (bounds : Bounds) (loose : List Patch) (before : Contents) (batch : List Patch) (c : Contents) → Keeps bounds loose before c → AllOrNothing bounds loose before batch c
 nothing_yet bounds loose before batch c keeps = record { front = keeps.front; stands = inl keeps.stands }
 
--- what was written behind the shut gate
+-- what was written after the shut gate
 pub tail_written : (batch : List Patch) (tail body : List ℕ) (at : ℕ) (seen seen' : Contents) → entries batch ≡ 1 ∷ tail → body ≡ entries batch ++ 0 ∷ []
     → Wrote Log at (take (length body - 1) (drop 1 body)) seen seen' → Has (tail ++ 0 ∷ []) at (seen' Log)
 tail_written batch tail body at seen seen' spelled is wrote =
@@ -28,7 +28,7 @@ tail_written batch tail body at seen seen' spelled is wrote =
     let there : Has written at (seen' Log) = has_same written at (put written at (seen Log)) (seen' Log) (λ i low high. wrote.there i) (has-put written at (seen Log)) in
     subst (λ (l : List ℕ). Has l at (seen' Log)) rest there
 
--- a write behind the shut gate
+-- a write after the shut gate
 module _ (redo : Redo) (loose : List Patch) (seen : Contents) (leave : Contents → Type 0) (s : IsSettled redo loose seen leave) (at n : ℕ) (behind : end_of redo < at) where
   pub keeps_behind : (c : Contents) → Tears Log at n leave c → Keeps (bounds_of redo) loose seen c
   keeps_behind c (d, was, torn) =
@@ -69,7 +69,7 @@ module _ (redo : Redo) (loose : List Patch) (seen : Contents) (leave : Contents 
         gives = λ i spared. stands.gives i spared ∙ put_all_heals batch (seen' Records) (seen Records) i (λ any. torn.other i);
       }
 
--- The batch's entries stand behind the shut gate, all but their first gate, and a shut gate behind them.
+-- The batch's entries are after the shut gate, all but their first gate, and a shut gate is after them.
 module _ (redo : Redo) (loose : List Patch) (seen : Contents) (leave : Contents → Type 0) (s : IsSettled redo loose seen leave) (sure : IsSure Log seen leave)
     (batch : List Patch) (tail : List ℕ) (spelled : entries batch ≡ 1 ∷ tail) (whole : Has (tail ++ 0 ∷ []) (end_of redo + 1) (seen Log))
     (room : end_of redo + length (entries batch) < redo.bounds.log_end) (fits : All (Fits (bounds_of redo)) batch) where
@@ -102,7 +102,7 @@ module _ (redo : Redo) (loose : List Patch) (seen : Contents) (leave : Contents 
     each = s.log.each;
   }
 
-  -- what the patches with the batch give over what a crash leaves
+  -- what the patches and the batch give when they are put over what a crash leaves
   gives_all : (c d : Contents) → leave d → Agrees (c Records) (d Records) → (i : ℕ) → Spares loose i → put_all (s.patches ++ batch) (c Records) i ≡ put_all batch (seen Records) i
   gives_all c d was same i spared =
       ap (λ (x : Content). x i) (put_all-append s.patches batch (c Records))
@@ -132,7 +132,7 @@ module _ (redo : Redo) (loose : List Patch) (seen : Contents) (leave : Contents 
     opened : IsLog (bounds_of redo) (s.patches ++ batch) (seen' Log)
     opened = log_open (seen' Log) (λ i out. wrote.there i ∙ put_outside (1 ∷ []) end (seen Log) i out) (wrote.there end ∙ gate_written 1 end (seen Log))
 
-    -- any bytes in the places: the log heals them
+    -- the places may have any bytes: the log heals them
     healed : (c d : Contents) → leave' d → Smeared batch d c → (i : ℕ) → Spares loose i → put_all (s.patches ++ batch) (c Records) i ≡ put_all batch (seen Records) i
     healed c d was smeared i spared =
         let from = follows d was in

@@ -1,4 +1,4 @@
--- A batch that is written again over whatever a crash made of its places.
+-- A batch is written again over whatever a crash has left in its places.
 use Rattle.std.proofs.Common.{◌≡◌, ◌⊎◌, ℕ, suc, ◌+◌, ◌<◌, ◌≤◌, List, [], ◌∷◌, ◌++◌, length, refl, ◌∙◌, arith}
 use Rattle.oram_redo.specs.Content.{Content, put}
 use Rattle.oram_redo.specs.Log.{Patch, put_all, Spares}

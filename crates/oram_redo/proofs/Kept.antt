@@ -1,4 +1,4 @@
--- A pair in memory meets what is said of a pair: what a crash may leave after a write, and which moments it keeps.
+-- A pair in memory fulfils the contract of a pair: what a crash may leave after a write, and which moments it keeps.
 use Rattle.std.proofs.Common.{◌≡◌, ◌⊎◌, inl, inr, ⊎_elim, ℕ, zero, suc, ◌+◌, ◌<◌, ◌≤◌, List, [], ◌∷◌, ◌++◌, length, drop, refl, sym, ◌∙◌, ap, subst, arith, length-append}
 use Rattle.oram_redo.specs.Content.{Content}
 use Rattle.oram_redo.specs.FilePair.{Contents, Torn, Wrote, Elapses}
@@ -34,7 +34,7 @@ drop_push zero past v le = refl
 drop_push (suc t) [] v le = absurd (omega arith)
 drop_push (suc t) (p ∷ past) v le = drop_push t past v (omega arith)
 
--- a copy may be left as what it is a copy of
+-- a copy has the same contents as the original
 copy_contents : (held copy : Snapshot) → IsCopy held copy → (file : FileKind) → contents_of copy file ≡ contents_of held file
 copy_contents held copy is Records = ap (λ (l : List ℕ). λ i. byte_of l i) is.records
 copy_contents held copy is Log = ap (λ (l : List ℕ). λ i. byte_of l i) is.log
@@ -67,7 +67,7 @@ elapses_push past copy old new is = record {
 pub elapses_to : (past later : List Snapshot) (copy old new : Snapshot) → IsCopy old copy → later ≡ past ++ copy ∷ [] → Elapses (length past) (length later) (Since past old) (Since later new) (MayLeave new)
 elapses_to past later copy old new is same = subst (λ (l : List Snapshot). Elapses (length past) (length l) (Since past old) (Since l new) (MayLeave new)) (sym same) (elapses_push past copy old new is)
 
--- outside the front of the ranges, and outside the one behind it
+-- outside the first ranges, and outside the one after them
 pub outside_front : (rs : List Range) (r : Range) (file : FileKind) (i : ℕ) → IsOutside (rs ++ r ∷ []) file i → IsOutside rs file i × (r.file ≡ file → (i < r.at ⊎ r.at + r.len ≤ i))
 outside_front [] r file i out = (tt, out.0)
 outside_front (q ∷ qs) r file i out = let rest = outside_front qs r file i out.1 in ((out.0, rest.0), rest.1)

@@ -64,7 +64,7 @@ place_and_length_one a b a' b' ha hb ha' hb' e =
     sym (drop_at (place_bytes a) (length_bytes b) 8 (length-place_bytes a)) ∙ ap (λ (l : List ℕ). drop 8 l) e ∙ drop_at (place_bytes a') (length_bytes b') 8 (length-place_bytes a') in
     (place_bytes_one a a' ha ha' place, length_bytes_one b b' hb hb' len)
 
--- the parts of an entry that stands at a place
+-- the parts of an entry that is at a place
 pub entry_gate : (p : Patch) (at : ℕ) (log : Content) → Has (entry p) at log → log at ≡ 1
 entry_gate p at log has = cc
 
@@ -132,7 +132,7 @@ module _ (bounds : Bounds) where
     each = is.each;
   }
 
-  -- the log that begins anew
+  -- the log after it was emptied
   pub log_none : (log : Content) → bounds.log_start < bounds.log_end → (log bounds.log_start ≡ 1 → ⊥) → IsLog bounds [] log
   log_none log room shut = record {
     stands = refl;
@@ -141,7 +141,7 @@ module _ (bounds : Bounds) where
     each = λ k d h. absurd (omega arith);
   }
 
-  -- entries behind those that a log holds, and a shut gate behind them
+  -- more entries after those that a log holds, and a shut gate after them
   pub log_more : (ps batch : List Patch) (log other : Content) (end : ℕ) → IsLog bounds ps log → end ≡ bounds.log_start + length (entries ps) → ((i : ℕ) → i < end → other i ≡ log i)
       → Has (entries batch) end other → (other (end + length (entries batch)) ≡ 1 → ⊥) → end + length (entries batch) < bounds.log_end → All (Fits bounds) batch → IsLog bounds (ps ++ batch) other
   log_more ps batch log other end is ends same behind shut room fits =

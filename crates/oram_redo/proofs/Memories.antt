@@ -20,7 +20,7 @@ put_inside (b ∷ bs) at (suc k) c h =
     past : (b : ℕ) (bs : List ℕ) (at k : ℕ) (c : Content) → put (b ∷ bs) at c (at + suc k) ≡ put bs (suc at) c (at + suc k)
     past b bs at k c = grind (arith, nat_tests)
 
--- what stands before the written bytes: the old ones, and zeros where there were none
+-- the bytes before the written ones: the old bytes, and zeros where there were none
 abbrev pub front_of : ℕ → List ℕ → List ℕ
 front_of at old = take at old ++ replicate (at - length old) 0
 
@@ -64,7 +64,7 @@ overwritten_is old bytes at i = elim (places i) [ inl low ↦ before low | inr o
         get_or-append_right (front_of at old ++ bytes) (drop (at + length bytes) old) (at + length bytes) i 0 long high ∙ get_or-drop (at + length bytes) old (i - (at + length bytes)) 0
         ∙ ap (λ (k : ℕ). get_or old k 0) moved ∙ sym (put_outside bytes at (byte_of old) i (inr high))
 
--- the same where nothing stood behind
+-- the same if there was nothing after the written bytes
 pub overwritten_end : (old bytes : List ℕ) (at i : ℕ) → length old ≤ at + length bytes → byte_of (front_of at old ++ bytes) i ≡ put bytes at (byte_of old) i
 overwritten_end old bytes at i short =
     let none : drop (at + length bytes) old ≡ [] = drop_all (at + length bytes) old short in

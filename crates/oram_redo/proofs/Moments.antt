@@ -1,4 +1,4 @@
--- How a run of calls of a pair goes on.
+-- How a run of calls on a pair goes on.
 use Rattle.std.proofs.Common.{◌≡◌, refl, ◌∙◌, inl, inr, ⊎_elim, ℕ, ◌≤◌, arith}
 use Rattle.oram_redo.specs.Content.{Content, Agrees}
 use Rattle.oram_redo.specs.FilePair.{Contents, Elapses, LeavesOnly, WritesNothing}
@@ -57,7 +57,8 @@ module _ {D : Type 0} (seen : D → Contents) (may_leave : D → Contents → Ty
     moments = then_leaves moment left_since old mid new (may_leave old) (may_leave mid) first.moments second.moments first.leaves;
   }
 
-  -- what each crash leaves holds of what is read, since all that was written may be left
+  -- what holds of all that a crash may leave holds of what is read, because a crash may leave
+  -- everything that was written
   pub holds_now : (old new : D) (P : Contents → Type 0) → LeavesOnly moment left_since old new P
       → ((t : ℕ) (c : Contents) → t ≤ moment new → may_leave new c → left_since new t c) → may_leave new (seen new) → P (seen new)
   holds_now old new P leaves counts_now whole = leaves.each (seen new) (counts_now (moment old) (seen new) leaves.later whole)

@@ -14,7 +14,7 @@ use Rattle.oram_redo.proofs.Bytes.{has_along, has_front, has_back, has-append, h
 use Rattle.oram_redo.proofs.Moments.{same_content}
 use Rattle.oram_redo.proofs.Logs.{length-entry, length-place_and_length, place_and_length_one, entries-append, entry_gate, entry_head, entry_read, entry_one, all_first, all_rest, follows}
 
--- the entries of these patches stand in the log, up to this place
+-- the entries of these patches are in the log, up to this place
 pub record Opens (bounds : Bounds) (done : List Patch) (log : Content) (at : ℕ) : Type 0 where
   pub stands : Has (entries done) bounds.log_start log
   pub ends : at ≡ bounds.log_start + length (entries done)
@@ -139,7 +139,7 @@ module _ (bounds : Bounds) (log : Content) where
       let rest = opens_rest done ps at so_far is in
       rest.1 ∙ ap (λ (qs : List Patch). done ++ qs) (end_rest done rest.0 at so_far end (subst (λ (qs : List Patch). IsLog bounds qs log) rest.1 is)) ∙ append-nil done
 
--- the same of a log that agrees
+-- the same for a log that agrees
 pub entry_along : (bounds : Bounds) (log other : Content) (at : ℕ) (found : Entry) → Agrees other log → IsEntryAt bounds other at found → IsEntryAt bounds log at found
 entry_along bounds log other at found same is = subst (λ (l : Content). IsEntryAt bounds l at found) (same_content other log same) is
 

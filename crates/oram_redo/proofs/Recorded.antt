@@ -1,4 +1,4 @@
--- A pair of the system's files meets what is said of a pair, by its record of calls.
+-- A pair of the system's files fulfils the contract of a pair, by its record of calls.
 use Rattle.std.proofs.Common.{◌≡◌, inl, inr, ⊎_elim, ℕ, suc, ◌-◌, ◌≤◌, true, false, List, [], ◌∷◌, length, refl, sym, subst, arith}
 use Rattle.std.specs.Prelude.{if◌then◌else◌, Bool}
 use Rattle.oram_redo.specs.FilePair.{Contents, Torn, Wrote, Elapses, Follows, IsSure}

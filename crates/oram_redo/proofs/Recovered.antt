@@ -12,7 +12,7 @@ use Rattle.oram_redo.proofs.Logs.{log_kept}
 
 module _ (bounds : Bounds) (ps : List Patch) (seen mid : Contents) (leave : Contents → Type 0) (same : Same mid seen) (log : IsLog bounds ps (seen Log))
     (sure_log : (c : Contents) → leave c → Agrees (c Log) (seen Log)) (sure_records : (c : Contents) → leave c → Agrees (c Records) (seen Records)) where
-  -- the log heals whatever a crash made of the places
+  -- the log heals whatever a crash has left in the places
   healed : (c d : Contents) → leave d → Smeared ps d c → (i : ℕ) → put_all ps (c Records) i ≡ put_all ps (seen Records) i
   healed c d was smeared i = put_all_heals ps (c Records) (seen Records) i (λ spared. smeared.records i spared ∙ sure_records d was i)
 

@@ -76,7 +76,7 @@ module _ (redo : Redo) (loose : List Patch) (seen : Contents) (leave : Contents 
     pub keeps_before : (c : Contents) → leave c → Keeps (bounds_of redo) (p ∷ loose) seen c
     keeps_before c now = keeps_more (bounds_of redo) p loose seen c (keeps_now c now)
 
-  -- The records are on the disk: the log may go.
+  -- The records are on the disk, so the log may be emptied.
   module _ (sure : IsSure Records seen leave) where
     pub settled_empty : end_of redo ≡ redo.bounds.log_start → IsSettled redo [] seen leave
     settled_empty empty =

@@ -1,4 +1,4 @@
--- A batch of the program's as patches of the definitions.
+-- A batch of the program, as the patches that the definitions speak of.
 use Rattle.std.specs.Prelude.{List, map}
 use Rattle.oram_redo.specs.Log as model
 use Rattle.oram_redo.specs.declared.batch.Patch.{Patch}

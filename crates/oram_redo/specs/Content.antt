@@ -7,16 +7,16 @@ Content = ℕ → ℕ
 abbrev pub Agrees : Content → Content → Type 0
 Agrees c d = (i : ℕ) → c i ≡ d i
 
--- n bytes from a place on
+-- the n bytes from a place on
 abbrev pub bytes_at : ℕ → ℕ → Content → List ℕ
 bytes_at zero at c = []
 bytes_at (suc n) at c = c at ∷ bytes_at n (suc at) c
 
--- these bytes stand there
+-- the content has these bytes at a place
 abbrev pub Has : List ℕ → ℕ → Content → Type 0
 Has bytes at c = bytes_at (length bytes) at c ≡ bytes
 
--- a content with these bytes put there
+-- a content after these bytes are written at a place
 abbrev pub put : List ℕ → ℕ → Content → Content
 put [] at c i = c i
 put (b ∷ bs) at c i = if i == at then b else put bs (suc at) c i

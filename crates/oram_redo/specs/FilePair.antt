@@ -21,25 +21,26 @@ pub record Wrote (file : FileKind) (at : ℕ) (bytes : List ℕ) (old new : Cont
   pub there : Agrees (new file) (put bytes at (old file))
   pub other : Agrees (new (other_than file)) (old (other_than file))
 
--- n bytes stand behind others, and, where that is known, they are those of a content from a place on
+-- n bytes were appended; if the content is known, they are its bytes from `at` on
 pub record ReadOnto (n at : ℕ) (c : Content) (is_known : Type 0) (old new : List ℕ) : Type 0 where
   pub read : List ℕ
   pub long : length read ≡ n
   pub grown : new ≡ old ++ read
   pub is : is_known → read ≡ bytes_at n at c
 
--- A write of n bytes that was cut short: any bytes at all in its range, and no other changed. Several such writes, one after the
--- other, leave any bytes in all their ranges: any part of the writes, in any order, torn at any byte, is among that.
+-- A write of n bytes that was cut short: its range may have any bytes, and no other byte changed. Several such writes,
+-- one after the other, leave any bytes in all their ranges. That includes any part of the writes, in any order, torn at
+-- any byte.
 pub record Torn (file : FileKind) (at n : ℕ) (old new : Contents) : Type 0 where
   pub before : (i : ℕ) → i < at → new file i ≡ old file i
   pub after : (i : ℕ) → at + n ≤ i → new file i ≡ old file i
   pub other : Agrees (new (other_than file)) (old (other_than file))
 
--- of this file a crash leaves what a read returns
+-- a crash leaves of this file what a read returns
 abbrev pub IsSure : FileKind → Contents → (Contents → Type 0) → Type 0
 IsSure file seen may_leave = (c : Contents) → may_leave c → Agrees (c file) (seen file)
 
--- each new outcome of a crash is an old one after a step
+-- each new outcome of a crash is an old outcome after `step`
 abbrev pub Follows : (Contents → Contents → Type 0) → (Contents → Type 0) → (Contents → Type 0) → Type 0
 Follows step old new = (c : Contents) → new c → (d : Contents) × old d × step d c
 
@@ -49,31 +50,31 @@ pub record Elapses (before now : ℕ) (past since : ℕ → Contents → Type 0)
   pub nothing_else : (t : ℕ) (c : Contents) → t ≤ before → since t c → past t c ⊎ may_leave c
   pub keeps : (t : ℕ) (c : Contents) → t ≤ before → past t c → since t c
 
--- A crash at any moment since old leaves files that have P.
+-- A crash at any moment since `old` leaves files that P holds of.
 pub record LeavesOnly {D : Type 0} (moment : D → ℕ) (left_since : D → ℕ → Contents → Type 0) (old new : D) (P : Contents → Type 0) : Type 0 where
   pub later : moment old ≤ moment new
   pub each : (c : Contents) → left_since new (moment old) c → P c
   -- for a run that began earlier
   pub before : (t : ℕ) (c : Contents) → t ≤ moment old → left_since new t c → left_since old t c ⊎ P c
 
--- Nothing is written: a read returns what it did, and a crash leaves what it might have left before.
+-- Nothing is written: a read returns what it returned before, and a crash leaves what it might have left before.
 pub record WritesNothing {D : Type 0} (seen : D → Contents) (may_leave : D → Contents → Type 0) (moment : D → ℕ) (left_since : D → ℕ → Contents → Type 0) (old new : D) : Type 0 where
   pub seen_same : Same (seen new) (seen old)
   pub leaves : (c : Contents) → may_leave new c → may_leave old c
   pub moments : LeavesOnly moment left_since old new (may_leave old)
 
--- One state of a pair comes after another: the counts of failed calls and of writes that found no room don't fall (`failures old n`
--- says that at least n calls have failed), and a pair that is honest has been honest.
+-- One state of a pair comes after another: the counts of failed calls and of writes that found no room don't fall
+-- (`failures old n` says that at least n calls have failed), and if the pair is honest now, it was honest before.
 pub record ComesAfter {D : Type 0} (failures shortages : D → ℕ → Type 0) (is_honest : D → Type 0) (old new : D) : Type 0 where
   pub honest : is_honest new → is_honest old
   pub failed : (n : ℕ) → failures old n → failures new n
   pub short : (n : ℕ) → shortages old n → shortages new n
 
--- at least one more
+-- the count has risen by at least one
 abbrev pub Rises : {D : Type 0} → (D → ℕ → Type 0) → D → D → Type 0
 Rises count old new = (n : ℕ) → count old n → count new (suc n)
 
--- An error of the files is told only where its count has risen.
+-- An error of the files comes only if its count has risen.
 pub record HasCause {D T : Type 0} (failures shortages : D → ℕ → Type 0) (old new : D) (result : Result T RedoError) : Type 0 where
   pub failed : IsErrOf result Failed → Rises failures old new
   pub no_room : IsErrOf result NoRoom → Rises shortages old new

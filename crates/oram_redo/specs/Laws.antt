@@ -5,14 +5,14 @@ use Rattle.oram_redo.specs.FilePair.{Contents}
 use Rattle.oram_redo.specs.Log.{Patch, IsLog, AgreesBut, StandsFor, put_all}
 use Rattle.oram_redo.specs.declared.bounds.Bounds.{Bounds}
 
--- A log holds one list of patches.
+-- A log holds only one list of patches.
 abbrev pub LogsAreOne : Type 0
 LogsAreOne = (bounds : Bounds) (ps qs : List Patch) (log : Content) → IsLog bounds ps log → IsLog bounds qs log → ps ≡ qs
 
--- Files stand for one content of the records, but for loose places.
+-- Files stand for only one content of the records, except in loose places.
 abbrev pub FilesStandForOne : Type 0
 FilesStandForOne = (bounds : Bounds) (loose : List Patch) (r s : Content) (files : Contents) → StandsFor bounds [] r files → StandsFor bounds loose s files → AgreesBut loose r s
 
--- Patches that are put again over whatever a crash made of their places give the same.
+-- Writing patches again over whatever a crash left in their places gives the same content.
 abbrev pub ReplayHeals : Type 0
 ReplayHeals = (ps : List Patch) (c d : Content) → AgreesBut ps c d → Agrees (put_all ps c) (put_all ps d)

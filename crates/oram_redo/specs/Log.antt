@@ -1,4 +1,4 @@
--- The log: the entries of patches, one behind the other, and then a byte that is not 1.
+-- The log: the entries of patches, one after the other, and then a byte that is not 1.
 use Rattle.std.specs.Prelude.{◌≡◌, ◌⊎◌, ◌<◌, ◌≤◌, ℕ, ◌+◌, ◌^◌, List, [], ◌∷◌, ◌++◌, length, All, ⊤}
 use Rattle.std.specs.Int.{w32, w64, to_le_bytes}
 use Rattle.oram_redo.specs.Content.{Content, Agrees, Has, put}
@@ -34,7 +34,8 @@ abbrev pub entries : List Patch → List ℕ
 entries [] = []
 entries (p ∷ ps) = entry p ++ entries ps
 
--- The log holds the entries of these patches and no more: the gate behind them is not 1. What stands behind that gate doesn't count.
+-- The log holds the entries of these patches and no others: the gate after them is not 1. The bytes after that gate
+-- don't count.
 pub record IsLog (bounds : Bounds) (patches : List Patch) (log : Content) : Type 0 where
   pub stands : Has (entries patches) bounds.log_start log
   pub shut : log (bounds.log_start + length (entries patches)) ≡ 1 → ⊥
@@ -50,39 +51,40 @@ abbrev pub Spares : List Patch → ℕ → Type 0
 Spares [] i = ⊤
 Spares (p ∷ ps) i = (i < p.0 ⊎ p.0 + length p.1 ≤ i) × Spares ps i
 
--- contents that agree but where one of the patches reaches
+-- contents that agree except where one of the patches reaches
 abbrev pub AgreesBut : List Patch → Content → Content → Type 0
 AgreesBut ps c d = (i : ℕ) → Spares ps i → c i ≡ d i
 
--- Files stand for these records: the log's patches, put into the records' file, give them, but for the places of `loose`. Those are
--- patches that the log doesn't have and that no sync has covered.
+-- Files stand for these records: writing the log's patches into the records' file gives the records, except in the
+-- places of `loose`. Loose patches are patches that the log doesn't have and that no sync has covered.
 pub record StandsFor (bounds : Bounds) (loose : List Patch) (records : Content) (files : Contents) : Type 0 where
   pub patches : List Patch
   pub log : IsLog bounds patches (files Log)
   pub gives : AgreesBut loose (put_all patches (files Records)) records
 
--- what stands before the log's entries is as it was
+-- the bytes before the log's entries are as they were
 abbrev pub SameFront : Bounds → Contents → Contents → Type 0
 SameFront bounds old new = (i : ℕ) → i < bounds.log_start → new Log i ≡ old Log i
 
--- Files stand for the records that were read before, but for loose places.
+-- Files stand for the records that were read before, except in loose places.
 pub record Keeps (bounds : Bounds) (loose : List Patch) (before files : Contents) : Type 0 where
   pub front : SameFront bounds before files
   pub stands : StandsFor bounds loose (before Records) files
 
--- A crash in the midst of a batch: files stand for what was read before with all of it, or with none.
+-- After a crash in the middle of a batch: files stand for what was read before, with all of the batch or with none of
+-- it.
 pub record AllOrNothing (bounds : Bounds) (loose : List Patch) (before : Contents) (batch : List Patch) (files : Contents) : Type 0 where
   pub front : SameFront bounds before files
   pub stands : StandsFor bounds loose (before Records) files ⊎ StandsFor bounds loose (put_all batch (before Records)) files
 
--- Files stand for the same records as those did.
+-- Files stand for the same records as the files before.
 pub record StandsAlike (bounds : Bounds) (before files : Contents) : Type 0 where
   pub front : SameFront bounds before files
   pub records : Content
   pub was : StandsFor bounds [] records before
   pub is : StandsFor bounds [] records files
 
--- any bytes in the places of the patches, and no other changed
+-- the places of the patches may have any bytes, and no other byte changed
 pub record Smeared (patches : List Patch) (old new : Contents) : Type 0 where
   pub records : AgreesBut patches (new Records) (old Records)
   pub log : Agrees (new Log) (old Log)

@@ -9,7 +9,7 @@ use Rattle.oram_redo.specs.declared.memory.Range.{Range}
 use Rattle.oram_redo.specs.declared.memory.Snapshot.{Snapshot}
 use Rattle.oram_redo.specs.declared.memory.MemoryPair.{MemoryPair}
 
--- zeros past the end
+-- the content of a file in memory, with zeros past the end
 abbrev pub byte_of : List ℕ → Content
 byte_of bytes i = get_or bytes i 0
 
@@ -30,11 +30,11 @@ abbrev pub IsOutside : List Range → FileKind → ℕ → Type 0
 IsOutside [] file i = ⊤
 IsOutside (r ∷ rs) file i = (r.file ≡ file → (i < r.at ⊎ r.at + r.len ≤ i)) × IsOutside rs file i
 
--- any bytes at all in these ranges, and else what is read
+-- any bytes in these ranges, and elsewhere what a read returns
 abbrev pub LeavesBut : List Range → Contents → Contents → Type 0
 LeavesBut ranges seen c = (file : FileKind) (i : ℕ) → IsOutside ranges file i → c file i ≡ seen file i
 
--- any bytes at all in places that no sync has covered
+-- any bytes in places that no sync has covered
 abbrev pub MayLeave : Snapshot → Contents → Type 0
 MayLeave held c = LeavesBut held.unsynced.items (contents_of held) c
 
@@ -47,7 +47,7 @@ none_since : (past : List Snapshot) (c : Contents) → HadLeft (drop (length pas
 none_since [] c had = had
 none_since (held ∷ past) c had = none_since past c had
 
--- since the last of them there is this moment
+-- since the last moment of the past there is only the current one
 pub only_held : (past : List Snapshot) (held : Snapshot) (c : Contents) → MayLeave held c ⊎ HadLeft (drop (length past) past) c → MayLeave held c
 only_held past held c (inl now) = now
 only_held past held c (inr had) = absurd (none_since past c had)

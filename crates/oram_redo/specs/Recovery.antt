@@ -5,7 +5,7 @@ use Rattle.oram_redo.specs.Log.{Patch, Fits, entry, place_and_length}
 use Rattle.oram_redo.specs.declared.bounds.Bounds.{Bounds}
 use Rattle.oram_redo.specs.declared.recovery.Entry.{Entry}
 
--- An entry with an open gate stands at the place, and has room there.
+-- An entry with an open gate is at the place, and has room there.
 pub record IsEntryAt (bounds : Bounds) (log : Content) (at : ℕ) (found : Entry) : Type 0 where
   pub head : bytes_at 13 at log ≡ 1 ∷ place_and_length found.at found.len
   pub next : found.next ≡ at + 13 + found.len
@@ -14,12 +14,12 @@ pub record IsEntryAt (bounds : Bounds) (log : Content) (at : ℕ) (found : Entry
   pub place_fits : found.at < 2 ^ 64
   pub length_fits : found.len < 2 ^ 32
 
--- The log of no patches goes on at the place: what stands there is neither an entry that has room nor a shut gate.
+-- No log goes on at the place: the bytes there are neither an entry that has room nor a shut gate.
 pub record IsDamagedAt (bounds : Bounds) (log : Content) (at : ℕ) : Type 0 where
   pub no_end : (log at ≡ 1 → ⊥) → at < bounds.log_end → ⊥
   pub no_entry : (p : Patch) → Fits bounds p → Has (entry p) at log → at + length (entry p) < bounds.log_end → ⊥
 
--- An end of the log: its gate is shut, and it has room.
+-- The log may end at the place: the gate there is shut, and it has room.
 pub record IsEndAt (bounds : Bounds) (log : Content) (at : ℕ) : Type 0 where
   pub shut : log at ≡ 1 → ⊥
   pub room : at < bounds.log_end

@@ -11,12 +11,12 @@ use Rattle.oram_redo.specs.declared.redo.Redo.{Redo}
 abbrev pub bounds_of : Redo → Bounds
 bounds_of redo = redo.bounds
 
--- where the next entry will stand
+-- the place of the next entry
 abbrev pub end_of : Redo → ℕ
 end_of redo = redo.end
 
--- The log is sure up to the shut gate behind its last entry, and whatever a crash leaves stands for the records that are read, but
--- for the places of `loose`.
+-- The log is sure up to the shut gate after its last entry. Whatever a crash leaves stands for the records that are
+-- read, except in the places of `loose`.
 pub record IsSettled (redo : Redo) (loose : List Patch) (seen : Contents) (may_leave : Contents → Type 0) : Type 0 where
   pub patches : List Patch
   pub log : IsLog (bounds_of redo) patches (seen Log)
@@ -24,7 +24,7 @@ pub record IsSettled (redo : Redo) (loose : List Patch) (seen : Contents) (may_l
   pub sure : (c : Contents) → may_leave c → (i : ℕ) → i ≤ end_of redo → c Log i ≡ seen Log i
   pub stands : (c : Contents) → may_leave c → AgreesBut loose (put_all patches (c Records)) (seen Records)
 
--- The call was refused: it did nothing, and the next may be made.
+-- The call was refused: it did nothing, and the next call may be made.
 abbrev pub IsRefused : Result Unit RedoError → Type 0
 IsRefused (Ok _) = ⊥
 IsRefused (Err Memory) = Unit {0}

@@ -1,4 +1,4 @@
--- What a record of calls says of a pair of the system's files, which held `first` when they were opened.
+-- What a record of calls says about a pair of the system's files, which held `first` when they were opened.
 use Rattle.std.specs.Prelude.{◌≡◌, ◌⊎◌, ℕ, zero, suc, ◌-◌, ◌==◌, ◌&&◌, Bool, true, false, if◌then◌else◌, List, [], ◌∷◌, length, ⊤}
 use mathlib.Core.Logic.{inl, inr}
 use mathlib.Core.Path.{subst}
@@ -17,7 +17,7 @@ put_in Records at bytes seen Log = seen Log
 put_in Log at bytes seen Records = seen Records
 put_in Log at bytes seen Log = put bytes at (seen Log)
 
--- What a read returns. A write that failed is taken as not made: if it did change its range, a read there is a lie.
+-- What a read returns. A failed write counts as not made: if it did change its range, a read there isn't honest.
 abbrev pub seen_after : Contents → List Call → Contents
 seen_after first [] = first
 seen_after first (call ∷ calls) = if (call.kind == 1) && call.is_ok then put_in call.file call.at call.bytes (seen_after first calls) else seen_after first calls
@@ -51,7 +51,7 @@ HadLeftBefore first (call ∷ calls) (suc n) c = MayLeaveAfter first calls c ⊎
 abbrev pub LeftSince : Contents → List Call → ℕ → Contents → Type 0
 LeftSince first calls t c = MayLeaveAfter first calls c ⊎ HadLeftBefore first calls (length calls - t) c
 
--- each read has returned what stood there
+-- each read has returned what was there
 abbrev pub IsHonestRecord : Contents → List Call → Type 0
 IsHonestRecord first [] = ⊤
 IsHonestRecord first (call ∷ calls) = (call.kind ≡ 2 → call.bytes ≡ bytes_at (length call.bytes) call.at (seen_after first calls call.file)) × IsHonestRecord first calls
@@ -59,7 +59,7 @@ IsHonestRecord first (call ∷ calls) = (call.kind ≡ 2 → call.bytes ≡ byte
 none_before : (first : Contents) (calls : List Call) (n : ℕ) (c : Contents) → n ≡ zero → HadLeftBefore first calls n c → ⊥
 none_before first calls n c none had = subst (λ (k : ℕ). HadLeftBefore first calls k c) none had
 
--- since the last call there is this moment
+-- since the last call there is only the current moment
 pub only_after : (first : Contents) (calls : List Call) (c : Contents) → LeftSince first calls (length calls) c → MayLeaveAfter first calls c
 only_after first calls c (inl now) = now
 only_after first calls c (inr had) = absurd (none_before first calls (length calls - length calls) c (sub_self (length calls)) had)

@@ -1,34 +1,34 @@
-//! Patches, and how the log spells them.
+//! Patches, and their bytes in the log.
 ghost use Rattle.std.specs.Prelude.{◌≡◌, ◌<◌, ◌^◌, ◌++◌, [], ◌∷◌, All, length, IfNone, IfOk, IfSome, slice_index};
 ghost use Rattle.oram_redo.specs.Batch.{patches_of};
 ghost use Rattle.oram_redo.specs.Log.{entries, length_bytes, place_and_length, place_bytes};
 
 use std::alloc::{AllocError, Global};
 
-/// The bytes of an entry before its patch's: the gate, the place and the length.
+/// The number of bytes in an entry before those of its patch: the gate, the place and the length.
 pub const HEAD_LEN: usize = 13;
 
 /// The gate of an entry that counts.
 pub const OPEN: u8 = 1;
 
-/// The gate behind the last entry. Any byte but `OPEN` would do.
+/// The gate after the last entry. Any byte but `OPEN` would do.
 pub const SHUT: u8 = 0;
 
-/// Bytes for a place of the records' file.
+/// Bytes to write at a place of the records' file.
 #[derive(Clone, Copy, Debug)]
 pub struct Patch<'a> {
     pub at: u64,
     pub bytes: &'a [u8],
 }
 
-/// What stands in an entry before its patch's bytes.
+/// The place and the length in an entry, which stand before the bytes of its patch.
 #[derive(Clone, Copy, Debug)]
 pub struct Head {
     pub at: u64,
     pub len: u32,
 }
 
-/// How many bytes the batch's entries take with a shut gate behind them.
+/// Returns the number of bytes of the batch's entries and of a shut gate after them.
 fn room_of(batch: &[Patch]) -> usize {
     let mut room = 1usize;
     for patch in batch {
@@ -39,7 +39,7 @@ fn room_of(batch: &[Patch]) -> usize {
     room
 }
 
-/// The batch's entries, and a shut gate behind them.
+/// Returns the batch's entries, and a shut gate after them.
 pub fn body_of(alloc: Global, batch: &[Patch]) -> Result<Vec<u8>, AllocError>
     requires { All (λ p. length p.1 < 2 ^ 32) (patches_of batch.now) }
     ensures { IfOk result (λ body. body.items ≡ entries (patches_of batch.now) ++ 0 ∷ []) }
@@ -55,7 +55,7 @@ pub fn body_of(alloc: Global, batch: &[Patch]) -> Result<Vec<u8>, AllocError>
     Ok(body)
 }
 
-/// The head in the first bytes of an entry, or `None` where its gate is shut.
+/// Returns the head in the first bytes of an entry, or `None` if its gate is shut.
 pub fn head_of(bytes: &[u8]) -> Option<Head>
     requires { length bytes.now ≡ HEAD_LEN }
     ensures shut { IfNone result (slice_index bytes.now 0 ≡ 1 → ⊥) }

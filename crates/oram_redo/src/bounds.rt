@@ -1,11 +1,11 @@
-//! Where things may stand in the two files.
+//! The bounds of the log and of the records in their files.
 
-/// Where things may stand in the two files.
+/// The bounds of the log and of the records in their files. All are places, in bytes.
 #[derive(Clone, Copy, Debug, PartialEq, Eq)]
 pub struct Bounds {
-    /// Where the log's entries begin. What stands before is its owner's: nothing here reads or writes it.
+    /// Where the log's entries begin. The bytes before belong to the caller: nothing here reads or writes them.
     pub log_start: u64,
-    /// Where the log's room ends.
+    /// Where the room for the log ends.
     pub log_end: u64,
     /// Where the records' file ends. An entry that reaches past it is damaged.
     pub records_end: u64,

@@ -7,7 +7,7 @@ use std::fmt;
 /// Why a call was not carried out.
 #[derive(Clone, Copy, Debug, PartialEq, Eq)]
 pub enum RedoError {
-    /// Memory was refused.
+    /// There was not enough memory.
     Memory,
     /// A write found no room.
     NoRoom,

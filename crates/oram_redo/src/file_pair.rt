@@ -13,8 +13,8 @@ pub enum FileKind {
 
 /// A file of records and a log beside it. Both are sparse: what was never written reads as zeros.
 ///
-/// Between a sync and the next, a crash may leave any bytes in the places that were written. After a sync that failed, no later sync
-/// of that file may answer `Ok`, for what it had to make sure may be lost.
+/// Between two syncs, a crash may leave any bytes in the places that were written. After a sync of a file has failed,
+/// no later sync of it may return `Ok`, since the writes that the failed one had to cover may be lost.
 pub trait FilePair {
     /// What a read returns.
     ghost seen: { Self → Contents };
@@ -22,22 +22,23 @@ pub trait FilePair {
     /// What a crash at this moment may leave.
     ghost may_leave: { Self → Contents → Type 0 };
 
-    /// The moment, as a number that doesn't fall.
+    /// The current moment, as a number that never falls.
     ghost moment: { Self → ℕ };
 
-    /// What a crash at some moment from that one on might have left, during a call or between two.
+    /// What a crash at the given moment or a later one might have left, during a call or between two.
     ghost left_since: { Self → ℕ → Contents → Type 0 };
 
-    /// Each read has returned what stood there. No code can tell, so nothing but a theorem on values may rest on it.
+    /// Each read has returned what was there. Code can't find that out, so only theorems about values may rest on it.
     ghost is_honest: { Self → Type 0 };
 
-    /// At least that many calls have failed.
+    /// At least the given number of calls have failed.
     ghost failures: { Self → ℕ → Type 0 };
 
-    /// At least that many writes have found no room.
+    /// At least the given number of writes have found no room.
     ghost shortages: { Self → ℕ → Type 0 };
 
-    /// Reads `len` bytes, zeros in holes and past the end, and puts them behind other bytes. At `Err` there may be any behind these.
+    /// Reads `len` bytes and appends them to `bytes`; holes and places past the end read as zeros. After `Err`, any
+    /// bytes may have been appended.
     fn read_onto(
         &mut self,
         file: FileKind,
@@ -53,7 +54,8 @@ pub trait FilePair {
         ensures cause { HasCause failures shortages self.old self.new result }
         ensures errors { IfErr result (λ e. (e ≡ RedoError.Memory) ⊎ (e ≡ RedoError.Failed)) };
 
-    /// Writes the bytes. Until a sync of the file, a crash may leave any bytes in their place. At `Err` a read may return any there.
+    /// Writes the bytes. Until the file is synced, a crash may leave any bytes in their place. After `Err`, a read may
+    /// return any bytes there.
     fn write_at(&mut self, file: FileKind, at: u64, bytes: &[u8]) -> Result<(), RedoError>
         ensures written { OnOk result (Wrote file at bytes.now (seen self.old) (seen self.new)) }
         ensures torn { Torn file at (length bytes.now) (seen self.old) (seen self.new) }
@@ -63,7 +65,7 @@ pub trait FilePair {
         ensures cause { HasCause failures shortages self.old self.new result }
         ensures errors { IfErr result (λ e. (e ≡ RedoError.NoRoom) ⊎ (e ≡ RedoError.Failed)) };
 
-    /// At `Ok`, a crash leaves of that file what a read returns.
+    /// Syncs a file. After `Ok`, a crash leaves of that file what a read returns.
     fn sync(&mut self, file: FileKind) -> Result<(), RedoError>
         ensures sure { OnOk result (IsSure file (seen self.new) (may_leave self.new)) }
         ensures seen { Same (seen self.new) (seen self.old) }
@@ -73,12 +75,12 @@ pub trait FilePair {
         ensures cause { HasCause failures shortages self.old self.new result }
         ensures errors { IfErr result (λ e. e ≡ RedoError.Failed) };
 
-    /// This moment is one of those since an earlier one.
+    /// What a crash may leave now, it might have left since any earlier moment.
     ghost counts_now: { (files : Self) (t : ℕ) (c : Contents) → t ≤ moment files → may_leave files c → left_since files t c };
 
-    /// A crash may leave all that was written.
+    /// A crash may leave everything that was written.
     ghost whole: { (files : Self) → may_leave files (seen files) };
 
-    /// Since this moment there is no other.
+    /// What a crash might have left since the current moment, it may leave now.
     ghost only_now: { (files : Self) (c : Contents) → left_since files (moment files) c → may_leave files c };
 }

@@ -1,4 +1,5 @@
-//! Laws of the definitions, as contracts of functions that do nothing, and one run whose promise no premise makes empty.
+//! Laws of the definitions, as contracts of functions that do nothing, and one run from empty files, whose promise
+//! rests on no premise that might never hold.
 ghost use Rattle.std.specs.Prelude.{◌≡◌, ℕ, [], All, OnOk};
 ghost use Rattle.oram_redo.specs.Batch.{patches_of};
 ghost use Rattle.oram_redo.specs.FilePair.{Contents};
@@ -9,24 +10,24 @@ ghost use Rattle.oram_redo.specs.Redo.{IsSettled, bounds_of};
 use crate::{Bounds, FilePair, Patch, Redo, RedoError, recover};
 use std::alloc::Global;
 
-/// A log holds one list of patches, so files stand for one content of the records, but for loose places.
+/// A log holds only one list of patches. So files stand for only one content of the records, except in loose places.
 pub fn one_reading()
     ensures log { LogsAreOne }
     ensures records { FilesStandForOne }
 {}
 
-/// A log that is replayed gives the same records, whatever a crash made of the places that it writes to.
+/// Replaying a log gives the same records, whatever a crash has left in the places that it writes to.
 pub fn replay_heals()
     ensures { ReplayHeals }
 {}
 
-/// Between two calls, whatever a crash leaves stands for the records that are read, but for loose places.
+/// Between two calls, whatever a crash leaves stands for the records that are read, except in loose places.
 pub fn settled_keeps<F: FilePair>(redo: &Redo, files: &F)
     ensures { (loose : _) (c : Contents) → IsSettled redo.now loose (F.seen files.now) (F.may_leave files.now)
         → F.may_leave files.now c → Keeps (bounds_of redo.now) loose (F.seen files.now) c }
 {}
 
-/// Opens empty files and commits one batch: each crash from then on leaves files that have the batch, and nothing else.
+/// Opens empty files and commits one batch. Each crash from then on leaves files that have the batch, and nothing else.
 pub fn first_commit<F: FilePair>(
     alloc: Global,
     files: &mut F,

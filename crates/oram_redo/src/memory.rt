@@ -1,4 +1,4 @@
-//! A pair of files in memory, that can crash.
+//! A pair of files in memory, for which contracts say what a crash may leave.
 ghost use Rattle.std.specs.Prelude.{◌≡◌, ◌⊎◌, ◌+◌, ℕ, [], ◌∷◌, ◌++◌, length, drop, IfOk, IsTrue, OnErr, OnOk, ◌↔◌};
 ghost use Rattle.std.proofs.Common.{inl, refl};
 ghost use Rattle.oram_redo.specs.Content.{Agrees, bytes_at, put};
@@ -8,7 +8,7 @@ ghost use Rattle.oram_redo.specs.Memory.{HadLeft, IsCopy, IsOutside, MayLeave, b
 use crate::{FileKind, FilePair, RedoError};
 use std::alloc::{AllocError, Global};
 
-/// Places of a file that were written and that no sync has covered.
+/// A range of a file that was written, and that no sync has covered.
 #[derive(Clone, Copy, Debug)]
 pub struct Range {
     pub file: FileKind,
@@ -24,7 +24,7 @@ pub struct Snapshot {
     pub unsynced: Vec<Range>,
 }
 
-/// Two files in memory. It keeps what it held at each past moment.
+/// Two files in memory. The pair keeps a copy of what it held at each past moment.
 #[derive(Drop)]
 pub struct MemoryPair {
     alloc: Global,
@@ -32,7 +32,7 @@ pub struct MemoryPair {
     past: Vec<Snapshot>,
 }
 
-// The bytes that a file has once `bytes` are put at a place, with zeros before them where it was shorter.
+// Returns the bytes of a file after `bytes` are written at a place, with zeros before them where the file was shorter.
 fn overwritten(alloc: Global, old: &[u8], at: usize, bytes: &[u8]) -> Result<Vec<u8>, AllocError>
     ensures { IfOk result (λ new. Agrees (byte_of new.items) (put bytes.now at (byte_of old.now))) }
 {
@@ -47,7 +47,7 @@ fn overwritten(alloc: Global, old: &[u8], at: usize, bytes: &[u8]) -> Result<Vec
     Ok(new)
 }
 
-// The byte at a place and so many behind it; 0 past the end.
+// Returns the byte at `at + i`, or 0 past the end.
 fn byte_at(file: &[u8], at: usize, i: usize) -> u8
     ensures { result ≡ byte_of file.now (at + i) }
 {
@@ -57,7 +57,7 @@ fn byte_at(file: &[u8], at: usize, i: usize) -> u8
     if place < file.len() { file[place] } else { 0 }
 }
 
-// Bytes of a file from a place on, zeros past its end.
+// Returns `len` bytes of a file from a place on, with zeros past its end.
 fn bytes_from(alloc: Global, file: &[u8], at: u64, len: usize) -> Result<Vec<u8>, AllocError>
     ensures bytes { IfOk result (λ bytes. bytes.items ≡ bytes_at len at (byte_of file.now)) }
     ensures len { IfOk result (λ bytes. length bytes.items ≡ len) }
@@ -79,7 +79,7 @@ fn copy_of(alloc: Global, held: &Snapshot) -> Result<Snapshot, AllocError>
     })
 }
 
-// What the pair holds after a write.
+// Returns what the pair holds after a write.
 fn written(
     alloc: Global,
     held: &Snapshot,
@@ -118,7 +118,7 @@ fn is_of_another(range: &Range, file: FileKind) -> bool
     range.file != file
 }
 
-// The ranges of the other file.
+// Returns the ranges of the other file.
 fn ranges_but(alloc: Global, ranges: &[Range], file: FileKind) -> Result<Vec<Range>, AllocError>
     ensures synced { IfOk result (λ kept. (i : ℕ) → IsOutside kept.items file i) }
     ensures fewer { IfOk result (λ kept. (other : _) (i : ℕ) → IsOutside ranges.now other i → IsOutside kept.items other i) }
@@ -132,7 +132,7 @@ fn ranges_but(alloc: Global, ranges: &[Range], file: FileKind) -> Result<Vec<Ran
     Ok(kept)
 }
 
-// What the pair holds after a sync.
+// Returns what the pair holds after a sync.
 fn synced(alloc: Global, held: &Snapshot, file: FileKind) -> Result<Snapshot, AllocError>
     ensures contents { IfOk result (λ next. Same (contents_of next) (contents_of held.now)) }
     ensures synced { IfOk result (λ next. (i : ℕ) → IsOutside next.unsynced.items file i) }
@@ -145,7 +145,7 @@ fn synced(alloc: Global, held: &Snapshot, file: FileKind) -> Result<Snapshot, Al
     })
 }
 
-// Holds something else from now on, and keeps a copy of what it held.
+// Replaces what the pair holds, and adds a copy of the old content to its past.
 fn replace(
     alloc: Global,
     held: &mut Snapshot,
@@ -165,7 +165,7 @@ fn replace(
 impl MemoryPair {
     ghost use Rattle.oram_redo.specs.Memory.{seen_of};
 
-    /// Two empty files.
+    /// Returns two empty files.
     pub fn new(alloc: Global) -> Self
         ensures { (file : _) (i : ℕ) → seen_of result file i ≡ 0 }
     {

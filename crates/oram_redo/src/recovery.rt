@@ -1,4 +1,4 @@
-//! Reading a log that a crash may have left.
+//! Reads a log that a crash may have left.
 ghost use Rattle.std.specs.Prelude.{◌≡◌, ◌⊎◌, ◌<◌, ◌≤◌, ◌+◌, List, None, Ok, Some, length, IfErr, IfNone, IfOk, IfSome, IsErrOf, OnOk};
 ghost use Rattle.oram_redo.specs.Content.{Agrees, Content};
 ghost use Rattle.oram_redo.specs.FilePair.{Contents, Follows, ComesAfter, HasFailed, LeavesOnly, WritesNothing};
@@ -19,7 +19,7 @@ pub struct Entry {
     pub next: u64,
 }
 
-// The entry at a place of the log that has this head, if it has room.
+// Returns the entry with this head at a place of the log, if it fits in the log and its patch in the records.
 fn entry_of(bounds: Bounds, at: u64, head: Head) -> Option<Entry>
     ensures some { IfSome result (λ found. (found.at ≡ head.at) × (found.len ≡ head.len) × (found.next ≡ at + 13 + head.len)
         × (found.next < bounds.log_end) × (found.at + found.len ≤ bounds.records_end)) }
@@ -38,7 +38,7 @@ fn entry_of(bounds: Bounds, at: u64, head: Head) -> Option<Entry>
     })
 }
 
-// Reads the entry at a place of the log; `None` where its gate is shut.
+// Reads the entry at a place of the log. Returns `None` if its gate is shut.
 fn find_entry<F: FilePair>(
     alloc: Global,
     files: &mut F,
@@ -67,7 +67,7 @@ fn find_entry<F: FilePair>(
     }
 }
 
-/// Where the log's last entry ends.
+/// Returns the place where the log's last entry ends. Fails with `Damaged` if the log isn't a list of patches.
 pub fn end_of_log<F: FilePair>(
     alloc: Global,
     files: &mut F,
@@ -88,7 +88,8 @@ pub fn end_of_log<F: FilePair>(
     Ok(at)
 }
 
-/// Puts the log's patches into their places, without a sync. The log is as [`end_of_log`] has found it, so it isn't damaged.
+/// Writes the log's patches to their places, without a sync. Call it after [`end_of_log`] has found that the log isn't
+/// damaged.
 pub fn replay<F: FilePair>(alloc: Global, files: &mut F, bounds: Bounds) -> Result<(), RedoError>
     ensures log { Agrees (F.seen files.new FileKind.Log) (F.seen files.old FileKind.Log) }
     ensures records { F.is_honest files.new → (patches : _) → IsLog bounds patches (F.seen files.old FileKind.Log)

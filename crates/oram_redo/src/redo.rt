@@ -1,7 +1,8 @@
-//! The redo log. The form of its entries is in `specs/Log.antt`.
+//! The redo log. `specs/Log.antt` defines the form of its entries.
 //!
-//! A batch goes into the log in two writes, each with a sync: all but its first gate, and then that gate. So a crash finds the whole
-//! batch behind an open gate, or a gate that is shut. Then the batch goes to its places, without a sync: the log heals them.
+//! A batch goes into the log in two writes, each with a sync: everything but its first gate, and then that gate. So a
+//! crash leaves the whole batch behind an open gate, or a gate that is shut. Then the batch is written to its places,
+//! without a sync: whatever a crash does to them, replaying the log heals it.
 ghost use Rattle.std.specs.Prelude.{◌≡◌, ◌⊎◌, ◌<◌, ◌≤◌, ◌+◌, ◌^◌, ◌++◌, ◌∷◌, [], List, ℕ, All, length, IfNone, IfOk, IfSome, IfErr, IsErrOf, OnOk};
 ghost use Rattle.oram_redo.specs.Batch.{patches_of};
 ghost use Rattle.oram_redo.specs.Content.{Content, Agrees, bytes_at, put};
@@ -15,25 +16,27 @@ use crate::steps::{put_in_place, read, read_onto, set_gate, sync_both, write_syn
 use crate::{Bounds, FileKind, FilePair, Patch, RedoError};
 use std::alloc::Global;
 
-/// A log's bounds, and where its next entry will stand.
+/// The state of a redo log between two calls: its bounds, and the place of its next entry.
 ///
-/// Where a call answers `Failed`, the files are in some state that a crash may leave: open them again, by [`recover`].
+/// After a call has failed with `Failed`, the files are in some state that a crash may leave: open them again with
+/// [`recover`].
 #[derive(Clone, Copy, Debug)]
 pub struct Redo {
     bounds: Bounds,
     end: u64,
 }
 
-/// Syncs both files, and puts the log's patches into their places. A crash meanwhile does no harm, and the log stays as it is.
-/// A log that stands for nothing is `Damaged`: it isn't touched.
+/// Syncs both files, and writes the log's patches to their places. A crash meanwhile does no harm. The log isn't
+/// changed. If the log isn't a list of patches, this fails with `Damaged` and writes nothing.
 pub fn recover<F: FilePair>(alloc: Global, files: &mut F, bounds: Bounds) -> Result<Redo, RedoError>
-    // What is read is what the files stood for.
+    // Reads return the records that the files stood for.
     ensures records { OnOk result (F.is_honest files.new → StandsFor bounds [] (F.seen files.new FileKind.Records) (F.seen files.old)) }
     ensures settled { IfOk result (λ redo. F.is_honest files.new → IsSettled redo [] (F.seen files.new) (F.may_leave files.new)) }
     ensures bounds { IfOk result (λ redo. bounds_of redo ≡ bounds) }
     ensures log { Agrees (F.seen files.new FileKind.Log) (F.seen files.old FileKind.Log) }
 
-    // A crash at any moment leaves what one before the call might have left, or files that stand for the same records.
+    // A crash at any moment leaves what a crash before the call might have left, or files that stand for the same
+    // records.
     ensures any_moment { F.is_honest files.new → LeavesOnly F.moment F.left_since files.old files.new
         (λ c. F.may_leave files.old c ⊎ StandsAlike bounds (F.seen files.old) c) }
 
@@ -70,7 +73,7 @@ impl Redo {
         read(alloc, files, FileKind::Records, at, len)
     }
 
-    /// Reads `len` bytes of the records behind other bytes.
+    /// Reads `len` bytes of the records, and appends them to `bytes`.
     pub fn read_onto<F: FilePair>(
         &self,
         files: &mut F,
@@ -89,8 +92,8 @@ impl Redo {
         read_onto(files, FileKind::Records, at, len, bytes)
     }
 
-    /// Commits a batch: all of it or, at a crash before `Ok`, maybe nothing. Loose patches stay loose.
-    /// At `Memory`, `NoRoom` and `LogFull` nothing is done.
+    /// Commits a batch. A crash before `Ok` leaves all of the batch or nothing of it. Loose patches stay loose. After
+    /// `Memory`, `NoRoom` and `LogFull` nothing is done.
     pub fn commit<F: FilePair>(
         &mut self,
         alloc: Global,
@@ -99,7 +102,7 @@ impl Redo {
     ) -> Result<(), RedoError>
         requires { All (Fits (bounds_of self.old)) (patches_of batch.now) }
 
-        // At Ok the batch is acknowledged: from then on each crash leaves files that have it.
+        // After Ok the batch is acknowledged: each crash from then on leaves files that have it.
         ensures acknowledged { OnOk result ((loose : _) → IsSettled self.old loose (F.seen files.old) (F.may_leave files.old)
             → IsSettled self.new loose (F.seen files.new) (F.may_leave files.new)) }
         ensures records { OnOk result (Agrees (F.seen files.new FileKind.Records) (put_all (patches_of batch.now) (F.seen files.old FileKind.Records))) }
@@ -109,7 +112,7 @@ impl Redo {
             → LeavesOnly F.moment F.left_since files.old files.new
             (AllOrNothing (bounds_of self.old) loose (F.seen files.old) (patches_of batch.now)) }
 
-        // A call that is refused has done nothing: at no moment does a crash leave the batch.
+        // A call that is refused has done nothing: no crash leaves the batch.
         ensures refused { IsRefused result → (loose : _) → IsSettled self.old loose (F.seen files.old) (F.may_leave files.old)
             → IsSettled self.new loose (F.seen files.new) (F.may_leave files.new)
             × LeavesOnly F.moment F.left_since files.old files.new (Keeps (bounds_of self.old) loose (F.seen files.old)) }
@@ -126,7 +129,7 @@ impl Redo {
             return Ok(());
         }
         let (body, end) = self.spell(alloc, batch)?;
-        // All but the first gate, and the shut gate behind: what stands there doesn't count yet.
+        // Everything but the first gate, with a shut gate at the end. These bytes don't count yet.
         write_synced(files, FileKind::Log, self.end + 1, &body[1..])?;
         set_gate(files, self.end, OPEN)?;
         put_in_place(files, batch)?;
@@ -134,7 +137,7 @@ impl Redo {
         Ok(())
     }
 
-    // The batch's entries with a shut gate behind them, and where that gate will stand.
+    // Returns the batch's entries with a shut gate after them, and the place of that gate.
     fn spell(&self, alloc: Global, batch: &[Patch]) -> Result<(Vec<u8>, u64), RedoError>
         requires { All (Fits (bounds_of self.now)) (patches_of batch.now) }
         ensures body { IfOk result (λ spelled. spelled.0.items ≡ entries (patches_of batch.now) ++ 0 ∷ []) }
@@ -173,8 +176,8 @@ impl Redo {
         files.write_at(FileKind::Records, at, bytes)
     }
 
-    /// Syncs the records, so that loose patches are sure, and begins the log anew. The places have to be on the disk first: a log that
-    /// is forgotten heals nothing.
+    /// Syncs the records, so that loose patches are durable, and then empties the log. The places have to be on the
+    /// disk first: an empty log heals nothing.
     pub fn restart<F: FilePair>(&mut self, files: &mut F) -> Result<(), RedoError>
         ensures settled { OnOk result ((loose : _) → IsSettled self.old loose (F.seen files.old) (F.may_leave files.old)
             → IsSettled self.new [] (F.seen files.new) (F.may_leave files.new)) }
@@ -190,7 +193,8 @@ impl Redo {
         ensures failed { IfErr result (λ e. (e ≡ RedoError.Failed) × HasFailed F.failures F.shortages files.old files.new) }
     {
         files.sync(FileKind::Records)?;
-        // A gate that is shut is not shut again: torn, that write could open it over what was left behind it.
+        // A shut gate isn't shut again: a crash might tear that write and open the gate, and the old entries after it
+        // would count.
         if self.end == self.bounds.log_start {
             return Ok(());
         }
@@ -200,7 +204,7 @@ impl Redo {
     }
 }
 
-// Where `size` bytes from `end` on end, if a byte more has room before `room_end`.
+// Returns the place where `size` bytes from `end` on end, if one more byte fits before `room_end`.
 fn end_behind(end: u64, size: usize, room_end: u64) -> Option<u64>
     ensures some { IfSome result (λ next. (next ≡ end + size) × (next < room_end)) }
     ensures none { IfNone result (room_end ≤ end + size) }

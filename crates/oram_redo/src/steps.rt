@@ -1,4 +1,4 @@
-//! Steps of a few calls of a pair each.
+//! Steps that make a few calls on a pair of files.
 ghost use Rattle.std.specs.Prelude.{◌≡◌, ◌⊎◌, ◌∷◌, [], length, IfErr, IfOk, IsErrOf, OnOk};
 ghost use Rattle.oram_redo.specs.Batch.{patches_of};
 ghost use Rattle.oram_redo.specs.Content.{Agrees, bytes_at};
@@ -10,7 +10,7 @@ use crate::batch::Patch;
 use crate::{FileKind, FilePair, RedoError};
 use std::alloc::Global;
 
-/// Reads `len` bytes of a file behind other bytes.
+/// Reads `len` bytes of a file, and appends them to `bytes`.
 pub fn read_onto<F: FilePair>(
     files: &mut F,
     file: FileKind,
@@ -47,7 +47,7 @@ pub fn read<F: FilePair>(
     Ok(bytes)
 }
 
-/// Syncs both files: at `Ok`, a crash leaves what a read returns.
+/// Syncs both files. After `Ok`, a crash leaves what a read returns.
 pub fn sync_both<F: FilePair>(files: &mut F) -> Result<(), RedoError>
     ensures log { OnOk result (IsSure FileKind.Log (F.seen files.new) (F.may_leave files.new)) }
     ensures records { OnOk result (IsSure FileKind.Records (F.seen files.new) (F.may_leave files.new)) }
@@ -59,7 +59,7 @@ pub fn sync_both<F: FilePair>(files: &mut F) -> Result<(), RedoError>
     files.sync(FileKind::Records)
 }
 
-/// Writes the bytes and syncs the file.
+/// Writes the bytes, and syncs the file.
 pub fn write_synced<F: FilePair>(
     files: &mut F,
     file: FileKind,
@@ -79,7 +79,8 @@ pub fn write_synced<F: FilePair>(
     files.sync(file)
 }
 
-/// Writes a byte over a gate of the log and syncs the log. That can't be taken back, so it fails where it finds no room.
+/// Writes a byte over a gate of the log, and syncs the log. That can't be taken back, so it fails with `Failed` even if
+/// it finds no room.
 pub fn set_gate<F: FilePair>(files: &mut F, at: u64, gate: u8) -> Result<(), RedoError>
     ensures written { OnOk result (Wrote FileKind.Log at (gate ∷ []) (F.seen files.old) (F.seen files.new)) }
     ensures sure { OnOk result (IsSure FileKind.Log (F.seen files.new) (F.may_leave files.new)) }

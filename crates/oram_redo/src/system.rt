@@ -1,8 +1,8 @@
 //! A pair of the operating system's files.
 //!
-//! No contract says what a file gives. So each call is noted with its answer in a record that only clauses read, and what a pair's files
-//! hold is defined by going through that record: `is_honest` says that each read has returned what was written. That each method makes
-//! the call that it notes has to be read here.
+//! No contract says what a file of the system returns. So each method notes its call and the result in a record that
+//! only contracts read, and that record defines what the files hold: `is_honest` says that each read has returned what
+//! was written. The prover can't check that a method really makes the call that it notes: for that, read the code here.
 ghost use Rattle.std.specs.Prelude.{◌≡◌, ◌⊎◌, ◌+◌, ◌∷◌, true, false, List, ℕ, length, take, IfErr, IfOk, OnOk, refl, if◌then◌else◌};
 ghost use Rattle.std.proofs.Common.{inl};
 ghost use Rattle.oram_redo.specs.FilePair.{Contents};
@@ -23,18 +23,20 @@ const READ: u64 = 2;
 
 const SYNC: u64 = 3;
 
-/// How much the log grows at the least, where it has to.
+/// How many bytes the log grows ahead when a write reaches past its end.
 const MEBIBYTE: u64 = 1 << 20;
 
-/// Zeros are written in pieces of this length.
+/// The length of the pieces in which zeros are written, in bytes.
 const PIECE: usize = 4_096;
 
-/// What two files held when they were opened. A function over `S: Start` is proved for all contents, which no code can read.
+/// What two files held when they were opened. A function over `S: Start` is proved for all contents. No code can read
+/// them.
 pub trait Start: Drop {
     ghost first: { Contents };
 }
 
-/// For `main` to name. At this type a clause on values says nothing of files that are not empty.
+/// The `Start` for `main` to name. For this type, a contract about values says nothing of files that are not empty at
+/// first.
 #[derive(Drop)]
 pub struct Unknown;
 
@@ -42,16 +44,17 @@ impl Start for Unknown {
     ghost first = { λ file i. 0 };
 }
 
-/// A file of records and its log, both open for reading and writing. After a sync that failed, no later sync answers `Ok`.
+/// A file of records and its log, both open for reading and writing. After a sync has failed, no later sync returns
+/// `Ok`.
 #[derive(Drop)]
 pub struct SystemPair<S: Start> {
     records: File,
     log: File,
-    /// Nothing was written to the log behind it.
+    /// The length of the log. Nothing was written past it.
     log_len: Cell<u64>,
-    /// The log doesn't grow past it ahead of what is written.
+    /// The log doesn't grow past this length ahead of what is written.
     log_room: u64,
-    /// How many bytes were written to the records since they were last synced.
+    /// The number of bytes that were written to the records since their last sync.
     put: Cell<u64>,
     has_failed: bool,
     noted: Record,
@@ -61,8 +64,8 @@ pub struct SystemPair<S: Start> {
 impl<S: Start> SystemPair<S> {
     ghost use Rattle.oram_redo.specs.Fresh.{IsFresh};
 
-    /// Syncs both files, so that the disk has what a read returns. `S` stands for what they hold; its value is used up. Ahead of what
-    /// is written the log grows to `log_room` at the most.
+    /// Syncs both files, so that the disk has what a read returns. The type `S` stands for what they hold; its value
+    /// isn't kept. The log grows ahead of what is written, but not past `log_room` bytes.
     pub fn new(_start: S, records: File, log: File, log_room: u64) -> io::Result<Self>
         ensures { IfOk result IsFresh }
     {
@@ -81,19 +84,21 @@ impl<S: Start> SystemPair<S> {
         })
     }
 
-    /// Has the log reach to this place before it is written to, so that a sync has no new length to keep, and is quicker.
+    /// Makes the log longer before a write that ends past its end. So the sync after the write has no new length to
+    /// save, and is quicker.
     fn reach(&self, end: u64) {
         let len = self.log_len.get();
         if end <= len {
             return;
         }
         self.grow_log(len.saturating_add(MEBIBYTE));
-        // A write past that makes the log longer by itself.
+        // A write past the new length makes the log longer by itself.
         self.log_len.set(self.log_len.get().max(end));
     }
 
-    /// Has the log grow, where the records were synced, by half of what was written to these since the last time. A formatting writes to
-    /// the records alone, and has to be waited for anyway: so the first batches behind it find a log that needn't grow.
+    /// After a sync of the records, makes the log longer by half of what was written to the records since their last
+    /// sync. A formatting writes only to the records, and people wait for it anyway; so the first batches after it find
+    /// a log that needn't grow.
     fn grow_beside(&self, synced: FileKind) {
         if synced != FileKind::Records {
             return;
@@ -103,8 +108,8 @@ impl<S: Start> SystemPair<S> {
         self.grow_log(self.log_len.get().saturating_add(half));
     }
 
-    /// Has the log grow to this length, as far as it may. What it grows by is zeros, which is what a read past its end gives too. Where
-    /// there is no room for them it stays as long as it is.
+    /// Makes the log `wanted` bytes long, but at most `log_room`. It adds zeros, which is also what a read past the end
+    /// returns. If there is no room for them, the log stays as long as it is.
     fn grow_log(&self, wanted: u64) {
         let old = self.log_len.get();
         let len = wanted.min(self.log_room);
@@ -135,7 +140,7 @@ fn note(noted: &mut Record, kind: u64, file: FileKind, at: u64, is_ok: bool, byt
     }
 }
 
-// Reads `len` bytes behind others, zeros past the end.
+// Reads `len` bytes and appends them to `bytes`, with zeros past the end of the file.
 fn read_behind(file: &File, at: u64, len: usize, bytes: &mut Vec<u8>) -> Result<(), RedoError>
     ensures front { OnOk result (take (length bytes.old.items) bytes.new.items ≡ bytes.old.items) }
     ensures len { OnOk result (length bytes.new.items ≡ length bytes.old.items + len) }
@@ -149,7 +154,7 @@ fn read_behind(file: &File, at: u64, len: usize, bytes: &mut Vec<u8>) -> Result<
     fill(file, at, &mut bytes[start..])
 }
 
-// Reads as many bytes as there is room for. Those past the file's end stay as they were.
+// Fills `bytes` from a place of the file. The bytes past the file's end stay as they were.
 fn fill(file: &File, at: u64, bytes: &mut [u8]) -> Result<(), RedoError>
     ensures { IfErr result (λ e. e ≡ RedoError.Failed) }
 {
@@ -216,7 +221,7 @@ impl<S: Start> FilePair for SystemPair<S> {
 
     ghost is_honest = { λ m. IsHonestRecord S.first m.noted.calls };
 
-    // Nothing is known of what makes a call fail.
+    // Nothing is known about what makes a call fail.
     ghost failures = { λ m n. Unit {0} };
 
     ghost shortages = { λ m n. Unit {0} };

@@ -1,4 +1,4 @@
--- Trees that agree do so after the other steps, which leave their content.
+-- Trees that agree still do after the other steps, which don't change their content.
 use Rattle.std.proofs.Common.{◌≡◌, ℕ, ◌+◌, ◌*◌, ◌/◌, ◌%◌, ◌^◌, ◌<◌, ◌≤◌, ◌==◌, if◌then◌else◌, List, [], ◌∷◌, length, slice_index, ap, sym, ◌∙◌, subst, arith}
 use Rattle.oram_geometry.specs.Sizes.{trees_of, depth_of, fanout}
 use Rattle.oram_run.specs.Shape.{Shape}
@@ -40,7 +40,7 @@ pub agrees_finished : (v : Shape) (s t : State) (w w' : World) → t.table ≡ s
 agrees_finished v s t w w' table content last first a =
     agrees_kept v s t w w' table content (λ k b n. no_next v s t s.queue t.queue k b (omega arith) n) (at_rest v t w' t.queue first) a
 
--- a good answer to a store in the middle
+-- a good answer to a STORE in the middle of a command
 pub agrees_fetched : (v : Shape) (s t : State) (w w' : World) (x : Submission) (rest : List Submission) → s.queue ≡ x ∷ rest
     → t.queue ≡ x ∷ rest → t.table ≡ s.table → t.named ≡ s.named → ((i c : ℕ) → w'.content i c ≡ w.content i c)
     → s.stage % 2 ≡ 1 → s.stage + 1 < 2 * trees_of v.device → t.stage ≡ s.stage + 1 → Agrees v s w → Agrees v t w'

@@ -1,4 +1,5 @@
--- Cores whose trees agree: one just formatted, and one at rest whose table and map blocks name what the trees hold.
+-- Cores whose trees agree: one just formatted, and one at rest whose table and map blocks name the leaves that the
+-- trees have.
 use Rattle.std.proofs.Common.{◌≡◌, ℕ, suc, ◌+◌, ◌-◌, ◌*◌, ◌/◌, ◌%◌, ◌^◌, ◌<◌, ◌≤◌, Bool, if◌then◌else◌, List, [], ◌∷◌, length, replicate, slice_index, take, IsSome, Option, Some, None, refl, ap, sym, ◌∙◌, subst, arith, inl, inr}
 use Rattle.std.specs.List.{All}
 use Rattle.std.specs.Int.{w32, from_be_bytes}
@@ -52,7 +53,7 @@ held_fits v i tree records content a e stands stash some is =
           entry_fits v.device i c e (subst (λ (k : ℕ). IsBlockOf v.device k c) same block) (sym (stands.stored.holds.from_tree n c h.3 h.4) ∙ ap content h.2 ∙ is)
     ]
 
--- what a tree that stands has of a block
+-- what a tree that stands has for a block
 pub record IsFound (d : Sizes) (i : ℕ) (o : Option Held) : Type 0 where
   pub sized : length (found_in d o) ≡ d.block_bytes
   pub leaves : name_of o ≤ 2 ^ depth_of d i
@@ -65,7 +66,7 @@ no_next : (v : Shape) (s : State) (queue : List Submission) (i b : ℕ) → s.st
 no_next v s [] i b z = λ n. n
 no_next v s (x ∷ rest) i b z = λ n. absurd (let more : 0 < s.stage = n.0.0 in omega arith)
 
--- zeros name nothing
+-- zeros name no leaf
 zeros_name : (n j : ℕ) → 4 * j + 4 ≤ n → entry_in (replicate n 0) j ≡ 0
 unfolding entry_in
 zeros_name n j fits =
@@ -92,7 +93,7 @@ none_named v trees i b fit below inside =
           ∙ zeros_name d.block_bytes (b % fanout d) (omega (arith, fit.words.whole))
     ]
 
--- a core just formatted
+-- a core that has just been formatted
 pub agrees_new : (v : Setting) (trees : List Tree) → IsFit v.shape.device → Agrees v.shape (new_state v trees) (world_of v [])
 agrees_new v trees fit = record {
   sized = λ i b below. ap (λ (m : Map). length (found_in v.shape.device (m b))) (empty_content v i) ∙ length-replicate v.shape.device.block_bytes 0;

@@ -1,4 +1,4 @@
--- Trees that agree do so after an access.
+-- Trees that agree still do after an access.
 use Rattle.std.proofs.Common.{◌≡◌, ◌≢◌, ℕ, zero, suc, ◌+◌, ◌-◌, ◌*◌, ◌/◌, ◌%◌, ◌^◌, ◌<◌, ◌≤◌, ◌==◌, Bool, true, false, if◌then◌else◌, List, ◌∷◌, length, slice_index, slice_set, Some, refl, ap, sym, ◌∙◌, subst, arith, inl, inr}
 use Rattle.std.proofs.lemmas.List.{get_or-set_same, get_or-set_other, length-replicate}
 use Rattle.std.proofs.lemmas.Nat.{mod_below, div-add-mod'}
@@ -73,7 +73,7 @@ module _ (v : Shape) (s t : State) (w w' : World) (x : Submission) (rest : List 
       let other : (b == a) ≡ false = grind (arith, nat_tests) in
       q.content' i b ∙ rw (one, other) refl
 
-  -- the table, but for the accessed block of the last tree
+  -- the table is unchanged, except for the accessed block of the last tree
   table_other : (b : ℕ) → (i + 1 ≡ trees_of v.device → b ≢ a) → slice_index t.table b ≡ slice_index s.table b
   table_other b apart =
       ap (λ xs. slice_index xs b) q.table'
@@ -121,7 +121,7 @@ module _ (v : Shape) (s t : State) (w w' : World) (x : Submission) (rest : List 
       ∙ ap (λ xs. entry_in xs (b % fanout v.device)) q.found
       ∙ sym (ap (λ n. entry_in (found_in v.device (w.content n (b / fanout v.device))) (b % fanout v.device)) e ∙ ap (λ n. entry_in (found_in v.device (w.content i n)) (b % fanout v.device)) up)
 
-  -- what is named stays, but for the accessed block and for the next tree's
+  -- the map entries are unchanged, except for the accessed block and the next tree's block
   named_other : (k b : ℕ) → HasEntries v.device → Agrees v s w → (k ≡ i → b ≢ a) → (k + 1 ≡ i → b ≢ block_of v.device k x)
       → named_for v t w' k b ≡ named_for v s w k b
   named_other k b h agrees here below =
@@ -148,7 +148,7 @@ module _ (v : Shape) (s t : State) (w w' : World) (x : Submission) (rest : List 
             ]
           ]
 
-  -- what is named for the accessed block is its new leaf
+  -- the map entry for the accessed block names its new leaf
   named_here : HasEntries v.device → Agrees v s w → named_for v t w' i a ≡ new_leaf v.device i x + 1
   named_here h agrees =
       let few : s.stage < 2 * trees_of v.device = q.few in
@@ -264,7 +264,7 @@ module _ (v : Shape) (s t : State) (w w' : World) (x : Submission) (rest : List 
             ∙ entry_here bytes (block_of v.device j x % fanout v.device) (new_leaf v.device j x + 1) (place_fits j h agrees) (omega (arith, small.0, small.1));
       }
 
-  -- trees that agree do so after an access
+  -- trees that agree still do after an access
   pub agrees_on : HasEntries v.device → Agrees v s w → has_bad_length v.device x.command ≡ false
       → ((k : ℕ) → block_of v.device k x < blocks_in v.device k) → Agrees v t w'
   agrees_on h agrees ok inside = record {

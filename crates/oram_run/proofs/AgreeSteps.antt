@@ -1,4 +1,4 @@
--- Trees that agree do so after each event that doesn't fail the device.
+-- Trees that agree still do after each event that doesn't fail the device.
 use Rattle.std.proofs.Common.{◌≡◌, ◌≢◌, ℕ, ◌+◌, ◌-◌, ◌*◌, ◌%◌, ◌<◌, ◌==◌, Bool, true, false, if◌then◌else◌, List, [], ◌∷◌, ◌++◌, length, length-append, slice_set, Option, Some, None, refl, ap, sym, ◌∙◌, subst, arith, inl, inr}
 use Rattle.std.specs.List.{All}
 use Rattle.std.proofs.lemmas.List.{length-set}
@@ -30,18 +30,18 @@ use Rattle.oram_run.proofs.AgreeOn.{agrees_on}
 use Rattle.oram_run.proofs.AgreeKept.{agrees_kept, agrees_finished, agrees_fetched, named_kept}
 use Rattle.oram_run.proofs.Submitted.{passed}
 
--- its blocks are the trees'
+-- the block that a command has in each tree is one of the tree's blocks
 inside : (v : Shape) (x : Submission) → IsFit v.device → IsAllowed v.device x → (k : ℕ)
     → block_of v.device k x < blocks_in v.device k
 inside v x fit ok k =
     address_small v.device k (address_of x.command) fit.words.some (subst (λ n. address_of x.command < n) (blocks_in-zero v.device) ok.address)
 
--- what an event leaves
+-- the state after an event
 pub record IsLeft (v : Shape) (t : State) (w : World) : Type 0 where
   pub orderly : IsOrderly v t
   pub agrees : Agrees v t w
 
--- an event that leaves table, queue, stage and content
+-- an event that leaves table, queue, stage and content unchanged
 
 next_same : (v : Shape) (s t : State) (queue : List Submission) (k b : ℕ) → t.stage ≡ s.stage → IsNext v s queue k b
     → IsNext v t queue k b
@@ -207,7 +207,7 @@ left_good v s t w (x ∷ rest) y fit qu o a mv =
 
 -- all events
 
--- what an event leaves that doesn't fail the device
+-- the state after an event that doesn't fail the device
 abbrev After : Shape → State → State → World → Shown → Moved → Type 0
 After v s t w y m = MovesTo v s w m y t → t.failure ≡ None → IsLeft v t (world_after v w m y.sends)
 
@@ -250,7 +250,7 @@ left_retried v s t w y Idle o a = left_quiet v s t w y (stays s w Unexpected) re
 left_retried v s t w y Waiting o a = left_quiet v s t w y (stays s w Unexpected) refl refl refl refl (λ i c. refl) o a
 left_retried v s t w y Over o a = left_quiet v s t w y (stays s w Unexpected) refl refl refl refl (λ i c. refl) o a
 
--- Trees that agree do so after each event that doesn't fail the device, and the core stays orderly.
+-- Trees that agree still do after each event that doesn't fail the device, and the core stays orderly.
 pub agrees_moved : (v : Shape) (s t : State) (w : World) (event : Event) (y : Shown) → IsFit v.device → IsOrderly v s
     → Agrees v s w → Moves v s w event y t → t.failure ≡ None → IsLeft v t (world_after v w (moved v s w event) y.sends)
 agrees_moved v s t w (Submit session c words) y fit o a =

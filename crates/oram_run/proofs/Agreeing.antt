@@ -1,4 +1,4 @@
--- Trees that agree have what the outstanding fetch needs.
+-- Trees that agree have what the outstanding FETCH needs.
 use Rattle.std.proofs.Common.{◌≡◌, ℕ, zero, suc, ◌+◌, ◌-◌, ◌*◌, ◌/◌, ◌%◌, ◌^◌, ◌<◌, ◌≤◌, ◌==◌, Bool, true, false, if◌then◌else◌, List, ◌∷◌, slice_index, refl, ap, sym, ◌∙◌, subst, arith}
 use Rattle.std.proofs.lemmas.Bool.Decides.{nat_tests}
 use Rattle.oram_geometry.specs.Sizes.{trees_of, depth_of, blocks_in, fanout}
@@ -12,7 +12,7 @@ use Rattle.oram_run.specs.Agree.{named_for, next_tree, IsAmid, IsBetween, AtBetw
 use Rattle.oram_run.specs.declared.events.Submission.{Submission}
 use Rattle.oram_run.proofs.Maps.{above}
 
--- what a block names is what is named for its block of the tree below
+-- the entry that a block has is the map entry for its block of the tree below
 pub next_is_named : (v : Shape) (s : State) (w : World) (x : Submission) (i : ℕ) → i + 1 < trees_of v.device
     → next_named v.device (suc i) x (found_in v.device (w.content (suc i) (block_of v.device (suc i) x))) ≡ named_for v s w i (block_of v.device i x)
 unfolding next_named
@@ -62,7 +62,7 @@ named_by_stage v s w x rest (suc r) e qu even few some inside a =
     ap (λ (i : ℕ). name_of (w.content i (block_of d i x))) same ∙ sym bet.held
     ∙ sym (ap (λ (t : Bool). if t then slice_index s.table (block_of d (trees_of d - 1) x) else s.named) later)
 
--- trees that agree are ready for the outstanding fetch
+-- trees that agree are ready for the outstanding FETCH
 pub agreeing_ready : (v : Shape) (s : State) (w : World) (x : Submission) (rest : List Submission) → s.queue ≡ x ∷ rest
     → s.stage % 2 ≡ 0 → s.stage < 2 * trees_of v.device → 0 < trees_of v.device
     → ((k : ℕ) → block_of v.device k x < blocks_in v.device k) → Agrees v s w → IsReadyFor v s w x

@@ -12,7 +12,7 @@ use Rattle.oram_run.specs.Run.{AskFor}
 use Rattle.oram_run.specs.TwoWorlds.{LooksLike, LookAlike}
 use Rattle.oram_run.proofs.Counts.{header_is}
 
--- one device, and sealers of one overhead
+-- one device, and sealers with the same overhead
 pub record AreOneShape (v u : Shape) : Type 0 where
   pub device : u.device ≡ v.device
   pub overhead : u.overhead ≡ v.overhead
@@ -51,7 +51,7 @@ asks_alike v u past other s (suc n) (x ∷ xs) (y ∷ ys) one same ask also = (
   asks_alike v u past other (s + 1) n xs ys one (λ m low high. same m (omega arith) (omega arith)) ask.1 also.1,
 )
 
--- the newest of the messages sent stay alike when more are sent that are
+-- the newest of the messages sent stay alike when more messages are sent that look alike
 pub newest_alike : (xs ys older others : List (List ℕ)) → LookAlike xs ys → LookAlike (take 1 older) (take 1 others)
     → LookAlike (take 1 (xs ++ older)) (take 1 (ys ++ others))
 newest_alike [] [] older others alike newest = newest

@@ -38,7 +38,7 @@ use Rattle.oram_run.proofs.Others.{all_one}
 use Rattle.oram_run.proofs.Nonces.{nonce_at, nonce_here, nonce_stored, nonce_fetched, nonce_finished}
 use Rattle.oram_run.proofs.Keeps.{Kept, RecordsAre, ContentIs, replies_calm, sends_right, not_accepted, follows_on, placed_one, placed_none, content_along, records_quiet, entry_split}
 
--- counts at a good answer
+-- the counts at a good answer
 
 pub sent_before : (h o q r g : ℕ) → r < 2 * h → g ≡ o * (2 * h) + r → g + 1 ≡ min (g + 1) (2 * h * (o + (q + 1)))
 sent_before h o q r g few e = omega arith
@@ -185,7 +185,7 @@ body_is d old bytes (Read a) e = ap Data e
 body_is d old bytes (Write a new) e = refl
 body_is d old bytes (Discard a) e = refl
 
--- the next command's fetch, if there is a next
+-- the next command's FETCH, if there is a next command
 next_due : (v : Setting) (past : List Step) (step : Step) (old rest : List Submission) (s : State) (y : Submission) (g : ℕ)
     (last : List ℕ) → IsFit v.shape.device → g ≡ length old * (2 * trees_of v.shape.device) + s.stage
     → s.stage + 1 ≡ 2 * trees_of v.shape.device → (progress v past).good ≡ g → (progress v (step ∷ past)).good ≡ g + 1
@@ -221,7 +221,7 @@ next_due v past step old (z ∷ rest) s y g last fit good whole before after a s
     (sent_is v past g (length old + (length rest + 1 + 1)) (g + 1) before len (sent_before (trees_of d) (length old) (length rest + 1) s.stage g few good))
     (sent_is v (step ∷ past) (g + 1) (length old + (length rest + 1 + 1)) (g + 1 + 1) after (ap length a ∙ len) (sent_next (trees_of d) (length old) (length rest) s.stage g whole good)) due
 
--- what stands at the host, where nothing or a new message is sent
+-- the records at the host, if no message or a new one is sent
 pub records_first : (v : Setting) (past : List Step) (event : Event) (x : Shown) (m : Moved) (table : List ℕ)
     (rest : List Submission) → m.ask ≡ first_fetch v.shape.device table rest
     → Sends v.shape [] (first_fetch v.shape.device table rest) x.sends → RecordsAre v past event x m

@@ -1,4 +1,4 @@
--- A formatting that was broken off: its messages are a beginning of a whole one's.
+-- A formatting that was broken off: its messages are a beginning of those of a whole one.
 use Rattle.std.proofs.Common.{◌≡◌, ℕ, zero, suc, ◌+◌, ◌-◌, ◌^◌, ◌<◌, ◌≤◌, List, [], ◌∷◌, ◌++◌, refl, ap, sym, ◌∙◌, subst, arith, append_assoc}
 use Rattle.std.proofs.lemmas.List.{append-nil}
 use Rattle.sha2.specs.Sha256.{sha256}
@@ -40,7 +40,7 @@ tree_made v i device law below =
     device refl refl law.longer law.undoes fits refl tt (all_taken bodies) refl in
     (record { number = i; root = sha256 (root_record (λ n. v.sealing n (spelling d [])) (depth_of d i) nonce); stash = [] }, is.0, record { number = refl; made = is.2 })
 
--- and so those that are left
+-- and so can those that are left
 rest_made : (v : Shape) (left n : ℕ) (trees : List Tree) (messages : List (List ℕ)) → IsDevice v.device → IsLawful v
     → n + left ≡ trees_of v.device → AreTreesMade v n trees messages → IsFormatBegun v messages
 rest_made v zero n trees messages device law all are =
@@ -52,7 +52,7 @@ rest_made v (suc left) n trees messages device law all are =
     rest_made v left (n + 1) (trees ++ one.0 ∷ []) (messages ++ one.1) device law (omega arith) (one_more_made v n trees messages one.1 one.0 are one.2) in
     (one.1 ++ next.0, next.1, subst (λ (ms : List (List ℕ)). AreTreesMade v (trees_of v.device) next.1 ms) (append_assoc messages one.1 next.0) next.2)
 
--- where some trees were made,
+-- if some trees were made,
 pub begun_between : (v : Shape) (n : ℕ) (trees : List Tree) (messages : List (List ℕ)) → IsDevice v.device → IsLawful v
     → n ≤ trees_of v.device → AreTreesMade v n trees messages → IsFormatBegun v messages
 begun_between v n trees messages device law few are =

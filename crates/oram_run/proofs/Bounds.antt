@@ -24,19 +24,19 @@ pub depth_small : (d : Sizes) (i : ℕ) → depth_of d i ≤ 24
 unfolding level_for
 depth_small d i = least_high (λ l. nat_le (blocks_in d i) (2 ^ l)) 0 24
 
--- a block of the device has one in each tree
+-- a block of the device belongs to one block in each tree
 pub address_small : (d : Sizes) (i a : ℕ) → 0 < fanout d → a < d.blocks → address_in d i a < blocks_in d i
 address_small d zero a some below =
     subst (λ (n : ℕ). address_in d 0 a < n) (sym (blocks_in-zero d)) (subst (λ (n : ℕ). n < d.blocks) (sym (address_in-zero d a)) below)
 address_small d (suc i) a some below =
     subst (λ (k : ℕ). address_in d k a < blocks_in d k) (let z : i + 1 ≡ suc i = omega arith in z) (address_in-below d i a some (address_small d i a some below))
 
--- what is needed of a device's numbers for its map blocks
+-- what map blocks require of a device's numbers
 pub record HasEntries (d : Sizes) : Type 0 where
   pub some : 0 < fanout d
   pub whole : d.block_bytes ≡ 4 * fanout d
 
--- what is needed of a device's numbers
+-- the bounds that are needed of a device's numbers
 pub record IsFit (d : Sizes) : Type 0 where
   pub some : 0 < trees_of d
   pub words : HasEntries d

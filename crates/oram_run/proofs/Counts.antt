@@ -1,4 +1,4 @@
--- How a past goes on, and which tickets and entries come at a step.
+-- How a past goes on, and which tickets and entries are added at a step.
 use Rattle.std.proofs.Math.Path.{fun_ext}
 use Rattle.std.proofs.Common.{◌≡◌, ℕ, ◌+◌, ◌-◌, ◌*◌, ◌<◌, ◌==◌, get_or, get_or-take, min, ◌^◌, Bool, true, false, if◌then◌else◌, List, [], ◌∷◌, ◌++◌, length, reverse, map, take, drop, slice_index, slice_range, Option, Some, None, unwrap_or, refl, ap, sym, ◌∙◌, arith, length-append, append_assoc}
 use Rattle.std.specs.Int.{w32, to_be_bytes, from_be_bytes}
@@ -38,7 +38,7 @@ sent_cons s past = refl
 abbrev put_over : Shape → List ℕ → (ℕ → ℕ → List ℕ) → ℕ → ℕ → List ℕ
 put_over v m f i n = unwrap_or (written v m i n) (f i n)
 
--- messages that go out change what was last stored
+-- messages that are sent change what was last stored
 stored_more : (v : Shape) (sends older : List (List ℕ))
     → last_stored v (sends ++ older) ≡ records_after v (last_stored v older) sends
 unfolding last_stored
@@ -57,7 +57,7 @@ stored_again : (v : Shape) (m : List ℕ) (older : List (List ℕ)) (i n : ℕ)
 unfolding last_stored
 stored_again v m older i n = elim (written v m i n) as (λ o. unwrap_or o (unwrap_or o (last_stored v older i n)) ≡ unwrap_or o (last_stored v older i n)) [ None ↦ refl | Some r ↦ refl ]
 
--- the last message again changes nothing
+-- sending the last message again changes nothing
 pub again_same : (v : Shape) (m : List ℕ) (older : List (List ℕ)) → last_stored v (m ∷ m ∷ older) ≡ last_stored v (m ∷ older)
 again_same v m older = fun_ext (λ i. fun_ext (λ n. stored_again v m older i n))
 
@@ -78,7 +78,7 @@ pub accepted_len : (past : List Step) (old queue : List Submission) → accepted
     → length (accepted past) ≡ length old + length queue
 accepted_len past old queue e = ap length e ∙ length-append (reverse old) queue ∙ ap (λ n. n + length queue) (length-reverse old)
 
--- what is left when the answered tickets are gone
+-- the submissions without those that are answered
 pub rest_is : (past : List Step) (old queue : List Submission) (t : ℕ) → t ≡ length old
     → accepted past ≡ reverse old ++ queue → drop t (accepted past) ≡ queue
 rest_is past old queue t e split = rw (e, split) (drop_at (reverse old) queue (length old) (length-reverse old))
@@ -160,7 +160,7 @@ asked_is v e m small is =
     ∙ ap (λ (n : ℕ). record { fetch = e.fetch; tree = n; leaf = from_be_bytes w32 (slice_range m 2 6) }) tree
     ∙ ap (λ (n : ℕ). record { fetch = e.fetch; tree = e.tree; leaf = n }) leaf
 
--- a fetch has no STORE for its message,
+-- the message of a FETCH entry isn't a STORE,
 pub no_store : (v : Shape) (e : Entry) (y : List ℕ) → e.fetch ≡ true → IsMessage v e y → is_store y ≡ false
 no_store v e y fetch is =
     let op : slice_index y 0 ≡ 1 =
@@ -171,6 +171,6 @@ store_by : (v : Shape) (e : Entry) (y : List ℕ) (b : Bool) → e.fetch ≡ b �
 store_by v e y false f is store = refl
 store_by v e y true f is store = sym store ∙ no_store v e y f is
 
--- and a STORE is that of an entry that is no fetch
+-- and a STORE belongs to an entry that is no FETCH
 pub store_entry_is : (v : Shape) (e : Entry) (y : List ℕ) → IsMessage v e y → is_store y ≡ true → e.fetch ≡ false
 store_entry_is v e y is store = store_by v e y e.fetch refl is store

@@ -1,4 +1,4 @@
--- Which leaf an entry shows, by the submissions before it.
+-- The leaf that an entry shows, given the submissions before it.
 use Rattle.std.proofs.Common.{◌≡◌, ℕ, ◌+◌, ◌*◌, ◌%◌, ◌<◌, ◌==◌, Bool, true, false, if◌then◌else◌, cond, List, [], ◌∷◌, ◌++◌, length, reverse, slice_index, Option, Some, None, refl, ap, sym, ◌∙◌, arith, length-append, append_assoc}
 use Rattle.std.specs.List.{find}
 use Rattle.std.specs.Option.{option_map_or}
@@ -21,7 +21,7 @@ use Rattle.oram_run.specs.declared.events.Submission.{Submission}
 pub reverse_cons : {X : Type 0} (x : X) (old : List X) → reverse (x ∷ old) ≡ reverse old ++ x ∷ []
 reverse_cons x old = reverse-append (x ∷ []) old
 
--- a submission moves from the front of what is to come to what has been
+-- an element moves from the front of the coming ones to the past ones
 pub turn : {X : Type 0} (x : X) (old back : List X) → reverse (x ∷ old) ++ back ≡ reverse old ++ x ∷ back
 turn x old back = ap (λ xs. xs ++ back) (reverse_cons x old) ∙ append_assoc (reverse old) (x ∷ []) back
 
@@ -101,7 +101,7 @@ entry_by d xs words m n i f e t b =
     ∙ ap (λ (k : ℕ). record { fetch = f; tree = k; leaf = leaf_of d k (slice_index words (place d xs k (ticket_at d m))) }) e
     ∙ ap (λ (k : ℕ). record { fetch = f; tree = i; leaf = leaf_of d i (slice_index words (place d xs i k)) }) t
 
--- entry r of ticket n: its tree, its ticket, and whether it is a fetch
+-- entry r of ticket n: its tree, its ticket, and whether it is a FETCH
 pub entry_is : (d : Sizes) (old back : List Submission) (x : Submission) (r : ℕ) → r < 2 * trees_of d
     → HasWords (2 * trees_of d) old → length x.words ≡ 2 * trees_of d
     → entry d (addresses (reverse old ++ x ∷ back)) (tape (reverse old ++ x ∷ back)) (length old * (2 * trees_of d) + r)

@@ -1,4 +1,4 @@
--- A good answer to a store, and an accepted submission: what the core is afterwards.
+-- A good answer to a STORE, and an accepted submission: the core afterwards.
 use Rattle.std.proofs.Common.{◌≡◌, ◌≢◌, ℕ, ◌+◌, ◌-◌, ◌*◌, ◌%◌, ◌<◌, ◌==◌, Bool, true, false, List, [], ◌∷◌, ◌++◌, length, reverse, slice_index, None, refl, ap, sym, ◌∙◌, subst, arith}
 use Rattle.std.specs.List.{All}
 use Rattle.std.proofs.lemmas.List.Elements.{All-head, All-tail}
@@ -24,7 +24,7 @@ use Rattle.oram_run.proofs.Follows.{FitsTable, applied, applied_none, applied_ye
 use Rattle.oram_run.proofs.Counts.{asked_is, sent_cons}
 use Rattle.oram_run.proofs.Stores.{leaf_fits}
 
--- the fetch asks for its entry, where what is named is what was named last
+-- the FETCH asks for its entry, with the map entry that was held
 pub fetch_entry : (d : Sizes) (old : List Submission) (x : Submission) (r named : ℕ) → r % 2 ≡ 0
     → named ≡ named_in d (stage_tree d r) old (block_of d (stage_tree d r) x) → fetch_at d r named x ≡ entry_for d old x r
 fetch_entry d old x r named even e =
@@ -39,7 +39,7 @@ fetch_asked v old x r named m even e is =
     let same = fetch_entry v.device old x r named even e in
     asked_is v (entry_for v.device old x r) m (leaf_fits v.device old x r) (subst (λ (f : Entry). IsMessage v f m) same is)
 
--- the state after a store's good answer in the middle of a command
+-- the state after a good answer to a STORE in the middle of a command
 abbrev pub fetched_state : Setting → List Step → State → Submission → List Tree → ℕ → List ℕ → State
 fetched_state v past s x ts n m = record (fetches v.shape s (world_of v past) x).state { trees = ts; nonce = n; last = m }
 
@@ -83,7 +83,7 @@ live_fetched v past old rest s x step ts n m fit l qu w odd more calm p a sent_i
       work = subst (AtWork v (step ∷ past) old t) (sym qu) work;
     }
 
--- the content stays the closed form
+-- the content is still the defined one
 pub applied_fetched : (d : Sizes) (old rest : List Submission) (x : Submission) (r i : ℕ) → r % 2 ≡ 1
     → applied d old (x ∷ rest) (r + 1) i ≡ applied d old (x ∷ rest) r i
 applied_fetched d old rest x r i odd = applied_same d old rest x r i (omega arith)

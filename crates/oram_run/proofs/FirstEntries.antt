@@ -1,4 +1,4 @@
--- An entry is known by the addresses and words up to its ticket.
+-- An entry depends only on the addresses and words up to its ticket.
 use Rattle.std.specs.Io.{StartsWith}
 use Rattle.std.proofs.Common.{◌≡◌, ℕ, zero, suc, ◌+◌, ◌*◌, ◌%◌, ◌<◌, ◌≤◌, ◌==◌, min, Bool, if◌then◌else◌, List, ◌++◌, length, get_or-take, slice_index, Option, Some, ap, sym, ◌∙◌, arith, length-append}
 use Rattle.std.proofs.lemmas.List.{get_or_append_left, length-take}
@@ -28,7 +28,7 @@ place_same d xs ys i t n below same =
     ap (λ (x : ℕ). address_in d i x == address_in d i (slice_index xs t)) (same k (omega arith))
     ∙ ap (λ (x : ℕ). address_in d i (slice_index ys k) == address_in d i x) (same t below)))
 
--- an entry of n tickets is the same where their addresses and words are
+-- an entry of n tickets is the same if their addresses and words are
 pub entry_same : (d : Sizes) (xs ys words others : List ℕ) (n m : ℕ) → m < tape_len d n → AgreeBelow n xs ys
     → AgreeBelow (tape_len d n) words others → entry d xs words m ≡ entry d ys others m
 entry_same d xs ys words others n m below same alike =
@@ -41,11 +41,11 @@ entry_same d xs ys words others n m below same alike =
     ap (slice_index words) (place_same d xs ys i t n ticket same)
     ∙ alike (place d ys i t) (place-within d ys i t n tree ticket))
 
--- what a list starts with is no longer,
+-- a list is at least as long as any list that it starts with,
 pub start_short : (all xs : List ℕ) → StartsWith all xs → length xs ≤ length all
 start_short all xs starts = let len : min (length xs) (length all) ≡ length xs = sym (length-take (length xs) all) ∙ ap length starts in omega arith
 
--- and agrees with it, and so does what that starts with
+-- and agrees with it, and also with any list that that one starts with
 pub start_agrees : (all xs ys rest : List ℕ) → StartsWith all xs → xs ≡ ys ++ rest → AgreeBelow (length ys) ys all
 start_agrees all xs ys rest starts split k below =
     let len : length xs ≡ length ys + length rest = ap length split ∙ length-append ys rest in

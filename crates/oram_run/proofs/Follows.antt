@@ -1,4 +1,4 @@
--- How a core stands to the past that it has seen.
+-- How a core relates to the past that it has seen.
 use Rattle.std.proofs.Common.{◌≡◌, ◌≢◌, ℕ, ◌+◌, ◌-◌, ◌*◌, ◌/◌, ◌%◌, ◌<◌, ◌≤◌, ◌==◌, true, false, if◌then◌else◌, nat_lt, List, [], ◌∷◌, ◌++◌, length, reverse, take, slice_index, Option, Some, None, refl, ap, sym, ◌∙◌, arith}
 use Rattle.std.specs.List.{All}
 use Rattle.std.proofs.lemmas.List.{length-reverse, reverse-reverse, take_at}
@@ -22,21 +22,22 @@ use Rattle.oram_run.specs.declared.events.Submission.{Submission}
 use Rattle.oram_run.proofs.Entries.{HasWords, turn}
 use Rattle.oram_run.proofs.Bounds.{IsFit}
 
--- its block of the last tree is one of the table's, and there are two words for each tree
+-- the command's block of the last tree is in the table, and there are two words for each tree
 pub record FitsTable (d : Sizes) (s : Submission) : Type 0 where
   pub block : block_of d (trees_of d - 1) s < blocks_in d (trees_of d - 1)
   pub words : length s.words ≡ 2 * trees_of d
 
--- The accesses of tree i so far, the newest first: those of the submissions with a reply and, from the good answer to its fetch on, that of the oldest without.
+-- The accesses to tree i so far, the newest first: those of the submissions with a reply, and, once its FETCH there
+-- has had a good answer, that of the oldest one without.
 unfoldable pub applied : Sizes → List Submission → List Submission → ℕ → ℕ → List Submission
 applied d old [] r i = old
 applied d old (x ∷ rest) r i = if nat_lt (2 * (trees_of d - 1 - i)) r then x ∷ old else old
 
--- entry r of the oldest without a reply
+-- entry r of the oldest submission without a reply
 abbrev pub entry_for : Sizes → List Submission → Submission → ℕ → Entry
 entry_for d old x r = record { fetch = r % 2 == 0; tree = stage_tree d r; leaf = leaf_for d (stage_tree d r) (named_in d (stage_tree d r) old (block_of d (stage_tree d r) x)) x }
 
--- what a core keeps of the command that it works at
+-- what a core holds for the command at work
 pub record Working (v : Setting) (past : List Step) (old : List Submission) (s : State) (x : Submission) : Type 0 where
   pub stage : s.stage < 2 * trees_of v.shape.device
   pub asks : asked s.last ≡ entry_for v.shape.device old x s.stage
@@ -80,12 +81,12 @@ abbrev pub FollowsAt : Setting → List Step → List Submission → State → O
 FollowsAt v past old s (Some e) = Ended v past s e
 FollowsAt v past old s None = Live v past old s × AllStand v.shape s (world_of v past)
 
--- the core has seen this past
+-- the core follows this past
 pub record Follows (v : Setting) (past : List Step) (s : State) : Type 0 where
   pub old : List Submission
   pub follows : FollowsAt v past old s s.failure
 
--- which accesses are applied
+-- which accesses have taken effect
 
 pub applied_none : (d : Sizes) (old queue : List Submission) (i : ℕ) → applied d old queue 0 i ≡ old
 unfolding applied
@@ -104,7 +105,7 @@ pub applied_no : (d : Sizes) (old rest : List Submission) (x : Submission) (r i 
 unfolding applied
 applied_no d old rest x r i h = let less : nat_lt (2 * (trees_of d - 1 - i)) r ≡ false = grind (arith, nat_tests) in rw less refl
 
--- a good answer changes this for no tree but the one whose fetch it is to
+-- a good answer changes this only for the tree whose FETCH it answers
 pub applied_same : (d : Sizes) (old rest : List Submission) (x : Submission) (r i : ℕ) → 2 * (trees_of d - 1 - i) ≢ r
     → applied d old (x ∷ rest) (r + 1) i ≡ applied d old (x ∷ rest) r i
 unfolding applied
@@ -123,7 +124,7 @@ accesses_is d n r i h =
 take_old : (old queue : List Submission) (n : ℕ) → n ≡ length old → reverse (take n (reverse old ++ queue)) ≡ old
 take_old old queue n e = ap reverse (take_at (reverse old) queue n (length-reverse old ∙ sym e)) ∙ reverse-reverse old
 
--- the first commands are those with a reply, and the one at work once it is applied
+-- the first commands are those with a reply, and the one at work once its access has taken effect
 applied_is : (d : Sizes) (old queue : List Submission) (r i : ℕ) → (length queue ≡ 0 → r ≡ 0)
     → reverse (take (length old + (if nat_lt (2 * (trees_of d - 1 - i)) r then 1 else 0)) (reverse old ++ queue)) ≡ applied d old queue r i
 unfolding applied
@@ -136,7 +137,7 @@ applied_is d old (x ∷ rest) r i idle =
       | false ↦ take_old old (x ∷ rest) (length old + 0) (omega arith)
     ]
 
--- what each tree holds, where the submissions are split so
+-- what each tree holds, if the submissions are split in this way
 pub content_split : (v : Setting) (past : List Step) (old queue : List Submission) (r i : ℕ)
     → (progress v past).good ≡ length old * (2 * trees_of v.shape.device) + r → accepted past ≡ reverse old ++ queue
     → r < 2 * trees_of v.shape.device → (length queue ≡ 0 → r ≡ 0)

@@ -1,4 +1,4 @@
--- A formatted device: each tree stands, without blocks, over what the messages of the formatting have left.
+-- A formatted device: each tree stands, without blocks, in the records that the messages of the formatting leave.
 use Rattle.std.proofs.Math.Path.{fun_ext}
 use Rattle.std.proofs.Common.{◌≡◌, ℕ, zero, suc, ◌+◌, ◌*◌, ◌^◌, ◌<◌, ◌≤◌, List, [], ◌∷◌, ◌++◌, length, reverse, slice_index_or, Option, refl, ap, sym, ◌∙◌, subst, arith, inl, inr, length-append}
 use Rattle.std.specs.List.{flat_map}
@@ -30,7 +30,7 @@ use Rattle.oram_run.specs.Law.{new_state, world_of}
 use Rattle.oram_run.proofs.Bounds.{depth_small}
 use Rattle.oram_run.proofs.PostOrder.{Each, Some1, each_append, some_left, some_right, LeavesAtMost, Leaves, stored_one, written_shape, put_leaves, put_here, each_put, some_put}
 
--- what a tree asks of the records it asks of those of its nodes
+-- what a tree requires of the records, it requires only of those of its nodes
 
 module _ (depth size : ℕ) (root : List ℕ) (records others : ℕ → List ℕ) (same : (n : ℕ) → n < node_count depth → records n ≡ others n) where
   double : 2 ^ (depth + 1) ≡ 2 ^ depth * 2
@@ -76,7 +76,7 @@ stored_with_over opening overhead d t records others content same s = record {
   holds = content_over (depth_of d t.number) (record_len_of d overhead) t.root records others same (Reads opening d t.number) t.stash content s.holds;
 }
 
--- the messages of one tree leave its records at its nodes, and nothing in other trees
+-- the messages of one tree leave its records at its nodes, and no records in other trees
 
 each_part : (v : Shape) (j i n : ℕ) (r : List ℕ) (tree : Tree) (bodies : List (List ℕ)) (made : IsTreeMade v j tree bodies)
     → (j ≡ i → made.made.records n ≡ r) → Each (LeavesAtMost v i n r) bodies
@@ -140,7 +140,7 @@ unfolding accepted content_after
 empty_content v i =
     fun_ext (λ a. ap (λ xs. content_after v.shape.device i (reverse xs) a) (take-nil (accesses v.shape.device (progress v []).good i)))
 
--- A device just formatted: each tree stands over what was last stored.
+-- A device that has just been formatted: each tree stands in the records last stored.
 pub formatted_holds : (v : Setting) (trees : List Tree) → IsFormatted v trees → AllStand v.shape (new_state v trees) (world_of v [])
 unfolding sent
 formatted_holds v trees made i below =

@@ -23,7 +23,7 @@ pub one_step : (v : Setting) (past : List Step) (s t : State) (event : Event) (x
 one_step v past s t event x fit f step apart =
     keeps v past s t event x fit f (step (world_of v past) (fits v past s f.old s.failure refl fit f.follows) (pair_same v past s f.old event s.failure refl fit f.follows ∙ apart))
 
--- whatever follows is right
+-- everything that follows is right
 pub along : (v : Setting) (past : List Step) (s : State) (events : List Event) (xs : List Shown) → IsFit v.shape.device
     → Follows v past s → StepsAlong v.shape s events xs → AllRight v past events xs
 along v past s events [] fit f run = tt
@@ -32,7 +32,7 @@ along v past s (event ∷ events) (x ∷ xs) fit f run = λ apart.
     let k = one_step v past s run.0 event x fit f run.1 apart in
     (k.right, along v (step_of event x ∷ past) run.0 events xs fit k.follows run.2)
 
--- a core just formatted follows the empty past
+-- a core that has just been formatted follows the empty past
 pub new_follows : (v : Setting) (trees : List Tree) → IsFit v.shape.device
     → AllStand v.shape (new_state v trees) (world_of v []) → Follows v [] (new_state v trees)
 unfolding progress accepted named_in

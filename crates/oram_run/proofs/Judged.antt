@@ -1,4 +1,4 @@
--- What the check of a path tells, in the words of an answer's meaning.
+-- The result of the check of a path, in terms of what an answer means.
 use Rattle.std.proofs.Common.{◌≡◌, ◌≢◌, ℕ, zero, suc, ◌+◌, ◌*◌, ◌^◌, ◌<◌, ◌≤◌, ◌==◌, ◌&&◌, not, Bool, true, false, if◌then◌else◌, cond, List, [], ◌∷◌, ◌++◌, length, take, drop, slice_index, nat_le, Some, refl, ap, sym, ◌∙◌, arith, inl, inr, length-append}
 use Rattle.std.specs.List.{find, range_with_len, flat_map}
 use Rattle.std.specs.Str.{bytes_eq}
@@ -41,7 +41,7 @@ first_is records p l h =
     (λ k low high. ap not (bytes_same _ _ (h.same_above k high)))
     (ap not (bytes_differ _ _ h.differs))
 
--- two records of one digest are seen
+-- two records with the same digest are noticed
 pub pair_is : (v : Shape) (records : ℕ → ℕ → List ℕ) (e : Entry) (bytes : List ℕ) → is_payload v e bytes ≡ true
     → Collides (records e.tree) (answered_path v e bytes) → pair_in v records e bytes ≡ true
 unfolding pair_in
@@ -83,7 +83,7 @@ chunk_at size f a (suc n) (suc j) below h =
     ∙ ap (λ xs. take size (drop (j * size) xs)) (drop_at (f a) (flat_map f (range_with_len (a + 1) n)) size (h a (omega arith) (omega arith)))
     ∙ chunk_at size f (a + 1) n j (omega arith) (λ b low high. h b (omega arith) (omega arith)) ∙ ap f next
 
--- how long they are together
+-- their total length
 pub length_chunks : (size : ℕ) (f : ℕ → List ℕ) (a n : ℕ) → ((b : ℕ) → a ≤ b → b < a + n → length (f b) ≡ size)
     → length (flat_map f (range_with_len a n)) ≡ n * size
 length_chunks size f a zero h = omega arith
@@ -108,7 +108,7 @@ headed_refusal bytes e =
     let other : (slice_index bytes 0 == 129) ≡ false = grind (arith, nat_tests) in
     elim (length bytes == 2) as (λ b. (b && (slice_index bytes 0 == 129) && nat_le 1 (slice_index bytes 1) && nat_le (slice_index bytes 1) 7) ≡ false) [ true ↦ rw other refl | false ↦ refl ]
 
--- what a payload is
+-- the properties of a payload
 pub record IsPayload (v : Shape) (e : Entry) (bytes : List ℕ) : Type 0 where
   pub fetches : e.fetch ≡ true
   pub head : slice_index bytes 0 ≡ 128
@@ -122,7 +122,7 @@ payload_is v e bytes payload =
     let long : length bytes ≡ 1 + size = grind (arith, nat_tests, outer.1) in
     record { fetches = inner.0; head = grind (arith, nat_tests, inner.1); whole = length-drop 1 bytes ∙ omega arith }
 
--- an answer whose records are those that stand there is good
+-- an answer with the records last stored is good
 pub good_is : (v : Shape) (records : ℕ → ℕ → List ℕ) (e : Entry) (bytes : List ℕ) → is_payload v e bytes ≡ true
     → IsPathOf (records e.tree) (answered_path v e bytes) → outcome_of v records e bytes ≡ Good
 unfolding outcome_of good_answer path_in record_at
@@ -141,12 +141,12 @@ good_is v records e bytes payload same =
     ∙ sym (ap (λ (b : Bool). 128 ∷ (if b then flat_map f (levels deep) else [])) is.fetches) in
     ap (λ b. if b then Good else if bytes_eq bytes (129 ∷ 8 ∷ []) then NoRoom else Fails (reason_for v records e bytes)) (bytes_same _ _ good)
 
--- whether a payload has those records or not: both directions, over a stored tree
+-- whether a payload has those records or not, in both directions, for a stored tree
 
 pow_up : (depth : ℕ) → 2 ^ depth ≤ 2 ^ (depth + 1)
 pow_up depth = omega (arith, pow-add 2 depth 1)
 
--- the records of a path of a stored tree are as long as records are
+-- the records of a path of a stored tree have the length of records
 pub path_lengths : (depth size leaf : ℕ) (root : List ℕ) (records : ℕ → List ℕ) → IsStored depth size root records
     → leaf < 2 ^ depth → (l : ℕ) → l ≤ depth → length (records (node_on depth leaf l)) ≡ size
 path_lengths depth size leaf root records stored fits l below =
@@ -168,7 +168,8 @@ not_good v records e bytes l fetch lengths other same =
     ap (drop 1) same ∙ ap (λ (b : Bool). drop 1 (128 ∷ (if b then flat_map f (levels deep) else []))) fetch in
     other.differs (ap (λ xs. take (record_len v) (drop (l * record_len v) xs)) tail ∙ chunk_at (record_len v) f 0 (deep + 1) l (omega arith) (λ b low high. lengths b (omega arith)) ∙ ap f (let z : 0 + l ≡ l = omega arith in z))
 
--- a payload whose first record that isn't the one that stands there is at this level fails the device so
+-- if this is the first level at which a payload's record isn't the one last stored, the answer fails the device with
+-- this level
 pub other_is : (v : Shape) (records : ℕ → ℕ → List ℕ) (e : Entry) (bytes : List ℕ) (l : ℕ) (root : List ℕ)
     → is_payload v e bytes ≡ true → e.leaf < 2 ^ depth_of v.device e.tree
     → IsStored (depth_of v.device e.tree) (record_len v) root (records e.tree)

@@ -1,4 +1,4 @@
--- What each step by the local rule has to show, and the steps at which nothing new is sent.
+-- What has to be proved of each step by the local rule, and the steps at which no new message is sent.
 use Rattle.std.proofs.Common.{◌≡◌, ℕ, zero, suc, ◌+◌, ◌-◌, ◌*◌, ◌%◌, ◌^◌, ◌<◌, ◌≤◌, ◌==◌, ◌&&◌, Bool, true, false, if◌then◌else◌, List, [], ◌∷◌, ◌++◌, length, reverse, map, take, drop, slice_index, slice_index_or, slice_range, Option, Some, None, refl, ap, sym, ◌∙◌, subst, arith}
 use Rattle.std.specs.List.{All}
 use Rattle.std.proofs.lemmas.List.{append-nil}
@@ -38,11 +38,11 @@ use Rattle.oram_run.proofs.Counts.{accepted_cons, sent_cons, records_more, again
 use Rattle.oram_run.proofs.Stores.{content_before, bytes_are, named_next}
 use Rattle.oram_run.proofs.Others.{all_none, all_one, live_kept}
 
--- what stands at the host, in the longer past
+-- the records at the host, in the longer past
 abbrev pub RecordsAre : Setting → List Step → Event → Shown → Moved → Type 0
 RecordsAre v past event x m = records_of v (step_of event x ∷ past) ≡ (world_after v.shape (world_of v past) m x.sends).records
 
--- the content is the closed form
+-- the content is the defined one
 abbrev pub ContentIs : Setting → List Submission → State → Moved → Type 0
 ContentIs v old t m =
     (i : ℕ) → i < trees_of v.shape.device → m.content i ≡ content_after v.shape.device i (applied v.shape.device old t.queue t.stage i)
@@ -72,7 +72,7 @@ follows_on v past event x old t u m fit e alive l same rec h =
     let live : Live v (step_of event x ∷ past) old t = subst (Live v (step_of event x ∷ past) old) (sym e) l in
     record { old = old; follows = subst (FollowsAt v (step_of event x ∷ past) old t) (sym healthy) (live, holds_on v past event x old t m fit live (content_along v old t u m e same) rec (h healthy)) }
 
--- what was placed stays so in the words of the past
+-- what was placed is placed in terms of the past, too
 pub placed_one : (v : Setting) (past : List Step) (event : Event) (x : Shown) (old : List Submission) (t : State)
     (m : Moved) (ticket n : ℕ) (y : List ℕ) → IsFit v.shape.device → Live v (step_of event x ∷ past) old t
     → ContentIs v old t m → RecordsAre v past event x m
@@ -94,7 +94,7 @@ placed_one v past event x old t m ticket n y fit l same rec nonce one below h =
 pub placed_none : (P : List ℕ → Type 0) (sends : List (List ℕ)) → sends ≡ [] → All P sends
 placed_none P sends e = subst (All P) (sym e) (all_none P)
 
--- the entry at work
+-- the entry that is outstanding
 pub entry_split : (v : Setting) (past : List Step) (old rest : List Submission) (x : Submission) (r m : ℕ)
     → m ≡ length old * (2 * trees_of v.shape.device) + r → accepted past ≡ reverse old ++ x ∷ rest
     → HasWords (2 * trees_of v.shape.device) old → length x.words ≡ 2 * trees_of v.shape.device
@@ -114,7 +114,7 @@ asked_now v past old rest s x l qu w =
     w.asks
     ∙ sym (entry_split v past old rest x s.stage (progress v past).good l.good (l.split ∙ ap (λ xs. reverse old ++ xs) qu) l.words ok.words w.stage)
 
--- the world of the past is one that the core can go on in
+-- the core can go on in the world of the past
 
 named_at_stage : (v : Setting) (past : List Step) (old rest : List Submission) (s : State) (x : Submission) (r : ℕ)
     → s.stage ≡ r → IsFit v.shape.device → Live v past old s → s.queue ≡ x ∷ rest → Working v past old s x → r % 2 ≡ 0
@@ -163,13 +163,13 @@ ready_by : (v : Setting) (past : List Step) (old queue : List Submission) (s : S
 ready_by v past old [] s fit l qu w = tt
 ready_by v past old (x ∷ rest) s fit l qu w = λ even. ready_at v past old rest s x fit l qu w even
 
--- the world of the past is one that the core can go on in
+-- the core can go on in the world of the past
 pub fits : (v : Setting) (past : List Step) (s : State) (old : List Submission) (failure : Option Reason)
     → s.failure ≡ failure → IsFit v.shape.device → FollowsAt v past old s failure → Fits v.shape s (world_of v past)
 fits v past s old (Some e) h fit f = λ alive. absurd (let both : Some e ≡ None = sym h ∙ alive in cc)
 fits v past s old None h fit f = λ alive. (f.1, ready_by v past old s.queue s fit f.0 refl f.0.work)
 
--- whether two records of one digest stand in an answer, by the core and by the past
+-- whether an answer shows two records with the same digest, by the core and by the past
 
 pair_at : (v : Setting) (past : List Step) (old queue : List Submission) (s : State) (bytes : List ℕ) (b : Bool)
     → Live v past old s → s.queue ≡ queue → AtWork v past old s queue
@@ -218,14 +218,14 @@ pub records_quiet : (v : Setting) (past : List Step) (event : Event) (x : Shown)
     → records_of v (step_of event x ∷ past) ≡ records_of v past
 records_quiet v past event x e = records_more v (step_of event x) past ∙ ap (λ ms. records_after v.shape (records_of v past) ms) e
 
--- a core that goes on
+-- the progress of a core that hasn't failed
 pub progress_is : (v : Setting) (past : List Step) (old : List Submission) (s : State) → Live v past old s
     → progress v past ≡ record { good = (progress v past).good; lost = s.lost; failure = None }
 progress_is v past old s l =
     ap (λ (b : Bool). record { good = (progress v past).good; lost = b; failure = (progress v past).failure }) l.lost
     ∙ ap (λ (f : Option Reason). record { good = (progress v past).good; lost = s.lost; failure = f }) l.alive
 
--- A step at which nothing is replied or sent, and the counts stay.
+-- A step without replies and messages, at which the counts stay.
 abbrev pub quiet : State → World → Note → Bool → Moved
 quiet s w n b = record { note = n; replies = []; ask = Nothing; state = record s { lost = b }; content = w.content }
 
@@ -290,7 +290,7 @@ stays_keep v past s t old event x n (Some e) h fit f mv quiet_note calm new is p
 stays_keep v past s t old event x n None h fit f mv quiet_note calm new is p =
     quiet_keep v past s t old event x n s.lost fit f.0 h f.1 mv quiet_note calm new is (p ∙ progress_is v past old s f.0) (idle_calm v past old s s.queue f.0.work)
 
--- the last message again
+-- the last message is sent again
 pub resends_keep : (v : Setting) (past : List Step) (s t : State) (old : List Submission) (x : Shown) (y : Submission)
     (rest : List Submission) → IsFit v.shape.device → Live v past old s → s.failure ≡ None → s.queue ≡ y ∷ rest
     → Working v past old s y → MovesTo v.shape s (world_of v past) (resends s (world_of v past)) x t

@@ -20,7 +20,7 @@ use Rattle.oram_run.specs.declared.events.Command.TheVariants.{Read, Write, Disc
 use Rattle.oram_run.specs.declared.events.Submission.{Submission}
 use Rattle.oram_run.proofs.Fours.{flat_map_same, four_at, four_set, zeros_are}
 
--- a block of a map lies over its blocks of the tree below
+-- a map block covers its blocks of the tree below
 pub above : (d : Sizes) (i : ℕ) (x : Submission) → block_of d (suc i) x ≡ block_of d i x / fanout d
 above d i x =
     let next : suc i ≡ i + 1 = omega arith in
@@ -29,7 +29,7 @@ above d i x =
 pub own_block : (d : Sizes) (x : Submission) → block_of d 0 x ≡ address_of x.command
 own_block d x = address_in-zero d (address_of x.command)
 
--- the place of a block under its map block
+-- the index of a block in its map block
 under : (d : Sizes) (i : ℕ) (x : Submission) → HasEntries d
     → block_of d (suc i) x * fanout d + block_of d i x % fanout d ≡ block_of d i x
 under d i x h = ap (λ n. n * fanout d + block_of d i x % fanout d) (above d i x) ∙ div-add-mod' (block_of d i x) (fanout d)
@@ -98,7 +98,7 @@ array_there : (d : Sizes) (y : Submission) (old : List Submission) (a : ℕ) →
     → array_at d (y ∷ old) a ≡ array_at d old a
 array_there d y old a e = ap (λ t. bytes_left d.block_bytes (cond t (Some y) (find (λ s. changes a s.command) old))) e
 
--- nothing changes a block that no submission lies in
+-- nothing changes a block that no submission accesses
 array_none : (d : Sizes) (old : List Submission) (a : ℕ) → newest_in d 0 old a ≡ None
     → array_at d old a ≡ replicate d.block_bytes 0
 array_none d [] a e = refl
@@ -122,7 +122,7 @@ map_case d i old a h e =
     ap (λ n. replicate n 0) h.whole
     ∙ sym (zeros_are (λ b. to_be_bytes w32 (named_in d i old b)) (a * fanout d) (fanout d) (λ b low high. ap (to_be_bytes w32) (none_below d i old a b h e low high) ∙ four_zeros))
 
--- what an access finds is the closed form, also where the tree has no such block
+-- an access finds the defined content, also if the tree doesn't have the block
 found_by : (d : Sizes) (i : ℕ) (old : List Submission) (a : ℕ) (o : Option Submission) → HasEntries d → newest_in d i old a ≡ o →
     found_in d (option_map (λ s. record { leaf = new_leaf d i s; content = data_in d i old a }) o) ≡ data_in d i old a
 found_by d i old a (Some s) h e = refl
@@ -134,7 +134,7 @@ pub found_is : (d : Sizes) (i : ℕ) (old : List Submission) (a : ℕ) → HasEn
 unfolding content_after
 found_is d i old a h = found_by d i old a (newest_in d i old a) h refl
 
--- what a map block names
+-- the entries of a map block
 pub next_is : (d : Sizes) (i : ℕ) (old : List Submission) (x : Submission) → HasEntries d
     → next_named d (suc i) x (data_in d (suc i) old (block_of d (suc i) x)) ≡ named_in d i old (block_of d i x)
 unfolding next_named data_in entry_in
@@ -174,7 +174,7 @@ data_here d (suc i) old x h =
     (ap (to_be_bytes w32) (named_here d i x old (s + j) (under d i x h)))
     (λ b ne. ap (to_be_bytes w32) (sym (named_there d i x old b (λ e. ne (e ∙ sym (under d i x h))))))
 
--- the others
+-- the other blocks
 data_there : (d : Sizes) (i : ℕ) (old : List Submission) (x : Submission) (a : ℕ) → HasEntries d → a ≢ block_of d i x
     → data_in d i old a ≡ data_in d i (x ∷ old) a
 unfolding data_in
@@ -216,18 +216,18 @@ name_by : (d : Sizes) (i : ℕ) (bytes : List ℕ) (o : Option Submission)
 name_by d i bytes None = refl
 name_by d i bytes (Some s) = refl
 
--- a tree holds what is named
+-- the map entry for a block, given the tree's content, is the defined one
 pub name_is : (d : Sizes) (i : ℕ) (old : List Submission) (a : ℕ) → name_of (content_after d i old a) ≡ named_in d i old a
 unfolding content_after named_in
 name_is d i old a = name_by d i (data_in d i old a) (newest_in d i old a)
 
--- in tree 0 an address is a block's own
+-- in tree 0 a block's address is its address in the device
 pub data_zero : (d : Sizes) (old : List Submission) (x : Submission)
     → data_in d 0 old (block_of d 0 x) ≡ array_at d old (address_of x.command)
 unfolding data_in
 data_zero d old x = ap (array_at d old) (own_block d x)
 
--- what the access to tree 0 leaves of its block, and that to a map tree
+-- how the access to tree 0 changes its block, and the access to a map tree
 
 pub block_after-zero : (d : Sizes) (x : Submission) (bytes : List ℕ) → block_after d 0 x bytes ≡ left_by d x.command bytes
 unfolding block_after

@@ -1,4 +1,4 @@
--- How the nonce goes on with each good answer.
+-- How the nonce rises with each good answer.
 use Rattle.std.proofs.Common.{◌≡◌, ℕ, zero, suc, ◌+◌, ◌-◌, ◌*◌, ◌/◌, ◌%◌, ◌<◌, ◌≤◌, refl, ap, sym, ◌∙◌, subst, arith}
 use Rattle.std.proofs.lemmas.Nat.{div-mul-add, mod-mul-add}
 use Rattle.oram_geometry.specs.declared.Sizes.{Sizes}
@@ -27,7 +27,7 @@ pub no_buckets : (d : Sizes) → buckets_below d 0 ≡ 0
 unfolding buckets_below
 no_buckets d = refl
 
--- the nonce of the next bucket that is sealed, after so many good answers
+-- the nonce for the next bucket, after this many good answers
 unfoldable pub nonce_at : Setting → ℕ → ℕ
 nonce_at v g =
     let h = trees_of v.shape.device in
@@ -90,7 +90,7 @@ nonce_finished v g n r e last =
     ∙ ap (λ k. formatted d + n * buckets_below d h + (buckets_below d h - k)) (no_buckets d) in
     omega arith
 
--- at the good answer to a fetch it is the one of the STORE that follows
+-- at the good answer to a FETCH, it is the first nonce of the STORE that follows
 pub nonce_here : (v : Setting) (g n r : ℕ) → g ≡ n * (2 * trees_of v.shape.device) + r → r < 2 * trees_of v.shape.device
     → r % 2 ≡ 0 → nonce_at v g ≡ store_nonce v.shape.device n (stage_tree v.shape.device r)
 nonce_here v g n r e few even =
@@ -99,7 +99,7 @@ nonce_here v g n r e few even =
     nonce_split v g n r e few
     ∙ ap (λ k. formatted d + n * buckets_below d (trees_of d) + (buckets_below d (trees_of d) - buckets_below d k)) next
 
--- before any it is the one after the formatting
+-- before any good answer, it is the first nonce after the formatting
 pub nonce_new : (v : Setting) → 0 < trees_of v.shape.device → nonce_at v 0 ≡ formatted v.shape.device
 nonce_new v some =
     let d = v.shape.device in

@@ -1,4 +1,4 @@
--- No two sealed buckets have one nonce.
+-- No two sealed buckets have the same nonce.
 use Rattle.std.proofs.Common.{◌≡◌, ℕ, zero, suc, ◌+◌, ◌-◌, ◌*◌, ◌/◌, ◌%◌, ◌^◌, ◌<◌, ◌≤◌, refl, ap, sym, ◌∙◌, subst, arith, inl, inr}
 use Rattle.std.proofs.lemmas.Bool.{cases_order}
 use Rattle.std.proofs.Math.Nat.{pow-le-pow_right}
@@ -22,7 +22,7 @@ rises d n (suc k) =
     let z : n + suc k ≡ suc (n + k) = omega arith in
     subst (λ (m : ℕ). formatted_below d n ≤ formatted_below d m) (sym z) (omega (arith, rises d n k, one_tree d (n + k)))
 
--- the buckets of a tree's formatting end where those of a later tree begin, or before
+-- the nonces of a tree's formatting end where those of a later tree begin, or before
 puts_end : (d : Sizes) (i j : ℕ) → i < j → formatted_below d i + node_count (depth_of d i) ≤ formatted_below d j
 puts_end d i j h =
     let whole : suc i + (j - suc i) ≡ j = omega arith in
@@ -38,7 +38,7 @@ puts_apart d i j k m small few e = elim (cases_order i j) [
   ]
 ]
 
--- within a ticket the buckets of a tree's path end where those of a tree before it begin, or before
+-- within a ticket, the nonces of a tree's path end where those of the path of a lower tree begin, or before
 path_end : (d : Sizes) (i j : ℕ) → i < trees_of d → j < i → buckets_after d i + (depth_of d i + 1) ≤ buckets_after d j
 path_end d i j few h =
     omega (arith, one_more d i (i + 1) refl, rises_to d (i + 1) (trees_of d) (omega arith), rises_to d (j + 1) i (omega arith))
@@ -77,7 +77,7 @@ nonces_apart d = record {
   between = λ t i j k l few small e. omega (arith, puts_end d i (trees_of d) few);
 }
 
--- and there are few: a path has 25 buckets at most, a tree fewer than 2 ^ 25
+-- and there are few: a path has at most 25 buckets, and a tree fewer than 2 ^ 25
 
 pub buckets_small : (d : Sizes) (n : ℕ) → buckets_below d n ≤ 25 * n
 buckets_small d zero = omega (arith, no_buckets d)

@@ -1,4 +1,4 @@
--- Events that are no good answer: what the core is afterwards.
+-- Events that are no good answer: the core afterwards.
 use Rattle.std.proofs.Common.{◌≡◌, ℕ, ◌+◌, ◌-◌, Bool, false, List, [], ◌∷◌, ◌++◌, length, length-append, reverse, None, refl, ap, sym, ◌∙◌, subst, arith, append_assoc}
 use Rattle.std.specs.List.{All}
 use Rattle.std.proofs.lemmas.List.Elements.{All-push}
@@ -29,7 +29,7 @@ pub tickets_push : (t : ℕ) (queue : List Submission) (x : Submission) → Tick
 tickets_push t [] x ts e = (e ∙ omega arith, tt)
 tickets_push t (y ∷ queue) x ts e = (ts.0, tickets_push (t + 1) queue x ts.1 (e ∙ omega arith))
 
--- the same command at work, once more has happened
+-- the same command is at work after one more event
 pub AtWork_kept : (v : Setting) (past past' : List Step) (old queue : List Submission) (s : State) (next n : ℕ)
     (whole : List Submission) (b : Bool) (ts : List Tree)
     → ((older : List (List ℕ)) → sent past ≡ s.last ∷ older → (more : List (List ℕ)) × (sent past' ≡ s.last ∷ more))
@@ -40,7 +40,7 @@ AtWork_kept v past past' old (x ∷ rest) s next n whole b ts latest calm w =
     let more = latest w.older w.latest in
     record { stage = w.stage; asks = w.asks; older = more.0; latest = more.1; named = w.named; before = w.before }
 
--- nothing but the loss has changed
+-- only the loss has changed
 pub live_kept : (v : Setting) (past past' : List Step) (old : List Submission) (s : State) (b : Bool) (ts : List Tree)
     (n : ℕ) → Live v past old s → progress v past' ≡ record { good = (progress v past).good; lost = b; failure = None }
     → accepted past' ≡ accepted past → n ≡ s.nonce

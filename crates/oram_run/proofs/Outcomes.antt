@@ -43,7 +43,7 @@ refused_is v records e bytes code is low high =
     let within : nat_le code 7 ≡ true = grind (arith, nat_tests) in
     ap (outcome_of v records e) is ∙ rw (room, above, within) refl
 
--- byte 80 alone, to a store
+-- byte 80 alone, as the answer to a STORE
 pub stored_is : (v : Shape) (records : ℕ → ℕ → List ℕ) (e : Entry) (bytes : List ℕ) → e.fetch ≡ false → bytes ≡ 128 ∷ []
     → outcome_of v records e bytes ≡ Good
 unfolding outcome_of good_answer
@@ -68,7 +68,7 @@ malformed_is v records e bytes first room refusal =
     malformed_by v records e bytes (λ same. first (ap (λ xs. slice_index xs 0) same)) room refusal
     (elim e.fetch as (λ b. (b && (slice_index bytes 0 == 128) && (length bytes == 1 + (depth_of v.device e.tree + 1) * record_len v)) ≡ false) [ true ↦ rw other refl | false ↦ refl ])
 
--- more than byte 80, to a store
+-- more than byte 80, as the answer to a STORE
 pub malformed_store : (v : Shape) (records : ℕ → ℕ → List ℕ) (e : Entry) (bytes : List ℕ) → e.fetch ≡ false
     → slice_index bytes 0 ≡ 128 → bytes ≢ 128 ∷ [] → outcome_of v records e bytes ≡ Fails Malformed
 unfolding good_answer
@@ -79,7 +79,7 @@ malformed_store v records e bytes store first more =
     (headed_refusal bytes first)
     (ap (λ b. b && (slice_index bytes 0 == 128) && (length bytes == 1 + (depth_of v.device e.tree + 1) * record_len v)) store)
 
--- byte 80 and another length, to a fetch
+-- byte 80 and another length, as the answer to a FETCH
 pub malformed_fetch : (v : Shape) (records : ℕ → ℕ → List ℕ) (e : Entry) (bytes root : List ℕ) → e.fetch ≡ true
     → slice_index bytes 0 ≡ 128 → e.leaf < 2 ^ depth_of v.device e.tree
     → IsStored (depth_of v.device e.tree) (record_len v) root (records e.tree) → ¬ HasLength (answered_path v e bytes)
@@ -107,7 +107,7 @@ payload_by v e (x ∷ xs) fetch first whole =
     test_passes (length (x ∷ xs)) (1 + (depth_of v.device e.tree + 1) * record_len v) (omega (arith, whole)) in
     rw (fetch, head, long) refl
 
--- byte 80 and the records of a path, to a fetch: what their check told
+-- byte 80 and the records of a path, as the answer to a FETCH: what their check says
 by_check : {A : Type 0} (v : Shape) (records : ℕ → ℕ → List ℕ) (e : Entry) (bytes root : List ℕ) (r : Result A HashFault)
     → is_payload v e bytes ≡ true → e.leaf < 2 ^ depth_of v.device e.tree
     → IsStored (depth_of v.device e.tree) (record_len v) root (records e.tree)
@@ -118,8 +118,8 @@ by_check v records e bytes root (Err fault.Length) payload fits stored told = ab
 by_check v records e bytes root (Err (fault.Tampered level)) payload fits stored told =
     other_is v records e bytes level root payload fits stored told
 
--- Where byte 80 begins the answer to a fetch of a stored tree, and no two records of one digest stand in it, it means what the
--- check of the bytes after it tells.
+-- If byte 80 begins the answer to a FETCH in a stored tree, and the answer shows no two records with the same digest,
+-- it means what the check of the other bytes says.
 pub fetched_is :
     {A : Type 0} (v : Shape) (records : ℕ → ℕ → List ℕ) (e : Entry) (bytes root : List ℕ) (r : Result A HashFault)
     → e.fetch ≡ true → slice_index bytes 0 ≡ 128 → e.leaf < 2 ^ depth_of v.device e.tree

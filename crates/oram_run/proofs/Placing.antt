@@ -1,4 +1,4 @@
--- A STORE whose records an access has made: the tree stands over them, and its blocks are placed.
+-- A STORE whose records an access has made: the tree stands in the new records, and its blocks are placed.
 use Rattle.std.proofs.Math.Path.{fun_ext}
 use Rattle.std.proofs.Common.{◌≡◌, ◌≢◌, ℕ, ◌+◌, ◌-◌, ◌*◌, ◌^◌, ◌<◌, ◌≤◌, ◌==◌, Bool, true, false, not, is_some, if◌then◌else◌, List, [], ◌∷◌, length, slice_index, slice_index_or, slice_set, Option, Some, None, ap, sym, ◌∙◌, subst, arith, inl, inr}
 use Rattle.std.proofs.lemmas.List.{get_or-set_same, get_or-set_other}
@@ -54,7 +54,7 @@ module _ (v : Shape) (records : ℕ → ℕ → List ℕ) (i leaf nonce : ℕ) (
       ap sealed_part (sym (replaced.on_path level within))
       ∙ ap (λ (p : Path). sealed_part (records_after v records (store_body i leaf bytes ∷ []) i (node_at p level))) made.path_is
 
-  -- The tree stands over what the STORE leaves, with the accessed block changed,
+  -- The tree stands in the records after the STORE, with the accessed block changed,
   pub store_stands :
       Stands v i tree (records_after v records (store_body i leaf bytes ∷ []) i) (put content c.address (entry_of c))
   store_stands = record { number = made.number; stored = stored }
@@ -102,7 +102,7 @@ holds_stored v s t w i leaf bytes a h tree holds trees inside here k below = eli
       (subst (λ (u : Tree). Stands v k u (w.records k) (w.content k)) (sym kept) (holds k below)))
 ]
 
--- a block that is named as the content has it lies on the path that is fetched, or nowhere
+-- a block with this map entry is on the path that is fetched, or the tree doesn't have it
 pub at_leaf : (d : Sizes) (i a named : ℕ) (x : Submission) (content : Map) → name_of (content a) ≡ named
     → IsAtOrAbsent content a (leaf_for d i named x)
 at_leaf d i a named x content e h found =
@@ -110,7 +110,7 @@ at_leaf d i a named x content e h found =
     let some : (named == 0) ≡ false = grind (arith, nat_tests) in
     sym (ap (λ (b : Bool). if b then leaf_of d i (slice_index x.words (2 * i)) else named - 1) some ∙ omega arith)
 
--- it is there where it is named
+-- the tree has the block exactly if the map names it
 pub there_if_named : (o : Option Held) (named : ℕ) → name_of o ≡ named → is_some o ≡ not (named == 0)
 there_if_named None named e = ap (λ k. not (k == 0)) e
 there_if_named (Some h) named e = let some : (named == 0) ≡ false = grind (arith, nat_tests) in sym (ap not some)

@@ -1,4 +1,4 @@
--- The nodes of a tree in the order of their PUTs, and what these leave.
+-- The nodes of a tree in the order of their PUTs, and the records that these leave.
 use Rattle.std.proofs.Common.{◌≡◌, ◌≢◌, ◌⊎◌, ℕ, zero, suc, ◌+◌, ◌-◌, ◌*◌, ◌^◌, ◌<◌, ◌≤◌, ◌==◌, not, true, false, if◌then◌else◌, List, [], ◌∷◌, ◌++◌, reverse, map, Option, Some, None, unwrap_or, refl, ap, sym, ◌∙◌, subst, arith, inl, inr, append_assoc}
 use Rattle.std.proofs.lemmas.Nat.{pow-add, pow_pos, from_be_bytes-to_be_bytes_4}
 use Rattle.std.proofs.Math.Nat.{pow-le-pow_right, mul-le-mul_left}
@@ -12,7 +12,7 @@ use Rattle.oram_run.specs.Shape.{Shape}
 use Rattle.oram_run.specs.Messages.{message_place, written, last_stored}
 use Rattle.oram_run.proofs.Entries.{reverse_cons}
 
--- each element, and some element
+-- a property of each element, and of some element
 abbrev pub Each : {X : Type 0} → (X → Type 0) → List X → Type 0
 Each P [] = Unit {0}
 Each P (x ∷ xs) = P x × Each P xs
@@ -45,7 +45,7 @@ some_reverse P (x ∷ xs) (inl here) = subst (Some1 P) (sym (reverse_cons x xs))
 some_reverse P (x ∷ xs) (inr later) =
     subst (Some1 P) (sym (reverse_cons x xs)) (some_left P (reverse xs) (x ∷ []) (some_reverse P xs later))
 
--- the message leaves this record at the node, or nothing
+-- the message leaves this record at the node, or none
 abbrev pub Leaves : Shape → ℕ → ℕ → List ℕ → List ℕ → Type 0
 Leaves v i n r m = written v m i n ≡ Some r
 
@@ -60,7 +60,7 @@ last_by v i n r m older some (inr here) rest = ap (λ o. unwrap_or o (last_store
 last_by v i n r m older (inl here) (inl none) rest = ap (λ o. unwrap_or o (last_stored v older i n)) here
 last_by v i n r m older (inr later) (inl none) rest = ap (λ o. unwrap_or o (last_stored v older i n)) none ∙ rest later
 
--- where no message leaves another record, the one that some message leaves stands there
+-- if some message leaves this record at a node, and none leaves another, it is the record last stored there
 stored_once : (v : Shape) (i n : ℕ) (r : List ℕ) (ms : List (List ℕ)) → Each (LeavesAtMost v i n r) ms
     → Some1 (Leaves v i n r) ms → last_stored v ms i n ≡ r
 stored_once v i n r [] each some = absurd some
@@ -71,7 +71,7 @@ pub stored_one : (v : Shape) (i n : ℕ) (r : List ℕ) (ms : List (List ℕ)) �
 stored_one v i n r ms each some =
     stored_once v i n r (reverse ms) (each_reverse (LeavesAtMost v i n r) ms each) (some_reverse (Leaves v i n r) ms some)
 
--- what the messages of a formatting leave
+-- the records that the messages of a formatting leave
 
 pub written_shape : (v : Shape) (j depth len i n : ℕ) → written v (shape_body j depth len) i n ≡ None
 unfolding written
@@ -100,7 +100,7 @@ put_beside v i k n r small ne =
     let other : (message_place (put_body i k r) == n) ≡ false = let same = place_is i k r small in grind (arith, nat_tests) in
     rw (one, other) refl
 
--- a PUT of a tree's record leaves it, or nothing
+-- a PUT of a tree's record leaves it at a node, or nothing
 pub put_leaves : (v : Shape) (j k i n : ℕ) (records : ℕ → List ℕ) (r : List ℕ) → k < 2 ^ 32 → (j ≡ i → records n ≡ r)
     → LeavesAtMost v i n r (put_body j k (records k))
 put_leaves v j k i n records r small is = elim (eqb_tells j i) [
@@ -129,7 +129,7 @@ order_leaf f n = refl
 twice : (h : ℕ) → 2 ^ suc h ≡ 2 ^ h * 2
 twice h = (let z : suc h ≡ h + 1 = omega arith in ap (λ (k : ℕ). 2 ^ k) z) ∙ pow-add 2 h 1
 
--- what holds of each node that is small holds of a small subtree's
+-- a property of all nodes with small numbers is one of the nodes of a small subtree
 pub each_node : (P : List ℕ → Type 0) (f : ℕ → List ℕ) (h n : ℕ) → (n + 2) * 2 ^ h ≤ 2 ^ 25
     → ((k : ℕ) → k < 2 ^ 32 → P (f k)) → Each P (map f (post_order h n))
 each_node P f zero n small h = subst (Each P) (sym (order_leaf f n)) (h n (omega arith), tt)

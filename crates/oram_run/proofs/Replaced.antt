@@ -1,4 +1,4 @@
--- What a STORE leaves: the records of its path are replaced, and no other.
+-- The records after a STORE: those of its path are replaced, and no others.
 use Rattle.std.proofs.Math.Path.{fun_ext}
 use Rattle.std.proofs.Common.{◌≡◌, ◌≢◌, ℕ, zero, suc, ◌+◌, ◌^◌, ◌<◌, ◌≤◌, ◌==◌, true, false, cond, List, [], ◌∷◌, Some, None, unwrap_or, refl, ap, sym, ◌∙◌, arith, inl, inr}
 use Rattle.std.specs.List.{find, range_with_len}
@@ -58,13 +58,13 @@ written_elsewhere : (v : Shape) (m : List ℕ) (i n : ℕ) → message_tree m �
 unfolding written
 written_elsewhere v m i n ne = let other : (message_tree m == i) ≡ false = grind (arith, nat_tests) in rw other refl
 
--- what a STORE leaves at a node
+-- the record that a STORE leaves at a node
 left_at : (v : Shape) (records : ℕ → ℕ → List ℕ) (m : List ℕ) (n : ℕ) (p : Path) → is_store m ≡ true → stored_path v m ≡ p →
     records_after v records (m ∷ []) (message_tree m) n ≡ unwrap_or (record_on p n) (records (message_tree m) n)
 left_at v records m n p store path =
     ap (λ o. unwrap_or o (records (message_tree m) n)) (written_store v m n store ∙ ap (λ (q : Path). record_on q n) path)
 
--- its own records at the nodes of its path, and elsewhere in its tree what stood there
+-- a STORE leaves its own records at the nodes of its path; elsewhere in its tree the old records stay
 replaced_by : (v : Shape) (records : ℕ → ℕ → List ℕ) (m : List ℕ) (p q : Path) → is_store m ≡ true → stored_path v m ≡ q
     → p.depth ≡ q.depth → p.leaf ≡ q.leaf
     → IsReplaced p q (records (message_tree m)) (records_after v records (m ∷ []) (message_tree m))
@@ -82,13 +82,13 @@ path_is : (v : Shape) (i leaf : ℕ) (bytes : List ℕ) → leaf < 2 ^ 32
     → stored_path v (store_body i leaf bytes) ≡ path_of v.device i leaf v.overhead bytes
 path_is v i leaf bytes small = ap (λ x. path_of v.device i x v.overhead bytes) (from_be_bytes-to_be_bytes_4 leaf small)
 
--- A STORE of the path of a leaf replaces its records in its tree,
+-- A STORE of a leaf's path replaces the path's records in its tree,
 pub store_replaces : (v : Shape) (records : ℕ → ℕ → List ℕ) (i leaf : ℕ) (old bytes : List ℕ) → leaf < 2 ^ 32 →
     IsReplaced (path_of v.device i leaf v.overhead old) (path_of v.device i leaf v.overhead bytes) (records i) (records_after v records (store_body i leaf bytes ∷ []) i)
 store_replaces v records i leaf old bytes small =
     replaced_by v records (store_body i leaf bytes) (path_of v.device i leaf v.overhead old) (path_of v.device i leaf v.overhead bytes) refl (path_is v i leaf bytes small) refl refl
 
--- and leaves the other trees.
+-- and leaves the other trees unchanged.
 pub store_leaves : (v : Shape) (records : ℕ → ℕ → List ℕ) (i leaf k : ℕ) (bytes : List ℕ) → k ≢ i
     → records_after v records (store_body i leaf bytes ∷ []) k ≡ records k
 store_leaves v records i leaf k bytes ne =

@@ -1,4 +1,4 @@
--- What a note tells of the past after it: whether a good answer came, and whether a command was accepted.
+-- What a note says about the past after it: whether a good answer came, and whether a command was accepted.
 use Rattle.std.proofs.Common.{◌≡◌, ℕ, ◌+◌, ◌*◌, Bool, true, false, if◌then◌else◌, List, [], ◌∷◌, ◌++◌, length, Option, Some, None, refl, ap, sym, ◌∙◌, arith, append-nil}
 use Rattle.oram_geometry.specs.Sizes.{trees_of}
 use Rattle.oram_run.specs.Events.{tape}
@@ -17,7 +17,7 @@ use Rattle.oram_run.specs.declared.events.Submission.{Submission}
 use Rattle.oram_run.proofs.Counts.{progress_cons, accepted_cons}
 use Rattle.oram_run.proofs.Submitted.{passed}
 
--- how many good answers a note tells of
+-- the number of good answers that a note reports
 abbrev pub takes : Note → ℕ
 takes Taken = 1
 takes (Accepted t) = 0
@@ -60,18 +60,18 @@ takes_by v past Lost = takes_loss (progress v past) (status v past)
 takes_by v past Reopen = takes_loss (progress v past) (status v past)
 takes_by v past Retry = takes_retry (progress v past) (status v past)
 
--- a right note tells whether a good answer came
+-- a right note says whether a good answer came
 pub good_rises : (v : Setting) (past : List Step) (event : Event) (x : Shown) → x.note ≡ note_of v past event
     → (progress v (step_of event x ∷ past)).good ≡ (progress v past).good + takes x.note
 good_rises v past event x note =
     ap (λ (p : Progress). p.good) (progress_cons v (step_of event x) past) ∙ takes_by v past event
     ∙ ap (λ (n : Note). (progress v past).good + takes n) (sym note)
 
--- how many commands a note tells of
+-- the number of accepted commands that a note reports
 abbrev pub brings : Note → ℕ
 brings note = if is_accepted note then 1 else 0
 
--- a step adds these commands, of as many words as the device wants of each
+-- a step adds these commands, each with as many words as the device requires
 pub record Adds (v : Setting) (past : List Step) (step : Step) (n : ℕ) : Type 0 where
   pub more : List Submission
   pub accepted_is : accepted (step ∷ past) ≡ accepted past ++ more
@@ -124,7 +124,7 @@ no_retry Idle = refl
 no_retry Stalling = refl
 no_retry Over = refl
 
--- a right note tells whether a command was accepted
+-- a right note says whether a command was accepted
 pub adds : (v : Setting) (past : List Step) (event : Event) (x : Shown) → x.note ≡ note_of v past event
     → Adds v past (step_of event x) (brings x.note)
 adds v past (Submit s c words) x note =

@@ -42,7 +42,8 @@ first = record { session = 1; ticket = 0; command = Read 37; words = 10 ∷ 11 �
 abbrev second : Submission
 second = record { session = 1; ticket = 1; command = Read 38; words = 20 ∷ 21 ∷ 22 ∷ 23 ∷ 24 ∷ 25 ∷ [] }
 
--- the map block of tree 1 after both tickets: its leaf is that of ticket 1's new word, and it names the leaves of blocks 37 and 38
+-- the map block of tree 1 after both tickets: it has the leaf of ticket 1's new word, and names the leaves of blocks
+-- 37 and 38
 map_block : content_after recursive 1 (second ∷ first ∷ []) 9
     ≡ Some (record { leaf = 7; content = 0 ∷ 0 ∷ 0 ∷ 0 ∷ 0 ∷ 0 ∷ 0 ∷ 12 ∷ 0 ∷ 0 ∷ 0 ∷ 22 ∷ 0 ∷ 0 ∷ 0 ∷ 0 ∷ [] })
 unfolding trees_of blocks_in least_from level_for content_after data_in named_in
@@ -57,7 +58,7 @@ ninth : accesses recursive 9 2 ∷ accesses recursive 9 1 ∷ accesses recursive
 unfolding trees_of blocks_in least_from accesses
 ninth = refl
 
--- 127, 31 and 7 buckets are put, and a ticket stores 3, 5 and 7, from the last tree to tree 0
+-- the formatting puts 127, 31 and 7 buckets, and a ticket stores 3, 5 and 7, from the last tree to tree 0
 nonces :
     formatted recursive ∷ store_nonce recursive 0 2 ∷ store_nonce recursive 0 1 ∷ store_nonce recursive 0 0 ∷ store_nonce recursive 1 2 ∷ []
     ≡ 165 ∷ 165 ∷ 168 ∷ 173 ∷ 180 ∷ []
@@ -133,7 +134,7 @@ notes : note_of setting [] submitted ∷ note_of setting [] good ∷ note_of set
 unfolding progress accepted status_from trees_of blocks_in least_from level_for greatest_below outcome_of good_answer path_in last_stored sent node_on first_other record_len_of record_at
 notes = refl
 
--- the plain array: each command knows those before it
+-- the plain array: each command sees the effect of those before it
 
 abbrev asks : ℕ → Command → Submission
 asks ticket command = record { session = 2; ticket = ticket; command = command; words = [] }
@@ -148,7 +149,7 @@ bodies : map (λ s. (reply_of recursive commands s).body) commands
     ∷ Done ∷ Data (replicate 16 0) ∷ Done ∷ Done ∷ Data (replicate 16 3) ∷ []
 bodies = refl
 
--- each refusal, where all that come after it apply too
+-- each refusal, when all later reasons apply too
 refusals : refusal_of recursive true 64 100 (Read 64) [] ∷ refusal_of recursive false 64 100 (Discard 64) [] ∷ refusal_of recursive false 64 100 (Write 63 (7 ∷ [])) []
     ∷ refusal_of recursive false 64 100 (Discard 63) [] ∷ refusal_of recursive false 64 100 (Read 63) first.words ∷ refusal_of recursive false 63 100 (Read 63) first.words
     ∷ refusal_of recursive false 63 99 (Read 63) first.words ∷ []

@@ -1,4 +1,4 @@
--- A core without a past answers as a plain array begun with what tree 0 holds.
+-- A core with an unknown past answers like a plain array that begins with what tree 0 holds.
 use Rattle.std.proofs.Common.{◌≡◌, ◌≢◌, ℕ, zero, suc, ◌+◌, ◌*◌, ◌%◌, ◌<◌, ◌==◌, Bool, false, if◌then◌else◌, List, [], ◌∷◌, ◌++◌, length, replicate, Option, Some, None, refl, ap, sym, ◌∙◌, subst, arith, inl, inr}
 use Rattle.std.proofs.lemmas.Bool.Decides.{nat_tests, eqb_tells}
 use Rattle.oram_geometry.specs.declared.Sizes.{Sizes}
@@ -32,7 +32,7 @@ use Rattle.oram_run.proofs.AgreeSteps.{agrees_moved, agreeing_fits}
 use Rattle.oram_run.proofs.Formatting.{empty_content, formatted_holds}
 use Rattle.oram_run.proofs.Maps.{own_block, block_after-zero}
 
--- stage, what was found and content stay
+-- the stage, the data found and the content stay
 serves_same : (v : Shape) (s t : State) (w w' : World) (array : ℕ → List ℕ) (queue : List Submission) → t.stage ≡ s.stage
     → t.before ≡ s.before → ((a : ℕ) → w'.content 0 a ≡ w.content 0 a) → ServesBy v s w array queue
     → ServesBy v t w' array queue
@@ -64,7 +64,7 @@ begins_serving v t w array (x ∷ rest) none some h = record {
   after = λ last. absurd (omega arith);
 }
 
--- what an event that doesn't fail the device has to do
+-- what has to be proved of an event that doesn't fail the device
 abbrev After : Shape → State → State → World → (ℕ → List ℕ) → Shown → Moved → Type 0
 After v s t w array y m = MovesTo v s w m y t → t.failure ≡ None → HasServed v s t (world_after v w m y.sends) array y.replies
 
@@ -91,7 +91,7 @@ serves_submitted v s t w array y x None fit o h = λ mv healthy.
           (serves_same v s t w (world_after v w (accepts v s w x) y.sends) array s.queue stage (ap (λ (u : State). u.before) mv.state) (λ a. refl) h)),
     )
 
--- the array after a command, as the access leaves it
+-- the array after a command, as the access changes it
 array_put : (d : Sizes) (c : Command) (array : ℕ → List ℕ) (a b : ℕ) (bytes : List ℕ) → a ≡ address_of c → bytes ≡ array a
     → (if b == a then left_by d c bytes else array b) ≡ array_after d c array b
 array_put d (Read e) array a b bytes at found = elim (eqb_tells b a) [
@@ -119,7 +119,7 @@ module _ (v : Shape) (s t : State) (w : World) (array : ℕ → List ℕ) (x : S
   kept_is zero e = ap (array_in v w) (own_block v.device x) ∙ holds_before (address_of x.command)
   kept_is (suc i) e = absurd (omega arith)
 
-  -- what tree 0 holds after the access of another tree, and of its own
+  -- what tree 0 holds after an access of another tree, and after its own
   held_other : (i b : ℕ) (e : Held) → i ≢ 0 → put_in w.content i (block_of v.device i x) e 0 b ≡ w.content 0 b
   held_other i b e ne =
       let other : (0 == i) ≡ false = grind (arith, nat_tests) in
@@ -221,7 +221,7 @@ serves_retried v s t w array y Idle h = serves_quiet v s t w array y (stays s w 
 serves_retried v s t w array y Waiting h = serves_quiet v s t w array y (stays s w Unexpected) refl refl refl refl (λ a. refl) h
 serves_retried v s t w array y Over h = serves_quiet v s t w array y (stays s w Unexpected) refl refl refl refl (λ a. refl) h
 
--- Each event that doesn't fail the device brings no reply, or the array's to the oldest command.
+-- Each event that doesn't fail the device gives no reply, or the array's reply to the oldest command.
 pub serves_moved : (v : Shape) (s t : State) (w : World) (array : ℕ → List ℕ) (event : Event) (y : Shown) → IsFit v.device
     → IsOrderly v s → ServesArray v s w array → Moves v s w event y t → t.failure ≡ None
     → HasServed v s t (world_after v w (moved v s w event) y.sends) array y.replies

@@ -1,4 +1,4 @@
--- A good answer to a fetch: what the core and the trees are afterwards.
+-- A good answer to a FETCH: the core and the trees afterwards.
 use Rattle.std.proofs.Math.Path.{fun_ext}
 use Rattle.std.proofs.Common.{◌≡◌, ◌≢◌, ℕ, zero, suc, ◌+◌, ◌-◌, ◌*◌, ◌/◌, ◌%◌, ◌^◌, ◌<◌, ◌≤◌, ◌==◌, Bool, true, false, if◌then◌else◌, List, ◌∷◌, length, slice_index, slice_set, Some, None, refl, ap, sym, ◌∙◌, subst, arith, inl, inr}
 use Rattle.std.specs.List.{All}
@@ -38,7 +38,7 @@ other_tree h r k below few even ne e = ne (omega arith)
 same_tree : (h r : ℕ) → r % 2 ≡ 0 → h - 1 - (r + 1) / 2 ≡ h - 1 - r / 2
 same_tree h r even = omega arith
 
--- the tree that is at work has not been accessed by this command
+-- the command hasn't accessed the tree at work yet
 pub content_before : (v : Setting) (past : List Step) (old rest : List Submission) (s : State) (x : Submission)
     → IsFit v.shape.device → Live v past old s → s.queue ≡ x ∷ rest → s.stage < 2 * trees_of v.shape.device
     → s.stage % 2 ≡ 0
@@ -69,7 +69,7 @@ put_same c i a h k b e = let same : (i == i) ≡ true = grind (arith, nat_tests)
 put_other : (c : ℕ → Map) (i a : ℕ) (h : Held) (k b : ℕ) → k ≢ i → put_in c i a h k b ≡ c k b
 put_other c i a h k b ne = let other : (k == i) ≡ false = grind (arith, nat_tests) in rw other refl
 
--- the content after the access is the closed form at the next stage
+-- the content after the access is the defined one at the next stage
 pub content_stored : (v : Setting) (past : List Step) (old rest : List Submission) (s : State) (x : Submission)
     → IsFit v.shape.device → Live v past old s → s.queue ≡ x ∷ rest → s.stage < 2 * trees_of v.shape.device
     → s.stage % 2 ≡ 0 → (k : ℕ) → k < trees_of v.shape.device
@@ -104,7 +104,7 @@ leaf_fits d old x r =
     let range = named_range d i old (block_of d i x) in
     elim (named == 0) as (λ b. (if b then leaf_of d i (slice_index x.words (2 * i)) else named - 1) < 2 ^ 32) [ true ↦ omega (arith, spare.0, spare.1) | false ↦ omega (arith, range, spare.1) ]
 
--- the store asks for the next entry
+-- the STORE asks for the next entry
 pub store_entry : (d : Sizes) (old : List Submission) (x : Submission) (r : ℕ) → r % 2 ≡ 0
     → record { fetch = false; tree = stage_tree d r; leaf = (entry_for d old x r).leaf } ≡ entry_for d old x (r + 1)
 store_entry d old x r even =
@@ -163,7 +163,7 @@ table_stored v past old rest s x (suc r) e fit l qu ok a below =
 length_stored : (table : List ℕ) (stage a n : ℕ) → length (if stage == 0 then slice_set table a n else table) ≡ length table
 length_stored table stage a n = elim (stage == 0) as (λ b. length (if b then slice_set table a n else table) ≡ length table) [ true ↦ length-set table a n | false ↦ refl ]
 
--- the state after the access: the trees, and the message, are what the trees made
+-- the state after the access, with the trees and the message that the access made
 abbrev pub stored_state : Setting → List Step → State → Submission → List Tree → ℕ → List ℕ → State
 stored_state v past s x ts n m = record (stores v.shape s (world_of v past) x).state { trees = ts; nonce = n; last = m }
 

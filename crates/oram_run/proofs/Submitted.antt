@@ -32,7 +32,7 @@ if_none : (b : Bool) (e : Refusal) (o : Option Refusal) → (if b then Some e el
 if_none true e o h = cc
 if_none false e o h = (refl, h)
 
--- what an accepted submission is known to be
+-- what is known about an accepted submission
 pub passed : (d : Sizes) (f : Bool) (w n : ℕ) (c : Command) (words : List ℕ) → refusal_of d f w n c words ≡ None
     → (f ≡ false) × (address_of c < d.blocks) × (has_bad_length d c ≡ false) × (length words ≡ 2 * trees_of d)
 passed d f w n c words e =

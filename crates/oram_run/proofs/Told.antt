@@ -1,4 +1,4 @@
--- What a core that follows a past can tell of it.
+-- What a core that follows a past says about it.
 use Rattle.std.proofs.Common.{◌≡◌, ◌+◌, ◌-◌, ◌*◌, ◌<◌, List, [], ◌∷◌, length, Option, Some, None, refl, ap, sym, ◌∙◌, subst, arith}
 use Rattle.oram_geometry.specs.Sizes.{trees_of}
 use Rattle.oram_run.specs.Progress.{Setting, Step, accepted, progress, status}
@@ -65,7 +65,7 @@ none_waits_by : (v : Setting) (past : List Step) (s : State) (old : List Submiss
 none_waits_by v past s old (Some other) e h f = f.queue
 none_waits_by v past s old None e h f = absurd (let both : None ≡ Some e = h in cc)
 
--- after a failure there are none
+-- after a failure no command is without a reply
 pub none_waits : (v : Setting) (past : List Step) (s : State) (e : Reason) → s.failure ≡ Some e → Follows v past s → s.queue ≡ []
 none_waits v past s e h f = none_waits_by v past s f.old s.failure e h f.follows
 
@@ -74,7 +74,7 @@ waits_told : (v : Setting) (past : List Step) (s : State) (failure : Option Reas
 waits_told v past s None h fit f = waiting_told v past s h fit f
 waits_told v past s (Some e) h fit f = ap length (none_waits v past s e h f)
 
--- a core that follows a past tells of it
+-- what a core that follows a past tells agrees with it
 pub tells_of : (v : Setting) (past : List Step) (s : State) → IsFit v.shape.device → Follows v past s → TellsOf v past s
 tells_of v past s fit f = record {
   next = next_told v past s f;

@@ -22,7 +22,7 @@ one_more_by : (b : Bool) (xs ys : List Submission) → (more : List Submission) 
 one_more_by true xs ys = (ys, refl)
 one_more_by false xs ys = ([], sym (append-nil xs))
 
--- what was accepted stays, and more comes behind it
+-- the accepted submissions stay, and more are added after them
 goes_on : (past : List Step) (events : List Event) (xs : List Shown)
     → (more : List Submission) × (accepted (past_of past events xs) ≡ accepted past ++ more)
 goes_on past events [] = ([], sym (append-nil (accepted past)))
@@ -39,7 +39,7 @@ record Begins (all words : List ℕ) (subs : List Submission) : Type 0 where
   addresses_agree : AgreeBelow (length subs) (addresses subs) all
   words_agree : AgreeBelow (length (tape subs)) (tape subs) words
 
--- so are those of any past on the way
+-- so are those of each earlier past
 begins : (all words : List ℕ) (past : List Step) (events : List Event) (xs : List Shown)
     → AreFirstOf all words (past_of past events xs) → Begins all words (accepted past)
 begins all words past events xs are =
@@ -58,7 +58,7 @@ begins all words past events xs are =
           (ap tape on.1 ∙ flat_map-append (λ (s : Submission). s.words) now on.0);
     }
 
--- each command has brought as many words as the device wants
+-- each command has brought as many words as the device requires
 abbrev HasTape : Sizes → List Submission → Type 0
 HasTape d subs = length (tape subs) ≡ tape_len d (length subs)
 
@@ -67,7 +67,7 @@ entry_ahead : (d : Sizes) (all words : List ℕ) (subs : List Submission) (m : �
 entry_ahead d all words subs m begun whole below =
     entry_same d (addresses subs) all (tape subs) words (length subs) m below begun.addresses_agree (λ k low. begun.words_agree k (omega arith))
 
--- two pasts have come as far, and each command of theirs has brought its words
+-- two pasts have come equally far, and each of their commands has brought its words
 record AreLevel (v u : Setting) (past other : List Step) : Type 0 where
   good : (progress v past).good ≡ (progress u other).good
   count : length (accepted past) ≡ length (accepted other)
@@ -82,7 +82,7 @@ record AreMatched (d : Sizes) (a b t q : List ℕ) : Type 0 where
 tape_len-rises : (d : Sizes) (m n k : ℕ) → n ≤ k → m < tape_len d n → m < tape_len d k
 tape_len-rises d m n k low below = grind arith
 
--- an entry of one past is that of the other
+-- an entry of one past is the same as that of the other
 entry_beside : (v u : Setting) (past other : List Step) (a b t q : List ℕ) (m : ℕ) → AreOneShape v.shape u.shape
     → AreMatched v.shape.device a b t q → AreLevel v u past other → Begins a t (accepted past)
     → Begins b (rearranged_tape q t) (accepted other) → m < entries v past → entry_at v past m ≡ entry_at u other m
@@ -130,7 +130,7 @@ tape_more v past step n whole more =
     words ∙ ap (λ k. k + length (tape more.more)) whole ∙ ap (λ k. tape_len d (length (accepted past)) + k) more.words
     ∙ sym (ap (tape_len d) (count_more v past step n more) ∙ omega arith)
 
--- after steps with one note, each right, two pasts have come as far again
+-- after right steps with the same note, two pasts have again come equally far
 level_on : (v u : Setting) (past other : List Step) (event beside : Event) (x y : Shown) → AreOneShape v.shape u.shape
     → AreLevel v u past other → IsRight v past event x → IsRight u other beside y → x.note ≡ y.note
     → AreLevel v u (step_of event x ∷ past) (step_of beside y ∷ other)
@@ -175,7 +175,7 @@ along v u past other (event ∷ events) (beside ∷ others) (x ∷ xs) (y ∷ ys
     subst₂ (λ ms ns. LookAlike (take 1 ms) (take 1 ns)) (sym (sent_cons s past)) (sym (sent_cons r other)) (newest_alike x.sends y.sends (sent past) (sent other) alike newest) in
     (alike, along v u (s ∷ past) (r ∷ other) events others xs ys a b t q one match next last first second rest (right apart).1 (also still).1)
 
--- at the beginning nothing has come
+-- at the beginning nothing has happened
 level_none : (v u : Setting) → AreLevel v u [] []
 unfolding progress accepted
 level_none v u = record { good = refl; count = refl; words = omega arith; others = omega arith }

@@ -1,4 +1,4 @@
--- What the host's answer to a message means, where these records stand there: by tree and node.
+-- What the host's answer to a message means, given the records last stored at the host, by tree and node.
 use Rattle.std.specs.Prelude.{ℕ, ◌+◌, ◌*◌, ◌==◌, ◌&&◌, not, Bool, false, if◌then◌else◌, List, [], ◌∷◌, length, drop, slice_index, Option, Some, None, Result, Ok, Err, find, nat_le}
 use Rattle.std.specs.List.{flat_map}
 use Rattle.std.specs.Option.{option_map_or}
@@ -23,24 +23,24 @@ path_in v records i leaf = flat_map (λ level. records i (node_on (depth_of v.de
 unfoldable pub good_answer : Shape → (ℕ → ℕ → List ℕ) → Entry → List ℕ
 good_answer v records e = 128 ∷ (if e.fetch then path_in v records e.tree e.leaf else [])
 
--- byte 80 and as many bytes as the path has, to a fetch
+-- the answer to a FETCH is byte 80 and as many bytes as the path has
 abbrev pub is_payload : Shape → Entry → List ℕ → Bool
 is_payload v e bytes =
     e.fetch && (slice_index bytes 0 == 128) && (length bytes == 1 + (depth_of v.device e.tree + 1) * record_len v)
 
--- the path that such an answer has the records of
+-- the path whose records such an answer gives
 abbrev pub answered_path : Shape → Entry → List ℕ → Path
 answered_path v e bytes = path_of v.device e.tree e.leaf v.overhead (drop 1 bytes)
 
--- whether the record at a level of a path is the one that stands there
+-- whether the record at this level of a path is the one last stored there
 abbrev pub is_last_stored : (ℕ → List ℕ) → Path → ℕ → Bool
 is_last_stored records p level = bytes_eq (record_at p level) (records (node_at p level))
 
--- the first level at which a path's record isn't the one that stands there
+-- the first level at which a path's record isn't the one last stored there
 unfoldable pub first_other : (ℕ → List ℕ) → Path → Option ℕ
 first_other records p = find (λ level. not (is_last_stored records p level)) (levels p.depth)
 
--- a refusal by a code from 1 to 7: byte 81 and the code
+-- a refusal with a code from 1 to 7: byte 81 and the code
 abbrev pub is_refusal : List ℕ → Bool
 is_refusal bytes =
     (length bytes == 2) && (slice_index bytes 0 == 129) && nat_le 1 (slice_index bytes 1) && nat_le (slice_index bytes 1) 7
@@ -61,24 +61,25 @@ pub data Outcome : Type 0 where
   NoRoom : Outcome
   Fails : Reason → Outcome
 
--- what an answer to an entry means: it is good, or says by the code 8 that the host had no room, or fails the device
+-- what an answer to an entry means: it is good, or says with the code 8 that the host has no room, or fails the device
 unfoldable pub outcome_of : Shape → (ℕ → ℕ → List ℕ) → Entry → List ℕ → Outcome
 outcome_of v records e bytes =
     if bytes_eq bytes (good_answer v records e) then Good
     else if bytes_eq bytes (129 ∷ 8 ∷ []) then NoRoom
     else Fails (reason_for v records e bytes)
 
--- what byte 80 and the records of a path mean, in answer to a fetch of tree i, where their check told so
+-- what byte 80 and the records of a path mean as the answer to a FETCH in tree i, given the result of checking the
+-- records
 abbrev pub outcome_by : {A : Type 0} → ℕ → Result A HashFault → Outcome
 outcome_by i (Ok path) = Good
 outcome_by i (Err fault.Length) = Fails Malformed
 outcome_by i (Err (fault.Tampered level)) = Fails (Tampered i level)
 
--- whether the record at this level of a path, and the one that stands there, have one digest
+-- whether the record at this level of a path, and the one last stored there, have the same digest
 abbrev pub has_one_digest : (ℕ → List ℕ) → Path → ℕ → Bool
 has_one_digest records p level = bytes_eq (sha256 (record_at p level)) (sha256 (records (node_at p level)))
 
--- whether the first record of a payload that isn't the one that stands there has the digest of that one
+-- whether the first record of a payload that isn't the one last stored there has the same digest as that one
 unfoldable pub pair_in : Shape → (ℕ → ℕ → List ℕ) → Entry → List ℕ → Bool
 pair_in v records e bytes =
     let p = answered_path v e bytes in

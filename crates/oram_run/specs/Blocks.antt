@@ -1,4 +1,4 @@
--- What an access finds in a block and leaves there.
+-- What an access finds in a block, and what it leaves there.
 use Rattle.std.specs.Prelude.{ℕ, zero, suc, ◌+◌, ◌*◌, ◌%◌, ◌==◌, if◌then◌else◌, List, [], replicate, slice_range, Option}
 use Rattle.std.specs.Int.{w32, from_be_bytes}
 use Rattle.oram_geometry.specs.declared.Sizes.{Sizes}
@@ -13,7 +13,7 @@ use Rattle.oram_run.specs.declared.events.ReplyBody.{ReplyBody}
 use Rattle.oram_run.specs.declared.events.ReplyBody.TheVariants.{Data, Done}
 use Rattle.oram_run.specs.declared.events.Submission.{Submission}
 
--- what a tree has of a block, zeros where it has none
+-- the data that a tree has for a block, or zeros if it doesn't have the block
 abbrev pub found_in : Sizes → Option Held → List ℕ
 found_in d o = content_or_zeros d.block_bytes o
 
@@ -21,32 +21,33 @@ found_in d o = content_or_zeros d.block_bytes o
 unfoldable pub entry_in : List ℕ → ℕ → ℕ
 entry_in bytes j = from_be_bytes w32 (slice_range bytes (4 * j) (4 * j + 4))
 
--- what a command leaves of a block's data
+-- a block's data after a command
 abbrev pub left_by : Sizes → Command → List ℕ → List ℕ
 left_by d (Read a) bytes = bytes
 left_by d (Write a new) bytes = new
 left_by d (Discard a) bytes = replicate d.block_bytes 0
 
--- The block of tree i after the access: in tree 0 what the command leaves, else with the next tree's block named by its new leaf.
+-- The data of a block of tree i after the access: in tree 0 as the command leaves it; in a map tree with an entry for
+-- the new leaf of the command's block in the tree below.
 unfoldable pub block_after : Sizes → ℕ → Submission → List ℕ → List ℕ
 block_after d zero x bytes = left_by d x.command bytes
 block_after d (suc i) x bytes = with_entry bytes (block_of d i x % fanout d) (new_leaf d i x + 1)
 
--- what the block named for the next tree's
+-- the entry that the block had for the command's block in the tree below; 0 in tree 0, which is no map
 unfoldable pub next_named : Sizes → ℕ → Submission → List ℕ → ℕ
 next_named d zero x bytes = 0
 next_named d (suc i) x bytes = entry_in bytes (block_of d i x % fanout d)
 
--- what is kept of a block for the reply: tree 0's, as it was read
+-- the data to keep for the reply: that of tree 0's block, as it was read
 abbrev pub kept_of : ℕ → List ℕ → List ℕ
 kept_of zero bytes = bytes
 kept_of (suc i) bytes = []
 
--- the trees' content with one block of tree i changed
+-- the trees' content, with one block of tree i changed
 abbrev pub put_in : (ℕ → Map) → ℕ → ℕ → Held → ℕ → Map
 put_in content i a h k b = if k == i then put (content k) a h b else content k b
 
--- the reply to a command that found this block
+-- the content of the reply to a command that found these bytes in its block
 abbrev pub body_from : List ℕ → Command → ReplyBody
 body_from bytes (Read a) = Data bytes
 body_from bytes (Write a new) = Done

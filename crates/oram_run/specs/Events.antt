@@ -1,4 +1,4 @@
--- What a run is made of, and what a plain array would answer.
+-- The parts of a run, and the replies of a plain array.
 use Rattle.std.specs.Prelude.{ℕ, ◌==◌, Bool, false, List, replicate, take, reverse, Option, Some, None, find, map}
 use Rattle.std.specs.List.{flat_map}
 use Rattle.oram_geometry.specs.declared.Sizes.{Sizes}
@@ -38,7 +38,7 @@ changes a (Read b) = false
 changes a (Write b bytes) = a == b
 changes a (Discard b) = a == b
 
--- the bytes that a write leaves; any other command, zeros
+-- the data that a write leaves; zeros for any other command
 abbrev pub bytes_of : ℕ → Command → List ℕ
 bytes_of size (Read b) = replicate size 0
 bytes_of size (Write b bytes) = bytes
@@ -48,18 +48,18 @@ abbrev pub bytes_left : ℕ → Option Submission → List ℕ
 bytes_left size None = replicate size 0
 bytes_left size (Some s) = bytes_of size s.command
 
--- what a plain array holds at an address after these submissions, the newest first: the bytes of the newest that writes or discards
--- there, zeros if it discards or there is none
+-- what a plain array holds at an address after these submissions, the newest first: the data of the newest one that
+-- writes or discards there, which is zeros if it discards; zeros if there is none
 abbrev pub array_at : Sizes → List Submission → ℕ → List ℕ
 array_at d newest_first a = bytes_left d.block_bytes (find (λ s. changes a s.command) newest_first)
 
--- the answer of a plain array after these submissions, the newest first
+-- the reply's content that a plain array gives after these submissions, the newest first
 abbrev pub body_for : Sizes → List Submission → Command → ReplyBody
 body_for d newest_first (Read a) = Data (array_at d newest_first a)
 body_for d newest_first (Write a bytes) = Done
 body_for d newest_first (Discard a) = Done
 
--- the plain array's reply to one of the submissions: it knows those before
+-- the plain array's reply to one of the submissions, after those before it
 abbrev pub reply_of : Sizes → List Submission → Submission → Reply
 reply_of d subs s = record { session = s.session; ticket = s.ticket; body = body_for d (reverse (take s.ticket subs)) s.command }
 

@@ -9,12 +9,12 @@ use Rattle.oram_run.specs.Progress.{Setting}
 use Rattle.oram_run.specs.Nonces.{formatted_below}
 use Rattle.oram_run.specs.State.{no_tree}
 
--- the bodies make tree i, its nonces after those of the trees before it
+-- the bodies make tree i; their nonces follow those of the trees before it
 pub record IsTreeMade (v : Shape) (i : ℕ) (tree : Tree) (bodies : List (List ℕ)) : Type 0 where
   pub number : tree.number ≡ i
   pub made : IsFormat v.opening v.sealing v.overhead v.device (formatted_below v.device i) tree bodies
 
--- the messages make the trees below tree n, one after the other
+-- the messages make the trees before tree n, one after the other
 pub record AreTreesMade (v : Shape) (n : ℕ) (trees : List Tree) (messages : List (List ℕ)) : Type 0 where
   pub parts : List (List (List ℕ))
   pub joined : messages ≡ flat_map (λ part. part) parts
@@ -26,7 +26,7 @@ pub record AreTreesMade (v : Shape) (n : ℕ) (trees : List Tree) (messages : Li
 abbrev pub IsFormatted : Setting → List Tree → Type 0
 IsFormatted v trees = AreTreesMade v.shape (trees_of v.shape.device) trees v.format
 
--- the messages are a beginning of such
+-- the messages are a beginning of those of a formatting
 abbrev pub IsFormatBegun : Shape → List (List ℕ) → Type 0
 IsFormatBegun v messages =
     (more : List (List ℕ)) × (trees : List Tree) × AreTreesMade v (trees_of v.device) trees (messages ++ more)

@@ -14,31 +14,33 @@ use Rattle.oram_run.specs.Agree.{Agrees, IsOrderly}
 use Rattle.oram_run.specs.Serving.{ServesArray, HasServed}
 use Rattle.oram_run.specs.declared.events.Event.{Event}
 
--- The contract of one step: in each world that the core can go on in, and in which no two records of one digest stand in the answer, it shows and becomes what the local rule allows.
+-- The promise of one step: in each world that the core fits, and unless the answer shows two records with the same
+-- digest, the core shows and becomes what the local rule allows.
 abbrev pub StepsByRule : Shape → State → Event → Shown → State → Type 0
 StepsByRule v s event x t = (w : World) → Fits v s w → shows_in v s w event ≡ false → Moves v s w event x t
 
--- steps one after another; there may be fewer than events
+-- steps by the rule, one after another; there may be fewer steps than events
 abbrev pub StepsAlong : Shape → State → List Event → List Shown → Type 0
 StepsAlong v s events [] = Unit {0}
 StepsAlong v s [] (x ∷ xs) = ⊥
 StepsAlong v s (event ∷ events) (x ∷ xs) = (t : State) × StepsByRule v s event x t × StepsAlong v t events xs
 
--- the world of the past: what was last stored, and what the accepted submissions have left
+-- the world after a past: the records last stored, and the content that the accepted submissions have left
 abbrev pub world_of : Setting → List Step → World
 world_of v past = record { records = records_of v past; content = content_of v past }
 
--- a core just formatted
+-- the state of a core that has just been formatted
 abbrev pub new_state : Setting → List Tree → State
 new_state v trees = record { table = replicate (blocks_in v.shape.device (trees_of v.shape.device - 1)) 0; trees = trees; next = 0; nonce = formatted v.shape.device; queue = []; stage = 0; named = 0; before = []; last = []; lost = false; failure = None }
 
--- Whatever a core that was just formatted does by the local rule is right.
+-- Whatever a core does by the local rule, from the formatting on, is right.
 abbrev pub StepsAreRight : Type 0
 StepsAreRight =
     (v : Setting) (trees : List Tree) (events : List Event) (xs : List Shown) → IsDevice v.shape.device → IsFormatted v trees
     → StepsAlong v.shape (new_state v trees) events xs → AllRight v [] events xs
 
--- steps from one state to another, which make a past, the newest first; no two records of one digest stood in an answer
+-- steps by the rule from one state to another, and the past that they make, the newest step first; no answer shows two
+-- records with the same digest
 abbrev pub StepsTo : Setting → List Step → State → List Event → List Shown → List Step → State → Type 0
 StepsTo v past s [] [] now t = (now ≡ past) × (t ≡ s)
 StepsTo v past s (event ∷ events) (x ∷ xs) now t =
@@ -46,41 +48,42 @@ StepsTo v past s (event ∷ events) (x ∷ xs) now t =
 StepsTo v past s [] (x ∷ xs) now t = ⊥
 StepsTo v past s (event ∷ events) [] now t = ⊥
 
--- What a core tells is what its past says: how many commands were accepted, how many of them have no reply, its status and why it
--- failed.
+-- What a core tells agrees with its past: how many commands were accepted, how many of them have no reply, its status,
+-- and why it failed.
 pub record TellsOf (v : Setting) (past : List Step) (s : State) : Type 0 where
   pub next : s.next ≡ length (accepted past)
   pub waiting : length s.queue ≡ without_reply v past
   pub status : status_in s ≡ status v past
   pub failure : s.failure ≡ (progress v past).failure
 
--- After any list of events a core that was just formatted tells of its past.
+-- After any list of events, what a core that steps by the rule from its formatting on tells agrees with its past.
 abbrev pub CoresTell : Type 0
 CoresTell =
     (v : Setting) (trees : List Tree) (events : List Event) (xs : List Shown) (past : List Step) (s : State) → IsDevice v.shape.device
     → IsFormatted v trees → StepsTo v [] (new_state v trees) events xs past s → TellsOf v past s
 
--- A core whose past isn't known, after an event that didn't fail it: its trees stand in the world that the event leaves and agree
--- there, and it has served the array.
+-- A core with an unknown past, after an event that didn't fail it: its trees stand and agree in the world after the
+-- event, and it has served the array.
 pub record HasGoneOn (v : Shape) (s t : State) (w : World) (array : ℕ → List ℕ) (x : Shown) : Type 0 where
   pub orderly : IsOrderly v t
   pub holds : AllStand v t w
   pub agrees : Agrees v t w
   pub served : HasServed v s t w array x.replies
 
--- A core whose trees stand in a world and agree there serves an array.
+-- A core whose trees stand and agree in a world serves an array.
 pub record IsServing (v : Shape) (s : State) (w : World) (array : ℕ → List ℕ) : Type 0 where
   pub orderly : IsOrderly v s
   pub holds : AllStand v s w
   pub agrees : Agrees v s w
   pub serves : ServesArray v s w array
 
--- A core that was just formatted serves an array of zeros.
+-- A core that has just been formatted serves an array of zeros.
 abbrev pub NewCoresServe : Type 0
 NewCoresServe = (v : Setting) (trees : List Tree) → IsDevice v.shape.device → IsFormatted v trees
     → IsServing v.shape (new_state v trees) (world_of v []) (λ a. replicate v.shape.device.block_bytes 0)
 
--- Whatever a core whose trees stand and agree does by the local rule, it goes on so and answers as the array.
+-- The trees of a core that stand and agree still do after each step by the local rule, unless the step fails the core,
+-- and the core answers as the array.
 abbrev pub CoresServe : Type 0
 CoresServe = (v : Shape) (s t : State) (w : World) (array : ℕ → List ℕ) (event : Event) (x : Shown) → IsDevice v.device
     → IsOrderly v s → AllStand v s w → Agrees v s w → ServesArray v s w array → shows_in v s w event ≡ false

@@ -1,4 +1,4 @@
--- What one event does to a core, in a world.
+-- The local rule: what one event does to a core in a world.
 use Rattle.std.specs.Prelude.{◌≡◌, ℕ, ◌+◌, ◌-◌, ◌*◌, ◌%◌, ◌^◌, ◌≤◌, ◌==◌, ◌&&◌, Bool, true, false, if◌then◌else◌, List, [], ◌∷◌, ◌++◌, length, slice_index, slice_set, Option, Some, None, map, unwrap_or}
 use Rattle.std.specs.List.{All}
 use Rattle.oram_geometry.specs.declared.Sizes.{Sizes}
@@ -27,14 +27,14 @@ use Rattle.oram_run.specs.declared.events.Note.TheVariants.{Accepted, Refused, T
 use Rattle.oram_run.specs.declared.events.Reply.{Reply}
 use Rattle.oram_run.specs.declared.events.Submission.{Submission}
 
--- what is to be sent: nothing, the last message again, or a message that asks for an entry
+-- what the core should send: nothing, the last message again, or a message that asks for an entry
 pub data Ask : Type 0 where
   Nothing : Ask
   Again : Ask
   For : Entry → Ask
 
--- What a core shows at an event, and what it and the trees are afterwards. The state's trees, nonce and last message are as if
--- nothing were sent.
+-- What a core shows at an event, and its state and the trees' content afterwards. The trees, the nonce and the last
+-- message in the state are as if the core sent nothing.
 pub record Moved : Type 0 where
   pub note : Note
   pub replies : List Reply
@@ -42,15 +42,16 @@ pub record Moved : Type 0 where
   pub state : State
   pub content : ℕ → Map
 
--- the leaf of a submission in tree i, where this is named: the spare word's if none is
+-- the leaf that a submission fetches in tree i, given the map entry of its block: if the entry is 0, the leaf of the
+-- spare word
 abbrev pub leaf_for : Sizes → ℕ → ℕ → Submission → ℕ
 leaf_for d i named x = if named == 0 then leaf_of d i (slice_index x.words (2 * i)) else named - 1
 
--- the fetch at this stage, where this is named
+-- the FETCH at this stage, given the map entry of the block
 abbrev pub fetch_at : Sizes → ℕ → ℕ → Submission → Entry
 fetch_at d stage named x = record { fetch = true; tree = stage_tree d stage; leaf = leaf_for d (stage_tree d stage) named x }
 
--- the first fetch of the oldest command, if there is one
+-- the first FETCH of the oldest command, if there is one
 abbrev pub first_fetch : Sizes → List ℕ → List Submission → Ask
 first_fetch d table [] = Nothing
 first_fetch d table (x ∷ rest) = For (fetch_at d 0 (slice_index table (block_of d (trees_of d - 1) x)) x)
@@ -59,11 +60,11 @@ abbrev pub if_idle : List Submission → Ask → Ask
 if_idle [] ask = ask
 if_idle (x ∷ rest) ask = Nothing
 
--- nothing but the note
+-- the core shows only a note
 abbrev pub stays : State → World → Note → Moved
 stays s w note = record { note = note; replies = []; ask = Nothing; state = s; content = w.content }
 
--- a command joins the queue, and an idle core fetches its first path
+-- a command joins the queue; an idle core fetches the command's first path
 abbrev pub accepts : Shape → State → World → Submission → Moved
 accepts v s w x = record {
   note = Accepted x.ticket;
@@ -73,7 +74,7 @@ accepts v s w x = record {
   content = w.content;
 }
 
--- a path came: its block is changed, mapped to the new word's leaf, and the path goes back
+-- a path has come: its block is changed and gets the new word's leaf, and the path is stored
 abbrev pub stores : Shape → State → World → Submission → Moved
 stores v s w x =
     let d = v.device in
@@ -93,7 +94,7 @@ stores v s w x =
       content = put_in w.content i a (record { leaf = new_leaf d i x; content = block_after d i x bytes });
     }
 
--- a path is back, and the next tree's is fetched
+-- a path is stored, and the core fetches the next tree's
 abbrev pub fetches : Shape → State → World → Submission → Moved
 fetches v s w x = record {
   note = Taken;
@@ -103,7 +104,7 @@ fetches v s w x = record {
   content = w.content;
 }
 
--- the last path is back: the reply goes out, and the next command begins
+-- the last path is stored: the core replies, and the next command begins
 abbrev pub finishes : Shape → State → World → Submission → List Submission → Moved
 finishes v s w x rest = record {
   note = Taken;
@@ -113,7 +114,7 @@ finishes v s w x rest = record {
   content = w.content;
 }
 
--- what a good answer does to the oldest command without a reply
+-- the effect of a good answer on the oldest command without a reply
 abbrev pub goes_on : Shape → State → World → List Submission → Moved
 goes_on v s w [] = stays s w Unexpected
 goes_on v s w (x ∷ rest) =
@@ -125,11 +126,11 @@ goes_on v s w (x ∷ rest) =
 abbrev pub stalls : State → World → Moved
 stalls s w = record { note = Stalled; replies = []; ask = Nothing; state = record s { lost = true }; content = w.content }
 
--- and goes out again
+-- the core sends the message again
 abbrev pub resends : State → World → Moved
 resends s w = record { note = Resent; replies = []; ask = Again; state = record s { lost = false }; content = w.content }
 
--- Each command without a reply is answered Failed, and the core forgets its trees.
+-- Each command without a reply is answered as failed, and the core forgets its trees.
 abbrev pub fails : State → World → Reason → Moved
 fails s w e = record { note = FailedNow e; replies = map failed_reply s.queue; ask = Nothing; state = failed_state s.next s.nonce e; content = w.content }
 
@@ -157,7 +158,7 @@ on_retry s w Idle = stays s w Unexpected
 on_retry s w Waiting = stays s w Unexpected
 on_retry s w Over = stays s w Unexpected
 
--- what an event does to a core in a world
+-- the effect of an event on a core in a world
 abbrev pub moved : Shape → State → World → Event → Moved
 moved v s w (Submit session c words) =
     on_submission v s w (record { session = session; ticket = s.next; command = c; words = words })
@@ -167,23 +168,23 @@ moved v s w Lost = on_loss s w (status_in s)
 moved v s w Reopen = on_loss s w (status_in s)
 moved v s w Retry = on_retry s w (status_in s)
 
--- the messages are what is to be sent
+-- these are the messages that the core should send
 abbrev pub Sends : Shape → List ℕ → Ask → List (List ℕ) → Type 0
 Sends v last Nothing xs = xs ≡ []
 Sends v last Again xs = xs ≡ last ∷ []
 Sends v last (For e) xs = (m : List ℕ) × (xs ≡ m ∷ []) × IsMessage v e m
 
--- the message sent last, once these are sent
+-- the message sent last, after these messages
 abbrev pub latest : List (List ℕ) → List ℕ → List ℕ
 latest [] last = last
 latest (m ∷ ms) last = m
 
--- what stands at the host once these messages are sent, the newest first
+-- the records at the host after these messages, the newest first
 abbrev pub records_after : Shape → (ℕ → ℕ → List ℕ) → List (List ℕ) → ℕ → ℕ → List ℕ
 records_after v records [] i n = records i n
 records_after v records (m ∷ older) i n = unwrap_or (written v m i n) (records_after v records older i n)
 
--- the last message again changes nothing
+-- the records at the host afterwards; sending the last message again changes nothing
 abbrev pub records_next : Shape → (ℕ → ℕ → List ℕ) → Ask → List (List ℕ) → ℕ → ℕ → List ℕ
 records_next v records Nothing sends = records
 records_next v records Again sends = records
@@ -197,19 +198,19 @@ is_new (For e) = true
 is_new Nothing = false
 is_new Again = false
 
--- how many buckets are sealed for a message
+-- the number of buckets that are sealed for a message
 abbrev pub buckets_in : Sizes → Ask → ℕ
 buckets_in d Nothing = 0
 buckets_in d Again = 0
 buckets_in d (For e) = if e.fetch then 0 else depth_of d e.tree + 1
 
--- at a STORE, the records that stand from now on hold the tree's content
+-- after a STORE, the records hold the tree's content, with its blocks placed on the path
 abbrev pub PlacedIn : Shape → ℕ → World → List ℕ → Type 0
 PlacedIn v nonce w m = is_store m ≡ true →
     let i = (asked m).tree in
     IsPlaced v i (asked m).leaf nonce (w.records i) (w.content i)
 
--- The core shows what it is to show and goes on to t, with trees and messages of its own choice.
+-- The core shows what the rule says and goes on to the state t; the trees and the messages are the core's choice.
 pub record MovesTo (v : Shape) (s : State) (w : World) (m : Moved) (x : Shown) (t : State) : Type 0 where
   pub note : x.note ≡ m.note
   pub replies : x.replies ≡ m.replies
@@ -218,15 +219,16 @@ pub record MovesTo (v : Shape) (s : State) (w : World) (m : Moved) (x : Shown) (
   pub holds : t.failure ≡ None → AllStand v t (world_after v w m x.sends)
   pub placed : is_new m.ask ≡ true → All (PlacedIn v s.nonce (world_after v w m x.sends)) x.sends
 
--- In a world, at an event, the core may show this and go on to t.
+-- In a world, at an event, the rule allows the core to show x and to go on to the state t.
 abbrev pub Moves : Shape → State → World → Event → Shown → State → Type 0
 Moves v s w event x t = MovesTo v s w (moved v s w event) x t
 
--- what the tree of the fetch that is outstanding has of the command's block
+-- what the tree of the outstanding FETCH has for the command's block
 abbrev pub held_now : Shape → State → World → Submission → Option Held
 held_now v s w x = let i = stage_tree v.device s.stage in w.content i (block_of v.device i x)
 
--- Where a fetch is outstanding, its block is in the tree's content as it is named, and what the block names is a leaf of the next tree.
+-- While a FETCH is outstanding, the tree's content has its block with the leaf that the map names, and the block's
+-- entry for the next tree is 0 or names a leaf there.
 pub record IsReadyFor (v : Shape) (s : State) (w : World) (x : Submission) : Type 0 where
   pub named : name_of (held_now v s w x) ≡ named_now v.device s x
   pub next :
@@ -237,11 +239,11 @@ abbrev pub IsReady : Shape → State → World → List Submission → Type 0
 IsReady v s w [] = Unit {0}
 IsReady v s w (x ∷ rest) = s.stage % 2 ≡ 0 → IsReadyFor v s w x
 
--- the world is one that the core can go on in: one that has failed asks nothing of it
+-- the core can go on in this world; a failed core can in any
 abbrev pub Fits : Shape → State → World → Type 0
 Fits v s w = s.failure ≡ None → AllStand v s w × IsReady v s w s.queue
 
--- whether two records of one digest stand in an answer
+-- whether an answer shows two records with the same digest
 abbrev pub shows_in : Shape → State → World → Event → Bool
 shows_in v s w (Answer bytes) = is_waiting (status_in s) && pair_in v w.records (asked s.last) bytes
 shows_in v s w (Submit session c words) = false

@@ -13,12 +13,12 @@ use Rattle.oram_run.specs.declared.events.Event.TheVariants.{Submit, Answer, Los
 use Rattle.oram_run.specs.declared.events.Reason.{Reason}
 use Rattle.oram_run.specs.declared.events.Submission.{Submission}
 
--- what is fixed for a run: the shape, and the messages of the formatting, the oldest first
+-- the values that are fixed for a run: the shape, and the messages of the formatting, the oldest first
 pub record Setting : Type 0 where
   pub shape : Shape
   pub format : List (List ℕ)
 
--- one event that has happened, whether it was accepted, and the messages that went out at it
+-- an event that has happened, whether a command was accepted at it, and the messages sent at it
 pub record Step : Type 0 where
   pub event : Event
   pub accepts : Bool
@@ -32,7 +32,8 @@ submission_of ticket Lost = []
 submission_of ticket Reopen = []
 submission_of ticket Retry = []
 
--- A past has its newest step first. The accepted submissions, the oldest first, their tickets counted from 0:
+-- A past has its newest step first. These are its accepted submissions, the oldest first, with their tickets counted
+-- from 0:
 unfoldable pub accepted : List Step → List Submission
 accepted [] = []
 accepted (s ∷ past) = if s.accepts then accepted past ++ submission_of (length (accepted past)) s.event else accepted past
@@ -42,7 +43,7 @@ unfoldable pub sent : List Step → List (List ℕ)
 sent [] = []
 sent (s ∷ past) = s.sends ++ sent past
 
--- what was last stored, at a node of a tree
+-- the record last stored at a node of a tree
 abbrev pub records_of : Setting → List Step → ℕ → ℕ → List ℕ
 records_of v past = last_stored v.shape (sent past ++ reverse v.format)
 
@@ -52,13 +53,13 @@ pub data Status : Type 0 where
   Stalling : Status
   Over : Status
 
--- good answers so far, whether the outstanding message counts as lost, and the failure
+-- the number of good answers so far, whether the outstanding message counts as lost, and the failure
 pub record Progress : Type 0 where
   pub good : ℕ
   pub lost : Bool
   pub failure : Option Reason
 
--- how many entries the accepted submissions make
+-- the number of entries that the accepted submissions make
 abbrev pub entries : Setting → List Step → ℕ
 entries v past = 2 * trees_of v.shape.device * length (accepted past)
 
@@ -89,7 +90,7 @@ after_retry p Idle = p
 after_retry p Waiting = p
 after_retry p Over = p
 
--- progress after an event, where an answer means this
+-- the progress after an event, given what an answer means
 abbrev pub advanced : Progress → Status → (List ℕ → Outcome) → Event → Progress
 advanced p now meaning (Submit s c w) = p
 advanced p now meaning (Answer bytes) = answered p now (meaning bytes)

@@ -1,4 +1,4 @@
--- What a run is to do.
+-- The reactions that are right in a run.
 use Rattle.std.specs.Prelude.{◌≡◌, ℕ, ◌+◌, ◌-◌, ◌*◌, ◌/◌, ◌==◌, ◌&&◌, not, Bool, true, false, if◌then◌else◌, List, [], ◌∷◌, ◌++◌, length, take, drop, slice_range, Option, Some, None, min, nat_le, map}
 use Rattle.std.specs.List.{range_with_len, All}
 use Rattle.oram_geometry.specs.declared.Sizes.{Sizes}
@@ -29,7 +29,7 @@ has_bad_length d (Read a) = false
 has_bad_length d (Write a bytes) = not (length bytes == d.block_bytes)
 has_bad_length d (Discard a) = false
 
--- the first refusal that applies to a submission, where so many were accepted and so many of these wait for a reply
+-- the first reason to refuse a submission, if `taken` commands were accepted and `waiting` of them wait for a reply
 abbrev pub refusal_of : Sizes → Bool → ℕ → ℕ → Command → List ℕ → Option Refusal
 refusal_of d has_failed waiting taken c words =
     if has_failed then Some refusal.Failed
@@ -76,7 +76,7 @@ is_waiting Idle = false
 is_waiting Stalling = false
 is_waiting Over = false
 
--- the tickets whose last store has had a good answer
+-- the number of tickets whose last STORE has had a good answer
 abbrev pub answered_tickets : Setting → List Step → ℕ
 answered_tickets v past = (progress v past).good / (2 * trees_of v.shape.device)
 
@@ -84,11 +84,11 @@ abbrev pub waiting_by : Option Reason → ℕ → ℕ
 waiting_by None n = n
 waiting_by (Some e) n = 0
 
--- how many accepted commands have no reply: at a failure each has one
+-- the number of accepted commands without a reply; after a failure each has one
 abbrev pub without_reply : Setting → List Step → ℕ
 without_reply v past = waiting_by (progress v past).failure (length (accepted past) - answered_tickets v past)
 
--- the note of an event
+-- the note that an event calls for
 abbrev pub note_of : Setting → List Step → Event → Note
 note_of v past (Submit s c w) =
     let n = length (accepted past) in
@@ -125,40 +125,41 @@ is_resent Stalled = false
 is_resent (FailedNow e) = false
 is_resent Unexpected = false
 
--- the replies at a step: the plain array's to each ticket that was answered at it, and at a failure Failed to each that waits
+-- the replies at a step: the plain array's to each ticket that is answered at it; at a failure, Failed to each command
+-- that waits
 abbrev pub replies_at : Setting → List Step → Step → Note → List Reply
 replies_at v past step note =
     let subs = accepted past in
     map (reply_of v.shape.device subs) (slice_range subs (answered_tickets v past) (answered_tickets v (step ∷ past)))
     ++ (if fails_now note then map failed_reply (drop (answered_tickets v past) subs) else [])
 
--- how many entries were sent
+-- the number of entries that were sent
 abbrev pub entries_sent : Setting → List Step → ℕ
 entries_sent v past = min ((progress v past).good + 1) (entries v past)
 
--- the numbers from m up to, and without, n
+-- the numbers from m up to n, without n
 abbrev pub from_to : ℕ → ℕ → List ℕ
 from_to m n = range_with_len m (n - m)
 
--- messages ask for these entries, one each
+-- the messages ask for these entries, one message for each
 abbrev pub AskFor : Setting → List Step → List ℕ → List (List ℕ) → Type 0
 AskFor v past [] [] = Unit {0}
 AskFor v past (m ∷ ms) (x ∷ xs) = IsMessage v.shape (entry_at v past m) x × AskFor v past ms xs
 AskFor v past [] (x ∷ xs) = ⊥
 AskFor v past (m ∷ ms) [] = ⊥
 
--- the messages at a step: one for each entry that is sent at it; at a resending the last one again
+-- the messages at a step: one for each entry that is sent at it; if a message is sent again, only the last one
 abbrev pub SendsRight : Setting → List Step → Step → Bool → Type 0
 SendsRight v past step true = step.sends ≡ take 1 (sent past)
 SendsRight v past step false = AskFor v (step ∷ past) (from_to (entries_sent v past) (entries_sent v (step ∷ past))) step.sends
 
--- at a STORE by ticket t, the records that stand from now on hold the tree's content, its blocks placed on the path
+-- after a STORE by ticket t, the records hold the tree's content, with its blocks placed on the path
 abbrev pub PlacedBy : Setting → List Step → ℕ → List ℕ → Type 0
 PlacedBy v past t m = is_store m ≡ true →
     let i = (asked m).tree in
     IsPlaced v.shape i (asked m).leaf (store_nonce v.shape.device t i) (records_of v past i) (content_of v past i)
 
--- what a reaction shows, without where it lies in memory
+-- a reaction, without its place in memory
 pub record Shown : Type 0 where
   pub note : Note
   pub replies : List Reply
@@ -176,7 +177,7 @@ pub record IsRight (v : Setting) (past : List Step) (event : Event) (x : Shown) 
   pub sends : SendsRight v past (step_of event x) (is_resent x.note)
   pub placed : is_resent x.note ≡ false → All (PlacedBy v (step_of event x ∷ past) (answered_tickets v past)) x.sends
 
--- whether two records of one digest stand in an answer
+-- whether an answer shows two records with the same digest
 abbrev pub shows_pair : Setting → List Step → Event → Bool
 shows_pair v past (Answer bytes) =
     is_waiting (status v past) && pair_in v.shape (records_of v past) (entry_at v past (progress v past).good) bytes
@@ -185,7 +186,8 @@ shows_pair v past Lost = false
 shows_pair v past Reopen = false
 shows_pair v past Retry = false
 
--- Each reaction is right, up to, and without, the event at which the first shown pair stands. Reactions may be fewer than events.
+-- Each reaction is right, until an answer shows two records with the same digest; from that event on nothing is said.
+-- There may be fewer reactions than events.
 abbrev pub AllRight : Setting → List Step → List Event → List Shown → Type 0
 AllRight v past events [] = Unit {0}
 AllRight v past [] (x ∷ xs) = ⊥

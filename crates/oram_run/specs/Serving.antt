@@ -1,4 +1,4 @@
--- What a core answers whose past isn't known: a plain array begun with what tree 0 holds.
+-- The replies of a core with an unknown past: those of a plain array that begins with what tree 0 holds.
 use Rattle.std.specs.Prelude.{◌≡◌, ℕ, ◌<◌, ◌+◌, ◌*◌, ◌==◌, ◌⊎◌, if◌then◌else◌, List, [], ◌∷◌, replicate}
 use Rattle.oram_geometry.specs.declared.Sizes.{Sizes}
 use Rattle.oram_geometry.specs.Sizes.{trees_of}
@@ -11,7 +11,7 @@ use Rattle.oram_run.specs.declared.events.Command.TheVariants.{Read, Write, Disc
 use Rattle.oram_run.specs.declared.events.Reply.{Reply}
 use Rattle.oram_run.specs.declared.events.Submission.{Submission}
 
--- what tree 0 holds, by address
+-- the data that tree 0 holds, by address
 abbrev pub array_in : Shape → World → ℕ → List ℕ
 array_in v w a = found_in v.device (w.content 0 a)
 
@@ -25,8 +25,8 @@ array_after d (Discard a) array b = if b == a then replicate d.block_bytes 0 els
 abbrev pub reply_by : (ℕ → List ℕ) → Submission → Reply
 reply_by array x = record { session = x.session; ticket = x.ticket; body = body_from (array (address_of x.command)) x.command }
 
--- Tree 0 holds the array that the commands with a reply have left; but from the last access of a command to its reply it holds
--- the array after that command, and what the command found is kept.
+-- Tree 0 holds the array as the commands with a reply have left it. But from the last access of a command to its
+-- reply, tree 0 holds the array after that command, and the data that the command found is kept.
 pub record ServesAmid (v : Shape) (s : State) (w : World) (array : ℕ → List ℕ) (x : Submission) : Type 0 where
   pub before : s.stage + 1 < 2 * trees_of v.device → (a : ℕ) → array_in v w a ≡ array a
   pub found : s.stage + 1 ≡ 2 * trees_of v.device → s.before ≡ array (address_of x.command)
@@ -39,7 +39,7 @@ ServesBy v s w array (x ∷ rest) = ServesAmid v s w array x
 abbrev pub ServesArray : Shape → State → World → (ℕ → List ℕ) → Type 0
 ServesArray v s w array = ServesBy v s w array s.queue
 
--- an event without a reply, or with the array's to the oldest command
+-- an event gave no reply, or the array's reply to the oldest command
 abbrev pub HasServed : Shape → State → State → World → (ℕ → List ℕ) → List Reply → Type 0
 HasServed v s t w array replies =
     ((replies ≡ []) × ServesArray v t w array)

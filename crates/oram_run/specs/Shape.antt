@@ -10,11 +10,11 @@ pub record Shape : Type 0 where
   pub sealing : ℕ → List ℕ → List ℕ  -- of plain bytes, under a nonce
   pub opening : List ℕ → Option (List ℕ)  -- of sealed bytes
 
--- bytes of a record
+-- the number of bytes of a record
 abbrev pub record_len : Shape → ℕ
 record_len v = record_len_of v.device v.overhead
 
--- what its sealer keeps to: sealing adds so many bytes, and opening undoes it
+-- the laws of the sealer: sealing adds `overhead` bytes, and opening undoes sealing
 pub record IsLawful (v : Shape) : Type 0 where
   pub longer : (nonce : ℕ) (plain : List ℕ) → length (v.sealing nonce plain) ≡ v.overhead + length plain
   pub undoes : (nonce : ℕ) (plain : List ℕ) → nonce < 2 ^ 64 → IsBytes plain → v.opening (v.sealing nonce plain) ≡ Some plain

@@ -1,4 +1,4 @@
--- A core as plain data, and the world that it stands in.
+-- A core as plain data, and the world around it.
 use Rattle.std.specs.Prelude.{ℕ, ◌<◌, ◌+◌, ◌-◌, ◌==◌, Bool, false, if◌then◌else◌, List, [], ◌∷◌, Option, Some, None, slice_index, slice_index_or}
 use Rattle.std.specs.Option.{option_map_or}
 use Rattle.oram_geometry.specs.declared.Sizes.{Sizes}
@@ -26,12 +26,13 @@ pub record State : Type 0 where
   pub lost : Bool  -- whether that counts as lost
   pub failure : Option Reason
 
--- what stands at the host, by tree and node, and what the trees hold, by tree and block
+-- the records at the host, by tree and node, and what the trees hold, by tree and block
 pub record World : Type 0 where
   pub records : ℕ → ℕ → List ℕ
   pub content : ℕ → Map
 
--- A core that has failed: of all that it held, it knows how many commands were accepted and how many buckets sealed.
+-- The state of a core that has failed. Of all that it held, it still knows how many commands were accepted and how
+-- many buckets sealed.
 abbrev pub failed_state : ℕ → ℕ → Reason → State
 failed_state next nonce e = record { table = []; trees = []; next = next; nonce = nonce; queue = []; stage = 0; named = 0; before = []; last = []; lost = false; failure = Some e }
 
@@ -50,10 +51,10 @@ status_by None (x ∷ rest) lost = if lost then Stalling else Waiting
 abbrev pub status_in : State → Status
 status_in s = status_by s.failure s.queue s.lost
 
--- what is named for the block of the fetch that is outstanding
+-- the map entry of the command's block in the tree of the outstanding FETCH
 abbrev pub named_now : Sizes → State → Submission → ℕ
 named_now d s x = if s.stage == 0 then slice_index s.table (block_of d (trees_of d - 1) x) else s.named
 
--- what is to be named for a block that a tree has so
+-- the map entry that a block should have, given what its tree has for it
 abbrev pub name_of : Option Held → ℕ
 name_of o = option_map_or (λ h. h.leaf + 1) o 0

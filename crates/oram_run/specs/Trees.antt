@@ -1,4 +1,4 @@
--- How a tree stands over the records at the host, and how a STORE places its blocks.
+-- When a core's tree stands in a world, and how a STORE places the blocks of a tree.
 use Rattle.std.specs.Prelude.{◌≡◌, ℕ, ◌+◌, ◌≤◌, List, length}
 use Rattle.oram_geometry.specs.Sizes.{depth_of}
 use Rattle.oram_geometry.specs.Path.{node_on}
@@ -11,18 +11,19 @@ use Rattle.oram_tree.specs.Content.{Map, HasContent}
 use Rattle.oram_tree.specs.State.{State as Tree, IsStoredWith}
 use Rattle.oram_run.specs.Shape.{Shape}
 
--- The tree is tree i of the device, its records stand at the host under its root, and with its stash they hold this map.
+-- The tree is tree i of the device, the records at the host are stored under its root digest, and with its stash they
+-- hold this map.
 pub record Stands (v : Shape) (i : ℕ) (tree : Tree) (records : ℕ → List ℕ) (content : Map) : Type 0 where
   pub number : tree.number ≡ i
   pub stored : IsStoredWith v.opening v.overhead v.device tree records content
 
--- the sealed bucket of a record
+-- the sealed bucket at a level of a leaf's path
 abbrev pub part_on : Shape → ℕ → ℕ → (ℕ → List ℕ) → ℕ → List ℕ
 part_on v i leaf records level = sealed_part (records (node_on (depth_of v.device i) leaf level))
 
--- The records of tree i, just after a STORE of the path of this leaf, hold this map: each block in one bucket of its own path,
--- or in the rest, which lies nowhere. The path's buckets read as the lists and are sealed under rising nonces, from this one on,
--- and the lists and the rest are greedy. No stash of the client is in it.
+-- Just after a STORE of this leaf's path, the records of tree i hold this map: each block is in one bucket of its own
+-- path, or in the rest, which is in no bucket. The path's buckets read as the lists and are sealed under rising
+-- nonces, from `nonce` on. The lists and the rest are greedy. The client's stash isn't mentioned here.
 pub record IsPlaced (v : Shape) (i leaf nonce : ℕ) (records : ℕ → List ℕ) (content : Map) : Type 0 where
   pub lists : List (List Cell)
   pub rest : List Cell

@@ -1,23 +1,23 @@
-//! What comes in, what goes out, and what waits in between.
+//! The events that a core takes, its reactions, and the commands that wait in between.
 ghost use Rattle.std.specs.Prelude.{◌≡◌, [], ◌∷◌, IfOk};
 ghost use Rattle.oram_run.specs.Events.{address_of, refusal_number};
 
 use oram_bytes::{Bytes, Words};
 use std::alloc::{AllocError, Global};
 
-/// What is asked of a block of the device.
+/// A command: what a session asks of a block of the device.
 #[derive(Debug, Drop, PartialEq, Eq)]
 pub enum Command {
-    /// To read the block of this address.
+    /// Reads the block with this address.
     Read(u32),
-    /// To replace its data, which is as long as a block.
+    /// Replaces the data of the block with this address by these bytes, as many as a block has.
     Write(u32, Bytes),
-    /// To make its data zeros. The host sees of it what it sees of a read.
+    /// Replaces the data of the block with this address by zeros. To the host it looks like a read.
     Discard(u32),
 }
 
 impl Command {
-    /// The address of the block.
+    /// Returns the address of the block.
     pub fn address(&self) -> u32
         ensures { result ≡ address_of self.now }
     {
@@ -27,7 +27,7 @@ impl Command {
         }
     }
 
-    /// The same command again.
+    /// Copies the command. Fails only if memory runs out.
     pub fn copy(&self, alloc: Global) -> Result<Command, AllocError>
         ensures { IfOk result (λ c. c ≡ self.now) }
     {
@@ -42,11 +42,11 @@ impl Command {
     }
 }
 
-/// What happens to a core.
+/// An event that a core takes.
 #[derive(Debug, Drop, PartialEq, Eq)]
 pub enum Event {
-    /// A session submits a command, with two words of the tape for each tree: for tree i the spare word at 2i and the
-    /// new word after it.
+    /// A session submits a command, with two words of the tape for each tree: the words for tree i are its spare word,
+    /// at index 2i, and then its new word.
     Submit {
         session: u32,
         command: Command,
@@ -56,31 +56,31 @@ pub enum Event {
     Answer(Bytes),
     /// The message that waits for an answer counts as lost.
     Lost,
-    /// The core was read back from where it was kept: the message that waited for an answer counts as lost.
+    /// The core was read back from where it was kept, so the message that waits for an answer counts as lost.
     Reopen,
-    /// A lost message is to be sent again.
+    /// The core should send a lost message again.
     Retry,
 }
 
-/// Why a command is not accepted: the first that applies.
+/// Why a command is refused: the first reason that applies.
 #[derive(Clone, Copy, Debug, PartialEq, Eq)]
 pub enum Refusal {
-    /// The device has no block of this address.
+    /// The device has no block with this address.
     BadAddress,
-    /// The data is not as long as a block.
+    /// The data isn't as long as a block.
     BadLength,
-    /// There are not two words for each tree.
+    /// The number of words isn't two for each tree.
     BadWords,
-    /// As many commands as may wait have no reply.
+    /// As many commands wait for a reply as may wait.
     Busy,
-    /// As many commands were accepted as the device's lifetime allows.
+    /// The device has accepted as many commands as its lifetime allows.
     Exhausted,
     /// The device has failed, for good.
     Failed,
 }
 
 impl Refusal {
-    /// The number by which programs and sessions name the refusal, from 1.
+    /// Returns the number by which programs and sessions name the refusal, from 1.
     pub fn number(self) -> u8
         ensures { result ≡ refusal_number self }
     {
@@ -98,40 +98,40 @@ impl Refusal {
 /// Why a device failed.
 #[derive(Clone, Copy, Debug, PartialEq, Eq)]
 pub enum Reason {
-    /// The host's answer isn't of a form that answers the message.
+    /// The host's answer doesn't have the form of an answer to the message.
     Malformed,
-    /// In this tree the record at this level of the answer, and none nearer the root, isn't the one last stored.
+    /// In this tree, the record at this level of the answer isn't the one last stored. All records nearer the root are.
     Tampered(u8, u8),
-    /// The host refused the message, by this code from 1 to 7.
+    /// The host refused the message with this code, from 1 to 7.
     HostRefused(u8),
 }
 
-/// What became of an event.
+/// What a core does with an event.
 #[derive(Clone, Copy, Debug, PartialEq, Eq)]
 pub enum Note {
-    /// The command has this ticket; tickets count from 0.
+    /// The command is accepted and has this ticket; tickets count from 0.
     Accepted(u64),
     Refused(Refusal),
     /// The answer was good.
     Taken,
-    /// The message waits to be sent again: it was lost, or the host had no room.
+    /// The last message waits to be sent again: it was lost, or the host had no room.
     Stalled,
-    /// The answer was not, and the device is of no more use.
+    /// The answer wasn't good, and the device has failed for this reason.
     FailedNow(Reason),
-    /// The lost message was sent again, byte for byte.
+    /// The core has sent the lost message again, byte for byte.
     Resent,
-    /// The event is none that is waited for, and changes nothing.
+    /// The core doesn't expect this event, and nothing changes.
     Unexpected,
 }
 
-/// What a command is answered.
+/// The content of a reply to a command.
 #[derive(Debug, Drop, PartialEq, Eq)]
 pub enum ReplyBody {
-    /// The data of the block that was read.
+    /// The data of the block, which was read.
     Data(Bytes),
-    /// The block was written, or discarded.
+    /// The block was written or discarded.
     Done,
-    /// The device failed first; whether the block was changed isn't known.
+    /// The device failed first. Whether the block has changed is unknown.
     Failed,
 }
 
@@ -143,18 +143,18 @@ pub struct Reply {
     pub body: ReplyBody,
 }
 
-/// What a core does at an event.
+/// The reaction of a core to an event.
 #[derive(Debug, Drop)]
 pub struct Reaction {
     pub note: Note,
-    /// By rising ticket.
+    /// The replies, by rising ticket.
     pub replies: Vec<Reply>,
-    /// Bodies of messages for the host, one at most.
+    /// The bodies of messages for the host, at most one.
     pub sends: Vec<Bytes>,
 }
 
 impl Reaction {
-    /// A note, and nothing else.
+    /// Makes a reaction that is only a note.
     pub fn only(alloc: Global, note: Note) -> Reaction
         ensures note { result.note ≡ note }
         ensures replies { result.replies.items ≡ [] }

@@ -8,30 +8,32 @@ pub fn steps_are_right()
     ensures { StepsAreRight }
 {}
 
-/// A law about definitions: no two sealed buckets of a run have one nonce.
+/// A law about definitions: no two sealed buckets of a run have the same nonce.
 pub fn nonces_are_apart()
     ensures { NoncesAreApart }
 {}
 
-/// A law about definitions: a core whose past isn't known, and whose trees stand and agree, goes on so by the local rule and
-/// answers as a plain array begun with what its tree 0 holds.
+/// A law about definitions: take a core with an unknown past, whose trees stand and agree in a world. They still do
+/// after each step by the local rule, unless the step fails the core, and the core answers like a plain array that
+/// begins with what its tree 0 holds.
 pub fn cores_serve()
     ensures { CoresServe }
 {}
 
-/// A law about definitions: a core that was just formatted serves an array of zeros.
+/// A law about definitions: a core that has just been formatted serves an array of zeros.
 pub fn new_cores_serve()
     ensures { NewCoresServe }
 {}
 
-/// A law about definitions: after any list of events, a core tells how many commands were accepted, how many of them have no
-/// reply, whether it is idle and why it failed, as its past says.
+/// A law about definitions: after any list of events, what a core tells agrees with its past: how many commands were
+/// accepted, how many of them have no reply, its status, and why it failed.
 pub fn cores_tell()
     ensures { CoresTell }
 {}
 
-/// A law about definitions: two right runs with the same notes, whose commands go to different addresses, the second's on the
-/// first's tape rearranged, send as many messages at each event, of the same lengths and for the same paths.
+/// A law about definitions: take two right runs with the same notes, whose commands may have different addresses, the
+/// second run on the first one's tape, rearranged. At each event both send equally many messages, of the same lengths
+/// and for the same paths.
 pub fn two_worlds_look_alike()
     ensures { TwoWorldsLookAlike }
 {}

@@ -27,7 +27,7 @@ pub Runs-one : (v : Shape) (s t : State) (e : Event) (x : Shown) → Steps v s e
 Runs-one v s t e x h = (x, t, [], h, (refl, refl), sym (append-nil x.replies))
 
 module _ (v : Shape) {L : Type 0} (calls : L → List ℕ → Outcome → L → Type 0) where
-  -- so many calls stalled, and the core is as it was
+  -- some calls stalled, and the core is as before
   pub record Tried (message : List ℕ) (s : State) (l : L) (n : ℕ) (t : State) (m : L) : Type 0 where
     pub stalls : List Outcome
     pub each : All (λ o. is_stall o ≡ true) stalls
@@ -69,7 +69,7 @@ module _ (v : Shape) {L : Type 0} (calls : L → List ℕ → Outcome → L → 
     core = Runs-append v s t u (retried k.stalls) (event_of o ∷ []) [] x.replies k.core (Runs-one v t u (event_of o) x step);
   }
 
-  -- memory was refused before the core knew of the last call
+  -- memory ran out before the core learned of the last call
   pub untold : (most : ℕ) (message : List ℕ) (s : State) (l : L) (n : ℕ) (t : State) (m m' : L) (o : Outcome) →
       status_in s ≡ Waiting → message ≡ s.last → n ≤ most → (k : Tried message s l n t m) → calls m message o m' →
       IsCutOff v calls most (s, l) (record { message = message; stalls = k.stalls; last = o; replies = [] }) (t, m')
@@ -81,6 +81,6 @@ module _ (v : Shape) {L : Type 0} (calls : L → List ℕ → Outcome → L → 
     core = inl k.core;
   }
 
-  -- and after
+  -- and after it did
   pub told_then : (most : ℕ) (p : State × L) (x : Sending) (q : State × L) → IsSent v calls most p x q → IsCutOff v calls most p x q
   told_then most p x q h = record { message = h.message; stalls = h.stalls; few = h.few; link = h.link; core = inr h.core }

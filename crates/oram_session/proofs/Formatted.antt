@@ -1,4 +1,4 @@
--- A formatting over a link that is lent to a sink is one over the link.
+-- A formatting over a link that a sink borrows is one over the link.
 use Rattle.std.proofs.Common.{◌≡◌, ℕ, List, [], ◌∷◌, Result, Ok, Err, IfOk, IfErr, inl, inr, sym, ap, ◌∙◌}
 use Rattle.oram_wire.specs.declared.sinks.SinkFault.{SinkFault}
 use Rattle.oram_tree.specs.Format.{PutsAll, IsBrokenOff}
@@ -36,7 +36,7 @@ module _ {K L N : Type 0} (name : K → N) (held : K → L) (takes : L → List 
         )
       ]
 
-  -- whichever way it ended
+  -- for both ways in which it can end
   pub formatted_lent : {C : Type 0} (result : Result C FormatFault) (state : C → State) (v : Shape) (Begins : List (List ℕ) → Type 0) (s t : K)
       → IfOk result (λ c. IsNew v TakesLent s (state c) t) → IfErr result (λ fault. IsBrokenOff TakesLent RefusesLent Begins s fault t)
       → (name t ≡ name s) × IfOk result (λ c. IsNew v takes (held s) (state c) (held t)) × IfErr result (λ fault. IsBrokenOff takes refuses Begins (held s) fault (held t))

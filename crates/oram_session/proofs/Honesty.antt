@@ -1,4 +1,4 @@
--- Over a link to an honest host a plain array answers a session.
+-- Over a link to an honest host a session has the replies of a plain array.
 use Rattle.std.proofs.Common.{◌≡◌, ◌≢◌, ◌⊎◌, ℕ, ◌*◌, ◌<◌, arith, Bool, true, false, if◌then◌else◌, List, [], ◌∷◌, ◌++◌, length, drop, map, Option, Some, None, unwrap_or, Ok, Err, refl, sym, ap, ◌∙◌, subst, inl, inr, append-nil}
 use Rattle.std.specs.Prelude.{MatchBool}
 use Rattle.std.specs.List.{All, FoldsTo, flat_map}
@@ -54,7 +54,7 @@ abbrev pub first_or : {X : Type 0} → List X → X → X
 first_or [] x = x
 first_or (y ∷ ys) x = y
 
--- what a core that has not failed tells by its status
+-- what the status of a core that hasn't failed says
 
 calm_status : (q : List Submission) (l : Bool) → is_over (status_by None q l) ≡ false
 calm_status [] l = refl
@@ -83,7 +83,7 @@ waits_by s Over m is e = absurd cc
 pub unsettled : (now : Status) → now ≡ Waiting → is_settled_by now ≡ false
 unsettled now e = ap is_settled_by e
 
--- a refusal of a core that has not failed is for what the command asks
+-- a core that hasn't failed refuses a command only because of what the command asks
 
 abbrev IsForCommand : Option Refusal → Type 0
 IsForCommand o = (e : Refusal) → o ≡ Some e → e ≢ Failed
@@ -99,7 +99,7 @@ refused_for : (d : Sizes) (waiting taken : ℕ) (c : Command) (words : List ℕ)
 refused_for d waiting taken c words =
     for_command _ BadAddress _ (λ e. cc) (for_command _ BadLength _ (λ e. cc) (for_command _ BadWords _ (λ e. cc) (for_command _ Busy _ (λ e. cc) (for_command _ Exhausted _ (λ e. cc) none_refused))))
 
--- what is heard of an answer that doesn't fail the device, while one command is at work
+-- the effect of an answer that doesn't fail the device, while one command is at work
 
 module _ (v : Shape) (s t : State) (x : Shown) (alive : t.failure ≡ None) where
   still_queued : Heard v s (did x t) → x.replies ≡ [] → t.queue ≡ s.queue
@@ -130,7 +130,7 @@ honest_keeps v s w host after (Ok bytes) b h = met_hosts v s w host after h.0 b 
 honest_keeps v s w host after (Err fault) b (inl same) = subst (HostsWork v s w) (sym same) b
 honest_keeps v s w host after (Err fault) b (inr late) = met_hosts v s w host after late.0 b (met v s w host after late.0 b late.1)
 
--- each message is heard, whatever is answered
+-- the honest host receives each message, whatever the answer is
 pub call_keeps : (may_lie : Bool) (v : Shape) (s : State) (w : World) (host after : Host) (o : Outcome) → HostsWork v s w host
     → IsHeardCall may_lie v host s.last o after → HostsWork v s w after
 call_keeps may_lie v s w host after o b (inl honest) = honest_keeps v s w host after o b honest
@@ -281,7 +281,7 @@ module _ {L : Type 0} (calls : L → List ℕ → Outcome → L → Type 0) (hos
   heard_by : IsHeardLink false v calls host_of
   heard_by l m body o call = inl (honest l m body o call)
 
-  -- nothing is sent once the reply was given
+  -- no message is sent after the reply
   ended : (ys : List Sending) (p q : State × L) (array : ℕ → List ℕ) → IsHeld v host_of p array → AllSent v calls most_retries p ys q
       → IsHeld v host_of q array
   ended [] p q array held sent = subst (λ (z : State × L). IsHeld v host_of z array) sent held
@@ -360,7 +360,7 @@ sessions_are_the_arrays calls host_of honest v words session p q turns array dev
 
 -- a device that was formatted
 
--- the answer of one byte, 80, is that a message was taken
+-- an answer of the one byte 80 means that the host took a message
 done_by : (answer : HostAnswer) → IsAnswer answer → 128 ∷ [] ≡ answer_body answer → answer ≡ Done
 done_by Done is e = refl
 done_by (Payload bytes) is e =

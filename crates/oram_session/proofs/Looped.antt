@@ -29,14 +29,14 @@ module _ {S : Type 0} (remaining contents : S → Option (List ℕ)) where
       (answer, mid, asked, record { fits = subst Fits same fits; wrote = subst Wrote same wrote; read = read })
   returned (Err fault) host host' begun mid last body sent answer asked same fits wrote read = tt
 
-  -- the message went over these ends, from a host that is the link's
+  -- the message went over these ends, and the link's host answered it
   pub passed : (l m : ToItself S) (body : List ℕ) (outcome : Outcome) (host : Host) (ends : S × S) → length (frame body) ≤ longest_frame →
       IfSome l.ends (λ those. ends ≡ those) → host ≡ l.host → Crosses remaining contents host ends body outcome m.host m.ends → Carries remaining contents l body outcome m
   passed l m body outcome host ends fits held same crosses =
       let P = λ (h : Host). Crosses remaining contents h ends body outcome m.host m.ends in
       inr (inr (record { fits = fits; ends = ends; held = held; crosses = subst P same crosses }))
 
-  -- the same host and ends, whatever is counted
+  -- the same host and ends, whatever the count
   pub recounted : (l m n : ToItself S) (body : List ℕ) (outcome : Outcome) → n.host ≡ m.host → n.ends ≡ m.ends → Carries remaining contents l body outcome m → Carries remaining contents l body outcome n
   recounted l m n body outcome host ends (inl h) = inl (record { large = h.large; told = h.told; host = host ∙ h.host; ends = ends ∙ h.ends })
   recounted l m n body outcome host ends (inr (inl h)) = inr (inl (record { none = h.none; told = h.told; host = host ∙ h.host; ends = ends ∙ h.ends }))

@@ -1,4 +1,4 @@
--- A core that was read back, and the messages with which it goes on.
+-- A core that was read back, and the messages that it still exchanges.
 use Rattle.std.proofs.Common.{◌≡◌, ℕ, suc, ◌+◌, ◌<◌, ◌⊎◌, Bool, true, false, List, [], ◌∷◌, ◌++◌, length, Option, Some, None, refl, sym, ap, ◌∙◌, subst, arith, inl, inr, append-nil, length-append}
 use Rattle.std.specs.List.{flat_map, All}
 use Rattle.std.proofs.lemmas.Fn.{FoldsTo-push}
@@ -27,9 +27,9 @@ use Rattle.oram_session.specs.Outcome.{Outcome}
 use Rattle.oram_session.specs.Settled.{is_settled_by, IsSettled, IsUnderWay, IsBodyOf}
 use Rattle.oram_session.proofs.Steppings.{still_waits, settled_over}
 
--- the core is told that it was reopened, and to send its message again
+-- the core learns that it was reopened, and sends its message again
 
--- a core at work stalls where its message is lost, and else it waits
+-- a core at work is stalled if its message is lost, and else it waits
 at_work : (f : Option Reason) (q : List Submission) (l : Bool) → ¬ (is_settled_by (status_by f q l) ≡ true) → (status_by f q true ≡ Stalling) × (status_by f q false ≡ Waiting)
 at_work (Some e) q l h = absurd (h refl)
 at_work None [] l h = absurd (h refl)
@@ -44,11 +44,11 @@ reopened_at s t x false l k e =
     let f : did x t ≡ stalled_by s = e ∙ ap (λ (w : Status). lost_by s w) (ap (λ (b : Bool). status_by s.failure s.queue b) l ∙ k.1) in
     (ap (λ (d : Done). d.replies) f, ap (λ (d : Done). d.state) f)
 
--- a reopening leaves it stalled
+-- a reopening stalls it
 pub reopened : (v : Shape) (s t : State) (x : Shown) → ¬ IsSettled s → Steps v s Reopen x t → (x.replies ≡ []) × (t ≡ record s { lost = true })
 reopened v s t x h step = reopened_at s t x s.lost refl (at_work s.failure s.queue s.lost h) (step.plain (lost_by s (status_in s)) refl)
 
--- and takes no memory
+-- and needs no memory
 pub loss_is_free : (s : State) → is_free_note (lost_by s (status_in s)).note ≡ true
 loss_is_free s = at (status_in s)
   where
@@ -66,7 +66,7 @@ resent v s u t y h held step =
     let again : plain_step v (record s { lost = true }) Retry ≡ Some (resent_by (record s { lost = true })) = rw k.0 refl in
     g.plain (resent_by (record s { lost = true })) again
 
--- so that one is under way
+-- so it is under way
 pub resent_under_way : (s t : State) (y : Shown) → ¬ IsSettled s → did y t ≡ resent_by (record s { lost = true }) → IsUnderWay (did y t)
 resent_under_way s t y h e =
     let k = at_work s.failure s.queue s.lost h in
@@ -78,13 +78,13 @@ pub told_again : (v : Shape) (s u t : State) (x y : Shown) → Steps v s Reopen 
 told_again v s u t x y first second none none' =
     (x, u, [], first, (y, t, [], second, (refl, refl), sym (append-nil y.replies ∙ none')), sym (append-nil x.replies ∙ none))
 
--- the reopening alone
+-- only the reopening
 pub told_once : (v : Shape) (s u : State) (x : Shown) → Steps v s Reopen x u → x.replies ≡ [] → Runs v s (Reopen ∷ []) [] u
 told_once v s u x step none = (x, u, [], step, (refl, refl), sym (append-nil x.replies ∙ none))
 
--- what an answer leads to
+-- the effect of an answer
 
--- a message was sent, and its answer is waited for; or no command is left, and the last has its reply
+-- the core has sent a message and waits for the answer; or no command is left, and the last one has its reply
 abbrev pub IsGoing : Done → Type 0
 IsGoing m =
     ((status_in m.state ≡ Waiting) × (m.sends ≡ m.state.last ∷ []))
@@ -100,7 +100,7 @@ finished_going v s x (y ∷ rest) w =
     let waits : status_in (finished_by v s x (y ∷ rest)).state ≡ Waiting = rw (k.0, k.1) refl in
     inl (waits, refl)
 
--- a command is at work where an answer is waited for
+-- if the core waits for an answer, a command is at work
 pub some_at_work : (f : Option Reason) (q : List Submission) (l : Bool) → status_by f q l ≡ Waiting → 0 < length q
 some_at_work (Some e) q l h = absurd cc
 some_at_work None [] l h = absurd cc
@@ -114,7 +114,7 @@ heard_going v s d w (inl f) =
 heard_going v s d w (inr (inl g)) = inl (g.waits, g.sends)
 heard_going v s d w (inr (inr r)) = subst IsGoing (sym r.does) (finished_going v s r.oldest r.rest w)
 
--- data that is replied is a block
+-- data in a reply is as long as a block
 abbrev pub HasBody : Sizes → Reply → Type 0
 HasBody d r = IsBodyOf d r.body
 
@@ -133,7 +133,7 @@ heard_bodies v s d (inl f) = subst (All (HasBody v.device)) (sym f.replies) (All
 heard_bodies v s d (inr (inl g)) = subst (All (HasBody v.device)) (sym g.replies) (All-nil (HasBody v.device))
 heard_bodies v s d (inr (inr r)) = subst (λ (m : Done). All (HasBody v.device) m.replies) (sym r.does) (finished_bodies v s r.oldest r.rest r.long)
 
--- each command that is replied to has left the queue
+-- each command that gets a reply leaves the queue
 pub heard_count : (v : Shape) (s : State) (d : Done) → Heard v s d → length d.replies + length d.state.queue ≡ length s.queue
 heard_count v s d (inl f) =
     let all : length d.replies ≡ length s.queue = ap length f.replies ∙ length-map s.queue failed_reply in
@@ -165,7 +165,7 @@ pub replied_last : (xs : List Sending) (x : Sending) (replies : List Reply) → 
 replied_last xs x replies same =
     flat_map-append (λ (y : Sending). y.replies) xs (x ∷ []) ∙ ap (λ (l : List Reply). replies_of xs ++ l) (append-nil x.replies ∙ same)
 
--- a reply that is the last of all, and all there are
+-- the reply that is the last one, and all replies
 pub only_one : (all early rest : List Reply) (r : Reply) → length all ≡ 1 → all ≡ early ++ (rest ++ r ∷ []) → all ≡ r ∷ []
 only_one all [] [] r one e = e
 only_one all [] (x ∷ rest) r one e =
@@ -178,7 +178,7 @@ only_one all (x ∷ early) rest r one e =
     let n = length-append rest (r ∷ []) in
     absurd (omega arith)
 
--- one message more
+-- one more message
 
 pub retries_later : (first most : ℕ) (xs : List Sending) (x : Sending) → most ≡ retries_after first most (xs ++ x ∷ [])
 retries_later first most [] x = refl
@@ -190,7 +190,7 @@ module _ (v : Shape) {L : Type 0} (calls : L → List ℕ → Outcome → L → 
   sent_more p [] q x z k sent answered = (z, subst (λ (a : State × L). IsSent v calls first a x z) (sym k) sent, answered, refl)
   sent_more p (y ∷ ys) q x z k sent answered = (k.0, k.1, k.2, FoldsTo-push _ k.0 ys q x z k.3 (sent, answered))
 
--- where the first may be sent again as often as any
+-- if the first message may be sent again as often as any other
 
 pub retries_same : (most : ℕ) (xs : List Sending) → retries_after most most xs ≡ most
 retries_same most [] = refl

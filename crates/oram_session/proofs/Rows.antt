@@ -15,7 +15,7 @@ use Rattle.oram_session.specs.Tapes.{list_words, chacha_words}
 use Rattle.oram_session.specs.Turns.{Turn}
 use Rattle.oram_session.specs.declared.link.LinkFault.TheVariants.{Io}
 
--- tapes: ticket 1 of three words, two a ticket; the first word of the zero key
+-- tapes: ticket 1 of three words, with two words a ticket; the first word of the zero key
 
 of_a_list : list_words (6 ∷ 3 ∷ 7 ∷ []) 1 2 ≡ 7 ∷ 0 ∷ []
 of_a_list = refl
@@ -24,7 +24,7 @@ of_the_zero_key : chacha_words (replicate 32 0) 1 0 1 ≡ 0x903df1a0ade0b876 ∷
 unfolding u32_at quarter_round column_round diagonal_round double_rounds block_word
 of_the_zero_key = refl
 
--- links: the third of three calls with a fault, and the call behind it; the greatest count
+-- links: the third of three calls with a fault, and the call after it; the greatest count
 
 faulty : ℕ → Faulty ℕ
 faulty calls = record { inner = 0; at = 2; times = 3; after = false; calls = calls; faults = 0 }
@@ -47,7 +47,7 @@ one_more = refl
 no_more : faults_after (2 ^ 64 - 1) (Err Io) ≡ 2 ^ 64 - 1
 no_more = refl
 
--- a message that stalls twice, without an answer and without room, and then has its answer
+-- a message that stalls twice, once without an answer and once without room, and then has its answer
 
 sending : Sending
 sending = record { message = 1 ∷ []; stalls = Err Io ∷ Ok (129 ∷ 8 ∷ []) ∷ []; last = Ok (128 ∷ []); replies = [] }
@@ -62,7 +62,7 @@ no_room = refl
 done : is_stall (Ok (128 ∷ [])) ≡ false
 done = refl
 
--- a session: a body of no bytes, and a write of no block
+-- a session: a body without bytes, and a write of a block that doesn't exist
 
 turns : List Turn
 turns =

@@ -10,7 +10,7 @@ use Rattle.oram_session.specs.Turns.{Turn, IsTurn}
 use Rattle.oram_answering.proofs.Answered.{Answered, answered_more, answered_then}
 
 module _ (v : Shape) {L : Type 0} (calls : L → List ℕ → Outcome → L → Type 0) (words : ℕ → ℕ → List ℕ) (session : ℕ) where
-  -- so many turns, and nothing more
+  -- some turns, and nothing more
   abbrev pub Served : State × L → Option (List ℕ) → Option (List ℕ) → ℕ → State × L → Option (List ℕ) → Option (List ℕ) → Type 0
   Served = Answered {P = State × L} (IsTurn v calls words session) (λ x. x.body) reply_body
 
@@ -18,12 +18,12 @@ module _ (v : Shape) {L : Type 0} (calls : L → List ℕ → Outcome → L → 
       Served p r w n q r' w' → IsTurn v calls words session q x z → IsBody x.body → Consumes r' r'' (frame x.body) → Appends w' w'' (reply_frame x) → Served p r w (n + 1) z r'' w''
   served_more = answered_more {P = State × L} (IsTurn v calls words session) (λ x. x.body) reply_body
 
-  -- and then so many bytes more were read and written
+  -- and then further bytes were read and written
   pub served_then : (p : State × L) (r w : Option (List ℕ)) (n : ℕ) (q : State × L) (r' w' r'' w'' : Option (List ℕ)) (part more : List ℕ) →
       (k : Served p r w n q r' w') → Consumes r' r'' part → Appends w' w'' more → HasServed v calls words session p k.all q part r r'' more w w''
   served_then = answered_then {P = State × L} (IsTurn v calls words session) (λ x. x.body) reply_body
 
--- under another shape and another tape that are the same
+-- under another shape and another tape that are equal to these
 pub under : (P : Shape → (ℕ → ℕ → List ℕ) → Type 0) (v v' : Shape) (w w' : ℕ → ℕ → List ℕ) → v' ≡ v → w' ≡ w → P v' w' → P v w
 under P v v' w w' e f h = subst (λ (u : Shape). P u w) e (subst (λ (f : ℕ → ℕ → List ℕ). P v' f) f h)
 

@@ -1,4 +1,4 @@
--- What a session needs to know of a core's step, whatever the host is.
+-- What a session needs to know about a core's step, whatever the host is.
 use Rattle.std.proofs.Common.{◌≡◌, ◌≢◌, ℕ, zero, suc, ◌+◌, ◌-◌, ◌*◌, ◌<◌, ◌≤◌, Bool, true, false, if◌then◌else◌, List, [], ◌∷◌, length, Option, Some, None, Ok, Err, refl, sym, ap, ◌∙◌, subst, arith, inl, inr}
 use Rattle.std.specs.Str.{bytes_eq}
 use Rattle.oram_geometry.specs.declared.Sizes.{Sizes}
@@ -36,7 +36,7 @@ steps_under overhead sealing opening c d h s e x t step = subst (λ (v : Shape).
 pub same_trans : {S : Type 0} (a b c : CoreValue S) → IsSameDevice a b → IsSameDevice b c → IsSameDevice a c
 same_trans a b c h k = (k.0 ∙ h.0, k.1 ∙ h.1)
 
--- what a status says of the parts that it stands on
+-- what a status says about the parts of the state that determine it
 pub still_waits : (f : Option Reason) (q : List Submission) (l : Bool) → status_by f q l ≡ Waiting → (f ≡ None) × (l ≡ false) × (status_by f q true ≡ Stalling)
 still_waits (Some e) q l h = absurd cc
 still_waits None [] l h = absurd cc
@@ -69,7 +69,7 @@ retried_is v s u t x w held h =
 no_room : (b : List ℕ) → bytes_eq b (129 ∷ 8 ∷ []) ≡ false → b ≢ 129 ∷ 8 ∷ []
 no_room b f e = let g : bytes_eq (129 ∷ 8 ∷ []) (129 ∷ 8 ∷ []) ≡ false = subst (λ (xs : List ℕ). bytes_eq xs (129 ∷ 8 ∷ []) ≡ false) e f in cc
 
--- any other is heard
+-- any other answer takes effect
 pub heard_is : (v : Shape) (s t : State) (o : Outcome) (x : Shown) → status_in s ≡ Waiting → is_stall o ≡ false → Steps v s (event_of o) x t → Heard v s (did x t)
 heard_is v s t (Ok b) x w f h = h.heard b refl w (no_room b f)
 heard_is v s t (Err e) x w f h = absurd cc
@@ -79,7 +79,7 @@ quiet v s d (inl f) n = let e = sym f.note ∙ n in cc
 quiet v s d (inr (inl g)) n = let e = sym g.note ∙ n in cc
 quiet v s d (inr (inr r)) n = let e = sym (ap (λ (m : Done). m.note) r.does) ∙ n in cc
 
--- the note tells which it was
+-- the note says which of these it was
 pub stall_noted : (v : Shape) (s t : State) (o : Outcome) (x : Shown) → status_in s ≡ Waiting → Steps v s (event_of o) x t → x.note ≡ Stalled → is_stall o ≡ true
 stall_noted v s t o x w h n = at (is_stall o) refl
   where
@@ -97,7 +97,7 @@ answer_noted v s t o x w h n = at (is_stall o) refl
 pub settled_over : (s : State) (e : Reason) → s.failure ≡ Some e → IsSettled s
 settled_over s e h = rw h refl
 
--- an answer leaves fewer to wait for
+-- each answer leaves fewer answers to wait for
 left_more : (n k stage : ℕ) → 1 ≤ n → 0 * (k + 1) + (k - 0) < n * (k + 1) + (k - stage)
 left_more zero k stage h = absurd (omega arith)
 left_more (suc n) k stage h = omega arith

@@ -1,4 +1,4 @@
--- One request, and results that are passed on.
+-- One request, and results that a `?` passes on.
 use Rattle.std.proofs.Common.{◌≡◌, ℕ, ◌*◌, ◌∷◌, List, [], Result, Ok, Err, IfOk, refl, sym, subst, inl, inr}
 use Rattle.std.specs.List.{flat_map}
 use Rattle.oram_geometry.specs.Sizes.{trees_of}

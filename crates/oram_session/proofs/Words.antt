@@ -5,14 +5,14 @@ use Rattle.rand_core.specs.Steps.{u64_via_u32}
 use Rattle.rand_chacha.specs.ChaCha.{ChaCha, next_word, word_at, key_of}
 use Rattle.oram_session.specs.Tapes.{word_from, chacha_words}
 
--- the generator of a key at a place of stream 0
+-- the generator of a key at an index of stream 0
 abbrev pub generator_at : List ℕ → ℕ → ChaCha
 generator_at key place = record { key = key_of key; stream = 0; word_pos = place % 2 ^ 68 }
 
 next_place : (p : ℕ) → (p % 2 ^ 68 + 1) % 2 ^ 68 ≡ (p + 1) % 2 ^ 68
 next_place p = omega arith
 
--- a pair of words at a place
+-- a pair of words at an index
 pair_at : (key : List ℕ) (p : ℕ) → u64_via_u32 (next_word 10) (generator_at key p) ≡ (word_from key p, generator_at key (p + 2))
 pair_at key p =
     let one = next_place p in

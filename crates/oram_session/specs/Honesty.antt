@@ -1,4 +1,4 @@
--- A link to an honest host, and to one that may lie. Over the first a plain array answers a session.
+-- Links to an honest host, and to one that may lie. Over the former, a session's replies are those of a plain array.
 use Rattle.std.specs.Prelude.{◌≡◌, ◌≢◌, ◌⊎◌, ℕ, ◌≤◌, Bool, true, List, [], ◌∷◌, replicate, Some, None, Ok, Err}
 use Rattle.std.specs.List.{FoldsTo}
 use Rattle.oram_geometry.specs.declared.Sizes.{Sizes}
@@ -32,17 +32,17 @@ use Rattle.oram_session.specs.Requests.{IsRequest, IsNoRequest, command_of, told
 use Rattle.oram_session.specs.Settled.{IsSettled}
 use Rattle.oram_session.specs.Turns.{Turn, IsTurn}
 
--- What a call answers is the host's answer. At a fault the host has heard the message, or it hasn't.
+-- A call gives the host's answer; if the call has a fault, the host may have received the message or not.
 abbrev pub IsHonestCall : Host → List ℕ → Outcome → Host → Type 0
 IsHonestCall host body (Ok bytes) after =
     (answer : HostAnswer) × IsAnswer answer × (bytes ≡ answer_body answer) × Serves host body answer after
 IsHonestCall host body (Err fault) after = HeardOrNot body host after
 
--- each call of the link, where this is the host behind it
+-- each call of the link is honest; `host_of` gives the host behind it
 abbrev pub IsHonestLink : {L : Type 0} → (L → List ℕ → Outcome → L → Type 0) → (L → Host) → Type 0
 IsHonestLink {L} calls host_of = (l m : L) (body : List ℕ) (o : Outcome) → calls l body o m → IsHonestCall (host_of l) body o (host_of m)
 
--- Of a host that may lie: an honest one hears each message too, and what a call answers is its answer, or a lie.
+-- With a host that may lie: an honest host receives each message too, and a call gives that host's answer, or a lie.
 abbrev pub IsHeardCall : Bool → Shape → Host → List ℕ → Outcome → Host → Type 0
 IsHeardCall may_lie v host body o after =
     IsHonestCall host body o after ⊎ ((may_lie ≡ true) × (bytes : List ℕ) × (o ≡ Ok bytes) × IsLie v host body bytes after)
@@ -50,20 +50,20 @@ IsHeardCall may_lie v host body o after =
 abbrev pub IsHeardLink : Bool → Shape → {L : Type 0} → (L → List ℕ → Outcome → L → Type 0) → (L → Host) → Type 0
 IsHeardLink may_lie v {L} calls host_of = (l m : L) (body : List ℕ) (o : Outcome) → calls l body o m → IsHeardCall may_lie v (host_of l) body o (host_of m)
 
--- the array's reply to a command, or a refusal for what the command asks; never one for the device's failure
+-- the array's reply to a command, or a refusal because of the command itself, never because the device failed
 abbrev pub IsArrayReply : Sizes → Command → (ℕ → List ℕ) → SessionReply → (ℕ → List ℕ) → Type 0
 IsArrayReply d c array reply after =
     ((reply ≡ told (body_from (array (address_of c)) c)) × (after ≡ array_after d c array))
     ⊎ ((why : Refusal) × (why ≢ Failed) × (reply ≡ Refused (refusal_number why)) × (after ≡ array))
 
--- a request is answered by the array before it, and leaves this one
+-- the array answers a request and becomes `after`
 abbrev pub IsArrayTurn : Sizes → (ℕ → List ℕ) → Turn → (ℕ → List ℕ) → Type 0
 IsArrayTurn d array turn after =
     (IsNoRequest turn.body × (turn.reply ≡ Refused 7) × (after ≡ array))
     ⊎ ((message : SessionRequest) × IsRequest turn.body message × IsArrayReply d (command_of message) array turn.reply after)
 
--- Between two requests: the core is idle, its trees stand in a world and agree there and hold the array, and the host behind the
--- link keeps the world's records.
+-- Between two requests: the core is idle, its trees stand in a world, agree there and hold the array, and the host
+-- behind the link keeps the world's records.
 pub record IsHeld (v : Shape) {L : Type 0} (host_of : L → Host) (p : State × L) (array : ℕ → List ℕ) : Type 0 where
   pub settled : IsSettled p.0
   pub alive : p.0.failure ≡ None
@@ -71,7 +71,8 @@ pub record IsHeld (v : Shape) {L : Type 0} (host_of : L → Host) (p : State × 
   pub serving : IsServing v p.0 world array
   pub hosts : Hosts v p.0 world (host_of p.1)
 
--- One command is at work on a device that held the array before it, and the host behind the link keeps the world's records.
+-- One command is at work on a device that held the array before the command, and the host behind the link keeps the
+-- world's records.
 pub record IsBusy (v : Shape) {L : Type 0} (host_of : L → Host) (p : State × L) (x : Submission) (array : ℕ → List ℕ) : Type 0 where
   pub alive : p.0.failure ≡ None
   pub queue : p.0.queue ≡ x ∷ []
@@ -83,13 +84,14 @@ pub record IsBusy (v : Shape) {L : Type 0} (host_of : L → Host) (p : State × 
 abbrev pub HasFailed : State → Type 0
 HasFailed s = (reason : Reason) × (s.failure ≡ Some reason)
 
--- A device that was formatted over an honest link to a host that kept nothing is held so, and its array is zeros.
+-- A device that was formatted over an honest link to a host that kept nothing is held between requests, with an array
+-- of zeros.
 abbrev pub NewDevicesHoldZeros : {L : Type 0} → (L → List ℕ → Outcome → L → Type 0) → Type 0
 NewDevicesHoldZeros {L} calls = (host_of : L → Host) → IsHonestLink calls host_of
     → (v : Shape) (from to : L) (s : State) → v.overhead ≤ 64 → host_of from ≡ [] → IsNew v (TakesMessage calls) from s to
     → IsHeld v host_of (s, to) (λ a. replicate v.device.block_bytes 0)
 
--- Over an honest link each turn is the array's, and the device is held so again.
+-- Over an honest link each turn is one of the array, and afterwards the device is held between requests again.
 abbrev pub SessionsAreTheArrays : {L : Type 0} → (L → List ℕ → Outcome → L → Type 0) → Type 0
 SessionsAreTheArrays {L} calls = (host_of : L → Host) → IsHonestLink calls host_of
     → (v : Shape) (words : ℕ → ℕ → List ℕ) (session : ℕ) (p q : State × L) (turns : List Turn) (array : ℕ → List ℕ) → IsDevice v.device

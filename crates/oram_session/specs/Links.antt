@@ -1,4 +1,4 @@
--- What a call may answer, and what it leaves, of the links of this crate.
+-- The calls of this crate's links: their outcomes, and how they change the link.
 use Rattle.std.specs.Prelude.{◌≡◌, ℕ, ◌+◌, ◌-◌, ◌^◌, ◌&&◌, nat_le, nat_lt, min, Bool, List, Ok, Err, MatchBool}
 use Rattle.oram_wire.specs.HostMessages.{answer_body}
 use Rattle.oram_wire.specs.HostReading.{IsAnswer}
@@ -13,7 +13,7 @@ pub record ToServer : Type 0 where
   pub host : Host
   pub faults : ℕ  -- how many calls had a fault
 
--- the host's answer; where there was no memory for it, the host is as it was
+-- the host's answer; if there is no memory for it, the host is unchanged
 abbrev pub AnswersOf : Host → List ℕ → Outcome → Host → Type 0
 AnswersOf host body (Ok bytes) after = (answer : HostAnswer) × Serves host body answer after × IsAnswer answer × (bytes ≡ answer_body answer)
 AnswersOf host body (Err fault) after = (fault ≡ OutOfMemory) × (after ≡ host)
@@ -22,7 +22,7 @@ pub record DirectCall (l : ToServer) (body : List ℕ) (outcome : Outcome) (m : 
   pub answer : AnswersOf l.host body outcome m.host
   pub faults : m.faults ≡ faults_after l.faults outcome
 
--- a link with faults of its own, over another
+-- a link over another one that simulates faults
 pub record Faulty (L : Type 0) : Type 0 where
   pub inner : L
   pub at : ℕ  -- the first call that has a fault
@@ -31,11 +31,11 @@ pub record Faulty (L : Type 0) : Type 0 where
   pub calls : ℕ
   pub faults : ℕ
 
--- the next call is one of those that have a fault
+-- the next call is one of those that get a fault
 abbrev pub is_due : {L : Type 0} → Faulty L → Bool
 is_due l = nat_le l.at l.calls && nat_lt l.calls (l.at + l.times)
 
--- a call, over a link whose calls meet the relation; the counts stay at their greatest number
+-- a call over a link with this relation of calls; the counts stop at their greatest number
 pub record FaultyCall {L : Type 0} (calls : L → List ℕ → Outcome → L → Type 0) (l : Faulty L) (body : List ℕ) (outcome : Outcome) (m : Faulty L) : Type 0 where
   pub at : m.at ≡ l.at
   pub times : m.times ≡ l.times

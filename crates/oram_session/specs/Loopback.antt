@@ -1,4 +1,4 @@
--- What a link answers and leaves that serves its own server over a connection to itself.
+-- The calls of a link that serves its own server over a connection to itself.
 use Rattle.std.specs.Prelude.{◌≡◌, ℕ, ◌<◌, ◌≤◌, List, length, Option, Some, None, Ok, Err, IfSome, ◌⊎◌}
 use Rattle.std.specs.Io.KnownBytes.{Appends}
 use Rattle.oram_wire.specs.FrameStream.{frame}
@@ -11,37 +11,37 @@ use Rattle.oram_host.specs.Serving.{Serves}
 use Rattle.oram_session.specs.Outcome.{Outcome, faults_after}
 use Rattle.oram_session.specs.declared.link.LinkFault.TheVariants.{Io, Closed, TooLong, TooLarge, OutOfMemory}
 
--- a link to a server of its own, over two ends of one connection
+-- a link to its own server, over the two ends of one connection
 pub record ToItself (S : Type 0) : Type 0 where
   pub host : Host
   pub ends : Option (S × S)  -- the near end, which asks, and the far one, which answers; none where they are to be opened
   pub faults : ℕ  -- how many calls had a fault
 
--- the longest frame that goes over it
+-- the number of bytes of the longest frame that goes over it
 abbrev pub longest_frame : ℕ
 longest_frame = 16384
 
--- the host was asked nothing, or once
+-- the host received no message, or one
 abbrev pub AsksOnce : Host → Host → Type 0
 AsksOnce host after = (after ≡ host) ⊎ ((asked : List ℕ) × (answer : HostAnswer) × Serves host asked answer after × IsAnswer answer)
 
--- The message is too large, and nothing is done.
+-- The message is too large, and nothing changes.
 pub record IsRefused {S : Type 0} (l : ToItself S) (body : List ℕ) (outcome : Outcome) (m : ToItself S) : Type 0 where
   pub large : longest_frame < length (frame body)
   pub told : outcome ≡ Err TooLarge
   pub host : m.host ≡ l.host
   pub ends : m.ends ≡ l.ends
 
--- No connection was to be had.
+-- No connection could be opened.
 pub record IsApart {S : Type 0} (l : ToItself S) (outcome : Outcome) (m : ToItself S) : Type 0 where
   pub none : l.ends ≡ None
   pub told : outcome ≡ Err Io
   pub host : m.host ≡ l.host
   pub ends : m.ends ≡ None
 
--- over ends that tell their bytes so
+-- over ends of a connection; these functions give the bytes that an end will read and has written, if they are known
 module _ {S : Type 0} (remaining contents : S → Option (List ℕ)) where
-  -- A message went from the near end to the far one, and the host answered what was read there.
+  -- A message went from the near end to the far one, and the host answered the bytes that were read there.
   pub record IsAsked (host : Host) (ends : S × S) (body : List ℕ) (answer : HostAnswer) (host' : Host) (ends' : S × S) : Type 0 where
     pub asked : List ℕ
     pub wrote : Appends (contents ends.0) (contents ends'.0) (frame body)
@@ -55,8 +55,8 @@ module _ {S : Type 0} (remaining contents : S → Option (List ℕ)) where
     pub wrote : Appends (contents ends.1) (contents ends'.1) (frame (answer_body answer))
     pub read : GivesFrame (remaining ends.0) (remaining ends'.0) bytes
 
-  -- What comes of a call over these ends, with those that are open afterwards: an answer; or one that is too large, and nothing waits; or
-  -- a fault that closes both.
+  -- The outcome of a call over these ends, and the ends that are open afterwards: an answer; or an answer that is too
+  -- large, which is not sent; or a fault that closes both ends.
   abbrev pub Crosses : Host → S × S → List ℕ → Outcome → Host → Option (S × S) → Type 0
   Crosses host ends body (Ok bytes) host' ends' =
       (answer : HostAnswer) × (mid : S × S) × (last : S × S)

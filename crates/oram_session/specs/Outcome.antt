@@ -1,4 +1,4 @@
--- What comes of a call of a link.
+-- The outcome of a call of a link.
 use Rattle.std.specs.Prelude.{ℕ, ◌+◌, ◌-◌, ◌^◌, min, List, Result, Ok, Err}
 use Rattle.std.specs.Global.{Vec}
 use Rattle.oram_session.specs.declared.link.LinkFault.{LinkFault}
@@ -7,12 +7,12 @@ use Rattle.oram_session.specs.declared.link.LinkFault.{LinkFault}
 abbrev pub Outcome : Type 0
 Outcome = Result (List ℕ) LinkFault
 
--- without where the bytes lie in memory
+-- the outcome, without the bytes' place in memory
 abbrev pub outcome_of : Result (Vec ℕ) LinkFault → Outcome
 outcome_of (Ok bytes) = Ok bytes.items
 outcome_of (Err fault) = Err fault
 
--- how many faults are counted after a call, where so many were before it; the count stays at its greatest number
+-- the number of faults after a call, given the number n before it; it stops at its greatest number
 abbrev pub faults_after : ℕ → Outcome → ℕ
 faults_after n (Ok bytes) = n
 faults_after n (Err fault) = min (n + 1) (2 ^ 64 - 1)

@@ -1,4 +1,4 @@
--- What a session asks of the core, and what it is told.
+-- What a session asks of the core, and what it replies to the user.
 use Rattle.std.specs.Prelude.{◌≡◌, ℕ, false, List, ◌⊎◌}
 use Rattle.oram_wire.specs.SessionMessages.{session_request_body}
 use Rattle.oram_wire.specs.SessionReading.{names_session_request, IsSessionMisfit, HasAddress}
@@ -11,12 +11,12 @@ use Rattle.oram_run.specs.declared.events.Command.TheVariants.{Read, Write, Disc
 use Rattle.oram_run.specs.declared.events.ReplyBody.{ReplyBody}
 use Rattle.oram_run.specs.declared.events.ReplyBody.TheVariants as body
 
--- the body is this request's
+-- the body is that of this request
 pub record IsRequest (body : List ℕ) (message : SessionRequest) : Type 0 where
   pub address : HasAddress message
   pub spells : body ≡ session_request_body message
 
--- the body is no request's
+-- the body is that of no request
 abbrev pub IsNoRequest : List ℕ → Type 0
 IsNoRequest body = (names_session_request body ≡ false) ⊎ IsSessionMisfit body
 
@@ -26,7 +26,7 @@ command_of (request.Read address) = Read address
 command_of (request.Write address bytes) = Write address bytes
 command_of (request.Discard address) = Discard address
 
--- what a session is told of a core's reply: a failure is a refusal with code 6
+-- a session's reply for a reply of the core: a failure becomes a refusal with code 6
 abbrev pub told : ReplyBody → SessionReply
 told (body.Data bytes) = reply.Data bytes
 told body.Done = reply.Done

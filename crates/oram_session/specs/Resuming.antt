@@ -7,7 +7,7 @@ use Rattle.oram_session.specs.Exchanges.{Sending, Runs, IsSent, IsCutOff, IsGive
 use Rattle.oram_session.specs.Outcome.{Outcome}
 use Rattle.oram_session.specs.Turns.{most_retries}
 
--- how often the message that was outstanding may be sent again after its first retry: it has stalled once already
+-- how often the outstanding message may be sent again after its first retry, since it has stalled once already
 abbrev pub first_retries : ℕ
 first_retries = 2
 
@@ -15,15 +15,15 @@ first_retries = 2
 abbrev pub retries_now : List Sending → ℕ
 retries_now xs = retries_after first_retries most_retries xs
 
--- over a link whose calls meet this relation
+-- over a link with this relation of calls
 module _ (v : Shape) {L : Type 0} (calls : L → List ℕ → Outcome → L → Type 0) where
-  -- The core is told that it was reopened, and is to send its message again; this one and those after it have their answers.
+  -- The core learns that it was reopened and sends its message again; this message and those after it get their answers.
   pub record HasGoneOn (p : State × L) (xs : List Sending) (q : State × L) : Type 0 where
     pub reopened : State
     pub told : Runs v p.0 (Reopen ∷ Retry ∷ []) [] reopened
     pub sent : AllSentFrom v calls first_retries most_retries (reopened, p.1) xs q
 
-  -- It went on, until one message stalled the fourth time.
+  -- The core went on until one message stalled the fourth time.
   pub record HasStalled (p q : State × L) : Type 0 where
     pub sendings : List Sending
     pub mid : State × L
@@ -32,7 +32,7 @@ module _ (v : Shape) {L : Type 0} (calls : L → List ℕ → Outcome → L → 
     pub tried : IsSent v calls (retries_now sendings) mid last q
     pub stuck : IsGivenUp (retries_now sendings) last
 
-  -- It went on, until memory was refused at a message.
+  -- The core went on until memory ran out at a message.
   pub record HasRunOut (p q : State × L) : Type 0 where
     pub sendings : List Sending
     pub mid : State × L
@@ -40,6 +40,6 @@ module _ (v : Shape) {L : Type 0} (calls : L → List ℕ → Outcome → L → 
     pub last : Sending
     pub cut : IsCutOff v calls (retries_now sendings) mid last q
 
-  -- Memory was refused before anything was sent, and the core knows of the reopening alone; or later.
+  -- Memory ran out before anything was sent, when the core knew only of the reopening; or later.
   abbrev pub IsCutShort : State × L → State × L → Type 0
   IsCutShort p q = (Runs v p.0 (Reopen ∷ []) [] q.0 × (q.1 ≡ p.1)) ⊎ HasRunOut p q

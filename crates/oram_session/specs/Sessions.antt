@@ -1,4 +1,4 @@
--- A whole session: what is read, what is written, and what the core and the host are told in between.
+-- A whole session: the bytes read and written, and the events of the core and the calls of the link in between.
 use Rattle.std.specs.Prelude.{◌≡◌, ℕ, ◌≤◌, List, length, Option, ◌⊎◌, ⊤, Result, Ok, Err}
 use Rattle.oram_wire.specs.FrameStream.{IsBody, frame, length_at}
 use Rattle.oram_wire.specs.SessionMessages.{session_reply_body}
@@ -19,7 +19,7 @@ reply_body turn = session_reply_body turn.reply
 abbrev pub reply_frame : Turn → List ℕ
 reply_frame turn = frame (reply_body turn)
 
--- the core is settled but where a message stalled or memory was refused
+-- the core is idle or has failed, unless a message stalled or memory ran out
 abbrev pub LeavesCore : Result ℕ ServeFault → State → Type 0
 LeavesCore (Ok count) s = IsSettled s
 LeavesCore (Err Read) s = IsSettled s
@@ -30,12 +30,13 @@ LeavesCore (Err Stalled) s = ⊤
 LeavesCore (Err OutOfMemory) s = ⊤
 
 module _ (v : Shape) {L : Type 0} (calls : L → List ℕ → Outcome → L → Type 0) (words : ℕ → ℕ → List ℕ) (session : ℕ) where
-  -- The turns lead core and link from one state to another, with what was read and written, and then so many bytes more.
+  -- The turns lead core and link from one state to another, with the bytes read and written for them, and then these
+  -- further bytes.
   abbrev pub HasServed : State × L → List Turn → State × L → List ℕ → Option (List ℕ) → Option (List ℕ) → List ℕ → Option (List ℕ) → Option (List ℕ) → Type 0
   HasServed = HasAnswered {P = State × L} (IsTurn v calls words session) (λ x. x.body) reply_body
 
-  -- What a refusal of memory leaves of a turn. The length of the frame was read alone; or the frame was read, and nothing came of it,
-  -- or as much as a request that was cut off, or all but the reply.
+  -- What is left of a turn at which memory ran out. Only the length of the frame was read; or the frame was read, and
+  -- nothing happened, or the request was cut off, or everything was done except the reply.
   abbrev pub IsLeft : State × L → List ℕ → State × L → Type 0
   IsLeft p part q =
       ((p ≡ q) × (length part ≡ 4) × (length_at part ≤ LONGEST_BODY))

@@ -1,4 +1,4 @@
--- A core between two requests, and one at work.
+-- A core between two requests, and a core at work.
 use Rattle.std.specs.Prelude.{◌≡◌, ℕ, ◌+◌, ◌-◌, ◌*◌, Bool, true, false, List, [], ◌∷◌, length, ⊤, Option, Some, None, if◌then◌else◌}
 use Rattle.oram_geometry.specs.declared.Sizes.{Sizes}
 use Rattle.oram_geometry.specs.Sizes.{trees_of}
@@ -22,23 +22,23 @@ is_settled_by Stalling = false
 abbrev pub IsSettled : State → Type 0
 IsSettled s = is_settled_by (status_in s) ≡ true
 
--- the message that was sent and has no answer
+-- the message that was sent and isn't answered yet
 abbrev pub outstanding : State → Option (List ℕ)
 outstanding s = if is_waiting (status_in s) then Some s.last else None
 
--- a message was sent, and nothing else was shown
+-- the core has sent a message and shown nothing else
 pub record IsUnderWay (m : Did) : Type 0 where
   pub waits : status_in m.state ≡ Waiting
   pub sends : m.sends ≡ m.state.last ∷ []
   pub none : m.replies ≡ []
 
--- data that is replied is a block
+-- if the reply has data, it is as long as a block
 abbrev pub IsBodyOf : Sizes → ReplyBody → Type 0
 IsBodyOf d (Data bytes) = length bytes ≡ d.block_bytes
 IsBodyOf d Done = ⊤
 IsBodyOf d Failed = ⊤
 
--- what comes of a submission to a settled core
+-- the result of a submission to a settled core
 abbrev pub IsBegun : State → Note → Did → Type 0
 IsBegun s (note.Accepted ticket) m = IsUnderWay m × (length m.state.queue ≡ 1)
 IsBegun s (note.Refused why) m = m.state ≡ s
@@ -48,6 +48,6 @@ IsBegun s (note.FailedNow why) m = ⊥
 IsBegun s note.Resent m = ⊥
 IsBegun s note.Unexpected m = ⊥
 
--- at least as many answers as the commands at work still want, and fewer after each
+-- a bound on the number of answers that the commands at work still need; it gets less with each answer
 abbrev pub answers_left : Sizes → State → ℕ
 answers_left d s = length s.queue * (2 * trees_of d + 1) + (2 * trees_of d - s.stage)

@@ -1,4 +1,4 @@
--- What a link over a reader and a writer sends and is sent.
+-- What a link over a reader and a writer sends and receives.
 use Rattle.std.specs.Prelude.{◌≡◌, ℕ, ◌<◌, nat_lt, Bool, List, length, take, Option, Ok, Err, MatchBool, ◌⊎◌}
 use Rattle.std.specs.Io.KnownBytes.{Appends}
 use Rattle.oram_wire.specs.FrameStream.{IsBody, frame}
@@ -14,11 +14,11 @@ pub record ToStreams (R W : Type 0) : Type 0 where
   pub writer : W
   pub faults : ℕ  -- how many calls had a fault
 
--- one fault closes it
+-- one fault closes the link
 abbrev pub is_closed : {R W : Type 0} → ToStreams R W → Bool
 is_closed l = nat_lt 0 l.faults
 
--- what is read where a frame is due, and what is told of it
+-- the bytes read when a frame is due, and the outcome that they give
 abbrev pub Receives : Option (List ℕ) → Option (List ℕ) → Outcome → Type 0
 Receives old new (Ok bytes) = GivesFrame old new bytes
 Receives old new (Err Io) = GivesPart old new
@@ -27,8 +27,8 @@ Receives old new (Err TooLong) = GivesBrokenHead old new
 Receives old new (Err TooLarge) = ⊥
 Receives old new (Err OutOfMemory) = GivesHead old new
 
--- What is written where a body can't be sent: nothing of one that is too long or has no memory for its frame. Where the writer failed, a
--- beginning of the frame, or all of it.
+-- The bytes written if a body can't be sent: none if the body is too long or there is no memory for its frame; if the
+-- writer failed, a beginning of the frame or all of it.
 abbrev pub FailsToSend : {W : Type 0} → (W → Option (List ℕ)) → W → List ℕ → LinkFault → W → Type 0
 FailsToSend contents old body Io new = (count : ℕ) × Appends (contents old) (contents new) (take count (frame body))
 FailsToSend contents old body Closed new = ⊥
@@ -36,16 +36,16 @@ FailsToSend contents old body TooLong new = (LONGEST_BODY < length body) × (new
 FailsToSend contents old body TooLarge new = ⊥
 FailsToSend contents old body OutOfMemory new = new ≡ old
 
--- over readers and writers that tell their bytes so
+-- over a reader and a writer; these functions give the bytes still to be read and those written, if they are known
 module _ {R W : Type 0} (remaining : R → Option (List ℕ)) (contents : W → Option (List ℕ)) where
-  -- The body wasn't sent, and nothing was read.
+  -- The body couldn't be sent, and nothing was read.
   pub record IsUnsent (reader : R) (writer : W) (body : List ℕ) (outcome : Outcome) (reader' : R) (writer' : W) : Type 0 where
     pub fault : LinkFault
     pub told : outcome ≡ Err fault
     pub wrote : FailsToSend contents writer body fault writer'
     pub unread : reader' ≡ reader
 
-  -- The body was sent as a frame, and then the answer's frame was to be read.
+  -- The body was sent as a frame, and then the answer's frame was due.
   pub record IsDelivered (reader : R) (writer : W) (body : List ℕ) (outcome : Outcome) (reader' : R) (writer' : W) : Type 0 where
     pub fits : IsBody body
     pub wrote : Appends (contents writer) (contents writer') (frame body)

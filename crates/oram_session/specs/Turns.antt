@@ -1,4 +1,4 @@
--- One request of a session, and what it leads to.
+-- One request of a session, and its effects.
 use Rattle.std.specs.Prelude.{◌≡◌, ℕ, ◌*◌, List, [], ◌∷◌, ◌⊎◌}
 use Rattle.std.specs.List.{flat_map}
 use Rattle.oram_geometry.specs.Sizes.{trees_of}
@@ -19,7 +19,7 @@ use Rattle.oram_session.specs.Outcome.{Outcome}
 use Rattle.oram_session.specs.Requests.{IsRequest, IsNoRequest, command_of, told}
 use Rattle.oram_session.specs.Settled.{IsSettled}
 
--- A request's body, the messages that it took, and the reply.
+-- A turn: a request's body, the messages that it needed, and the reply.
 pub record Turn : Type 0 where
   pub body : List ℕ
   pub sendings : List Sending
@@ -29,22 +29,22 @@ pub record Turn : Type 0 where
 abbrev pub most_retries : ℕ
 most_retries = 3
 
--- over a link whose calls meet this relation, with the words of a tape, by a session's number
+-- over a link with this relation of calls, with the words of a tape, for a session with this number
 module _ (v : Shape) {L : Type 0} (calls : L → List ℕ → Outcome → L → Type 0) (words : ℕ → ℕ → List ℕ) (session : ℕ) where
-  -- A body that is no request is refused, and the core isn't asked.
+  -- The body is no request and is refused; the core doesn't get it.
   pub record IsUnread (p : State × L) (turn : Turn) (q : State × L) : Type 0 where
     pub none : IsNoRequest turn.body
     pub sendings : turn.sendings ≡ []
     pub reply : turn.reply ≡ Refused 7
     pub same : p ≡ q
 
-  -- the core is asked what the request asks, with the tape's words of the next ticket, and shows this
+  -- the core gets the command of the request, with the tape's words of the next ticket, and shows x
   pub record IsAsked (body : List ℕ) (s : State) (x : Shown) (t : State) : Type 0 where
     pub message : SessionRequest
     pub request : IsRequest body message
     pub step : Steps v s (Submit session (command_of message) (words s.next (2 * trees_of v.device))) x t
 
-  -- how it goes on, once the core has noted this
+  -- how the turn goes on after this note of the core
   abbrev pub IsReply : Note → State × L → Turn → State × L → Type 0
   IsReply (note.Accepted ticket) p turn q =
       AllSent v calls most_retries p turn.sendings q × IsSettled q.0
@@ -65,7 +65,7 @@ module _ (v : Shape) {L : Type 0} (calls : L → List ℕ → Outcome → L → 
   abbrev pub IsTurn : State × L → Turn → State × L → Type 0
   IsTurn p turn q = IsUnread p turn q ⊎ IsServed p turn q
 
-  -- A request was accepted, and some messages had their answers since.
+  -- A request was accepted, and some messages have had their answers since.
   pub record IsAtWork (p : State × L) (body : List ℕ) (q : State × L) : Type 0 where
     pub shown : Shown
     pub begun : State
@@ -75,7 +75,7 @@ module _ (v : Shape) {L : Type 0} (calls : L → List ℕ → Outcome → L → 
     pub sendings : List Sending
     pub sent : AllSent v calls most_retries (begun, p.1) sendings q
 
-  -- It got no reply, since one message stalled four times.
+  -- The request got no reply, because one message stalled four times.
   pub record IsStuck (p : State × L) (body : List ℕ) (q : State × L) : Type 0 where
     pub mid : State × L
     pub work : IsAtWork p body mid
@@ -83,7 +83,7 @@ module _ (v : Shape) {L : Type 0} (calls : L → List ℕ → Outcome → L → 
     pub tried : IsSent v calls most_retries mid last q
     pub stuck : IsGivenUp most_retries last
 
-  -- It got no reply, since memory was refused.
+  -- The request got no reply, because memory ran out.
   pub record IsCutTurn (p : State × L) (body : List ℕ) (q : State × L) : Type 0 where
     pub mid : State × L
     pub work : IsAtWork p body mid

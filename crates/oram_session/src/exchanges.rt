@@ -1,4 +1,4 @@
-//! Messages of the core, exchanged over a link.
+//! Exchanges the core's messages over a link.
 ghost use Rattle.std.specs.Prelude.{◌≡◌, ◌<◌, ◌⊎◌, [], ◌∷◌, ◌++◌, List, All, length, IfOk, IfErr, IsErrOf, OnOk, OnErr};
 ghost use Rattle.std.specs.List.{flat_map};
 ghost use Rattle.oram_run.specs.Run.{shown};
@@ -20,10 +20,10 @@ use oram_bytes::Bytes;
 use oram_core::{Core, Event, Note, Reaction, Reply};
 use std::alloc::{AllocError, Global};
 
-/// How often a message is sent again.
+/// The greatest number of times that a message is sent again.
 pub const MOST_RETRIES: u32 = 3;
 
-/// Calls the link once, and tells the core what came of it.
+/// Calls the link once with `message`, and gives the outcome to the core: the answer, or a loss if the call failed.
 fn attempt<S: Sealer, L: Link>(
     alloc: Global,
     core: &mut Core<S>,
@@ -43,7 +43,10 @@ fn attempt<S: Sealer, L: Link>(
     core.step(alloc, &event)
 }
 
-/// Sends the outstanding message until it is answered, and again so often at most.
+/// Sends the outstanding message until it is answered, and sends it again at most `most` times.
+///
+/// Fails with `Stalled` if every call had a fault or found the host without room. The core's last message then counts as
+/// lost.
 pub fn exchange<S: Sealer, L: Link>(
     alloc: Global,
     core: &mut Core<S>,
@@ -82,8 +85,8 @@ pub fn exchange<S: Sealer, L: Link>(
     }
 }
 
-/// Exchanges messages until no command is left, and gives the reaction to the last answer. The first message is sent again at
-/// most so often.
+/// Exchanges messages until no command is left, and returns the reaction to the last answer. Sends the first message
+/// again at most `first` times, and each later one at most `MOST_RETRIES` times.
 pub(crate) fn exchange_all<S: Sealer, L: Link>(
     alloc: Global,
     core: &mut Core<S>,

@@ -1,4 +1,4 @@
-//! The formatting of a device over a link to its host.
+//! Formats a device over a link to its host.
 ghost use Rattle.std.specs.Prelude.{◌≡◌, ◌≢◌, ◌↔◌, [], ◌∷◌, Err, IfOk, IfErr, IsTrue};
 ghost use Rattle.oram_tree.specs.Format.{IsBrokenOff};
 ghost use Rattle.oram_run.specs.Formatting.{IsFormatBegun};
@@ -14,7 +14,7 @@ use oram_tree::FormatFault;
 use oram_wire::{GOOD, Sink, SinkFault};
 use std::alloc::Global;
 
-/// A link as what takes the messages that format its host.
+/// A link as a sink for the messages that format its host.
 struct LinkSink<'a, L> {
     alloc: Global,
     link: &'a mut L,
@@ -33,7 +33,7 @@ impl From<LinkFault> for SinkFault {
     }
 }
 
-/// Whether an answer is the one byte that tells that the host is done.
+/// Returns whether an answer is the one byte that says that the host is done.
 fn is_done(answer: &[u8]) -> bool
     ensures { IsTrue result ↔ (answer.now ≡ 128 ∷ []) }
 {
@@ -56,10 +56,12 @@ impl<L: Link> Sink for LinkSink<'_, L> {
     }
 }
 
-/// Formats a device on the host that the link leads to, and gives its core: each message is one call, to be answered by `80` alone.
+/// Formats a device on the host at the end of the link, and returns the device's core. Each message is one call, and the
+/// host must answer it with `80` alone.
 ///
-/// Any other answer is told as `Refused`, also that the host has no room. A fault of the link is told as `Link`, unless it is want of
-/// memory. The first of them ends it, and the host keeps what it took up to there.
+/// Any other answer gives the fault `Refused`, also the one that the host has no room. A fault of the link gives `Link`,
+/// except that out of memory is reported as such. The first fault ends the formatting, and the host keeps what it has
+/// taken so far.
 pub fn format_device<S: Sealer, L: Link>(
     alloc: Global,
     device: Device,
@@ -69,11 +71,11 @@ pub fn format_device<S: Sealer, L: Link>(
     ensures device { IfOk result (λ c. c.device ≡ device) }
     ensures sealer { IfOk result (λ c. c.sealer ≡ sealer) }
 
-    // The messages that make the device's trees went over the link, each taken, and the core is new.
+    // The messages that make the device's trees went over the link, the host took each, and the core is new.
     ensures made { let v = shape_with S.overhead S.sealing S.opening device sealer in
         IfOk result (λ c. IsNew v (TakesMessage L.calls) link.old c.state link.new) }
 
-    // A beginning of them did; then memory was refused elsewhere, or the next one wasn't taken.
+    // A beginning of these messages went over the link; then memory ran out elsewhere, or the next message wasn't taken.
     ensures broken_off { let v = shape_with S.overhead S.sealing S.opening device sealer in
         IfErr result (λ fault. IsBrokenOff (TakesMessage L.calls) (RefusesMessage L.calls) (IsFormatBegun v) link.old fault link.new) }
     ensures memory { result ≢ Err (FormatFault.Sink SinkFault.OutOfMemory) }
@@ -81,7 +83,7 @@ pub fn format_device<S: Sealer, L: Link>(
     let mut sink = LinkSink { alloc, link };
     let formatted = Core::format(alloc, device, sealer, &mut sink);
     let LinkSink { alloc: _, link } = sink;
-    // The proof reads the link from this use of it.
+    // The proof needs this use of the link.
     let _ = &*link;
     formatted
 }

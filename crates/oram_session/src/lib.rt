@@ -1,11 +1,11 @@
-//! Sessions: what a client asks in frames is answered by the core, with a host behind a link and the words of a tape.
+//! Sessions: a core answers the requests that a user sends in frames, with a host behind a link and the words of a tape.
 //!
-//! A [`Link`] leads to the bucket host: [`Direct`] to a server in memory, [`StreamLink`] over a reader and a writer,
-//! [`LoopLink`] to a server of its own over a socket to itself, [`FaultLink`] over another link with faults of its own. A
-//! [`Tape`] gives the words that each command brings: [`ListTape`] those of a list, [`ChaChaTape`] those of a stream cipher.
-//! [`format_device`] makes a device on the host behind a link. [`serve`] answers the request frames of a reader, one after the
-//! other; so does [`host_serve`], with a bucket server, at the other end of a link. [`resume`] carries out what still waits in a
-//! core that was read back.
+//! A [`Link`] leads to the bucket host: [`Direct`] to a server in memory, [`StreamLink`] to a host over a reader and a
+//! writer, [`LoopLink`] to a server that it owns over a socket to itself, and [`FaultLink`] goes over another link and
+//! simulates faults. A [`Tape`] gives each command its words: [`ListTape`] from a list, [`ChaChaTape`] from a stream
+//! cipher. [`format_device`] formats a device on the host behind a link. [`serve`] answers the request frames of a
+//! reader, one after the other; [`host_serve`] does the same with a bucket server, at the other end of a link.
+//! [`resume`] carries out the commands that still wait in a core that was read back.
 #![tactic(auto)]
 
 mod exchanges;

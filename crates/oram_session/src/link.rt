@@ -1,22 +1,22 @@
-//! Ways to a host.
+//! Links to a host.
 ghost use Rattle.std.specs.Prelude.{◌≡◌, ℕ, List};
 ghost use Rattle.oram_session.specs.Outcome.{Outcome, outcome_of, faults_after};
 
 use std::alloc::{AllocError, Global};
 use std::{fmt, io};
 
-/// Why a call of a link has no answer.
+/// Why a call of a link gives no answer.
 #[derive(Clone, Copy, Debug, PartialEq, Eq)]
 pub enum LinkFault {
     /// Reading or writing failed.
     Io,
-    /// The other side is gone, or the link had a fault before that it can't go on from.
+    /// The other side is gone, or an earlier fault has closed the link.
     Closed,
-    /// The message or the answer is longer than a frame's body.
+    /// The message or the answer is longer than the body of a frame can be.
     TooLong,
-    /// The frame is longer than this link takes.
+    /// The frame is longer than this link can take.
     TooLarge,
-    /// Memory was refused.
+    /// Memory ran out.
     OutOfMemory,
 }
 
@@ -52,23 +52,23 @@ impl From<io::Error> for LinkFault {
     }
 }
 
-/// A way to a host.
+/// A link to a host.
 pub trait Link {
-    /// From the first value a call with these bytes may have this outcome and leave the second.
+    /// Whether a call with these bytes, from the first value, may have this outcome and lead to the second value.
     ghost calls: { Self → List ℕ → Outcome → Self → Type 0 };
 
-    /// How many calls had a fault.
+    /// The number of calls that had a fault.
     ghost fault_count: { Self → ℕ };
 
-    /// Sends the body of a message to the host, and gives that of its answer.
+    /// Sends the body of a message to the host, and returns the body of the answer.
     fn call(&mut self, alloc: Global, body: &[u8]) -> Result<Vec<u8>, LinkFault>
         ensures { calls self.old body.now (outcome_of result) self.new };
 
-    /// How many calls had a fault; the count stays at `u64::MAX`.
+    /// Returns the number of calls that had a fault; the count stops at `u64::MAX`.
     fn faults(&self) -> u64
         ensures { result ≡ fault_count self.now };
 
-    // Each fault is counted, and nothing else is.
+    // The count rises by one at each fault, and at nothing else.
     ghost counts: { (l m : Self) (body : List ℕ) (outcome : Outcome)
         → calls l body outcome m → fault_count m ≡ faults_after (fault_count l) outcome };
 }

@@ -1,4 +1,5 @@
-//! Links: to a server in memory, over a reader and a writer, and over another link with faults of its own.
+//! The links: to a server in memory, over a reader and a writer, over a connection to itself, and one that simulates
+//! faults.
 
 mod direct;
 mod faulty;

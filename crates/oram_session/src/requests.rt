@@ -1,4 +1,4 @@
-//! What a session asks of the core, and what it is told.
+//! What a session asks of the core, and what it replies to the user.
 ghost use Rattle.std.specs.Prelude.{◌≡◌, IfOk, IfErr, MatchOption};
 ghost use Rattle.oram_session.specs.Requests.{IsRequest, IsNoRequest, command_of, told};
 ghost use Rattle.oram_wire.specs.declared.session_messages.SessionRequest.{SessionRequest};
@@ -9,7 +9,7 @@ use oram_core::{Command, ReplyBody};
 use oram_wire::{DEVICE_FAILED, SessionReply, SessionRequest, WireFault};
 use std::alloc::Global;
 
-/// The command of a request.
+/// Returns the command that a request asks for.
 fn command_of(request: SessionRequest) -> Command
     ensures command { result ≡ command_of request }
     ensures address { HasAddress request }
@@ -21,7 +21,7 @@ fn command_of(request: SessionRequest) -> Command
     }
 }
 
-/// The command that a body asks for, if it is a request's.
+/// Returns the command that a body asks for, or `None` if the body is no request. Fails only if memory runs out.
 pub fn command_in(alloc: Global, body: &[u8]) -> Result<Option<Command>, ServeFault>
     ensures ok { IfOk result (λ asked. MatchOption asked (IsNoRequest body.now)
         (λ command. (message : SessionRequest) × IsRequest body.now message × (command ≡ command_of message))) }
@@ -34,7 +34,7 @@ pub fn command_in(alloc: Global, body: &[u8]) -> Result<Option<Command>, ServeFa
     }
 }
 
-/// What a session is told of a reply.
+/// Returns what a session replies to the user for a reply of the core.
 pub fn told(body: ReplyBody) -> SessionReply
     ensures { result ≡ told body }
 {

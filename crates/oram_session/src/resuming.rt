@@ -1,4 +1,4 @@
-//! What waits in a core that was read back goes on.
+//! Carries out the commands that wait in a core that was read back.
 ghost use Rattle.std.specs.Prelude.{◌≡◌, ◌⊎◌, [], ◌∷◌, List, length, Ok, IfOk, IfErr, IsErrOf, OnOk, OnErr};
 ghost use Rattle.std.specs.List.{flat_map};
 ghost use Rattle.oram_run.specs.Progress.Status.{Stalling};
@@ -17,14 +17,14 @@ use oram_bucket::Sealer;
 use oram_core::{Core, Event, Reaction};
 use std::alloc::{AllocError, Global};
 
-/// Whether the core is idle or has failed.
+/// Returns whether the core is idle or has failed.
 pub fn is_settled<S: Sealer>(core: &Core<S>) -> bool
     ensures { result ≡ is_settled_by (status_in core.now.state) }
 {
     core.is_idle() || core.failure().is_some()
 }
 
-/// Tells a core at work that it was reopened, and has it send its message again.
+/// Tells a core at work that it was reopened, and makes it send its message again.
 pub fn reopen<S: Sealer>(alloc: Global, core: &mut Core<S>) -> Result<Reaction, AllocError>
     requires { ¬ IsSettled core.old.state }
     ensures kept { IsSameDevice core.old core.new }
@@ -39,12 +39,12 @@ pub fn reopen<S: Sealer>(alloc: Global, core: &mut Core<S>) -> Result<Reaction, 
     core.step(alloc, &Event::Retry)
 }
 
-/// Carries out the commands that wait, and tells how many there were; their replies are dropped. Any core may be given, also
-/// one that was read back from where it was kept.
+/// Carries out the commands that wait, drops their replies, and returns the number of these commands. Takes any core,
+/// also one that was read back from its state file.
 ///
-/// The outstanding message counts as lost, which is its first stall, and is sent again. From there on a call of the link that has
-/// a fault, or finds the host without room, is made again, until one message has stalled four times. After `Stalled` and
-/// `OutOfMemory` the rest may be carried out by another call.
+/// The outstanding message counts as lost, which is its first stall, and is sent again. After that, a call that has a
+/// fault or finds the host without room is made again, until one message has stalled four times. After the faults
+/// `Stalled` and `OutOfMemory` another call can carry out the rest.
 pub fn resume<S: Sealer, L: Link>(
     alloc: Global,
     core: &mut Core<S>,
@@ -53,16 +53,16 @@ pub fn resume<S: Sealer, L: Link>(
     ensures kept { IsSameDevice core.old core.new }
     ensures settled { OnOk result (IsSettled core.new.state) }
 
-    // An idle or failed core has nothing to carry out.
+    // In an idle or failed core there is nothing to carry out.
     ensures none { IsSettled core.old.state → (result ≡ Ok 0) × (core.new ≡ core.old) × (link.new ≡ link.old) }
 
-    // Any other has a reply for each command that waits.
+    // In any other core, each command that waits gets its reply.
     ensures count { ¬ IsSettled core.old.state → IfOk result (λ k. k ≡ length core.old.state.queue) }
     ensures ok { let v = shape_of S.overhead S.sealing S.opening core.old in
         ¬ IsSettled core.old.state → IfOk result (λ k. (xs : List Sending) × (length (flat_map (λ y. y.replies) xs) ≡ k)
         × HasGoneOn v L.calls (core.old.state, link.old) xs (core.new.state, link.new)) }
 
-    // One message stalled four times, or memory was refused; what was done before stands.
+    // One message stalled four times, or memory ran out. Everything done before stays done.
     ensures stalled { let v = shape_of S.overhead S.sealing S.opening core.old in
         IsErrOf result ServeFault.Stalled → HasStalled v L.calls (core.old.state, link.old) (core.new.state, link.new) }
     ensures left { IsErrOf result ServeFault.Stalled → status_in core.new.state ≡ Stalling }

@@ -1,4 +1,4 @@
-//! A session: request frames from a reader, reply frames to a writer, and the core in between.
+//! A session: takes request frames from a reader, and writes reply frames to a writer, with the core in between.
 ghost use Rattle.std.specs.Prelude.{◌≡◌, ◌⊎◌, ℕ, ◌*◌, ◌<◌, ◌≤◌, [], List, length, take, IfOk, IfErr, IsErrOf, OnOk, OnErr};
 ghost use Rattle.std.specs.Io.KnownBytes.{Appends, IsAtEnd};
 ghost use Rattle.oram_geometry.specs.Sizes.{IsDevice, trees_of};
@@ -27,7 +27,7 @@ use oram_wire::{BAD_REQUEST, SessionReply, next_frame};
 use std::alloc::{AllocError, Global};
 use std::io::{Read, Write};
 
-/// Submits a command with the words of the next ticket.
+/// Submits a command with the tape's words of the next ticket.
 pub fn submit<S: Sealer, T: Tape>(
     alloc: Global,
     core: &mut Core<S>,
@@ -96,7 +96,7 @@ fn take_turn<S: Sealer, L: Link, T: Tape>(
     }
 }
 
-/// Writes a reply as a frame, and lets nothing of it wait in a buffer.
+/// Writes a reply as a frame and flushes it.
 fn put_reply<W: Write>(
     alloc: Global,
     writer: &mut W,
@@ -116,11 +116,13 @@ fn put_reply<W: Write>(
     put_body(writer, &body)
 }
 
-/// Answers each request frame in turn, to the end of the input, and tells how many there were. The core is to be idle or failed.
+/// Answers each request frame in turn until the input ends, and returns the number of requests. Call only with a core
+/// that is idle or has failed.
 ///
-/// A command takes the words of its ticket from the tape, two for each tree of the device. A call of the link that has a fault, or
-/// finds the host without room, is made again, three times at most. A reply is flushed before the next frame is read. After
-/// `Stalled` and `OutOfMemory` a command may be left at work; after any other end the core is idle or failed again.
+/// A command takes the words of its ticket from the tape, two for each tree of the device. If a call of the link has a
+/// fault, or finds the host without room, it is made again, at most three times. Each reply is flushed before the next
+/// frame is read. After the faults `Stalled` and `OutOfMemory` a command may still be at work; after any other end the
+/// core is idle or has failed.
 pub fn serve<S: Sealer, R: Read, W: Write, L: Link, T: Tape>(
     alloc: Global,
     reader: &mut R,
@@ -140,7 +142,7 @@ pub fn serve<S: Sealer, R: Read, W: Write, L: Link, T: Tape>(
         [] (R.remaining reader.old) (R.remaining reader.new) [] (W.contents writer.old) (W.contents writer.new)
         × IsAtEnd (R.remaining reader.new)) }
 
-    // A length that no frame has stood where one is due, or the input ended in a frame, or the reader failed in one.
+    // A frame's length is too great, the input ends inside a frame, or the reader fails before a frame is whole.
     ensures frame { let v = shape_of S.overhead S.sealing S.opening core.old in
         IsErrOf result ServeFault.Frame → (turns : List Turn) × (head : List ℕ) × (length head ≡ 4) × IsBroken head
         × HasServed v L.calls (T.words tape.old) session (core.old.state, link.old) turns (core.new.state, link.new)
@@ -155,7 +157,7 @@ pub fn serve<S: Sealer, R: Read, W: Write, L: Link, T: Tape>(
         × HasServed v L.calls (T.words tape.old) session (core.old.state, link.old) turns (core.new.state, link.new)
         part (R.remaining reader.old) (R.remaining reader.new) [] (W.contents writer.old) (W.contents writer.new) }
 
-    // A beginning of the last reply was written, or all of it.
+    // Only a beginning of the last reply was written, or all of it but not flushed.
     ensures write { let v = shape_of S.overhead S.sealing S.opening core.old in
         IsErrOf result ServeFault.Write → (turns : List Turn) × (mid : State × L) × (last : Turn) × (count : ℕ) × IsBody last.body
         × IsTurn v L.calls (T.words tape.old) session mid last (core.new.state, link.new)
@@ -170,7 +172,7 @@ pub fn serve<S: Sealer, R: Read, W: Write, L: Link, T: Tape>(
         × HasServed v L.calls (T.words tape.old) session (core.old.state, link.old) turns mid
         (frame body) (R.remaining reader.old) (R.remaining reader.new) [] (W.contents writer.old) (W.contents writer.new) }
 
-    // Without memory the work before it stands: these turns, and a last one as far as it came.
+    // If memory runs out, everything done before stays done: these turns, and a last one as far as it came.
     ensures memory { let v = shape_of S.overhead S.sealing S.opening core.old in
         IsErrOf result ServeFault.OutOfMemory → (turns : List Turn) × (mid : State × L) × (part : List ℕ)
         × IsLeft v L.calls (T.words tape.old) session mid part (core.new.state, link.new)

@@ -1,4 +1,4 @@
-//! A tape of a list, and one of a stream cipher.
+//! The tapes: one from a list, and one from a stream cipher.
 
 mod chacha;
 mod list;

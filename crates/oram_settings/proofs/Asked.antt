@@ -1,4 +1,4 @@
--- From clap's answer to what its matches ask for.
+-- What clap's matches ask for, from clap's answer.
 use Rattle.std.proofs.Common.{◌≡◌, ◌∙◌, sym, ap, ap₂, refl, subst, Bool, List, [], ◌∷◌, Option, Some, None, true, inl, inr, option_map, codes}
 use Rattle.std.specs.Prelude.{◌≢◌, Box, option_and_then}
 use Rattle.std.specs.Box.{box_value}
@@ -29,13 +29,14 @@ entered_is : {Z : Type 0} (s : Option (Box SubCommand Z)) (name : Text) (rows : 
 entered_is None name rows named found = search
 entered_is (Some b) name rows named found = ap₂ (λ n r. Some (n, r)) (same_Some _ _ named) (same_Some _ _ found)
 
--- an error that memory has no part in is a fault that clap finds, and then the words ask for nothing
+-- an error other than running out of memory is a fault that clap finds, and then the words ask for
+-- nothing
 refused : (kinds : Kinds) (e : Error) (asked : Option Request) → HasKind kinds e → kind_of e ≢ OutOfMemory → unless_faulty kinds asked ≡ None
 refused [] e asked (inl memory) other = absurd (other memory)
 refused [] e asked (inr h) other = absurd h
 refused (kind ∷ kinds) e asked h other = refl
 
--- what is told of an error is no want of memory unless the error is one
+-- an error that doesn't become OutOfMemory isn't one of memory
 not_memory : (k : ErrorKind) (told : NoRequest) → IsToldOf k told → told ≢ why.OutOfMemory → k ≢ OutOfMemory
 not_memory k (why.Help text) (inl h) other m = cc
 not_memory k (why.Help text) (inr h) other m = cc
@@ -46,7 +47,7 @@ only : (k j : ErrorKind) → IsAmong k (j ∷ []) → k ≡ j
 only k j (inl h) = h
 only k j (inr h) = absurd h
 
--- an error of one of these kinds is told as such
+-- an error of one of these kinds becomes what these kinds allow
 told_as : (kinds : Kinds) (e : Error) (told : NoRequest) → HasKind kinds e → IsToldOf (kind_of e) told → IsToldAs kinds told
 told_as kinds e (why.Help text) (inl memory) (inl h) = absurd cc
 told_as kinds e (why.Help text) (inl memory) (inr h) = absurd cc
@@ -69,11 +70,11 @@ module _ (a : App) (same : a ≡ program) (words : List Text) where
       sym (ap (λ (b : App). unless_faulty (fault_of b words) (option_and_then request_by (subcommand_of b words))) same)
       ∙ refused (fault_of a words) e _ (kinds free) (not_memory (kind_of e) told is other)
 
-  -- and it is told by clap's own account of the fault
+  -- and it becomes what the faults that clap finds allow
   pub told_refused : (e : Error) → (is_simple_and_free a ≡ true → HasKind (fault_of a words) e) → (told : NoRequest) → IsToldOf (kind_of e) told → IsToldAs (fault_of program words) told
   told_refused e kinds told is = subst (λ (b : App). IsToldAs (fault_of b words) told) same (told_as (fault_of a words) e told (kinds free) is)
 
-  -- where clap finds no fault
+  -- if clap finds no fault
   pub told_sound : (is_simple_and_free a ≡ true → fault_of a words ≡ []) → (told : NoRequest) → IsToldAs [] told → IsToldAs (fault_of program words) told
   told_sound sound told is = subst (λ (b : App). IsToldAs (fault_of b words) told) same (subst (λ (kinds : Kinds). IsToldAs kinds told) (sym (sound free)) is)
 
@@ -99,6 +100,6 @@ module _ (a : App) (same : a ≡ program) (words : List Text) where
     no_rows None e = refl
     no_rows (Some p) e = cc
 
-    -- where it entered none, they ask for nothing
+    -- if it entered none, they ask for nothing
     pub asked_none : None ≡ option_map (λ (p : Text × List Row). p.1) (subcommand_rows_of m) → request_in words ≡ None
     asked_none none = by_entered None (sym (matches simple).1 ∙ no_rows _ none)

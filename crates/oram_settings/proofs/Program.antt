@@ -1,4 +1,4 @@
--- The program's command line, of which clap says what it takes.
+-- The program's command line; clap says what it accepts.
 use Rattle.std.proofs.Common.{◌≡◌, refl, true}
 use Rattle.clap.specs.Faults.{is_simple_and_free}
 use Rattle.clap.proofs.OnLiterals.{clap_on_literals}

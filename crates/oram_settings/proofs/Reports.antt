@@ -1,4 +1,4 @@
--- A text that is put together in one way is that in another.
+-- A text that is joined in one way is the text that is joined in another.
 use Rattle.std.proofs.Common.{◌≡◌, ℕ, List, ◌++◌, refl, append_assoc}
 
 pub regrouped : (a b c d e f g h i j k rest : List ℕ) →

@@ -72,7 +72,7 @@ reads_back : parse_document (first_text (2 ^ 30) (replicate 32 167)) ≡ Some fi
 unfolding digits encode_with toml_on_literals
 reads_back = refl
 
--- what holds where they say nothing
+-- the default, if they don't have the key
 no_slots : OrDefault first_table (codes "slots") 4 (HasNumber first_table (codes "slots")) 4
 no_slots = refl
 
@@ -82,6 +82,6 @@ no_sealer = refl
 nowhere_to_listen : OrDefault first_table (codes "listen") (codes "unix:disk.sock") (HasText first_table (codes "listen")) (codes "unix:disk.sock")
 nowhere_to_listen = refl
 
--- and where they say it
+-- and the value, if they have it
 five_slots : let said = member (codes "slots") (integer (pos 5)) no_members in OrDefault said (codes "slots") 4 (HasNumber said (codes "slots")) 5
 five_slots = refl

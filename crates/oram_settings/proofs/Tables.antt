@@ -9,17 +9,17 @@ use Rattle.oram_settings.specs.Settings.{DiskValue, HasSealing, IsDisk, IsPlace,
 use Rattle.oram_settings.specs.declared.disk_file.Sealing.{Sealing}
 use Rattle.oram_settings.specs.declared.disk_file.Sealing.TheVariants.{Plain, ChaCha}
 
--- where no name stands at a key, no sealing does
+-- if there is no name at a key, there is no sealing
 pub no_sealing : (t : Members) (key : List ℕ) (e : InputFault) → (e ≡ Bad → (x : List ℕ) → HasText t key x × IsName x → ⊥) → e ≡ Bad → (s : Sealing) → HasSealing t key s → ⊥
 no_sealing t key e none bad Plain h = none bad (codes "plain") (h, omega arith)
 no_sealing t key e none bad ChaCha h = none bad (codes "chacha") (h, omega arith)
 
--- where a value is bad that the table of a disk has, the table is no disk's
+-- if a value that the table of a disk has is bad, the table isn't a disk's
 pub no_disk : {X : Type 0} {P : X → Type 0} (t : Members) (e : InputFault) → (e ≡ Bad → (x : X) → P x → ⊥) → (value : DiskValue → X) → ((s : DiskValue) → IsDisk t s → P (value s))
     → e ≡ Bad → (s : DiskValue) → IsDisk t s → ⊥
 no_disk t e none value has bad s h = none bad (value s) (has s h)
 
--- one text at a key
+-- there is only one text at a key
 one_text : (t : Members) (key x y : List ℕ) → HasText t key x → HasText t key y → x ≡ y
 one_text t key x y one other = cc (sym one ∙ other)
 
@@ -27,7 +27,7 @@ either_is_name : (x : List ℕ) → IsAddress x ⊎ IsSocket x → IsName x
 either_is_name x (inl a) = subst IsName (sym a.2) (omega arith)
 either_is_name x (inr s) = subst IsName (sym s.2) (omega arith)
 
--- where no name stands at a key, no place does
+-- if there is no name at a key, there is no place
 pub no_place : (t : Members) (key : List ℕ) (e : InputFault) → (e ≡ Bad → (x : List ℕ) → HasText t key x × IsName x → ⊥) → e ≡ Bad → (x : List ℕ) → HasText t key x × IsPlace x → ⊥
 no_place t key e none bad x h = none bad x (h.0, either_is_name x h.1.is_either)
 
@@ -35,7 +35,7 @@ other_place : (t : Members) (key text : List ℕ) → HasText t key text → (Is
 other_place t key text has no_socket x no_address h (inl a) = no_address a
 other_place t key text has no_socket x no_address h (inr s) = no_socket (subst IsSocket (one_text t key x text h has) s)
 
--- where the name at a key is no socket, a place is an address
+-- if the name at a key isn't a socket, a place there is an address
 pub address_found : {Y : Type 0} (view : Y → List ℕ) (t : Members) (key text : List ℕ) → HasText t key text → (IsSocket text → ⊥) → (r : Result Y InputFault)
     → Finds view (λ s. HasText t key s × IsAddress s) r → Finds view (λ s. HasText t key s × IsPlace s) r
 address_found view t key text has no_socket (Ok y) h = (h.0, record { is_either = inl h.1 })
@@ -46,7 +46,7 @@ found_in : {X Y : Type 0} (view : Y → X) (o : Option Data) (default : X) (P : 
 found_in view None default P r there h = cc
 found_in view (Some d) default P r there h = h
 
--- where something stands at the key, what is found there is found in place of the default
+-- if the table has the key, what is found there counts instead of the default
 pub found_or : {X Y : Type 0} (view : Y → X) (t : Members) (key : List ℕ) (default : X) (P : X → Type 0) (r : Result Y InputFault) → is_some (get_member key t) ≡ true
     → Finds view P r → Finds view (OrDefault t key default P) r
 found_or view t key default P r there h = found_in view (get_member key t) default P r there h

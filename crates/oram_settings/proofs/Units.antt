@@ -1,4 +1,4 @@
--- Numbers in decimal, and the units behind them.
+-- Numbers in decimal, followed by units.
 use Rattle.std.proofs.Common.{◌≡◌, ◌∙◌, ap, subst, sym, refl, ℕ, suc, zero, ◌+◌, ◌≤◌, ◌<◌, [], ◌∷◌, ◌^◌, List, get_or, Result, Ok, Err, IfOk, true, arith}
 use Rattle.std.specs.Prelude.{◌*◌, Option, Some, None, map, length, decimal, IfSome}
 use Rattle.std.specs.Str.{all_ascii_digits}
@@ -30,7 +30,7 @@ parsed bs (Ok n) h first =
     (not_zero bs n e first, e)
 parsed bs (Err e) h first = tt
 
--- digits that 0 doesn't begin are the decimal text of the number that is read
+-- digits without a leading zero are the decimal text of the number that is read
 pub number_from : {E : Type 0} (bs : List ℕ) (r : Result ℕ E) → ParsesUnsigned 64 10 bs r → 49 ≤ get_or bs 0 0 → IfOk r (λ n. (0 < n) × (bs ≡ decimal n))
 number_from bs r h first = parsed bs r (parse_plain own 64 bs r h (λ e. omega arith)) first
 
@@ -45,11 +45,11 @@ pub if_some : {T E : Type 0} (r : Result T E) (P : T → Type 0) → IfOk r P �
 if_some (Ok x) P h = h
 if_some (Err e) P h = tt
 
--- what fits as so many units fits as so many
+-- if the bytes of n units fit in 64 bits, n does
 pub fewer_fit : (n bytes size : ℕ) → 0 < bytes → size ≡ n * bytes → size < 2 ^ 64 → n < 2 ^ 64
 fewer_fit n bytes size some e fits = let more = le-mul_of_pos_right n some in omega arith
 
--- where the test fails nothing is given
+-- if the test fails, nothing is returned
 pub unfit : {T : Type 0} (r : Option T) (P : Type 0) (v : T) → SomeIff r P v → r ≡ None → P → ⊥
 unfit (Some x) P v h none p = cc
 unfit None P v h none p = h p
@@ -58,7 +58,7 @@ unfit None P v h none p = h p
 abbrev pub shown : List (Bor (List ℕ) × ℕ) → List (List ℕ × ℕ)
 shown us = map (λ u. (u.0.now, u.1)) us
 
--- the text is no size in the first n units of a table
+-- the text isn't a size in the first n units of a table
 pub record IsNoneBelow (us : List (Bor (List ℕ) × ℕ)) (text : List ℕ) (n : ℕ) : Type 0 where
   pub none : (k : ℕ) (d : Bor (List ℕ) × ℕ) → k < n → (size : ℕ) → size < 2 ^ 64 → IsSizeIn ((get_or us k d).0.now, (get_or us k d).1) text size → ⊥
 
@@ -69,7 +69,7 @@ one_more {us} {text} {n} d within before here = record {
       (subst (λ (u : Bor (List ℕ) × ℕ). (size : ℕ) → size < 2 ^ 64 → IsSizeIn (u.0.now, u.1) text size → ⊥) (get_or_default us n d e within) here) k;
 }
 
--- where it is none in all of them it is no size
+-- if it isn't one in any unit, it isn't a size
 pub no_size : (us : List (Bor (List ℕ) × ℕ)) {text : List ℕ} {n : ℕ} → IsNoneBelow us text n → length us ≤ n → shown us ≡ units → (size : ℕ) → size < 2 ^ 64 → IsSize text size → ⊥
 no_size [] all whole same size fits h = cc
 no_size (u ∷ us) {text} {n} all whole same size fits h =

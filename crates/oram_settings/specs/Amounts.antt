@@ -18,7 +18,7 @@ scaled bytes =
     else if nat_lt (rounded bytes 100000000) 10000 then (rounded bytes 100000000, codes "GB")
     else (rounded bytes 100000000000, codes "TB")
 
--- tenths of a unit, with the unit behind them
+-- tenths of a unit, followed by the unit
 abbrev pub in_tenths : ℕ → List ℕ → List ℕ
 in_tenths tenths unit = concat (decimal (tenths / 10) ∷ codes "." ∷ decimal (tenths % 10) ∷ codes " " ∷ unit ∷ [])
 
@@ -26,7 +26,7 @@ in_tenths tenths unit = concat (decimal (tenths / 10) ∷ codes "." ∷ decimal 
 abbrev pub amount : ℕ → List ℕ
 amount bytes = if nat_lt bytes 1000 then counted bytes (codes "byte") else in_tenths (scaled bytes).0 (scaled bytes).1
 
--- how many of a binary unit a size is, and the unit: the greatest that it is a whole number of, with KiB below 1 MiB alone
+-- a size in a binary unit, and the unit: the greatest of which it is a whole number, with KiB only below 1 MiB
 abbrev pub in_binary : ℕ → Option (ℕ × List ℕ)
 in_binary size =
     if size == 0 then None

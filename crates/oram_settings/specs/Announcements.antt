@@ -3,7 +3,7 @@ use Rattle.std.specs.Prelude.{ℕ, List, [], ◌∷◌, codes}
 use Rattle.std.specs.List.{concat}
 use Rattle.oram_settings.specs.Amounts.{amount, size_text}
 
--- what comes next, once the folder of a disk is made
+-- what to do next, once the folder of a disk is made
 abbrev pub next_text : List ℕ → List ℕ
 next_text folder =
     concat (codes "Next, once host.toml is at the rented machine:\n  there:  oramdisk host --new host.toml\n  here:   oramdisk format " ∷ folder
@@ -16,11 +16,11 @@ made_text folder size stored =
     ∷ codes ": disk.toml with its key, which stays here, and host.toml for the rented machine\noramdisk: formatting will send about " ∷ amount stored
     ∷ codes " to the host, which stores them\n" ∷ next_text folder ∷ codes "\n" ∷ [])
 
--- of a formatting before it begins
+-- what is printed before a formatting begins
 abbrev pub begun_text : ℕ → List ℕ → List ℕ
 begun_text stored host = concat (codes "oramdisk: formatting: about " ∷ amount stored ∷ codes " go to the host at " ∷ host ∷ codes ", which stores them\n" ∷ [])
 
--- of a file of buckets that is served
+-- what a host prints when it serves a file of buckets
 abbrev pub hosting_text : List ℕ → List ℕ → List ℕ
 hosting_text file listen = concat (codes "oramdisk: listening at " ∷ listen ∷ codes ", with the buckets in " ∷ file ∷ codes "\n" ∷ [])
 

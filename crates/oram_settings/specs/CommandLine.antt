@@ -1,4 +1,4 @@
--- The command line of oramdisk, by clap's own account of it.
+-- The command line of oramdisk, by clap's own definitions.
 use Rattle.std.specs.Prelude.{◌≡◌, ◌≢◌, ◌⊎◌, ⊤, ℕ, Bool, List, [], ◌∷◌, map, true, false, Option, Some, None, codes, if◌then◌else◌, option_and_then, string_bytes}
 use Rattle.std.specs.Str.{bytes_eq}
 use Rattle.clap.specs.Walk.{Row, Rule, Text, first_of}
@@ -14,7 +14,8 @@ use Rattle.oram_settings.specs.declared.command_line.NoRequest.TheVariants.{Help
 use Rattle.oram_settings.specs.declared.command_line.Words.{Words}
 use Rattle.oram_settings.specs.declared.command_line.Words.TheVariants.{Format, Host, New, Retry, Serve, Status}
 
--- what a command line asks for: a host, which is said to be new or not, a folder for a disk of a size, or something of a disk, with the file of its settings
+-- what a command line asks for: a host, with a new file of buckets or not; a folder for a disk of a size; or something
+-- for a disk, by the file of its settings
 pub data Request : Type 0 where
   host : List ℕ → Bool → Request
   folder : List ℕ → List ℕ → Request
@@ -23,7 +24,7 @@ pub data Request : Type 0 where
   status : List ℕ → Request
   retry : List ℕ → Request
 
--- without where texts lie in memory
+-- a request by value, without the places of texts in memory
 abbrev pub shown : Words → Request
 shown (Host name is_new) = host (string_bytes name) is_new
 shown (New name size) = folder (string_bytes name) (string_bytes size)
@@ -36,7 +37,7 @@ shown (Retry name) = retry (string_bytes name)
 abbrev pub word_rule : Rule
 word_rule = record (new_rule (codes "word")) { value_names = 1; required = true }
 
--- the subcommand that takes a word, and a size by its name
+-- the subcommand that takes a word, and a size as an option
 abbrev pub folder_maker : Shape
 folder_maker = record (new_shape (codes "new")) {
   rules = word_rule ∷ record (new_rule (codes "size")) { long = Some (codes "size"); value_names = 1; required = true } ∷ [];
@@ -56,19 +57,19 @@ disk_command name = record (new_shape name) { rules = word_rule ∷ [] }
 abbrev pub bare : App
 bare = on_top (λ s. record s { has_version = true; subcommand_required = true }) (new_app (codes "oramdisk"))
 
--- the command line as clap is told of it: one of six subcommands, with its word, or a request for help or the version
+-- the command line as clap needs it: one of six subcommands, with its word, or a request for help or the version
 abbrev pub program : App
 program = record {
   top = record (new_shape (codes "oramdisk")) { is_leaf = false; has_version = true; subcommand_required = true };
   subs = folder_maker ∷ host_runner ∷ map disk_command (codes "format" ∷ codes "serve" ∷ codes "status" ∷ codes "retry" ∷ []);
 }
 
--- clap has this text of a flag that is given, and another one where it isn't
+-- clap has this text for a flag that is given, and another one for a flag that isn't
 abbrev pub is_given : Option Text → Bool
 is_given (Some text) = bytes_eq text (codes "true")
 is_given None = false
 
--- what a subcommand asks for, with its word, whether it is said to be new, and perhaps a size
+-- what a subcommand asks for, by its word, whether the flag for a new file was given, and perhaps a size
 abbrev pub request_of : Text → Text → Bool → Option Text → Option Request
 request_of name word is_new None =
     if bytes_eq name (codes "host") then Some (host word is_new)
@@ -83,7 +84,7 @@ request_of name word is_new (Some size) = if bytes_eq name (codes "new") then So
 abbrev pub request_by : Text × List Row → Option Request
 request_by matches = option_and_then (λ word. request_of matches.0 word (is_given (first_of (codes "new") matches.1)) (first_of (codes "size") matches.1)) (first_of (codes "word") matches.1)
 
--- nothing where clap finds a fault
+-- nothing if clap finds a fault
 abbrev pub unless_faulty : Kinds → Option Request → Option Request
 unless_faulty [] asked = asked
 unless_faulty (fault ∷ more) asked = None
@@ -92,14 +93,14 @@ unless_faulty (fault ∷ more) asked = None
 abbrev pub request_in : List Text → Option Request
 request_in words = unless_faulty (fault_of program words) (option_and_then request_by (subcommand_of program words))
 
--- an error of this kind is help, or a mistake
+-- what an error of this kind may become: help, or a mistake
 abbrev pub IsToldOf : ErrorKind → NoRequest → Type 0
 IsToldOf k (Help text) = (k ≡ kind.DisplayHelp) ⊎ (k ≡ kind.DisplayVersion)
 IsToldOf k (Mistake text) = (k ≢ kind.DisplayHelp) × (k ≢ kind.DisplayVersion) × (k ≢ kind.OutOfMemory)
 IsToldOf k OutOfMemory = ⊤
 
--- Of words in which clap finds a fault of one of these kinds it is told so. Help is asked for where its kind is among them, and no mistake is made
--- where it is the only one.
+-- The outcome of words in which clap finds faults of these kinds. Help comes only if its kind is among them, and a
+-- mistake doesn't come if that kind is the only one.
 abbrev pub IsToldAs : Kinds → NoRequest → Type 0
 IsToldAs kinds (Help text) = IsAmong kind.DisplayHelp kinds ⊎ IsAmong kind.DisplayVersion kinds
 IsToldAs kinds (Mistake text) = (kinds ≢ kind.DisplayHelp ∷ []) × (kinds ≢ kind.DisplayVersion ∷ [])

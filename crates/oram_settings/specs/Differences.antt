@@ -1,4 +1,4 @@
--- Settings that aren't those that a disk was formatted with.
+-- Settings that differ from those that a disk was formatted with.
 use Rattle.std.specs.Prelude.{◌≡◌, ◌*◌, ◌⊎◌, List, [], ◌∷◌, Option, None, Some}
 use Rattle.oram_geometry.specs.declared.Sizes.{Sizes}
 use Rattle.oram_settings.specs.declared.differences.FixedKey.{FixedKey}
@@ -6,7 +6,7 @@ use Rattle.oram_settings.specs.declared.differences.FixedKey.TheVariants.{Size, 
 use Rattle.oram_settings.specs.declared.disk_file.DiskSettings.{DiskSettings}
 use Rattle.oram_settings.specs.declared.disk_file.Sealing.{Sealing}
 
--- at this key the settings are what the disk was formatted with: a device, and how its buckets are sealed
+-- at this key the settings agree with what the disk was formatted with: a device, and how its buckets are sealed
 abbrev pub AgreeAt : DiskSettings → Sizes → Sealing → FixedKey → Type 0
 AgreeAt s device sealing Size = s.size ≡ device.blocks * device.block_bytes
 AgreeAt s device sealing Block = s.block ≡ device.block_bytes
@@ -19,6 +19,6 @@ abbrev pub IsFirstDifference : (FixedKey → Type 0) → List FixedKey → Optio
 IsFirstDifference agree [] first = first ≡ None
 IsFirstDifference agree (key ∷ keys) first = ((first ≡ Some key) × ¬ agree key) ⊎ (agree key × IsFirstDifference agree keys first)
 
--- in the order in which they stand in a first file
+-- the fixed keys, in the order in which a first file has them
 abbrev pub fixed_keys : List FixedKey
 fixed_keys = Size ∷ Block ∷ Slots ∷ Table ∷ Sealer ∷ []

@@ -1,30 +1,30 @@
--- How far a formatting is.
+-- The progress of a formatting.
 use Rattle.std.specs.Prelude.{ℕ, List, ◌*◌, ◌+◌, ◌/◌, ◌-◌, ◌^◌, [], ◌∷◌, min, max, if◌then◌else◌, nat_le, nat_lt, codes, decimal}
 use Rattle.std.specs.List.{concat}
 use Rattle.oram_settings.specs.declared.progress.Meter.{Meter}
 
--- how many of a hundred are done
+-- how much is done, in percent
 abbrev pub percent : ℕ → ℕ → ℕ
 percent done of = if nat_le of done then 100 else done * 100 / of
 
--- in how many seconds the rest is done, if it goes on as it did for so many milliseconds
+-- in how many seconds the rest will be done, at the pace of the `milliseconds` so far
 abbrev pub seconds_left : ℕ → ℕ → ℕ → ℕ
 seconds_left done of milliseconds = min (milliseconds * (of - done) / max done 1 / 1000) (2 ^ 64 - 1)
 
--- what is told of it ..
+-- the text without the time that is left
 abbrev pub so_far : ℕ → ℕ → List ℕ
 so_far done of = concat (codes "formatting: " ∷ decimal (percent done of) ∷ codes " % (" ∷ decimal done ∷ codes " of " ∷ decimal of ∷ codes " messages)" ∷ [])
 
--- .. and of the time that is left ..
+-- the text with the time that is left
 abbrev pub with_time_left : ℕ → ℕ → ℕ → List ℕ
 with_time_left done of milliseconds =
     concat (codes "formatting: " ∷ decimal (percent done of) ∷ codes " % (" ∷ decimal done ∷ codes " of " ∷ decimal of ∷ codes " messages), "
     ∷ decimal (seconds_left done of milliseconds) ∷ codes " s left" ∷ [])
 
--- .. once a second has passed
+-- the text, with the time that is left once a second has passed
 abbrev pub progress_text : ℕ → ℕ → ℕ → List ℕ
 progress_text done of milliseconds = if nat_lt milliseconds 1000 then so_far done of else with_time_left done of milliseconds
 
--- a meter once it was asked at so many of a hundred: where it was due, it is due next a step later
+-- a meter after it was asked at this percentage: if it was due, it is due next a step later
 abbrev pub asked_at : Meter → ℕ → Meter
 asked_at meter percent = if nat_le meter.next percent then record meter { next = min (percent + meter.step) (2 ^ 64 - 1) } else meter

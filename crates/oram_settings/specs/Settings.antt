@@ -1,4 +1,5 @@
--- What a disk's settings file says, and when a text says it. Size, key and host have to be there; each other setting has a default.
+-- The settings of a disk, and which texts are a file with these settings. Size, key and host are required; each other
+-- setting has a default.
 use Rattle.std.specs.Prelude.{◌≡◌, ◌∷◌, ◌++◌, ◌⊎◌, ◌*◌, ◌^◌, ℕ, Bool, true, List, [], codes, decimal, string_bytes, Some, Ok, MatchOption}
 use Rattle.std.specs.List.{concat}
 use Rattle.hex.specs.Hex.{encode_lower}
@@ -11,7 +12,7 @@ use Rattle.oram_settings.specs.declared.disk_file.Sealing.{Sealing}
 use Rattle.oram_settings.specs.declared.disk_file.Sealing.TheVariants.{Plain, ChaCha}
 use Rattle.oram_settings.specs.declared.disk_file.DiskSettings.{DiskSettings}
 
--- settings, without where texts lie in memory
+-- the settings by value, without the places of texts in memory
 pub record DiskValue : Type 0 where
   pub size : ℕ
   pub block : ℕ
@@ -58,11 +59,11 @@ IsSocket text = (path : List ℕ) × IsName path × (text ≡ codes "unix:" ++ p
 pub record IsPlace (text : List ℕ) : Type 0 where
   pub is_either : IsAddress text ⊎ IsSocket text
 
--- P of what stands at the key; where nothing stands there, it is the default
+-- P holds of the value if the table has the key; if not, the value is the default
 abbrev pub OrDefault : {X : Type 0} → Members → List ℕ → X → (X → Type 0) → X → Type 0
 OrDefault table key default P x = MatchOption (get_member key table) (x ≡ default) (λ _. P x)
 
--- the table is that of these settings
+-- the table has these settings
 pub record IsDisk (table : Members) (s : DiskValue) : Type 0 where
   pub only : HasOnly (codes "size" ∷ codes "block" ∷ codes "slots" ∷ codes "table" ∷ codes "sealer" ∷ codes "key" ∷ codes "host" ∷ codes "listen" ∷ codes "state" ∷ codes "sync" ∷ codes "patience" ∷ []) table
   pub size : HasNumber table (codes "size") s.size
@@ -77,11 +78,11 @@ pub record IsDisk (table : Members) (s : DiskValue) : Type 0 where
   pub sync : OrDefault table (codes "sync") true (HasFlag table (codes "sync")) s.sync
   pub patience : OrDefault table (codes "patience") 600 (λ n. HasNumber table (codes "patience") n × IsCount n) s.patience
 
--- the text is a TOML document, and its table that of these settings
+-- the text is a TOML document whose table has these settings
 abbrev pub IsDocumentOf : List ℕ → DiskValue → Type 0
 IsDocumentOf text s = (table : Members) × (parse_document text ≡ Some table) × IsDisk table s
 
--- the device of so many bytes, which are whole blocks
+-- the device with this size in bytes, a whole number of blocks
 abbrev pub IsDeviceOf : ℕ → ℕ → ℕ → ℕ → Sizes → Type 0
 IsDeviceOf size block slots table device = (blocks : ℕ) × (blocks * block ≡ size)
     × (device_of (record { blocks = blocks; block_bytes = block; slots = slots; top = table; lifetime = 2 ^ 40 }) ≡ Ok device)

@@ -1,4 +1,4 @@
--- How a disk stands.
+-- The status of a disk.
 use Rattle.std.specs.Prelude.{ℕ, List, Option, Some, None, ◌*◌, ◌-◌, ◌^◌, ◌++◌, [], ◌∷◌, min, length, codes, decimal}
 use Rattle.std.specs.List.{concat}
 use Rattle.oram_geometry.specs.declared.Sizes.{Sizes}
@@ -19,7 +19,7 @@ stands_as d s = record {
   failure = s.failure;
 }
 
--- what is told of a failure
+-- what is said of a failure
 abbrev pub failing : Option Reason → List ℕ
 failing None = codes "it is sound"
 failing (Some Malformed) = codes "it has failed: what the host answered is no answer"
@@ -27,11 +27,12 @@ failing (Some (Tampered tree level)) =
     concat (codes "it has failed: in tree " ∷ decimal tree ∷ codes " the record at level " ∷ decimal level ∷ codes " of a path wasn't the one that was stored last" ∷ [])
 failing (Some (HostRefused code)) = codes "it has failed: the host refused a message, by the code " ++ decimal code
 
--- the bytes of a disk, or the greatest number where they are more
+-- the size of a disk in bytes, at most 2^64 - 1
 abbrev pub size_of : Status → ℕ
 size_of s = min (s.blocks * s.block_bytes) (2 ^ 64 - 1)
 
--- the lines that tell how a disk stands: its size, its trees, the accesses made and left, the commands that wait, and a failure
+-- the lines that describe the status of a disk: its size, its trees, the accesses made and left, the commands that
+-- wait, and a failure
 abbrev pub report : Status → List ℕ
 report s = concat (codes "size: " ∷ decimal (size_of s) ∷ codes " bytes, " ∷ decimal s.blocks ∷ codes " blocks of " ∷ decimal s.block_bytes
     ∷ codes "\ntrees: " ∷ decimal s.trees

@@ -5,7 +5,7 @@ ghost use Rattle.oram_settings.specs.Amounts as spec;
 
 use std::alloc::{AllocError, Global};
 
-/// A count and the name of what is counted, in the plural unless there is one: `1 byte`, `2 bytes`.
+/// Returns a count and the name of what is counted, in the plural unless the count is one: `1 byte`, `2 bytes`.
 pub fn counted(alloc: Global, count: u64, name: &str) -> Result<String, AllocError>
     ensures { IfOk result (λ text. string_bytes text ≡ spec.counted count name.now) }
 {
@@ -16,7 +16,7 @@ pub fn counted(alloc: Global, count: u64, name: &str) -> Result<String, AllocErr
     }
 }
 
-/// How many steps of this size an amount is, to the nearest.
+/// Returns how many steps of this size an amount is, to the nearest.
 fn rounded(amount: u64, step: u64) -> u64
     requires { 0 < step }
     ensures { result ≡ spec.rounded amount step }
@@ -24,7 +24,7 @@ fn rounded(amount: u64, step: u64) -> u64
     amount.saturating_add(step / 2) / step
 }
 
-/// An amount of bytes in tenths of a unit, and the unit: the first in which it is less than a thousand.
+/// Returns an amount of bytes in tenths of a unit, and the unit: the first in which the amount is less than a thousand.
 fn scaled(bytes: u64) -> (u64, &'static str)
     ensures tenths { result.0 ≡ (spec.scaled bytes).0 }
     ensures unit { result.1.now ≡ (spec.scaled bytes).1 }
@@ -43,7 +43,7 @@ fn scaled(bytes: u64) -> (u64, &'static str)
     }
 }
 
-/// Tenths of a unit, with the unit behind them.
+/// Returns tenths of a unit, followed by the unit.
 fn in_tenths(alloc: Global, tenths: u64, unit: &str) -> Result<String, AllocError>
     ensures { IfOk result (λ text. string_bytes text ≡ spec.in_tenths tenths unit.now) }
 {
@@ -52,7 +52,7 @@ fn in_tenths(alloc: Global, tenths: u64, unit: &str) -> Result<String, AllocErro
     format!(in alloc; "{whole}.{tenth} {unit}")
 }
 
-/// An amount of bytes: `512 bytes`, `4.1 kB`, `8.6 GB`. A unit is a thousand of the one before.
+/// Returns an amount of bytes as text: `512 bytes`, `4.1 kB`, `8.6 GB`. A unit is a thousand of the one before.
 pub fn amount_text(alloc: Global, bytes: u64) -> Result<String, AllocError>
     ensures { IfOk result (λ text. string_bytes text ≡ spec.amount bytes) }
 {
@@ -63,7 +63,7 @@ pub fn amount_text(alloc: Global, bytes: u64) -> Result<String, AllocError>
     in_tenths(alloc, tenths, unit)
 }
 
-/// The bytes of the binary units.
+/// The binary units, in bytes.
 const KIB: u64 = 1 << 10;
 
 const MIB: u64 = 1 << 20;
@@ -72,8 +72,8 @@ const GIB: u64 = 1 << 30;
 
 const TIB: u64 = 1 << 40;
 
-/// How many of a binary unit a size is, and the unit: the greatest that it is a whole number of. It is given in KiB below 1 MiB alone, where the
-/// number is short.
+/// Returns a size in a binary unit, and the unit: the greatest of which it is a whole number. It uses KiB only below 1
+/// MiB, where the number is short.
 fn in_binary(size: u64) -> Option<(u64, &'static str)>
     ensures { option_map (λ p. (p.0, p.1.now)) result ≡ spec.in_binary size }
 {
@@ -94,7 +94,8 @@ fn in_binary(size: u64) -> Option<(u64, &'static str)>
     }
 }
 
-/// The size of a disk, as people write it: `64 MiB`, `1 GiB` where it is a whole number of binary units, else as an amount.
+/// Returns the size of a disk as people write it: `64 MiB` or `1 GiB` if it is a whole number of binary units, else as
+/// an amount.
 pub fn size_text(alloc: Global, size: u64) -> Result<String, AllocError>
     ensures { IfOk result (λ text. string_bytes text ≡ spec.size_text size) }
 {

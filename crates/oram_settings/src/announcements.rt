@@ -6,7 +6,7 @@ ghost use Rattle.oram_settings.specs.Announcements as spec;
 use crate::amounts::{amount_text, size_text};
 use std::alloc::{AllocError, Global};
 
-/// What comes next, once the folder of a disk is made.
+/// Returns what to do next, once the folder of a disk is made.
 fn next_text(alloc: Global, folder: &str) -> Result<String, AllocError>
     ensures { IfOk result (λ text. string_bytes text ≡ spec.next_text folder.now) }
 {
@@ -15,8 +15,9 @@ fn next_text(alloc: Global, folder: &str) -> Result<String, AllocError>
     )
 }
 
-/// What `new` prints once it has made the folder of a disk: what is in the folder, the commands that come next, and where clients connect.
-/// `size` is the disk's size, and `stored` is what formatting it sends to the host; both are in bytes.
+/// Returns what `new` prints once it has made the folder of a disk: what is in the folder, the commands that come next,
+/// and where clients connect. `size` is the disk's size, and `stored` is what formatting it sends to the host; both are
+/// in bytes.
 pub fn made_text(alloc: Global, folder: &str, size: u64, stored: u64) -> Result<String, AllocError>
     ensures { IfOk result (λ text. string_bytes text ≡ spec.made_text folder.now size stored) }
 {
@@ -31,7 +32,7 @@ pub fn made_text(alloc: Global, folder: &str, size: u64, stored: u64) -> Result<
     )
 }
 
-/// What is told of a formatting before it begins: how much it sends to the host at this address.
+/// Returns what is printed before a formatting begins: how much it sends to the host at this address.
 pub fn begun_text(alloc: Global, stored: u64, host: &str) -> Result<String, AllocError>
     ensures { IfOk result (λ text. string_bytes text ≡ spec.begun_text stored host.now) }
 {
@@ -42,14 +43,14 @@ pub fn begun_text(alloc: Global, stored: u64, host: &str) -> Result<String, Allo
     )
 }
 
-/// What is told of a file of buckets that is served at this address.
+/// Returns what a host prints when it serves a file of buckets at this address.
 pub fn hosting_text(alloc: Global, file: &str, listen: &str) -> Result<String, AllocError>
     ensures { IfOk result (λ text. string_bytes text ≡ spec.hosting_text file.now listen.now) }
 {
     format!(in alloc; "oramdisk: listening at {listen}, with the buckets in {file}\n")
 }
 
-/// What `serve` prints once clients can connect at `uri` (NBD's uri.md) to a disk of `size` bytes.
+/// Returns what `serve` prints once clients can connect at `uri` (NBD's uri.md) to a disk of `size` bytes.
 pub fn serving_text(alloc: Global, size: u64, uri: &str) -> Result<String, AllocError>
     ensures { IfOk result (λ text. string_bytes text ≡ spec.serving_text size uri.now) }
 {

@@ -16,26 +16,27 @@ use std::alloc::{AllocError, Global};
 /// What the words of a command line ask for.
 #[derive(Debug, Drop)]
 pub enum Words {
-    /// A bucket host, with the settings in the file of this name. It may be said to be new.
+    /// To run a bucket host, with the settings in the file of this name, and with a new file of buckets if `is_new`.
     Host { settings: String, is_new: bool },
-    /// A folder of this name, with settings to begin with, for a disk of this size.
+    /// To make a folder of this name, with first settings for a disk of this size.
     New { folder: String, size: String },
-    /// The disk whose settings are in the file of this name is formatted, ..
+    /// To format the disk whose settings are in the file of this name.
     Format(String),
-    /// .. is served, ..
+    /// To serve the disk whose settings are in the file of this name.
     Serve(String),
-    /// .. tells how it stands, ..
+    /// To print the status of the disk whose settings are in the file of this name.
     Status(String),
-    /// .. or is to be tried again once it has failed.
+    /// To try the disk whose settings are in the file of this name again after it has failed.
     Retry(String),
 }
 
 /// Why the words of a command line ask for nothing.
 #[derive(Debug, PartialEq, Eq, Drop)]
 pub enum NoRequest {
-    /// They ask for help or for the version, which this text is.
+    /// They ask for help or for the version. This is the text to print.
     Help(String),
-    /// They are wrong. The text says what is wrong, and how the program is used; nothing stands before that, and no end of a line behind it.
+    /// They are wrong. The text says what is wrong, and how the program is used. It has no prefix, and no end of a
+    /// line.
     Mistake(String),
     OutOfMemory,
 }
@@ -50,7 +51,7 @@ impl From<AllocError> for NoRequest {
     }
 }
 
-/// The word that a subcommand takes, with its name and what it is, as help shows them.
+/// Returns the word that a subcommand takes, with its name and its description, as help shows them.
 fn word<'a>(alloc: Global, name: &'a str, help: &'a str) -> Arg<'a>
     ensures rule { rule_of result ≡ spec.word_rule }
     ensures local { result.global ≡ false }
@@ -61,7 +62,7 @@ fn word<'a>(alloc: Global, name: &'a str, help: &'a str) -> Arg<'a>
         .required(true)
 }
 
-/// The subcommand that makes a folder.
+/// Returns the subcommand that makes a folder.
 fn folder_maker<'a>(alloc: Global) -> Result<Command<'a>, AllocError>
     ensures local { IfOk result (λ c. (fields_of c).has_globals ≡ false) }
     ensures shape { IfOk result (λ c. shape_of c ≡ spec.folder_maker) }
@@ -78,7 +79,7 @@ fn folder_maker<'a>(alloc: Global) -> Result<Command<'a>, AllocError>
         .arg(size)
 }
 
-/// The subcommand that runs a host.
+/// Returns the subcommand that runs a host.
 fn host_runner<'a>(alloc: Global) -> Result<Command<'a>, AllocError>
     ensures local { IfOk result (λ c. (fields_of c).has_globals ≡ false) }
     ensures shape { IfOk result (λ c. shape_of c ≡ spec.host_runner) }
@@ -94,7 +95,7 @@ fn host_runner<'a>(alloc: Global) -> Result<Command<'a>, AllocError>
         .arg(new)
 }
 
-/// A subcommand that takes the name of a disk's settings file.
+/// Returns a subcommand that takes the name of a disk's settings file.
 fn disk_command<'a>(
     alloc: Global,
     name: &'a str,
@@ -110,7 +111,7 @@ fn disk_command<'a>(
         .arg(word(alloc, "SETTINGS", help::DISK_SETTINGS))
 }
 
-/// The command without its subcommands.
+/// Returns the command without its subcommands.
 fn bare_command<'a>(alloc: Global) -> Command<'a>
     ensures { app_of result ≡ bare }
 {
@@ -121,7 +122,7 @@ fn bare_command<'a>(alloc: Global) -> Command<'a>
         .subcommand_required(true)
 }
 
-/// The command line as clap is told of it.
+/// Returns the command line as clap needs it.
 fn command<'a>(alloc: Global) -> Result<Command<'a>, AllocError>
     ensures { IfOk result (λ c. app_of c ≡ program) }
 {
@@ -134,7 +135,7 @@ fn command<'a>(alloc: Global) -> Result<Command<'a>, AllocError>
         .subcommand(disk_command(alloc, "retry", help::RETRY, help::RETRY_MORE)?)
 }
 
-/// Whether a flag was given, by what clap has of it.
+/// Returns whether a flag was given, by the text that clap has for it.
 fn is_given(flag: Option<&str>) -> bool
     ensures { result ≡ spec.is_given (option_map (λ s. s.now) flag.entry) }
 {
@@ -144,7 +145,8 @@ fn is_given(flag: Option<&str>) -> bool
     }
 }
 
-/// What a subcommand asks for, with its word, whether it is said to be new, and perhaps a size. None where there is no such subcommand.
+/// Returns what a subcommand asks for, by its word, whether the flag for a new file was given, and perhaps a size.
+/// Returns `None` if there is no such subcommand.
 fn asked(
     alloc: Global,
     name: &str,
@@ -177,7 +179,7 @@ fn asked(
     }
 }
 
-/// What a text of clap's says, which begins with a word of its own and ends with a line.
+/// Returns the message in a text of clap, which begins with a prefix and ends with the end of a line.
 fn message(alloc: Global, text: &str) -> Result<String, AllocError> {
     String::from_str(
         alloc,
@@ -185,7 +187,7 @@ fn message(alloc: Global, text: &str) -> Result<String, AllocError> {
     )
 }
 
-/// What an error of clap's is to the program: an answer to a request for help, or a mistake.
+/// Returns what an error of clap is for the program: an answer to a request for help, or a mistake.
 fn told(alloc: Global, error: &Error) -> Result<NoRequest, AllocError>
     ensures { IfOk result (λ why. IsToldOf (kind_of error.now) why) }
 {
@@ -200,7 +202,7 @@ fn told(alloc: Global, error: &Error) -> Result<NoRequest, AllocError>
     }
 }
 
-/// The mistake of words that clap takes, and that ask for nothing all the same.
+/// Returns the mistake for words that clap accepts, but that ask for nothing.
 fn nothing_asked(alloc: Global) -> NoRequest
     ensures { IsToldAs [] result }
 {
@@ -212,11 +214,12 @@ fn nothing_asked(alloc: Global) -> NoRequest
 
 /// Reads the words of a command line. The first word is the program's name.
 pub fn read_words(alloc: Global, words: &[&str]) -> Result<Words, NoRequest>
-    // It is what clap's matches of the words ask for.
+    // The result is what clap's matches of the words ask for.
     ensures ok { IfOk result (λ w. request_in (texts words.now) ≡ Some (shown w)) }
-    // Help and mistakes come only where they ask for nothing.
+    // Help and mistakes come only if the words ask for nothing.
     ensures none { IfErr result (λ why. why ≢ NoRequest.OutOfMemory → request_in (texts words.now) ≡ None) }
-    // Help comes only where they ask for help or the version, and a mistake only where they ask for neither alone.
+    // Help comes only if the words ask for help or the version, and a mistake only if they don't ask for one of these
+    // alone.
     ensures told { IfErr result (IsToldAs (fault_of program (texts words.now))) }
 {
     let matches = match command(alloc)?.try_get_matches_from(words) {

@@ -1,4 +1,4 @@
-//! What is wrong with a settings file, for whoever wrote it.
+//! Complaints about a settings file, for whoever wrote it.
 
 use crate::disk_file::{flag_at, place_at, sealing_at};
 use oram_edge::{address_at, count_at, key_at, name_at, number_at};
@@ -7,7 +7,7 @@ use std::fmt;
 use strsim::levenshtein;
 use toml::Table;
 
-/// What has to stand at a key.
+/// The kind of value that a setting must have.
 #[derive(Clone, Copy, Debug, PartialEq, Eq)]
 enum Kind {
     Number,
@@ -20,7 +20,7 @@ enum Kind {
     Flag,
 }
 
-// As a sentence has it that says what a value has to be.
+// In the form that fits a sentence that says what a value has to be.
 impl fmt::Display for Kind {
     fn fmt<W: fmt::Write>(&self, f: &mut fmt::Formatter<W>) -> fmt::Result {
         f.write_str(match self {
@@ -38,12 +38,12 @@ impl fmt::Display for Kind {
     }
 }
 
-/// A key of a settings file, and what has to stand there.
+/// A key of a settings file, and the kind of value that it must have.
 #[derive(Clone, Copy, Debug)]
 struct Setting {
     key: &'static str,
     kind: Kind,
-    /// It has no default.
+    /// The setting has no default.
     is_required: bool,
 }
 
@@ -120,10 +120,10 @@ const HOST: [Setting; 2] = [
     },
 ];
 
-/// The most letters that may be wrong in a key for it to be told which one was meant.
+/// The greatest number of wrong letters in a key at which a complaint still says which key was meant.
 const FEW_LETTERS: usize = 2;
 
-/// What stands at a key is of its kind.
+/// Returns whether the value at a key is of its kind.
 fn is_right(table: &Table, setting: Setting) -> bool {
     match setting.kind {
         Kind::Number => number_at(table, setting.key).is_ok(),
@@ -137,7 +137,7 @@ fn is_right(table: &Table, setting: Setting) -> bool {
     }
 }
 
-/// A line sets this key.
+/// Returns whether a line sets this key.
 fn sets(line: &str, key: &str) -> bool {
     match line.split_once('=') {
         Some((before, _)) => before.trim() == key,
@@ -145,7 +145,7 @@ fn sets(line: &str, key: &str) -> bool {
     }
 }
 
-/// A file, with the line in it that sets a key, where one is found: `disk.toml, line 4`.
+/// Returns the name of a file, with the line in it that sets a key, if there is one: `disk.toml, line 4`.
 fn place_of(alloc: Global, name: &str, text: &str, key: &str) -> Result<String, AllocError> {
     let mut number = 0u64;
     for line in text.lines() {
@@ -157,7 +157,7 @@ fn place_of(alloc: Global, name: &str, text: &str, key: &str) -> Result<String, 
     String::from_str(alloc, name)
 }
 
-/// The key of a setting that a word was meant for.
+/// Returns the key of a setting that a word was meant for.
 fn meant(
     alloc: Global,
     word: &str,
@@ -175,7 +175,7 @@ fn is_known(key: &str, settings: &[Setting]) -> bool {
     settings.iter().any(|setting| setting.key == key)
 }
 
-/// A key of the table that is no setting's.
+/// Returns a key of the table that belongs to no setting.
 fn unknown_key<'a>(table: &'a Table, settings: &[Setting]) -> Option<&'a str> {
     for key in table.keys() {
         if !is_known(key.as_str(), settings) {
@@ -185,7 +185,7 @@ fn unknown_key<'a>(table: &'a Table, settings: &[Setting]) -> Option<&'a str> {
     None
 }
 
-/// That a key is no setting's, and which one may have been meant.
+/// Returns the complaint that a key belongs to no setting, and which key may have been meant.
 fn unknown(
     alloc: Global,
     name: &str,
@@ -201,7 +201,7 @@ fn unknown(
     }
 }
 
-/// What is wrong at a setting's key.
+/// Returns what is wrong at a setting's key, if anything is.
 fn wrong_at(
     alloc: Global,
     name: &str,
@@ -227,7 +227,7 @@ fn wrong_at(
     Ok(Some(format!(in alloc; "{place}: {key} has to be {kind}")?))
 }
 
-/// What is wrong with a table of these settings, where each of its keys is one of theirs.
+/// Returns what is wrong with a table in which each key belongs to one of these settings.
 fn wrong_value(
     alloc: Global,
     name: &str,
@@ -243,7 +243,7 @@ fn wrong_value(
     String::from_str(alloc, name)
 }
 
-/// That a text is no TOML document, and on which line it isn't.
+/// Returns the complaint that a text isn't a TOML document, with the line where it goes wrong.
 fn no_document(
     alloc: Global,
     name: &str,
@@ -263,7 +263,7 @@ fn no_document(
     format!(in alloc; "{name}, line {line}: {why}")
 }
 
-/// What is wrong with the settings in a file of this name.
+/// Returns what is wrong with the settings in the file `name`.
 fn complaint(
     alloc: Global,
     name: &str,
@@ -280,13 +280,13 @@ fn complaint(
     }
 }
 
-/// What is wrong with the text of a file of this name, which isn't a disk's settings: the file, the line where it can be told, the key, and what has
-/// to stand there.
+/// Returns what is wrong with the text of the file `name`, which isn't a disk's settings: the file, the line if it is
+/// known, the key, and what its value has to be.
 pub fn disk_complaint(alloc: Global, name: &str, text: &str) -> Result<String, AllocError> {
     complaint(alloc, name, text, &DISK)
 }
 
-/// What is wrong with the text of a file of this name, which isn't a host's settings.
+/// Returns what is wrong with the text of the file `name`, which isn't a host's settings.
 pub fn host_complaint(alloc: Global, name: &str, text: &str) -> Result<String, AllocError> {
     complaint(alloc, name, text, &HOST)
 }

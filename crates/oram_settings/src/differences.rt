@@ -1,4 +1,4 @@
-//! Settings that aren't those that a disk was formatted with.
+//! Settings that differ from those that a disk was formatted with.
 
 ghost use Rattle.std.specs.Prelude.{◌≡◌, None};
 ghost use Rattle.oram_settings.specs.Differences.{AgreeAt, IsFirstDifference, fixed_keys};
@@ -18,7 +18,7 @@ pub enum FixedKey {
     Sealer,
 }
 
-// As it stands in the settings file.
+// As the settings file spells it.
 impl fmt::Display for FixedKey {
     fn fmt<W: fmt::Write>(&self, f: &mut fmt::Formatter<W>) -> fmt::Result {
         f.write_str(match self {
@@ -31,7 +31,8 @@ impl fmt::Display for FixedKey {
     }
 }
 
-/// The first key at which settings differ from what a disk was formatted with: its device, and how its buckets are sealed.
+/// Returns the first key at which the settings differ from what a disk was formatted with: its device, and how its
+/// buckets are sealed.
 pub fn first_difference(
     settings: &DiskSettings,
     device: &Device,

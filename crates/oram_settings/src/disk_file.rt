@@ -13,53 +13,54 @@ use std::alloc::{AllocError, Global};
 use std::fmt;
 use toml::Table;
 
-/// The most commands that a disk ever takes: as many as a device may.
+/// The greatest number of commands that a disk ever takes. It is the greatest that a device allows.
 pub const LIFETIME: u64 = 1 << 40;
 
-/// What holds where a settings file leaves it out: the bytes of a block, ..
+/// The default number of bytes of a block.
 pub const DEFAULT_BLOCK: u64 = 4_096;
 
-/// .. the slots of a bucket, ..
+/// The default number of slots of a bucket.
 pub const DEFAULT_SLOTS: u64 = 4;
 
-/// .. the entries of the client's table, ..
+/// The default number of entries of the client's table.
 pub const DEFAULT_TABLE: u64 = 1_024;
 
-/// .. and for how many seconds a host that is out of reach is waited for.
+/// The default number of seconds for which a disk waits for a host that is out of reach.
 const DEFAULT_PATIENCE: u64 = 600;
 
 /// How buckets are sealed.
 #[derive(Clone, Copy, Debug, PartialEq, Eq)]
 pub enum Sealing {
-    /// Not at all: the host reads what it keeps.
+    /// Not at all: the host can read what it keeps.
     Plain,
-    /// By the stream of ChaCha20 (RFC 8439).
+    /// With the keystream of ChaCha20 (RFC 8439).
     ChaCha,
 }
 
-/// What the settings file of a disk says.
+/// The settings of a disk.
 #[derive(Drop)]
 pub struct DiskSettings {
-    /// The bytes of the disk, which are whole blocks.
+    /// The size of the disk in bytes, a whole number of blocks.
     pub size: u64,
-    /// The bytes of a block.
+    /// The number of bytes of a block.
     pub block: u64,
-    /// The slots of a bucket.
+    /// The number of slots of a bucket.
     pub slots: u64,
     /// The greatest number of entries of the client's table.
     pub table: u64,
     pub sealer: Sealing,
-    /// The disk's other keys are derived from it.
+    /// The key from which the disk's other keys are derived.
     pub key: [u8; 32],
-    /// Where the host is reached.
+    /// The address at which the host is reached.
     pub host: String,
-    /// Where the disk is served: an address, or `unix:` and the name of a socket, as seen from the folder of the settings.
+    /// Where the disk is served: an address, or `unix:` and the name of a socket, relative to the folder of the
+    /// settings.
     pub listen: String,
-    /// The file that the client's state is kept in.
+    /// The file in which the client's state is kept.
     pub state: String,
-    /// What is kept is on the disk before it counts.
+    /// Each state that is kept is synced before it counts.
     pub sync: bool,
-    /// For how many seconds a host that is out of reach is waited for.
+    /// For how many seconds the disk waits for a host that is out of reach.
     pub patience: u64,
 }
 
@@ -70,7 +71,7 @@ impl fmt::Debug for DiskSettings {
     }
 }
 
-/// The flag at a key.
+/// Returns the flag at a key.
 fn flag_in(table: &Table, key: &str) -> Option<bool>
     ensures { result ≡ option_and_then as_bool (get_member key.now (table_view table.now)) }
 {
@@ -89,7 +90,7 @@ pub(crate) fn flag_at(table: &Table, key: &str) -> Result<bool, InputFault>
     }
 }
 
-/// How buckets are sealed, by its name.
+/// Returns how buckets are sealed, by its name.
 fn sealing_named(name: &str) -> Option<Sealing>
     ensures some { IfSome result (λ s. name.now ≡ sealing_name s) }
     ensures none { result ≡ None → (s : Sealing) → name.now ≢ sealing_name s }
@@ -119,7 +120,7 @@ fn is_socket(text: &str) -> bool
     }
 }
 
-/// Where clients connect: an address, or a Unix socket behind `unix:`.
+/// Returns where clients connect: an address, or `unix:` and the name of a Unix socket.
 pub(crate) fn place_at<'a>(table: &'a Table, key: &str) -> Result<&'a str, InputFault>
     ensures { Finds (λ s. s.now) (λ s. HasText (table_view table.now) key.now s × IsPlace s) result }
 {
@@ -131,14 +132,15 @@ pub(crate) fn place_at<'a>(table: &'a Table, key: &str) -> Result<&'a str, Input
     }
 }
 
-/// Something stands at a key.
+/// Returns whether the table has a key.
 fn has(table: &Table, key: &str) -> bool
     ensures { result ≡ is_some (get_member key.now (table_view table.now)) }
 {
     table.contains_key(key)
 }
 
-/// The number at a key, or where nothing stands there the default. So do the functions below for values of other kinds.
+/// Returns the number at a key, or the default if the table doesn't have the key. The functions below do this for
+/// values of other kinds.
 fn number_or(table: &Table, key: &str, default: u64) -> Result<u64, InputFault>
     ensures { Finds (λ n. n) (OrDefault (table_view table.now) key.now default (HasNumber (table_view table.now) key.now)) result }
 {
@@ -239,16 +241,17 @@ fn disk_in(alloc: Global, table: &Table) -> Result<DiskSettings, InputFault>
 
 /// Reads a disk's settings from a TOML document.
 pub fn read_disk_settings(alloc: Global, text: &str) -> Result<DiskSettings, InputFault>
-    // The text is a document whose table is that of these settings.
+    // The text is a document whose table has these settings.
     ensures ok { IfOk result (λ s. IsDocumentOf text.now (shown s)) }
-    // Bad comes only where it is no such document of any settings.
+    // `Bad` comes only if the text is no such document for any settings.
     ensures bad { IsErrOf result InputFault.Bad → (s : _) → IsDocumentOf text.now s → ⊥ }
 {
     let table = table_of(alloc, text)?;
     disk_in(alloc, &table)
 }
 
-/// The device of so many bytes, or none where they aren't whole blocks, or the numbers are no device's.
+/// Returns the device with this size in bytes, or `None` if that isn't a whole number of blocks, or no device can have
+/// these numbers.
 pub fn device_of(size: u64, block: u64, slots: u64, table: u64) -> Option<Device>
     ensures some { IfSome result (λ d. IsDeviceOf size block slots table d) }
     ensures none { result ≡ None → (d : _) → IsDeviceOf size block slots table d → ⊥ }
@@ -260,8 +263,8 @@ pub fn device_of(size: u64, block: u64, slots: u64, table: u64) -> Option<Device
     Device::new(blocks, block, slots, table, LIFETIME).ok()
 }
 
-/// The text of a new disk's settings file. It sets the size in bytes and the key, which the caller draws at random; the settings that
-/// have defaults stand in it as comments.
+/// Returns the text of a new disk's settings file. It sets the size in bytes and the key, which the caller draws at
+/// random. The settings that have defaults stand in it as comments.
 pub fn disk_text(alloc: Global, size: u64, key: &[u8; 32]) -> Result<String, AllocError>
     ensures { IfOk result (λ text. string_bytes text ≡ first_text size key.now) }
 {

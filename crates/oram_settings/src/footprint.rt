@@ -1,4 +1,4 @@
-//! What a disk takes at its host.
+//! How much room a disk takes at its host.
 
 ghost use Rattle.std.specs.Prelude.{◌≡◌};
 ghost use Rattle.oram_settings.specs.Footprint as spec;
@@ -7,7 +7,7 @@ use crate::disk_file::Sealing;
 use oram_bucket::{ChaChaSeal, PlainSeal, Sealer};
 use oram_geometry::Device;
 
-/// How many bytes longer a bucket is once it is sealed.
+/// Returns by how many bytes a bucket gets longer when it is sealed.
 fn overhead_of(sealing: Sealing) -> usize
     ensures { result ≡ spec.overhead_of sealing }
 {
@@ -18,7 +18,7 @@ fn overhead_of(sealing: Sealing) -> usize
     }
 }
 
-/// How many nodes the trees of a device have.
+/// Returns the number of nodes of all trees of a device.
 #[tactic(auto, unfolding(crate::specs::Footprint::nodes_below))]
 fn nodes_of(device: &Device) -> u64
     ensures { result ≡ spec.nodes_of device.now }
@@ -30,7 +30,8 @@ fn nodes_of(device: &Device) -> u64
     nodes
 }
 
-/// How many bytes the records of a device are, which its formatting sends to the host, and the host stores. A file of buckets is somewhat longer.
+/// Returns the number of bytes of a device's records, which its formatting sends to the host, and the host stores. A
+/// file of buckets is somewhat longer.
 pub fn stored_bytes(device: &Device, sealing: Sealing) -> u64
     ensures { result ≡ spec.stored_bytes device.now sealing }
 {

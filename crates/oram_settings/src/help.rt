@@ -1,4 +1,4 @@
-//! What the help of `oramdisk` says.
+//! The help texts of `oramdisk`.
 
 pub(crate) const VERSION: &str = "0.1.0";
 
@@ -89,7 +89,7 @@ is described in the disk.toml that 'oramdisk new' writes.
 Example:
   oramdisk retry mydisk/disk.toml";
 
-/// What a subcommand's words are.
+/// The descriptions of the words that subcommands take.
 pub(crate) const DISK_SETTINGS: &str = "The disk's settings file, such as mydisk/disk.toml";
 
 pub(crate) const HOST_SETTINGS: &str = "The host's settings file, such as host.toml";
@@ -100,6 +100,6 @@ pub(crate) const FOLDER: &str = "The folder to make";
 
 pub(crate) const SIZE: &str = "How much the disk holds, such as 512MiB or 1GiB";
 
-/// What is said of words that ask for nothing though clap takes them.
+/// The message for words that ask for nothing though clap accepts them.
 pub(crate) const NOTHING_ASKED: &str =
     "these words ask for nothing\n\nFor more information, try '--help'.";

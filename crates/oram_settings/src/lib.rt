@@ -1,9 +1,11 @@
-//! What the owner of a disk says of it, and what is shown of it.
+//! The settings that the owner of a disk gives, and what the program shows of the disk.
 //!
-//! [`read_disk_settings`] reads the settings file of a disk, [`disk_text`] writes a first one, [`disk_complaint`] tells what is wrong with one, and [`read_size`] reads a size as people
-//! write it. [`first_difference`] tells which of the settings isn't as the disk was formatted. [`status_of`] and [`report`] tell how a
-//! disk stands, [`progress_text`] and [`Meter`] how far a formatting is, and [`stored_bytes`] what a disk takes at its host. [`made_text`] and those
-//! beside it are said when all goes well. [`read_words`] reads the command line, and answers a request for help.
+//! [`read_disk_settings`] reads the settings file of a disk, [`disk_text`] writes a first one, [`disk_complaint`] says
+//! what is wrong with one, and [`read_size`] reads a size as people write it. [`first_difference`] finds a setting that
+//! isn't as the disk was formatted. [`status_of`] and [`report`] are for the status of a disk, [`progress_text`] and
+//! [`Meter`] for the progress of a formatting, and [`stored_bytes`] for the room that a disk takes at its host.
+//! [`made_text`] and the functions beside it return what the program says when all goes well. [`read_words`] reads the
+//! command line, and answers a request for help.
 #![tactic(auto)]
 
 mod amounts;

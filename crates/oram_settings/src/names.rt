@@ -1,4 +1,4 @@
-//! Names of files that stand beside others.
+//! Names of files that are relative to other files.
 
 ghost use Rattle.std.specs.Prelude.{◌≡◌, IfOk, string_bytes};
 ghost use Rattle.std.specs.Path.{path_with_file_name};
@@ -6,7 +6,8 @@ ghost use Rattle.std.specs.Path.{path_with_file_name};
 use std::alloc::{AllocError, Global};
 use std::path::Path;
 
-/// The name of a file that is named as in the folder of another. One that begins with a slash is named from the top.
+/// Returns the path of a file whose name is relative to the folder of another. A name that begins with a slash stays as
+/// it is.
 pub fn beside(alloc: Global, file: &str, name: &str) -> Result<String, AllocError>
     ensures { IfOk result (λ path. string_bytes path ≡ path_with_file_name file.now name.now) }
 {

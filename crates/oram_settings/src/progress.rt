@@ -1,11 +1,11 @@
-//! How far a formatting is.
+//! The progress of a formatting.
 
 ghost use Rattle.std.specs.Prelude.{◌≡◌, ◌≤◌, ◌↔◌, IsTrue, IfOk, string_bytes};
 ghost use Rattle.oram_settings.specs.Progress as spec;
 
 use std::alloc::{AllocError, Global};
 
-/// How many of a hundred are done; all, where there is nothing to do.
+/// Returns how much is done, in percent: 100, if there is nothing to do.
 pub fn percent(done: u64, of: u64) -> u64
     ensures { result ≡ spec.percent done of }
 {
@@ -15,7 +15,9 @@ pub fn percent(done: u64, of: u64) -> u64
     (u128::from(done) * 100 / u128::from(of)) as u64
 }
 
-/// In how many whole seconds the rest is done, if it goes on as it did for so many milliseconds.
+/// Returns in how many whole seconds the rest will be done, at the pace of the `milliseconds` so
+/// far.
+/// so far.
 fn seconds_left(done: u64, of: u64, milliseconds: u64) -> u64
     ensures { result ≡ spec.seconds_left done of milliseconds }
 {
@@ -24,10 +26,11 @@ fn seconds_left(done: u64, of: u64, milliseconds: u64) -> u64
     u64::try_from(left).unwrap_or(u64::MAX)
 }
 
-/// For so many milliseconds a formatting has to go on before it is told how long the rest takes.
+/// For how many milliseconds a formatting has to go on before its text says how long the rest
+/// takes.
 const SOONEST_ESTIMATE: u64 = 1_000;
 
-/// A text that tells how far a formatting is.
+/// Returns a text that says how far a formatting is.
 fn so_far(alloc: Global, done: u64, of: u64) -> Result<String, AllocError>
     ensures { IfOk result (λ text. string_bytes text ≡ spec.so_far done of) }
 {
@@ -35,7 +38,7 @@ fn so_far(alloc: Global, done: u64, of: u64) -> Result<String, AllocError>
     format!(in alloc; "formatting: {percent} % ({done} of {of} messages)")
 }
 
-/// A text that tells how far a formatting is, and how long the rest takes.
+/// Returns a text that says how far a formatting is, and how long the rest takes.
 fn with_time_left(
     alloc: Global,
     done: u64,
@@ -49,7 +52,8 @@ fn with_time_left(
     format!(in alloc; "formatting: {percent} % ({done} of {of} messages), {left} s left")
 }
 
-/// A text that tells how far a formatting is, and after its first second how long the rest takes.
+/// Returns a text that says how far a formatting is, and after its first second also how long the
+/// rest takes.
 pub fn progress_text(
     alloc: Global,
     done: u64,
@@ -65,27 +69,27 @@ pub fn progress_text(
     }
 }
 
-/// Tells when a text is due again: each time that so many of a hundred more are done.
+/// Says when a text is due again: each time that `step` more percent are done.
 #[derive(Clone, Copy, Debug, PartialEq, Eq)]
 pub struct Meter {
-    /// So many of a hundred.
+    /// The step, in percent.
     pub step: u64,
-    /// At how many of a hundred it is due next.
+    /// At how many percent a text is due next.
     pub next: u64,
 }
 
 impl Meter {
-    /// One that is due at once, and then after each step.
+    /// Returns a meter that is due at once, and then after each step.
     pub fn new(step: u64) -> Meter
         ensures { result ≡ record { step = step; next = 0 } }
     {
         Meter { step, next: 0 }
     }
 
-    /// A text is due, now that so many of a hundred are done.
+    /// Returns whether a text is due, now that `percent` percent are done.
     pub fn is_due(&mut self, percent: u64) -> bool
         ensures due { IsTrue result ↔ (self.old.next ≤ percent) }
-        // It is due next a step later; until it is due nothing changes.
+        // If it is due, it is due next a step later; if it isn't, nothing changes.
         ensures next { self.new ≡ spec.asked_at self.old percent }
     {
         if percent < self.next {

@@ -3,7 +3,7 @@
 ghost use Rattle.std.specs.Prelude.{ℕ, ◌≡◌, ◌≤◌, ◌<◌, ◌^◌, ◌↔◌, ◌≢◌, IsTrue, IfSome, None, decimal, slice_index};
 ghost use Rattle.oram_settings.specs.Sizes.{IsSize, IsSizeIn};
 
-/// The units of a size, each with its bytes. The last has no name.
+/// The units of a size, each with its number of bytes. The last has no name.
 const UNITS: [(&str, u64); 9] = [
     ("KiB", 1 << 10),
     ("MiB", 1 << 20),
@@ -16,14 +16,14 @@ const UNITS: [(&str, u64); 9] = [
     ("", 1),
 ];
 
-/// A digit other than 0 comes first.
+/// Returns whether a text begins with a digit other than 0.
 fn begins_number(text: &str) -> bool
     ensures { IsTrue result ↔ ((49 ≤ slice_index text.now 0) × (slice_index text.now 0 ≤ 57)) }
 {
     matches!(text.as_bytes(), [b'1'..=b'9', ..])
 }
 
-/// A number in decimal, which 0 doesn't begin.
+/// Reads a number from 1 on, in decimal without leading zeros.
 fn read_number(text: &str) -> Option<u64>
     ensures some { IfSome result (λ n. (0 < n) × (text.now ≡ decimal n)) }
     ensures none { result ≡ None → (n : ℕ) → 0 < n → n < 2 ^ 64 → text.now ≢ decimal n }
@@ -34,7 +34,7 @@ fn read_number(text: &str) -> Option<u64>
     text.parse().ok()
 }
 
-/// A size in a unit of this name.
+/// Reads a size in the unit with this name.
 fn read_in(text: &str, unit: &str, bytes: u64) -> Option<u64>
     requires { 0 < bytes }
     ensures some { IfSome result (λ size. IsSizeIn (unit.now, bytes) text.now size) }
@@ -44,7 +44,8 @@ fn read_in(text: &str, unit: &str, bytes: u64) -> Option<u64>
     read_number(digits)?.checked_mul(bytes)
 }
 
-/// Reads a size, as `1GiB`, `512MiB`, `100MB` or `4096`: a number of units, from 1 on. None where it is no size, or 2^64 bytes or more.
+/// Reads a size such as `1GiB`, `512MiB`, `100MB` or `4096`: a number of units, from 1 on. Returns `None` if the text
+/// isn't a size, or the size is 2^64 bytes or more.
 pub fn read_size(text: &str) -> Option<u64>
     ensures some { IfSome result (λ size. IsSize text.now size) }
     ensures none { result ≡ None → (size : ℕ) → size < 2 ^ 64 → IsSize text.now size → ⊥ }

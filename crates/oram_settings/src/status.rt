@@ -1,4 +1,4 @@
-//! How a disk stands.
+//! The status of a disk.
 
 ghost use Rattle.std.specs.Prelude.{◌≡◌, IfOk, string_bytes};
 ghost use Rattle.oram_settings.specs.Status as spec;
@@ -7,22 +7,22 @@ use oram_bucket::Sealer;
 use oram_core::{Core, Reason};
 use std::alloc::{AllocError, Global};
 
-/// How a disk stands, as its kept state tells.
+/// The status of a disk, by its kept state.
 #[derive(Clone, Copy, Debug, PartialEq, Eq)]
 pub struct Status {
     pub blocks: u64,
     pub block_bytes: u64,
-    /// How many trees its blocks and their places lie in.
+    /// The number of trees in which its blocks and its position maps lie.
     pub trees: u8,
-    /// How many accesses were made, of at most so many.
+    /// The number of accesses that were made, and the greatest number that may be made.
     pub accesses: u64,
     pub lifetime: u64,
-    /// How many commands have no reply yet.
+    /// The number of commands that have no reply yet.
     pub waiting: u64,
     pub failure: Option<Reason>,
 }
 
-/// How the disk of a core stands.
+/// Returns the status of the disk of a core.
 pub fn status_of<S: Sealer>(core: &Core<S>) -> Status
     ensures { result ≡ spec.stands_as core.now.device core.now.state }
 {
@@ -40,7 +40,7 @@ pub fn status_of<S: Sealer>(core: &Core<S>) -> Status
     }
 }
 
-/// What is told of a failure, or that there is none.
+/// Returns what is said of a failure, or that there is none.
 pub fn failure_text(alloc: Global, failure: Option<Reason>) -> Result<String, AllocError>
     ensures { IfOk result (λ text. string_bytes text ≡ spec.failing failure) }
 {
@@ -58,7 +58,7 @@ pub fn failure_text(alloc: Global, failure: Option<Reason>) -> Result<String, Al
     }
 }
 
-/// The lines that tell how a disk stands.
+/// Returns the lines that describe the status of a disk.
 pub fn report(alloc: Global, status: &Status) -> Result<String, AllocError>
     ensures { IfOk result (λ text. string_bytes text ≡ spec.report status.now) }
 {

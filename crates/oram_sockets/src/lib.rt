@@ -1,8 +1,8 @@
-//! Connections that keep nobody out: while a server waits for one of them, it watches the listener, and the clock.
+//! Connections that keep nobody out: while a server waits for one of them, it also watches the listener and the clock.
 //!
-//! A [`Listener`] accepts connections at an address or at a Unix socket. [`watch`] gives both directions of one, and an [`Attendant`]
-//! decides how long it waits and what is done when somebody else connects. Where a server answers messages, [`MarkedReader`] and
-//! [`MarkedWriter`] tell it whether it is within one.
+//! A [`Listener`] accepts connections at an address or at a Unix socket. [`watch`] returns both directions of a
+//! connection. An [`Attendant`] decides how long the server waits for it, and what happens when somebody else connects.
+//! If a server answers messages, [`MarkedReader`] and [`MarkedWriter`] tell it whether it is in the middle of one.
 #![tactic(auto)]
 
 mod listening;

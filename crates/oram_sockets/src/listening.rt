@@ -10,14 +10,14 @@ use std::os::unix::net::{UnixListener, UnixStream};
 use std::rt::Files;
 use std::{fmt, fs, io};
 
-/// The mode of a socket's file: nobody but its owner connects.
+/// The mode of a socket's file: only its owner can connect.
 const OWNERS_ALONE: u32 = 0o600;
 
 /// Who has connected.
 #[derive(Clone, Copy, Debug, PartialEq, Eq)]
 pub enum Peer {
     Address(SocketAddr),
-    /// A program of this machine, by a Unix socket. It has no address.
+    /// A program of this machine, over a Unix socket. It has no address.
     Local,
 }
 
@@ -30,7 +30,7 @@ impl fmt::Display for Peer {
     }
 }
 
-/// What connections are accepted from.
+/// A socket that accepts connections.
 #[derive(Drop)]
 pub enum Listener {
     Tcp(TcpListener),
@@ -45,7 +45,7 @@ pub enum Connection {
 }
 
 impl Listener {
-    /// Waits for a connection. It fails by `WouldBlock` where none waits and the listener doesn't block.
+    /// Waits for a connection, and accepts it. Fails with `WouldBlock` if none waits and the listener doesn't block.
     pub fn accept(&self) -> io::Result<(Connection, Peer)> {
         match self {
             Listener::Tcp(listener) => {
@@ -115,7 +115,7 @@ impl Write for Connection {
 }
 
 impl OpenStream for Connection {
-    // A Unix socket holds nothing back.
+    // A Unix socket holds nothing back anyway.
     fn set_nodelay(&self, nodelay: bool) -> io::Result<()> {
         match self {
             Connection::Tcp(stream) => stream.set_nodelay(nodelay),
@@ -138,8 +138,8 @@ impl OpenStream for Connection {
     }
 }
 
-/// Takes away the file of a socket at which nobody listens any more, as one that was killed leaves it. A socket at which somebody listens
-/// stays (`AddrInUse`), and so does what is no socket (`AlreadyExists`).
+/// Removes the file of a socket at which nobody listens any more, such as one that a killed process has left. It leaves
+/// a socket at which somebody listens (`AddrInUse`), and a file that isn't a socket (`AlreadyExists`).
 fn clear<R: Files + Net>(rt: &R, path: &str) -> io::Result<()> {
     let found = match fs::symlink_metadata(rt, path) {
         Ok(found) => found,
@@ -156,7 +156,8 @@ fn clear<R: Files + Net>(rt: &R, path: &str) -> io::Result<()> {
     }
 }
 
-/// Listens at a Unix socket of this name, to which its owner alone can connect. One that nobody listens at any more is replaced.
+/// Listens at the Unix socket `path`, to which only its owner can connect. Replaces a socket at which nobody listens
+/// any more.
 pub fn listen_at_path<R: Files + Net>(rt: &R, path: &str) -> io::Result<Listener> {
     clear(rt, path)?;
     let listener = UnixListener::bind(rt, path)?;

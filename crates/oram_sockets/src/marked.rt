@@ -1,19 +1,19 @@
-//! Whether a connection is within a message: something of it was read, and its answer isn't flushed yet.
+//! Marks whether a connection is in the middle of a message: some of it was read, and its answer isn't flushed yet.
 
 use std::io;
 use std::io::{Read, Write};
 
-/// Hears where the messages of a connection begin and where their answers end.
+/// Is notified when a message of a connection begins, and when its answer is sent.
 pub trait Marks {
-    /// Bytes of a message were read.
+    /// Is called when bytes of a message were read.
     fn within_message(&self);
 
-    /// The answer to a message was flushed.
+    /// Is called when the answer to a message was flushed.
     fn answered(&self);
 }
 
-/// Reads messages, and marks that one has begun. What it reads from is buffered below it, so it is asked for no byte of the next message
-/// before the answer to the last one is flushed.
+/// Reads messages, and marks that one has begun. It has no buffer itself, but reads from one, so nobody asks it for a
+/// byte of the next message before the answer to the last one is flushed.
 #[derive(Drop)]
 pub struct MarkedReader<'a, R, M> {
     reader: R,
@@ -38,7 +38,7 @@ impl<'a, R: Read, M: Marks> Read for MarkedReader<'a, R, M> {
     }
 }
 
-/// Writes answers, and marks where each of them is flushed.
+/// Writes answers, and marks when each of them is flushed.
 #[derive(Drop)]
 pub struct MarkedWriter<'a, W, M> {
     writer: W,

@@ -1,7 +1,7 @@
 //! A connection that is served while its listener is watched.
 //!
-//! One thread serves everybody. So that a connection on which nothing comes keeps nobody else out, its socket doesn't block: where
-//! there is nothing to read, or no room to write, the thread waits for the connection and for the listener at once.
+//! One thread serves everybody. So that a silent connection keeps nobody else out, its socket doesn't block: if there
+//! is nothing to read, or no room to write, the thread waits for the connection and for the listener at once.
 
 use mio::unix::SourceFd;
 use mio::{Events, Interest, Poll, Token};
@@ -24,15 +24,16 @@ pub enum Direction {
     Writing,
 }
 
-/// What is done beside a connection while the other side lets it wait.
+/// Decides what happens while the other side of a connection lets the server wait.
 pub trait Attendant {
-    /// How long the other side may let this server wait now; none for as long as it likes.
+    /// Returns how long the other side may let this server wait now, or `None` if there is no limit.
     fn limit(&self, direction: Direction) -> io::Result<Option<Duration>>;
 
-    /// The other side let this server wait for longer than that. Gives the error that the connection ends with.
+    /// Is called when the other side has let this server wait for longer than that. Returns the error with which the
+    /// connection ends.
     fn waited_out(&self) -> Error;
 
-    /// Somebody else has connected to the listener. An error ends the connection.
+    /// Is called when somebody else has connected to the listener. An error ends the connection.
     fn others_wait(&self) -> io::Result<()>;
 }
 
@@ -44,7 +45,7 @@ pub struct Watched<'a, R, S, A> {
     direction: Direction,
     poll: Poll,
     events: Events,
-    /// Somebody waits at the listener, and the attendant hasn't heard of it.
+    /// Somebody waits at the listener, and the attendant hasn't been told yet.
     others_wait: bool,
     attendant: &'a A,
 }
@@ -79,7 +80,7 @@ impl<'a, R: Net + Clock, S: AsRawFd + Drop, A: Attendant> Watched<'a, R, S, A> {
         })
     }
 
-    /// How long is left until this time.
+    /// Returns how long is left until a time. If it has passed, fails with the attendant's error.
     fn left(&self, until: Option<Instant>) -> io::Result<Option<Duration>> {
         let Some(until) = until else {
             return Ok(None);
@@ -91,14 +92,14 @@ impl<'a, R: Net + Clock, S: AsRawFd + Drop, A: Attendant> Watched<'a, R, S, A> {
         Ok(Some(left))
     }
 
-    /// An event of this source has come.
+    /// Returns whether an event of this source has come.
     fn has_come(&self, source: Token) -> bool {
         self.events.iter().any(|event| event.token() == source)
     }
 
-    /// Waits for an event until this time, and tells whether the connection can go on.
+    /// Waits for an event until a time, and returns whether the connection can go on.
     ///
-    /// The connection comes first: where it has ended, or brings a message, nobody needs to hear of those who wait.
+    /// The connection comes first: if it has ended, or brings a message, nobody needs to be told of those who wait.
     fn wait_until(&mut self, until: Option<Instant>) -> io::Result<bool> {
         let left = if self.others_wait {
             Some(Duration::from_secs(0))
@@ -160,13 +161,13 @@ impl<'a, R: Net + Clock, S: Write + AsRawFd + Drop, A: Attendant> Write for Watc
     }
 }
 
-/// What reads from a connection and what writes to it, each by way of a buffer.
+/// The buffered reader and the buffered writer of a connection.
 pub type Halves<'a, R, S, A> = (
     BufReader<Watched<'a, R, S, A>>,
     BufWriter<Watched<'a, R, S, A>>,
 );
 
-/// Both directions of a connection that came from this listener.
+/// Returns both directions of a connection that came from this listener.
 pub fn watch<'a, R: Net + Clock, S: Read + Write + OpenStream + AsRawFd + Drop, A: Attendant>(
     rt: &'a R,
     alloc: Global,

@@ -6,7 +6,7 @@ use Rattle.std.proofs.lemmas.Bool.{lt-ltb, ltb-true}
 use Rattle.oram_bucket.specs.declared.block.Block.{Block}
 use Rattle.oram_bucket.specs.Cell.{IsRising}
 
--- an address is below the one that comes m places behind the next
+-- an address is less than the one m places after the next
 below_after : (blocks : List Block) (i m : ℕ) (d : Block) → AllAdjacentBelow (λ b c. b.address < c.address) blocks (length blocks)
     → i + suc m < length blocks → (get_or blocks i d).address < (get_or blocks (i + suc m) d).address
 below_after blocks i zero d next within = next i d within
@@ -22,7 +22,7 @@ rising_from_next blocks next i j d lt within =
     let same : j ≡ i + suc m = omega arith in
     rw same (below_after blocks i m d next (omega arith))
 
--- what the test of each address and the next answers
+-- the answer of the test of each address and the next
 pub rising_if_adjacent : (blocks : List Block) (answer : Bool)
     → IsAllAdjacentAnswer (λ (b c : Block) (less : Bool). less ≡ ltb b.address c.address) blocks answer
     → IsTrue answer ↔ IsRising blocks

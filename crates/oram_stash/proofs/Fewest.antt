@@ -1,4 +1,4 @@
--- No other placement leaves fewer blocks over than a greedy one.
+-- No other placement leaves fewer blocks in the rest than a greedy one.
 use Rattle.std.proofs.Common.{◌≡◌, ℕ, zero, suc, ◌+◌, ◌-◌, ◌*◌, ◌/◌, ◌^◌, ◌<◌, ◌≤◌, Bool, true, false, cond, not, eqb, List, [], ◌∷◌, ◌++◌, length, get_or, take, drop, ◌⊎◌, refl, sym, ap, subst, ◌∙◌, inl, inr, arith}
 use mathlib.Core.Bool.{false≢true}
 use Rattle.std.specs.List.{count_by, sum_by, All, Contains}
@@ -13,7 +13,7 @@ use Rattle.oram_geometry.specs.Path.{MeetsAt}
 use Rattle.oram_geometry.proofs.Meet.{MeetsAt-nearer}
 use Rattle.oram_stash.specs.Eviction.{listed, all_listed, IsPlacement, IsNearer, IsGreedy, IsEviction, LeavesFewest}
 
--- a test that all elements pass counts them all, and one that none passes counts none
+-- a test that all elements pass counts them all; a test that none passes counts none
 pub count_all : {X : Type 0} (p : X → Bool) (xs : List X) → All (λ x. p x ≡ true) xs → count_by p xs ≡ length xs
 count_all p [] all = refl
 count_all p (x ∷ xs) all =
@@ -51,16 +51,16 @@ length-all_listed-le slots (list ∷ lists) within =
     let ih = length-all_listed-le slots lists (All-tail (λ (l : List Block). length l ≤ slots) list lists within) in
     rw length-append (let e : suc (length lists) * slots ≡ slots + length lists * slots = grind arith in omega arith)
 
--- what holds of each listed block holds of all listed ones
+-- a property of each list's blocks is one of all listed blocks
 pub All-all_listed : (P : Block → Type 0) (lists : List (List Block)) → All (All P) lists → All P (all_listed lists)
 All-all_listed P [] each = All-nil P
 All-all_listed P (list ∷ lists) each = All-append P list (all_listed lists) (each 0 list (omega arith)) (All-all_listed P lists (All-tail (All P) list lists each))
 
--- a listed block stands in a list
+-- a listed block is in some list
 pub list_of_listed : (lists : List (List Block)) (b : Block) → Contains (all_listed lists) b → (l : ℕ) × (l < length lists) × Contains (listed lists l) b
 list_of_listed lists b inside = All-contains (λ c. (l : ℕ) × (l < length lists) × Contains (listed lists l) c) (all_listed lists) b (All-all_listed (λ c. (l : ℕ) × (l < length lists) × Contains (listed lists l) c) lists (λ l d lt j c within. (l, lt, rw (get_or_default lists l [] d lt) (Contains-get_or (get_or lists l d) j c within)))) inside
 
--- the levels above a cut are full, and no block there or in the rest has a path that meets at the cut or further down
+-- the levels above the cut are full, and no block there or in the rest has a path that meets at the cut or below it
 pub record IsCut (deep slots x : ℕ) (lists : List (List Block)) (rest : List Block) (cut : ℕ) : Type 0 where
   pub in_tree : cut ≤ deep + 1
   pub full : (l : ℕ) → l < cut → length (listed lists l) ≡ slots
@@ -84,7 +84,7 @@ module _ (deep slots x : ℕ) (lists : List (List Block)) (rest : List Block) (g
     | inr left ↦ inl left
   ]
 
-  -- from a level on whose upper levels are full, a cut is found
+  -- from a level above which all levels are full, a cut can be found
   cut_from : (fuel cut : ℕ) → cut + fuel ≡ deep + 1 → ((l : ℕ) → l < cut → length (listed lists l) ≡ slots) → (c : ℕ) × IsCut deep slots x lists rest c
   cut_from zero cut end full = (cut, record { in_tree = omega arith; full = full; above = λ k le in_tree. absurd (omega arith) })
   cut_from (suc fuel) cut end full = elim (some_or_none (meets_test deep x cut) (all_listed (take cut lists) ++ rest)) [
@@ -112,7 +112,7 @@ count_split q lists rest cut =
     sum_by-append f (all_listed lists) rest ∙ ap (λ n. n + sum_by f rest) (ap (sum_by f) parts ∙ sum_by-append f (all_listed (take cut lists)) (all_listed (drop cut lists)))
 
 module _ (deep slots x cut : ℕ) (blocks : List Block) (lists other_lists : List (List Block)) (rest other : List Block) (in_tree : cut ≤ deep + 1) (here : IsPlacement deep slots x blocks lists rest) (full : (l : ℕ) → l < cut → length (listed lists l) ≡ slots) (there : IsPlacement deep slots x blocks other_lists other) where
-  -- by a test that holds of all blocks above the cut and of the rest, and that no block passes where another placement has it below the cut
+  -- by a test that all blocks above the cut and of the rest pass, and none that the other placement has below the cut
   fewest_by : (q : Block → Bool) → All (λ b. q b ≡ true) (all_listed (take cut lists) ++ rest) → All (λ b. q b ≡ false) (all_listed (drop cut other_lists)) → length rest ≤ length other
   fewest_by q passing failing =
       let count_here : count_by q (all_listed lists ++ rest) ≡ count_by q blocks = sum_by-IsPermutation (λ (b : Block). cond (q b) 1 0) blocks (all_listed lists ++ rest) here.each_once in
@@ -131,7 +131,7 @@ module _ (deep slots x cut : ℕ) (blocks : List Block) (lists other_lists : Lis
       let rest_at_most = count_by-le-length q other in
       omega arith
 
--- a cut shows that no other placement leaves fewer blocks over
+-- a cut shows that no other placement leaves fewer blocks in the rest
 pub fewest_from_cut : (deep slots x : ℕ) (blocks : List Block) (lists : List (List Block)) (rest : List Block) (cut : ℕ) → IsPlacement deep slots x blocks lists rest → IsCut deep slots x lists rest cut → LeavesFewest deep slots x blocks rest
 fewest_from_cut deep slots x blocks lists rest cut here is_cut other_lists other there = elim (cases_lt deep cut) as (λ _. length rest ≤ length other) [
   | inl all ↦ fewest_by deep slots x cut blocks lists other_lists rest other is_cut.in_tree here is_cut.full there (λ _. true) (λ k d lt. refl) (All-same (λ b. true ≡ false) _ [] (ap all_listed (drop_all cut other_lists (omega (arith, there.levels)))) (All-nil (λ b. true ≡ false)))
@@ -147,7 +147,7 @@ fewest_from_cut deep slots x blocks lists rest cut here is_cut other_lists other
       rw (eq-eqb _ _ at_cut) refl))
 ]
 
--- an eviction leaves the fewest
+-- an eviction leaves the fewest blocks in the rest
 pub fewest : (deep slots x : ℕ) (blocks : List Block) (lists : List (List Block)) (rest : List Block) → IsEviction deep slots x blocks lists rest → LeavesFewest deep slots x blocks rest
 fewest deep slots x blocks lists rest eviction =
     let cut = some_cut deep slots x lists rest eviction.greedy in

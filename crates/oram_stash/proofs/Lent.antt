@@ -1,4 +1,4 @@
--- A plan that is carried out on what lends blocks.
+-- Carrying out a plan on references to blocks.
 use Rattle.std.proofs.Common.{◌≡◌, ℕ, zero, suc, ◌+◌, List, [], ◌∷◌, ◌++◌, length, map, Option, Bool, true, false, cond, Vec, Global, refl, sym, ap, subst, ◌∙◌}
 use Rattle.std.specs.List.Sorted.{IsPermutation}
 use Rattle.std.proofs.lemmas.List.{map-append, length-map}
@@ -11,7 +11,7 @@ use Rattle.oram_stash.specs.Eviction.{listed, all_listed, IsEviction}
 use Rattle.oram_stash.proofs.Moving.{items_of}
 use Rattle.oram_stash.proofs.Outcome.{carried_out}
 
--- the blocks that are lent in vectors
+-- the borrowed blocks in vectors
 abbrev pub lent_in : {X : Type 0} → (X → Block) → List (Vec X Global) → List (List Block)
 lent_in {X} f vs = map (λ (v : Vec X Global). map f v.items) vs
 

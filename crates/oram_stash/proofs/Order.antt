@@ -12,7 +12,7 @@ use Rattle.oram_bucket.specs.declared.block.Block.{Block}
 use Rattle.oram_bucket.specs.Cell.{IsRising}
 use Rattle.oram_stash.specs.Blocks.{block_at, IsAt, IsGapFor}
 
--- the comparisons with an address rise along the list, as a binary search asks
+-- the comparisons with an address rise along the list, as a binary search requires
 comparisons_rise : (l : List Block) → IsRising l → (a : ℕ) → IsNonDecreasingBy (λ b. ordering_index (nat_cmp b.address a)) l
 comparisons_rise l rising a i j d le in_range =
     let rise : (get_or l i d).address ≤ (get_or l j d).address = grind (arith, rising i j d, λ (same : i ≡ j). ap (λ k. (get_or l k d).address) same) in
@@ -64,15 +64,15 @@ IsRising-insert l b at gap rising i j d lt in_range =
     let above : (i : ℕ) → at < i → (get_or new i d).address ≡ (get_or l (i - 1) d).address = λ i h. subst (λ q. (get_or new q d).address ≡ (get_or l (i - 1) d).address) {x = i - 1 + 1} (omega arith) (ap (λ c. c.address) (get_or-insert_above l at b d (i - 1) (omega arith) gap.in_range)) in
     grind (arith, below i, here i, above i, below j, here j, above j, rising i j d, rising i (j - 1) d, rising (i - 1) (j - 1) d, gap.lesser_before i d, gap.greater_after (j - 1) d)
 
--- a removed block is the one that is found: items are the stash's, as its fields show them
+-- the removed block is the one that is found; the items are the stash's, as its fields show them
 pub block_at-removed : (items l : List Block) (a i : ℕ) (x : Block) → items ≡ l → IsRising l → IsAt l a i → x ≡ get_or items i x → Some x ≡ block_at l a
 block_at-removed items l a i x same rising at read = sym (block_at-found l rising a i x at ∙ ap Some (sym (read ∙ ap (λ m. get_or m i x) same)))
 
--- and what stays is the rest
+-- and the other blocks stay
 pub IsPermutation-removed : (items l : List Block) (a i : ℕ) (x : Block) → items ≡ l → IsAt l a i → x ≡ get_or items i x → IsPermutation l (x ∷ remove items i)
 IsPermutation-removed items l a i x same at read = rw same (IsPermutation-remove l i x at.in_range (read ∙ ap (λ m. get_or m i x) same))
 
--- an absorbed block is there beside the others
+-- an absorbed block is in the stash together with the others
 pub IsPermutation-absorbed : (items l : List Block) (i : ℕ) (x : Block) → items ≡ l → IsPermutation (x ∷ l) (insert items i x)
 IsPermutation-absorbed items l i x same = rw same (IsPermutation-insert l i x)
 

@@ -1,4 +1,4 @@
--- A plan that is carried out is the outcome of an eviction.
+-- Carrying out a plan gives the outcome of an eviction.
 use Rattle.std.proofs.Common.{◌≡◌, ℕ, ◌+◌, ◌<◌, ◌≤◌, true, List, ◌++◌, length, map, get_or, None, Some, Option, true, refl, ap, subst, ◌∙◌, inl, inr, arith}
 use mathlib.Core.Bool.{false≢true}
 use Rattle.std.specs.Option.{IfSome}
@@ -22,7 +22,7 @@ none_from_stays None is = refl
 none_from_stays (Some k) is = absurd (false≢true is)
 
 module _ (deep slots x : ℕ) (blocks : List Block) (levels : List (Option ℕ)) (lists : List (List Block)) (rest : List Block) (rising : IsRising blocks) (plan : IsPlan (Reaches deep x (leaves_of blocks)) (length blocks) deep slots 0 levels) (to_list : (l : ℕ) → listed lists l ≡ picked (is_level l) levels blocks) (to_rest : rest ≡ picked stays levels blocks) where
-  -- where a listed block stands, and where one of the rest
+  -- the index of a listed block, and of a block of the rest
   listed_at : (l : ℕ) (b : Block) → Contains (listed lists l) b → (j : ℕ) × (j < length blocks) × (get_or blocks j b ≡ b) × (level_at levels j ≡ Some l)
   listed_at l b inside =
       let at = StandsAt-picked (is_level l) levels blocks b (subst (λ list. Contains list b) (to_list l) inside) in
@@ -33,7 +33,7 @@ module _ (deep slots x : ℕ) (blocks : List Block) (levels : List (Option ℕ))
       let at = StandsAt-picked stays levels blocks b (subst (λ list. Contains list b) to_rest inside) in
       (at.0, at.1, at.2, none_from_stays _ at.3)
 
-  -- a block that is nearer the root than l stands at a place whose level is
+  -- a block nearer the root than l has an index whose level is nearer the root
   above_at : (l : ℕ) (b : Block) → IsNearer lists rest l b → (j : ℕ) × (j < length blocks) × (get_or blocks j b ≡ b) × IsAbove (level_at levels j) l
   above_at l b (inl inside) = let at = left_at b inside in (at.0, at.1, at.2, rw at.3 tt)
   above_at l b (inr nearer) = let at = listed_at nearer.0 b nearer.2 in (at.0, at.1, at.2, rw at.3 nearer.1)
@@ -64,7 +64,7 @@ module _ (deep slots x : ℕ) (blocks : List Block) (levels : List (Option ℕ))
     rising = rw to_rest (AllPairs-picked (λ (b c : Block). b.address < c.address) stays levels blocks rising);
   }
 
--- the levels of a plan have lists
+-- each level of a plan has a list
 pub in_lists_from_plan : (levels : List (Option ℕ)) (deep n : ℕ) → ((j l : ℕ) → level_at levels j ≡ Some l → l ≤ deep) → n ≡ deep + 1 → All (λ q. IfSome q (λ l. l < n)) levels
 in_lists_from_plan levels deep n in_tree long k d lt = rw (get_or_default levels k d None lt) (go (level_at levels k) (in_tree k))
   where
@@ -72,7 +72,7 @@ in_lists_from_plan levels deep n in_tree long k d lt = rw (get_or_default levels
     go None bound = tt
     go (Some l) bound = let h = bound l refl in omega arith
 
--- the same of blocks and levels that are read in several places
+-- the same for blocks and levels that are given in several forms
 pub carried_out : (deep slots x : ℕ) (blocks : List Block) (seen : List ℕ) (moved : List Block) (levels read : List (Option ℕ)) (lists : List (List Block)) (rest : List Block) → seen ≡ leaves_of blocks → moved ≡ blocks → read ≡ levels → IsRising blocks → IsPlan (Reaches deep x seen) (length seen) deep slots 0 levels → ((l : ℕ) → listed lists l ≡ picked (is_level l) read moved) → rest ≡ picked stays read moved → length lists ≡ deep + 1 → IsPermutation moved (all_listed lists ++ rest) → IsEviction deep slots x blocks lists rest
 carried_out deep slots x blocks seen moved levels read lists rest same_seen same_moved same_read rising plan to_list to_rest long together =
     let P : List ℕ → Type 0 = λ l. IsPlan (Reaches deep x l) (length l) deep slots 0 levels in

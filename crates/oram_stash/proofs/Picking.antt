@@ -1,4 +1,4 @@
--- The blocks of a level, picked out of a list.
+-- The elements of a level, picked out of a list.
 use Rattle.std.proofs.Common.{◌≡◌, ℕ, zero, suc, ◌+◌, ◌<◌, Bool, true, false, cond, eqb, List, [], ◌∷◌, ◌++◌, length, get_or, set, take, Some, None, Option, refl, sym, ◌∙◌, inl, inr, arith, append_assoc}
 use Rattle.std.specs.List.{count_by, All, AllPairs, Contains}
 use Rattle.std.specs.List.Sorted.{IsPermutation}
@@ -24,7 +24,7 @@ picked_more p (q ∷ qs) (x ∷ xs) (suc k) d lq lx =
     let ih = picked_more p qs xs k d (omega arith) (omega arith) in
     rw (e, ih) (cond_append (p q) x _ _)
 
--- as many as the levels that pass
+-- as many elements as there are levels that pass
 pub length-picked : {X : Type 0} (p : Option ℕ → Bool) (qs : List (Option ℕ)) (xs : List X) → length qs ≡ length xs → length (picked p qs xs) ≡ count_by p qs
 length-picked p [] xs same = refl
 length-picked p (q ∷ qs) [] same = absurd (omega arith)
@@ -55,7 +55,7 @@ AllPairs-picked R p (q ∷ qs) (x ∷ xs) pairs =
     (All-picked (R x) p qs xs (λ j d lt passes. pairs 0 (suc j) d (omega arith) (omega arith)))
     (AllPairs-picked R p qs xs (λ i j d lt within. pairs (suc i) (suc j) d (omega arith) (omega arith)))
 
--- the element stands at a place whose level passes
+-- the element's index has a level that passes
 abbrev pub StandsAt : {X : Type 0} → (Option ℕ → Bool) → List (Option ℕ) → List X → X → Type 0
 StandsAt p qs xs x = (j : ℕ) × (j < length xs) × (get_or xs j x ≡ x) × (p (level_at qs j) ≡ true)
 
@@ -63,7 +63,7 @@ StandsAt p qs xs x = (j : ℕ) × (j < length xs) × (get_or xs j x ≡ x) × (p
 pub StandsAt-picked : {X : Type 0} (p : Option ℕ → Bool) (qs : List (Option ℕ)) (xs : List X) (x : X) → Contains (picked p qs xs) x → StandsAt p qs xs x
 StandsAt-picked p qs xs x inside = All-contains (StandsAt p qs xs) (picked p qs xs) x (All-picked (StandsAt p qs xs) p qs xs (λ j d lt passes. (j, lt, get_or_default xs j _ d lt, passes))) inside
 
--- a block added to a list is beside the blocks of all lists
+-- adding a block to one list adds it to the blocks of all lists
 pub joined-set : {X : Type 0} (lists : List (List X)) (l : ℕ) (x : X) → l < length lists → IsPermutation (x ∷ joined lists) (joined (set lists l (list_at lists l ++ x ∷ [])))
 joined-set [] l x lt = absurd (omega arith)
 joined-set (ys ∷ lists) zero x lt = rw (append_assoc ys (x ∷ []) (joined lists)) (IsPermutation-sym _ _ (IsPermutation-middle ys x (joined lists)))

@@ -27,7 +27,7 @@ Contains-later x xs y inside = Contains-append_right (x ∷ []) xs y inside
 pub IsRising-tail : (x : Block) (xs : List Block) → IsRising (x ∷ xs) → IsRising xs
 IsRising-tail x xs rising i j d lt within = rising (suc i) (suc j) d (omega arith) (omega arith)
 
--- the first address is below those that follow
+-- the first address is less than those that follow
 pub below_later : (x : Block) (xs : List Block) (y : Block) → IsRising (x ∷ xs) → Contains xs y → x.address < y.address
 below_later x xs y rising (k, lt, is) = subst (λ (b : Block). x.address < b.address) is (rising 0 (suc k) y (omega arith) (omega arith))
 
@@ -52,7 +52,7 @@ length-le (x ∷ xs) (y ∷ ys) rx ry part = elim (Contains-cases y ys x (part x
       ]) in omega arith
 ]
 
--- rising lists that contain the same are the same
+-- rising lists with the same elements are equal
 pub same_rising : (xs ys : List Block) → IsRising xs → IsRising ys → ((b : Block) → Contains xs b → Contains ys b) → ((b : Block) → Contains ys b → Contains xs b) → xs ≡ ys
 same_rising [] [] rx ry there back = refl
 same_rising [] (y ∷ ys) rx ry there back = absurd (let h = (back y (Contains-first y ys)).1 in omega arith)
@@ -83,11 +83,11 @@ eqb_flip a b = elim (cases_eq a b) [
   | inr differ ↦ ne_eqb a b differ ∙ sym (ne_eqb b a (λ e. differ (sym e)))
 ]
 
--- no two blocks at different places have one address
+-- no two blocks at different indices have the same address
 abbrev pub AreApart : List Block → Type 0
 AreApart = AllPairs (λ b c. b.address ≢ c.address)
 
--- nor after a permutation
+-- nor do they after a permutation
 pub AreApart-moved : (xs ys : List Block) → AreApart xs → IsPermutation xs ys → AreApart ys
 AreApart-moved xs ys apart moved i j d lt within same =
     let address : Block → ℕ = λ (b : Block). b.address in
@@ -99,7 +99,7 @@ AreApart-moved xs ys apart moved i j d lt within same =
     let equal = eq-eqb _ _ (get_or-map address ys i d 0 (omega arith) ∙ same ∙ sym (get_or-map address ys j d 0 within)) in
     false≢true (sym differ ∙ equal)
 
--- so after a permutation of a rising list
+-- the same after a permutation of a rising list
 pub AreApart-permuted : (xs ys : List Block) → IsRising xs → IsPermutation xs ys → AreApart ys
 AreApart-permuted xs ys rising moved = AreApart-moved xs ys (λ i j d lt within same. let r = rising i j d lt within in omega arith) moved
 

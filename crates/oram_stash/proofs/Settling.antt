@@ -1,4 +1,4 @@
--- Blocks of two lists, sorted by address, and those of them that stay.
+-- The blocks of two lists, sorted by address, and those of them that stay.
 use Rattle.std.proofs.Common.{◌≡◌, ◌≢◌, ◌⊎◌, ◌↔◌, ℕ, suc, ◌+◌, ◌-◌, ◌<◌, ◌≤◌, eqb, not, Bool, true, false, cond, is_ok, MatchResult, Result, Ok, Err, List, [], ◌∷◌, ◌++◌, length, get_or, map, inl, inr, refl, sym, ap, subst, ◌∙◌, arith}
 use mathlib.Core.Bool.{false≢true}
 use Rattle.std.specs.List.{AllPairs, Contains, filter, list_any}
@@ -55,7 +55,7 @@ sorted_blocks_rise xs ys moved apart sorted i j d lt within =
     let differ = AreApart-moved xs ys apart moved i j d lt within in
     omega arith
 
--- what a filter keeps
+-- the elements that a filter keeps
 pub Contains-filter : (p : Block → Bool) (xs : List Block) (c : Block) → Contains (filter p xs) c ↔ (Contains xs c × (p c ≡ true))
 Contains-filter p xs c = (
   λ inside. (All-contains (Contains xs) (filter p xs) c (All-filter p (Contains xs) xs (All-contains_itself xs)) inside, All-contains (λ x. p x ≡ true) (filter p xs) c (filter_passes p xs) inside),
@@ -127,7 +127,7 @@ among ns a r rising result =
       | inr above ↦ (let h = gap.2 k above lt in omega (arith, get_or_default ns k d 0 lt))
     ])))
 
--- of two lists those that stay
+-- of two lists, the blocks that stay
 pub settled : (own other kept after : List Block) (stays : List ℕ) → kept ≡ filter (λ b. list_any (λ s. eqb s b.address) stays) (own ++ other) → IsPermutation kept after → (c : Block) → Contains after c ↔ ((Contains own c ⊎ Contains other c) × Contains stays c.address)
 settled own other kept after stays is moved c =
     let p : Block → Bool = λ (b : Block). list_any (λ s. eqb s b.address) stays in

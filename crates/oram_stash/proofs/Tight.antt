@@ -8,23 +8,23 @@ use Rattle.oram_geometry.specs.Path.{MeetsAt}
 use Rattle.oram_geometry.proofs.Meet.{MeetsAt-nearer}
 use Rattle.oram_stash.specs.Eviction.{listed, all_listed, IsNearer, IsGreedy, IsTight}
 
--- the levels down to c are full, and no block of the rest or listed above level i has a path that meets below c
+-- down to level c the lists are full, and no block of the rest or listed above level i has a path that meets below c
 pub record TightTo (deep slots x : ℕ) (lists : List (List Block)) (rest : List Block) (i c : ℕ) : Type 0 where
   pub in_tree : c ≤ deep
   pub near : i ≤ c + 1
   pub full : (l : ℕ) → l ≤ c → length (listed lists l) ≡ slots
   pub apart : (b : Block) (k : ℕ) → IsNearer lists rest i b → c < k → k ≤ deep → MeetsAt deep x b.leaf k → ⊥
 
--- no block of the list has a path that meets below c
+-- no block of this list has a path that meets below c
 abbrev pub EndsAt : ℕ → ℕ → ℕ → List Block → Type 0
 EndsAt deep x c blocks = All (λ b. (k : ℕ) → c < k → k ≤ deep → MeetsAt deep x b.leaf k → ⊥) blocks
 
--- one of its blocks has a path that meets at c
+-- one of the list's blocks has a path that meets at c
 abbrev pub ReachesTo : ℕ → ℕ → ℕ → List Block → Type 0
 ReachesTo deep x c blocks = Any (λ b. MeetsAt deep x b.leaf c) blocks
 
 module _ (deep slots x : ℕ) (lists : List (List Block)) (rest : List Block) (greedy : IsGreedy deep slots x lists rest) where
-  -- levels to which a block may still go are full
+  -- a level that a block could still go to is full
   full_to : (c : ℕ) (b : Block) → c ≤ deep → MeetsAt deep x b.leaf c → (l : ℕ) → l ≤ c → IsNearer lists rest l b → length (listed lists l) ≡ slots
   full_to c b within meets l le nearer = greedy.full l b (omega arith) (MeetsAt-nearer deep x b.leaf l c le within meets) nearer
 
@@ -61,7 +61,7 @@ module _ (deep slots x : ℕ) (lists : List (List Block)) (rest : List Block) (g
     ];
   }
 
-  -- past the level itself, it is tight
+  -- once i is past the level c itself, c is tight
   pub IsTight-past : (i c : ℕ) → TightTo deep slots x lists rest i c → c < i → IsTight deep slots x lists rest c
   IsTight-past i c tight past = record { in_tree = tight.in_tree; full = tight.full; apart = λ b k nearer. tight.apart b k (let e : c + 1 ≡ i = omega (arith, tight.near) in subst (λ n. IsNearer lists rest n b) e nearer) }
 
@@ -85,7 +85,7 @@ All-of_rest P lists rest all = All-part P _ _ (λ b inside. Contains-append_righ
 pub at_read_of : (P : Block → Type 0) (read xs : List Block) (i : ℕ) (b : Block) → read ≡ xs → All P xs → b ≡ get_or read i b → i < length read → P b
 at_read_of P read xs i b same all is lt = let h : P (get_or read i b) = (subst (All P) (sym same) all) i b lt in subst P (sym is) h
 
--- the deepest level of the rest, of which one block is known to reach a level
+-- the deepest level that the rest reaches, given one block that reaches a level
 pub ReachesTo-either : (deep x level deepest : ℕ) (read rest : List Block) (b : Block) → read ≡ rest → b ≡ get_or read 0 b → 0 < length read → MeetsAt deep x b.leaf level → (deepest ≡ level) ⊎ ReachesTo deep x deepest rest → ReachesTo deep x deepest rest
 ReachesTo-either deep x level deepest read rest b same is some meets (inl e) =
     (0, b, (let n : length read ≡ length rest = ap length same in omega arith), sym (is ∙ ap (λ (l : List Block). get_or l 0 b) same), subst (MeetsAt deep x b.leaf) (sym e) meets)

@@ -1,4 +1,4 @@
--- Two outcomes of an eviction of the same blocks are one.
+-- Two outcomes of an eviction of the same blocks are equal.
 use Rattle.std.proofs.Common.{◌≡◌, ℕ, zero, suc, ◌+◌, ◌<◌, ◌≤◌, false, eqb, List, [], ◌∷◌, ◌++◌, length, get_or, ◌⊎◌, refl, sym, ap, subst, ◌∙◌, inl, inr, arith}
 use mathlib.Core.Bool.{false≢true}
 use Rattle.std.specs.List.{Contains}
@@ -14,7 +14,7 @@ use Rattle.oram_stash.proofs.Fewest.{some_or_none, list_of_listed}
 use Rattle.oram_stash.proofs.Tight.{Contains-all_listed}
 use Rattle.oram_stash.proofs.Rising.{length-le, same_rising, AreApart, AreApart-permuted, AreApart-left, apart_parts, apart_lists, Contains-cases, Contains-first, Contains-later}
 
--- blocks of a rising list with one address are one
+-- blocks of a rising list with the same address are equal
 pub same_block : (xs : List Block) → IsRising xs → (b c : Block) → Contains xs b → Contains xs c → b.address ≡ c.address → b ≡ c
 same_block xs rising b c (i, lt, is) (j, within, there) same = elim (cases_lt i j) as (λ _. b ≡ c) [
   | inl less ↦ absurd (let r = rising i j b less within in let e = ap (λ (d : Block). d.address) is in let f = ap (λ (d : Block). d.address) (get_or_default xs j b c within ∙ there) in omega arith)
@@ -38,7 +38,7 @@ some_outside (x ∷ xs) ys same = elim (some_or_none (λ (c : Block). eqb c.addr
   | inr none ↦ inl (x, Contains-first x xs, λ inside. false≢true (sym (All-contains (λ (c : Block). eqb c.address x.address ≡ false) ys x none inside) ∙ eq-eqb x.address x.address refl))
 ]
 
--- where a block is in one of two outcomes
+-- the place of a block in one of two outcomes
 module _ (deep slots x : ℕ) (blocks : List Block) (rising : IsRising blocks) (lists : List (List Block)) (rest : List Block) (eviction : IsEviction deep slots x blocks lists rest) where
   apart : AreApart (all_listed lists ++ rest)
   apart = AreApart-permuted blocks _ rising eviction.placement.each_once
@@ -74,9 +74,9 @@ module _ (deep slots x : ℕ) (blocks : List Block) (rising : IsRising blocks) (
     | inr left ↦ inr left
   ]
 
--- one level, where those below it agree
+-- one level, if the levels below it agree
 module _ (deep slots x : ℕ) (blocks : List Block) (rising : IsRising blocks) (lists others : List (List Block)) (rest other : List Block) (one : IsEviction deep slots x blocks lists rest) (two : IsEviction deep slots x blocks others other) (l : ℕ) (below : (k : ℕ) → l < k → listed lists k ≡ listed others k) where
-  -- a block of the level that the other outcome has not there is nearer the root in that one
+  -- a block of the level that isn't at that level in the other outcome is nearer the root there
   nearer_in_other : (b : Block) → Contains (listed lists l) b → (Contains (listed others l) b → ⊥) → IsNearer others other l b
   nearer_in_other b here absent = elim (place_of deep slots x blocks rising others other two b (listed_in deep slots x blocks rising lists rest one l b here)) [
     | inl at ↦ elim (cases_lt at.0 l) [
@@ -95,7 +95,7 @@ module _ (deep slots x : ℕ) (blocks : List Block) (rising : IsRising blocks) (
   blocks_one b c here there same = same_block blocks rising c b (listed_in deep slots x blocks rising others other two l c there) (listed_in deep slots x blocks rising lists rest one l b here) same
 
 module _ (deep slots x : ℕ) (blocks : List Block) (rising : IsRising blocks) (lists others : List (List Block)) (rest other : List Block) (one : IsEviction deep slots x blocks lists rest) (two : IsEviction deep slots x blocks others other) (l : ℕ) (below : (k : ℕ) → l < k → listed lists k ≡ listed others k) where
-  -- no block of the level is absent there in the other outcome
+  -- no block of the level is missing there in the other outcome
   none_absent : (b : Block) → Contains (listed lists l) b → (Contains (listed others l) b → ⊥) → ⊥
   none_absent b here absent =
       let in_tree = level_in_tree deep slots x blocks rising lists rest one l b here in

@@ -1,4 +1,4 @@
-//! An eviction of blocks that are lent.
+//! Evicts borrowed blocks, without moving them.
 ghost use Rattle.std.specs.Prelude.{◌≡◌, ◌<◌, ◌^◌, map, All, IfOk};
 ghost use Rattle.oram_geometry.specs.Sizes.{trees_of, depth_of};
 ghost use Rattle.oram_bucket.specs.Cell.{IsRising};
@@ -10,23 +10,23 @@ use oram_bucket::Block;
 use oram_geometry::Device;
 use std::alloc::{AllocError, Global};
 
-/// Where an eviction puts blocks that are lent.
+/// The places that an eviction gives to borrowed blocks.
 #[derive(Drop)]
 pub struct Placement<'a> {
-    /// Those for the path, by level, from the root down.
+    /// The blocks for the path's buckets, by level, from the root down.
     pub lists: Vec<Vec<&'a Block>>,
-    /// Those that stay.
+    /// The blocks that stay in the stash.
     pub rest: Vec<&'a Block>,
 }
 
-/// The blocks' own leaves.
+/// Returns the leaf of each block.
 fn leaves_of(alloc: Global, blocks: &[&Block]) -> Result<Vec<u32>, AllocError>
     ensures { IfOk result (λ leaves. leaves.items ≡ map (λ b. b.now.leaf) blocks.now) }
 {
     blocks.iter().map(|block| block.leaf).collect(alloc)
 }
 
-/// Places blocks that stand by rising address, as [`Stash::evict`](crate::Stash::evict) does, without moving them.
+/// Places blocks, whose addresses rise, as [`Stash::evict`](crate::Stash::evict) does, but without moving them.
 pub fn place<'a>(
     alloc: Global,
     device: &Device,

@@ -1,4 +1,4 @@
-//! Which block goes to the list of which level.
+//! Chooses the level to whose list each block goes.
 ghost use Rattle.std.specs.Prelude.{◌≡◌, ◌⊎◌, ◌↔◌, ℕ, Any, ◌+◌, ◌<◌, ◌≤◌, ◌^◌, length, take, drop, All, Contains, IfOk, OnOk, slice_index, vec_len};
 ghost use Rattle.std.specs.Ordering.{nat_cmp};
 ghost use Rattle.std.specs.BTreeSet.{IsOrdered};
@@ -12,7 +12,7 @@ use oram_geometry::Device;
 use std::alloc::{AllocError, Global};
 use std::collections::BTreeSet;
 
-/// The level of each block, by the blocks' own leaves; none where it stays.
+/// Chooses the level for each block, given the blocks' leaves, or `None` for a block that stays.
 pub fn chosen_levels(
     alloc: Global,
     device: &Device,
@@ -37,7 +37,7 @@ pub fn chosen_levels(
     Ok(levels)
 }
 
-/// The level down to which the path of each of the leaves is that of the leaf.
+/// Returns, for each of `leaves`, the greatest level at which its path meets that of `leaf`.
 fn shared_levels(
     alloc: Global,
     device: &Device,
@@ -58,7 +58,7 @@ fn shared_levels(
     Ok(shared)
 }
 
-/// The places of each level below a limit.
+/// Groups the indices of `shared` by their level. All levels are less than `limit`.
 fn grouped(alloc: Global, shared: &[u8], limit: usize) -> Result<Vec<Vec<usize>>, AllocError>
     requires { All (λ level. level < limit) shared.now }
     ensures count { IfOk result (λ groups. vec_len groups ≡ limit) }
@@ -75,7 +75,7 @@ fn grouped(alloc: Global, shared: &[u8], limit: usize) -> Result<Vec<Vec<usize>>
     Ok(groups)
 }
 
-/// Adds the places of a group to those that wait.
+/// Adds the indices of a group to those that wait.
 fn admit(group: &[usize], waiting: &mut BTreeSet<usize>) -> Result<(), AllocError>
     requires { IsOrdered nat_cmp waiting.old }
     ensures ordered { OnOk result (IsOrdered nat_cmp waiting.new) }
@@ -87,7 +87,7 @@ fn admit(group: &[usize], waiting: &mut BTreeSet<usize>) -> Result<(), AllocErro
     Ok(())
 }
 
-/// Gives a level to the least places that wait, as many as there are slots.
+/// Gives `level` to the least indices that wait, at most `slots` of them.
 fn fill_level(slots: usize, level: u8, waiting: &mut BTreeSet<usize>, levels: &mut [Option<u8>])
     requires in_range { All (λ at. at < length levels.old) waiting.old.keys }
     requires ordered { IsOrdered nat_cmp waiting.old }
@@ -103,7 +103,7 @@ fn fill_level(slots: usize, level: u8, waiting: &mut BTreeSet<usize>, levels: &m
     }
 }
 
-/// The deepest level at which the path of one of the blocks meets that of the leaf, or the given one if that is deeper.
+/// Returns the deepest level at which the path of one of the blocks meets that of `leaf`, or `level` if that is deeper.
 pub fn deepest_shared(device: &Device, tree: u8, leaf: u32, level: u8, blocks: &[Block]) -> u8
     requires tree { tree < trees_of device.now }
     requires leaf_in { leaf < 2 ^ depth_of device.now tree }

@@ -1,8 +1,9 @@
-//! The client's stash: the blocks that lie in no bucket, and their eviction to a path.
+//! The client's stash, which holds the blocks that are in no bucket, and their eviction to a path.
 //!
-//! An access reads a path into the stash and then moves blocks back to it (Path ORAM, CCS 2013, section 3): from the leaf
-//! up to the root, into each bucket those whose own path has it, as many as it has slots. Where the paper leaves open
-//! which, the least addresses go first, so that an eviction has just one outcome.
+//! An access reads a path into the stash and then moves blocks back to it (Path ORAM, CCS 2013, section 3): from the
+//! leaf up to the root, each bucket gets blocks whose own path goes through it, as many as it has slots. The paper
+//! leaves open which of these blocks go; here those with the least addresses go first, so that an eviction has exactly
+//! one outcome.
 #![tactic(auto)]
 
 ghost use Rattle.std.specs.Prelude.{◌≡◌, ◌≢◌, ℕ, ◌+◌, ◌<◌, ◌≤◌, ◌^◌, ◌↔◌, ◌⊎◌, ◌==◌, List, [], ◌∷◌, ◌++◌, length, map, All, Contains, IsSome, IsNone, IfOk, IfErr, OnOk, OnErr, IfSome, IfNone, MatchOption, IsPermutation, AllPairs, filter, not, is_some, option_copied, vec_capacity, if◌then◌else◌, Some, IsTrue};
@@ -26,15 +27,15 @@ use std::alloc::{AllocError, Global};
 use std::marker::Model;
 use std::mem;
 
-/// Why a block was not absorbed; it comes back.
+/// Why the stash didn't absorb a block. The fault gives the block back.
 #[derive(Debug, Drop)]
 pub enum StashFault {
-    /// A block of this address is there.
+    /// The stash has a block of this address already.
     Duplicate(Block),
     OutOfMemory(Block),
 }
 
-/// Blocks by rising address.
+/// The stash: blocks by rising address.
 #[derive(Debug, Drop)]
 pub struct Stash {
     blocks: Vec<Block>,
@@ -53,7 +54,7 @@ impl Model for Stash {
 }
 
 impl Stash {
-    /// A stash without blocks.
+    /// Makes an empty stash.
     pub fn new(alloc: Global) -> Self
         ensures { result ≡ [] }
     {
@@ -62,7 +63,7 @@ impl Stash {
         }
     }
 
-    /// A stash of these blocks, if they stand by rising address. It takes no memory.
+    /// Makes a stash of these blocks, or returns `None` if their addresses don't rise. Needs no memory.
     pub fn from_blocks(blocks: Vec<Block>) -> Option<Stash>
         ensures rising { IsSome result ↔ IsRising blocks.items }
         ensures same { IfSome result (λ stash. stash ≡ blocks.items) }
@@ -74,21 +75,21 @@ impl Stash {
         }
     }
 
-    /// How many blocks there are.
+    /// Returns the number of blocks.
     pub fn len(&self) -> usize
         ensures { result ≡ length self.now }
     {
         self.blocks.len()
     }
 
-    /// Whether there is none.
+    /// Returns whether the stash is empty.
     pub fn is_empty(&self) -> bool
         ensures { result ≡ (length self.now == 0) }
     {
         self.blocks.is_empty()
     }
 
-    /// Copies of the blocks, by rising address.
+    /// Copies the blocks to a list, by rising address. Fails only if memory runs out.
     pub fn list(&self, alloc: Global) -> Result<Vec<Block>, AllocError>
         ensures same { IfOk result (λ list. list.items ≡ self.now) }
         ensures rising { IsRising self.now }
@@ -100,7 +101,7 @@ impl Stash {
         Ok(list)
     }
 
-    /// A stash of copies of the blocks.
+    /// Copies the stash with its blocks. Fails only if memory runs out.
     pub fn copy(&self, alloc: Global) -> Result<Stash, AllocError>
         ensures same { IfOk result (λ stash. stash ≡ self.now) }
         ensures rising { IsRising self.now }
@@ -111,7 +112,7 @@ impl Stash {
         })
     }
 
-    /// Puts a block where its address belongs.
+    /// Inserts a block at the place that its address belongs to. On a failure, the stash is unchanged.
     pub fn absorb(&mut self, block: Block) -> Result<(), StashFault>
         ensures rising { IsRising self.new }
         ensures ok { OnOk result (IsPermutation (block ∷ self.old) self.new) }
@@ -129,7 +130,7 @@ impl Stash {
         Ok(())
     }
 
-    /// Takes the block of an address out, if it is there.
+    /// Takes the block with `address` out, if it is there.
     pub fn take(&mut self, address: u32) -> Option<Block>
         ensures rising { IsRising self.new }
         ensures was_rising { IsRising self.old }
@@ -144,7 +145,7 @@ impl Stash {
         }
     }
 
-    /// The block of an address, if it is there.
+    /// Returns the block with `address`, if it is there.
     pub fn get(&self, address: u32) -> Option<&Block>
         ensures { option_copied result ≡ block_at self.now address }
     {
@@ -154,7 +155,7 @@ impl Stash {
         }
     }
 
-    /// Whether there is a block of an address.
+    /// Returns whether there is a block with `address`.
     pub fn contains(&self, address: u32) -> bool
         ensures { result ≡ is_some (block_at self.now address) }
     {
@@ -164,8 +165,8 @@ impl Stash {
         }
     }
 
-    /// Lends what waits for an eviction, by rising address: the blocks of the stash, but for the one of an address, and
-    /// those of another stash.
+    /// Borrows the blocks that wait for an eviction, by rising address: those of this stash except the one with
+    /// `address`, and those of `other`.
     pub fn waiting<'a>(
         &'a self,
         alloc: Global,
@@ -182,7 +183,7 @@ impl Stash {
         Ok(blocks)
     }
 
-    /// A vector with room for the blocks of both.
+    /// Allocates a vector with room for the blocks of both stashes.
     pub fn room_with(&self, alloc: Global, other: &Stash) -> Result<Vec<Block>, AllocError>
         ensures empty { IfOk result (λ room. room.items ≡ []) }
         ensures room { IfOk result (λ room. length self.now + length other.now ≤ vec_capacity room) }
@@ -190,8 +191,8 @@ impl Stash {
         Vec::with_capacity(alloc, self.blocks.len() + other.blocks.len())
     }
 
-    /// Takes the blocks of another stash over, and keeps of all those whose addresses stay. It takes no memory: they move
-    /// to a vector that has room for all.
+    /// Takes over the blocks of `other`, and keeps of all blocks only those whose addresses are in `stays`. Needs no
+    /// memory, since the blocks move to `room`, which has capacity for all of them.
     pub fn settle(&mut self, other: Stash, stays: &[u32], room: Vec<Block>)
         requires apart { (c d : Cell) → Contains self.old c → Contains other d → c.address ≢ d.address }
         requires stays { AllPairs (λ a b. a < b) stays.now }
@@ -209,8 +210,9 @@ impl Stash {
         self.blocks.sort_unstable_by_key(|block| block.address);
     }
 
-    /// Moves blocks to the path of a leaf: at each level from the deepest up, of the blocks whose own path meets that
-    /// path there the least addresses, as many as a bucket has slots. The lists stand by level, from the root down.
+    /// Moves blocks to the path of `leaf`: at each level, from the deepest up, it takes from the blocks whose own path
+    /// meets that path there those with the least addresses, as many as a bucket has slots. Returns the lists by
+    /// level, from the root down. If memory runs out, the stash is unchanged.
     pub fn evict(
         &mut self,
         alloc: Global,
@@ -236,8 +238,9 @@ impl Stash {
         Ok(lists)
     }
 
-    /// After an eviction, a level down to which the path's buckets are full of blocks that fit no further down, as the
-    /// stash's don't; none where the stash is empty. It takes no memory.
+    /// Returns a level that shows that an eviction left no block in the stash needlessly: down to this level the
+    /// path's buckets are full, and neither their blocks nor those of the stash fit further down. Returns `None` if
+    /// the stash is empty. Needs no memory.
     pub fn tight_level(
         &self,
         device: &Device,
@@ -265,7 +268,7 @@ impl Stash {
         Some(tight)
     }
 
-    // The blocks, but for the one of an address, and then those of another stash.
+    // Borrows this stash's blocks, except the one with `address`, and then those of `other`.
     fn lend<'a>(
         &'a self,
         alloc: Global,
@@ -281,14 +284,14 @@ impl Stash {
         own.chain(other.blocks.iter()).collect(alloc)
     }
 
-    // The blocks' own leaves.
+    // Returns the leaf of each block.
     fn leaves(&self, alloc: Global) -> Result<Vec<u32>, AllocError>
         ensures { IfOk result (λ leaves. leaves.items ≡ map (λ b. b.leaf) self.now) }
     {
         self.blocks.iter().map(|block| block.leaf).collect(alloc)
     }
 
-    // Where the address is, or where it would go.
+    // Returns the index of the block with `address`, or in `Err` the index at which to insert it.
     fn search(&self, address: u32) -> Result<usize, usize>
         ensures found { IfOk result (IsAt self.now address) }
         ensures absent { IfErr result (IsGapFor self.now address) }
@@ -299,14 +302,14 @@ impl Stash {
     }
 }
 
-/// Whether blocks stand by rising address.
+/// Returns whether the blocks' addresses rise.
 fn is_rising(blocks: &[Block]) -> bool
     ensures { IsTrue result ↔ IsRising blocks.now }
 {
     blocks.is_sorted_by(|before, block| before.address < block.address)
 }
 
-/// Whether an address is among some that rise.
+/// Returns whether `address` is one of `addresses`, which rise.
 fn is_among(addresses: &[u32], address: u32) -> bool
     requires { AllPairs (λ a b. a < b) addresses.now }
     ensures { result ≡ list_any (λ a. a == address) addresses.now }
@@ -314,7 +317,7 @@ fn is_among(addresses: &[u32], address: u32) -> bool
     addresses.binary_search(&address).is_ok()
 }
 
-/// An eviction has just one outcome.
+/// A law: an eviction has exactly one outcome.
 pub fn eviction_has_one_outcome()
     ensures { OneOutcome }
 {}

@@ -1,10 +1,10 @@
-//! Blocks moved to the lists of their levels.
+//! Moves blocks to the lists of their levels.
 ghost use Rattle.std.specs.Prelude.{◌≡◌, ℕ, ◌+◌, ◌<◌, ◌≤◌, [], ◌++◌, length, map, All, IfOk, IfSome, count_by, vec_capacity, vec_len, slice_index_or, IsPermutation};
 ghost use Rattle.oram_stash.specs.Plan.{list_at, joined, is_level, stays, picked};
 
 use std::alloc::{AllocError, Global};
 
-/// Empty lists, each with room for so many blocks.
+/// Makes `count` empty lists, each with room for `room` blocks.
 pub fn empty_lists<B: Drop>(
     alloc: Global,
     count: usize,
@@ -21,7 +21,8 @@ pub fn empty_lists<B: Drop>(
     Ok(lists)
 }
 
-/// Moves each block, or what lends it, to the list of its level, or to the rest. It takes no memory, since there is room.
+/// Moves each block, or reference to a block, to the list of its level, or to `rest`. Needs no memory, since there is
+/// room.
 pub fn move_out<B: Drop>(
     blocks: Vec<B>,
     levels: &[Option<u8>],

@@ -1,4 +1,4 @@
--- What is counted and measured in a core's parts is little enough for a file.
+-- The counts and lengths in a core's parts fit in the fields of a file.
 use Rattle.std.proofs.Common.{◌≡◌, ℕ, suc, ◌+◌, ◌-◌, ◌*◌, ◌%◌, ◌^◌, ◌<◌, ◌≤◌, List, [], ◌∷◌, length, length-append, Option, Some, None, All, ap, arith, inl, inr}
 use Rattle.std.specs.Int.{w32, to_be_bytes}
 use Rattle.std.proofs.lemmas.Bool.{cases_eq}
@@ -32,7 +32,7 @@ above : (a : ℕ) (xs : List Cell) → All (λ c. a < c.address) xs → All (λ 
 above a [] h = All-nil (λ c. a + 1 ≤ c.address)
 above a (y ∷ ys) h = let one : a < y.address = All-head (λ c. a < c.address) y ys h in All-cons (λ c. a + 1 ≤ c.address) y ys (omega (arith, one)) (above a ys (All-tail (λ c. a < c.address) y ys h))
 
--- rising addresses between two numbers are no more than lie there
+-- there are no more rising addresses between two numbers than numbers
 rising_between : (m n : ℕ) (cells : List Cell) → IsRising cells → All (λ c. m ≤ c.address) cells → All (λ c. c.address < n) cells → length cells ≤ n - m
 rising_between m n [] rising low high = omega arith
 rising_between m n (x ∷ xs) rising low high =

@@ -1,4 +1,4 @@
--- The front of a file: the device, and where the core stands.
+-- The front of a file: the device and the mode.
 use Rattle.std.proofs.Common.{◌≡◌, ℕ, ◌^◌, Bool, true, false, cond, List, ◌∷◌, ◌++◌, Option, Some, None, Ok, Err, refl, sym, ap, ◌∙◌, append_assoc, arith}
 use Rattle.std.specs.Prelude.{IfOk, ◌&&◌, ◌==◌, ⊤}
 use Rattle.std.proofs.lemmas.Bool.{le-leb, eqb-true}
@@ -63,9 +63,9 @@ device_again d rest h =
     (goes _ _ _ _ (long_again d.lifetime rest (omega (arith, h.few_lifetime)))
     (goes _ _ _ _ (known_again d h) refl)))))
 
--- ---- where the core stands
+-- ---- the mode
 
--- only a file of the second version tells of a core at work
+-- only files of the second version have a core at work
 abbrev pub IsModeOf : ℕ → Mode → Type 0
 IsModeOf version Idle = ⊤
 IsModeOf version Failed = ⊤

@@ -1,4 +1,4 @@
--- What stands round the fields of a file, and the whole.
+-- The frame around the fields of a file, and the whole file.
 use Rattle.std.proofs.Common.{◌≡◌, ℕ, ◌-◌, ◌+◌, ◌^◌, ◌<◌, ◌≤◌, Bool, true, false, List, [], ◌∷◌, ◌++◌, length, take, drop, Option, Some, None, Result, Ok, Err, refl, sym, ap, subst, ◌∙◌, append_assoc, arith, rules, inl, inr}
 use Rattle.std.specs.Prelude.{IfOk, ◌==◌, ◌&&◌, ◌||◌, ◌⊎◌, ◌↔◌, nat_eq, nat_le, codes, slice_range}
 use Rattle.std.specs.List.{starts_with}
@@ -30,7 +30,7 @@ told_version text = from_be_bytes w32 (slice_range text 8 12)
 abbrev told_fields : List ℕ → List ℕ
 told_fields text = slice_range text 20 (length text - 32)
 
--- a text that told all of this is a file
+-- a text with this frame is a file
 framed : (text : List ℕ) → IsBytes text → codes "PATHORAM" ≡ take 8 text → 52 ≤ length text → from_be_bytes w64 (slice_range text 12 20) ≡ length text
     → drop (length text - 32) text ≡ sha256 (take (length text - 32) text) → text ≡ with_digest (body (told_version text) (told_fields text))
 framed text bytes letters least told digest =
@@ -77,7 +77,7 @@ fields_takes text h =
       IsBytes-take (n - 32 - 20) (drop 20 text) (IsBytes-drop 20 text h),
     ))))))
 
--- ---- again
+-- ---- reading what was written
 
 -- a test that is passed
 passes : {X : Type 0} (why : StateFault) (b : Bool) (next y : Result X StateFault) → b ≡ true → next ≡ y → (unless why b >>= λ _. next) ≡ y
@@ -153,7 +153,7 @@ known_file : (version : ℕ) (p : Parts) → HasFile version p → IsKnown versi
 known_file version p (inl e) = inl e.0
 known_file version p (inr e) = inr e
 
--- what is read of a text is what it is the file of
+-- a text that can be read is the file of the parts that it gives
 pub state_takes : (text : List ℕ) → IsBytes text → IfOk (state_in text) (λ s. (version : ℕ) × IsFileOf text version s.overhead s.parts)
 unfolding state_in
 state_takes text h =
@@ -165,7 +165,7 @@ state_takes text h =
         (version, record { version_known = has_file version s.parts is_known p.1.0 p.1.2; overhead_fits = p.1.1; sized = p.1.2; spelled = e ∙ ap (λ (x : List ℕ). with_digest (body version x)) p.0 })
     last version fields (Err why) e is_known p = tt
 
--- and the file of parts is read as those
+-- and the file of parts is read as these parts
 pub state_again : (text : List ℕ) (version overhead : ℕ) (p : Parts) → length text < 2 ^ 64 → IsFileOf text version overhead p → state_in text ≡ Ok (record { overhead = overhead; parts = p })
 unfolding state_in
 state_again text version overhead p fits h =
@@ -179,6 +179,6 @@ pub found : (text : List ℕ) (r : Result Saved StateFault) → IsBytes text →
 found text (Ok s) h e = subst (λ (x : Result Saved StateFault). IfOk x (λ s. (version : ℕ) × IsFileOf text version s.overhead s.parts)) e (state_takes text h)
 found text (Err why) h e = tt
 
--- exactly where
+-- both directions
 pub exact : (text : List ℕ) (overhead : ℕ) (p : Parts) → IsBytes text → length text < 2 ^ 64 → (state_in text ≡ Ok (record { overhead = overhead; parts = p })) ↔ ((version : ℕ) × IsFileOf text version overhead p)
 exact text overhead p h fits = (λ e. found text (Ok (record { overhead = overhead; parts = p })) h e, λ x. state_again text x.0 overhead p fits x.1)

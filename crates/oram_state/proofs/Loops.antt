@@ -1,11 +1,11 @@
--- Reading many things one after the other, as a loop does.
+-- Reading many values one after the other, as a loop does.
 use Rattle.std.proofs.Common.{◌≡◌, ℕ, suc, ◌-◌, ◌+◌, ◌≤◌, ◌<◌, List, [], ◌∷◌, ◌++◌, Ok, Err, refl, sym, ap, ◌∙◌, append_assoc, arith}
 use Rattle.std.proofs.lemmas.List.{append-nil}
 use Rattle.oram_state.specs.declared.fault.StateFault.{StateFault}
 use Rattle.oram_state.specs.declared.fault.StateFault.TheVariants.{Magic, Version, Length, Digest, Content, OutOfMemory}
 use Rattle.oram_state.specs.Reading.{◌>>=◌, Fails, Reading, many}
 
--- what was read before, and what is still read
+-- the values read before, and those still to read
 abbrev pub with_front : {X : Type 0} → List X → Reading (List X) → Reading (List X)
 with_front front read = read >>= λ x. Ok (front ++ x.0, x.1)
 

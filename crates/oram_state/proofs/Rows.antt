@@ -63,7 +63,7 @@ idle_len : length (state_file 2 0 idle) ≡ 165
 unfolding short long
 idle_len = file_len 2 0 idle
 
--- the first version's is as long
+-- a file of the first version is as long
 first_version_len : length (state_file 1 0 idle) ≡ 165
 unfolding short long
 first_version_len = file_len 1 0 idle
@@ -72,7 +72,7 @@ three_trees_len : length (state_file 2 0 three_trees) ≡ 221
 unfolding short long
 three_trees_len = file_len 2 0 three_trees
 
--- a failed core's is as long whatever the reason
+-- a failed core's file is as long whatever the reason
 malformed_len : length (state_file 2 8 (record failed { failure = Some Malformed })) ≡ 101
 unfolding short long
 malformed_len = file_len 2 8 (record failed { failure = Some Malformed })
@@ -129,7 +129,7 @@ table_row = refl
 no_trees : tree_count device (Some Malformed) ≡ 0
 no_trees = refl
 
--- of one tree's two entries, data is held at the last
+-- with one tree, a command has two entries, and data is held at the last
 held_row : held_len device 1 ≡ 16
 unfolding trees_of blocks_in least_from
 held_row = refl

@@ -1,4 +1,4 @@
--- Several things of one kind, one after the other.
+-- Several values of one kind, one after the other.
 use Rattle.std.proofs.Common.{◌≡◌, ℕ, zero, suc, List, [], ◌∷◌, ◌++◌, length, Ok, refl, ap, ◌∙◌, append_assoc}
 use Rattle.std.specs.Prelude.{IfOk}
 use Rattle.std.specs.List.{flat_map, AllByRecursion}
@@ -6,7 +6,7 @@ use Rattle.std.proofs.lemmas.List.Concat.{flat_map-cons}
 use Rattle.oram_state.specs.Reading.{Reading, many}
 use Rattle.oram_state.proofs.Tools.{IsBytes, Took, took_both, then_ok, goes}
 
--- a reader takes such things alone, and takes each of them again
+-- a reader takes only such values, and takes each of them again
 pub record Law {X : Type 0} (spelled : X → List ℕ) (Is : X → Type 0) (next : List ℕ → Reading X) : Type 0 where
   pub takes : (text : List ℕ) → IsBytes text → IfOk (next text) (λ x. Took text (spelled x.0) x.1 × Is x.0)
   pub again : (x : X) (rest : List ℕ) → Is x → next (spelled x ++ rest) ≡ Ok (x, rest)

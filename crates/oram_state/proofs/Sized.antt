@@ -1,4 +1,4 @@
--- The parts of a core have a file, and a file tells of one core.
+-- The parts of a core have a file, and a file belongs to one core.
 use Rattle.std.proofs.Common.{◌≡◌, ℕ, ◌+◌, ◌-◌, ◌*◌, ◌%◌, ◌^◌, ◌<◌, ◌≤◌, ◌==◌, Bool, true, false, not, if◌then◌else◌, List, [], ◌∷◌, length, Option, Some, None, Result, Ok, All, refl, ap, sym, ◌∙◌, subst, arith, inr}
 use Rattle.std.specs.List.{AllByRecursion}
 use Rattle.std.proofs.lemmas.Bool.{eqb-true}
@@ -69,7 +69,7 @@ sized_trees d i (t ∷ ts) ranges h counts roots = (
   sized_trees d (i + 1) ts ranges h.1 (All-tail (λ (u : TreeParts). IsShort (length u.stash)) t ts counts) (All-tail (λ (u : TreeParts). length u.root ≡ 32) t ts roots),
 )
 
--- ---- what waits
+-- ---- the commands that wait
 
 sized_command : (d : Sizes) (c : Command) → IsDevice d → address_of c < blocks_in d 0 → has_bad_length d c ≡ false → IsSizedCommand d c
 sized_command d (Read a) ranges below whole = let many = (blocks_in-range d ranges 0).1 in omega (arith, below, many)
@@ -96,7 +96,7 @@ sized_pendings d (q ∷ qs) ranges h fits =
       sized_pendings d qs ranges (All-tail (λ (x : Pending). IsAllowed d (submission_at 0 x)) q qs h) (All-tail CommandFits q qs fits),
     )
 
--- ---- what a core is at work on
+-- ---- the work of a core
 
 no_work_by : (p : Parts) → p.waiting ≡ [] → IsResting (state_of p) → IsNoWork (work_of p) p.stalled
 no_work_by p none h =
@@ -166,7 +166,7 @@ well_sized o p are fit =
       work = at_work_by o p p.failure ranges w counts.message fit.waiting;
     }
 
--- ---- the core that a file tells of
+-- ---- the core that a file belongs to
 
 pub saved_as : (text : List ℕ) (o n : ℕ) (p : Parts) (d : Sizes) (s : State) → n ≡ o → p ≡ parts_of d s → state_of p ≡ s → AreParts o p → text ≡ state_file 2 n p → FitsFields p → IsSaved text o d s
 saved_as text o n p d s told same again are spelled fit =

@@ -1,4 +1,4 @@
--- What a reader took from the front of a text, and what was written there.
+-- What a reader takes from the front of a text, and what was written there.
 use Rattle.std.proofs.Common.{◌≡◌, ℕ, suc, ◌+◌, ◌^◌, ◌<◌, ◌≤◌, Bool, true, false, cond, ltb, List, [], ◌∷◌, ◌++◌, length, get_or, take, drop, Result, Ok, Err, refl, sym, ap, ◌∙◌, append_assoc, arith, inl, inr}
 use Rattle.std.specs.Prelude.{IfOk}
 use Rattle.std.specs.Int.{Width, w32, w64, byte_len, from_be_bytes}
@@ -24,7 +24,7 @@ IsBytes-take n bytes h i =
       | inr le ↦ rw (get_or_past (take n bytes) i 0 (omega (arith, length-take n bytes))) (omega arith)
     ]
 
--- a text is what was taken, and the rest, of which each is a byte
+-- a text consists of what the reader took and the rest, and both are bytes
 pub record Took (text taken rest : List ℕ) : Type 0 where
   pub parts : text ≡ taken ++ rest
   pub bytes : IsBytes rest
@@ -34,12 +34,12 @@ took_both {a = a} {x = x} {b = b} {y = y} {c = c} p q = record { parts = p.parts
 
 -- ---- steps
 
--- what holds after a step that did not fail
+-- a property after a step that didn't fail
 pub then_ok : {A B : Type 0} (P : A → Type 0) (Q : B → Type 0) (r : Result A StateFault) (f : A → Result B StateFault) → IfOk r P → ((a : A) → P a → IfOk (f a) Q) → IfOk (r >>= f) Q
 then_ok P Q (Ok a) f p q = q a p
 then_ok P Q (Err why) f p q = tt
 
--- a step that gives what is known
+-- a step whose result is known
 pub goes : {A B : Type 0} (r : Result A StateFault) (a : A) (f : A → Result B StateFault) (y : Result B StateFault) → r ≡ Ok a → f a ≡ y → (r >>= f) ≡ y
 goes r a f y p q = rw p q
 

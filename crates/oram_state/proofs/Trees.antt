@@ -1,4 +1,4 @@
--- What a file tells of a core that did not fail, its trees, and of one that did, the reason.
+-- The fields of a core that isn't at work: its trees, or why it failed.
 use Rattle.std.proofs.Common.{◌≡◌, ℕ, Bool, true, false, cond, List, [], ◌∷◌, ◌++◌, length, Option, Some, None, Ok, Err, refl, sym, ap, ◌∙◌, append_assoc}
 use Rattle.std.specs.Prelude.{IfOk, ◌&&◌, ◌==◌, ⊤}
 use Rattle.std.specs.List.{flat_map}

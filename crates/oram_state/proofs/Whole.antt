@@ -1,4 +1,4 @@
--- The fields of a file are those of parts that have one, and are read again.
+-- The fields of a file spell parts that have a file, and such fields can be read again.
 use Rattle.std.proofs.Common.{◌≡◌, ℕ, ◌≤◌, Bool, true, false, List, [], ◌∷◌, ◌++◌, length, Option, Some, None, Ok, refl, sym, ap, ◌∙◌, append_assoc, append-nil, arith}
 use Rattle.std.specs.Prelude.{IfOk, ◌==◌}
 use Rattle.std.specs.List.{flat_map, AllByRecursion}
@@ -26,7 +26,7 @@ use Rattle.oram_state.proofs.Works.{IsAtWork, IsWorkOf, work_in_takes, work_in_a
 short_law : Law short IsShort (next_number w32)
 short_law = record { takes = short_takes; again = short_again }
 
--- ---- where a core stands, and what is then kept of it
+-- ---- the mode, and what is kept of a core in that mode
 
 mode_made : (d : Sizes) (mode : Mode) (failure : Option Reason) (w : Work) → IsFailureOf mode failure → IsWorkOf d mode w → mode_by failure w.waiting (is_stalled mode) ≡ mode
 mode_made d Idle None w f h = rw h refl
@@ -65,7 +65,7 @@ work_made d Stalled (Some why) w f h = absurd f
 
 -- ---- the fields
 
--- a file of this version may tell of such a core
+-- a file of this version can have a core in this mode
 abbrev pub MayTell : ℕ → Saved → Type 0
 MayTell version s = IsModeOf version (mode_of s.parts) × IsShort s.overhead × IsWellSized s.parts
 
@@ -93,7 +93,7 @@ saved_takes version text h =
     then_ok _ _ (next_work_in a.0.device a.0.mode e.1) _ (work_in_takes a.0.device a.0.mode e.1 pe.0.bytes) (λ f pf.
     fields_of version a.0 b.0 c.0 e.0 f.0 pa.1 pb.1 pf.1 pc.1 pc.2 pe.1 pe.2 pa.0 pb.0 pc.0 pe.0 pf.0)))))
 
--- ---- again
+-- ---- reading what was written
 
 failure_is : (failure : Option Reason) (waiting : List Pending) (stalled : Bool) → IsFailureOf (mode_by failure waiting stalled) failure
 failure_is (Some why) waiting stalled = tt

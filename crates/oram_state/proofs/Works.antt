@@ -1,4 +1,4 @@
--- What a file tells of a core at work.
+-- The fields of a core at work.
 use Rattle.std.proofs.Common.{◌≡◌, ℕ, ◌*◌, ◌<◌, ◌≤◌, Bool, true, false, cond, List, [], ◌∷◌, ◌++◌, length, Result, Ok, Err, refl, sym, ap, ◌∙◌, append_assoc, arith}
 use Rattle.std.specs.Prelude.{IfOk, ◌==◌, nat_lt, nat_le}
 use Rattle.std.specs.List.{flat_map, AllByRecursion}
@@ -23,7 +23,7 @@ use Rattle.oram_state.proofs.Devices.{both_true}
 
 -- ---- commands
 
--- what was taken for a command, once its first byte and its address were
+-- what the reader takes for a command, after its first byte and its address
 data_by_tests : (d : Sizes) (op address : ℕ) (text : List ℕ) (a b c : Bool) → a ≡ (op == 17) → b ≡ (op == 18) → c ≡ (op == 19) → IsShort address → IsBytes text
     → IfOk {T = Command × List ℕ} (cond a (Ok (Read address, text)) (cond b (next_bytes d.block_bytes text >>= λ x. Ok (Write address x.0, x.1)) (cond c (Ok (Discard address, text)) (Err Content))))
     (λ x. (before : List ℕ) (at : List ℕ) → Took before (op ∷ short address) text → Took before (command_text x.0) x.1 × IsSizedCommand d x.0)
@@ -83,7 +83,7 @@ pending_law d = record { takes = pending_takes d; again = pending_again d }
 
 -- ---- those without a reply
 
--- some commands, and few
+-- there are some commands, and not too many
 pub record AreWaiting (d : Sizes) (waiting : List Pending) : Type 0 where
   pub some : 1 ≤ length waiting
   pub few : length waiting ≤ 64
@@ -168,7 +168,7 @@ work_again d w rest device h =
     (goes _ _ _ _ (bytes_again (held_len d w.r) w.held_data _ s.held)
     (goes _ _ _ _ (message_again w.message rest s.message) refl))))
 
--- what a core is at work on where it stands
+-- the work of a core in its mode
 abbrev pub IsWorkOf : Sizes → Mode → Work → Type 0
 IsWorkOf d Idle w = w ≡ no_work
 IsWorkOf d Failed w = w ≡ no_work

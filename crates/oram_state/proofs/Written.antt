@@ -3,7 +3,7 @@ use Rattle.std.proofs.Common.{◌≡◌, ℕ, ◌+◌, List, ◌++◌, length, t
 use Rattle.std.specs.Prelude.{codes}
 use Rattle.oram_state.specs.Spelling.{short, long, body}
 
--- what stands before the length is written
+-- the bytes before the length
 abbrev pub unmeasured : List ℕ → List ℕ
 unmeasured fields = codes "PATHORAM" ++ short 2 ++ long 0 ++ fields
 
@@ -37,7 +37,7 @@ between fields middle = sym (append_assoc (codes "PATHORAM" ++ short 2) middle f
 pub measured : (fields : List ℕ) (n : ℕ) → n ≡ 52 + length fields → take 12 (unmeasured fields) ++ (long n ++ drop 20 (unmeasured fields)) ≡ body 2 fields
 measured fields n e = between fields (long n) ∙ ap (λ (k : ℕ). codes "PATHORAM" ++ short 2 ++ long k ++ fields) e
 
--- what was appended piece by piece
+-- the bytes appended piece by piece
 pub pieced : (a b c d e head rest : List ℕ) → a ≡ codes "PATHORAM" → b ≡ a ++ short 2 → c ≡ b ++ long 0 → d ≡ c ++ head → e ≡ d ++ rest → e ≡ unmeasured (head ++ rest)
 pieced a b c d e head rest p q r s t = t ∙ ap (λ (x : List ℕ). x ++ rest) (s ∙ ap (λ (x : List ℕ). x ++ head) (r ∙ ap (λ (x : List ℕ). x ++ long 0) (q ∙ ap (λ (x : List ℕ). x ++ short 2) p)))
     ∙ append_assoc (codes "PATHORAM" ++ short 2 ++ long 0) head rest

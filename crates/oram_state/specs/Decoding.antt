@@ -1,4 +1,4 @@
--- Which core a file tells of, and why one tells of none.
+-- The core that a file belongs to, and why a text is the file of no core.
 use Rattle.std.specs.Prelude.{◌≡◌, ◌⊎◌, ℕ, List, Ok, Err}
 use Rattle.oram_geometry.specs.declared.Sizes.{Sizes}
 use Rattle.oram_run.specs.State.{State}
@@ -9,7 +9,7 @@ use Rattle.oram_state.specs.declared.saved.Saved.{Saved}
 use Rattle.oram_state.specs.Reading.{state_in}
 use Rattle.oram_state.specs.WellSized.{IsFileOf}
 
--- the text is the file of parts that may be a core's under this overhead, and the core is the one that they make
+-- the text is the file of parts that can be a core's under this overhead, and this is the core that they make
 pub record IsSaved (text : List ℕ) (overhead : ℕ) (d : Sizes) (s : State) : Type 0 where
   pub version : ℕ
   pub parts : Parts
@@ -18,14 +18,14 @@ pub record IsSaved (text : List ℕ) (overhead : ℕ) (d : Sizes) (s : State) : 
   pub device : d ≡ parts.device
   pub state : s ≡ state_of parts
 
--- what is told is of another overhead, or of no core
+-- the text can be read, but it has another overhead, or parts that can't be a core's
 pub record TellsOfNone (text : List ℕ) (overhead : ℕ) : Type 0 where
   pub saved : Saved
   pub told : state_in text ≡ Ok saved
   pub none : ¬ ((saved.overhead ≡ overhead) × AreParts overhead saved.parts)
 
--- The first fault that reading meets; what is read to its end and is no core's is told as Content. That memory was refused
--- tells nothing.
+-- The first fault that reading meets. If reading meets none, but the parts can't be a core's, the fault is Content.
+-- The fault OutOfMemory says nothing about the text.
 abbrev pub IsFaultIn : List ℕ → ℕ → StateFault → Type 0
 IsFaultIn text overhead Content = (state_in text ≡ Err Content) ⊎ TellsOfNone text overhead
 IsFaultIn text overhead OutOfMemory = Unit {0}

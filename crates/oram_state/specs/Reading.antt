@@ -1,4 +1,4 @@
--- Reading a state file from front to back, to its first fault.
+-- How to read a state file from front to back, up to its first fault.
 use Rattle.std.specs.Prelude.{◌≡◌, ℕ, zero, suc, ◌-◌, ◌*◌, Bool, true, false, ◌&&◌, ◌||◌, ◌==◌, nat_eq, nat_lt, nat_le, if◌then◌else◌, List, [], ◌∷◌, length, take, drop, slice_range, codes, Option, Some, None, Result, Ok, Err, ⊤}
 use Rattle.std.specs.Int.{Width, w32, w64, byte_len, from_be_bytes}
 use Rattle.std.specs.List.{starts_with}
@@ -42,21 +42,21 @@ abbrev pub ◌>>=◌ : {X Y : Type 0} → Result X StateFault → (X → Result 
 (Ok x) >>= next = next x
 (Err why) >>= next = Err why
 
--- That memory was refused tells nothing of what was read.
+-- The fault OutOfMemory says nothing about the result of reading.
 abbrev pub Fails : {Y : Type 0} → StateFault → Result Y StateFault → Type 0
 Fails OutOfMemory read = ⊤
 Fails why read = read ≡ Err why
 
--- what was given, seen by view, is what is read
+-- the code's result, seen by `view`, is the result of reading
 abbrev pub Gives : {X Y : Type 0} → (X → Y) → Result X StateFault → Result Y StateFault → Type 0
 Gives view (Ok x) read = read ≡ Ok (view x)
 Gives view (Err why) read = Fails why read
 
--- what stands at the front of a text, and the text after it
+-- the result of reading at the front of a text: a value, and the text after it
 abbrev pub Reading : Type 0 → Type 0
 Reading X = Result (X × List ℕ) StateFault
 
--- this fault, where something isn't so
+-- the fault `why`, unless the test is true
 abbrev pub unless : StateFault → Bool → Result (Unit {0}) StateFault
 unless why true = Ok tt
 unless why false = Err why
@@ -71,7 +71,7 @@ next_byte (b ∷ text) = Ok (b, text)
 unfoldable pub next_number : Width → List ℕ → Reading ℕ
 next_number w text = if nat_lt (length text) (byte_len w) then Err Content else Ok (from_be_bytes w (take (byte_len w) text), drop (byte_len w) text)
 
--- so many things of one kind
+-- `count` values of one kind
 unfoldable pub many : {X : Type 0} → (List ℕ → Reading X) → ℕ → List ℕ → Reading (List X)
 many next zero text = Ok ([], text)
 many next (suc count) text = do
@@ -93,7 +93,7 @@ next_device text = do
   device ← known (device_of (record { blocks = blocks.0; block_bytes = block_bytes.0; slots = slots.0; top = top.0; lifetime = lifetime.0 }))
   Ok (device, lifetime.1)
 
--- a core at work has no file of the first version
+-- the mode for this byte; the first version has no files of cores at work
 abbrev pub mode_in : ℕ → ℕ → Result Mode StateFault
 mode_in version byte =
     if byte == 0 then Ok Idle
@@ -232,18 +232,18 @@ next_saved version text = do
   work ← next_work_in head.0.device head.0.mode trees.1
   Ok (saved_of head.0 failure.0 table.0 trees.0 work.0, work.1)
 
--- all of the text
+-- the fields, with nothing after them
 unfoldable pub saved_in : ℕ → List ℕ → Result Saved StateFault
 saved_in version text = do
   saved ← next_saved version text
   _ ← unless Content (length saved.1 == 0)
   Ok saved.0
 
--- whether a text ends with the digest of all that stands before it
+-- whether a text ends with the digest of all bytes before the digest
 abbrev pub ends_with_digest : List ℕ → Bool
 ends_with_digest text = pointwise nat_eq (drop (length text - 32) text) (sha256 (take (length text - 32) text))
 
--- the version of a file, and the text of its fields
+-- a file's version and its fields, or the first fault of the frame
 unfoldable pub fields_in : List ℕ → Result (ℕ × List ℕ) StateFault
 fields_in text = do
   _ ← unless Magic (starts_with nat_eq text (codes "PATHORAM"))
@@ -254,7 +254,7 @@ fields_in text = do
   _ ← unless Digest (ends_with_digest text)
   Ok (version, slice_range text 20 (length text - 32))
 
--- what a file tells, or its first fault
+-- the content of a file, or its first fault
 unfoldable pub state_in : List ℕ → Result Saved StateFault
 state_in text = do
   fields ← fields_in text

@@ -1,4 +1,4 @@
--- The state file of a client: how bytes spell what is kept of a core. All numbers are big-endian.
+-- The state file of a client: the bytes that spell the parts of a core. All numbers are big-endian.
 use Rattle.std.specs.Prelude.{ℕ, ◌+◌, Bool, true, false, List, [], ◌∷◌, ◌++◌, length, codes, Option, Some, None}
 use Rattle.std.specs.List.{flat_map}
 use Rattle.std.specs.Int.{w32, w64, to_be_bytes}
@@ -15,7 +15,7 @@ use Rattle.oram_core.specs.declared.parts.Pending.{Pending}
 use Rattle.oram_state.specs.declared.mode.Mode.{Mode}
 use Rattle.oram_state.specs.declared.mode.Mode.TheVariants.{Idle, Failed, Waiting, Stalled}
 
--- a number of four bytes, and one of eight
+-- a number in four bytes, and one in eight
 unfoldable pub short : ℕ → List ℕ
 short n = to_be_bytes w32 n
 
@@ -30,11 +30,11 @@ device_text d = short d.blocks ++ short d.block_bytes ++ short d.slots ++ short 
 abbrev pub block_text : Cell → List ℕ
 block_text c = short c.address ++ short c.leaf ++ c.content
 
--- the digest of a tree's root, the number of the blocks in its stash, and the blocks
+-- the digest of a tree's root record, the number of blocks in its stash, and these blocks
 abbrev pub tree_text : TreeParts → List ℕ
 tree_text t = t.root ++ short (length t.stash) ++ flat_map block_text t.stash
 
--- what is asked: 17 reads, 18 writes, 19 discards
+-- the command's first byte: 17 reads, 18 writes, 19 discards
 abbrev pub command_text : Command → List ℕ
 command_text (Read address) = 17 ∷ short address
 command_text (Write address content) = 18 ∷ (short address ++ content)
@@ -44,18 +44,18 @@ command_text (Discard address) = 19 ∷ short address
 abbrev pub pending_text : Pending → List ℕ
 pending_text q = short q.session ++ command_text q.command ++ flat_map long q.words
 
--- why a device failed: the reason's number, and then a tree, a level and a code, each 0 where the reason has none
+-- why a device failed: the reason's number, and then a tree, a level and a code, each 0 if the reason has none
 abbrev pub reason_text : Reason → List ℕ
 reason_text Malformed = 1 ∷ 0 ∷ 0 ∷ 0 ∷ []
 reason_text (Tampered tree level) = 2 ∷ tree ∷ level ∷ 0 ∷ []
 reason_text (HostRefused code) = 3 ∷ 0 ∷ 0 ∷ code ∷ []
 
--- only a core that failed has a reason
+-- only a core that failed has this field
 abbrev pub failure_text : Option Reason → List ℕ
 failure_text None = []
 failure_text (Some why) = reason_text why
 
--- what a core is at work on
+-- the parts that only a core at work has
 pub record Work : Type 0 where
   pub waiting : List Pending
   pub r : ℕ
@@ -66,13 +66,13 @@ pub record Work : Type 0 where
 abbrev pub work_of : Parts → Work
 work_of p = record { waiting = p.waiting; r = p.r; held_entry = p.held_entry; held_data = p.held_data; message = p.message }
 
--- the commands without a reply, how far the first of them is, and the message that was sent last
+-- the commands without a reply, how far the first of them is, and the message sent last
 abbrev pub work_fields : Work → List ℕ
 work_fields w =
     short (length w.waiting) ++ flat_map pending_text w.waiting ++ short w.r ++ short w.held_entry ++ w.held_data
     ++ short (length w.message) ++ w.message
 
--- a core for which nothing waits is at work on nothing
+-- a core for which no command waits has no work
 abbrev pub text_unless_idle : List Pending → List ℕ → List ℕ
 text_unless_idle [] text = []
 text_unless_idle (first ∷ others) text = text
@@ -80,7 +80,7 @@ text_unless_idle (first ∷ others) text = text
 abbrev pub work_text : Work → List ℕ
 work_text w = text_unless_idle w.waiting (work_fields w)
 
--- where a core stands, by why it failed, if it did, what waits, and whether its message counts as lost
+-- the mode of a core, given why it failed, the commands that wait, and whether the last message counts as lost
 abbrev pub mode_by : Option Reason → List Pending → Bool → Mode
 mode_by (Some why) waiting stalled = Failed
 mode_by None [] stalled = Idle
@@ -96,11 +96,11 @@ mode_number Failed = 1
 mode_number Waiting = 2
 mode_number Stalled = 3
 
--- the device, the sealer's overhead, and where the core stands
+-- the device, the sealer's overhead, the mode, the tickets and the next nonce
 abbrev pub head_text : ℕ → Parts → List ℕ
 head_text overhead p = device_text p.device ++ short overhead ++ mode_number (mode_of p) ∷ (long p.tickets ++ long p.nonce)
 
--- why it failed; or its table, its trees, and what it is at work on
+-- why the core failed; or its table, its trees and its work
 abbrev pub rest_text : Parts → List ℕ
 rest_text p = failure_text p.failure ++ flat_map short p.table ++ flat_map tree_text p.trees ++ work_text (work_of p)
 
@@ -111,10 +111,10 @@ fields_text overhead p = head_text overhead p ++ rest_text p
 abbrev pub body : ℕ → List ℕ → List ℕ
 body version fields = codes "PATHORAM" ++ short version ++ long (52 + length fields) ++ fields
 
--- a text and its digest
+-- a text followed by its digest
 abbrev pub with_digest : List ℕ → List ℕ
 with_digest text = text ++ sha256 text
 
--- the file of a core of these parts, whose sealer has this overhead
+-- the file of a core with these parts, whose sealer has this overhead
 abbrev pub state_file : ℕ → ℕ → Parts → List ℕ
 state_file version overhead p = with_digest (body version (fields_text overhead p))

@@ -1,4 +1,5 @@
--- What the parts of a core keep to for a file to spell them in one way: how many of each thing there are, and how long.
+-- The sizes that a core's parts must have so that their file can be read in only one way: how many of each, and how
+-- long.
 use Rattle.std.specs.Prelude.{◌≡◌, ℕ, ◌+◌, ◌-◌, ◌*◌, ◌^◌, ◌<◌, ◌≤◌, ◌==◌, Bool, false, if◌then◌else◌, List, [], ◌∷◌, length, Option, Some, None, ◌⊎◌}
 use Rattle.std.specs.List.{All, AllByRecursion}
 use Rattle.oram_geometry.specs.declared.Sizes.{Sizes}
@@ -12,7 +13,7 @@ use Rattle.oram_core.specs.Parts.{Parts}
 use Rattle.oram_core.specs.declared.parts.Pending.{Pending}
 use Rattle.oram_state.specs.Spelling.{Work, work_of, state_file}
 
--- numbers of four bytes, and of eight
+-- the number fits in four bytes, or in eight
 abbrev pub IsShort : ℕ → Type 0
 IsShort n = n < 2 ^ 32
 
@@ -49,7 +50,7 @@ pub record IsSizedPending (d : Sizes) (q : Pending) : Type 0 where
   pub count : length q.words ≡ 2 * trees_of d
   pub words : AllByRecursion IsLong q.words
 
--- data is held at the last step alone
+-- data is held only while the last message of a command is outstanding
 abbrev pub held_len : Sizes → ℕ → ℕ
 held_len d r = if r + 1 == 2 * trees_of d then d.block_bytes else 0
 
@@ -61,7 +62,7 @@ pub record IsSizedWork (d : Sizes) (w : Work) : Type 0 where
   pub held : length w.held_data ≡ held_len d w.r
   pub message : IsShort (length w.message)
 
--- nothing to work on
+-- no work
 abbrev pub no_work : Work
 no_work = record { waiting = []; r = 0; held_entry = 0; held_data = []; message = [] }
 
@@ -69,7 +70,7 @@ pub record IsNoWork (w : Work) (stalled : Bool) : Type 0 where
   pub none : w ≡ no_work
   pub not_stalled : stalled ≡ false
 
--- by why it failed, if it did, and what waits
+-- the work fits the mode, which follows from the failure and the commands that wait
 abbrev pub IsWorkBy : Sizes → Option Reason → List Pending → Work → Bool → Type 0
 IsWorkBy d (Some why) waiting w stalled = IsNoWork w stalled
 IsWorkBy d None [] w stalled = IsNoWork w stalled
@@ -85,28 +86,28 @@ pub record IsWellSized (p : Parts) : Type 0 where
   pub trees : AllByRecursion (IsSizedTree p.device) p.trees
   pub work : IsWorkBy p.device p.failure p.waiting (work_of p) p.stalled
 
--- counts and lengths that a file has room for
+-- the counts and lengths fit in their fields
 pub record HasCounts (p : Parts) : Type 0 where
   pub trees : All (λ t. IsShort (length t.stash)) p.trees
   pub waiting : IsShort (length p.waiting)
   pub message : IsShort (length p.message)
 
--- a command whose numbers fit their fields
+-- the numbers of a command fit in their fields
 pub record CommandFits (q : Pending) : Type 0 where
   pub session : IsShort q.session
   pub words : All IsLong q.words
 
--- Numbers and digests fit their fields. What holds of each core doesn't say so of these, but their types do.
+-- Numbers and digests fit in their fields. Soundness of a core doesn't say this, but the types of these parts do.
 pub record FitsFields (p : Parts) : Type 0 where
   pub nonce : IsLong p.nonce
   pub roots : All (λ t. length t.root ≡ 32) p.trees
   pub waiting : All CommandFits p.waiting
 
--- the first version has no file of a core that is at work
+-- the parts have a file of this version; the first version has no files of cores at work
 abbrev pub HasFile : ℕ → Parts → Type 0
 HasFile version p = ((version ≡ 1) × (p.waiting ≡ [])) ⊎ (version ≡ 2)
 
--- a file of this version spells these parts, under this overhead
+-- the text is the file of these parts in this version, under this overhead
 pub record IsFileOf (text : List ℕ) (version overhead : ℕ) (p : Parts) : Type 0 where
   pub version_known : HasFile version p
   pub overhead_fits : IsShort overhead

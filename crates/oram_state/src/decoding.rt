@@ -1,4 +1,4 @@
-//! A core is read from its file.
+//! Reads a core from its file.
 
 ghost use Rattle.std.specs.Prelude.{◌≡◌, IfOk, IfErr};
 ghost use Rattle.oram_geometry.specs.declared.Sizes.{Sizes};
@@ -12,12 +12,15 @@ use oram_bucket::Sealer;
 use oram_core::Core;
 use std::alloc::Global;
 
-/// The core that a file tells of, under the sealer that it was saved with. Files of the first version, which has none of a core
-/// at work, are read as those of the second.
+/// Makes the core whose file this is, under the sealer that it was saved with. Also reads files of the first version,
+/// which exist only for idle and failed cores.
+///
+/// Fails with the first fault of the file, and with `Content` if the file has another overhead than the sealer, or parts
+/// that can't be a core's.
 pub fn decode_state<S: Sealer>(alloc: Global, sealer: S, file: &[u8]) -> Result<Core<S>, StateFault>
     ensures sealer { IfOk result (λ c. c.sealer ≡ sealer) }
     ensures core { IfOk result (λ c. IsSaved file.now (S.overhead sealer) c.device c.state) }
-    // The core that was saved is the one read, unless memory is refused.
+    // It returns the core that was saved, unless memory runs out.
     ensures same { (d : Sizes) (s : State) → IsSaved file.now (S.overhead sealer) d s
         → IfOk result (λ c. (c.device ≡ d) × (c.state ≡ s)) }
     ensures only { (d : Sizes) (s : State) → IsSaved file.now (S.overhead sealer) d s

@@ -1,4 +1,4 @@
-//! A core is written to its file.
+//! Writes a core to its file.
 
 ghost use Rattle.std.specs.Prelude.{◌≡◌, IfOk};
 ghost use Rattle.oram_core.specs.Parts.{parts_of};
@@ -10,9 +10,10 @@ use oram_bucket::Sealer;
 use oram_core::Core;
 use std::alloc::{AllocError, Global};
 
-/// The file of a core, idle, at work, stalled or failed, in the second version.
+/// Returns the file of a core, whether idle, at work, stalled or failed, in the second version. Fails only if memory
+/// runs out.
 pub fn encode_state<S: Sealer>(alloc: Global, core: &Core<S>) -> Result<Vec<u8>, AllocError>
-    // A file tells of one core alone, so it is read as this one.
+    // A file belongs to only one core, so reading it gives this core again.
     ensures saved { IfOk result (λ file.
         IsSaved file.items (S.overhead core.now.sealer) core.now.device core.now.state) }
     ensures spelled { IfOk result (λ file. file.items

@@ -11,22 +11,22 @@ use std::alloc::{AllocError, AllocFailed};
 /// Why bytes are no state file, or can't be read as one.
 #[derive(Clone, Copy, Debug, PartialEq, Eq)]
 pub enum StateFault {
-    /// They don't begin with the eight letters.
+    /// The bytes don't begin with the eight letters.
     Magic,
-    /// The version is not known.
+    /// The version is unknown.
     Version,
-    /// They aren't as many as they say, or fewer than any file has.
+    /// The number of bytes isn't the one that the file says, or is less than any file has.
     Length,
-    /// They don't end with the digest of the others.
+    /// The last 32 bytes aren't the digest of the bytes before them.
     Digest,
-    /// They tell of what no client keeps.
+    /// The fields aren't the parts of any core.
     Content,
-    /// Memory was refused.
+    /// Memory ran out.
     OutOfMemory,
 }
 
 impl StateFault {
-    /// The number that is shown, from 1 to 5 in the order above. Refused memory has none.
+    /// Returns the number by which programs name the fault, from 1 to 5 in the order above, or `None` for `OutOfMemory`.
     pub fn number(self) -> Option<u8>
         ensures { result ≡ fault_number self }
     {

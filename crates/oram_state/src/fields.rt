@@ -1,4 +1,4 @@
-//! The fields of a file, read one after the other: each reader gives what stands at the front, and the bytes after it.
+//! Reads the fields of a file, one after the other: each function returns the field at the front and the bytes after it.
 
 ghost use Rattle.std.specs.Prelude.{◌≡◌, length, IfOk};
 ghost use Rattle.std.specs.Int.{w32, w64};
@@ -8,7 +8,7 @@ use crate::fault::StateFault;
 use byteorder::{BigEndian, ByteOrder};
 use std::alloc::Global;
 
-/// So many bytes.
+/// Reads `len` bytes.
 #[tactic(auto, unfolding(crate::specs::Reading::next_bytes))]
 pub(crate) fn read_bytes(bytes: &[u8], len: usize) -> Result<(&[u8], &[u8]), StateFault>
     ensures exact { Gives (λ x. (x.0.now, x.1.now)) result (next_bytes len bytes.now) }
@@ -52,7 +52,7 @@ pub(crate) fn read_long(bytes: &[u8]) -> Result<(u64, &[u8]), StateFault>
     Ok((BigEndian::read_u64(front), rest))
 }
 
-/// So many numbers of four bytes.
+/// Reads `count` numbers of four bytes.
 pub(crate) fn read_shorts(
     alloc: Global,
     bytes: &[u8],
@@ -70,7 +70,7 @@ pub(crate) fn read_shorts(
     Ok((numbers, rest))
 }
 
-/// So many numbers of eight bytes.
+/// Reads `count` numbers of eight bytes.
 pub(crate) fn read_longs(
     alloc: Global,
     bytes: &[u8],

@@ -1,4 +1,4 @@
-//! What stands round the fields of a file: letters, version and length before them, and a digest after them.
+//! The frame around a file's fields: letters, version and length before them, and a digest after them.
 
 ghost use Rattle.std.specs.Prelude.{◌≡◌, ◌≤◌, length, slice_range};
 ghost use Rattle.std.specs.Int.{w32, w64, from_be_bytes};
@@ -12,15 +12,15 @@ use sha2::{Digest, Sha256};
 
 pub(crate) const MAGIC: [u8; 8] = *b"PATHORAM";
 
-/// Where the version ends, and where the length does, behind which the fields begin.
+/// The offsets at which the version ends and the length ends. The fields begin after the length.
 pub(crate) const VERSION_END: usize = 12;
 
 pub(crate) const LENGTH_END: usize = 20;
 
-/// Bytes of a file beside its fields.
+/// The number of bytes of a file without its fields.
 pub(crate) const FRAME_LEN: usize = LENGTH_END + DIGEST_LEN;
 
-/// The version of a file, and its fields.
+/// Checks a file's frame, and returns the file's version and its fields.
 #[tactic(auto, unfolding(crate::specs::Reading::fields_in))]
 pub(crate) fn open(file: &[u8]) -> Result<(u32, &[u8]), StateFault>
     ensures { Gives (λ x. (x.0, x.1.now)) result (fields_in file.now) }
@@ -45,7 +45,7 @@ pub(crate) fn open(file: &[u8]) -> Result<(u32, &[u8]), StateFault>
     Ok((version, &text[LENGTH_END..]))
 }
 
-/// The length that a file tells.
+/// Returns the length that a file says it has.
 fn length_told(file: &[u8]) -> u64
     requires { LENGTH_END ≤ length file.now }
     ensures { result ≡ from_be_bytes w64 (slice_range file.now 12 20) }
@@ -53,7 +53,7 @@ fn length_told(file: &[u8]) -> u64
     BigEndian::read_u64(&file[VERSION_END..LENGTH_END])
 }
 
-/// The version that a file tells.
+/// Returns the version that a file says it has.
 fn version_told(file: &[u8]) -> u32
     requires { VERSION_END ≤ length file.now }
     ensures { result ≡ from_be_bytes w32 (slice_range file.now 8 12) }

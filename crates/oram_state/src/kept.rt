@@ -1,4 +1,4 @@
-//! What a file tells of a core that did not fail: its trees; and of one that did: the reason.
+//! Reads the fields of a core that isn't at work: the device and the trees, or why the core failed.
 
 ghost use Rattle.std.specs.Prelude.{◌≡◌};
 ghost use Rattle.oram_state.specs.Reading.{Gives, many, next_block, next_device, next_failure, next_reason, next_tree, reason_in};
@@ -32,7 +32,7 @@ pub(crate) fn read_device(bytes: &[u8]) -> Result<(Device, &[u8]), StateFault>
     Ok((device, rest))
 }
 
-/// The reason of a number, with its tree, level and code, which are 0 where it has none.
+/// Returns the reason with this number. A tree, level or code that the reason doesn't have must be 0.
 fn reason_of(kind: u8, tree: u8, level: u8, code: u8) -> Result<Reason, StateFault>
     ensures { Gives (λ why. why) result (reason_in kind tree level code) }
 {
@@ -56,7 +56,7 @@ fn read_reason(bytes: &[u8]) -> Result<(Reason, &[u8]), StateFault>
     Ok((why, rest))
 }
 
-/// Why a core failed, if it did.
+/// Reads why a core failed, if it did.
 #[tactic(auto, unfolding(crate::specs::Reading::next_failure))]
 pub(crate) fn read_failure(bytes: &[u8], mode: Mode) -> Result<(Option<Reason>, &[u8]), StateFault>
     ensures { Gives (λ x. (x.0, x.1.now)) result (next_failure mode bytes.now) }

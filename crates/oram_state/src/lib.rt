@@ -1,7 +1,7 @@
-//! The state file of a client: what is kept of a core between two runs of a program.
+//! The state file of a client: the parts of a core that are kept between two runs of a program.
 //!
 //! A file begins with eight letters, a version and its own length, and ends with the SHA-256 digest (FIPS 180-4) of all
-//! that stands before. All numbers are big-endian.
+//! bytes before the digest. All numbers are big-endian.
 #![tactic(auto)]
 
 ghost use Rattle.std.specs.Prelude.{◌≡◌, ◌↔◌, ◌<◌, ◌^◌, ℕ, List, All, Ok, length};
@@ -28,15 +28,15 @@ pub use decoding::decode_state;
 pub use encoding::encode_state;
 pub use fault::StateFault;
 
-/// A text of bytes tells of a core's parts and its sealer's overhead exactly where it is their file, of one version or the
-/// other.
+/// A law: reading a text of bytes gives a core's parts and a sealer's overhead exactly if the text is their file, in one
+/// of the two versions.
 pub fn files_are_exact()
     ensures { (text : List ℕ) (overhead : ℕ) (p : Parts) → All (λ b. b < 256) text → length text < 2 ^ 64
         → (state_in text ≡ Ok (record { overhead = overhead; parts = p }))
         ↔ ((version : ℕ) × IsFileOf text version overhead p) }
 {}
 
-/// A text tells of one core alone.
+/// A law: a text is the file of at most one core.
 pub fn files_tell_of_one_core()
     ensures { (text : List ℕ) (overhead : ℕ) (d d' : Sizes) (s s' : State) → length text < 2 ^ 64
         → IsSaved text overhead d s → IsSaved text overhead d' s' → (d ≡ d') × (s ≡ s') }

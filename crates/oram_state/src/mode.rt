@@ -1,4 +1,4 @@
-//! Where a core stands.
+//! The mode of a core: idle, failed, waiting or stalled.
 
 ghost use Rattle.std.specs.Prelude.{◌≡◌};
 ghost use Rattle.oram_state.specs.Reading.{Gives, mode_in};
@@ -9,12 +9,12 @@ use oram_core::Parts;
 
 #[derive(Clone, Copy, Debug, PartialEq, Eq)]
 pub(crate) enum Mode {
-    /// Nothing waits for a reply.
+    /// No command waits for a reply.
     Idle,
     Failed,
-    /// A message waits for its answer.
+    /// The message sent last waits for its answer.
     Waiting,
-    /// That message counts as lost.
+    /// The message sent last counts as lost.
     Stalled,
 }
 
@@ -44,7 +44,7 @@ impl Mode {
         }
     }
 
-    /// What a byte says in a file of this version.
+    /// Returns the mode for this byte in a file of this version.
     pub(crate) fn read(version: u32, byte: u8) -> Result<Mode, StateFault>
         ensures { Gives (λ mode. mode) result (mode_in version byte) }
     {

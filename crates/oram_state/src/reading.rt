@@ -1,4 +1,4 @@
-//! A file is read.
+//! Reads a file.
 
 ghost use Rattle.std.specs.Prelude.{◌≡◌, ℕ, IfOk, Ok};
 ghost use Rattle.oram_core.specs.Parts.{Parts as PartsValue};
@@ -69,7 +69,7 @@ fn read_saved(alloc: Global, bytes: &[u8], version: u32) -> Result<(Saved, &[u8]
     Ok((Saved { overhead, parts }, rest))
 }
 
-/// What the fields of a file of this version tell.
+/// Reads the fields of a file of this version, with nothing after them.
 #[tactic(auto, unfolding(crate::specs::Reading::saved_in))]
 fn read_fields(alloc: Global, bytes: &[u8], version: u32) -> Result<Saved, StateFault>
     ensures { Gives (λ saved. saved) result (saved_in version bytes.now) }
@@ -81,7 +81,7 @@ fn read_fields(alloc: Global, bytes: &[u8], version: u32) -> Result<Saved, State
     Ok(saved)
 }
 
-/// What a file tells.
+/// Reads a file: its frame and then its fields.
 #[tactic(auto, unfolding(crate::specs::Reading::state_in))]
 fn read_file(alloc: Global, file: &[u8]) -> Result<Saved, StateFault>
     ensures { Gives (λ saved. saved) result (state_in file.now) }
@@ -90,15 +90,15 @@ fn read_file(alloc: Global, file: &[u8]) -> Result<Saved, StateFault>
     read_fields(alloc, fields, version)
 }
 
-/// What a file tells, of either version.
+/// Reads a file of either version.
 pub(crate) fn read_state(alloc: Global, file: &[u8]) -> Result<Saved, StateFault>
-    // What is told is what the file was written of.
+    // What it returns is what the file was written from.
     ensures found { IfOk result (λ saved. (version : ℕ)
         × IsFileOf file.now version saved.overhead saved.parts) }
-    // What has a file is told, unless memory is refused.
+    // It reads each file, unless memory runs out.
     ensures only { (version overhead : ℕ) (p : PartsValue) → IsFileOf file.now version overhead p
         → Gives (λ saved. saved) result (Ok (record { overhead = overhead; parts = p })) }
-    // Which fault it is.
+    // It returns the first fault.
     ensures exact { Gives (λ saved. saved) result (state_in file.now) }
 {
     read_file(alloc, file)

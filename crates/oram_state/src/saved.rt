@@ -1,4 +1,4 @@
-//! What a state file tells, part by part.
+//! The content of a state file, part by part.
 
 use crate::mode::Mode;
 use oram_bytes::Bytes;
@@ -6,15 +6,15 @@ use oram_core::{Parts, Pending};
 use oram_geometry::Device;
 use std::marker::Model;
 
-/// What a file tells.
+/// The content of a file.
 #[derive(Debug, Drop)]
 pub(crate) struct Saved {
-    /// How many bytes the core's sealer adds.
+    /// The number of bytes that the core's sealer adds.
     pub(crate) overhead: u32,
     pub(crate) parts: Parts,
 }
 
-/// What each file begins with.
+/// The fields at the beginning of each file.
 #[derive(Debug, Drop)]
 pub(crate) struct Head {
     pub(crate) device: Device,
@@ -24,7 +24,7 @@ pub(crate) struct Head {
     pub(crate) nonce: u64,
 }
 
-/// What a core is at work on.
+/// The work of a core: the fields that only a core at work has.
 #[derive(Debug, Drop)]
 pub(crate) struct Work {
     pub(crate) waiting: Vec<Pending>,

@@ -1,4 +1,4 @@
-//! What a file tells of a core at work: the commands without a reply, and how far the first of them is.
+//! Reads the fields of a core at work: the commands without a reply, and how far the first of them is.
 
 ghost use Rattle.std.specs.Prelude.{◌≡◌, ◌<◌, ◌*◌, IfOk};
 ghost use Rattle.oram_geometry.specs.Sizes.{trees_of};
@@ -14,14 +14,14 @@ use oram_core::{Command, MOST_WAITING, Pending};
 use oram_geometry::Device;
 use std::alloc::Global;
 
-/// The byte by which a command says what is asked.
+/// The first bytes of commands: these say what the command asks for.
 pub(crate) const READ: u8 = 0x11;
 
 pub(crate) const WRITE: u8 = 0x12;
 
 pub(crate) const DISCARD: u8 = 0x13;
 
-/// The command of this first byte: a write has data behind its address.
+/// Reads the rest of the command with this first byte and address: a WRITE has data after the address.
 #[tactic(auto, unfolding(crate::specs::Reading::next_data))]
 fn read_data<'a>(
     alloc: Global,
@@ -97,7 +97,7 @@ fn read_pendings<'a>(
     Ok((waiting, rest))
 }
 
-/// The commands without a reply, of which there is one at least.
+/// Reads the commands without a reply, from 1 to 64.
 #[tactic(auto, unfolding(crate::specs::Reading::next_waiting))]
 fn read_waiting<'a>(
     alloc: Global,
@@ -113,7 +113,7 @@ fn read_waiting<'a>(
     read_pendings(alloc, rest, device, count)
 }
 
-/// The entry of the first command that is outstanding.
+/// Reads which of the first command's messages is outstanding, counted from 0.
 #[tactic(auto, unfolding(crate::specs::Reading::next_step))]
 fn read_step<'a>(bytes: &'a [u8], device: &Device) -> Result<(u32, &'a [u8]), StateFault>
     ensures exact { Gives (λ x. (x.0, x.1.now)) result (next_step device.now bytes.now) }
@@ -161,7 +161,7 @@ fn read_work<'a>(
     ))
 }
 
-/// What a core is at work on: nothing, unless a message waits or is lost.
+/// Reads the work of a core in this mode. A core that is idle or failed has none.
 #[tactic(auto, unfolding(crate::specs::Reading::next_work_in))]
 pub(crate) fn read_work_in<'a>(
     alloc: Global,
@@ -177,7 +177,8 @@ pub(crate) fn read_work_in<'a>(
     }
 }
 
-/// Bytes of the data that is held at an entry of a command: a block's at the last.
+/// Returns the number of bytes of the data that is held while message `r` of a command is outstanding: a block's at the
+/// last message, and else none.
 fn held_len(device: &Device, r: u32) -> usize
     requires { r < 2 * trees_of device.now }
     ensures { result ≡ specs.held_len device.now r }

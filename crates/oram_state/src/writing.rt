@@ -1,4 +1,4 @@
-//! A file is written.
+//! Writes a file.
 
 ghost use Rattle.std.specs.Prelude.{◌≡◌, ◌≢◌, ◌≤◌, ◌<◌, ◌^◌, ◌++◌, [], length, take, drop, All, IfOk, OnOk};
 ghost use Rattle.std.specs.List.{flat_map};
@@ -17,13 +17,13 @@ use oram_tree::TreeParts;
 use sha2::{Digest, Sha256};
 use std::alloc::{AllocError, Global};
 
-/// The version that is written.
+/// The version of the files that this crate writes.
 const VERSION: u32 = 2;
 
-/// Bytes before the fields' first that depends on the mode: a device, an overhead, a mode, tickets and a nonce.
+/// The number of bytes of the fields that don't depend on the mode: a device, an overhead, a mode, tickets and a nonce.
 const HEAD_LEN: usize = 24 + 4 + 1 + 8 + 8;
 
-/// The file of a core of these parts, whose sealer has this overhead. Its room is taken once.
+/// Returns the file of a core with these parts, whose sealer has this overhead. Allocates once.
 pub(crate) fn write_state(
     alloc: Global,
     overhead: u32,
@@ -39,7 +39,7 @@ pub(crate) fn write_state(
     Ok(file)
 }
 
-/// All of the file but its digest. The length is written last, into a place that was left for it.
+/// Writes all of the file except its digest. Fills in the length last, when it is known.
 fn write_body(alloc: Global, overhead: u32, parts: &Parts) -> Result<Vec<u8>, AllocError>
     requires { HasCounts parts.now }
     ensures spelled { IfOk result (λ file. file.items ≡ body 2 (fields_text overhead parts.now)) }
@@ -56,7 +56,7 @@ fn write_body(alloc: Global, overhead: u32, parts: &Parts) -> Result<Vec<u8>, Al
     Ok(file)
 }
 
-/// Writes the length of a file into its place.
+/// Overwrites the length of a file.
 fn set_length(file: &mut [u8], len: u64)
     requires { LENGTH_END ≤ length file.old }
     ensures { file.new ≡ take 12 file.old ++ (long len ++ drop 20 file.old) }
@@ -64,7 +64,7 @@ fn set_length(file: &mut [u8], len: u64)
     file[VERSION_END..LENGTH_END].copy_from_slice(&len.to_be_bytes());
 }
 
-/// Bytes of the file of these parts.
+/// Returns a number of bytes that is enough for the file of these parts.
 fn room(parts: &Parts) -> usize {
     let block_bytes = parts.device.block_bytes();
     let mut room = (FRAME_LEN + HEAD_LEN + 4).saturating_add(parts.table.len().saturating_mul(4));

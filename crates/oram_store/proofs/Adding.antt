@@ -22,7 +22,7 @@ use Rattle.oram_wire.specs.declared.host_messages.HostRequest.TheVariants as req
 use Rattle.oram_store.proofs.Finding.{found_leads}
 use Rattle.oram_store.proofs.Sound.{loose_leaves}
 
--- a place that is no cell of these has no mark
+-- a place that isn't one of these cells has no mark
 pub marks_miss : (cells : List ℕ) (cell : ℕ) → (Contains cells cell → ⊥) → Spares (marks cells) cell
 marks_miss [] cell fresh = tt
 marks_miss (c ∷ cells) cell fresh = (beside (cases_order cell c), marks_miss cells cell (λ has. fresh (suc has.0, omega (arith, has.1), has.2)))

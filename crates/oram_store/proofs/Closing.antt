@@ -1,4 +1,4 @@
--- A store that is closed.
+-- Closing a store.
 use Rattle.std.proofs.Common.{◌≡◌, inl, inr, ℕ, ◌≤◌, true, false, List, [], refl, sym, ◌∙◌, ap, subst, arith, Result, Ok, Err}
 use Rattle.std.specs.Prelude.{IsErrAnd, OnOk}
 use Rattle.std.proofs.lemmas.Bool.{cases_Bool}
@@ -35,7 +35,7 @@ module _ {F : Type 0} (seen : F → Contents) (may_leave : F → Contents → Ty
         λ i. ap (λ (ps : List Patch). put_all ps (c Records) i) (sym none) ∙ s.stands c now i tt,
       )
 
-  -- the records of before are those of the file
+  -- the records from before are those of the file
   holds_all : (old mid : StoreValue F) → mid.trees ≡ old.trees → mid.pending ≡ [] → AreKept (records_of seen old) (records_of seen mid)
       → (c : Content) → Holds mid.trees (sure_records seen mid) c → Holds old.trees (records_of seen old) c
   holds_all old mid trees none kept c holds = record {
@@ -55,7 +55,7 @@ module _ {F : Type 0} (seen : F → Contents) (may_leave : F → Contents → Ty
             (subst (λ (d : Content). Holds mid.trees (sure_records seen mid) d) (sym is) (record { file = sound.file.file; kept = λ tree node. refl }));
       }
 
-  -- a crash while the log begins anew
+  -- a crash while the log is emptied
   pub closes_whole : (old mid : StoreValue F) (last : FileValue F) → mid.trees ≡ old.trees → mid.pending ≡ [] → Settles seen may_leave moment left_since old mid
       → ((loose : List Patch) → IsSteady seen may_leave mid.file loose → Passes seen may_leave moment left_since [] (λ r. AgreesBut loose r (seen mid.file.files Records)) mid.file last)
       → (mid.file.has_stopped ≡ true → last ≡ mid.file)

@@ -55,7 +55,7 @@ found_whole b before c batch is whole =
     (λ stands. found_more before c (λ r. AgreesBut [] r (put_all batch (before Records))) (λ r. Agrees r (before Records) ⊎ Agrees r (put_all batch (before Records))) (λ r agrees. inr (λ i. agrees i tt)) (found_standing [] before c (put_all batch (before Records)) all.front stands))
     all.stands
 
--- fewer places are sure
+-- a settled log is settled too if more places count as loose
 pub settled_more : (redo : Redo) (loose : List Patch) (seen : Contents) (leave : Contents → Type 0) → IsSettled redo [] seen leave → IsSettled redo loose seen leave
 settled_more redo loose seen leave s = record { patches = s.patches; log = s.log; end = s.end; sure = s.sure; stands = λ c now i spared. s.stands c now i tt }
 
@@ -88,7 +88,7 @@ module _ {F : Type 0} (seen : F → Contents) (may_leave : F → Contents → Ty
       → ((r : Content) → Q r → R r) → LeavesOnly moment left_since old new (Finds (seen old) R)
   found_leads old new Q R leaves leads = leads_to moment left_since old new (Finds (seen old) Q) (Finds (seen old) R) leaves (λ c found. found_more (seen old) c Q R leads found)
 
-  -- what is read is found, as all that was written may be left
+  -- what is read is found, because a crash may leave everything that was written
   pub same_front : (old new : F) (Q : Content → Type 0) → LeavesOnly moment left_since old new (Finds (seen old) Q)
       → ((t : ℕ) (c : Contents) → t ≤ moment new → may_leave new c → left_since new t c) → may_leave new (seen new) → SameFront bounds (seen old) (seen new)
   same_front old new Q leaves counts_now whole = (leaves.each (seen new) (counts_now (moment old) (seen new) leaves.later whole)).front
@@ -185,7 +185,7 @@ module _ {F : Type 0} (seen : F → Contents) (may_leave : F → Contents → Ty
         (λ r q. ⊎_elim (λ agrees. inl agrees) (λ found. inr (record { allowed = allows found.allowed; holds = found.holds })) q);
   }
 
-  -- what is written is made sure first
+  -- what is written is made durable first
   pub commits_err : (batch : List Patch) (old new : FileValue F) (result : Result Unit StoreFault) → IsErr result
       → ((loose : List Patch) → IsSteady seen may_leave old loose → Passes seen may_leave moment left_since [] (λ r. AgreesBut loose r (seen old.files Records)) old new)
       → Agrees (seen new.files Records) (seen old.files Records) → Commits seen may_leave moment left_since batch result old new
@@ -257,7 +257,7 @@ module _ {F : Type 0} (seen : F → Contents) (may_leave : F → Contents → Ty
       steady_err (Ok x) = tt
       steady_err (Err e) = λ loose s running. more_loose new loose ((all loose s).steady running)
 
--- the error of a call is handed on
+-- the error of a call is passed on
 pub error_is : {T : Type 0} (result : Result T StoreFault) (fault : StoreFault) (P : StoreFault → Type 0) → IsErrAnd result (λ e. e ≡ fault) → P fault → IfErr result P
 error_is (Ok x) fault P is holds = absurd is
 error_is (Err e) fault P is holds = subst P (sym is) holds

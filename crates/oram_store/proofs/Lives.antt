@@ -1,4 +1,4 @@
--- What a store's first requests leave, and what a crash finds of them.
+-- What a store's first requests leave, and what a crash finds of it.
 use Rattle.std.proofs.Common.{◌≡◌, ℕ, List, [], Option, None, Some, refl, sym, ◌∙◌, ap, subst, Bool, eq-eqb}
 use Rattle.std.specs.Prelude.{replicate, if◌then◌else◌, ◌==◌}
 use Rattle.oram_redo.specs.Content.{Content}
@@ -51,7 +51,7 @@ one_shape : (a b : TreeShape) → Some a ≡ Some b → a ≡ b
 one_shape a b e = cc
 
 module _ {F : Type 0} (seen : F → Contents) (may_leave : F → Contents → Type 0) (moment : F → ℕ) (left_since : F → ℕ → Contents → Type 0) where
-  -- where nothing waits, what is answered is sure
+  -- if no record waits, the records that the answers are about are sure
   pub sure_is : (s : StoreValue F) → s.pending ≡ [] → AreKept (records_of seen s) (sure_records seen s)
   sure_is s none tree node = sym (ap (λ (cells : List ℕ). records_in s.trees (put_all (marks cells) (seen s.file.files Records)) tree node) none)
 

@@ -1,4 +1,5 @@
--- What comes before a record is put: room among the pending cells, and a look at the node's cell.
+-- The steps before a record is put: making room among the pending cells, and looking at the node's
+-- cell.
 use Rattle.std.proofs.Common.{◌≡◌, ◌⊎◌, inl, inr, ℕ, ◌≤◌, true, false, true≢false, List, [], sym, ◌∙◌, ap, subst, arith}
 use Rattle.std.specs.Prelude.{All}
 use Rattle.std.proofs.lemmas.Bool.{cases_Bool}
@@ -22,7 +23,7 @@ use Rattle.oram_store.proofs.Served.{refused_kept, serves_after}
 use Rattle.oram_store.proofs.Sound.{reads_leave}
 
 module _ {F : Type 0} (seen : F → Contents) (may_leave : F → Contents → Type 0) (moment : F → ℕ) (left_since : F → ℕ → Contents → Type 0) where
-  -- a request that is served once there is room: by a settling, or as it was
+  -- a request that is served once there is room, after a settling or at once
   pub serves_room : (message : HostRequest) (given : HostAnswer) (old mid new : StoreValue F) → IsSound seen may_leave old → Settles seen may_leave moment left_since old mid → (mid ≡ old) ⊎ (mid.pending ≡ []) → mid.trees ≡ old.trees
       → (IsSound seen may_leave mid → Serves seen may_leave moment left_since message given mid new) → (mid.file.has_stopped ≡ true → new.file ≡ mid.file)
       → ((t : ℕ) (c : Contents) → t ≤ moment mid.file.files → may_leave mid.file.files c → left_since mid.file.files t c) → may_leave mid.file.files (seen mid.file.files)

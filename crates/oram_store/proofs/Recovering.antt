@@ -1,4 +1,4 @@
--- Files that are made and opened.
+-- Making and opening files.
 use Rattle.std.proofs.Common.{◌≡◌, ◌⊎◌, inl, inr, ⊎_elim, ℕ, ◌≤◌, false, List, [], length, None, refl, sym, ◌∙◌, ap, subst, arith}
 use Rattle.std.specs.Prelude.{replicate}
 use Rattle.oram_redo.specs.Content.{Content, Agrees, Has, put}
@@ -104,7 +104,7 @@ module _ {F : Type 0} (seen : F → Contents) (may_leave : F → Contents → Ty
       which = ⊎_elim (λ memory. inl memory) (λ io. inr (inl io)) which;
     }
 
-    -- its entries are no trees
+    -- its entries aren't those of trees
     pub not_trees : (e : LayoutFault) (bytes : List ℕ) (old mid new : F) → ComesAfter failures shortages is_honest old mid → ComesAfter failures shortages is_honest mid new
         → (is_honest new → OpensAlike seen may_leave moment left_since old new)
         → (is_honest mid → StandsFor bounds [] (seen mid Records) (seen old)) → (is_honest new → Has bytes 4096 (seen mid Records))

@@ -39,7 +39,7 @@ lacks_keep one two tree s leaf same lacks = (lacks.0, lacks.1, sym (same tree _)
 kept_then : (one two three : RecordsOf) → AreKept one two → AreKept two three → AreKept one three
 kept_then one two three first second tree node = second tree node ∙ first tree node
 
--- an answer by records that are those of before
+-- an answer stays right if the records before it are the same
 answers_keep : (trees : Trees) (one two three : RecordsOf) (message : HostRequest) (given : HostAnswer) → AreKept one two → Answers trees two message given three → Answers trees one message given three
 answers_keep trees one two three (request.Fetch tree leaf) (answer.Payload bytes) same said = (said.0, said.1, path_keep one two tree said.0 leaf bytes same said.2, kept_then one two three same said.3)
 answers_keep trees one two three (request.Fetch tree leaf) answer.Done same said = said
@@ -60,7 +60,7 @@ carried_keep trees one two (request.Store tree leaf records) c same out = (out.0
 carried_keep trees one two (request.Put tree node bytes) c same out = (out.0, puts_keep tree node bytes one two (records_in trees c) same out.1)
 carried_keep trees one two (request.Shape tree depth record_len) c same out = (out.0, out.1, holds_then out.0 one two c same out.2)
 
--- a refusal for want of room changes nothing
+-- a refusal for lack of room changes nothing
 pub refused_kept : (trees : Trees) (old new : RecordsOf) (message : HostRequest) (code : ℕ) → (code ≡ 6 → ⊥) → AreKept old new → Answers trees old message (answer.Refused code) new
 refused_kept trees old new (request.Fetch tree leaf) code unlike kept = (λ missing. absurd (unlike missing), kept)
 refused_kept trees old new (request.Store tree leaf records) code unlike kept = kept
@@ -68,7 +68,7 @@ refused_kept trees old new (request.Put tree node bytes) code unlike kept = kept
 refused_kept trees old new (request.Shape tree depth record_len) code unlike kept = kept
 
 module _ {F : Type 0} (seen : F → Contents) (may_leave : F → Contents → Type 0) (moment : F → ℕ) (left_since : F → ℕ → Contents → Type 0) where
-  -- what was settled or tried to be, and then refused
+  -- PUTs were settled, or should have been, and then the request was refused
   pub serves_settled : (message : HostRequest) (code : ℕ) (old new : StoreValue F) → (code ≡ 6 → ⊥) → Settles seen may_leave moment left_since old new
       → Serves seen may_leave moment left_since message (answer.Refused code) old new
   serves_settled message code old new unlike settles = record {
@@ -113,7 +113,7 @@ module _ {F : Type 0} (seen : F → Contents) (may_leave : F → Contents → Ty
       began : LeavesOnly moment left_since old.file.files mid.file.files (Finds (seen old.file.files) Ends)
       began = found_leads seen may_leave moment left_since old.file.files mid.file.files (MayHold old.trees (sure_records seen old) (records_of seen old)) Ends first.any_moment (λ r holds. inl holds)
 
-  -- why there is no room is no part of what is served
+  -- the reason why there is no room doesn't matter for what is served
   pub serves_failure : (message : HostRequest) (given : HostAnswer) (old new : StoreValue F) (failure : Option StoreFault) → Serves seen may_leave moment left_since message given old new
       → Serves seen may_leave moment left_since message given old (record { file = new.file; trees = new.trees; pending = new.pending; failure = failure })
   serves_failure message given old new failure serves = record {

@@ -1,4 +1,4 @@
--- PUTs that are settled.
+-- Settling PUTs.
 use Rattle.std.proofs.Common.{◌≡◌, ◌⊎◌, inl, inr, ⊎_elim, ℕ, true, false, List, [], refl, sym, ◌∙◌, ap, subst, Result, Ok, Err, arith}
 use Rattle.std.specs.Prelude.{All, OnErr, OnOk}
 use Rattle.oram_layout.specs.BucketFile.{IsBucketFile}

@@ -146,7 +146,7 @@ module _ {F : Type 0} (seen : F → Contents) (may_leave : F → Contents → Ty
     loose = second.loose ∙ first.loose;
   }
 
-  -- patches that change the records so
+  -- patches that change the records in this way
   pub commits_change : (trees : Trees) (change : RecordsOf → RecordsOf → Type 0) (batch : List Patch) (result : Result Unit StoreFault) (old new : FileValue F) → IsSoundFile seen may_leave trees old
       → Commits seen may_leave moment left_since batch result old new
       → ((c : Content) → Agrees c (put_all batch (seen old.files Records)) → IsBucketFile trees c × change (records_in trees (seen old.files Records)) (records_in trees c))

@@ -1,4 +1,4 @@
--- What came of a request, as what is told of it.
+-- The outcome of a request, as its answer.
 use Rattle.std.proofs.Common.{◌≡◌, inl, refl, arith, Err, Ok, Option, Result, Some, List, [], ◌∷◌, ℕ, None, drop, sym, ap, ◌∙◌}
 use Rattle.std.specs.Prelude.{IsErrAnd, IsSomeAnd}
 use Rattle.oram_wire.specs.declared.host_messages.HostAnswer.{HostAnswer}
@@ -38,13 +38,13 @@ module _ (old new : Trees) (front : List ℕ) where
   told_done (request.Put tree node sent) h allowed leads = (allowed, leads)
   told_done (request.Shape tree depth record_len) h allowed leads = (allowed, leads)
 
--- a reason of the file's is one of the request's
+-- a reason of the file is a reason for the request
 pub reason_for : {F : Type 0} (failures shortages : F → ℕ → Type 0) (old new : StoreValue F) (message : HostRequest) (failure : Option StoreFault)
     → IsSomeAnd failure (IsReason failures shortages old.file new.file) → IsSomeAnd failure (IsReasonFor failures shortages old new message)
 reason_for failures shortages old new message None reason = absurd reason
 reason_for failures shortages old new message (Some fault) reason = inl reason
 
--- the error that is handed on
+-- the error that is passed on
 pub error_of : {T E : Type 0} (result : Result T E) (error given : E) → IsErrAnd result (λ e. e ≡ error) → result ≡ Err given → error ≡ given
 error_of (Ok x) error given is same = absurd is
 error_of (Err e) error given is same = sym is ∙ cc
@@ -60,7 +60,7 @@ no_room_is refusal.Missing is = absurd (omega arith)
 no_room_is refusal.BadOp is = absurd (omega arith)
 no_room_is refusal.OutOfMemory is = refl
 
--- the payload is what stands behind one byte
+-- the payload comes after one byte
 pub payload_is : (first : ℕ) (bytes : _) (records : List ℕ) (answer : HostAnswer) → StandsFor (first ∷ []) (served.Records bytes) answer → bytes.items ≡ first ∷ records
     → answer ≡ Payload records
 payload_is first bytes records answer h e = h.2 ∙ ap Payload (ap (drop 1) (sym h.1 ∙ e))

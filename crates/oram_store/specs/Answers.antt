@@ -10,8 +10,8 @@ use Rattle.oram_layout.specs.Trees.{Trees, shape_at}
 use Rattle.oram_store.specs.Keeping.{Puts, Stores}
 use Rattle.oram_store.specs.declared.faults.StoreFault.{StoreFault}
 
--- The answer to a request, by the records before it and after it. A request that is refused changes none. For what else one is refused,
--- the trees tell.
+-- The answer to a request, by the records before it and after it. A refused request changes none. The trees give all
+-- other reasons to refuse a request.
 abbrev pub Answers : Trees → Records → HostRequest → HostAnswer → Records → Type 0
 Answers trees old (request.Fetch tree leaf) (answer.Payload bytes) new =
     (s : TreeShape) × (shape_at trees tree ≡ Some s) × IsPathOf old tree s leaf bytes × AreKept old new
@@ -36,7 +36,7 @@ IsGranted answer.Done = ⊤
 IsGranted (answer.Payload bytes) = ⊤
 IsGranted (answer.Refused code) = ⊥
 
--- the answer to a request by what came of it, where it asks for no records: it is done, or there is no room
+-- the answer to a request that asks for no records, by its outcome: it is done, or there is no room
 abbrev pub answer_by : Result Unit StoreFault → HostAnswer
 answer_by (Ok _) = answer.Done
 answer_by (Err _) = answer.Refused 8

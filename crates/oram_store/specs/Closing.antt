@@ -10,12 +10,12 @@ use Rattle.oram_store.specs.Keeping.{Holds, IsSound, StoreValue, records_of, sur
 use Rattle.oram_store.specs.RecordFile.{Calls, FileValue, Finds, bounds}
 use Rattle.oram_store.specs.declared.faults.StoreFault.{StoreFault}
 
--- The file has these records without its log, which is empty.
+-- The file has these records even without its log, which is empty.
 pub record IsClosed (trees : Trees) (records : Records) (c : Contents) : Type 0 where
   pub log : IsLog bounds [] (c Log)
   pub holds : Holds trees records (c OfRecords)
 
--- A store is closed. `last` is its file when it is given up.
+-- A store is closed. `last` is its file when it is dropped.
 pub record Closes {F : Type 0} (seen : F → Contents) (may_leave : F → Contents → Type 0) (moment : F → ℕ) (left_since : F → ℕ → Contents → Type 0)
     (failures shortages : F → ℕ → Type 0) (is_honest : F → Type 0) (result : Result Unit StoreFault) (old : StoreValue F) (last : FileValue F) : Type 0 where
   pub sure : OnOk result (IsSound seen may_leave old → (c : Contents) → may_leave last.files c → IsClosed old.trees (records_of seen old) c)

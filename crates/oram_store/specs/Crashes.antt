@@ -15,7 +15,7 @@ use Rattle.oram_store.specs.Keeping.{Holds, IsSound, Puts, StoreValue, Stores, r
 use Rattle.oram_store.specs.Refusals.{Leads}
 use Rattle.oram_store.specs.RecordFile.{Finds, OnlyIf}
 
--- the content is that of a bucket file once a request was carried out over these trees and records
+-- the content is that of a bucket file after a request was carried out over these trees and records
 abbrev pub IsCarriedOut : Trees → Records → HostRequest → Content → Type 0
 IsCarriedOut trees old (request.Fetch tree leaf) c = Holds trees old c
 IsCarriedOut trees old (request.Store tree leaf records) c =
@@ -23,11 +23,11 @@ IsCarriedOut trees old (request.Store tree leaf records) c =
 IsCarriedOut trees old (request.Put tree node bytes) c = IsBucketFile trees c × Puts tree node bytes old (records_in trees c)
 IsCarriedOut trees old (request.Shape tree depth record_len) c = (new : Trees) × Leads trees (request.Shape tree depth record_len) new × Holds new old c
 
--- the records that were sure, or all that there were
+-- the records that were sure, or all records that there were
 abbrev pub MayHold : Trees → Records → Records → Content → Type 0
 MayHold trees sure all c = Holds trees sure c ⊎ Holds trees all c
 
--- A crash while these PUTs are settled finds them all, or those that were sure.
+-- A crash while these PUTs are settled finds them all, or only the records that were sure.
 abbrev pub SettlesWhole : {F : Type 0} → (F → Contents) → (F → ℕ) → (F → ℕ → Contents → Type 0) → StoreValue F → StoreValue F → Type 0
 SettlesWhole seen moment left_since old new =
     LeavesOnly moment left_since old.file.files new.file.files (Finds (seen old.file.files) (MayHold old.trees (sure_records seen old) (records_of seen old)))
@@ -39,20 +39,21 @@ pub record Settles {F : Type 0} (seen : F → Contents) (may_leave : F → Conte
   pub records : new.file.has_stopped ≡ false → AreKept (records_of seen old) (records_of seen new)
   pub any_moment : SettlesWhole seen moment left_since old new
 
--- What a request makes may be found: it is answered as carried out, or the file has stopped, and then nobody knows.
+-- A crash may find what a request makes if the request is answered as carried out, or if the file has stopped, because
+-- nobody knows then.
 abbrev pub MayBeFound : HostAnswer → Bool → Type 0
 MayBeFound (answer.Refused code) has_stopped = has_stopped ≡ true
 MayBeFound answer has_stopped = ⊤
 
--- A crash while this request is carried out finds what was there, or what the request makes of it: all of that or nothing. Nothing of a
--- request that is refused is found, unless the file has stopped.
+-- A crash while this request is carried out finds what was there before, or what the request makes of it: all of that
+-- or nothing. If the request is refused, it finds nothing of it, unless the file has stopped.
 abbrev pub ServesWhole : {F : Type 0} → (F → Contents) → (F → ℕ) → (F → ℕ → Contents → Type 0) → HostRequest → HostAnswer → StoreValue F → StoreValue F → Type 0
 ServesWhole seen moment left_since message answer old new =
     LeavesOnly moment left_since old.file.files new.file.files
     (Finds (seen old.file.files) (λ c. MayHold old.trees (sure_records seen old) (records_of seen old) c
     ⊎ OnlyIf (MayBeFound answer new.file.has_stopped) (IsCarriedOut old.trees (records_of seen old) message c)))
 
--- The store answers a request so, and is this afterwards.
+-- The store gives this answer to a request, and is `new` afterwards.
 pub record Serves {F : Type 0} (seen : F → Contents) (may_leave : F → Contents → Type 0) (moment : F → ℕ) (left_since : F → ℕ → Contents → Type 0)
     (message : HostRequest) (answer : HostAnswer) (old new : StoreValue F) : Type 0 where
   pub sound : new.file.has_stopped ≡ false → IsSound seen may_leave new

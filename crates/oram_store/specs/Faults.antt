@@ -1,4 +1,4 @@
--- What an error of a layer below is to a store.
+-- The store's fault for an error of a layer below.
 use Rattle.oram_layout.specs.declared.faults.LayoutFault.{LayoutFault}
 use Rattle.oram_layout.specs.declared.faults.LayoutFault.TheVariants as layout
 use Rattle.oram_redo.specs.declared.faults.RedoError.{RedoError}

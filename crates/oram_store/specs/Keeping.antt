@@ -18,7 +18,7 @@ pub record StoreValue (F : Type 0) : Type 0 where
   pub pending : List ℕ  -- the cells whose records were PUT and whose first bytes aren't set yet
   pub failure : Option StoreFault  -- why there was no room, the last time that there was none
 
--- the content of the file, and the one that answers go by
+-- the content of the file, and the content that the answers are about
 abbrev pub sure_content : {F : Type 0} → (F → Contents) → StoreValue F → Content
 sure_content seen s = seen s.file.files OfRecords
 
@@ -29,35 +29,36 @@ content_of seen s = put_all (marks s.pending) (sure_content seen s)
 abbrev pub sure_records : {F : Type 0} → (F → Contents) → StoreValue F → Records
 sure_records seen s = records_in s.trees (sure_content seen s)
 
--- the records that answers go by
+-- the records that the answers are about
 abbrev pub records_of : {F : Type 0} → (F → Contents) → StoreValue F → Records
 records_of seen s = records_in s.trees (content_of seen s)
 
--- the content is a bucket file's with these trees and records
+-- the content is that of a bucket file with these trees and records
 pub record Holds (trees : Trees) (records : Records) (c : Content) : Type 0 where
   pub file : IsBucketFile trees c
   pub kept : AreKept records (records_in trees c)
 
--- The file is a bucket file with these trees, and what a crash may change in it is no record.
+-- The file is a bucket file with these trees, and a crash changes no record in it.
 pub record IsSoundFile {F : Type 0} (seen : F → Contents) (may_leave : F → Contents → Type 0) (trees : Trees) (v : FileValue F) : Type 0 where
   pub loose : List Patch
   pub steady : IsSteady seen may_leave v loose
   pub off : All (IsOffRecords trees (seen v.files OfRecords)) loose
   pub file : IsBucketFile trees (seen v.files OfRecords)
 
--- A store whose file is as it has left it.
+-- A store whose file is as the store has left it.
 pub record IsSound {F : Type 0} (seen : F → Contents) (may_leave : F → Contents → Type 0) (s : StoreValue F) : Type 0 where
   pub file : IsSoundFile seen may_leave s.trees s.file
   pub cells : All (IsCell s.trees) s.pending
 
--- no record was changed, and none would be by a crash at any moment
+-- no record was changed, and a crash at any moment changes none
 pub record LeavesRecords {F : Type 0} (seen : F → Contents) (may_leave : F → Contents → Type 0) (moment : F → ℕ) (left_since : F → ℕ → Contents → Type 0)
     (trees : Trees) (old new : FileValue F) : Type 0 where
   pub sound : new.has_stopped ≡ false → IsSoundFile seen may_leave trees new
   pub kept : new.has_stopped ≡ false → AreKept (records_in trees (seen old.files OfRecords)) (records_in trees (seen new.files OfRecords))
   pub moments : LeavesOnly moment left_since old.files new.files (Finds (seen old.files) (Holds trees (records_in trees (seen old.files OfRecords))))
 
--- The records are changed so, or not at all, whenever a crash comes; and not at all where that is refused, unless the file has stopped.
+-- The records are changed in this way or not at all, whenever a crash comes. On an error they aren't changed, unless
+-- the file has stopped.
 pub record Changes {F : Type 0} (seen : F → Contents) (may_leave : F → Contents → Type 0) (moment : F → ℕ) (left_since : F → ℕ → Contents → Type 0)
     (trees : Trees) (change : Records → Records → Type 0) (result : Result Unit StoreFault) (old new : FileValue F) : Type 0 where
   pub sound : new.has_stopped ≡ false → IsSoundFile seen may_leave trees new
@@ -66,10 +67,10 @@ pub record Changes {F : Type 0} (seen : F → Contents) (may_leave : F → Conte
   pub moments : LeavesOnly moment left_since old.files new.files (Finds (seen old.files) (λ c. Holds trees (records_in trees (seen old.files OfRecords)) c
       ⊎ OnlyIf (OnErr result (new.has_stopped ≡ true)) (IsBucketFile trees c × change (records_in trees (seen old.files OfRecords)) (records_in trees c))))
 
--- the records of a path are these now, and all others are as they were
+-- the records of a path are `bytes` now, and all others are as they were
 abbrev pub Stores : ℕ → TreeShape → ℕ → List ℕ → Records → Records → Type 0
 Stores tree s leaf bytes old new = IsPathOf new tree s leaf bytes × KeepsOffPath old tree s leaf new
 
--- the record of a node is this now, and all others are as they were
+-- the record of a node is `bytes` now, and all others are as they were
 abbrev pub Puts : ℕ → ℕ → List ℕ → Records → Records → Type 0
 Puts tree node bytes old new = (new tree node ≡ Some bytes) × KeepsOthers old tree node new

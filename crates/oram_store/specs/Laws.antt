@@ -10,7 +10,7 @@ use Rattle.oram_store.specs.Keeping.{Stores}
 abbrev pub no_records : Records
 no_records tree node = None
 
--- The content is a bucket file's. It has a tree of this shape, the records of one leaf's path, and no others.
+-- The content is that of a bucket file. It has a tree of this shape, the records of one leaf's path, and no others.
 pub record HoldsPath (trees : Trees) (tree : ℕ) (s : TreeShape) (leaf : ℕ) (bytes : List ℕ) (c : Content) : Type 0 where
   pub file : IsBucketFile trees c
   pub shape : shape_at trees tree ≡ Some s

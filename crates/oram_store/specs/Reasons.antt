@@ -9,12 +9,13 @@ use Rattle.oram_store.specs.RecordFile.{IsReason}
 use Rattle.oram_store.specs.declared.faults.StoreFault.{StoreFault}
 use Rattle.oram_store.specs.declared.faults.StoreFault.TheVariants.{NoRoom}
 
--- the request is for a tree whose cells would end behind the last place of a file
+-- the request is for a tree whose cells would end after the last place of a file
 abbrev pub HasNoPlace : Trees → HostRequest → Type 0
 HasNoPlace trees (request.Shape tree depth record_len) = 2 ^ 62 < next_of trees + cells_len (record { depth = depth; record_len = record_len })
 HasNoPlace trees message = ⊥
 
--- Why a request wasn't carried out that the trees don't refuse: a call of the file tells why, or there is no place for a tree.
+-- Why a request that the trees don't refuse wasn't carried out: a call of the file gives the reason, or there is no
+-- place for a tree.
 abbrev pub IsReasonFor : {F : Type 0} → (F → ℕ → Type 0) → (F → ℕ → Type 0) → StoreValue F → StoreValue F → HostRequest → StoreFault → Type 0
 IsReasonFor failures shortages old new message fault = IsReason failures shortages old.file new.file fault ⊎ ((fault ≡ NoRoom) × HasNoPlace old.trees message)
 

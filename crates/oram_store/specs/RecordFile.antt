@@ -16,40 +16,41 @@ pub record FileValue (F : Type 0) : Type 0 where
   pub is_loose : Bool  -- a patch was written since the last sync of the records that the log doesn't have
   pub has_stopped : Bool  -- a call of the files has failed: they have to be opened again
 
--- The log's first 4096 bytes are for its front, and it has 64 MiB. The records may go as far as files do.
+-- The log's first 4096 bytes are for its front, and the log has 64 MiB. The records may go as far as files do.
 abbrev pub bounds : Bounds
 bounds = record { log_start = 4096; log_end = 2 ^ 26; records_end = 2 ^ 62 }
 
--- Whatever a crash leaves stands for the records that are read, but for the places of `loose`.
+-- Whatever a crash leaves stands for the records that are read, except in the places of `loose`.
 pub record IsSteady {F : Type 0} (seen : F → Contents) (may_leave : F → Contents → Type 0) (v : FileValue F) (loose : List Patch) : Type 0 where
   pub bounded : bounds_of v.redo ≡ bounds
   pub settled : IsSettled v.redo loose (seen v.files) (may_leave v.files)
   pub sure : v.is_loose ≡ false → IsSettled v.redo [] (seen v.files) (may_leave v.files)
 
--- A crash leaves files that stand for such records, and the log's front as it was.
+-- A crash leaves files that stand for records that Q holds of, and the log's front as it was.
 pub record Finds (before : Contents) (Q : Content → Type 0) (c : Contents) : Type 0 where
   pub front : SameFront bounds before c
   pub records : Content
   pub stands : StandsFor bounds [] records c
   pub are : Q records
 
--- After a call the places of `loose` are not sure, unless the file has stopped. At each moment of it a crash finds records that are Q.
+-- After a call that doesn't stop the file, only the places of `loose` are not sure. At each moment of the call, a crash
+-- finds records that Q holds of.
 pub record Passes {F : Type 0} (seen : F → Contents) (may_leave : F → Contents → Type 0) (moment : F → ℕ) (left_since : F → ℕ → Contents → Type 0)
     (loose : List Patch) (Q : Content → Type 0) (old new : FileValue F) : Type 0 where
   pub steady : new.has_stopped ≡ false → IsSteady seen may_leave new loose
   pub moments : LeavesOnly moment left_since old.files new.files (Finds (seen old.files) Q)
 
--- It is so, and that could be only where something else is.
+-- `so` holds, which is possible only because `may_be` holds.
 pub record OnlyIf (may_be so : Type 0) : Type 0 where
   pub allowed : may_be
   pub holds : so
 
--- the records that were there, or those with a batch, which could be only where something else is
+-- the records that were there, or those with the batch; the latter only if `may_be` holds
 abbrev pub MayHave : {F : Type 0} → (F → Contents) → Type 0 → List Patch → FileValue F → Content → Type 0
 MayHave seen may_be batch v r = Agrees r (seen v.files Records) ⊎ OnlyIf may_be (Agrees r (put_all batch (seen v.files Records)))
 
--- These patches are committed: all of them, or nothing where that is refused and the file goes on. No crash finds some of them. Where
--- they are refused, one finds them all only if the file has stopped.
+-- The patches are committed: all of them, or none if the commit is refused and the file goes on. No crash finds only
+-- some of them. If the commit is refused, a crash finds them all only if the file has stopped.
 pub record Commits {F : Type 0} (seen : F → Contents) (may_leave : F → Contents → Type 0) (moment : F → ℕ) (left_since : F → ℕ → Contents → Type 0)
     (patches : List Patch) (result : Result Unit StoreFault) (old new : FileValue F) : Type 0 where
   pub done : OnOk result (Agrees (seen new.files Records) (put_all patches (seen old.files Records)))
@@ -66,7 +67,7 @@ pub record ReadsOnly {F : Type 0} (seen : F → Contents) (may_leave : F → Con
   pub redo : new.redo ≡ old.redo
   pub loose : new.is_loose ≡ old.is_loose
 
--- A file stops only where a call of the system has failed, and one that has stopped does nothing more.
+-- A file stops only if a call of the system has failed, and a file that has stopped does nothing more.
 pub record Runs {F : Type 0} (failures shortages : F → ℕ → Type 0) (is_honest : F → Type 0) (old new : FileValue F) : Type 0 where
   pub after : ComesAfter failures shortages is_honest old.files new.files
   pub stops : new.has_stopped ≡ true → (old.has_stopped ≡ true) ⊎ HasFailed failures shortages old.files new.files
@@ -80,7 +81,7 @@ IsReason failures shortages old new fault.NoRoom = Rises shortages old.files new
 IsReason failures shortages old new fault.OutOfMemory = ⊤
 IsReason failures shortages old new _ = ⊥
 
--- What comes of a call: a file that answers goes on as it was, and one that doesn't has a reason.
+-- The outcome of a call: after Ok the file goes on as it was, and an error has a reason.
 pub record Calls {F T : Type 0} (failures shortages : F → ℕ → Type 0) (is_honest : F → Type 0) (result : Result T StoreFault) (old new : FileValue F) : Type 0 where
   pub runs : Runs failures shortages is_honest old new
   pub goes_on : OnOk result (new.has_stopped ≡ old.has_stopped)

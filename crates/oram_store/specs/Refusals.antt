@@ -1,4 +1,4 @@
--- What the trees of a store say of a request, before any record is read.
+-- Which requests the trees of a store refuse, before any record is read.
 use Rattle.std.specs.Prelude.{◌≡◌, ◌⊎◌, ℕ, ◌+◌, ◌-◌, ◌*◌, ◌^◌, ◌==◌, nat_lt, is_none, if◌then◌else◌, Bool, length, Option, Some, None}
 use Rattle.oram_wire.specs.declared.host_messages.HostAnswer.{HostAnswer}
 use Rattle.oram_wire.specs.declared.host_messages.HostAnswer.TheVariants as answer
@@ -10,7 +10,7 @@ use Rattle.oram_host.specs.declared.refusals.HostRefusal.TheVariants.{NoShape, B
 use Rattle.oram_layout.specs.Limits.{TreeShape, is_shape}
 use Rattle.oram_layout.specs.Trees.{Trees, shape_at}
 
--- this refusal where that isn't so, or else another
+-- the refusal `why` if the condition doesn't hold, or else `rest`
 abbrev unless : Bool → HostRefusal → Option HostRefusal → Option HostRefusal
 unless holds why rest = if holds then rest else Some why
 
@@ -18,7 +18,7 @@ abbrev by_shape : Option TreeShape → (TreeShape → Option HostRefusal) → Op
 by_shape None rest = Some NoShape
 by_shape (Some shape) rest = rest shape
 
--- why these trees refuse a request: of several reasons the one that is checked first
+-- why these trees refuse a request, if they do: of several reasons the one that is checked first
 abbrev pub refusal_by : Trees → HostRequest → Option HostRefusal
 refusal_by trees (request.Fetch tree leaf) = by_shape (shape_at trees tree) (λ s. unless (nat_lt leaf (2 ^ s.depth)) BadLeaf None)
 refusal_by trees (request.Store tree leaf records) =
@@ -27,13 +27,13 @@ refusal_by trees (request.Put tree node bytes) =
     by_shape (shape_at trees tree) (λ s. unless (nat_lt node (2 ^ (s.depth + 1) - 1)) BadNode (unless (length bytes == s.record_len) BadLength None))
 refusal_by trees (request.Shape tree depth record_len) = unless (is_shape depth record_len) BadLength (unless (is_none (shape_at trees tree)) ShapeTaken None)
 
--- the trees before a request that was carried out, and after it
+-- the trees before and after a request that was carried out
 abbrev pub Leads : Trees → HostRequest → Trees → Type 0
 Leads old (request.Shape tree depth record_len) new =
     (other : ℕ) → shape_at new other ≡ (if other == tree then Some (record { depth = depth; record_len = record_len }) else shape_at old other)
 Leads old message new = new ≡ old
 
--- what may come of a request that the trees don't refuse, where it isn't carried out: a record isn't there, or there is no room
+-- why a request that the trees don't refuse may not be carried out: a record is missing, or there is no room
 abbrev MayFail : HostRequest → HostRefusal → Type 0
 MayFail (request.Fetch tree leaf) why = (why ≡ Missing) ⊎ (why ≡ OutOfMemory)
 MayFail message why = why ≡ OutOfMemory
@@ -41,7 +41,7 @@ MayFail message why = why ≡ OutOfMemory
 abbrev pub IsRefused : Trees → HostRequest → HostRefusal → Type 0
 IsRefused trees message why = (refusal_by trees message ≡ Some why) ⊎ ((refusal_by trees message ≡ None) × MayFail message why)
 
--- the answer to a request, and the trees behind it
+-- the answer to a request, and the trees after it
 abbrev pub IsTold : Trees → HostRequest → HostAnswer → Trees → Type 0
 IsTold old message (answer.Refused code) new = (why : HostRefusal) × (code ≡ code_of why) × IsRefused old message why × (new ≡ old)
 IsTold old (request.Fetch tree leaf) (answer.Payload bytes) new = (refusal_by old (request.Fetch tree leaf) ≡ None) × (new ≡ old)

@@ -22,15 +22,15 @@ use oram_redo::FilePair;
 use oram_wire::{GOOD, HostAnswer, HostView, REFUSED, WireFault};
 use std::alloc::{AllocError, Global};
 
-/// What came of a request that was carried out.
+/// The outcome of a request that was carried out.
 pub(crate) enum Served {
-    /// The records that it asks for, behind other bytes.
+    /// The bytes that stand in front, and then the records that the request asks for.
     Records(Vec<u8>),
     Done,
 }
 
 impl<F: FilePair> Store<F> {
-    /// Carries out a request, and puts records that it asks for behind other bytes.
+    /// Carries out a request. If it asks for records, they come after `front`.
     fn serve(&mut self, request: HostView<'_>, front: &[u8]) -> Result<Served, HostRefusal>
         requires { length front.now ≤ 1 }
         ensures served { IfOk result (StandsBehind front.now (request_of request.entry)) }
@@ -68,7 +68,7 @@ impl<F: FilePair> Store<F> {
         Ok(Served::Done)
     }
 
-    /// Carries out the request that a body is, and puts records that it asks for behind other bytes.
+    /// Carries out the request in a body. If it asks for records, they come after `front`.
     fn serve_body(&mut self, body: &[u8], front: &[u8]) -> Result<Served, HostRefusal>
         requires { length front.now ≤ 1 }
         ensures op { names_request body.now ≡ false → (result ≡ Err HostRefusal.BadOp) × (self.new ≡ self.old) }
@@ -99,38 +99,41 @@ impl<F: FilePair> Store<F> {
         }
     }
 
-    /// Answers the body of a request. What is answered as done, but a PUT, is sure. A request that is refused changes nothing.
+    /// Answers the body of a request. When a request other than a PUT is answered as done, its effect is durable. A
+    /// request that is refused changes nothing.
     pub fn handle(&mut self, body: &[u8]) -> HostAnswer
-        // A body that is no request's is refused.
+        // A body that isn't a request is refused.
         ensures op { names_request body.now ≡ false → (result ≡ HostAnswer.Refused 7) × (self.new ≡ self.old) }
         ensures misfit { IsMisfit body.now → (result ≡ HostAnswer.Refused 4) × (self.new ≡ self.old) }
 
-        // One that the trees refuse is refused for that reason, and any other is carried out, unless a record is missing or there is no room.
+        // A request that the trees refuse is refused for their reason. Any other is carried out, unless a record is
+        // missing or there is no room.
         ensures request { (message : HostRequest) → HasNumbers message → body.now ≡ request_body message
             → IsTold self.old.trees message result self.new.trees }
         ensures untouched { (message : HostRequest) → HasNumbers message → body.now ≡ request_body message
             → IsSome (refusal_by self.old.trees message) → self.new ≡ self.old }
 
-        // Where there is no room, the store keeps why: a call of the files has failed or found no room, now or before, or the files end
-        // before a tree would. When memory is refused no clause can say.
+        // If there is no room, the store keeps the reason: a call of the files has failed or found no room, now or
+        // before, or the files end before the tree would. No clause can say when memory runs out.
         ensures failure { (message : HostRequest) → HasNumbers message → body.now ≡ request_body message
             → result ≡ HostAnswer.Refused 8 → TellsWhy F.failures F.shortages self.old self.new message }
 
-        // The answer and what it leaves are those of the records by tree and node. A crash at any moment finds what was there or what the
-        // request makes of it; where it is refused and the file hasn't stopped, what was there.
+        // The answer, and the records after it, follow from the records before it, by tree and node. A crash at any
+        // moment finds what was there before, or what the request makes of it; if the request is refused and the file
+        // hasn't stopped, only what was there before.
         ensures serves { (message : HostRequest) → HasNumbers message → body.now ≡ request_body message
             → F.is_honest self.new.file.files → IsSound F.seen F.may_leave self.old
             → Serves F.seen F.may_leave F.moment F.left_since message result self.old self.new }
 
-        // Nothing waits to be settled behind an answer that is no refusal, but that of a PUT.
+        // After an answer that isn't a refusal, no record waits to be settled, unless the request was a PUT.
         ensures committed { (message : HostRequest) → HasNumbers message → body.now ≡ request_body message → IsKeptAtOnce message
             → IsGranted result → self.new.pending ≡ [] }
         ensures runs { Runs F.failures F.shortages F.is_honest self.old.file self.new.file }
 
-        // A store that has stopped grants nothing.
+        // A store that has stopped carries out nothing.
         ensures running { IsGranted result → self.new.file.has_stopped ≡ false }
 
-        // The answer has a body.
+        // The answer can be written as a body.
         ensures spelled { IsAnswer result }
     {
         match self.serve_body(body, &[]) {
@@ -140,10 +143,10 @@ impl<F: FilePair> Store<F> {
         }
     }
 
-    /// The bytes of the answer to the body of a request, which `handle` would answer alike. Records stand in one vector
-    /// with the byte before them, so they are copied once.
+    /// Returns the bytes of the answer that `handle` would give to the body of a request. The records stand in one
+    /// vector with the byte before them, so they are copied once.
     ///
-    /// Room for an answer without records is taken first: where there is none, nothing is served.
+    /// It allocates a short answer before it serves the request; if that fails, it serves nothing.
     pub fn answer(&mut self, alloc: Global, body: &[u8]) -> Result<Vec<u8>, AllocError>
         ensures ok { IfOk result (λ v. (answer : HostAnswer) × IsAnswer answer × (v.items ≡ answer_body answer)
             × ((message : HostRequest) → HasNumbers message → body.now ≡ request_body message → IsTold self.old.trees message answer self.new.trees
@@ -154,7 +157,7 @@ impl<F: FilePair> Store<F> {
         ensures op { names_request body.now ≡ false → IfOk result (λ v. v.items ≡ answer_body (HostAnswer.Refused 7)) }
         ensures misfit { IsMisfit body.now → IfOk result (λ v. v.items ≡ answer_body (HostAnswer.Refused 4)) }
         ensures runs { Runs F.failures F.shortages F.is_honest self.old.file self.new.file }
-        // A frame has room for it.
+        // The answer fits in a frame.
         ensures fits { IfOk result (λ v. IsBody v.items) }
         ensures err { OnErr result (self.new ≡ self.old) }
     {

@@ -1,4 +1,4 @@
-//! What a request commits as one batch.
+//! The batches that requests commit.
 ghost use Rattle.std.specs.Prelude.{◌≡◌, ◌+◌, ◌*◌, ◌^◌, ◌<◌, ◌≤◌, ◌∷◌, [], length, IfOk};
 ghost use Rattle.oram_layout.specs.Changes.{marks, path_patches};
 ghost use Rattle.oram_redo.specs.Batch.{patches_of};
@@ -9,7 +9,7 @@ use oram_layout::Tree;
 use oram_redo::Patch;
 use std::alloc::{AllocError, Global};
 
-/// The records of a path with the byte before each that says that it is there.
+/// Returns the records of a path, each after the byte that says that it is there.
 pub(crate) fn cells_of(alloc: Global, tree: &Tree, records: &[u8]) -> Result<Vec<u8>, AllocError>
     requires { length records.now ≡ (tree.now.shape.depth + 1) * tree.now.shape.record_len }
     ensures len { IfOk result (λ cells. length cells.items ≡ (tree.now.shape.depth + 1) * (tree.now.shape.record_len + 1)) }
@@ -25,7 +25,7 @@ pub(crate) fn cells_of(alloc: Global, tree: &Tree, records: &[u8]) -> Result<Vec
     Ok(cells)
 }
 
-/// The batch of a STORE, one patch for each level.
+/// Returns the batch of a STORE, with one patch for each level.
 pub(crate) fn path_batch<'a>(
     alloc: Global,
     tree: &Tree,
@@ -49,7 +49,7 @@ pub(crate) fn path_batch<'a>(
     Ok(batch)
 }
 
-/// The batch that says of these cells that their records are there.
+/// Returns the batch that says that the records of these cells are there.
 pub(crate) fn marks_of(alloc: Global, cells: &[u64]) -> Result<Vec<Patch<'static>>, AllocError>
     ensures { IfOk result (λ batch. patches_of batch.items ≡ marks cells.now) }
 {

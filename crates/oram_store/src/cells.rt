@@ -1,4 +1,4 @@
-//! The cells of trees, read and written by node.
+//! Reads and writes the cells of trees, by node.
 ghost use Rattle.std.specs.Prelude.{◌≡◌, ◌+◌, ◌*◌, ◌^◌, ◌<◌, ◌≤◌, ◌↔◌, ◌∷◌, ℕ, Some, None, true, false, IsTrue, length, suc, IfErr, IfOk, IfSome, MatchOption, OnOk};
 ghost use Rattle.oram_host.specs.Path.{FitsAnswer, IsBehind, record_at};
 ghost use Rattle.oram_layout.specs.Limits.{nodes_of};
@@ -19,7 +19,7 @@ use std::alloc::Global;
 /// The byte that says that a cell has a record.
 pub(crate) const THERE: u8 = 1;
 
-/// Whether a node has a record.
+/// Returns whether a node has a record.
 pub(crate) fn has_record<F: FilePair>(
     alloc: Global,
     file: &mut RecordFile<F>,
@@ -36,7 +36,8 @@ pub(crate) fn has_record<F: FilePair>(
     Ok(first[0] == THERE)
 }
 
-/// Reads the record of a node behind other bytes. `false` where it has none, and then the bytes are as they were.
+/// Reads the record of a node, and appends it to `bytes`. Returns `false` if the node has none, and then `bytes` is as
+/// it was.
 fn read_record<F: FilePair>(
     alloc: Global,
     file: &mut RecordFile<F>,
@@ -60,7 +61,7 @@ fn read_record<F: FilePair>(
     Ok(true)
 }
 
-/// The records of a path, root first, behind other bytes, if each is there.
+/// Returns `front` and then the records of a path, root first, or `None` if one of them is missing.
 pub(crate) fn read_path<F: FilePair>(
     alloc: Global,
     file: &mut RecordFile<F>,
@@ -90,7 +91,7 @@ pub(crate) fn read_path<F: FilePair>(
     Ok(Some(bytes))
 }
 
-/// Writes the record of a node that has none, behind the byte that will say that it is there.
+/// If a node has no record, writes one into its cell, but doesn't set the byte that will say that it is there.
 fn write_if_missing<F: FilePair>(
     alloc: Global,
     file: &mut RecordFile<F>,
@@ -111,7 +112,8 @@ fn write_if_missing<F: FilePair>(
     file.write_loose(tree.cell_at(node) + 1, bytes)
 }
 
-/// Writes the records of those nodes of a path that have none. So a want of room shows before the log takes the path.
+/// Writes the records of those nodes of a path that have none, in the same way. So a lack of room shows before the log
+/// takes the path.
 pub(crate) fn write_missing<F: FilePair>(
     alloc: Global,
     file: &mut RecordFile<F>,

@@ -9,34 +9,34 @@ use thiserror::Error;
 /// Why a store can't be opened, or didn't do what it was asked.
 #[derive(Clone, Copy, Debug, PartialEq, Eq, Error)]
 pub enum StoreFault {
-    /// Another process has the file open, or another store of this one.
+    /// Another process has the file open, or another store of this process has it.
     #[error("another process has it open")]
     Busy,
-    /// It is no file of buckets.
+    /// The file isn't a file of buckets.
     #[error("it isn't a file of buckets")]
     NotOurs,
-    /// It is of the kind that an earlier version wrote.
+    /// The file is of the kind that an earlier version wrote.
     #[error("it is of the kind that an earlier version wrote: format the disk anew over a new file")]
     OldKind,
-    /// It is of a later version.
+    /// The file is of a later version.
     #[error("a later version wrote it: serve it with that version")]
     NewerKind,
-    /// The log beside it isn't there.
+    /// The log beside the file is missing.
     #[error("its log, the file beside it with -log behind its name, isn't there: the two belong together, so put back the log that it was served with last")]
     WithoutLog,
-    /// The log beside it is another file's.
+    /// The log beside the file belongs to another file.
     #[error("the file beside it with -log behind its name isn't its log: the two belong together, so put back the log that it was served with last")]
     OthersLog,
-    /// There is a log that holds records, and no file of buckets beside it.
+    /// There is a log that holds records, but no file of buckets beside it.
     #[error("it isn't there, but its log is, the file beside it with -log behind its name: the two belong together, so put the file back, or move the log away for a new one")]
     LogAlone,
-    /// It holds what no store writes.
+    /// The file holds something that no store writes.
     #[error("it is damaged")]
     Damaged,
     /// The disk is full.
     #[error("the disk is full")]
     NoRoom,
-    /// It can't be opened, read or written.
+    /// The file can't be opened, read or written.
     #[error("it can't be opened, read or written")]
     Io,
     /// The disk failed at an earlier call, and the file has to be opened again.

@@ -1,4 +1,5 @@
-//! Laws of the definitions, as contracts of functions that do nothing, and one run whose promise no premise makes empty.
+//! Laws of the definitions, as contracts of functions that do nothing, and one run from empty files, whose promise
+//! rests on no premise that might never hold.
 ghost use Rattle.std.specs.Prelude.{◌≡◌, ℕ, [], false, true, IfOk, IfSome};
 ghost use Rattle.oram_layout.specs.Trees.{sizes_of};
 ghost use Rattle.oram_redo.specs.FilePair.{Contents};
@@ -20,14 +21,14 @@ use oram_redo::FilePair;
 use oram_wire::{HostAnswer, HostRequest};
 use std::alloc::{AllocError, Global};
 
-/// A crash between two calls leaves files of which the sure records are found.
+/// A crash between two calls leaves files in which the sure records are found.
 pub fn found_again<F: FilePair>(store: &Store<F>)
     ensures { IsSound F.seen F.may_leave store.now → (c : Contents) → F.may_leave store.now.file.files c
         → Finds (F.seen store.now.file.files) (Holds store.now.trees (sure_records F.seen store.now)) c }
 {}
 
-/// Makes a store of empty files, gives it a tree, and stores the records of one path: each crash from then on leaves files of which
-/// these records are found, and no others. `None` where the store refused one of the two requests.
+/// Makes a store of empty files, gives it a tree, and stores the records of one path. Each crash from then on leaves
+/// files in which these records are found, and no others. Returns `None` if the store refused one of the two requests.
 pub fn first_life<F: FilePair + Drop>(
     alloc: Global,
     mut files: F,
@@ -62,7 +63,7 @@ pub fn first_life<F: FilePair + Drop>(
     Ok(Some(store))
 }
 
-/// Makes a request of a store, and says whether it was done.
+/// Sends a request to a store, and returns whether it was done.
 fn is_done<F: FilePair>(
     alloc: Global,
     store: &mut Store<F>,

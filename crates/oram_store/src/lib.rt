@@ -1,8 +1,9 @@
 //! A bucket server that keeps its records in a file.
 //!
-//! It answers as `oram_host::Server` does, code by code. `oram_layout` says where the file has what, and a redo log beside it (`oram_redo`)
-//! takes each change before the file does: so a crash at any moment leaves the records as they were before a request or as they are
-//! after it. A STORE is sure before it is answered, the records of a formatting in groups.
+//! It gives the same answers, code by code, as `oram_host::Server`. `oram_layout` defines the layout of the file, and a
+//! redo log beside it (`oram_redo`) takes each change before the file does. So a crash at any moment leaves the records
+//! as they were before a request or as they are after it. A STORE is durable before it is answered; the records of a
+//! formatting become durable in groups.
 #![tactic(auto)]
 
 mod answering;

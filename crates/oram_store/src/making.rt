@@ -1,4 +1,4 @@
-//! Files that are opened as a store's, and new ones.
+//! Makes the files of a new store, and opens those of an old one.
 ghost use Rattle.std.specs.Prelude.{◌≡◌, ◌⊎◌, ℕ, None, [], false, length, IfErr, IfOk, IsErrOf, OnOk, replicate};
 ghost use Rattle.oram_layout.specs.BucketFile.{IsBucketFile};
 ghost use Rattle.oram_layout.specs.Fronts.{front_bytes, log_letters};
@@ -23,14 +23,14 @@ use oram_layout::{
 use oram_redo::{FileKind, FilePair, Redo, recover};
 use std::alloc::Global;
 
-/// Makes empty files those of a store without trees, whose identity is that. At `Ok` they are on the disk. At `Err` they are
-/// neither empty nor a store's: they have to be made anew.
+/// Makes two empty files a store without trees, with this identity. After `Ok` they are on the disk. After `Err` they
+/// are neither empty nor a store's, and have to be made again.
 pub fn create<F: FilePair>(files: &mut F, identity: &Identity) -> Result<(), StoreFault>
     requires { (file : _) (i : ℕ) → F.seen files.old file i ≡ 0 }
     ensures records { OnOk result (IsBucketFile (replicate 256 None) (F.seen files.new Records)) }
     ensures log { OnOk result (IsLog bounds [] (F.seen files.new Log)) }
 
-    // Each file says that it is of this identity.
+    // Each file says that it has this identity.
     ensures front { OnOk result (Has (front_bytes letters identity.now) 0 (F.seen files.new Records)) }
     ensures log_front { OnOk result (Has (front_bytes log_letters identity.now) 0 (F.seen files.new Log)) }
     ensures sure { OnOk result ((file : _) → IsSure file (F.seen files.new) (F.may_leave files.new)) }
@@ -46,7 +46,7 @@ pub fn create<F: FilePair>(files: &mut F, identity: &Identity) -> Result<(), Sto
     Ok(())
 }
 
-/// Reads the header's entries of trees.
+/// Reads the entries of trees in the header.
 fn read_entries<F: FilePair>(
     alloc: Global,
     files: &mut F,
@@ -65,7 +65,7 @@ fn read_entries<F: FilePair>(
     Ok(bytes)
 }
 
-/// Brings the files of a store to where a crash has cut them off, and reads their trees.
+/// Recovers the files of a store, which a crash may have cut off anywhere, and reads their trees.
 fn recover_trees<F: FilePair>(
     alloc: Global,
     files: &mut F,
@@ -84,19 +84,20 @@ fn recover_trees<F: FilePair>(
 }
 
 impl<F: FilePair + Drop> Store<F> {
-    /// Opens the files of a store, as a crash or a clean end has left them. Their fronts were looked at before.
+    /// Opens the files of a store, as a crash or a clean end has left them. The caller has looked at their fronts
+    /// before.
     pub fn over(alloc: Global, mut files: F) -> Result<Store<F>, StoreFault>
-        // Files that stand for a bucket file's content give a store with its trees and its records.
+        // If the files stand for the content of a bucket file, the store has its trees and its records.
         ensures found { IfOk result (λ store. F.is_honest store.file.files → (trees : Trees) (c : Content) → StandsFor bounds [] c (F.seen files) → IsBucketFile trees c
             → (store.trees ≡ trees) × IsSound F.seen F.may_leave store × AreKept (records_in trees c) (records_of F.seen store)) }
         ensures opened { IfOk result (λ store. F.is_honest store.file.files → IsOpened F.seen F.may_leave store.file.redo store.trees files store.file.files) }
 
-        // Nothing waits, and the store goes on.
+        // No record waits to be settled, and the store hasn't stopped.
         ensures fresh { IfOk result (λ store. (store.pending ≡ []) × (store.failure ≡ None) × (store.file.has_stopped ≡ false)) }
         ensures any_moment { IfOk result (λ store. F.is_honest store.file.files → OpensAlike F.seen F.may_leave F.moment F.left_since files store.file.files) }
         ensures after { IfOk result (λ store. ComesAfter F.failures F.shortages F.is_honest files store.file.files) }
 
-        // What is opened in part is dropped. It is called damaged only where no bucket file is.
+        // On an error, the files are dropped. `Damaged` comes only if they hold no bucket file.
         ensures err { IfErr result (λ why. (last : F) × IsNotOpened F.seen F.may_leave F.moment F.left_since F.failures F.shortages F.is_honest why files last) }
     {
         let (redo, trees) = recover_trees(alloc, &mut files)?;

@@ -1,6 +1,6 @@
-//! A store in a file of the system's, with its log beside it.
+//! A store in a file of the system, with its log beside it.
 //!
-//! What stands at a path is looked at before anything is written there.
+//! This looks at what is at a path before it writes anything there.
 ghost use Rattle.std.specs.Prelude.{◌≡◌, ◌⊎◌, ◌≤◌, ◌↔◌, [], false, length, take, Err, None, Ok, IfErr, IfOk, IsOk};
 ghost use Rattle.oram_layout.specs.Fronts.{IsFront, IsNewer, log_letters, sqlite_letters};
 ghost use Rattle.oram_layout.specs.Header.{letters};
@@ -20,25 +20,26 @@ use std::path::Path;
 use std::random::RandomSource;
 use std::{fs, io};
 
-/// As large as a block of memory gets that a host frees, at the least.
+/// At least as large as any block of memory that a host frees, in bytes.
 const LARGE_BLOCK: usize = 1 << 22;
 
 /// A store in a file.
 pub type BucketFile = Store<SystemPair<Unknown>>;
 
-/// For the owner alone.
+/// The mode of a file that only its owner may read and write.
 const OWNERS_ALONE: u32 = 0o600;
 
-/// Opens the file of a store, or makes it where there is none. Beside it lies its log, under the same name and `-log`: the two belong
-/// together.
+/// Opens the file of a store, or makes it if there is none. Its log lies beside it, under the same name and `-log`. The
+/// two belong together.
 ///
-/// What isn't a store's, is damaged or is held by another process is refused and keeps its bytes. Of the file its front alone is read; the
-/// log, 64 MiB at the most, is read once, and is empty after a clean end.
+/// A file that isn't a store's, is damaged or is held by another process is refused and keeps its bytes. This reads
+/// only the header of the file. It reads the log, which has 64 MiB at most, once; after a clean end the log is empty.
 ///
-/// After the disk failed (`StoreFault::Io`, `StoreFault::Closed`) the store is dropped, and its file opened again by this call: all that
-/// was acknowledged and settled is there.
+/// After the disk has failed (`StoreFault::Io`, `StoreFault::Closed`), drop the store and open its file again with this
+/// function: everything that was acknowledged and settled is there.
 pub fn open_store(rt: &HostRuntime, alloc: Global, path: &str) -> Result<BucketFile, StoreFault>
-    // Nothing waits, and the store goes on. What it found there no clause can say: see `Store::over` for files that are known.
+    // No record waits to be settled, and the store hasn't stopped. No clause can say what it found in the files: for
+    // files that are known, see `Store::over`.
     ensures { IfOk result (λ store. (store.pending ≡ []) × (store.failure ≡ None) × (store.file.has_stopped ≡ false)) }
 {
     keep_freed_memory(alloc);
@@ -50,14 +51,14 @@ pub fn open_store(rt: &HostRuntime, alloc: Global, path: &str) -> Result<BucketF
     Store::over(alloc, files)
 }
 
-/// Has the C library keep memory that is freed. Else it gives the memory of each large message back to the system and takes it again for
-/// the next one, at the price of a page fault for every 4 KiB. It keeps twice as much as the largest block that was ever freed (mallopt(3),
-/// `M_TRIM_THRESHOLD`).
+/// Makes the C library keep freed memory. Otherwise it returns the memory of each large message to the system and takes
+/// it again for the next one, which costs a page fault for every 4 KiB. It keeps twice as much as the largest block
+/// that was ever freed (mallopt(3), `M_TRIM_THRESHOLD`).
 fn keep_freed_memory(alloc: Global) {
     let _freed: Result<Vec<u8>, AllocError> = Vec::with_capacity(alloc, LARGE_BLOCK);
 }
 
-/// Something stands at a path. A link that leads nowhere is something.
+/// Returns whether there is anything at a path, even a link that leads nowhere.
 fn is_there(rt: &HostRuntime, path: &str) -> io::Result<bool> {
     match fs::symlink_metadata(rt, path) {
         Ok(_) => Ok(true),
@@ -66,17 +67,18 @@ fn is_there(rt: &HostRuntime, path: &str) -> io::Result<bool> {
     }
 }
 
-/// The name of a file's log.
+/// Returns the name of a file's log.
 fn log_name(alloc: Global, path: &str) -> Result<String, AllocError> {
     format!(in alloc; "{path}-log")
 }
 
-/// The name under which a file is made.
+/// Returns the name under which a file is made.
 fn new_name(alloc: Global, path: &str) -> Result<String, AllocError> {
     format!(in alloc; "{path}.new")
 }
 
-/// Opens a plain file for reading and writing. A path that leads to nothing or to anything else gives that fault.
+/// Opens a regular file for reading and writing. Fails with `not_plain` if the path leads to nothing or to anything
+/// else.
 fn open_plain(rt: &HostRuntime, path: &str, not_plain: StoreFault) -> Result<File, StoreFault> {
     match fs::metadata(rt, path) {
         Ok(found) if found.is_file() => {}
@@ -89,7 +91,7 @@ fn open_plain(rt: &HostRuntime, path: &str, not_plain: StoreFault) -> Result<Fil
     Ok(options.open(rt, path)?)
 }
 
-/// Takes the lock of a file. It is held as long as the file is open.
+/// Takes the lock of a file, which lasts as long as the file is open. Fails with `Busy` if another process holds it.
 fn lock(file: &File) -> Result<(), StoreFault> {
     match file.try_lock() {
         Ok(()) => Ok(()),
@@ -98,7 +100,7 @@ fn lock(file: &File) -> Result<(), StoreFault> {
     }
 }
 
-/// The bytes at a place of a file, as many as there are.
+/// Reads the bytes at a place of a file, as many as there are, and returns their number.
 fn bytes_at(file: &File, at: u64, bytes: &mut [u8]) -> io::Result<usize>
     ensures { IfOk result (λ len. len ≤ length bytes.new) }
 {
@@ -115,14 +117,14 @@ fn bytes_at(file: &File, at: u64, bytes: &mut [u8]) -> io::Result<usize>
     Ok(got)
 }
 
-/// The identity of a file of buckets.
+/// Returns the identity of a file of buckets.
 fn identity_of(records: &File) -> Result<Identity, StoreFault> {
     let mut front = [0; FRONT_LEN];
     let len = bytes_at(records, 0, &mut front)?;
     identity_in(&front[..len])
 }
 
-/// The identity in the first bytes of a file of buckets, or why another file is refused.
+/// Returns the identity in the first bytes of a file of buckets, or why another file is refused.
 fn identity_in(front: &[u8]) -> Result<Identity, StoreFault>
     ensures found { IfOk result (λ identity. IsFront letters identity front.now) }
     ensures ours { (identity : Identity) → IsFront letters identity front.now → result ≡ Ok identity }
@@ -138,14 +140,14 @@ fn identity_in(front: &[u8]) -> Result<Identity, StoreFault>
     }
 }
 
-/// The identity in the front of a log, if it has one.
+/// Returns the identity in the front of a log, if it has one.
 fn identity_of_log(log: &File) -> io::Result<Option<Identity>> {
     let mut front = [0; FRONT_LEN];
     let len = bytes_at(log, 0, &mut front)?;
     Ok(read_log_front(&front[..len]))
 }
 
-/// Refuses a log that isn't the one of a file with this identity.
+/// Refuses a log that doesn't belong to a file with this identity.
 fn check_log(log: &File, identity: &Identity) -> Result<(), StoreFault> {
     let mut front = [0; FRONT_LEN];
     let len = bytes_at(log, 0, &mut front)?;
@@ -181,7 +183,7 @@ fn open_files(
     Ok(SystemPair::new(Unknown, records, log, BOUNDS.log_end)?)
 }
 
-/// Opens a file that is being made, for its owner alone. One that an earlier attempt has left is taken.
+/// Opens a file that is being made, for its owner alone. If an earlier attempt has left one, it takes that.
 fn open_new(rt: &HostRuntime, name: &str) -> io::Result<File> {
     let mut options = OpenOptions::new();
     options
@@ -192,14 +194,14 @@ fn open_new(rt: &HostRuntime, name: &str) -> io::Result<File> {
     options.open(rt, name)
 }
 
-/// A log whose first gate is open holds what was acknowledged.
+/// Returns whether a log holds acknowledged changes, which is so if its first gate is open.
 fn holds_entries(log: &File) -> io::Result<bool> {
     let mut gate = [0];
     let len = bytes_at(log, BOUNDS.log_start, &mut gate)?;
     Ok(len > 0 && gate[0] == 1)
 }
 
-/// Refuses a log that stands where a new one would, unless it is one that an attempt to make a store has left.
+/// Refuses a log where a new one would be, unless an attempt to make a store has left it.
 fn check_no_log(rt: &HostRuntime, log_name: &str) -> Result<(), StoreFault> {
     if !is_there(rt, log_name)? {
         return Ok(());
@@ -217,7 +219,7 @@ fn new_identity(rt: &HostRuntime) -> io::Result<Identity> {
     Ok(Identity(identity))
 }
 
-/// Gives a file that was made its own name, and syncs its folder.
+/// Renames a file that was made to its own name, and syncs its folder.
 fn rename_new(rt: &HostRuntime, from: &str, to: &str) -> io::Result<()> {
     fs::rename(rt, from, to)?;
     let folder = match Path::new(to).parent() {
@@ -227,8 +229,8 @@ fn rename_new(rt: &HostRuntime, from: &str, to: &str) -> io::Result<()> {
     File::open(rt, folder)?.sync_all()
 }
 
-/// Makes the file of a store and its log under other names, and renames them: so no half of one is ever met. The new file is locked
-/// before it has its name.
+/// Makes the file of a store and its log under other names, and renames them, so that nobody ever meets half of one.
+/// The new file is locked before it gets its name.
 fn make_files(
     rt: &HostRuntime,
     alloc: Global,
@@ -239,7 +241,7 @@ fn make_files(
     let (new_file, new_log) = (new_name(alloc, path)?, new_name(alloc, log_name.as_str())?);
     let records = open_new(rt, new_file.as_str())?;
     lock(&records)?;
-    // Another process may have made it just now.
+    // Another process may have made the file just now.
     if is_there(rt, path)? {
         return Err(StoreFault::Busy);
     }

@@ -1,6 +1,6 @@
 //! The file of records with its redo log: what is read and written, and what stops it.
 //!
-//! Each call of the redo log stands in a function of its own, since a proof carries what is said of each call.
+//! Each call of the redo log is in a function of its own, because a proof carries along what is known about each call.
 ghost use Rattle.std.specs.Prelude.{◌≡◌, ◌⊎◌, ◌+◌, ◌<◌, ◌≤◌, ◌∷◌, [], ℕ, List, All, true, false, length, IfErr, IfOk, MatchResult, OnErr, OnOk};
 ghost use Rattle.oram_redo.specs.Batch.{patches_of};
 ghost use Rattle.oram_redo.specs.Content.{Agrees, bytes_at, put};
@@ -15,7 +15,7 @@ use oram_redo::{Bounds, FilePair, Patch, Redo, RedoError};
 use std::alloc::Global;
 use std::marker::Model;
 
-/// Where the two files may have what.
+/// The bounds of the log and of the records in the two files.
 pub(crate) const BOUNDS: Bounds = Bounds {
     log_start: 1 << 12,
     log_end: 1 << 26,
@@ -27,7 +27,7 @@ pub(crate) const BOUNDS: Bounds = Bounds {
 pub(crate) struct RecordFile<F: FilePair> {
     files: F,
     redo: Redo,
-    /// A patch was written since the last sync of the records that the log doesn't have.
+    /// Since the last sync of the records, a patch was written that the log doesn't have.
     is_loose: bool,
     /// A call of the files has failed: they have to be opened again.
     has_stopped: bool,
@@ -46,7 +46,7 @@ impl<F: FilePair> Model for RecordFile<F> {
 }
 
 impl<F: FilePair> RecordFile<F> {
-    /// Files that were opened, and their log.
+    /// Returns a record file over files that were opened, with their log.
     pub(crate) fn new(files: F, redo: Redo) -> RecordFile<F>
         requires { bounds_of redo ≡ bounds }
         ensures { result ≡ record { files = files; redo = redo; is_loose = false; has_stopped = false } }
@@ -59,7 +59,7 @@ impl<F: FilePair> RecordFile<F> {
         }
     }
 
-    /// What an error of the redo log is here: most of them stop the file.
+    /// Returns the store's fault for an error of the redo log. Most errors stop the file.
     fn stopped_by(&mut self, error: RedoError) -> StoreFault
         ensures memory { error ≡ RedoError.Memory → (result ≡ StoreFault.OutOfMemory) × (self.new ≡ self.old) }
         ensures no_room { error ≡ RedoError.NoRoom → (result ≡ StoreFault.NoRoom) × (self.new ≡ self.old) }
@@ -96,7 +96,7 @@ impl<F: FilePair> RecordFile<F> {
         }
     }
 
-    /// Reads `len` bytes of the records behind other bytes.
+    /// Reads `len` bytes of the records, and appends them to `bytes`.
     pub(crate) fn read_onto(
         &mut self,
         at: u64,
@@ -117,7 +117,7 @@ impl<F: FilePair> RecordFile<F> {
         }
     }
 
-    /// Writes a patch that doesn't count yet. At `Err` some of it may be there.
+    /// Writes a patch that doesn't count yet. After `Err`, part of it may be written.
     pub(crate) fn write_loose(&mut self, at: u64, bytes: &[u8]) -> Result<(), StoreFault>
         ensures passes { (loose : _) → IsSteady F.seen F.may_leave self.old loose
             → Passes F.seen F.may_leave F.moment F.left_since ((at, bytes.now) ∷ loose)
@@ -137,7 +137,7 @@ impl<F: FilePair> RecordFile<F> {
         }
     }
 
-    /// Makes sure what was written, and begins the log anew.
+    /// Makes everything that was written durable, and empties the log.
     pub(crate) fn restart(&mut self) -> Result<(), StoreFault>
         ensures passes { (loose : _) → IsSteady F.seen F.may_leave self.old loose
             → Passes F.seen F.may_leave F.moment F.left_since [] (λ r. AgreesBut loose r (F.seen self.old.files Records)) self.old self.new }
@@ -159,7 +159,7 @@ impl<F: FilePair> RecordFile<F> {
         }
     }
 
-    /// Makes sure what was written loosely.
+    /// Makes the loose patches durable.
     fn make_sure(&mut self) -> Result<(), StoreFault>
         ensures passes { (loose : _) → IsSteady F.seen F.may_leave self.old loose
             → Passes F.seen F.may_leave F.moment F.left_since [] (λ r. AgreesBut loose r (F.seen self.old.files Records)) self.old self.new }
@@ -173,7 +173,7 @@ impl<F: FilePair> RecordFile<F> {
         Ok(())
     }
 
-    /// Commits a batch, if the log has room for it.
+    /// Commits a batch, and returns whether the log had room for it.
     fn commit_if_room(&mut self, alloc: Global, batch: &[Patch]) -> Result<bool, StoreFault>
         requires { All (Fits bounds) (patches_of batch.now) }
         ensures passes { IsSteady F.seen F.may_leave self.old []
@@ -198,7 +198,7 @@ impl<F: FilePair> RecordFile<F> {
         }
     }
 
-    /// Commits a batch that an empty log has room for.
+    /// Commits a batch that fits in an empty log.
     fn commit_sure(&mut self, alloc: Global, batch: &[Patch]) -> Result<(), StoreFault>
         requires fits { All (Fits bounds) (patches_of batch.now) }
         requires short { bounds.log_start + length (entries (patches_of batch.now)) < bounds.log_end }
@@ -217,11 +217,12 @@ impl<F: FilePair> RecordFile<F> {
         if self.commit_if_room(alloc, batch)? {
             return Ok(());
         }
-        // An empty log has room.
+        // An empty log has room, so this isn't reached.
         Err(self.stopped_by(RedoError::LogFull))
     }
 
-    /// Commits a batch that an empty log has room for: all of it, or nothing where it answers `Err` and goes on.
+    /// Commits a batch that fits in an empty log: all of it. After `Err` nothing is committed, unless the file has
+    /// stopped.
     pub(crate) fn commit(&mut self, alloc: Global, batch: &[Patch]) -> Result<(), StoreFault>
         requires fits { All (Fits bounds) (patches_of batch.now) }
         requires short { bounds.log_start + length (entries (patches_of batch.now)) < bounds.log_end }

@@ -1,11 +1,11 @@
-//! A store as what takes the messages of a formatting.
+//! A store as the sink that takes the messages of a formatting.
 
 use crate::storing::Store;
 use oram_host::HostRefusal;
 use oram_redo::FilePair;
 use oram_wire::{HostAnswer, Sink, SinkFault};
 
-// A sink that hands each body to the store. What it leaves isn't told.
+// The sink hands each body to the store. Its contract doesn't say what the store keeps then.
 impl<F: FilePair> Sink for Store<F> {
     ghost use Rattle.std.specs.Prelude.{⊤};
 

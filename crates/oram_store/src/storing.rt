@@ -29,19 +29,19 @@ use oram_redo::{FileKind, FilePair, Patch};
 use std::alloc::Global;
 use std::marker::Model;
 
-/// How many records of a formatting are settled together at the most.
+/// The greatest number of records of a formatting that are settled together.
 const MOST_PENDING: usize = 4_096;
 
-/// A bucket server whose records lie in a file.
+/// A bucket server that keeps its records in a file.
 #[derive(Drop)]
 pub struct Store<F: FilePair> {
     alloc: Global,
     file: RecordFile<F>,
-    /// By number, as the file's header has them.
+    /// The trees by number, as the file's header has them.
     trees: Vec<Option<Tree>>,
     /// The cells whose records were PUT and whose first bytes aren't set yet.
     pending: Vec<u64>,
-    /// Why there was no room, the last time that there was none.
+    /// Why there was no room, the last time that a request or `settle` found none.
     failure: Option<StoreFault>,
 }
 
@@ -57,7 +57,7 @@ impl<F: FilePair> Model for Store<F> {
     ghost invariant = { λ s. (length s.trees.items ≡ 256) × AreCells s.pending.items };
 }
 
-/// Commits that these cells' records are there.
+/// Commits that the records of these cells are there.
 fn commit_marks<F: FilePair>(
     alloc: Global,
     file: &mut RecordFile<F>,
@@ -88,7 +88,7 @@ fn commit_one<F: FilePair>(
     file.commit(alloc, &[Patch { at, bytes }])
 }
 
-/// Commits the record of a node that has one.
+/// Commits a new record for a node that has one.
 fn commit_record<F: FilePair>(
     alloc: Global,
     file: &mut RecordFile<F>,
@@ -161,7 +161,7 @@ fn store_path<F: FilePair>(
 }
 
 impl<F: FilePair> Store<F> {
-    /// A store over a file that was opened.
+    /// Returns a store over a file that was opened.
     pub(crate) fn new(alloc: Global, file: RecordFile<F>, trees: Vec<Option<Tree>>) -> Store<F>
         requires { length trees.items ≡ 256 }
         ensures { result ≡ record { file = file; trees = trees.items; pending = []; failure = None } }
@@ -181,15 +181,15 @@ impl<F: FilePair> Store<F> {
         self.trees[usize::from(number)]
     }
 
-    /// Why there was no room, the last time that a request was refused by the code 8 or `settle` failed. After `Io` and `Closed` the
-    /// file has to be opened again.
+    /// Returns why there was no room, the last time that a request was refused with code 8 or `settle` failed. After
+    /// `Io` and `Closed` the file has to be opened again.
     pub fn failure(&self) -> Option<StoreFault>
         ensures { result ≡ self.now.failure }
     {
         self.failure
     }
 
-    /// Keeps why there is no room.
+    /// Keeps the reason why there is no room, and returns the refusal.
     fn refuse(&mut self, fault: StoreFault) -> HostRefusal
         ensures why { result ≡ HostRefusal.OutOfMemory }
         ensures kept { self.new ≡ record self.old { failure = Some fault } }
@@ -198,7 +198,8 @@ impl<F: FilePair> Store<F> {
         HostRefusal::OutOfMemory
     }
 
-    /// Makes sure of the records that a formatting has put so far: all of them, or, at `Err`, none. Then they stay to be settled.
+    /// Makes the records durable that a formatting has put so far. After `Err`, none of them is, and they still wait to
+    /// be settled.
     pub fn settle(&mut self) -> Result<(), StoreFault>
         ensures none { self.old.pending ≡ [] → IsOk result × (self.new ≡ self.old) }
         ensures none_pending { OnOk result (self.new.pending ≡ []) }
@@ -222,7 +223,8 @@ impl<F: FilePair> Store<F> {
         }
     }
 
-    /// The records of a path, behind other bytes, once what was put before is settled; `None` where one is missing.
+    /// Settles what was put before, and returns `front` and then the records of a path. Returns `None` if a record is
+    /// missing.
     fn settle_and_fetch(
         &mut self,
         tree: &Tree,
@@ -245,7 +247,7 @@ impl<F: FilePair> Store<F> {
         read_path(self.alloc, &mut self.file, tree, leaf, front)
     }
 
-    /// The records of a path, behind other bytes.
+    /// Returns `front` and then the records of a path.
     pub(crate) fn fetch(
         &mut self,
         number: u8,
@@ -279,7 +281,7 @@ impl<F: FilePair> Store<F> {
         }
     }
 
-    /// Replaces the records of a path, once what was put before is settled.
+    /// Settles what was put before, and replaces the records of a path.
     fn settle_and_store(&mut self, tree: &Tree, leaf: u32, records: &[u8]) -> Result<(), StoreFault>
         requires leaf { leaf < 2 ^ tree.now.shape.depth }
         requires whole { length records.now ≡ (tree.now.shape.depth + 1) * tree.now.shape.record_len }
@@ -348,7 +350,7 @@ impl<F: FilePair> Store<F> {
         }
     }
 
-    /// Settles where there are many PUTs, or one of the same cell.
+    /// Settles if too many PUTs wait, or if one of the same cell waits.
     fn make_room(&mut self, cell: u64) -> Result<(), StoreFault>
         ensures room { OnOk result (length self.new.pending < 4096) }
         ensures fresh { OnOk result (Contains self.new.pending cell → ⊥) }
@@ -363,7 +365,8 @@ impl<F: FilePair> Store<F> {
         Ok(())
     }
 
-    /// Puts a record: one over another is committed at once, and one where there was none waits to be settled.
+    /// Puts a record. If the node has one already, it commits the new one at once; if not, the new one waits to be
+    /// settled.
     fn put_record(&mut self, tree: &Tree, node: u32, bytes: &[u8]) -> Result<(), StoreFault>
         requires node { node < nodes_of (sizes_of tree.now.shape) }
         requires whole { length bytes.now ≡ tree.now.shape.record_len }
@@ -376,7 +379,7 @@ impl<F: FilePair> Store<F> {
         self.put_in_cell(tree, node, bytes)
     }
 
-    /// Puts a record into a cell for which none waits.
+    /// Puts a record into a cell for which no record waits.
     fn put_in_cell(&mut self, tree: &Tree, node: u32, bytes: &[u8]) -> Result<(), StoreFault>
         requires node { node < nodes_of (sizes_of tree.now.shape) }
         requires whole { length bytes.now ≡ tree.now.shape.record_len }
@@ -395,7 +398,7 @@ impl<F: FilePair> Store<F> {
         }
     }
 
-    /// Puts a record over another.
+    /// Replaces the record of a node.
     fn replace_record(&mut self, tree: &Tree, node: u32, bytes: &[u8]) -> Result<(), StoreFault>
         requires node { node < nodes_of (sizes_of tree.now.shape) }
         requires whole { length bytes.now ≡ tree.now.shape.record_len }
@@ -408,7 +411,7 @@ impl<F: FilePair> Store<F> {
         commit_record(self.alloc, &mut self.file, tree, node, bytes)
     }
 
-    /// Writes a record into a cell that has none, and for which none waits.
+    /// Writes a record into a cell that has none, and for which none waits. Then this record waits to be settled.
     fn add_record(&mut self, tree: &Tree, node: u32, bytes: &[u8]) -> Result<(), StoreFault>
         requires node { node < nodes_of (sizes_of tree.now.shape) }
         requires whole { length bytes.now ≡ tree.now.shape.record_len }
@@ -456,7 +459,7 @@ impl<F: FilePair> Store<F> {
         }
     }
 
-    /// Adds a tree behind all others, once what was put before is settled.
+    /// Settles what was put before, and adds a tree after all others.
     fn settle_and_add(&mut self, number: u8, shape: Shape) -> Result<(), StoreFault>
         requires { tree_at self.old.trees number ≡ None }
         ensures serves { IsSound F.seen F.may_leave self.old → Serves F.seen F.may_leave F.moment F.left_since (HostRequest.Shape number shape.depth shape.record_len) (answer_by result) self.old self.new }
@@ -478,9 +481,9 @@ impl<F: FilePair> Store<F> {
 }
 
 impl<F: FilePair + Drop> Store<F> {
-    /// Settles, and leaves an empty log, so that the next opening is quick. At `Ok` all records are on the disk.
+    /// Settles, and empties the log, so that the next opening is quick. After `Ok` all records are on the disk.
     pub fn close(mut self) -> Result<(), StoreFault>
-        // `last` is the file when it is given up.
+        // `last` is the file when it is dropped.
         ensures { (last : FileValue F) × Closes F.seen F.may_leave F.moment F.left_since F.failures F.shortages F.is_honest result self last }
     {
         self.settle()?;

@@ -33,7 +33,7 @@ node_within p level fits h =
           omega (arith, node_on-inner p.depth p.leaf level fits (omega arith))
     ]
 
--- sealed bytes read as one list at most
+-- sealed bytes read as at most one list
 abbrev pub IsUnique : (List ℕ → List Cell → Type 0) → Type 0
 IsUnique reads = (sealed : List ℕ) (xs ys : List Cell) → reads sealed xs → reads sealed ys → xs ≡ ys
 
@@ -52,7 +52,7 @@ pub record IsBefore (reads : List ℕ → List Cell → Type 0) (x : Before) : T
   pub held : HasContent reads x.p.depth x.old x.stash x.content
   pub path : IsPathOf x.old x.p
 
--- a block of the path's bucket is one of the node's
+-- a block in the path's bucket is in the node's bucket
 in_node : (reads : List ℕ → List Cell → Type 0) (x : Before) → IsBefore reads x → (level : ℕ) (d : Cell) → level ≤ x.p.depth → Holds reads (record_at x.p level) d → Holds reads (x.old (node_at x.p level)) d
 in_node reads x b level d h there = let P : List ℕ → Type 0 = λ r. Holds reads r d in subst P (b.path level h) there
 
@@ -70,12 +70,12 @@ is_readable reads x b one =
       once_in_all = λ i c d ih here stashed. b.held.once_in_all (node_at x.p i) c d (node_within x.p i b.fits ih) (in_node reads x b i c ih here) stashed;
     }
 
--- a near block is the map's at its address
+-- the map has a near block at the block's address
 pub near_entry : (reads : List ℕ → List Cell → Type 0) (x : Before) → IsBefore reads x → (d : Cell) → IsNear reads x.p x.stash d → x.content d.address ≡ Some (entry_of d)
 near_entry reads x b d (inl stashed) = b.held.from_stash d stashed
 near_entry reads x b d (inr (level, h, there)) = b.held.from_tree (node_at x.p level) d (node_within x.p level b.fits h) (in_node reads x b level d h there)
 
--- what the map has at an address that is on this path or absent is near
+-- if an address is on this path or absent, and the map has it, one of the near blocks has it
 pub near_if_there : (reads : List ℕ → List Cell → Type 0) (x : Before) → IsBefore reads x → (address : ℕ) → IsAtOrAbsent x.content address x.p.leaf → (e : Entry) → x.content address ≡ Some e
     → (d : Cell) × IsNear reads x.p x.stash d × (d.address ≡ address)
 near_if_there reads x b address named e there =
@@ -89,7 +89,7 @@ near_if_there reads x b address named e there =
           (d, inr (on.0, on.1, in_path reads x b on.0 n d on.1 at inside), same)
     ]
 
--- a lookup among the near blocks tells what the map has
+-- a lookup among the near blocks finds what the map has
 pub told_by : (reads : List ℕ → List Cell → Type 0) (x : Before) → IsBefore reads x → (address len : ℕ) (found : Bool) (before : List ℕ) → IsAtOrAbsent x.content address x.p.leaf
     → IsLookup (IsNear reads x.p x.stash) len address found before → (o : Option Entry) → x.content address ≡ o → (found ≡ is_some o) × (before ≡ content_or_zeros len o)
 told_by reads x b address len true before named looked o at =
@@ -117,7 +117,7 @@ pub record IsAfter (reads : List ℕ → List Cell → Type 0) (x : Before) (y :
   pub rest_rising : IsRising y.rest
   pub stored : (level : ℕ) → level ≤ x.p.depth → reads (sealed_part (record_at y.q level)) (listed y.lists level)
 
--- a block off the path hasn't the accessed address, nor that of a near block, nor that of one that waits
+-- a block off the path doesn't have the address of the accessed block, of a near block, or of one that waits
 off_named : (reads : List ℕ → List Cell → Type 0) (x : Before) (y : After) → IsBefore reads x → IsAfter reads x y → (n : ℕ) (d : Cell) → (n < node_count x.p.depth) → IsOffPath x.p.depth x.p.leaf n → Holds reads (x.old n) d → d.address ≢ y.c.address
 off_named reads x y b a n d within off inside same =
     let entry : x.content y.c.address ≡ Some (entry_of d) = ap x.content (sym same) ∙ b.held.from_tree n d within inside in
@@ -137,7 +137,7 @@ off_waiting reads x y b a n d e within off inside waits =
       | inr (near, other) ↦ off_near reads x b n d e within off inside near
     ]
 
--- a block that waits is the new map's at its address
+-- the new map has a block that waits at the block's address
 waiting_entry : (reads : List ℕ → List Cell → Type 0) (x : Before) (y : After) → IsBefore reads x → IsAfter reads x y → (d : Cell) → Contains y.waiting d → put x.content y.c.address (entry_of y.c) d.address ≡ Some (entry_of d)
 waiting_entry reads x y b a d waits =
     elim ((a.waits d).0 waits) [
@@ -145,7 +145,7 @@ waiting_entry reads x y b a d waits =
       | inr (near, other) ↦ put-other x.content y.c.address d.address (entry_of y.c) other ∙ near_entry reads x b d near
     ]
 
--- the blocks of a node of the path after the access are its list's
+-- after the access, the blocks of a node of the path are those of its list
 in_list : (reads : List ℕ → List Cell → Type 0) (x : Before) (y : After) → IsUnique reads → IsAfter reads x y → (level n : ℕ) (d : Cell) → level ≤ x.p.depth → n ≡ node_at x.p level → Holds reads (y.new n) d → Contains (listed y.lists level) d
 in_list reads x y unique a level n d h at (cells, read, inside) =
     let r : y.new n ≡ record_at y.q level = ap y.new at ∙ a.replaced.on_path level h in
@@ -158,14 +158,14 @@ from_list reads x y a level d h inside =
     let P : List ℕ → Type 0 = λ s. reads (sealed_part s) (listed y.lists level) in
     (listed y.lists level, subst P (sym (a.replaced.on_path level h)) (a.stored level h), inside)
 
--- the blocks of a node off the path stay
+-- the blocks of a node off the path stay there
 kept : (reads : List ℕ → List Cell → Type 0) (x : Before) (y : After) → IsAfter reads x y → (n : ℕ) (d : Cell) → IsOffPath x.p.depth x.p.leaf n → Holds reads (y.new n) d → Holds reads (x.old n) d
 kept reads x y a n d apart inside = let P : List ℕ → Type 0 = λ r. Holds reads r d in subst P (a.replaced.off_path n apart) inside
 
 stays : (reads : List ℕ → List Cell → Type 0) (x : Before) (y : After) → IsAfter reads x y → (n : ℕ) (d : Cell) → IsOffPath x.p.depth x.p.leaf n → Holds reads (x.old n) d → Holds reads (y.new n) d
 stays reads x y a n d apart inside = let P : List ℕ → Type 0 = λ r. Holds reads r d in subst P (sym (a.replaced.off_path n apart)) inside
 
--- where a block that waited lies now
+-- the place of a block that waited, after the access
 placed : (reads : List ℕ → List Cell → Type 0) (x : Before) (y : After) → IsBefore reads x → IsAfter reads x y → (d : Cell) → Contains y.waiting d
     → ((e : Cell) × (e.address ≡ d.address) × Contains y.rest e) ⊎ ((e : Cell) × (n : ℕ) × (e.address ≡ d.address) × (n < node_count x.p.depth) × Holds reads (y.new n) e)
 placed reads x y b a d waits =
@@ -174,7 +174,7 @@ placed reads x y b a d waits =
       | inr inside ↦ inl (d, refl, inside)
     ]
 
--- after an access the new tree and the rest hold the map with that address changed
+-- after an access, the new tree and the rest hold the map with this address changed
 pub access_content : (reads : List ℕ → List Cell → Type 0) (x : Before) (y : After) → IsUnique reads → IsBefore reads x → IsAfter reads x y → HasContent reads x.p.depth y.new y.rest (put x.content y.c.address (entry_of y.c))
 access_content reads x y unique b a =
     record {

@@ -1,4 +1,4 @@
--- What an eviction does to the blocks, by what its lists contain.
+-- The effect of an eviction on the blocks, in terms of what its lists contain.
 use Rattle.std.proofs.Common.{◌≡◌, ◌≢◌, ℕ, ◌+◌, ◌-◌, ◌^◌, ◌≤◌, ◌⊎◌, inl, inr, sym, ap, arith, List, ◌++◌, Contains}
 use Rattle.std.proofs.lemmas.Bool.{cases_order}
 use Rattle.std.proofs.lemmas.List.Elements.{Contains-append_left, Contains-append_right, Contains-append_cases}
@@ -11,7 +11,7 @@ use Rattle.oram_stash.proofs.Tight.{Contains-all_listed}
 use Rattle.oram_stash.proofs.Rising.{AreApart, AreApart-permuted, AreApart-left, apart_parts, apart_lists}
 use Rattle.oram_stash.proofs.Fewest.{list_of_listed}
 
--- the blocks lie in the path's lists, each on its own path, or in the rest, each once
+-- each block is there once: in one of the path's lists, on its own path, or in the rest
 pub record IsEvicted (depth leaf : ℕ) (waiting : List Cell) (lists : List (List Cell)) (rest : List Cell) : Type 0 where
   pub from_lists : (level : ℕ) (c : Cell) → Contains (listed lists level) c → Contains waiting c
   pub from_rest : (c : Cell) → Contains rest c → Contains waiting c
@@ -20,7 +20,7 @@ pub record IsEvicted (depth leaf : ℕ) (waiting : List Cell) (lists : List (Lis
   pub once_in_lists : (i k : ℕ) (c d : Cell) → Contains (listed lists i) c → Contains (listed lists k) d → c.address ≡ d.address → i ≡ k
   pub once_in_all : (i : ℕ) (c d : Cell) → Contains (listed lists i) c → Contains rest d → c.address ≢ d.address
 
--- paths that meet have one node there
+-- paths that meet at a level have the same node there
 pub node_where_met : (depth x y level : ℕ) → MeetsAt depth x y level → node_on depth x level ≡ node_on depth y level
 unfolding node_on
 node_where_met depth x y level meets = ap (λ (n : ℕ). 2 ^ level - 1 + n) meets

@@ -1,4 +1,4 @@
--- The records that formatting puts are a stored tree of empty buckets.
+-- The records that formatting puts form a stored tree of empty buckets.
 use Rattle.std.proofs.Common.{◌≡◌, ℕ, zero, suc, ◌+◌, ◌-◌, ◌*◌, ◌/◌, ◌%◌, ◌^◌, ◌<◌, ◌≤◌, List, [], ◌∷◌, ◌++◌, length, get_or, map, Contains, Some, Result, Ok, Err, IfOk, OnOk, Option, true, false, cond, nat_eq, replicate, inl, inr, refl, sym, ap, subst, ◌∙◌, arith}
 use Rattle.std.proofs.lemmas.Bool.{cases_lt}
 use Rattle.std.proofs.lemmas.Bool.Decides.{Decides-eqb, eqb_tells}
@@ -68,7 +68,7 @@ child-right h k n =
     let e : suc h - 1 ≡ h = omega arith in
     rw (even, e) refl
 
--- the node n has this subtree
+-- this is the subtree of node n
 abbrev IsAt : ℕ → ℕ → ℕ → ℕ → ℕ → Type 0
 IsAt d k0 n h k = (let s : Spot = record { height = h; start = k } in spot d k0 n n ≡ s)
 
@@ -92,7 +92,7 @@ record_is : (seal : ℕ → List ℕ) (d k0 n h k : ℕ) → IsAt d k0 n h k →
 unfolding records_of
 record_is seal d k0 n h k here = ap (λ (s : Spot). root_record seal s.height s.start) here
 
--- the PUTs are of these records, in order
+-- the PUTs are those of these records, in order
 puts_are : (seal : ℕ → List ℕ) (tree d k0 h k n : ℕ) → IsAt d k0 n h k → puts seal tree h k n ≡ map (λ m. put_body tree m (records_of seal d k0 m)) (post_order h n)
 unfolding puts post_order
 puts_are seal tree d k0 zero k n here = ap (λ (r : List ℕ). put_body tree n r ∷ []) (sym (record_is seal d k0 n zero k here))
@@ -263,7 +263,7 @@ length-sealed s overhead sealed longer = omega (arith, longer, length-empty s)
 abbrev seal_empty : (ℕ → List ℕ → List ℕ) → Sizes → ℕ → List ℕ
 seal_empty sealing d n = sealing n (spelling d [])
 
--- what a sealer makes of the empty bucket is as long as a record has room for, and reads as empty
+-- the sealed empty bucket is as long as a record has room for, and reads as empty
 record IsSealing (opening : List ℕ → Option (List ℕ)) (sealing : ℕ → List ℕ → List ℕ) (overhead : ℕ) : Type 0 where
   longer : (n : ℕ) (plain : List ℕ) → length (sealing n plain) ≡ overhead + length plain
   undoes : (n : ℕ) (plain : List ℕ) → n < 2 ^ 64 → IsBytes plain → opening (sealing n plain) ≡ Some plain
@@ -294,7 +294,7 @@ formed opening sealing overhead d i nonce of law fits =
       };
     }
 
--- what formatting sends and gives
+-- the messages and the result of a formatting
 pub made : {K : Type 0} (putting : K → List ℕ → K → Type 0) (from next to : K) (opening : List ℕ → Option (List ℕ)) (sealing : ℕ → List ℕ → List ℕ) (d : Sizes) (i depth len overhead nonce : ℕ) (shape root : List ℕ)
     → IsDevice d → depth ≡ depth_of d i → len ≡ record_len_of d overhead
     → ((n : ℕ) (plain : List ℕ) → length (sealing n plain) ≡ overhead + length plain) → ((n : ℕ) (plain : List ℕ) → n < 2 ^ 64 → IsBytes plain → opening (sealing n plain) ≡ Some plain)
@@ -313,7 +313,7 @@ made putting from next to opening sealing d i depth len overhead nonce shape roo
       subst R (sym (root_is ∙ ap (λ (x : ℕ). sha256 (root_record seal x nonce)) depth_is)) (formed opening sealing overhead d i nonce of (record { longer = longer; undoes = undoes }) fits),
     )
 
--- a beginning of what formatting sends
+-- a beginning of a formatting's messages
 pub begun : (opening : List ℕ → Option (List ℕ)) (sealing : ℕ → List ℕ → List ℕ) (d : Sizes) (i overhead nonce : ℕ) (xs : List (List ℕ)) → IsDevice d
     → ((n : ℕ) (plain : List ℕ) → length (sealing n plain) ≡ overhead + length plain) → ((n : ℕ) (plain : List ℕ) → n < 2 ^ 64 → IsBytes plain → opening (sealing n plain) ≡ Some plain)
     → nonce + node_count (depth_of d i) ≤ 2 ^ 64 → IsStartOf (shape_body i (depth_of d i) (record_len_of d overhead) ∷ puts (λ n. sealing n (spelling d [])) i (depth_of d i) nonce 0) xs
@@ -323,7 +323,7 @@ begun opening sealing d i overhead nonce xs of longer undoes fits starts =
     let F = λ (bodies : List (List ℕ)). let t : State = record { number = i; root = root; stash = [] } in IsFormat opening sealing overhead d nonce t bodies in
     (starts.0, root, subst F (sym starts.1) (formed opening sealing overhead d i nonce of (record { longer = longer; undoes = undoes }) fits))
 
--- both facts of an answer
+-- two facts about the same answer
 pub both : {T E : Type 0} (r : Result T E) (P : T → Type 0) (Q : Type 0) (R : T → Type 0) → IfOk r P → OnOk r Q → ((x : T) → P x → Q → R x) → IfOk r R
 both (Ok x) P Q R p q f = f x p q
 both (Err e) P Q R p q f = tt

@@ -1,4 +1,4 @@
--- What an access prepares, by what its lists contain.
+-- The preparation of an access, in terms of what its lists contain.
 use Rattle.std.proofs.Common.{◌≡◌, ◌≢◌, ◌↔◌, ◌⊎◌, ◌||◌, ℕ, ◌<◌, Bool, true, false, List, [], ◌++◌, length, map, get_or, Option, Some, None, is_some, All, AllPairs, Bor, Vec, Global, Contains, inl, inr, refl, sym, ap, subst, ◌∙◌, arith}
 use Rattle.std.proofs.lemmas.List.{get_or-map, length-map}
 use Rattle.std.proofs.lemmas.List.Elements.{Contains-get_or, Contains-append_right}
@@ -16,7 +16,7 @@ use Rattle.oram_tree.proofs.Gathered.{block_at-address, block_at-contains, block
 use Rattle.oram_tree.proofs.Rewrites.{content_of_own, content_of_other, list_is_bucket}
 use Rattle.oram_tree.proofs.Sealed.{lent}
 
--- of the near blocks only the accessed one may have the address of one of the stash
+-- of the near blocks, only the accessed one can have the address of a block of the stash
 pub near_apart : (reads : List ℕ → List Cell → Type 0) (p : Path) (stash gathered near : List Cell) (cell : Cell) → IsReadable reads p stash → ((d : Cell) → Contains gathered d ↔ IsInBucket reads p d) → IsWaiting (Contains gathered) cell near
     → (c d : Cell) → Contains stash c → Contains near d → c.address ≡ d.address → c.address ≡ cell.address
 near_apart reads p stash gathered near cell readable fetched waits c d here there same = elim ((waits d).0 there) [
@@ -24,7 +24,7 @@ near_apart reads p stash gathered near cell readable fetched waits c d here ther
   | inr (old, other) ↦ let at = (fetched d).0 old in absurd (readable.once_in_all at.0 d c at.1 at.2 here (sym same))
 ]
 
--- what waits are the accessed block and the other near ones
+-- the blocks that wait are the accessed one and the other near ones
 pub waiting_all : (reads : List ℕ → List Cell → Type 0) (p : Path) (stash gathered near waiting : List Cell) (cell : Cell) → ((d : Cell) → Contains gathered d ↔ IsInBucket reads p d) → IsWaiting (Contains gathered) cell near
     → ((d : Cell) → Contains waiting d ↔ ((Contains stash d × (d.address ≢ cell.address)) ⊎ Contains near d)) → IsWaiting (IsNear reads p stash) cell waiting
 waiting_all reads p stash gathered near waiting cell fetched waits both d = (
@@ -44,7 +44,7 @@ waiting_all reads p stash gathered near waiting cell fetched waits both d = (
   ]),
 )
 
--- the accessed block as the stash has it, or else the path
+-- the accessed block as the stash has it, or else as the path has it
 pub looked_both : (reads : List ℕ → List Cell → Type 0) (p : Path) (stash : List Cell) (len address : ℕ) (found : Bool) (before : List ℕ) → IsLookup (IsInBucket reads p) len address found before
     → IsLookup (IsNear reads p stash) len address (is_some (block_at stash address) || found) (content_in stash address before)
 looked_both reads p stash len address found before looked = go (block_at stash address) refl
@@ -65,7 +65,7 @@ looked_both reads p stash len address found before looked = go (block_at stash a
           absent = λ e. let n = looked.absent (sym same ∙ e) in (λ c near. elim near [ inl here ↦ block_at-none stash address c is here | inr there ↦ n.0 c there ], told ∙ n.1);
         }
 
--- the stash that is settled is the rest of the eviction
+-- the settled stash is the rest of the eviction
 pub settled_rest : (stash near waiting rest settled : List Cell) (stays : List ℕ) (address : ℕ) → IsRising waiting → IsRising rest → IsRising settled → stays ≡ map (λ b. b.address) rest
     → ((d : Cell) → Contains rest d → Contains waiting d)
     → ((d : Cell) → Contains waiting d ↔ ((Contains stash d × (d.address ≢ address)) ⊎ Contains near d))
@@ -101,13 +101,13 @@ addresses_rise xs stays rising is =
     let low = rising i j any lt long in
     omega (arith, get_or-map address_of xs i any d (omega arith), get_or-map address_of xs j any d long))
 
--- what holds of the blocks that are lent
+-- a property of the borrowed blocks
 pub lent_all : (P : Cell → Type 0) (xs : List (Bor Cell)) → All P (map (λ (b : Bor Cell). b.now) xs) → All (λ b. P b.now) xs
 lent_all P xs all k d lt =
     let now : Bor Cell → Cell = λ (b : Bor Cell). b.now in
     subst P (get_or-map now xs k d d.now lt) (all k d.now (rw length-map lt))
 
--- the lists of an eviction of blocks that are lent are buckets
+-- the lists of an eviction of borrowed blocks are buckets
 pub lists_buckets : (s : Sizes) (i depth leaf : ℕ) (waiting : List Cell) (vs : List (Vec (Bor Cell) Global)) (rest : List Cell) → IsEviction depth s.slots leaf waiting (lent vs) rest → All (IsBlockOf s i) waiting
     → All (λ (v : Vec (Bor Cell) Global). IsBucketOf s i (map (λ (b : Bor Cell). b.now) v.items)) vs
 lists_buckets s i depth leaf waiting vs rest e all k v lt =
@@ -121,7 +121,7 @@ same_lookup near len address found told before data_told same same_data looked =
     let Q : List ℕ → Type 0 = λ b. IsLookup near len address told b in
     subst Q (sym same_data) (subst P (sym same) looked)
 
--- what stays waited
+-- a block of the rest waited
 pub rest_waits : (waiting : List Cell) (lists : List (List Cell)) (rest : List Cell) (depth slots leaf : ℕ) → IsEviction depth slots leaf waiting lists rest → (d : Cell) → Contains rest d → Contains waiting d
 rest_waits waiting lists rest depth slots leaf e d inside =
     Contains-permutation (all_listed lists ++ rest) waiting d (IsPermutation-sym waiting (all_listed lists ++ rest) e.placement.each_once) (Contains-append_right (all_listed lists) rest d inside)

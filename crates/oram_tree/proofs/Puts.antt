@@ -44,7 +44,7 @@ pub if_err : {T E : Type 0} (r : Result T E) (P Q : E → Type 0) → IsErrAnd r
 if_err (Ok x) P Q h f = tt
 if_err (Err e) P Q h f = f e h
 
--- a formatting that is broken off before its first body, at it, and after some
+-- a formatting that is broken off before its first body, at the first body, and after some bodies
 
 pub stands_still : {K : Type 0} (putting : K → List ℕ → K → Type 0) (refusing : K → List ℕ → SinkFault → K → Type 0) (Begins : List (List ℕ) → Type 0) (from to : K) (fault : FormatFault) → Begins [] → fault ≡ OutOfMemory → to ≡ from → IsBrokenOff putting refusing Begins from fault to
 stands_still putting refusing Begins from to fault begun memory same = record { taken = []; begun = begun; mid = from; puts = refl; ended = inl (memory, same) }

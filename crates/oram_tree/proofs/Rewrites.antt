@@ -32,7 +32,7 @@ use Rattle.oram_tree.proofs.Content.{reads_uniquely, Before, IsBefore, After, is
 use Rattle.oram_tree.proofs.Evicted.{evicted}
 use Rattle.oram_tree.proofs.Gathered.{found_at}
 
--- a changed block goes in beside the others
+-- a changed block is added to the others
 pub waits_from : (old after new : List Cell) (b c : Cell) → b ≡ c → IsPermutation (b ∷ after) new → ((d : Cell) → Contains after d ↔ (Contains old d × (d.address ≢ c.address))) → IsWaiting (Contains old) c new
 waits_from old after new b c same moved others d = (
   λ inside. elim (Contains-cases b after d (Contains-permutation new (b ∷ after) d (IsPermutation-sym (b ∷ after) new moved) inside)) [
@@ -55,7 +55,7 @@ lookup_near near gathered len address found before same looked = record {
   absent = λ e. let n = looked.absent e in (λ c there. n.0 c ((same c).1 there), n.1);
 }
 
--- data that is looked up has a block's length
+-- data that is looked up is as long as a block
 pub before_len : (near : Cell → Type 0) (len address : ℕ) (found : Bool) (before : List ℕ) → IsLookup near len address found before → ((d : Cell) → near d → length d.content ≡ len) → length before ≡ len
 before_len near len address true before looked whole = let b = looked.present refl in ap length (sym b.3) ∙ whole b.0 b.1
 before_len near len address false before looked whole = let n = looked.absent refl in ap length n.1 ∙ length-replicate len 0
@@ -79,7 +79,7 @@ edited_len len Keep before fits whole = whole
 edited_len len (Replace bytes) before fits whole = fits
 edited_len len (Entry j value) before fits whole = length-with_entry before j value (omega (arith, fits, whole)) ∙ whole
 
--- the changed block is of the tree
+-- the changed block can be in the tree
 pub changed_block : (near : Cell → Type 0) (s : Sizes) (i address leaf : ℕ) (e : Edit) (found : Bool) (before : List ℕ) → address < blocks_in s i → leaf < 2 ^ depth_of s i → IsEditOf s i e
     → IsLookup near s.block_bytes address found before → ((d : Cell) → near d → IsBlockOf s i d) → IsBlockOf s i (edited_block address leaf e before)
 changed_block near s i address leaf e found before address_in leaf_in fits looked blocks = record {
@@ -88,7 +88,7 @@ changed_block near s i address leaf e found before address_in leaf_in fits looke
   whole = edited_len s.block_bytes e before (room_for s i e fits) (before_len near s.block_bytes address found before looked (λ d there. (blocks d there).whole));
 }
 
--- the blocks that wait are of the tree
+-- the blocks that wait can be in the tree
 pub waiting_blocks : (near : Cell → Type 0) (s : Sizes) (i : ℕ) (c : Cell) (waiting : List Cell) → IsBlockOf s i c → ((d : Cell) → near d → IsBlockOf s i d) → IsWaiting near c waiting → All (IsBlockOf s i) waiting
 waiting_blocks near s i c waiting changed blocks waits k d lt =
     elim ((waits (get_or waiting k d)).0 (Contains-get_or waiting k d lt)) [
@@ -96,7 +96,7 @@ waiting_blocks near s i c waiting changed blocks waits k d lt =
       | inr (there, other) ↦ blocks (get_or waiting k d) there
     ]
 
--- an eviction's lists are buckets, and its rest is of the tree
+-- an eviction's lists are buckets, and the blocks of its rest can be in the tree
 pub list_is_bucket : (s : Sizes) (i depth leaf : ℕ) (waiting : List Cell) (lists : List (List Cell)) (rest : List Cell) → IsEviction depth s.slots leaf waiting lists rest → All (IsBlockOf s i) waiting → (l : ℕ) → IsBucketOf s i (listed lists l)
 list_is_bucket s i depth leaf waiting lists rest e blocks l = record {
   within = e.placement.within l;
@@ -125,7 +125,7 @@ rewritten opening sealing s i nonce depth leaf p q stash waiting c lists rest pa
       read_back = λ level h. let P : List ℕ → Type 0 = λ part. Reads opening s i part (listed lists level) in subst P (sym (written level h)) (opens level (omega (arith, e.placement.levels)));
     }
 
--- a stored tree, its depth and lengths as a path has them
+-- a stored tree, with the depth and the lengths of a path
 record IsPathIn (p : Path) (d : Sizes) (i overhead leaf : ℕ) : Type 0 where
   depth_is : p.depth ≡ depth_of d i
   len_is : p.record_len ≡ record_len_of d overhead
@@ -187,7 +187,7 @@ updated opening sealing overhead nonce leaf d p bytes t root rest records conten
           record { stands = rw (in_tree.depth_is, in_tree.len_is) at stood; holds = rw in_tree.depth_is at held };
     }
 
--- a fault that isn't the one is the other
+-- of two faults, one that isn't the first is the second
 pub only_memory : (f : TreeFault) → (let u : TreeFault = Unreadable in f ≡ u → ⊥) → f ≡ OutOfMemory
 only_memory Unreadable other = absurd (other refl)
 only_memory OutOfMemory other = refl
@@ -196,11 +196,11 @@ only_memory OutOfMemory other = refl
 pub moved : (Q : ℕ → List Cell → Type 0) (n m : ℕ) (xs ys : List Cell) → n ≡ m → xs ≡ ys → Q n xs → Q m ys
 moved Q n m xs ys number stash fact = subst (Q m) stash (let P : ℕ → Type 0 = λ k. Q k xs in subst P number fact)
 
--- what a vector gained is one list
+-- a vector has gained only one list
 pub gained_is : (old new records gained : List ℕ) → new ≡ old ++ records → new ≡ old ++ gained → records ≡ gained
 gained_is old new records gained here there = append_cancel_left old records gained (sym here ∙ there)
 
--- the data of a block that the stash has, and other data where it has none
+-- the data of the stash's block, or other data if the stash doesn't have the block
 pub content_of_own : (stash : List Cell) (address : ℕ) (other : List ℕ) (b : Cell) → block_at stash address ≡ Some b → content_in stash address other ≡ b.content
 content_of_own stash address other b is = ap (λ o. option_map_or (λ (c : Cell). c.content) o other) is
 

@@ -31,7 +31,7 @@ changed e = refl
 unchanged : (e : Entry) → put no_blocks 5 e 6 ≡ None
 unchanged e = refl
 
--- who keeps every block in the stash and stores dummies hasn't evicted: the root's bucket has room for any block
+-- keeping every block in the stash and storing only dummies is no eviction: the root's bucket has room for any block
 not_all_kept : (depth slots leaf : ℕ) (waiting : List Cell) (lists : List (List Cell)) (rest : List Cell) (c : Cell) → 0 < slots → leaf < 2 ^ depth → c.leaf < 2 ^ depth → IsEviction depth slots leaf waiting lists rest → Contains waiting c
     → ((level : ℕ) → listed lists level ≡ []) → ⊥
 not_all_kept depth slots leaf waiting lists rest c some leaf_in own_in e waits dummies =

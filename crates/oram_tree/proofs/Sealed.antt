@@ -1,4 +1,4 @@
--- The records of a path as they are sealed, level by level.
+-- The records of a path, sealed level by level.
 use Rattle.std.proofs.Common.{◌≡◌, ℕ, ◌+◌, ◌-◌, ◌<◌, List, [], ◌∷◌, ◌++◌, length, take, drop, get_or, map, Bor, Vec, Global, inl, inr, refl, sym, ap, subst, ◌∙◌, append_assoc, arith}
 use Rattle.std.proofs.lemmas.Bool.{cases_eq}
 use Rattle.std.proofs.lemmas.List.{append-nil, get_or-map, get_or_push, get_or_append_left, length_push, length-append, take_all, drop_all, with_items_is}
@@ -13,17 +13,17 @@ use Rattle.oram_bucket.specs.Bucket.{spelling}
 use Rattle.oram_stash.specs.Eviction.{listed}
 use Rattle.oram_tree.specs.Access.{IsSealedTo, IsAppended, part_at}
 
--- the blocks that lists lend
+-- the blocks that the lists borrow
 abbrev pub lent : List (Vec (Bor Cell) Global) → List (List Cell)
 lent lists = map (λ (list : Vec (Bor Cell) Global). map (λ (b : Bor Cell). b.now) list.items) lists
 
--- the list at a level, as it is read
+-- the list at a level, as the code reads it
 pub lent_at : (lists : List (Vec (Bor Cell) Global)) (level : ℕ) (list : Vec (Bor Cell) Global) → level < length lists → list ≡ get_or lists level list → listed (lent lists) level ≡ map (λ (b : Bor Cell). b.now) list.items
 lent_at lists level list lt is =
     let f = λ (v : Vec (Bor Cell) Global). map (λ (b : Bor Cell). b.now) v.items in
     get_or-map f lists level list [] lt ∙ ap f (sym is)
 
--- what holds of each part at its level, once one more is there
+-- a property of each part at its level, also with one more part
 at_more : (P : ℕ → List ℕ → Type 0) (parts : List (List ℕ)) (part : List ℕ) (n : ℕ) → length parts ≡ n → ((k : ℕ) → k < n → P k (part_at parts k)) → P n part → (k : ℕ) → k < n + 1 → P k (part_at (parts ++ part ∷ []) k)
 at_more P parts part n long before here k lt = elim (cases_eq k n) [
   | inl last ↦ subst (P k) (sym (get_or_push parts part [] k (long ∙ sym last))) (let Q : ℕ → Type 0 = λ j. P j part in subst Q (sym last) here)
@@ -61,7 +61,7 @@ sealed_more reads sealing d nonce p lists level old mid after now part s long fi
 pub cut_back : (old now gained : List ℕ) (n : ℕ) → n ≡ length old → now ≡ old ++ gained → take n now ≡ old
 cut_back old now gained n long is = ap (λ m. take m now) long ∙ ap (take (length old)) is ∙ take-append_seam old gained
 
--- what it gained
+-- the bytes that the vector gained
 pub gained_part : (old gained now : List ℕ) (n k : ℕ) → now ≡ old ++ gained → n ≡ length old → k ≡ length now - n → take k (drop n now) ≡ gained
 gained_part old gained now n k is long rest =
     let after : drop n now ≡ gained = ap (λ m. drop m now) long ∙ ap (drop (length old)) is ∙ drop-append_seam old gained in

@@ -12,19 +12,19 @@ use Rattle.oram_tree.specs.State.{State, IsStoredWith}
 use Rattle.oram_tree.specs.declared.faults.FormatFault.{FormatFault}
 use Rattle.oram_tree.specs.declared.faults.FormatFault.TheVariants.{OutOfMemory}
 
--- a sink takes these bodies in turn
+-- the sink takes these bodies, one after the other
 abbrev pub PutsAll : {K : Type 0} → (K → List ℕ → K → Type 0) → K → List (List ℕ) → K → Type 0
 PutsAll putting from [] to = from ≡ to
 PutsAll {K} putting from (body ∷ bodies) to = (next : K) × putting from body next × PutsAll putting next bodies to
 
--- the nodes of the subtree of this height at node n, in the order of their PUTs: all of the left subtree, all of the right
--- one, the node
+-- the nodes of the subtree of this height at node n, in the order of their PUTs: the left subtree, the right subtree,
+-- the node
 unfoldable pub post_order : ℕ → ℕ → List ℕ
 post_order zero n = n ∷ []
 post_order (suc h) n = post_order h (2 * n + 1) ++ post_order h (2 * n + 2) ++ n ∷ []
 
--- the bodies are the SHAPE of the tree and then the PUTs, in that order, of its nodes' records, whose empty buckets are
--- sealed under rising nonces; the records stand under the tree and hold no blocks
+-- the bodies are the SHAPE of the tree and then the PUTs of its nodes' records, in that order; the records have empty
+-- buckets, sealed under rising nonces, and are stored under the tree's root digest
 pub record IsFormat (opening : List ℕ → Option (List ℕ)) (sealing : ℕ → List ℕ → List ℕ) (overhead : ℕ)
     (d : Sizes) (nonce : ℕ) (t : State) (bodies : List (List ℕ)) : Type 0 where
   pub records : ℕ → List ℕ
@@ -34,13 +34,13 @@ pub record IsFormat (opening : List ℕ → Option (List ℕ)) (sealing : ℕ �
       → sealed_part (records (slice_index (post_order (depth_of d t.number) 0) k)) ≡ sealing (nonce + k) (spelling d [])
   pub empty : IsStoredWith opening overhead d t records no_blocks
 
--- the bodies are a beginning of those that make a tree of this number
+-- the bodies are a beginning of the messages that format the tree of this number
 abbrev pub IsBegun : (List ℕ → Option (List ℕ)) → (ℕ → List ℕ → List ℕ) → ℕ → Sizes → ℕ → ℕ → List (List ℕ) → Type 0
 IsBegun opening sealing overhead d nonce number bodies =
     (more : List (List ℕ)) × (root : List ℕ)
     × IsFormat opening sealing overhead d nonce (record { number = number; root = root; stash = [] }) (bodies ++ more)
 
--- a sink that stood as `from` and had taken a beginning refused the next body, and this is the fault that is told
+-- a sink in the state `from`, which had taken the bodies `taken`, refused the next body, and `fault` reports this
 pub record IsRefused {K : Type 0} (refusing : K → List ℕ → SinkFault → K → Type 0) (Begins : List (List ℕ) → Type 0)
     (taken : List (List ℕ)) (from : K) (fault : FormatFault) (to : K) : Type 0 where
   pub body : List ℕ
@@ -49,8 +49,8 @@ pub record IsRefused {K : Type 0} (refusing : K → List ℕ → SinkFault → K
   pub refused : refusing from body why to
   pub told : fault ≡ format_fault why
 
--- A formatting was broken off: the sink took a beginning of it, and then either memory was refused elsewhere and the sink
--- stands so, or it refused the next body.
+-- A formatting was broken off: the sink took a beginning of its bodies, and then either memory ran out elsewhere and the
+-- sink hasn't changed since, or the sink refused the next body.
 pub record IsBrokenOff {K : Type 0} (putting : K → List ℕ → K → Type 0) (refusing : K → List ℕ → SinkFault → K → Type 0)
     (Begins : List (List ℕ) → Type 0) (from : K) (fault : FormatFault) (to : K) : Type 0 where
   pub taken : List (List ℕ)

@@ -1,4 +1,4 @@
--- What a client keeps of a tree in its state file.
+-- The parts of a tree that a client keeps in its state file.
 use Rattle.std.specs.Prelude.{◌≡◌, ℕ, List, All}
 use Rattle.oram_geometry.specs.declared.Sizes.{Sizes}
 use Rattle.oram_bucket.specs.Cell.{Cell, IsRising}
@@ -13,16 +13,16 @@ pub record Parts : Type 0 where
 abbrev pub parts_of : State → Parts
 parts_of t = record { root = t.root; stash = t.stash }
 
--- the tree of this number that has the parts
+-- the tree of this number with these parts
 abbrev pub tree_of : ℕ → Parts → State
 tree_of i p = record { number = i; root = p.root; stash = p.stash }
 
--- the parts may be those of tree i: its stash has blocks of that tree, by rising address
+-- these can be the parts of tree i: the stash has only blocks that can be in this tree, by rising address
 pub record ArePartsOf (d : Sizes) (i : ℕ) (p : Parts) : Type 0 where
   pub rising : IsRising p.stash
   pub blocks : All (IsBlockOf d i) p.stash
 
--- the parts of a tree whose stash has blocks of its own are such, and make that tree again
+-- if a tree's stash has only blocks of this tree, its parts can be a tree's, and they make the same tree again
 abbrev pub PartsMakeTheirTree : Type 0
 PartsMakeTheirTree = (d : Sizes) (t : State) → IsRising t.stash → All (IsBlockOf d t.number) t.stash
     → ArePartsOf d t.number (parts_of t) × (tree_of t.number (parts_of t) ≡ t)

@@ -1,4 +1,4 @@
--- A tree as its client knows it, and the records that stand at the host under it.
+-- A tree as its client knows it, and the records at the host that belong to it.
 use Rattle.std.specs.Prelude.{ℕ, List, Option}
 use Rattle.oram_geometry.specs.declared.Sizes.{Sizes}
 use Rattle.oram_geometry.specs.Sizes.{depth_of, record_len_of}
@@ -7,14 +7,14 @@ use Rattle.oram_bucket.specs.Cell.{Cell}
 use Rattle.oram_bucket.specs.Reading.{Reads}
 use Rattle.oram_tree.specs.Content.{Map, HasContent}
 
--- what a clause sees of a tree: its number, the digest of its root's record, and its stash
+-- a tree, as clauses see it: its number, the digest of its root's record, and its stash
 pub record State : Type 0 where
   pub number : ℕ
   pub root : List ℕ
   pub stash : List Cell
 
--- the records stand under the tree's root, and with its stash they hold this map: under a sealer that opens so and adds so
--- many bytes
+-- the records are stored under the tree's root digest, and together with its stash they hold this map; the sealer opens
+-- buckets with `opening` and adds `overhead` bytes
 pub record IsStoredWith (opening : List ℕ → Option (List ℕ)) (overhead : ℕ) (d : Sizes) (t : State)
     (records : ℕ → List ℕ) (content : Map) : Type 0 where
   pub stands : IsStored (depth_of d t.number) (record_len_of d overhead) t.root records

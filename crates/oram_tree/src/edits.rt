@@ -1,25 +1,25 @@
-//! What an access does to a block's data.
+//! The change that an access makes to a block's data.
 ghost use Rattle.std.specs.Prelude.{◌≡◌, ◌≤◌, ◌+◌, ◌*◌, length, IfOk};
 ghost use Rattle.oram_tree.specs.Edits.{edited_content, with_entry, HasRoomFor};
 
 use byteorder::{BigEndian, ByteOrder};
 use std::alloc::{AllocError, Global};
 
-/// Bytes of an entry of a map block.
+/// The number of bytes of an entry of a map block.
 const ENTRY_LEN: usize = 4;
 
-/// What an access does to a block's data.
+/// The change that an access makes to a block's data.
 #[derive(Clone, Copy, Debug)]
 pub enum Edit<'a> {
-    /// The data stays.
+    /// The data stays as it is.
     Keep,
-    /// The data becomes these bytes, as many as a block has.
+    /// These bytes, as many as a block has, replace the data.
     Replace(&'a [u8]),
-    /// In a map block, this entry becomes this value: one more than a leaf of the tree below, or 0.
+    /// In a map block, the entry with this index gets this value: a leaf of the tree below plus one, or 0.
     Entry(usize, u32),
 }
 
-/// A block's data after an edit.
+/// Returns a block's data after an edit. Fails only if memory runs out.
 pub(crate) fn apply(alloc: Global, edit: Edit<'_>, before: &[u8]) -> Result<Vec<u8>, AllocError>
     requires { HasRoomFor (length before.now) edit }
     ensures { IfOk result (λ v. v.items ≡ edited_content edit.entry before.now) }

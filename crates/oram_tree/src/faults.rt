@@ -1,16 +1,16 @@
-//! Why a tree isn't made or accessed.
+//! Why formatting, accessing or restoring a tree fails.
 ghost use Rattle.std.specs.Prelude.{◌≡◌};
 
 use oram_bucket::OpenFault;
 use oram_wire::SinkFault;
 use std::alloc::AllocError;
 
-/// Why a tree wasn't formatted.
+/// Why a tree couldn't be formatted.
 #[derive(Clone, Copy, Debug, PartialEq, Eq)]
 pub enum FormatFault {
-    /// The sink didn't take a message, and not for want of memory.
+    /// The sink refused a message for this reason, which isn't a lack of memory.
     Sink(SinkFault),
-    /// The tree or the sink found no memory.
+    /// The tree or the sink ran out of memory.
     OutOfMemory,
 }
 
@@ -37,10 +37,10 @@ impl From<SinkFault> for FormatFault {
     }
 }
 
-/// Why an access didn't take place.
+/// Why an access failed.
 #[derive(Clone, Copy, Debug, PartialEq, Eq)]
 pub enum TreeFault {
-    /// A bucket of the path doesn't open or decode, or an address is there twice.
+    /// A bucket of the path doesn't open or decode, or two blocks of the path and the stash have the same address.
     Unreadable,
     OutOfMemory,
 }
@@ -68,10 +68,10 @@ impl From<OpenFault> for TreeFault {
     }
 }
 
-/// Why parts make no tree.
+/// Why parts don't make a tree.
 #[derive(Clone, Copy, Debug, PartialEq, Eq)]
 pub enum PartsFault {
-    /// They aren't parts of that tree of the device.
+    /// They can't be parts of this tree of the device.
     Content,
     OutOfMemory,
 }

@@ -1,4 +1,4 @@
-//! The making of a tree of empty buckets.
+//! Formats a tree of empty buckets.
 ghost use Rattle.std.specs.Prelude.{◌≡◌, ◌≢◌, ◌+◌, ◌*◌, ◌-◌, ◌^◌, ◌<◌, ◌≤◌, ℕ, List, [], ◌∷◌, ◌++◌, Err, IfOk, IfErr, OnOk};
 ghost use Rattle.oram_geometry.specs.Sizes.{trees_of, depth_of, record_len_of};
 ghost use Rattle.oram_bucket.specs.Bucket.{spelling};
@@ -16,7 +16,7 @@ use oram_hash::{DIGEST_LEN, NO_DIGEST, node_digest};
 use oram_wire::{HostRequest, Sink, SinkFault};
 use std::alloc::{AllocError, Global};
 
-/// The record of an empty bucket with these children's digests.
+/// Makes the record of an empty bucket with these digests of the children.
 fn empty_record<S: Sealer>(
     alloc: Global,
     device: &Device,
@@ -37,7 +37,7 @@ fn empty_record<S: Sealer>(
     Ok(record)
 }
 
-/// The message that puts a record at a node.
+/// Makes the PUT of a record at `node`.
 fn put_message(alloc: Global, tree: u8, node: u32, bytes: Vec<u8>) -> Result<Vec<u8>, AllocError>
     ensures { IfOk result (λ v. v.items ≡ put_body tree node bytes.items) }
 {
@@ -45,7 +45,7 @@ fn put_message(alloc: Global, tree: u8, node: u32, bytes: Vec<u8>) -> Result<Vec
     HostRequest::Put { tree, node, bytes }.encode(alloc)
 }
 
-/// Puts an empty bucket with these children's digests at a node, and gives its record's digest.
+/// Puts an empty bucket with these digests of the children at `node`, and returns the digest of its record.
 fn put_node<S: Sealer, K: Sink>(
     alloc: Global,
     device: &Device,
@@ -73,7 +73,7 @@ fn put_node<S: Sealer, K: Sink>(
     Ok(digest)
 }
 
-/// The nodes of the left subtree of a node of this height.
+/// Returns the number of nodes in the left subtree of a node of this height.
 fn nodes_below(height: u8) -> u64
     requires some { 0 < height }
     requires height { height ≤ 24 }
@@ -82,8 +82,8 @@ fn nodes_below(height: u8) -> u64
     (1 << height) - 1
 }
 
-/// Puts empty buckets at the nodes below a node and at it: at those of the left subtree, at those of the right one, at
-/// the node. Gives the digest of the node's record.
+/// Puts empty buckets in the subtree of `node`, which has this height, in post order: in the left subtree, in the right
+/// one, at the node. Returns the digest of the node's record.
 fn grow<S: Sealer, K: Sink>(
     alloc: Global,
     device: &Device,
@@ -130,7 +130,7 @@ fn grow<S: Sealer, K: Sink>(
     )
 }
 
-/// The message that tells the shape of a tree.
+/// Makes the SHAPE of a tree.
 fn shape_message(
     alloc: Global,
     device: &Device,
@@ -153,7 +153,7 @@ fn shape_message(
     shape.encode(alloc)
 }
 
-/// Makes a tree of empty buckets, and gives the digest of its root's record.
+/// Formats a tree of empty buckets and returns the digest of its root's record.
 pub(crate) fn format_tree<S: Sealer, K: Sink>(
     alloc: Global,
     device: &Device,

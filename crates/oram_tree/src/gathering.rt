@@ -1,4 +1,4 @@
-//! The reading of a path into a stash of its own.
+//! Reads the blocks of a path into a separate stash.
 ghost use Rattle.std.specs.Prelude.{◌≡◌, ◌≢◌, ◌⊎◌, ◌↔◌, ◌<◌, ◌++◌, Err, IfOk, OnOk, All, Contains};
 ghost use Rattle.oram_geometry.specs.Sizes.{trees_of, depth_of};
 ghost use Rattle.oram_bucket.specs.Cell.{Cell, IsRising};
@@ -13,7 +13,7 @@ use oram_hash::PathView;
 use oram_stash::{Stash, StashFault};
 use std::alloc::Global;
 
-/// Moves blocks to a stash, unless it or the tree's own has a block of one of their addresses.
+/// Moves `blocks` to `near`. Fails with `Unreadable` if `near` or `stash` already has a block of one of their addresses.
 fn absorb_all(stash: &Stash, near: &mut Stash, blocks: Vec<Block>) -> Result<(), TreeFault>
     requires rising { IsRising blocks.items }
     requires near_rising { IsRising near.old }
@@ -38,7 +38,8 @@ fn absorb_all(stash: &Stash, near: &mut Stash, blocks: Vec<Block>) -> Result<(),
     Ok(())
 }
 
-/// The blocks of a path's buckets, beside the tree's own stash.
+/// Opens the buckets of a path and returns their blocks in a stash of their own. `stash` is the tree's stash, and stays
+/// unchanged.
 pub(crate) fn gather<S: Sealer>(
     alloc: Global,
     device: &Device,

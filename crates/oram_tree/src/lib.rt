@@ -1,8 +1,8 @@
-//! One tree of the store, as its client knows it: the stash and the digest of the root's record.
+//! The client's part of one tree: the stash and the digest of the root's record.
 //!
-//! An access reads the path of a block's leaf into the stash, gives the block a new leaf, reads or changes its data, and
-//! moves blocks back to the path (Path ORAM, CCS 2013, section 3). It makes the records to be stored; who sends them, and
-//! who knows which leaf a block has, is the layer above.
+//! An access reads the path of a block's leaf into the stash, gives the block a new leaf, reads or changes its data,
+//! and moves blocks back to the path (Path ORAM, CCS 2013, section 3). It makes the records that are to replace the
+//! path's. The layer above sends them, and knows the leaf of each block.
 #![tactic(auto)]
 
 ghost use Rattle.std.specs.Prelude.{◌≡◌, ◌≢◌, ◌⊎◌, ◌↔◌, ◌+◌, ◌^◌, ◌<◌, ◌≤◌, ℕ, List, [], ◌++◌, Err, IsOk, IfOk, OnOk, OnErr, IfErr, MatchResult, All, length};
@@ -39,7 +39,7 @@ pub use rewriting::{Access, Lookup};
 use std::alloc::Global;
 use std::marker::Model;
 
-/// A tree as its client knows it.
+/// A tree as its client knows it: its number, the digest of its root's record, and its stash.
 #[derive(Debug, Drop)]
 pub struct Tree {
     number: u8,
@@ -56,8 +56,8 @@ impl Model for Tree {
 }
 
 impl Tree {
-    /// Makes a tree of empty buckets, by messages to a sink: its shape, and then its nodes' records, those of the left
-    /// subtree, those of the right one, the root. Of these it keeps one digest a level.
+    /// Formats a tree of empty buckets by messages to a sink: the tree's SHAPE, and then the PUTs of its nodes'
+    /// records in post order (the left subtree, the right subtree, the root). Meanwhile it keeps one digest per level.
     pub fn format<S: Sealer, K: Sink>(
         alloc: Global,
         device: &Device,
@@ -87,21 +87,24 @@ impl Tree {
         })
     }
 
-    /// The digest of the root's record.
+    /// Returns the digest of the root's record.
     pub fn root(&self) -> &[u8; DIGEST_LEN]
         ensures { result.now ≡ self.now.root }
     {
         &self.root
     }
 
-    /// How many blocks lie in no bucket.
+    /// Returns the number of blocks in the stash.
     pub fn stash_len(&self) -> usize
         ensures { result ≡ length self.now.stash }
     {
         self.stash.len()
     }
 
-    /// Reads bytes as the records of a path of the tree, root first, and checks them against its root digest.
+    /// Takes `bytes` as the records of a path of the tree, root first, and checks them against the tree's root digest.
+    ///
+    /// Fails with `Length` if the number of bytes is wrong, and with `Tampered` at the first level, from the root on,
+    /// whose record doesn't have its expected digest.
     pub fn check<'a>(
         &self,
         device: &Device,
@@ -122,7 +125,7 @@ impl Tree {
         ensures tampered { let p = path_of device.now self.now.number leaf overhead bytes.now in
             (level : ℕ) → (result ≡ Err (HashFault.Tampered level)) ↔ IsTamperedAt p self.now.root level }
 
-        // Against a stored tree of the root.
+        // The verdict compared with the records of any stored tree that has this root digest.
         ensures judged { let p = path_of device.now self.now.number leaf overhead bytes.now in
             (records : ℕ → List ℕ) → IsStored p.depth p.record_len self.now.root records
             → MatchResult result (λ _. IsPathOf records p) (IsFaultOf records p) ⊎ Collides records p }
@@ -130,8 +133,8 @@ impl Tree {
         check_path(device, self.number, leaf, overhead, &self.root, bytes)
     }
 
-    /// Reads or changes a block on the path of its old leaf, or makes it, and gives it a new leaf. The path is what
-    /// `check` gave for the old leaf.
+    /// Reads, changes or makes the block `address`, gives it `new_leaf`, and evicts blocks to the path of `old_leaf`.
+    /// `path` is what `check` returned for `old_leaf`. On a failure, the tree is unchanged.
     pub fn access<S: Sealer>(
         &mut self,
         alloc: Global,
@@ -158,7 +161,7 @@ impl Tree {
         ensures number { self.new.number ≡ self.old.number }
         ensures blocks { All (IsBlockOf device.now self.old.number) self.new.stash }
 
-        // A readable path is read unless memory runs out, and no other is.
+        // It reads each readable path, unless memory runs out, and fails on any other.
         ensures unreadable { let reads = Reads (S.opening sealer.now) device.now self.old.number in
             result ≡ Err TreeFault.Unreadable → ¬ IsReadable reads path.now self.old.stash }
         ensures readable { let reads = Reads (S.opening sealer.now) device.now self.old.number in
@@ -169,14 +172,14 @@ impl Tree {
             device.now.block_bytes address a.found a.before.items) }
         ensures data_len { IfOk result (λ a. length a.before.items ≡ device.now.block_bytes) }
 
-        // The buckets and the stash are the outcome of an eviction, sealed under rising nonces.
+        // The new buckets and the new stash are the outcome of an eviction; the buckets are sealed under rising nonces.
         ensures whole { IfOk result (λ a. HasLength (with_bytes path.now a.records.items)) }
         ensures written { let reads = Reads (S.opening sealer.now) device.now self.old.number in
             IfOk result (λ a. IsRewritten reads (S.sealing sealer.now) device.now nonce
             path.now self.old.stash (with_bytes path.now a.records.items)
             (edited_block address new_leaf edit.entry a.before.items) self.new.stash) }
 
-        // Over each stored tree that has the path, and the map that it and the stash hold.
+        // The effect on any stored tree that has the path, and on the map that this tree and the stash hold.
         ensures updates { let opens = S.opening sealer.now in let overhead = S.overhead sealer.now in
             (records : ℕ → List ℕ) (content : Map)
             → IsStoredWith opens overhead device.now self.old records content
@@ -207,7 +210,7 @@ impl Tree {
         })
     }
 
-    /// As `access`, but the records that are to be stored are put at the end of a vector, behind what it has.
+    /// Does the same as `access`, but appends the new records to `out`. On a failure, `out` is unchanged as well.
     pub fn access_to<S: Sealer>(
         &mut self,
         alloc: Global,
@@ -236,7 +239,7 @@ impl Tree {
         ensures number { self.new.number ≡ self.old.number }
         ensures blocks { All (IsBlockOf device.now self.old.number) self.new.stash }
 
-        // A readable path is read unless memory runs out, and no other is.
+        // It reads each readable path, unless memory runs out, and fails on any other.
         ensures unreadable { let reads = Reads (S.opening sealer.now) device.now self.old.number in
             result ≡ Err TreeFault.Unreadable → ¬ IsReadable reads path.now self.old.stash }
         ensures readable { let reads = Reads (S.opening sealer.now) device.now self.old.number in
@@ -247,8 +250,8 @@ impl Tree {
             device.now.block_bytes address a.found a.before.items) }
         ensures data_len { IfOk result (λ a. length a.before.items ≡ device.now.block_bytes) }
 
-        // The records that the vector gained: the buckets and the stash are the outcome of an eviction, sealed under
-        // rising nonces.
+        // The records that `out` gained: the new buckets and the new stash are the outcome of an eviction; the buckets
+        // are sealed under rising nonces.
         ensures appends { OnOk result ((gained : List ℕ) × (out.new.items ≡ out.old.items ++ gained)) }
         ensures whole { OnOk result ((gained : List ℕ) → out.new.items ≡ out.old.items ++ gained
             → HasLength (with_bytes path.now gained)) }
@@ -258,7 +261,7 @@ impl Tree {
             path.now self.old.stash (with_bytes path.now gained)
             (edited_block address new_leaf edit.entry a.before.items) self.new.stash) }
 
-        // Over each stored tree that has the path, and the map that it and the stash hold.
+        // The effect on any stored tree that has the path, and on the map that this tree and the stash hold.
         ensures updates { let opens = S.opening sealer.now in let overhead = S.overhead sealer.now in
             (records : ℕ → List ℕ) (content : Map)
             → IsStoredWith opens overhead device.now self.old records content

@@ -1,4 +1,4 @@
-//! What a client keeps of a tree in its state file.
+//! The parts of a tree that a client keeps in its state file.
 ghost use Rattle.std.specs.Prelude.{◌≡◌, ◌<◌, ◌↔◌, All, IfOk, IfErr, IsOk, IsTrue};
 ghost use Rattle.oram_geometry.specs.Sizes.{trees_of};
 ghost use Rattle.oram_bucket.specs.Cell.{IsRising};
@@ -13,7 +13,7 @@ use oram_stash::Stash;
 use std::alloc::{AllocError, Global};
 use std::marker::Model;
 
-/// What a client keeps of a tree, beside its number.
+/// The parts of a tree that a client keeps, except the tree's number.
 #[derive(Debug, Drop)]
 pub struct TreeParts {
     /// The digest of the root's record.
@@ -31,7 +31,7 @@ impl Model for TreeParts {
 }
 
 impl Tree {
-    /// The digest of the root's record, and copies of the stash's blocks.
+    /// Returns the digest of the root's record and copies of the stash's blocks. Fails only if memory runs out.
     pub fn parts(&self, alloc: Global) -> Result<TreeParts, AllocError>
         ensures same { IfOk result (λ parts. parts ≡ parts_of self.now) }
         ensures rising { IsRising self.now.stash }
@@ -42,7 +42,8 @@ impl Tree {
         })
     }
 
-    /// The tree of a device that has these parts, if they may be its own. It takes no memory: the blocks aren't copied.
+    /// Makes the tree of a device from its parts, or fails with `Content` if they can't be parts of this tree. Needs no
+    /// memory, since it doesn't copy the blocks.
     pub fn from_parts(
         _alloc: Global,
         device: &Device,
@@ -69,12 +70,12 @@ impl Tree {
     }
 }
 
-/// The parts of a tree whose stash has blocks of its own make that tree again.
+/// A law: the parts of a tree whose stash has only blocks of this tree make the same tree again.
 pub fn parts_make_their_tree()
     ensures { PartsMakeTheirTree }
 {}
 
-/// Whether all may lie in a tree.
+/// Returns whether all of these blocks can be in `tree`.
 fn are_blocks(device: &Device, tree: u8, blocks: &[Block]) -> bool
     requires { tree < trees_of device.now }
     ensures { IsTrue result ↔ All (IsBlockOf device.now tree) blocks.now }

@@ -1,4 +1,4 @@
-//! One access, as it makes the records that take a path's place.
+//! One access, which makes the records that replace a path.
 ghost use Rattle.std.specs.Prelude.{◌≡◌, ◌≢◌, ◌⊎◌, ◌↔◌, ◌+◌, ◌^◌, ◌<◌, ◌≤◌, ◌||◌, ◌++◌, ℕ, List, [], Err, IfOk, IfErr, OnOk, OnErr, All, AllPairs, Contains, is_some, length, vec_capacity, map, replicate};
 ghost use Rattle.oram_geometry.specs.Sizes.{trees_of, blocks_in, depth_of, record_len_of};
 ghost use Rattle.oram_hash.specs.Path.{path_of, with_bytes, HasLength};
@@ -20,37 +20,37 @@ use oram_hash::{DIGEST_LEN, PathView};
 use oram_stash::{Placement, Stash, StashFault, place};
 use std::alloc::{AllocError, Global};
 
-/// What an access finds.
+/// The block that an access finds.
 #[derive(Debug, Drop)]
 pub struct Lookup {
-    /// The block's data before the edit, zeros where it was absent.
+    /// The block's data before the edit, or zeros if it was absent.
     pub before: Vec<u8>,
-    /// Whether it was there.
+    /// Whether the tree had the block.
     pub found: bool,
 }
 
-/// What an access gives.
+/// The result of an access.
 #[derive(Debug, Drop)]
 pub struct Access {
-    /// The block's data before the edit, zeros where it was absent.
+    /// The block's data before the edit, or zeros if it was absent.
     pub before: Vec<u8>,
-    /// Whether it was there.
+    /// Whether the tree had the block.
     pub found: bool,
-    /// The records to be stored on the path, root first.
+    /// The records to store on the path, root first.
     pub records: Vec<u8>,
 }
 
-/// What an access does to the tree, once nothing can be refused any more.
+/// A prepared access: everything it needs to change the tree without being able to fail.
 #[derive(Drop)]
 pub(crate) struct Prepared {
-    /// The path's blocks and the accessed one, at its new leaf.
+    /// The path's blocks and the accessed block, which has its new leaf.
     pub near: Stash,
     /// The addresses of the blocks that stay in the stash.
     pub stays: Vec<u32>,
     /// Room for the new stash.
     pub room: Vec<Block>,
     pub root: [u8; DIGEST_LEN],
-    /// The accessed block as the path has it. What the tree's own stash has of it stays there until the end.
+    /// The accessed block as the path has it. If the tree's stash has it, it stays there until the commit.
     pub on_path: Lookup,
 }
 
@@ -60,7 +60,7 @@ fn zeros(alloc: Global, len: usize) -> Result<Vec<u8>, AllocError>
     vec![in alloc; 0; len]
 }
 
-/// Takes a block's data out of a stash: zeros where it isn't there, and whether it was.
+/// Takes the block `address` out of `stash`. Returns its data and `true`, or zeros and `false` if it isn't there.
 fn take_content(
     alloc: Global,
     device: &Device,
@@ -83,8 +83,8 @@ fn take_content(
     }
 }
 
-/// Edits a block, or makes it, beside the stash that has it: gives its data before as the path has it, zeros where it is
-/// absent, and whether it is there.
+/// Edits the block `address`, or makes it if it is in neither stash, and puts it into `near` with its new leaf. Leaves
+/// `stash` unchanged. Returns the block's data as `near` had it, or zeros, and whether `near` had it.
 fn change(
     alloc: Global,
     device: &Device,
@@ -121,8 +121,8 @@ fn change(
     }
 }
 
-/// Puts the records of a path's levels at the end of a vector, not linked yet, with the lists as their buckets, sealed
-/// under rising nonces.
+/// Appends the path's new records to `out`, not linked yet: the lists as its buckets, sealed under rising nonces, each
+/// with the path's digests after it.
 fn seal_path<S: Sealer>(
     alloc: Global,
     device: &Device,
@@ -155,7 +155,7 @@ fn seal_path<S: Sealer>(
     Ok(())
 }
 
-/// Puts the new records of a path at the end of a vector, and gives the new root digest.
+/// Appends the path's new records to `out` and returns the new root digest. If memory runs out, `out` is unchanged.
 fn append_path<S: Sealer>(
     alloc: Global,
     device: &Device,
@@ -192,8 +192,8 @@ fn addresses_of(alloc: Global, blocks: &[&Block]) -> Result<Vec<u32>, AllocError
     blocks.iter().map(|block| block.address).collect(alloc)
 }
 
-/// Writes the path's new records, with the blocks that wait evicted to it: gives the addresses of those that stay in the
-/// stash, and the new root digest.
+/// Evicts the blocks that wait to the path and appends its new records to `out`. Returns the addresses of the blocks
+/// that stay in the stash, and the new root digest.
 fn evict_to<S: Sealer>(
     alloc: Global,
     device: &Device,
@@ -224,7 +224,7 @@ fn evict_to<S: Sealer>(
     Ok((stays, root))
 }
 
-/// Makes all of an access that can be refused: the tree stays as it is.
+/// Does everything in an access that can fail, and leaves the tree unchanged.
 fn prepare<S: Sealer>(
     alloc: Global,
     device: &Device,
@@ -285,7 +285,8 @@ fn prepare<S: Sealer>(
     })
 }
 
-/// Takes the accessed block out of the stash, if it is there: gives its data before, which is moved.
+/// Takes the accessed block out of the stash and returns its data without copying; if the stash doesn't have it, returns
+/// `on_path`.
 fn take_before(stash: &mut Stash, address: u32, on_path: Lookup) -> Lookup
     ensures others { (c : Cell) → Contains stash.new c ↔ (Contains stash.old c × (c.address ≢ address)) }
     ensures len { length stash.new ≤ length stash.old }
@@ -304,7 +305,7 @@ fn take_before(stash: &mut Stash, address: u32, on_path: Lookup) -> Lookup
     }
 }
 
-/// Takes a prepared access over, without memory: gives what it found.
+/// Changes the stash as a prepared access says, and returns what the access found. Needs no memory.
 fn commit(stash: &mut Stash, address: u32, prepared: Prepared) -> Lookup
     requires apart { (c d : Cell) → Contains stash.old c → Contains prepared.near d
         → c.address ≡ d.address → c.address ≡ address }
@@ -329,7 +330,8 @@ fn commit(stash: &mut Stash, address: u32, prepared: Prepared) -> Lookup
     lookup
 }
 
-/// Makes an access with a tree's stash: gives what it found, and the new root digest.
+/// Makes an access with a tree's stash: appends the path's new records to `out`, and returns what it found and the new
+/// root digest. On a failure, `stash` and `out` are unchanged.
 pub(crate) fn rewrite<S: Sealer>(
     alloc: Global,
     device: &Device,

@@ -1,11 +1,11 @@
--- Numbers of four bytes, the highest first.
+-- Numbers of four bytes, the most significant byte first.
 use Rattle.std.proofs.Common.{◌≡◌, ℕ, zero, suc, ◌-◌, ◌<◌, ◌≤◌, List, [], ◌∷◌, ◌++◌, length, get_or, take, drop, slice_range, refl, sym, ap, ◌∙◌, arith}
 use Rattle.std.specs.Int.{w32, to_be_bytes}
 use Rattle.std.proofs.lemmas.Nat.{be_bytes_4}
 use Rattle.std.proofs.lemmas.List.{take_all, take-append-drop}
 use Rattle.byteorder.specs.Endian.{big_number}
 
--- each is a byte
+-- each number is a byte
 abbrev pub IsBytes : List ℕ → Type 0
 IsBytes xs = (i : ℕ) → get_or xs i 0 < 256
 
@@ -16,7 +16,7 @@ four_fit a b c d ha hb hc hd (suc (suc zero)) = hc
 four_fit a b c d ha hb hc hd (suc (suc (suc zero))) = hd
 four_fit a b c d ha hb hc hd (suc (suc (suc (suc i)))) = omega arith
 
--- the first four bytes are those of the number that they tell
+-- the first four bytes spell the number that they are read as
 pub be_bytes-big_number : (xs : List ℕ) → 4 ≤ length xs → IsBytes xs → to_be_bytes w32 (big_number 4 xs) ≡ take 4 xs
 be_bytes-big_number [] long fits = absurd (omega arith)
 be_bytes-big_number (a ∷ []) long fits = absurd (omega arith)
@@ -25,7 +25,7 @@ be_bytes-big_number (a ∷ b ∷ c ∷ []) long fits = absurd (omega arith)
 be_bytes-big_number (a ∷ b ∷ c ∷ d ∷ xs) long fits =
     be_bytes_4 (a ∷ b ∷ c ∷ d ∷ []) (big_number 4 (a ∷ b ∷ c ∷ d ∷ xs)) refl (four_fit a b c d (fits 0) (fits 1) (fits 2) (fits 3)) (omega arith)
 
--- the whole is its first four bytes, as the number that they tell, and the rest
+-- bytes are their first four, as a number, followed by the rest
 pub number_and_rest : (xs : List ℕ) (n : ℕ) → 4 ≤ length xs → IsBytes xs → n ≡ big_number 4 xs → to_be_bytes w32 n ++ drop 4 xs ≡ xs
 number_and_rest xs n long fits is =
     ap (λ (m : ℕ). to_be_bytes w32 m ++ drop 4 xs) is ∙ ap (λ (front : List ℕ). front ++ drop 4 xs) (be_bytes-big_number xs long fits) ∙ take-append-drop 4 xs

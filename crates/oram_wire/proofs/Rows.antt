@@ -34,7 +34,7 @@ frame_row = refl
 frames_row : flat_map frame (fetch_body 0 6 ∷ [] ∷ []) ≡ 0 ∷ 0 ∷ 0 ∷ 6 ∷ 1 ∷ 0 ∷ 0 ∷ 0 ∷ 0 ∷ 6 ∷ 0 ∷ 0 ∷ 0 ∷ 0 ∷ []
 frames_row = refl
 
--- the first length that is too long
+-- the least length that is too great
 long_row : length_at (0 ∷ 16 ∷ 0 ∷ 1 ∷ []) ≡ 1048577
 long_row = refl
 
@@ -56,7 +56,7 @@ write_row = refl
 discard_row : session_request_body (session.Discard 5) ≡ 19 ∷ 0 ∷ 0 ∷ 0 ∷ 5 ∷ []
 discard_row = refl
 
--- frames of replies: a write is done, an address is bad, a body is no request, a read of two zeros
+-- frames of replies: a write is done, an address is bad, a body is no request, a read gives two zeros
 reply_rows : flat_map frame (session_reply_body reply.Done ∷ session_reply_body (reply.Refused 1) ∷ session_reply_body (reply.Refused 7) ∷ session_reply_body (reply.Data (0 ∷ 0 ∷ [])) ∷ []) ≡ 0 ∷ 0 ∷ 0 ∷ 1 ∷ 145 ∷ 0 ∷ 0 ∷ 0 ∷ 2 ∷ 146 ∷ 1 ∷ 0 ∷ 0 ∷ 0 ∷ 2 ∷ 146 ∷ 7 ∷ 0 ∷ 0 ∷ 0 ∷ 3 ∷ 144 ∷ 0 ∷ 0 ∷ []
 reply_rows = refl
 
@@ -79,7 +79,7 @@ not_a_reply = refl
 given_row : GivesFrame (Some (0 ∷ 0 ∷ 0 ∷ 1 ∷ 145 ∷ 7 ∷ [])) (Some (7 ∷ [])) (145 ∷ [])
 given_row = (omega arith, refl)
 
--- the length that is too long is read, and nothing after it
+-- the length that is too great is read, and nothing after it
 broken_row : GivesBrokenHead (Some (0 ∷ 16 ∷ 0 ∷ 1 ∷ 7 ∷ [])) (Some (7 ∷ []))
 broken_row = (0 ∷ 16 ∷ 0 ∷ 1 ∷ [], refl, (omega arith, omega arith), refl)
 

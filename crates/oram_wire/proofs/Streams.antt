@@ -13,7 +13,7 @@ use Rattle.oram_wire.specs.declared.TheConstants.{LONGEST_BODY}
 use Rattle.oram_wire.specs.FrameStream.{AreFrames, Feeding, IsBody, IsBroken, IsLeft, IsUnfinished, frame, length_at}
 use Rattle.oram_wire.proofs.Numbers.{IsBytes, IsBytes-append, number_and_rest}
 
--- what lies behind the first four bytes of what is held and the part behind it
+-- the bytes after the first four of `held` and the part after it
 pub behind_head : (held part : List ℕ) (m : ℕ) → m ≡ min (length held) 4 → 4 ≤ length held + length part
     → slice_range held m (length held) ++ slice_range part (4 - m) (length part) ≡ drop 4 (held ++ part)
 behind_head held part m is long =
@@ -37,7 +37,7 @@ one_more bodies body after rest total cut so_far =
     ap (λ (xs : List ℕ). xs ++ after) (flat_map-append frame bodies (body ∷ []) ∙ ap (λ (xs : List ℕ). flat_map frame bodies ++ xs) (append-nil (frame body)))
     ∙ append_assoc (flat_map frame bodies) (frame body) after ∙ ap (λ (xs : List ℕ). flat_map frame bodies ++ xs) (sym cut) ∙ so_far
 
--- what is held and the part behind it are the number at their front, and what lies behind that
+-- the bytes held and the part after them are the number at their front and the bytes after it
 pub number_across : (held part body : List ℕ) → IsBytes held → IsBytes part → 4 ≤ length held + length part → body ≡ drop 4 (held ++ part)
     → held ++ part ≡ to_be_bytes w32 (length_at (held ++ part)) ++ body
 number_across held part body held_fits part_fits long body_is =
@@ -45,7 +45,7 @@ number_across held part body held_fits part_fits long body_is =
     sym (number_and_rest (held ++ part) (length_at (held ++ part)) long_front (IsBytes-append held part held_fits part_fits) refl)
     ∙ ap (λ (xs : List ℕ). to_be_bytes w32 (length_at (held ++ part)) ++ xs) (sym body_is)
 
--- what is held and the piece behind it begin with a frame
+-- the bytes held and the piece after them begin with a frame
 frame_across : (held piece part after body : List ℕ) (n : ℕ) → IsUnfinished held → n ≡ length_at (held ++ piece) → part ≡ take (4 + n - length held) piece → after ≡ drop (4 + n - length held) piece
     → length part ≡ 4 + n - length held → held ++ part ≡ to_be_bytes w32 (length_at (held ++ part)) ++ body → (held ++ piece ≡ frame body ++ after) × (length body ≡ n)
 frame_across held piece part after body n unfinished n_is part_is after_is part_len front_is =
@@ -60,7 +60,7 @@ frame_across held piece part after body n unfinished n_is part_is after_is part_
     let body_len : length body ≡ n = omega (arith, ap length front_is, length-append (to_be_bytes w32 (length_at (held ++ part))) body) in
     (whole ∙ ap (λ (xs : List ℕ). xs ++ after) (front_is ∙ ap (λ (k : ℕ). to_be_bytes w32 k ++ body) (number ∙ sym body_len)), body_len)
 
--- the frame that was begun, and those of the piece behind it
+-- the frame that was begun, and the frames of the piece after it
 pub frames_across : (held piece part after body rest : List ℕ) (n : ℕ) (bodies : List (List ℕ)) (left : Feeding) → IsUnfinished held → n ≡ length_at (held ++ piece)
     → part ≡ take (4 + n - length held) piece → after ≡ drop (4 + n - length held) piece → length part ≡ 4 + n - length held → held ++ part ≡ to_be_bytes w32 (length_at (held ++ part)) ++ body → n ≤ LONGEST_BODY
     → flat_map frame bodies ++ rest ≡ flat_map frame (body ∷ []) ++ after → (All IsBody (body ∷ []) → All IsBody bodies) → IsLeft rest left → AreFrames (held ++ piece) bodies left
@@ -93,7 +93,7 @@ no_frame rest body after (inr unfinished) fits e =
     let count : length rest ≡ 4 + length body + length after = ap length e ∙ length-frame body after in
     omega (arith, (unfinished (omega arith)).1, ap length_at e, length_at-frame body after fits)
 
--- a frame at the front is read in one way
+-- a frame at the front can be read in only one way
 same_frame : (b c u v : List ℕ) → IsBody b → IsBody c → frame b ++ u ≡ frame c ++ v → (b ≡ c) × (u ≡ v)
 same_frame b c u v b_fits c_fits e =
     let count : length b ≡ length c = sym (length_at-frame b u b_fits) ∙ ap length_at e ∙ length_at-frame c v c_fits in
@@ -123,7 +123,7 @@ same_left rest held kept true false p q = absurd (omega (arith, p.0.1, (q.0 p.0.
 same_left rest held kept false true p q = absurd (omega (arith, q.0.1, (p.0 q.0.0).0))
 same_left rest held kept false false p q = ap (λ (h : List ℕ). record { held = h; broken = false }) (p.1 ∙ sym q.1)
 
--- a stream has one list of frames
+-- a stream has only one list of frames
 pub same_reading : (stream : List ℕ) (bs cs : List (List ℕ)) (l m : Feeding) → AreFrames stream bs l → AreFrames stream cs m → (bs ≡ cs) × (l ≡ m)
 same_reading stream bs cs l m p q =
     let both = same_frames bs cs p.rest q.rest (sym p.whole ∙ q.whole) p.each q.each (IsEnd-from_left p.rest l.held l.broken p.leaves) (IsEnd-from_left q.rest m.held m.broken q.leaves) in
@@ -134,7 +134,7 @@ held_is : (rest held : List ℕ) (broken : Bool) → broken ≡ false → IsLeft
 held_is rest held true e h = absurd cc
 held_is rest held false e h = h.1
 
--- the frames of a stream and those of what is held and more are those of the stream and more
+-- the frames of a stream and more bytes are those of the stream, then those of the bytes held and the new ones
 pub goes_on : (stream piece : List ℕ) (bodies more : List (List ℕ)) (old new : Feeding) → old.broken ≡ false → AreFrames stream bodies old → AreFrames (old.held ++ piece) more new → AreFrames (stream ++ piece) (bodies ++ more) new
 goes_on stream piece bodies more old new whole p q =
     let held : old.held ≡ p.rest = held_is p.rest old.held old.broken whole p.leaves in
@@ -152,7 +152,7 @@ pub leaves_nothing : (rest held : List ℕ) (broken : Bool) → broken ≡ true 
 leaves_nothing rest held true e h nothing = (h, nothing)
 leaves_nothing rest held false e h nothing = absurd cc
 
--- what is no whole frame is held
+-- bytes that are less than a whole frame are held
 pub leaves_rest : (rest held : List ℕ) (broken : Bool) → broken ≡ false → MatchBool broken (IsBroken rest) (IsUnfinished rest) → held ≡ rest → IsLeft rest (record { held = held; broken = broken })
 leaves_rest rest held true e h same = absurd cc
 leaves_rest rest held false e h same = (h, same)

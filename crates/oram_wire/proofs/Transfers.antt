@@ -1,4 +1,4 @@
--- What is read and written piece by piece.
+-- Reading and writing piece by piece.
 use Rattle.std.proofs.Common.{◌≡◌, ℕ, ◌+◌, ◌-◌, ◌<◌, ◌≤◌, List, ◌++◌, Option, Result, Ok, Err, length, take, drop, slice_range, sym, ap, ◌∙◌, subst, arith, drop_at, length-append, length-take-le, take_all, length-drop}
 use Rattle.std.specs.Prelude.{OnErr}
 use Rattle.std.specs.Int.{w32, to_be_bytes}
@@ -30,7 +30,7 @@ slice_range-put_mid a k n xs ys within fits =
     let after = post_of a k xs in
     ap (take ((a + n) - a)) (drop_at (take a xs) (ys ++ after) a (length-take-le a xs within)) ∙ ap (λ m. take m (ys ++ after)) same ∙ take-append-le n ys after fits
 
--- the length of a frame, and fewer bytes behind it
+-- the length of a frame, and too few bytes after it
 head_and_part : (n : ℕ) (part : List ℕ) → n ≤ LONGEST_BODY → length part < n → IsUnfinished (to_be_bytes w32 n ++ part)
 head_and_part n part fits short long =
     let number : length_at (to_be_bytes w32 n ++ part) ≡ n = big_number-reads_back 4 n part (omega arith) in
@@ -50,18 +50,18 @@ cut_body a b c n fits head p =
 pub Appends-next : (a b c : Option (List ℕ)) (text : List ℕ) (at count : ℕ) → Appends a b (take at text) → Appends b c (take count (drop at text)) → Appends a c (take (at + count) text)
 Appends-next a b c text at count p q = subst (Appends a c) (sym (take-add at count text)) (Appends-trans a b c _ _ p q)
 
--- all that is left of a text, as a range of it
+-- the rest of a text, as a range of it
 pub rest_is : (text : List ℕ) (at : ℕ) → take (length text - at) (drop at text) ≡ drop at text
 rest_is text at = take_all (length text - at) (drop at text) (omega (arith, length-drop {A = ℕ}))
 
--- less than the first piece was taken
+-- only a part of the first piece was taken
 pub part_of_first : (a b : Option (List ℕ)) (first rest : List ℕ) → TakesPart a b first → TakesPart a b (first ++ rest)
 part_of_first a b first rest p =
     let fewer : p.0 < length (first ++ rest) = omega (arith, p.1, length-append first rest) in
     let same : take p.0 (first ++ rest) ≡ take p.0 first = take-append-le p.0 first rest (omega (arith, p.1)) in
     (p.0, fewer, subst (Appends a b) (sym same) p.2)
 
--- the first piece was taken, and of the second all or less
+-- the first piece was taken, and on a fault only a part of the second
 pub part_of_second : {T E : Type 0} (r : Result T E) (a b c : Option (List ℕ)) (first second : List ℕ) → Appends a b first → OnErr r (TakesPart b c second) → OnErr r (TakesPart a c (first ++ second))
 part_of_second (Ok x) a b c first second p q = tt
 part_of_second (Err e) a b c first second p q =

@@ -1,4 +1,4 @@
--- What stands at the front of a stream.
+-- The front of a stream.
 use Rattle.std.specs.Prelude.{◌≡◌, ℕ, List, ◌++◌}
 use Rattle.oram_wire.specs.FrameStream.{IsBody, IsBroken, IsUnfinished, frame}
 use Rattle.oram_wire.specs.declared.framing.Front.{Front}

@@ -6,19 +6,19 @@ use Rattle.oram_wire.specs.declared.host_messages.HostRequest.TheVariants as req
 use Rattle.oram_wire.specs.declared.host_messages.HostAnswer.{HostAnswer}
 use Rattle.oram_wire.specs.declared.host_messages.HostAnswer.TheVariants as answer
 
--- FETCH: the records of a leaf's path are asked for
+-- FETCH asks for the records of a leaf's path
 abbrev pub fetch_body : ℕ → ℕ → List ℕ
 fetch_body tree leaf = (1 ∷ tree ∷ []) ++ to_be_bytes w32 leaf
 
--- STORE: the records of a leaf's path are replaced, root first
+-- STORE replaces the records of a leaf's path, given root first
 abbrev pub store_body : ℕ → ℕ → List ℕ → List ℕ
 store_body tree leaf records = (2 ∷ tree ∷ []) ++ to_be_bytes w32 leaf ++ records
 
--- PUT: the record of one node is replaced
+-- PUT replaces the record of one node
 abbrev pub put_body : ℕ → ℕ → List ℕ → List ℕ
 put_body tree node bytes = (3 ∷ tree ∷ []) ++ to_be_bytes w32 node ++ bytes
 
--- SHAPE: a tree is told its depth and the length of its records
+-- SHAPE gives a tree its depth and the length of its records
 abbrev pub shape_body : ℕ → ℕ → ℕ → List ℕ
 shape_body tree depth record_len = (4 ∷ tree ∷ depth ∷ []) ++ to_be_bytes w32 record_len
 

@@ -1,4 +1,4 @@
--- When a body is read as a message of the host's, and which fault it has otherwise.
+-- When a body can be read as a message to the host or an answer from it, and which fault it has otherwise.
 use Rattle.std.specs.Prelude.{◌≡◌, ◌≢◌, ℕ, ◌<◌, ◌≤◌, ◌^◌, ◌⊎◌, ◌==◌, ◌&&◌, ◌||◌, if◌then◌else◌, nat_lt, nat_le, Bool, true, false, List, [], ◌∷◌, length, slice_index}
 use Rattle.oram_wire.specs.declared.host_messages.HostRequest.{HostRequest}
 use Rattle.oram_wire.specs.declared.host_messages.HostRequest.TheVariants as request
@@ -7,7 +7,7 @@ use Rattle.oram_wire.specs.declared.host_messages.HostAnswer.TheVariants as answ
 use Rattle.oram_wire.specs.declared.host_messages.HostView.{HostView}
 use Rattle.oram_wire.specs.declared.host_messages.HostView.TheVariants as view
 
--- the request that a view lends
+-- the request that a view borrows
 abbrev pub request_of : HostView → HostRequest
 request_of (view.Fetch tree leaf) = request.Fetch tree leaf
 request_of (view.Store tree leaf records) = request.Store tree leaf records.now
@@ -19,12 +19,12 @@ abbrev pub names_request : List ℕ → Bool
 names_request [] = false
 names_request (op ∷ fields) = nat_lt 0 op && nat_lt op 5
 
--- how long the body of a request with this first byte may be: FETCH has 6 bytes, SHAPE 7, STORE and
+-- the lengths that the body of a request with this first byte may have: FETCH has 6 bytes, SHAPE 7, STORE and
 -- PUT at least 6
 abbrev pub is_request_length : ℕ → ℕ → Bool
 is_request_length op len = if op == 1 then len == 6 else if op == 4 then len == 7 else nat_le 6 len
 
--- a request's first byte, and not a request's length
+-- the first byte names a request, but the length isn't one of such a request
 abbrev pub IsMisfit : List ℕ → Type 0
 IsMisfit body = (names_request body ≡ true) × (is_request_length (slice_index body 0)
     (length body) ≡ false)
@@ -41,15 +41,15 @@ abbrev pub names_answer : List ℕ → Bool
 names_answer [] = false
 names_answer (op ∷ fields) = op == 128 || op == 129
 
--- a refusal without its code, or with bytes after it
+-- a refusal without its code, or with bytes after the code
 abbrev pub IsOverlong : List ℕ → Type 0
 IsOverlong body = (slice_index body 0 ≡ 129) × (length body ≢ 2)
 
--- a refusal with a code that is none
+-- a refusal whose code is unknown
 abbrev pub HasNoCode : List ℕ → Type 0
 HasNoCode body = (code : ℕ) × (body ≡ 129 ∷ code ∷ []) × ((code ≡ 0) ⊎ (8 < code))
 
--- what an answer is: a payload has a byte at least, and the codes go from 1 to 8
+-- the host can give this answer: a payload has at least one byte, and a code is from 1 to 8
 abbrev pub IsAnswer : HostAnswer → Type 0
 IsAnswer (answer.Payload bytes) = 0 < length bytes
 IsAnswer answer.Done = Unit {0}

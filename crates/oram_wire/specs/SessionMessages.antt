@@ -1,4 +1,4 @@
--- The bodies that a client sends over a session and is answered. All numbers are big-endian.
+-- The bodies of the requests that a user sends in a session, and of the replies. All numbers are big-endian.
 use Rattle.std.specs.Prelude.{ℕ, List, [], ◌∷◌, ◌++◌}
 use Rattle.std.specs.Int.{w32, to_be_bytes}
 use Rattle.oram_wire.specs.declared.session_messages.SessionRequest.{SessionRequest}
@@ -6,15 +6,15 @@ use Rattle.oram_wire.specs.declared.session_messages.SessionRequest.TheVariants 
 use Rattle.oram_wire.specs.declared.session_messages.SessionReply.{SessionReply}
 use Rattle.oram_wire.specs.declared.session_messages.SessionReply.TheVariants as reply
 
--- READ: the bytes of a block are asked for
+-- READ asks for the bytes of a block
 abbrev pub read_body : ℕ → List ℕ
 read_body address = 17 ∷ to_be_bytes w32 address
 
--- WRITE: the bytes of a block are replaced
+-- WRITE replaces the bytes of a block
 abbrev pub write_body : ℕ → List ℕ → List ℕ
 write_body address bytes = 18 ∷ to_be_bytes w32 address ++ bytes
 
--- DISCARD: the bytes of a block become zeros
+-- DISCARD replaces the bytes of a block by zeros
 abbrev pub discard_body : ℕ → List ℕ
 discard_body address = 19 ∷ to_be_bytes w32 address
 

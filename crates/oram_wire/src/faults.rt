@@ -1,20 +1,20 @@
-//! Why a body could not be read.
+//! Why a body can't be read as a message.
 
 ghost use Rattle.std.specs.Prelude.{◌≡◌};
 ghost use Rattle.oram_wire.specs.declared.faults.WireFault.TheVariants.{OutOfMemory};
 
 use std::alloc::AllocError;
 
-/// Why a body is no message of the kind that is read.
+/// Why a body is no message of the expected kind.
 #[derive(Clone, Copy, Debug, PartialEq, Eq)]
 pub enum WireFault {
-    /// There is no first byte, or it names no message of this kind.
+    /// The body is empty, or its first byte names no message of this kind.
     Op,
     /// The body is too short or too long for its first byte.
     Length,
-    /// The code of a refusal is none of the known ones.
+    /// The code of a refusal isn't one of the known codes.
     Code,
-    /// Memory for a copy of the bytes was refused.
+    /// There is no memory for a copy of the bytes.
     OutOfMemory,
 }
 

@@ -1,4 +1,4 @@
-//! Frames, cut from a stream that comes in pieces.
+//! Cuts frames from a stream that arrives in pieces.
 
 ghost use Rattle.std.specs.Prelude.{◌≡◌, ◌++◌, ◌+◌, ◌-◌, ◌<◌, ◌≤◌, ℕ, List, [], true, false, length, drop, IfOk, OnOk, OnErr, IsOkAnd, MatchOption, All};
 ghost use Rattle.std.specs.Bool.{MatchBool};
@@ -12,22 +12,22 @@ use byteorder::{BigEndian, ByteOrder};
 use std::alloc::{AllocError, Global};
 use std::marker::Model;
 
-/// How many bytes the length of a body takes.
+/// The number of bytes that give the length of a frame's body.
 pub(super) const HEAD: usize = 4;
 
-/// What came of a piece of a stream.
+/// The result of feeding a piece of a stream.
 #[derive(Debug, Drop)]
 pub struct Fed {
     /// The bodies of the frames that the piece completed, in order.
     pub frames: Vec<Vec<u8>>,
-    /// A length above the longest body's stood where a length is due, in this piece or before it.
+    /// In this piece or before it, the length of a frame was greater than that of the longest body.
     pub broken: bool,
 }
 
-/// Takes a stream of frames in whatever pieces it comes.
+/// Takes a stream of frames in pieces of any size.
 ///
-/// It holds at most one unfinished frame, with room for the whole of it once its length is known, so a byte is copied
-/// once to be held and once into its body.
+/// It holds at most one unfinished frame, and reserves room for all of it once its length is known. So it copies each
+/// byte once to hold it, and once into its body.
 #[derive(Debug, Drop)]
 pub struct Frames {
     held: Vec<u8>,
@@ -44,13 +44,13 @@ impl Model for Frames {
     ghost invariant = { λ f. IsFeeding (record { held = f.held.items; broken = f.broken }) };
 }
 
-/// What stands at the front of a stream.
+/// The front of a stream.
 enum Front<'a> {
-    /// A whole frame's body, and what follows.
+    /// The body of a whole frame, and the bytes after the frame.
     Whole(&'a [u8], &'a [u8]),
     /// Less than a whole frame.
     Unfinished,
-    /// A length that no frame has.
+    /// A length that is too great for a frame.
     Broken,
 }
 
@@ -76,7 +76,8 @@ impl<'a> Front<'a> {
     }
 }
 
-/// Cuts the whole frames off the front, and gives what follows them, and whether that is broken.
+/// Cuts the whole frames off the front of `bytes` and adds their bodies to `frames`. Returns the bytes after them, and
+/// whether these begin with a length that is too great.
 fn cut<'a>(
     alloc: Global,
     frames: &mut Vec<Vec<u8>>,
@@ -101,7 +102,7 @@ fn cut<'a>(
     }
 }
 
-/// The length at the front of what is held and the piece behind it, where four bytes are there.
+/// Returns the length at the front of `held` followed by `piece`, if there are four bytes.
 fn length_across(held: &[u8], piece: &[u8]) -> Option<usize>
     ensures { MatchOption result (length (held.now ++ piece.now) < 4)
         (λ n. (4 ≤ length (held.now ++ piece.now)) × (n ≡ length_at (held.now ++ piece.now))) }
@@ -119,7 +120,7 @@ fn length_across(held: &[u8], piece: &[u8]) -> Option<usize>
     Some(BigEndian::read_u32(&head) as usize)
 }
 
-/// The body of a frame of which a part was held.
+/// Returns the body of the frame that consists of `held` and `part`.
 fn joined_body(alloc: Global, held: &[u8], part: &[u8]) -> Result<Vec<u8>, AllocError>
     requires { 4 ≤ length held.now + length part.now }
     ensures { IfOk result (λ v. held.now ++ part.now ≡ to_be_bytes w32 (length_at
@@ -132,7 +133,7 @@ fn joined_body(alloc: Global, held: &[u8], part: &[u8]) -> Result<Vec<u8>, Alloc
     Ok(body)
 }
 
-/// Holds a piece of an unfinished frame that has so many bytes in all.
+/// Appends a piece of an unfinished frame to `held`. The whole frame has `whole` bytes.
 fn hold(held: &mut Vec<u8>, piece: &[u8], whole: usize) -> Result<(), AllocError>
     ensures ok { OnOk result (held.new.items ≡ held.old.items ++ piece.now) }
     ensures err { OnErr result (held.new.items ≡ held.old.items) }
@@ -141,7 +142,7 @@ fn hold(held: &mut Vec<u8>, piece: &[u8], whole: usize) -> Result<(), AllocError
     held.extend_from_slice(piece)
 }
 
-/// The beginning of an unfinished frame, with room for the rest of it.
+/// Copies the beginning of an unfinished frame, with room for the rest of it.
 fn begin(alloc: Global, bytes: &[u8]) -> Result<Vec<u8>, AllocError>
     requires { IsUnfinished bytes.now }
     ensures { IfOk result (λ v. v.items ≡ bytes.now) }
@@ -155,7 +156,7 @@ fn begin(alloc: Global, bytes: &[u8]) -> Result<Vec<u8>, AllocError>
     Ok(held)
 }
 
-/// Feeds a piece to what is held of a stream that is not broken.
+/// Feeds a piece of a stream that isn't broken. `held` holds the unfinished frame before the piece.
 fn advance(alloc: Global, held: &mut Vec<u8>, piece: &[u8]) -> Result<Fed, AllocError>
     requires { IsUnfinished held.old.items }
     ensures ok { IfOk result (λ fed. AreFrames (held.old.items ++ piece.now)
@@ -198,7 +199,7 @@ fn advance(alloc: Global, held: &mut Vec<u8>, piece: &[u8]) -> Result<Fed, Alloc
 }
 
 impl Frames {
-    /// Nothing has come yet.
+    /// Makes a value for a stream of which nothing has arrived yet.
     pub fn new(alloc: Global) -> Frames
         ensures empty { (result.held ≡ []) × (result.broken ≡ false) }
         ensures frames { AreFrames [] [] result }
@@ -209,7 +210,7 @@ impl Frames {
         }
     }
 
-    /// How many bytes of an unfinished frame are held.
+    /// Returns the number of bytes that it holds of an unfinished frame.
     pub fn rest_len(&self) -> usize
         ensures rest { result ≡ length self.now.held }
         ensures feeding { IsFeeding self.now }
@@ -217,9 +218,10 @@ impl Frames {
         self.held.len()
     }
 
-    /// Takes the next piece of the stream. Once the stream is broken no frame follows.
+    /// Takes the next piece of the stream. After the stream is broken, no frame follows. If memory runs out, the call
+    /// fails and changes nothing.
     pub fn feed(&mut self, alloc: Global, piece: &[u8]) -> Result<Fed, AllocError>
-        // The bodies are those of the bytes held and the piece behind them, and no others are.
+        // It returns exactly the bodies of the bytes held followed by the piece.
         ensures fed { self.old.broken ≡ false
             → IfOk result (λ fed. AreFrames (self.old.held ++ piece.now)
             (bodies_in fed.frames.items) self.new) }
@@ -230,7 +232,7 @@ impl Frames {
         ensures after { self.old.broken ≡ true → IsOkAnd result (λ fed. fed.frames.items ≡ [])
             × (self.new ≡ self.old) }
 
-        // So the bodies of a whole stream are the same, however it is cut into pieces.
+        // So the bodies of a whole stream don't depend on how it is cut into pieces.
         ensures stream { (stream : List ℕ) (bodies : List (List ℕ))
             → AreFrames stream bodies self.old →
             IfOk result (λ fed. AreFrames (stream ++ piece.now)

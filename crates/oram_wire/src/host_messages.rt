@@ -1,4 +1,4 @@
-//! The messages that go to the bucket host, and its answers.
+//! The messages that go to the bucket host, and the host's answers.
 
 ghost use Rattle.std.specs.Prelude.{◌≡◌, ◌≢◌, ◌↔◌, ◌⊎◌, ◌<◌, ◌^◌, ◌∷◌, [], ◌++◌, true, false, ℕ, List, length, IfOk, IfErr, IsErrOf, IsOkAnd, MatchResult};
 ghost use Rattle.std.specs.Int.{w32, to_be_bytes};
@@ -18,13 +18,13 @@ const PUT: u8 = 3;
 
 const SHAPE: u8 = 4;
 
-/// The first byte of an answer to a request that was carried out.
+/// The first byte of the answer to a request that the host has carried out.
 pub const GOOD: u8 = 0x80;
 
 /// The first byte of a refusal.
 pub const REFUSED: u8 = 0x81;
 
-/// A message to the bucket host. Records are those of the path from the root to a leaf, root first.
+/// A message to the bucket host. The records of a STORE are those of the path from the root to a leaf, root first.
 #[derive(Debug, Drop, PartialEq, Eq)]
 pub enum HostRequest {
     /// Asks for the records of a path.
@@ -52,7 +52,7 @@ pub enum HostRequest {
     },
 }
 
-/// A message to the bucket host, its bytes lent from the body that it was read from.
+/// A message to the bucket host, whose bytes are borrowed from the body that it was read from.
 #[derive(Clone, Copy, Debug)]
 pub enum HostView<'a> {
     /// Asks for the records of a path.
@@ -80,21 +80,21 @@ pub enum HostView<'a> {
     },
 }
 
-/// What the bucket host answers.
+/// The answer of the bucket host to a message.
 #[derive(Debug, Drop, PartialEq, Eq)]
 pub enum HostAnswer {
     /// The records of a path, root first.
     Payload(Bytes),
-    /// The request was carried out.
+    /// The host has carried out the request.
     Done,
-    /// The request was refused, with a code from 1 to 8.
+    /// The host has refused the request, with a code from 1 to 8.
     Refused(u8),
 }
 
-/// Bytes of a FETCH, and bytes of a STORE before its records.
+/// The number of bytes of a FETCH, and of a STORE before its records.
 pub const HEADER_LEN: usize = 6;
 
-/// A first byte, a tree and a number.
+/// Returns a header: the first byte, the tree and a number.
 fn header(op: u8, tree: u8, number: u32) -> [u8; HEADER_LEN]
     ensures { result ≡ (op ∷ tree ∷ []) ++ to_be_bytes w32 number }
 {
@@ -103,21 +103,21 @@ fn header(op: u8, tree: u8, number: u32) -> [u8; HEADER_LEN]
     header
 }
 
-/// The body of a FETCH.
+/// Returns the body of a FETCH.
 pub fn fetch_header(tree: u8, leaf: u32) -> [u8; HEADER_LEN]
     ensures { result ≡ fetch_body tree leaf }
 {
     header(FETCH, tree, leaf)
 }
 
-/// The body of a STORE up to its records.
+/// Returns the body of a STORE up to its records.
 pub fn store_header(tree: u8, leaf: u32) -> [u8; HEADER_LEN]
     ensures { (records : List ℕ) → result ++ records ≡ store_body tree leaf records }
 {
     header(STORE, tree, leaf)
 }
 
-/// A header, and then bytes.
+/// Returns the body that consists of a header and `bytes`.
 fn message(
     alloc: Global,
     op: u8,
@@ -133,7 +133,7 @@ fn message(
     Ok(body)
 }
 
-/// The body of a SHAPE.
+/// Returns the body of a SHAPE.
 fn shape(alloc: Global, tree: u8, depth: u8, record_len: u32) -> Result<Vec<u8>, AllocError>
     ensures { IfOk result (λ v. v.items ≡ shape_body tree depth record_len) }
 {
@@ -143,7 +143,7 @@ fn shape(alloc: Global, tree: u8, depth: u8, record_len: u32) -> Result<Vec<u8>,
 }
 
 impl HostRequest {
-    /// The body of the message.
+    /// Encodes the message as a body. Fails only if memory runs out.
     pub fn encode(&self, alloc: Global) -> Result<Vec<u8>, AllocError>
         ensures { IfOk result (λ v. v.items ≡ request_body self.now) }
     {
@@ -165,10 +165,10 @@ impl HostRequest {
         }
     }
 
-    /// The message that a body is. How long the records are to be is the host's matter.
+    /// Decodes a body as a message. Doesn't check the number of bytes of the records; the host does.
     pub fn decode(alloc: Global, body: &[u8]) -> Result<HostRequest, WireFault>
         ensures found { IfOk result (λ message. body.now ≡ request_body message) }
-        // What is a request's body is read as that request, unless memory was refused.
+        // It decodes each request's body as that request, unless memory runs out.
         ensures only { (message : HostRequest) → HasNumbers message
             → body.now ≡ request_body message
             → MatchResult result (λ read. read ≡ message) (λ f. f ≡ WireFault.OutOfMemory) }
@@ -182,7 +182,7 @@ impl HostRequest {
     }
 }
 
-/// The tree and the number behind a first byte, and what follows them.
+/// Reads the tree and the number that follow a first byte, and returns them with the rest of the fields.
 fn place_in(fields: &[u8]) -> Result<(u8, u32, &[u8]), WireFault>
     ensures found { IfOk result (λ p. fields.now ≡ (p.0 ∷ []) ++ to_be_bytes w32 p.1 ++ p.2.now) }
     ensures fault { IfErr result (λ f. (f ≡ WireFault.Length) × (length fields.now < 5)) }
@@ -196,10 +196,11 @@ fn place_in(fields: &[u8]) -> Result<(u8, u32, &[u8]), WireFault>
 impl<'a> HostView<'a> {
     ghost use Rattle.oram_wire.specs.declared.host_messages.HostRequest.{HostRequest};
 
-    /// The message that a body is.
+    /// Reads a body as a message. Fails with `Op` if the first byte names no request, and else with `Length` if the
+    /// body is too short or too long.
     pub fn read(body: &'a [u8]) -> Result<HostView<'a>, WireFault>
         ensures found { IfOk result (λ view. body.now ≡ request_body (request_of view)) }
-        // What is a request's body is read as that request.
+        // It reads each request's body as that request.
         ensures only { (message : HostRequest) → HasNumbers message
             → body.now ≡ request_body message
             → IsOkAnd result (λ view. request_of view ≡ message) }
@@ -245,7 +246,7 @@ impl<'a> HostView<'a> {
         }
     }
 
-    /// The message with a copy of its bytes.
+    /// Copies the bytes to make an owned message. Fails only if memory runs out.
     pub fn to_request(&self, alloc: Global) -> Result<HostRequest, AllocError>
         ensures { IfOk result (λ message. message ≡ request_of self.now) }
     {
@@ -279,7 +280,8 @@ impl<'a> HostView<'a> {
 }
 
 impl HostAnswer {
-    /// The body of the answer. A payload of no bytes would be read as `Done`, and another code not at all.
+    /// Encodes the answer as a body. Requires a payload that isn't empty, since it would be read as `Done`, and a code
+    /// from 1 to 8, since no other can be read.
     pub fn encode(&self, alloc: Global) -> Result<Vec<u8>, AllocError>
         requires { IsAnswer self.now }
         ensures { IfOk result (λ v. v.items ≡ answer_body self.now) }
@@ -297,10 +299,10 @@ impl HostAnswer {
         }
     }
 
-    /// The answer that a body is.
+    /// Decodes a body as an answer.
     pub fn decode(alloc: Global, body: &[u8]) -> Result<HostAnswer, WireFault>
         ensures found { IfOk result (λ answer. IsAnswer answer × (body.now ≡ answer_body answer)) }
-        // What is an answer's body is read as that answer, unless memory was refused.
+        // It decodes each answer's body as that answer, unless memory runs out.
         ensures only { (answer : HostAnswer) → IsAnswer answer → body.now ≡ answer_body answer
             → MatchResult result (λ read. read ≡ answer) (λ f. f ≡ WireFault.OutOfMemory) }
 

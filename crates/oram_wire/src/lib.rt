@@ -1,10 +1,10 @@
-//! What goes over the wire between the store and its bucket host, and between a client and the store: message bodies and
-//! their frames.
+//! The bytes that go over the wire between the client and its bucket host, and between a user and the client's daemon:
+//! message bodies and their frames.
 //!
-//! A body is a request to the host or its answer, or a client's request to the store or its reply. A frame is a body
-//! behind its length in four bytes. `Frames` takes a stream of frames in whatever pieces it comes; `next_frame` reads one
-//! frame from a reader, and `put_frame` writes one to a writer. `fill`, `read_body` and `write` are what they stand on, for
-//! messages that aren't framed so.
+//! A body is a request to the host, the host's answer, a user's request to the daemon, or the daemon's reply. A frame
+//! is a body after its length in four bytes. `Frames` takes a stream of frames in pieces of any size; `next_frame`
+//! reads one frame from a reader, and `put_frame` writes one to a writer. These two use `fill`, `read_body` and
+//! `write`, which also serve messages in other frames.
 #![tactic(auto)]
 
 mod faults;
@@ -23,5 +23,5 @@ pub use session_messages::{BAD_REQUEST, DEVICE_FAILED, SessionReply, SessionRequ
 pub use sinks::{ListSink, Sink, SinkFault};
 pub use streaming::{FrameFault, WriteFault, fill, next_frame, put_frame, read_body, write};
 
-/// The longest body of a frame, in bytes.
+/// The number of bytes of the longest body that a frame can have.
 pub const LONGEST_BODY: usize = 1_048_576;

@@ -1,4 +1,4 @@
-//! The messages that a client sends over a session, and the replies.
+//! The messages that a user sends to the daemon in a session, and the replies.
 
 ghost use Rattle.std.specs.Prelude.{◌≡◌, ◌≢◌, ◌↔◌, ◌<◌, ◌^◌, ◌∷◌, ◌++◌, false, ℕ, length, IfOk, IfErr, IsErrOf, MatchResult};
 ghost use Rattle.std.specs.Int.{w32, to_be_bytes};
@@ -22,36 +22,36 @@ const DONE: u8 = 0x91;
 
 const REFUSED: u8 = 0x92;
 
-/// The code of a refusal because the device has failed.
+/// The code with which the daemon refuses a request because the device has failed.
 pub const DEVICE_FAILED: u8 = 6;
 
-/// The code of a refusal because the body is no request.
+/// The code with which the daemon refuses a body that is no request.
 pub const BAD_REQUEST: u8 = 7;
 
-/// What a client asks of the store.
+/// A user's request to the daemon.
 #[derive(Debug, Drop, PartialEq, Eq)]
 pub enum SessionRequest {
     /// Asks for the bytes of a block.
     Read { address: u32 },
     /// Replaces the bytes of a block.
     Write { address: u32, bytes: Bytes },
-    /// Makes the bytes of a block zeros.
+    /// Replaces the bytes of a block by zeros.
     Discard { address: u32 },
 }
 
-/// What the store replies.
+/// The daemon's reply to a request.
 #[derive(Debug, Drop, PartialEq, Eq)]
 pub enum SessionReply {
-    /// The bytes of a block that was read.
+    /// The bytes of the block that was read.
     Data(Bytes),
-    /// A block was written or discarded.
+    /// The block was written or discarded.
     Done,
     /// The request was refused, with a code from 1 to 7: 1 a bad address, 2 a bad length, 3 bad words, 4 busy,
     /// 5 exhausted, 6 `DEVICE_FAILED`, 7 `BAD_REQUEST`.
     Refused(u8),
 }
 
-/// A first byte, an address, and then bytes.
+/// Returns a body: the first byte, an address, and then `bytes`.
 fn message(alloc: Global, op: u8, address: u32, bytes: &[u8]) -> Result<Vec<u8>, AllocError>
     ensures { IfOk result (λ v. v.items ≡ op ∷ to_be_bytes w32 address ++ bytes.now) }
 {
@@ -63,7 +63,7 @@ fn message(alloc: Global, op: u8, address: u32, bytes: &[u8]) -> Result<Vec<u8>,
     Ok(body)
 }
 
-/// The address behind a first byte, and what follows it.
+/// Reads the address that follows a first byte, and returns it with the rest of the fields.
 fn address_in(fields: &[u8]) -> Result<(u32, &[u8]), WireFault>
     ensures found { IfOk result (λ p. fields.now ≡ to_be_bytes w32 p.0 ++ p.1.now) }
     ensures fault { IfErr result (λ f. (f ≡ WireFault.Length) × (length fields.now < 4)) }
@@ -75,7 +75,7 @@ fn address_in(fields: &[u8]) -> Result<(u32, &[u8]), WireFault>
     Ok((BigEndian::read_u32(address), rest))
 }
 
-/// The address behind a first byte, and nothing else.
+/// Reads the address that follows a first byte, if nothing follows it.
 fn only_address(fields: &[u8]) -> Result<u32, WireFault>
     ensures found { IfOk result (λ address. fields.now ≡ to_be_bytes w32 address) }
     ensures fault { IfErr result (λ f. (f ≡ WireFault.Length) × (length fields.now ≢ 4)) }
@@ -88,7 +88,7 @@ fn only_address(fields: &[u8]) -> Result<u32, WireFault>
 }
 
 impl SessionRequest {
-    /// The body of the message.
+    /// Encodes the message as a body. Fails only if memory runs out.
     pub fn encode(&self, alloc: Global) -> Result<Vec<u8>, AllocError>
         ensures { IfOk result (λ v. v.items ≡ session_request_body self.now) }
     {
@@ -101,10 +101,10 @@ impl SessionRequest {
         }
     }
 
-    /// The message that a body is. How many bytes are to be written is the device's matter.
+    /// Decodes a body as a message. Doesn't check how many bytes a WRITE has; the device does.
     pub fn decode(alloc: Global, body: &[u8]) -> Result<SessionRequest, WireFault>
         ensures found { IfOk result (λ message. body.now ≡ session_request_body message) }
-        // What is a request's body is read as that request, unless memory was refused.
+        // It decodes each request's body as that request, unless memory runs out.
         ensures only { (message : SessionRequest) → HasAddress message
             → body.now ≡ session_request_body message
             → MatchResult result (λ read. read ≡ message) (λ f. f ≡ WireFault.OutOfMemory) }
@@ -136,7 +136,7 @@ impl SessionRequest {
 }
 
 impl SessionReply {
-    /// The body of the reply. Another code than 1 to 7 would not be read.
+    /// Encodes the reply as a body. Requires a code from 1 to 7, since no other can be read.
     pub fn encode(&self, alloc: Global) -> Result<Vec<u8>, AllocError>
         requires { IsSessionReply self.now }
         ensures { IfOk result (λ v. v.items ≡ session_reply_body self.now) }
@@ -154,11 +154,11 @@ impl SessionReply {
         }
     }
 
-    /// The reply that a body is.
+    /// Decodes a body as a reply.
     pub fn decode(alloc: Global, body: &[u8]) -> Result<SessionReply, WireFault>
         ensures found { IfOk result (λ reply.
             IsSessionReply reply × (body.now ≡ session_reply_body reply)) }
-        // What is a reply's body is read as that reply, unless memory was refused.
+        // It decodes each reply's body as that reply, unless memory runs out.
         ensures only { (reply : SessionReply) → IsSessionReply reply
             → body.now ≡ session_reply_body reply
             → MatchResult result (λ read. read ≡ reply) (λ f. f ≡ WireFault.OutOfMemory) }

@@ -1,4 +1,4 @@
-//! What takes the messages that format a host.
+//! Sinks, which take the messages that format a host.
 
 ghost use Rattle.std.specs.Prelude.{◌≡◌, List, ℕ, [], ◌∷◌, ◌++◌, map, OnOk, OnErr, IfErr};
 ghost use Rattle.oram_wire.specs.ListOfBodies.{bodies_in};
@@ -6,25 +6,25 @@ ghost use Rattle.oram_wire.specs.ListOfBodies.{bodies_in};
 use std::alloc::{AllocError, Global};
 use std::marker::Model;
 
-/// Why a sink did not take a body.
+/// Why a sink didn't take a body.
 #[derive(Clone, Copy, Debug, PartialEq, Eq)]
 pub enum SinkFault {
-    /// The host answered something else than that it is done.
+    /// The host gave another answer than that it is done.
     Refused,
     /// The link to the host failed.
     Link,
-    /// Memory was refused.
+    /// Memory ran out.
     OutOfMemory,
 }
 
-/// What takes the messages that format a host, one body after the other.
+/// A sink takes the messages that format a host, one body after the other.
 pub trait Sink {
     ghost use Rattle.oram_wire.specs.declared.sinks.SinkFault.{SinkFault};
 
-    /// What taking a body leaves.
+    /// The relation of the sink before and after it takes a body.
     ghost putting: { Self → List ℕ → Self → Type 0 };
 
-    /// What refusing a body for a fault leaves.
+    /// The relation of the sink before and after it refuses a body with a fault.
     ghost refusing: { Self → List ℕ → SinkFault → Self → Type 0 };
 
     fn put(&mut self, body: &[u8]) -> Result<(), SinkFault>
@@ -32,7 +32,7 @@ pub trait Sink {
         ensures refused { IfErr result (λ fault. refusing self.old body.now fault self.new) };
 }
 
-/// A sink that keeps the bodies, in order.
+/// A sink that keeps the bodies in order.
 #[derive(Drop)]
 pub struct ListSink {
     alloc: Global,
@@ -58,14 +58,14 @@ impl ListSink {
         }
     }
 
-    /// The bodies that were put, the first one first.
+    /// Returns the bodies that were put, in order.
     pub fn bodies(&self) -> &[Vec<u8>]
         ensures { bodies_in result.now ≡ self.now }
     {
         self.bodies.as_slice()
     }
 
-    /// The bodies that were put, the first one first.
+    /// Returns the bodies that were put, in order.
     pub fn into_bodies(self) -> Vec<Vec<u8>>
         ensures { bodies_in result.items ≡ self }
     {

@@ -1,4 +1,4 @@
-//! One frame from a reader, one frame to a writer.
+//! Reads one frame from a reader, and writes one frame to a writer.
 
 ghost use Rattle.std.specs.Prelude.{◌≡◌, ◌≢◌, ◌⊎◌, ◌<◌, ◌≤◌, ℕ, List, [], length, take, IfOk, IfErr, IsErrOf, OnOk, OnErr, MatchOption};
 ghost use Rattle.std.specs.Int.{w32, to_be_bytes};
@@ -13,16 +13,16 @@ use byteorder::{BigEndian, ByteOrder};
 use std::alloc::{AllocError, Global};
 use std::io::{ErrorKind, Read, Write};
 
-/// Why no frame was read.
+/// Why no frame could be read.
 #[derive(Clone, Copy, Debug, PartialEq, Eq)]
 pub enum FrameFault {
     /// The reader failed.
     Read,
-    /// A length above the longest body's stood where a length is due, so nothing after it is a frame.
+    /// A frame's length is greater than that of the longest body, so no frame can follow.
     Frame,
     /// The input ended inside a frame.
     Truncated,
-    /// Memory for the body was refused.
+    /// There is no memory for the body.
     OutOfMemory,
 }
 
@@ -34,12 +34,12 @@ impl From<AllocError> for FrameFault {
     }
 }
 
-/// The writer failed, or took no more bytes.
+/// The fault of a writer that failed, or took no more bytes.
 #[derive(Clone, Copy, Debug, PartialEq, Eq)]
 pub struct WriteFault;
 
-/// Reads until the buffer is full or the input ends, and tells how many bytes were read. What was interrupted is asked for
-/// again.
+/// Reads until the buffer is full or the input ends, and returns the number of bytes read. Repeats an interrupted read.
+/// Fails only with `Read`.
 pub fn fill<R: Read>(reader: &mut R, buf: &mut [u8]) -> Result<usize, FrameFault>
     ensures within { IfOk result (λ n. n ≤ length buf.new) }
     ensures ok { IfOk result (λ n. Consumes (R.remaining reader.old) (R.remaining reader.new)
@@ -72,7 +72,7 @@ pub fn fill<R: Read>(reader: &mut R, buf: &mut [u8]) -> Result<usize, FrameFault
     Err(FrameFault::Read)
 }
 
-/// The number that four bytes spell.
+/// Returns the number that four bytes spell.
 fn number_of(bytes: &[u8]) -> u32
     requires { length bytes.now ≡ 4 }
     ensures { to_be_bytes w32 result ≡ bytes.now }
@@ -80,7 +80,7 @@ fn number_of(bytes: &[u8]) -> u32
     BigEndian::read_u32(bytes)
 }
 
-/// The length at a frame's front, or none where the input has ended before it.
+/// Reads the length at a frame's front. Returns `None` if the input ends before the frame.
 fn read_head<R: Read>(reader: &mut R) -> Result<Option<u32>, FrameFault>
     ensures ok { IfOk result (λ head. MatchOption head
         (GivesEnd (R.remaining reader.old) (R.remaining reader.new))
@@ -102,7 +102,7 @@ fn read_head<R: Read>(reader: &mut R) -> Result<Option<u32>, FrameFault>
     Ok(Some(number_of(&head)))
 }
 
-/// So many bytes. Memory is taken before any is read.
+/// Reads `len` bytes. Allocates memory before it reads any, so it has read nothing if it fails with `OutOfMemory`.
 pub fn read_body<R: Read>(alloc: Global, reader: &mut R, len: usize) -> Result<Vec<u8>, FrameFault>
     ensures ok { IfOk result (λ body. (length body.items ≡ len)
         × Consumes (R.remaining reader.old) (R.remaining reader.new) body.items) }
@@ -123,16 +123,16 @@ pub fn read_body<R: Read>(alloc: Global, reader: &mut R, len: usize) -> Result<V
     Ok(body)
 }
 
-/// Reads one frame, and no byte after it. It gives the body, or none where the input ends before a frame.
+/// Reads one frame, and no byte after it. Returns its body, or `None` if the input ends before a frame.
 ///
-/// It asks the reader for the length, and then for the body into the vector that it gives. What was interrupted is asked
-/// for again.
+/// It reads the length first, and then the body directly into the vector that it returns. It repeats an interrupted
+/// read.
 pub fn next_frame<R: Read>(alloc: Global, reader: &mut R) -> Result<Option<Vec<u8>>, FrameFault>
     ensures ok { IfOk result (λ next. MatchOption next
         (GivesEnd (R.remaining reader.old) (R.remaining reader.new))
         (λ body. GivesFrame (R.remaining reader.old) (R.remaining reader.new) body.items)) }
 
-    // What was read at each fault. A reader that failed gave no whole frame.
+    // The bytes that were read before each fault. If the reader fails, they are less than a whole frame.
     ensures read { IsErrOf result FrameFault.Read
         → GivesPart (R.remaining reader.old) (R.remaining reader.new) }
     ensures frame { IsErrOf result FrameFault.Frame
@@ -153,7 +153,7 @@ pub fn next_frame<R: Read>(alloc: Global, reader: &mut R) -> Result<Option<Vec<u
     Ok(Some(body))
 }
 
-/// Writes all of the bytes, or a beginning of them. The writer isn't flushed.
+/// Writes all of `bytes`; if the writer fails, only a beginning of them. Doesn't flush the writer.
 pub fn write<W: Write>(writer: &mut W, bytes: &[u8]) -> Result<(), WriteFault>
     ensures ok { OnOk result (Appends (W.contents writer.old) (W.contents writer.new) bytes.now) }
     ensures err { OnErr result (TakesPart (W.contents writer.old) (W.contents writer.new)
@@ -182,7 +182,7 @@ pub fn write<W: Write>(writer: &mut W, bytes: &[u8]) -> Result<(), WriteFault>
     Err(WriteFault)
 }
 
-/// Writes a body as a frame: its length, and then the body itself, which isn't copied. The writer isn't flushed.
+/// Writes a body as a frame: first its length, then the body itself, without copying it. Doesn't flush the writer.
 pub fn put_frame<W: Write>(writer: &mut W, body: &[u8]) -> Result<(), WriteFault>
     requires { IsBody body.now }
     ensures ok { OnOk result (Appends (W.contents writer.old) (W.contents writer.new)

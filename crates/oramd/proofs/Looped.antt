@@ -1,4 +1,4 @@
--- What is answered of frames, by how the serving of them ended.
+-- The answers to frames, by how serving them ended.
 use Rattle.std.proofs.Common.{◌≡◌, ◌∙◌, ◌<◌, ◌⊎◌, ℕ, List, [], length, Some, Result, Ok, Err, refl, sym, ap, ap₂, subst, inl, inr}
 use Rattle.std.specs.Prelude.{IfOk, IsErrOf, OnOk, replicate}
 use Rattle.std.specs.Io.KnownBytes.{IsAtEnd}
@@ -22,7 +22,7 @@ use Rattle.oramd.specs.declared.faults.Fault.TheVariants.{Hex, OutOfMemory, Stal
 abbrev pub shape_at : Sizes → Shape
 shape_at d = record { device = d; overhead = 0; sealing = λ nonce plain. plain; opening = λ bytes. Some bytes }
 
--- one end isn't another
+-- One end isn't another.
 ok_is_not : (q : Result (Unit {0}) Fault) → q ≡ Ok tt → q ≡ Err Hex → ⊥
 ok_is_not q a b = cc
 
@@ -78,7 +78,7 @@ module _ {L : Type 0} (calls : L → List ℕ → Outcome → L → Type 0) (d :
     front_answered (Err serve.Stalled) q e frame cut read hex = absurd (stalled_is_not q e hex)
     front_answered (Err serve.OutOfMemory) q e frame cut read hex = absurd (memory_is_not q e hex)
 
--- nothing is left of the frames
+-- Nothing is left of the frames.
 pub at_end : {L : Type 0} (calls : L → List ℕ → Outcome → L → Type 0) (from to : L) (frames unread replies replies' : List ℕ) (q : Result (Unit {0}) Fault)
     → OnOk q (HasAnswered calls from frames [] replies replies' unread to × (unread ≡ [])) → OnOk q (HasAnswered calls from frames [] replies replies' [] to)
 at_end calls from to frames unread replies replies' (Ok n) h = subst (λ (x : List ℕ). HasAnswered calls from frames [] replies replies' x to) h.1 h.0

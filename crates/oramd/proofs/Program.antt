@@ -1,4 +1,4 @@
--- The program's command line, of which clap says what it takes.
+-- The program's command line, by clap's own account of what it takes.
 use Rattle.std.proofs.Common.{◌≡◌, refl, true}
 use Rattle.clap.specs.Faults.{is_simple_and_free}
 use Rattle.clap.proofs.OnLiterals.{clap_on_literals}

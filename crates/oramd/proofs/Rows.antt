@@ -1,4 +1,4 @@
--- The definitions on words, a settings file and faults that are written out.
+-- The definitions on example words, a settings file and faults.
 use Rattle.std.proofs.Common.{◌≡◌, refl, [], ◌∷◌, Some, None, codes}
 use Rattle.std.specs.Prelude.{pos}
 use Rattle.clap.proofs.OnLiterals.{clap_on_literals}

@@ -1,4 +1,4 @@
--- The command line, by clap's own account of it.
+-- What clap reads from the command line.
 use Rattle.std.specs.Prelude.{ℕ, List, [], ◌∷◌, map, true, false, Option, Some, None, codes, if◌then◌else◌, option_and_then, string_bytes}
 use Rattle.std.specs.Str.{bytes_eq}
 use Rattle.clap.specs.Walk.{Text}
@@ -9,24 +9,25 @@ use Rattle.oramd.specs.declared.command_line.Role.TheVariants.{Host, Format, Pro
 use Rattle.oramd.specs.declared.command_line.Words.{Words}
 use Rattle.oramd.specs.declared.command_line.Words.TheVariants as words
 
--- what a command line asks for: a role with its file, or answers to frames in hexadecimal digits
+-- what a command line asks for: to take a role with its settings file, or to answer the frames in
+-- hexadecimal digits
 pub data Request : Type 0 where
   run : Role → List ℕ → Request
   loop : List ℕ → Request
 
--- without where texts lie in memory
+-- the words of a command line as a request, without where the texts lie in memory
 abbrev pub shown : Words → Request
 shown (words.Run role file) = run role (string_bytes file)
 shown (words.Loop digits) = loop (string_bytes digits)
 
--- the command line as clap is told of it: one of four subcommands, with its word
+-- the program's description for clap: one of four subcommands, with its word
 abbrev pub program : App
 program = record {
   top = record (new_shape (codes "oramd")) { is_leaf = false; subcommand_required = true };
   subs = map word_taker (codes "host" ∷ codes "format" ∷ codes "proxy" ∷ codes "loop" ∷ []);
 }
 
--- what a subcommand asks for, with its word
+-- what the subcommand `name` asks for with its word
 abbrev pub request_of : Text → Text → Option Request
 request_of name word =
     if bytes_eq name (codes "host") then Some (run Host word)

@@ -1,4 +1,4 @@
--- What the end of a serving is to the program, and how the program ends.
+-- What the end of a connection means to the program, and how the program ends.
 use Rattle.std.specs.Prelude.{ℕ, Option, Some, None, Result, Ok, Err}
 use Rattle.oram_run.specs.declared.events.Reason.{Reason}
 use Rattle.oram_answering.specs.declared.faults.ServeFault.{ServeFault}
@@ -6,7 +6,8 @@ use Rattle.oram_answering.specs.declared.faults.ServeFault.TheVariants as serve
 use Rattle.oramd.specs.declared.faults.Fault.{Fault}
 use Rattle.oramd.specs.declared.faults.Fault.TheVariants.{Failed, Stalled, OutOfMemory}
 
--- What a peer brings about, or the way to it, ends its connection alone, and the program goes on with the next.
+-- What a peer or the connection to it causes ends that connection alone, and the program goes on with the next
+-- one.
 abbrev pub after_serving : Result ℕ ServeFault → Result (Unit {0}) Fault
 after_serving (Ok count) = Ok tt
 after_serving (Err serve.Read) = Ok tt
@@ -16,7 +17,7 @@ after_serving (Err serve.Truncated) = Ok tt
 after_serving (Err serve.Stalled) = Err Stalled
 after_serving (Err serve.OutOfMemory) = Err OutOfMemory
 
--- how the program ends whose sessions ended so, where its device may have failed
+-- how the program ends after its sessions ended like this, and perhaps its device failed
 abbrev pub ending : Result (Unit {0}) Fault → Option Reason → Result (Unit {0}) Fault
 ending (Err why) failure = Err why
 ending (Ok served) None = Ok tt

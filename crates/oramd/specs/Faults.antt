@@ -1,4 +1,4 @@
--- How the program ends where it can't go on: a line, and its exit status.
+-- The line and the exit status of a fault that ends the program.
 use Rattle.std.specs.Prelude.{◌≡◌, ◌⊎◌, ℕ, List, ◌++◌, codes, decimal, string_bytes}
 use Rattle.oramd.specs.declared.faults.Fault.{Fault}
 use Rattle.oramd.specs.declared.faults.Fault.TheVariants.{CommandLine, Hex, Settings, OutOfMemory, File, Socket, Shape, State, Image, HostRefused, Stalled, Failed}
@@ -20,7 +20,8 @@ message_of Failed = codes "failed"
 abbrev pub line_of : Fault → List ℕ
 line_of fault = codes "oramd: " ++ message_of fault ++ codes "\n"
 
--- 2: words, digits or settings; 3: memory; 4: a file or a socket; 5: a shape, a state or an image; 6: a device that can't go on
+-- 2: words, digits or settings; 3: memory; 4: a file or a socket; 5: a shape, a state or an image; 6: a device that
+-- can't go on
 abbrev pub status_of : Fault → ℕ
 status_of CommandLine = 2
 status_of Hex = 2
@@ -35,6 +36,6 @@ status_of HostRefused = 6
 status_of Stalled = 6
 status_of Failed = 6
 
--- the fault of the file of this name, or that there is no memory for the name
+-- the fault of the file of this name, or that memory ran out
 abbrev pub IsFileFault : List ℕ → Fault → Type 0
 IsFileFault name fault = (message_of fault ≡ codes "file " ++ name) ⊎ (fault ≡ OutOfMemory)

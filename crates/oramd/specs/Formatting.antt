@@ -1,4 +1,4 @@
--- What a formatting leaves.
+-- The result of a formatting.
 use Rattle.std.specs.Prelude.{◌≡◌, ◌⊎◌, ℕ, List}
 use Rattle.oram_tree.specs.Format.{IsBrokenOff}
 use Rattle.oram_tree.specs.declared.faults.FormatFault.{FormatFault}
@@ -12,17 +12,17 @@ use Rattle.oramd.specs.declared.faults.Fault.{Fault}
 use Rattle.oramd.specs.declared.faults.Fault.TheVariants.{OutOfMemory}
 use Rattle.oramd.specs.Telling.{format_fault}
 
--- over a link whose calls meet this relation
+-- for a link with these calls
 module _ (v : Shape) {L : Type 0} (calls : L → List ℕ → Outcome → L → Type 0) where
-  -- the messages that make the device's trees went over the link, each taken, and the core is new
+  -- The messages that make the device's trees went over the link, the host took each, and the core is new.
   abbrev pub IsFormatted : L → State → L → Type 0
   IsFormatted from s to = IsNew v (TakesMessage calls) from s to
 
-  -- a beginning of them did, and this is told
+  -- Only a beginning of these messages did, and the program reports the fault `told`.
   abbrev pub IsUnformatted : L → Fault → L → Type 0
   IsUnformatted from told to = (why : FormatFault) × (told ≡ format_fault why)
       × IsBrokenOff (TakesMessage calls) (RefusesMessage calls) (IsFormatBegun v) from why to
 
-  -- No state file is given: the formatting was broken off, or it was made and there was no memory for the file.
+  -- There is no state file: the formatting was broken off, or it was done and there was no memory for the file.
   abbrev pub GivesNoFile : L → Fault → L → Type 0
   GivesNoFile from told to = IsUnformatted from told to ⊎ ((s : State) × IsFormatted from s to × (told ≡ OutOfMemory))

@@ -1,4 +1,4 @@
--- What a fault of the image is to the program.
+-- The program's faults for the faults of an image.
 use Rattle.std.specs.Prelude.{◌≡◌, ℕ, List, Some}
 use Rattle.oram_host.specs.ImageReading.{fault_number}
 use Rattle.oram_host.specs.declared.images.ImageFault.{ImageFault}
@@ -7,7 +7,8 @@ use Rattle.oramd.specs.Faults.{IsFileFault}
 use Rattle.oramd.specs.declared.faults.Fault.{Fault}
 use Rattle.oramd.specs.declared.faults.Fault.TheVariants.{Image, OutOfMemory}
 
--- what is told of a fault of the image in the file of this name: its number, where it has one
+-- the program's fault for a fault of the image in the file `name`: the number of the fault, if it
+-- has one
 abbrev pub IsImageFault : List ℕ → ImageFault → Fault → Type 0
 IsImageFault name image.Io told = IsFileFault name told
 IsImageFault name image.OutOfMemory told = told ≡ OutOfMemory

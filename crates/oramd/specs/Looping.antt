@@ -1,4 +1,4 @@
--- Session frames that are answered by a device of their own.
+-- Session frames that are answered by a device that is made for them.
 use Rattle.std.specs.Prelude.{◌≡◌, ◌⊎◌, ℕ, List, [], Some, Result, Ok, Err, replicate}
 use Rattle.oram_geometry.specs.declared.Sizes.{Sizes}
 use Rattle.oram_geometry.specs.Sizes.{trees_of}
@@ -24,11 +24,12 @@ loop_sizes = record { blocks = 64; block_bytes = 16; slots = 4; top = 64; lifeti
 abbrev pub loop_shape : Shape
 loop_shape = record { device = loop_sizes; overhead = 0; sealing = λ nonce plain. plain; opening = λ bytes. Some bytes }
 
--- the words of the zero key
+-- the words of the tape with the zero key
 abbrev pub loop_words : ℕ → ℕ → List ℕ
 loop_words = chacha_words (replicate 32 0) (trees_of loop_sizes)
 
--- Frames that are too long or cut short are told as the digits' fault. Replies go to memory, so one that can't be written had none.
+-- Frames that are too long or cut short are a fault of the digits. Replies go to memory, so the only reason not to
+-- write one is that memory ran out.
 abbrev pub after_frames : Result ℕ ServeFault → Result (Unit {0}) Fault
 after_frames (Ok count) = Ok tt
 after_frames (Err serve.Read) = Err Hex
@@ -38,12 +39,12 @@ after_frames (Err serve.Stalled) = Err Stalled
 after_frames (Err serve.Write) = Err OutOfMemory
 after_frames (Err serve.OutOfMemory) = Err OutOfMemory
 
--- Why the frames have no answers, or not all: the formatting was broken off, or the serving of the frames.
+-- Why some frames have no answers: the formatting was broken off, or serving the frames ended early.
 abbrev pub IsUnansweredFor : Fault → Type 0
 IsUnansweredFor told = ((why : FormatFault) × (told ≡ format_fault why)) ⊎ ((ended : Result ℕ ServeFault) × (Err told ≡ after_frames ended))
 
--- The device was formatted over a link whose calls meet this relation, and session 0 of it answered these turns; so many bytes more
--- were read, and the replies stand behind what was there.
+-- The device was formatted over a link with these calls, and its session 0 answered these turns. It also read the bytes
+-- `part` of a frame, and the replies were appended to what was there.
 pub record HasAnswered {L : Type 0} (calls : L → List ℕ → Outcome → L → Type 0) (from : L) (frames part replies replies' : List ℕ) (unread : List ℕ) (to : L) : Type 0 where
   pub new : State
   pub mid : L

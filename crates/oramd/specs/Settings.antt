@@ -1,4 +1,4 @@
--- What a settings file says, and when a text says it.
+-- What a settings file says, and which texts say it.
 use Rattle.std.specs.Prelude.{◌≡◌, ◌∷◌, ℕ, List, [], codes, string_bytes, Option, Some}
 use Rattle.toml.specs.Data.{Members}
 use Rattle.toml.specs.Parse.{parse_document}
@@ -8,7 +8,7 @@ use Rattle.oramd.specs.declared.command_line.Role.TheVariants as role
 use Rattle.oramd.specs.declared.settings_file.Settings.{Settings}
 use Rattle.oramd.specs.declared.settings_file.Settings.TheVariants as settings
 
--- settings, without where texts lie in memory
+-- the settings of each role, without where the texts lie in memory
 pub record HostSettings : Type 0 where
   pub listen : List ℕ
   pub connections : ℕ
@@ -86,13 +86,13 @@ pub record IsProxy (table : Members) (s : ProxySettings) : Type 0 where
   pub sealer : HasSealer table s.key
   pub tape_key : HasHex table (codes "tape_key") s.tape_key
 
--- the table is that of these settings, which are the role's
+-- The table has these settings, which are the role's.
 abbrev pub IsSettings : Role → Members → SettingsValue → Type 0
 IsSettings role.Host table (host s) = IsHost table s
 IsSettings role.Format table (format s) = IsFormat table s
 IsSettings role.Proxy table (proxy s) = IsProxy table s
 IsSettings role table s = ⊥
 
--- the text is a TOML document, and its table that of these settings
+-- The text is a TOML document, and its table has these settings.
 abbrev pub IsDocumentOf : Role → List ℕ → SettingsValue → Type 0
 IsDocumentOf role text s = (table : Members) × (parse_document text ≡ Some table) × IsSettings role table s

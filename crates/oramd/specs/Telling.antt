@@ -1,4 +1,4 @@
--- What faults of the libraries are to the program.
+-- The program's faults for the faults of its libraries.
 use Rattle.std.specs.Prelude.{Result, Ok, Err}
 use Rattle.std.specs.Option.{option_map_or}
 use Rattle.oram_edge.specs.declared.files.FileFault.{FileFault}
@@ -24,11 +24,11 @@ abbrev pub socket_fault : SocketFault → Fault
 socket_fault socket.Failed = Socket
 socket_fault socket.OutOfMemory = OutOfMemory
 
--- numbers that make no device are told by the number of their fault
+-- The fault for numbers that make no device has the number of their fault.
 abbrev pub shape_fault : ShapeFault → Fault
 shape_fault why = Shape (sizes.fault_number why)
 
--- so is a state file that tells of no core, but want of memory has no number
+-- So has the fault for a state file that holds no core. Running out of memory has no number.
 abbrev pub state_fault : StateFault → Fault
 state_fault why = option_map_or State (state.fault_number why) OutOfMemory
 
@@ -38,7 +38,7 @@ format_fault (format.Sink sink.Link) = Socket
 format_fault (format.Sink sink.OutOfMemory) = OutOfMemory
 format_fault format.OutOfMemory = OutOfMemory
 
--- the device of five numbers, or what is told of them
+-- the device with five numbers, or the program's fault for them
 abbrev pub made_device : Result Sizes ShapeFault → Result Sizes Fault
 made_device (Ok d) = Ok d
 made_device (Err why) = Err (shape_fault why)

@@ -20,16 +20,16 @@ pub enum Role {
     Proxy,
 }
 
-/// What the words of a command line ask for.
+/// What a command line asks for.
 #[derive(Debug, Drop)]
 pub enum Words {
-    /// A role, with the name of the file that its settings stand in.
+    /// To take a role, with the name of its settings file.
     Run(Role, String),
-    /// Answers to the session frames that these hexadecimal digits spell.
+    /// To answer the session frames in these hexadecimal digits.
     Loop(String),
 }
 
-/// The command line as clap is told of it.
+/// Describes the command line to clap.
 fn command<'a>(alloc: Global) -> Result<Command<'a>, AllocError>
     ensures { IfOk result (λ c. app_of c ≡ program) }
 {
@@ -41,7 +41,7 @@ fn command<'a>(alloc: Global) -> Result<Command<'a>, AllocError>
         .subcommand(word_taker(alloc, "loop")?)
 }
 
-/// What a subcommand asks for, with its word.
+/// Returns what the subcommand `name` asks for with its word. Fails with `Bad` if there is no such subcommand.
 fn asked(alloc: Global, name: &str, word: &str) -> Result<Words, InputFault>
     ensures ok { IfOk result (λ w. request_of name.now word.now ≡ Some (shown w)) }
     ensures bad { IsErrOf result InputFault.Bad → request_of name.now word.now ≡ None }
@@ -56,11 +56,12 @@ fn asked(alloc: Global, name: &str, word: &str) -> Result<Words, InputFault>
     }
 }
 
-/// Reads the words of a command line, of which the first is the program's name. Help isn't among what can be asked for.
+/// Reads the words of a command line, beginning with the program's name. Fails with `Bad` if they ask for nothing; help
+/// can't be asked for.
 pub fn read_words(alloc: Global, words: &[&str]) -> Result<Words, InputFault>
     // It is what clap's matches of the words ask for.
     ensures ok { IfOk result (λ w. request_in (texts words.now) ≡ Some (shown w)) }
-    // Bad comes only where they ask for nothing.
+    // `Bad` comes only if the words ask for nothing.
     ensures bad { IsErrOf result InputFault.Bad → request_in (texts words.now) ≡ None }
 {
     let (name, word) = read_named(command(alloc)?, words)?;

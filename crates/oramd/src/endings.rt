@@ -1,4 +1,4 @@
-//! What the end of a serving is to the program, and how the program ends.
+//! What the end of a connection means to the program, and how the program ends.
 
 ghost use Rattle.std.specs.Prelude.{◌≡◌};
 ghost use Rattle.oramd.specs.Endings as spec;
@@ -8,7 +8,8 @@ use oram_bucket::Sealer;
 use oram_core::Core;
 use oram_session::ServeFault;
 
-/// Whether the program goes on once a connection has ended so: what a peer brings about is no fault of the program's.
+/// Returns the fault with which the program ends if it can't go on after a connection has ended like this. A peer's
+/// mistakes don't end the program.
 pub fn after_serving(ended: Result<u64, ServeFault>) -> Result<(), Fault>
     ensures { result ≡ spec.after_serving ended }
 {
@@ -21,7 +22,8 @@ pub fn after_serving(ended: Result<u64, ServeFault>) -> Result<(), Fault>
     }
 }
 
-/// How the program ends once its sessions have, and the state is saved: that the device failed is told last.
+/// Returns how the program ends after its sessions have ended and the state is saved. It reports a failed device only
+/// if there is no other fault.
 pub fn ending<S: Sealer>(core: &Core<S>, served: Result<(), Fault>) -> Result<(), Fault>
     ensures { result ≡ spec.ending served core.now.state.failure }
 {

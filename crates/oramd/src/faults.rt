@@ -1,4 +1,4 @@
-//! How the program ends where it can't go on.
+//! Why the program ends early, and how it reports that.
 
 ghost use Rattle.std.specs.Prelude.{◌≡◌, OnOk};
 ghost use Rattle.std.specs.Io.KnownBytes.{Appends};
@@ -14,29 +14,29 @@ use oram_wire::{SinkFault, WriteFault};
 use std::alloc::{AllocError, Global};
 use std::io::Write;
 
-/// Why the program ends, each with a line of its own.
+/// Why the program ends early. Each fault has its own line.
 #[derive(Debug, PartialEq, Eq, Drop)]
 pub enum Fault {
     /// The words of the command line ask for nothing.
     CommandLine,
-    /// Digits spell no bytes, or the bytes no whole frames.
+    /// The digits are not hexadecimal, or their bytes are not whole frames.
     Hex,
-    /// A settings file isn't one of the role's.
+    /// The settings file isn't one for this role.
     Settings,
     OutOfMemory,
-    /// The file of this name can't be read or written, or is there already.
+    /// The file of this name can't be read or written, or exists although it must not.
     File(String),
     /// A socket failed.
     Socket,
-    /// The settings' numbers make no device; the first that is out of its range.
+    /// The settings' numbers make no device. The number tells the first one out of its range.
     Shape(u8),
-    /// The state file tells of no core; why.
+    /// The state file holds no core. The number tells why.
     State(u8),
-    /// The image file tells of no host; why.
+    /// The image file holds no host. The number tells why.
     Image(u8),
-    /// The host answered a message of the formatting with a refusal.
+    /// The host refused a message of the formatting.
     HostRefused,
-    /// A message to the host had no answer, four times.
+    /// The host gave no answer to a message in four tries.
     Stalled,
     /// The device failed.
     Failed,
@@ -115,7 +115,7 @@ impl From<FormatFault> for Fault {
     }
 }
 
-/// The fault of the file of this name.
+/// Makes the fault of the file `name`.
 pub(crate) fn file_fault(alloc: Global, name: &str) -> Fault
     ensures { IsFileFault name.now result }
 {
@@ -125,7 +125,7 @@ pub(crate) fn file_fault(alloc: Global, name: &str) -> Fault
     }
 }
 
-/// Why a process doesn't get the state in the file of this name for itself.
+/// Returns the program's fault if it can't lock the state in the file `name`.
 pub(crate) fn lock_fault(alloc: Global, name: &str, why: &LockFault) -> Fault
     ensures { IsFileFault name.now result }
 {
@@ -136,7 +136,7 @@ pub(crate) fn lock_fault(alloc: Global, name: &str, why: &LockFault) -> Fault
 }
 
 impl Fault {
-    /// The exit status.
+    /// Returns the exit status.
     fn status(&self) -> u8
         ensures { result ≡ status_of self.now }
     {
@@ -181,9 +181,10 @@ fn put_line<W: Write>(writer: &mut W, fault: &Fault) -> Result<(), WriteFault>
     put(writer, b"\n")
 }
 
-/// Writes the line of a fault, as far as the writer takes it, and gives the exit status. It takes no memory.
+/// Writes the line of a fault, as far as the writer takes it, and returns the exit status. Allocates
+/// nothing.
 pub fn report<W: Write>(writer: &mut W, fault: &Fault) -> u8
-    // All of the line, unless the writer failed.
+    // The whole line, unless the writer failed.
     ensures line { Begins (W.contents writer.old) (W.contents writer.new) (line_of fault.now) }
     ensures status { result ≡ status_of fault.now }
 {

@@ -1,4 +1,4 @@
-//! The file that a host's image is kept in.
+//! Loads and saves a host's image file.
 
 use crate::faults::Fault;
 use crate::loading::load_host;
@@ -9,7 +9,7 @@ use std::io::{BufReader, BufWriter, ErrorKind, Write};
 use std::rt::Files;
 use std::{fs, io};
 
-/// The server whose image stands in the file, or one without trees where there is no file.
+/// Loads the server from its image file. If there is no file, it makes a server without trees.
 pub(crate) fn load_image<R: Files + AllocGlobal>(rt: &R, kept: &KeptFile) -> Result<Server, Fault> {
     let file = match fs::open(rt, kept.name()) {
         Ok(file) => file,
@@ -33,7 +33,7 @@ fn write_image<R: Files + AllocGlobal>(rt: &R, kept: &KeptFile, server: &Server)
     kept.settle(rt, &file)
 }
 
-/// Writes all of the file.
+/// Replaces the image file by the image of `server`.
 pub(crate) fn save_image<R: Files + AllocGlobal>(
     rt: &R,
     kept: &KeptFile,
@@ -45,7 +45,7 @@ pub(crate) fn save_image<R: Files + AllocGlobal>(
     }
 }
 
-/// Writes the image by way of a buffer, or without one where there is no memory for it.
+/// Writes the image through a buffer, or without one if there is no memory for it.
 fn put_image<W: Write>(alloc: Global, writer: &mut W, server: &Server) -> io::Result<()> {
     if let Ok(mut buffered) = BufWriter::new(alloc, &mut *writer) {
         return put_all(&mut buffered, server);

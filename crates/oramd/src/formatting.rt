@@ -1,4 +1,4 @@
-//! The formatting of a device.
+//! Formats a device.
 
 ghost use Rattle.std.specs.Prelude.{◌≡◌, IfErr, IfOk};
 ghost use Rattle.oram_geometry.specs.Sizes.{device_of};
@@ -15,7 +15,8 @@ use oram_session::{Link, format_device};
 use oram_state::encode_state;
 use std::alloc::Global;
 
-/// The device of the settings' five numbers.
+/// Makes the device with the settings' five numbers. Fails with [`Fault::Shape`] if there is no
+/// such device.
 pub fn made_device(
     blocks: u64,
     block_bytes: u64,
@@ -28,7 +29,7 @@ pub fn made_device(
     Ok(Device::new(blocks, block_bytes, slots, top, lifetime)?)
 }
 
-/// Formats a device on the host that the link leads to, and gives its state file.
+/// Formats a device on the host at the other end of the link, and returns the device's state file.
 pub fn format_state<S: Sealer, L: Link>(
     alloc: Global,
     device: Device,

@@ -1,4 +1,4 @@
-//! What the program kept is loaded.
+//! Loads what the program has kept.
 
 ghost use Rattle.std.specs.Prelude.{◌≡◌, IfErr, IfOk, OnOk};
 ghost use Rattle.std.specs.Io.KnownBytes.{Consumes, IsAtEnd};
@@ -19,7 +19,7 @@ use oram_state::decode_state;
 use std::alloc::Global;
 use std::io::Read;
 
-/// What a fault of the image in the file of this name is to the program.
+/// Returns the program's fault for a fault of the image in the file `name`.
 fn image_fault(alloc: Global, name: &str, why: ImageFault) -> Fault
     ensures { IsImageFault name.now why result }
 {
@@ -32,7 +32,7 @@ fn image_fault(alloc: Global, name: &str, why: ImageFault) -> Fault
     }
 }
 
-/// Loads the server whose image stands in the file of this name. It is all that the reader holds.
+/// Loads the server from its image in the file `name`. The image is all that the reader holds.
 pub fn load_host<R: Read>(alloc: Global, name: &str, reader: &mut R) -> Result<Server, Fault>
     ensures ok { IfOk result (λ server. Consumes (R.remaining reader.old) (R.remaining reader.new) (image server)) }
     ensures end { OnOk result (IsAtEnd (R.remaining reader.new)) }
@@ -46,7 +46,7 @@ pub fn load_host<R: Read>(alloc: Global, name: &str, reader: &mut R) -> Result<S
     }
 }
 
-/// The core that a state file tells of, under the sealer that it was saved with.
+/// Loads the core from a state file. `sealer` has to be the one that it was saved with.
 pub fn load_core<S: Sealer>(alloc: Global, sealer: S, file: &[u8]) -> Result<Core<S>, Fault>
     ensures sealer { IfOk result (λ c. c.sealer ≡ sealer) }
     ensures core { IfOk result (λ c. IsSaved file.now (S.overhead sealer) c.device c.state) }

@@ -1,4 +1,4 @@
-//! Session frames in hexadecimal digits, answered by a device of their own.
+//! Session frames in hexadecimal digits, answered by a device that is made for them.
 
 ghost use Rattle.std.specs.Prelude.{◌≡◌, ◌⊎◌, ℕ, [], length, List, Ok, Err, IfErr, IfOk, IsErrOf, OnOk};
 ghost use Rattle.hex.specs.Hex.{decode_of};
@@ -14,7 +14,7 @@ use oram_bucket::PlainSeal;
 use oram_session::{ChaChaTape, Link, ServeFault, format_device, serve};
 use std::alloc::Global;
 
-/// The bytes that hexadecimal digits spell.
+/// Decodes hexadecimal digits. Fails with [`Fault::Hex`] if `digits` aren't hexadecimal.
 pub fn bytes_of(alloc: Global, digits: &str) -> Result<Vec<u8>, Fault>
     ensures ok { IfOk result (λ bytes. decode_of digits.now ≡ Ok bytes.items) }
     ensures hex { IsErrOf result Fault.Hex → (why : FromHexError) × (decode_of digits.now ≡ Err why) }
@@ -27,7 +27,7 @@ pub fn bytes_of(alloc: Global, digits: &str) -> Result<Vec<u8>, Fault>
     }
 }
 
-/// What the end of the frames is to the program.
+/// Returns what the end of the frames means to the program.
 fn after_frames(ended: Result<u64, ServeFault>) -> Result<(), Fault>
     ensures { result ≡ spec.after_frames ended }
 {
@@ -39,20 +39,20 @@ fn after_frames(ended: Result<u64, ServeFault>) -> Result<(), Fault>
     }
 }
 
-/// Formats a device of 64 blocks of 16 bytes, unsealed, over a link to a host without trees, and answers the session frames in some
-/// bytes; the frames of the replies go behind what the vector has.
+/// Formats a device of 64 blocks of 16 bytes, unsealed, over a link to a host without trees, and answers the session
+/// frames in `frames`. It appends the frames of the replies to `replies`.
 pub fn answer_frames<L: Link>(
     alloc: Global,
     link: &mut L,
     frames: &[u8],
     replies: &mut Vec<u8>,
 ) -> Result<(), Fault>
-    // All of the frames were answered.
+    // All frames were answered.
     ensures ok { OnOk result (HasAnswered L.calls link.old frames.now [] replies.old.items replies.new.items [] link.new) }
-    // Those before a frame that is too long or cut short were.
+    // The frames before one that is too long or cut short were answered.
     ensures hex { IsErrOf result Fault.Hex → (part unread : List ℕ) × (IsUnfinished part ⊎ ((length part ≡ 4) × IsBroken part))
         × HasAnswered L.calls link.old frames.now part replies.old.items replies.new.items unread link.new }
-    // There is no other fault than the formatting's and the serving's.
+    // All other faults come from the formatting or the serving.
     ensures fault { IfErr result (λ told. IsUnansweredFor told) }
 {
     let device = made_device(64, 16, 4, 64, 100)?;

@@ -24,14 +24,14 @@ pub use settings_file::{Settings, read_settings};
 use std::process::ExitCode;
 use std::rt::Env;
 
-/// What the words of the command line ask for.
+/// Reads what the command line asks for.
 fn asked<R: Env + AllocGlobal>(rt: &R) -> Result<Words, InputFault> {
     let words = arguments(rt)?;
     let texts = texts_of(rt.alloc(), &words)?;
     read_words(rt.alloc(), &texts)
 }
 
-/// Does what the words of the command line ask for.
+/// Does what the command line asks for.
 fn run(rt: &HostRuntime) -> Result<(), Fault> {
     match asked(rt) {
         Ok(Words::Run(role, name)) => roles::run(rt, role, name.as_str()),

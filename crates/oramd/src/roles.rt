@@ -1,4 +1,4 @@
-//! What the program does in each role, by its files and sockets.
+//! Each role of the program, with its files and sockets.
 
 ghost use Rattle.oram_core.specs.Core.{IsSameDevice};
 
@@ -29,7 +29,7 @@ use std::net::{Net, OpenListener, OpenStream};
 use std::rt::Files;
 use std::str;
 
-/// Waits for the next connection, and gives what reads from it and what writes to it, each by way of a buffer.
+/// Waits for the next connection, and returns its two halves, both buffered.
 fn next_connection<L: OpenListener>(
     alloc: Global,
     listener: &L,
@@ -41,7 +41,7 @@ where
     Ok(buffered(alloc, stream)?)
 }
 
-/// Carries out the requests of so many connections, one after the other.
+/// Serves the requests of `connections` connections, one after the other.
 fn host_connections<L: OpenListener>(
     alloc: Global,
     listener: &L,
@@ -58,7 +58,7 @@ where
     Ok(())
 }
 
-/// Keeps buckets for others. The image is saved however the serving ends.
+/// Keeps buckets for others. Saves the image however the serving ends.
 fn host<R: Files + Net + AllocGlobal>(
     rt: &R,
     address: &str,
@@ -73,7 +73,7 @@ fn host<R: Files + Net + AllocGlobal>(
     served
 }
 
-/// Makes a device on a host, and its state file, of which there is to be none.
+/// Formats a device on a host, and writes its state file. Fails if that file exists.
 fn format<R: Files + Net + AllocGlobal, S: Sealer>(
     rt: &R,
     host: &str,
@@ -89,7 +89,7 @@ fn format<R: Files + Net + AllocGlobal, S: Sealer>(
     Ok(file.save_bytes(rt, &bytes)?)
 }
 
-/// The same, sealed under a key, if there is one.
+/// Formats a device, sealed with `key` if there is one.
 fn format_under<R: Files + Net + AllocGlobal>(
     rt: &R,
     host: &str,
@@ -103,7 +103,8 @@ fn format_under<R: Files + Net + AllocGlobal>(
     }
 }
 
-/// Carries out what waits in the core, and answers so many sessions, one after the other, by rising number.
+/// Carries out the commands that wait in the core, and then answers `connections` sessions, one after the other,
+/// numbered from 0.
 fn sessions<L: OpenListener, S: Sealer, H: Link, T: Tape>(
     alloc: Global,
     listener: &L,
@@ -125,7 +126,7 @@ where
     Ok(())
 }
 
-/// Where a proxy listens, how many sessions it answers, and where its host and its state are.
+/// Where a proxy listens, how many sessions it answers, where its host and its state are, and its tape's key.
 #[derive(Drop)]
 struct Serving {
     address: String,
@@ -135,7 +136,7 @@ struct Serving {
     tape_key: [u8; 32],
 }
 
-/// Takes the lock of the state in the file of this name, so that no other proxy goes on from that state too.
+/// Takes the lock of the state in the file `state`, so that no other proxy goes on from that state too.
 fn take_lock(rt: &HostRuntime, state: &str) -> Result<StateLock, Fault> {
     match lock_state(rt, state) {
         Ok(lock) => Ok(lock),
@@ -143,7 +144,7 @@ fn take_lock(rt: &HostRuntime, state: &str) -> Result<StateLock, Fault> {
     }
 }
 
-/// Answers the sessions of a device. Its state is saved however that ends.
+/// Answers the sessions of a device. Saves its state however they end.
 fn proxy<S: Sealer>(rt: &HostRuntime, serving: Serving, sealer: S) -> Result<(), Fault> {
     let Serving {
         address,
@@ -174,14 +175,14 @@ fn proxy<S: Sealer>(rt: &HostRuntime, serving: Serving, sealer: S) -> Result<(),
         &mut link,
         &mut tape,
     );
-    // Its room is for what follows.
+    // The memory that the tape holds is for what follows.
     drop(tape);
     let bytes = encode_state(rt.alloc(), &core)?;
     file.save_bytes(rt, &bytes)?;
     ending(&core, served)
 }
 
-/// The same, sealed under a key, if there is one.
+/// Answers the sessions of a device that is sealed with `key`, if there is one.
 fn proxy_under(rt: &HostRuntime, serving: Serving, key: Option<[u8; 32]>) -> Result<(), Fault> {
     match key {
         None => proxy(rt, serving, PlainSeal),
@@ -189,7 +190,7 @@ fn proxy_under(rt: &HostRuntime, serving: Serving, key: Option<[u8; 32]>) -> Res
     }
 }
 
-/// The settings of a role that stand in a file.
+/// Reads the settings of a role from the file `name`.
 fn settings_in<R: Files + AllocGlobal>(rt: &R, role: Role, name: &str) -> Result<Settings, Fault> {
     let bytes = bytes_in(rt, name)?;
     let Ok(text) = str::from_utf8(bytes.as_slice()) else {
@@ -202,7 +203,7 @@ fn settings_in<R: Files + AllocGlobal>(rt: &R, role: Role, name: &str) -> Result
     }
 }
 
-/// Does what a role does, with the settings in the file of this name.
+/// Takes a role, with the settings in the file `name`.
 pub(crate) fn run(rt: &HostRuntime, role: Role, name: &str) -> Result<(), Fault> {
     match settings_in(rt, role, name)? {
         Settings::Host {
@@ -243,7 +244,7 @@ pub(crate) fn run(rt: &HostRuntime, role: Role, name: &str) -> Result<(), Fault>
     }
 }
 
-/// A line of hexadecimal digits.
+/// Prints bytes as a line of hexadecimal digits.
 fn print_digits<R: Print + AllocGlobal>(rt: &R, bytes: &[u8]) -> Result<(), Fault> {
     let digits = hex::encode(rt.alloc(), bytes)?;
     match println!(rt; "{digits}") {
@@ -252,7 +253,7 @@ fn print_digits<R: Print + AllocGlobal>(rt: &R, bytes: &[u8]) -> Result<(), Faul
     }
 }
 
-/// Answers the session frames that digits spell, and prints the frames of the replies, also those before one that can't be read.
+/// Answers the session frames in `digits`, and prints the frames of the replies, even if a later frame can't be read.
 pub(crate) fn loop_frames<R: Net + Print + AllocGlobal>(rt: &R, digits: &str) -> Result<(), Fault> {
     let frames = bytes_of(rt.alloc(), digits)?;
     let mut link = match LoopLink::open(rt, rt.alloc(), Server::new(rt.alloc())) {

@@ -8,31 +8,32 @@ use oram_session::Tape;
 use oram_state::encode_state;
 use std::alloc::{AllocError, Global};
 
-/// For how many commands room is taken at once.
+/// The number of commands that room is taken for at a time.
 const COMMANDS: u32 = 64;
 
-/// Bytes for what doesn't grow: a message and the command that waits for its answer, and what the allocator needs.
+/// The bytes for what doesn't grow: a message, the command that waits for its answer, and the allocator's needs.
 const MARGIN: usize = 3 << 20;
 
-/// The bytes that the allocator needs for each of two copies of a block, beside it.
+/// The bytes that the allocator needs besides each of two copies of a block.
 const BESIDE_A_BLOCK: usize = 64;
 
 /// A tape that holds room for saving the state of its device, and takes more before a command that may need it.
 ///
-/// A proxy saves its state at its end, also at an end for want of memory: without that, the next one would go on from a state that
-/// its host has left behind. So a command for which there is no such room gets no words, and isn't accepted.
+/// A proxy saves its state when it ends, even if it ends because it is out of memory. Otherwise the next proxy would go
+/// on from an old state, while the host is further on. So a command for which there is no room gets no words, and isn't
+/// accepted.
 #[derive(Drop)]
 pub(crate) struct RoomyTape<T> {
     tape: T,
     held: Vec<u8>,
-    /// For how many commands there is room.
+    /// How many more commands there is room for.
     commands: u32,
-    /// What a command may add to what is saved, and to its copy, in bytes.
+    /// The bytes that a command may add to the saved state and to the copy of it.
     growth: usize,
 }
 
 impl<T: Drop> RoomyTape<T> {
-    /// Takes the room that the state of this core needs.
+    /// Takes the room that saving the present state of this core needs.
     pub(crate) fn new<S: Sealer>(
         alloc: Global,
         tape: T,
@@ -41,18 +42,18 @@ impl<T: Drop> RoomyTape<T> {
         let device = core.device();
         let block = device.block_bytes().saturating_add(BESIDE_A_BLOCK);
         let file = encode_state(alloc, core)?;
-        // The file, and the copy of the core's parts that it is written from.
+        // The file, and the copy of the core's parts from which it is written.
         let need = file.len().saturating_mul(4).saturating_add(MARGIN);
         Ok(RoomyTape {
             tape,
             held: Vec::with_capacity(alloc, need)?,
             commands: 0,
-            // A command leaves at most one block more in the stash of each tree.
+            // A command adds at most one block to the stash of each tree.
             growth: usize::from(device.trees()).saturating_mul(2 * block),
         })
     }
 
-    /// Takes the room for further commands.
+    /// Takes the room for [`COMMANDS`] further commands.
     fn grow(&mut self, alloc: Global) -> Result<(), AllocError>
         ensures tape { self.new.tape ≡ self.old.tape }
         ensures room { OnOk result (self.new.commands ≡ COMMANDS) }

@@ -1,4 +1,4 @@
-//! The settings file.
+//! Reads the settings file.
 
 ghost use Rattle.std.specs.Prelude.{◌≡◌, IfOk, IsErrOf};
 ghost use Rattle.toml.specs.View.{table_view};
@@ -16,17 +16,17 @@ use toml::Table;
 /// What a settings file says.
 #[derive(Drop)]
 pub enum Settings {
-    /// Of a bucket host: where it listens, how many connections it serves, and the file that its buckets are kept in.
+    /// The settings of a bucket host: where it listens, how many connections it serves, and the file for its buckets.
     Host {
         listen: String,
         connections: u64,
         image: String,
     },
-    /// Of a device's formatting: its host, the file for its state, its sealer and its five numbers.
+    /// The settings for formatting a device: its host, the file for its state, its sealer and its five numbers.
     Format {
         host: String,
         state: String,
-        /// The sealer's, where it seals by ChaCha20.
+        /// The sealer's key, if buckets are sealed with ChaCha20.
         key: Option<[u8; 32]>,
         blocks: u64,
         block_bytes: u64,
@@ -34,19 +34,19 @@ pub enum Settings {
         top: u64,
         lifetime: u64,
     },
-    /// Of a proxy: where it listens, how many sessions it serves, and its device.
+    /// The settings of a proxy: where it listens, how many sessions it serves, and its device.
     Proxy {
         listen: String,
         connections: u64,
         host: String,
         state: String,
-        /// The sealer's, where it seals by ChaCha20.
+        /// The sealer's key, if buckets are sealed with ChaCha20.
         key: Option<[u8; 32]>,
         tape_key: [u8; 32],
     },
 }
 
-// No key is shown.
+// Shows no key.
 impl fmt::Debug for Settings {
     fn fmt<W: fmt::Write>(&self, f: &mut fmt::Formatter<W>) -> fmt::Result {
         f.write_str(match self {
@@ -145,11 +145,11 @@ fn proxy_in(alloc: Global, table: &Table) -> Result<Settings, InputFault>
     })
 }
 
-/// Reads the settings of a role from a TOML document.
+/// Reads the settings of a role from a TOML document. Fails with `Bad` if the text is no such document.
 pub fn read_settings(alloc: Global, role: Role, text: &str) -> Result<Settings, InputFault>
-    // The text is a document whose table is that of these settings.
+    // The text is a document whose table has these settings.
     ensures ok { IfOk result (λ s. IsDocumentOf role text.now (shown s)) }
-    // Bad comes only where it is no such document of any settings of the role.
+    // `Bad` comes only if the text is no document of any settings of the role.
     ensures bad { IsErrOf result InputFault.Bad → (s : _) → IsDocumentOf role text.now s → ⊥ }
 {
     let table = table_of(alloc, text)?;

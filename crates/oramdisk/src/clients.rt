@@ -1,4 +1,5 @@
-//! One client of NBD at a time has the disk, and doesn't keep it from the next by silence.
+//! The disk has one NBD client at a time. Time limits keep a client that stalls from holding it for ever, and other
+//! clients are turned away.
 
 use oram_disk_host::time;
 use oram_nbd::HandshakeWatch;
@@ -15,7 +16,7 @@ const LONGEST_HANDSHAKE: u64 = 10;
 /// How long a client may leave a reply unread, in seconds.
 const LONGEST_UNREAD: u64 = 60;
 
-/// Why a client was let go.
+/// Why the disk parted with a client.
 #[derive(Clone, Copy, Debug, PartialEq, Eq)]
 pub(crate) enum Parting {
     NoHandshake,
@@ -31,8 +32,9 @@ impl fmt::Display for Parting {
     }
 }
 
-/// Attends to a client: it has ten seconds for its handshake, and is then idle for as long as it likes. Other clients are turned away
-/// meanwhile, at once and with a line on standard error.
+/// Watches over a client. The client has ten seconds for its handshake, and may then be idle for as long as it likes,
+/// but has to read each reply within a minute. Meanwhile the attendant turns other clients away, at once and with a
+/// line on standard error.
 #[derive(Drop)]
 pub(crate) struct ClientAttendant<'r, 'l, R> {
     rt: &'r R,
@@ -42,7 +44,7 @@ pub(crate) struct ClientAttendant<'r, 'l, R> {
 }
 
 impl<'r, 'l, R: Clock> ClientAttendant<'r, 'l, R> {
-    /// For a client that has just connected. It takes no memory.
+    /// Makes the attendant of a client that has just connected. Allocates nothing.
     pub(crate) fn new(rt: &'r R, listener: &'l Listener) -> io::Result<ClientAttendant<'r, 'l, R>> {
         let until = Instant::now(rt)?.checked_add(Duration::from_secs(LONGEST_HANDSHAKE));
         Ok(ClientAttendant {
@@ -53,14 +55,14 @@ impl<'r, 'l, R: Clock> ClientAttendant<'r, 'l, R> {
         })
     }
 
-    /// Why the client was let go, if it was.
+    /// Returns why the disk parted with the client, if it did.
     pub(crate) fn parting(&self) -> Option<Parting> {
         self.parting.get()
     }
 }
 
 impl<'r, 'l, R: Clock + Eprint + AllocGlobal> ClientAttendant<'r, 'l, R> {
-    /// Tells of a client that is turned away.
+    /// Prints a line about a client that is turned away.
     fn tell(&self, peer: Peer) -> io::Result<()> {
         let at = time(self.rt)?;
         let line = format!(in self.rt.alloc();
@@ -90,7 +92,7 @@ impl<'r, 'l, R: Clock + Eprint + AllocGlobal> Attendant for ClientAttendant<'r, 
         Error::from(ErrorKind::TimedOut)
     }
 
-    // The listener doesn't block meanwhile.
+    // The listener doesn't block while a client is served.
     fn others_wait(&self) -> io::Result<()> {
         for _ in 0..u64::MAX {
             let Ok((_closed, peer)) = self.listener.accept() else {

@@ -1,4 +1,4 @@
-//! A new folder, with settings to begin with.
+//! Makes a new folder with the first settings of a disk.
 
 use oram_disk_host::{FIRST_SETTINGS, Fault, FaultKind, file_fault};
 use oram_settings::{
@@ -13,14 +13,14 @@ use std::random::RandomSource;
 use std::rt::Files;
 use std::{fs, io};
 
-/// A folder for its owner alone.
+/// Creates a folder for its owner alone.
 fn create_folder<R: Files>(rt: &R, folder: &str) -> io::Result<()> {
     let mut builder = DirBuilder::new();
     builder.mode(0o700);
     builder.create(rt, folder)
 }
 
-/// A settings file for its owner alone.
+/// Writes a new settings file for its owner alone.
 fn write_settings<R: Files>(rt: &R, name: &str, text: &str) -> io::Result<()> {
     let mut options = OpenOptions::new();
     options.write(true).create_new(true).mode(0o600);
@@ -29,14 +29,14 @@ fn write_settings<R: Files>(rt: &R, name: &str, text: &str) -> io::Result<()> {
     file.sync_all()
 }
 
-/// Takes away a folder and the settings in it, as far as they are there.
+/// Removes a folder and the settings in it, as far as they are there.
 fn take_back<R: Files>(rt: &R, folder: &str, host: &str, disk: &str) {
     let _may_not_be_there = fs::remove_file(rt, host);
     let _may_not_be_there = fs::remove_file(rt, disk);
     let _passed_over = fs::remove_dir(rt, folder);
 }
 
-/// A settings file that can't be written.
+/// Writes a settings file, and returns the fault if that fails.
 fn unwritten<R: Files + AllocGlobal>(rt: &R, name: &str, text: &str) -> Option<Fault> {
     match write_settings(rt, name, text) {
         Ok(()) => None,
@@ -47,12 +47,12 @@ fn unwritten<R: Files + AllocGlobal>(rt: &R, name: &str, text: &str) -> Option<F
     }
 }
 
-/// The size in whole blocks of a first disk.
+/// Rounds the size of a new disk up to whole blocks.
 fn whole_size(size: u64) -> u64 {
     size.saturating_add(DEFAULT_BLOCK - 1) / DEFAULT_BLOCK * DEFAULT_BLOCK
 }
 
-/// A first disk: its bytes, those that it takes at its host, and its settings.
+/// A new disk: its size in bytes, the bytes that it takes at its host, and the text of its settings.
 #[derive(Drop)]
 struct FirstDisk {
     size: u64,
@@ -60,7 +60,9 @@ struct FirstDisk {
     text: String,
 }
 
-/// A disk of this size, or somewhat more: whole blocks.
+/// Makes a new disk with a random key. It has the size that `size` says, rounded up to whole blocks. Fails with
+/// [`Fault::Size`] if `size` isn't a size or no device has it, and with [`Fault::Random`] if the system gives no random
+/// bytes.
 fn first_disk<R: RandomSource + AllocGlobal>(rt: &R, size: &str) -> Result<FirstDisk, Fault> {
     let Some(size) = read_size(size) else {
         return Err(Fault::Size);
@@ -80,15 +82,15 @@ fn first_disk<R: RandomSource + AllocGlobal>(rt: &R, size: &str) -> Result<First
     })
 }
 
-/// Tells what was made, and what comes next.
+/// Prints what was made, and what comes next.
 fn tell<R: Eprint + AllocGlobal>(rt: &R, folder: &str, disk: &FirstDisk) -> Result<(), AllocError> {
     let text = made_text(rt.alloc(), folder, disk.size, disk.stored)?;
     let _passed_over = rt.eprint(text.as_str());
     Ok(())
 }
 
-/// Makes a folder with `host.toml` and `disk.toml` in it, for a disk of this size. One that is there already is left as it is, and of
-/// one that can't be filled nothing is left.
+/// Makes a folder with `host.toml` and `disk.toml` in it, for a disk of this size. Fails if the folder exists, and
+/// leaves it as it is. If the folder can't be filled, it is removed again.
 pub(crate) fn make_folder<R: Files + RandomSource + Eprint + AllocGlobal>(
     rt: &R,
     folder: String,

@@ -16,7 +16,8 @@ use oram_state::{StateFault, decode_state};
 use std::alloc::Global;
 use std::rt::Files;
 
-/// The settings in the file of this name, where the name of the state's file is as seen from here.
+/// Reads the settings in the file `name`. In the result, the path of the state's file is as seen from the
+/// working directory, not from the folder of `name`.
 pub(crate) fn disk_settings_in<R: Files + AllocGlobal>(
     rt: &R,
     name: String,
@@ -37,7 +38,8 @@ pub(crate) fn disk_settings_in<R: Files + AllocGlobal>(
     }
 }
 
-/// All bytes of the file of this state, of the disk whose settings are in the other file. Where there is none, the disk isn't formatted yet.
+/// Reads the kept file `state` of the disk whose settings are in the file `settings`. Fails with
+/// [`FaultKind::Unformatted`] if there is no kept file.
 pub(crate) fn state_bytes<R: Files + AllocGlobal>(
     rt: &R,
     state: &str,
@@ -63,7 +65,7 @@ pub(crate) fn take_lock(rt: &HostRuntime, state: &str) -> Result<StateLock, Faul
     }
 }
 
-/// A fault of this kind of what has this name.
+/// Makes a fault of this kind about `name`.
 fn named(alloc: Global, kind: FaultKind, name: &str) -> Fault {
     match String::from_str(alloc, name) {
         Ok(name) => Fault::Of(kind, name),
@@ -71,7 +73,7 @@ fn named(alloc: Global, kind: FaultKind, name: &str) -> Fault {
     }
 }
 
-/// The core that a state tells of, which the file of this name holds.
+/// Decodes the core in `state`, which the file `name` holds.
 pub(crate) fn core_in<S: Sealer>(
     alloc: Global,
     sealer: S,
@@ -85,7 +87,7 @@ pub(crate) fn core_in<S: Sealer>(
     }
 }
 
-/// What the bytes of the file of this name keep of a disk.
+/// Reads the bytes of the kept file `name`.
 pub(crate) fn kept_in<'a>(
     alloc: Global,
     file: &'a [u8],
@@ -98,7 +100,7 @@ pub(crate) fn kept_in<'a>(
     }
 }
 
-/// The keys of the disk of this head, by the settings in the file of this name.
+/// Returns the keys of the disk with this head, from the key in the settings of the file `name`.
 pub(crate) fn keys_in(
     alloc: Global,
     settings: &DiskSettings,
@@ -111,7 +113,7 @@ pub(crate) fn keys_in(
     }
 }
 
-/// How a disk is sealed, in the words of its settings.
+/// Returns the word of the settings for a sealer.
 pub(crate) fn sealing_of(sealer: SealerKind) -> Sealing {
     match sealer {
         SealerKind::Plain => Sealing::Plain,
@@ -119,7 +121,7 @@ pub(crate) fn sealing_of(sealer: SealerKind) -> Sealing {
     }
 }
 
-/// What seals a disk whose settings say so.
+/// Returns the sealer for a word of the settings.
 pub(crate) fn sealer_of(sealing: Sealing) -> SealerKind {
     match sealing {
         Sealing::Plain => SealerKind::Plain,
@@ -127,7 +129,7 @@ pub(crate) fn sealer_of(sealing: Sealing) -> SealerKind {
     }
 }
 
-/// Refuses the settings in the file of this name where they aren't those that the disk of this device was formatted with.
+/// Fails if the settings in the file `name` aren't those that the disk was formatted with.
 pub(crate) fn check_settings(
     settings: &DiskSettings,
     device: &Device,

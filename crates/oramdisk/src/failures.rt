@@ -1,4 +1,5 @@
-//! Why a disk failed, in a file beside its state. The state itself stays as it was kept, so that the disk can be tried again.
+//! Keeps why a disk failed, in a file beside its state. The state itself stays as it was kept, so that the disk can be
+//! tried again.
 
 use oram_core::Reason;
 use oram_disk_host::{Fault, file_fault, time};
@@ -9,12 +10,12 @@ use std::fs;
 use std::io::ErrorKind;
 use std::rt::{Clock, Files};
 
-/// The name of the file that tells why the disk of a state failed.
+/// Returns the name of the file that says why the disk of a state failed.
 fn failure_name(alloc: Global, state: &str) -> Result<String, AllocError> {
     format!(in alloc; "{state}.failed")
 }
 
-/// Keeps why the disk of a state failed, and when.
+/// Saves why and when the disk of a state failed.
 pub(crate) fn keep_failure<R: Files + Clock + AllocGlobal>(
     rt: &R,
     state: &str,
@@ -27,7 +28,7 @@ pub(crate) fn keep_failure<R: Files + Clock + AllocGlobal>(
     KeptFile::new(alloc, failure_name(alloc, state)?)?.save_bytes(rt, text.as_bytes())
 }
 
-/// Why the disk of a state failed, and when, in a line; none where it has not.
+/// Returns the line that says why and when the disk of a state failed; `None` if it hasn't.
 pub(crate) fn kept_failure<R: Files + AllocGlobal>(
     rt: &R,
     state: &str,
@@ -40,7 +41,7 @@ pub(crate) fn kept_failure<R: Files + AllocGlobal>(
     }
 }
 
-/// Takes away what is kept of a failure. Tells whether there was any.
+/// Removes what is kept of a failure. Returns whether there was any.
 pub(crate) fn forget_failure<R: Files + AllocGlobal>(rt: &R, state: &str) -> Result<bool, Fault> {
     let name = failure_name(rt.alloc(), state)?;
     match fs::remove_file(rt, name.as_str()) {

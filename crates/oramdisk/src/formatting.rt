@@ -1,4 +1,4 @@
-//! A disk is formatted on its host.
+//! Formats a disk on its host.
 
 use crate::disk_files::{disk_settings_in, keys_in, sealer_of, take_lock};
 use crate::failures::forget_failure;
@@ -24,7 +24,8 @@ use std::random::RandomSource;
 use std::rt::Clock;
 use std::time::Instant;
 
-/// Tells on standard error how far a formatting is: on a terminal in one line that is written over, else in a line for each tenth.
+/// Prints on standard error how far a formatting is: on a terminal in one line that it overwrites, else in a new line
+/// for each tenth.
 #[derive(Drop)]
 struct Teller<'a, R> {
     rt: &'a R,
@@ -45,7 +46,7 @@ impl<'a, R: Clock> Teller<'a, R> {
 }
 
 impl<'a, R: Clock + Eprint + AllocGlobal> Teller<'a, R> {
-    /// Tells how many bytes go to the host at this address, before they do.
+    /// Prints how many bytes will go to the host at this address.
     fn begin(&self, stored: u64, host: &str) -> io::Result<()> {
         let text = begun_text(self.rt.alloc(), stored, host)?;
         self.rt.eprint(text.as_str())
@@ -76,7 +77,7 @@ impl<'a, R: Clock + Eprint + AllocGlobal> Progress for Teller<'a, R> {
     }
 }
 
-/// What a formatting's fault is to the program, where its host is at this address.
+/// Returns the program's fault for a formatting's fault, with the host's address.
 fn formatting_fault(fault: FormattingFault, host: String) -> Fault {
     let why = match fault {
         FormattingFault::Link => HostFault::OutOfReach,
@@ -88,7 +89,7 @@ fn formatting_fault(fault: FormattingFault, host: String) -> Fault {
     Fault::Of(FaultKind::Host(why), host)
 }
 
-/// What a connection that isn't made is to the program.
+/// Returns the program's fault for a connection that can't be made.
 fn unreached(error: &io::Error, host: String) -> Fault {
     match error.kind() {
         ErrorKind::OutOfMemory => Fault::OutOfMemory,
@@ -96,7 +97,7 @@ fn unreached(error: &io::Error, host: String) -> Fault {
     }
 }
 
-/// A device on the host at this address, whose records are so many bytes.
+/// Formats a device on the host at address `host`. Its records take `stored` bytes there.
 fn formatted<S: Sealer>(
     rt: &HostRuntime,
     device: Device,
@@ -126,7 +127,7 @@ fn formatted<S: Sealer>(
     }
 }
 
-/// A device is formatted, and its state kept for the first time.
+/// Formats a device, and keeps its state for the first time.
 fn format_with<S: Sealer>(
     rt: &HostRuntime,
     device: Device,
@@ -148,7 +149,7 @@ fn format_with<S: Sealer>(
     }
 }
 
-/// A salt that was never used.
+/// Draws a random salt.
 fn new_salt<R: RandomSource>(rt: &R) -> Result<Salt, Fault> {
     let mut salt = [0; 32];
     match rt.fill_bytes(&mut salt) {
@@ -157,7 +158,8 @@ fn new_salt<R: RandomSource>(rt: &R) -> Result<Salt, Fault> {
     }
 }
 
-/// Formats the disk whose settings are in the file of this name. A state that is there already is left as it is.
+/// Formats the disk whose settings are in the file `name`. Refuses a disk that already has a kept file, and leaves that
+/// as it is.
 pub(crate) fn format_disk(rt: &HostRuntime, name: String) -> Result<(), Fault> {
     let alloc = rt.alloc();
     let settings = disk_settings_in(rt, String::from_str(alloc, name.as_str())?)?;
@@ -173,7 +175,7 @@ pub(crate) fn format_disk(rt: &HostRuntime, name: String) -> Result<(), Fault> {
     if let Some(found) = kept_name(rt, alloc, settings.state.as_str())? {
         return Err(Fault::Of(FaultKind::Formatted, found));
     }
-    // One that a disk left which was taken away since says nothing of this one.
+    // A failure that an earlier disk left, which has been removed since, says nothing about this one.
     forget_failure(rt, settings.state.as_str())?;
     let sealer = sealer_of(settings.sealer);
     let head = Head::new(&DiskKey(settings.key), new_salt(rt)?, sealer);

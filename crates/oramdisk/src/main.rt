@@ -16,10 +16,10 @@ use oram_settings::{NoRequest, Words, read_words};
 use std::process::ExitCode;
 use std::rt::Env;
 
-/// What is told of a command line that is no text.
+/// The complaint about a command line that isn't text.
 const NO_TEXT: &str = "a word of the command line isn't text in UTF-8";
 
-/// What the words of the command line ask for.
+/// Reads what the command line asks for.
 fn asked<R: Env + AllocGlobal>(rt: &R) -> Result<Words, NoRequest> {
     let alloc = rt.alloc();
     let words = match arguments(rt) {
@@ -31,7 +31,7 @@ fn asked<R: Env + AllocGlobal>(rt: &R) -> Result<Words, NoRequest> {
     read_words(alloc, &texts)
 }
 
-/// Does what the words of the command line ask for.
+/// Does what the command line asks for.
 fn run(rt: &HostRuntime) -> Result<(), Fault> {
     match asked(rt) {
         Ok(Words::Host { settings, is_new }) => host(rt, settings, is_new),

@@ -1,4 +1,4 @@
-//! A disk is served to clients of NBD, one connection after the other.
+//! Serves a disk to NBD clients, one connection after the other.
 
 use crate::clients::{ClientAttendant, Parting};
 use crate::disk_files::{
@@ -25,10 +25,10 @@ use std::net::Net;
 use std::os::fd::AsRawFd;
 use std::rt::Clock;
 
-/// The name of the one export. Clients may also ask for it by no name.
+/// The name of the one export. Clients may also ask for it with an empty name.
 const EXPORT: &[u8] = b"disk";
 
-/// Tells on standard error when the host is lost or has no room, and when it answers again.
+/// Prints a line on standard error when the host is lost or has no room, and when it answers again.
 #[derive(Drop)]
 struct Teller<'a, R> {
     rt: &'a R,
@@ -58,7 +58,7 @@ impl<'a, R: Eprint + AllocGlobal> Watch for Teller<'a, R> {
     }
 }
 
-/// How the service of a client ended.
+/// How serving a client ended.
 #[derive(Clone, Copy)]
 struct Ended {
     served: Result<u64, NbdFault>,
@@ -66,7 +66,7 @@ struct Ended {
 }
 
 impl Ended {
-    /// Before anything was served.
+    /// Makes the end of a client that wasn't served at all because of `fault`.
     fn by(fault: NbdFault) -> Ended {
         Ended {
             served: Err(fault),
@@ -75,7 +75,7 @@ impl Ended {
     }
 }
 
-/// A connection to the disk that has ended is told in a line.
+/// Prints a line about a connection that has ended.
 fn tell_visit<R: Clock + Eprint + AllocGlobal>(
     rt: &R,
     peer: Peer,
@@ -132,7 +132,7 @@ fn receive<R: Net + Clock + Eprint + AllocGlobal, D: Disk>(
     }
 }
 
-/// Serves one client while the listener doesn't block, so that those who come meanwhile can be turned away.
+/// Serves one client with a listener that doesn't block, so that clients who come meanwhile can be turned away.
 fn receive_alone<R: Net + Clock + Eprint + AllocGlobal, D: Disk>(
     rt: &R,
     listener: &Listener,
@@ -147,7 +147,7 @@ fn receive_alone<R: Net + Clock + Eprint + AllocGlobal, D: Disk>(
     ended
 }
 
-/// Keeps why a disk failed in a file beside its state, and tells it on standard error.
+/// Keeps why a disk failed in a file beside its state, and prints it on standard error.
 #[derive(Drop)]
 struct FailureFile<'a> {
     rt: &'a HostRuntime,
@@ -168,13 +168,13 @@ impl<'a, S: Sealer, L: Link, K: Keeper, T: Tape> FailureKeeper<Volume<S, L, K, T
     for FailureFile<'a> {
     fn keep_failure(&mut self, volume: &Volume<S, L, K, T>) {
         if let Some(reason) = volume.core.failure() {
-            // Where it can't be kept, the next process finds the failure again.
+            // If it can't be kept, the next process finds the failure again.
             let _found_again = self.keep(reason);
         }
     }
 }
 
-/// Serves one client, and tells of it. Tells whether the disk has stopped.
+/// Serves one client, and prints a line about it. Returns whether the disk has stopped.
 fn visit<R: Net + Clock + Eprint + AllocGlobal, D: Disk>(
     rt: &R,
     listener: &Listener,
@@ -213,7 +213,7 @@ fn serve_all<R: Net + Clock + Eprint + AllocGlobal, D: Disk>(
     Ok(())
 }
 
-/// Tells where a disk is served, and serves it until it stops.
+/// Prints where a disk is served, and serves it until it stops.
 fn serve_clients<D: Disk>(rt: &HostRuntime, clients: &Clients, disk: &mut D) -> Result<(), Fault> {
     let size = disk.blocks().saturating_mul(u64::from(disk.block_bytes()));
     let line = serving_text(rt.alloc(), size, clients.uri.as_str())?;
@@ -221,10 +221,10 @@ fn serve_clients<D: Disk>(rt: &HostRuntime, clients: &Clients, disk: &mut D) -> 
     serve_all(rt, &clients.listener, disk)
 }
 
-/// The way to a disk's host.
+/// The link to a disk's host.
 type HostLink<'a> = PatientLink<TcpDialer<&'a HostRuntime>, Teller<'a, HostRuntime>>;
 
-/// A core behind its file, and behind a link to its host.
+/// A core with the keeper of its file and the link to its host.
 type DiskVolume<'a, S> = Volume<
     S,
     HostLink<'a>,
@@ -232,7 +232,7 @@ type DiskVolume<'a, S> = Volume<
     ChaChaTape,
 >;
 
-/// Why a disk stopped.
+/// Returns why a disk stopped.
 fn stopped<S: Sealer>(volume: &DiskVolume<'_, S>, settings: DiskSettings) -> Fault {
     if volume.keeper.failure().is_some() {
         Fault::Of(FaultKind::Unkept, settings.state)
@@ -244,8 +244,8 @@ fn stopped<S: Sealer>(volume: &DiskVolume<'_, S>, settings: DiskSettings) -> Fau
     }
 }
 
-/// Serves a disk until it stops, and tells why. Before anything else the host is asked whether it keeps this disk; then what waits from
-/// before is carried out.
+/// Serves a disk until it stops, and returns why. It first asks the host whether it keeps this disk, and then carries
+/// out the commands that wait from before.
 fn serve_volume<S: Sealer>(
     rt: &HostRuntime,
     settings: DiskSettings,
@@ -273,7 +273,7 @@ fn serve_volume<S: Sealer>(
     Err(stopped(&disk.disk, settings))
 }
 
-/// The link to the host that the settings name, where it keeps this disk.
+/// Makes the link to the host that the settings name. The link works only if that host keeps the disk with these keys.
 fn link_to<'a>(
     rt: &'a HostRuntime,
     settings: &DiskSettings,
@@ -320,9 +320,9 @@ fn serve_core<S: Sealer>(
 #[derive(Drop)]
 struct Clients {
     listener: Listener,
-    /// As clients are told of it.
+    /// The address that is printed for clients.
     uri: String,
-    /// The socket's file, where it isn't an address.
+    /// The path of the Unix socket, if clients connect to one.
     socket: Option<String>,
 }
 
@@ -352,7 +352,8 @@ fn at_socket(rt: &HostRuntime, path: String) -> Result<Clients, Fault> {
     }
 }
 
-/// Listens for clients where the settings in the file of this name say. A socket is named as in that file's folder.
+/// Listens for clients at `place`, which the settings in the file `name` give. The path of a socket is relative to that
+/// file's folder.
 fn clients_at(rt: &HostRuntime, place: &str, name: &str) -> Result<Clients, Fault> {
     match place.strip_prefix("unix:") {
         Some(path) => at_socket(rt, beside(rt.alloc(), name, path)?),
@@ -360,7 +361,8 @@ fn clients_at(rt: &HostRuntime, place: &str, name: &str) -> Result<Clients, Faul
     }
 }
 
-/// Serves the disk whose settings were read from the file of this name, until it stops. What waits from before is carried out first.
+/// Serves the disk whose settings were read from the file `name`, until it stops. It first carries out the commands
+/// that wait from before.
 fn serve_kept(
     rt: &HostRuntime,
     settings: DiskSettings,
@@ -387,9 +389,10 @@ fn serve_kept(
     }
 }
 
-/// Serves the disk whose settings are in the file of this name, until it stops.
+/// Serves the disk whose settings are in the file `name`, until it stops.
 ///
-/// No other process has the disk meanwhile, and clients can connect before the state is read: else an older state could be gone on from.
+/// It takes the lock and listens for clients before it reads the state. Otherwise another process could still advance
+/// the state, and this one would go on from an older one.
 pub(crate) fn serve_disk(rt: &HostRuntime, name: String) -> Result<(), Fault> {
     let alloc = rt.alloc();
     let settings = disk_settings_in(rt, String::from_str(alloc, name.as_str())?)?;
@@ -400,7 +403,7 @@ pub(crate) fn serve_disk(rt: &HostRuntime, name: String) -> Result<(), Fault> {
     let clients = clients_at(rt, settings.listen.as_str(), name.as_str())?;
     let ended = serve_kept(rt, settings, name, &clients);
     if let Some(path) = &clients.socket {
-        // One that stays is replaced by the next process.
+        // A socket that stays is replaced by the next process.
         let _passed_over = fs::remove_file(rt, path.as_str());
     }
     ended

@@ -1,4 +1,4 @@
-//! How a disk stands.
+//! Reports how a disk is, and lets a failed one be tried again.
 
 use crate::disk_files::{core_in, disk_settings_in, kept_in, state_bytes, take_lock};
 use crate::failures::{forget_failure, kept_failure};
@@ -9,10 +9,10 @@ use oram_settings::{report, status_of};
 use std::alloc::{AllocError, Global};
 use std::str;
 
-/// What is told of a kept failure that is no text.
+/// The report for a kept failure that isn't text.
 const UNREADABLE: &str = "it has failed\n";
 
-/// A report with why the disk failed in the place of how its kept state is.
+/// Returns the report with the reason why the disk failed in place of its state.
 fn with_failure(alloc: Global, report: &str, why: &str) -> Result<String, AllocError> {
     let front = match report.rsplit_once("state: ") {
         Some((front, _)) => front,
@@ -21,7 +21,7 @@ fn with_failure(alloc: Global, report: &str, why: &str) -> Result<String, AllocE
     format!(in alloc; "{front}state: {why}")
 }
 
-/// Tells how the disk stands whose settings are in the file of this name, as its kept state has it. It asks no host.
+/// Prints the report of the disk whose settings are in the file `name`, from its kept state. It doesn't ask the host.
 pub(crate) fn tell(rt: &HostRuntime, name: String) -> Result<(), Fault> {
     let alloc = rt.alloc();
     let settings = disk_settings_in(rt, String::from_str(alloc, name.as_str())?)?;
@@ -30,7 +30,7 @@ pub(crate) fn tell(rt: &HostRuntime, name: String) -> Result<(), Fault> {
     let kept = kept_in(alloc, file.as_slice(), name)?;
     let status = match kept.head.sealer {
         SealerKind::Plain => status_of(&core_in(alloc, PlainSeal, kept.state, name)?),
-        // Nothing is opened, so any key will do.
+        // No bucket is opened, so any key will do.
         SealerKind::ChaCha20 => {
             let sealer = ChaChaSeal { key: [0; 32] };
             status_of(&core_in(alloc, sealer, kept.state, name)?)
@@ -49,8 +49,8 @@ pub(crate) fn tell(rt: &HostRuntime, name: String) -> Result<(), Fault> {
     Ok(())
 }
 
-/// Has the disk tried again that has failed and whose settings are in the file of this name: the next process that serves it goes on
-/// from its kept state.
+/// Lets the failed disk whose settings are in the file `name` be tried again: the next process that serves it goes on
+/// from its kept state. Fails with [`FaultKind::NotFailed`] if the disk hasn't failed.
 pub(crate) fn retry(rt: &HostRuntime, name: String) -> Result<(), Fault> {
     let alloc = rt.alloc();
     let settings = disk_settings_in(rt, name)?;

@@ -1,4 +1,4 @@
-//! A disk whose failure is kept before it is told of.
+//! A disk that keeps its failure before it reports it.
 
 ghost use Rattle.std.specs.Prelude.{◌≡◌};
 
@@ -7,11 +7,11 @@ use std::alloc::Global;
 
 /// Keeps that a disk has failed.
 pub(crate) trait FailureKeeper<D> {
-    /// Keeps why the disk failed. It is called once, by whoever finds that it has.
+    /// Keeps why the disk failed. Called once, by whoever finds that it has.
     fn keep_failure(&mut self, disk: &D);
 }
 
-/// A disk that hands its failure to a keeper before it tells anybody of it.
+/// A disk that hands its failure to a keeper before it reports it to anybody.
 #[derive(Drop)]
 pub(crate) struct WatchedDisk<D: Disk, F: FailureKeeper<D>> {
     pub(crate) disk: D,
@@ -20,7 +20,7 @@ pub(crate) struct WatchedDisk<D: Disk, F: FailureKeeper<D>> {
 }
 
 impl<D: Disk, F: FailureKeeper<D>> WatchedDisk<D, F> {
-    /// Has a failure kept that wasn't yet.
+    /// Hands a failure to the keeper, if it hasn't done so yet.
     pub(crate) fn watch(&mut self)
         ensures { self.new.disk ≡ self.old.disk }
     {

@@ -1,4 +1,4 @@
--- What the host answers, and what a machine makes of it.
+-- The host's answer, and the machine after it.
 use Rattle.std.proofs.Common.{◌≡◌, ◌<◌, true, ℕ, List, Option, refl, ap, ◌∙◌, subst}
 use Rattle.std.specs.Prelude.{is_some}
 use Rattle.oram_host.specs.Host.{Host}
@@ -12,7 +12,7 @@ use Rattle.oramsim.specs.declared.line.Line.TheVariants.{Late}
 use Rattle.oramsim.specs.declared.machine.Machine.{Machine}
 use Rattle.oramsim.proofs.Faithful.{late_honest, reply_honest}
 
--- the host has had the outstanding message, and the rest of the machine is as it was
+-- The host has received the outstanding message, and the rest of the machine is as it was.
 pub record IsHeard (m n : Machine) (bytes : List ℕ) : Type 0 where
   pub replies : HostAnswers m.server m.outstanding bytes n.server
   pub core : n.core ≡ m.core
@@ -50,7 +50,7 @@ pub answer_lost : (r : Running) (m n k : Machine) (bytes : List ℕ) (old new : 
 answer_lost r m n k bytes old new w f h q =
     (after_turn (with_host r n.server) Lost q.0, (bytes, n.server, replies_as r m n bytes f h, (q.0, refl)), q.1, λ faithful. q.2 r.host (late_at r m n bytes w f h) (rw h.core faithful))
 
--- how many answers are wanted, told of the machine before the host had the message
+-- Fewer answers are needed than the machine needed before the host received the message.
 pub fewer_as : (m n k : Machine) → n.core ≡ m.core → n.outstanding ≡ m.outstanding
     → (true ≡ true → is_some n.outstanding ≡ true → answers_left k.core.device k.core.state k.outstanding < answers_left n.core.device n.core.state n.outstanding)
     → is_some m.outstanding ≡ true → answers_left k.core.device k.core.state k.outstanding < answers_left m.core.device m.core.state m.outstanding

@@ -1,4 +1,4 @@
--- Texts in which no line tells of a failure.
+-- Texts in which no line reports a failure.
 use Rattle.std.proofs.Common.{◌≡◌, ◌≢◌, ◌≤◌, ℕ, zero, suc, ◌/◌, ◌%◌, Bool, true, false, List, [], ◌∷◌, ◌++◌, get_or, map, take, refl, sym, ap, ◌∙◌, subst, arith, append_assoc, append-nil}
 use Rattle.std.specs.Prelude.{◌==◌, not, nat_le, nat_lt, if◌then◌else◌, codes, length, slice_index, slice_range}
 use Rattle.std.specs.Fmt.{decimal, digits, digits_onto, digit_glyph}
@@ -22,7 +22,7 @@ use Rattle.oramsim.specs.Reading.{lines_of, onto_line}
 use Rattle.oramsim.specs.Script.{HasNoFailure, IsBeginning, Turn}
 use Rattle.oramsim.proofs.Numbers.{both_true}
 
--- no line ends in these bytes
+-- No line ends in these bytes.
 record Ink (bytes : List ℕ) : Type 0 where
   each : AllByRecursion (λ c. c ≢ 10) bytes
 
@@ -82,7 +82,7 @@ lines_ink (x ∷ l) rest p =
     let same : (x == 10) ≡ false = false_from_ne_true (x == 10) (λ e. p.0 (eqb-true x 10 e)) in
     rw (same, lines_ink l rest p.1) refl
 
--- whatever it stands before, no line of it tells of a failure
+-- Whatever text follows, no line of this one reports a failure.
 pub record Clean (text : List ℕ) : Type 0 where
   pub before : (rest : List ℕ) → HasNoFailure rest → HasNoFailure (text ++ rest)
 
@@ -177,7 +177,7 @@ error_clean n = clean_line (codes "error line " ++ decimal n) 114 (joined (said 
 pub memory_clean : Clean memory_text
 memory_clean = clean_line (codes "out of memory") 117 (said (codes "out of memory") refl) refl (omega arith)
 
--- each of these lines is a beginning of one of those, in their order
+-- Each of these lines is a beginning of one of the others, in their order.
 abbrev Begin : List (List ℕ) → List (List ℕ) → Type 0
 Begin [] whole = Unit {0}
 Begin (line ∷ lines) [] = ⊥
@@ -218,6 +218,6 @@ begins_unfailed (line ∷ lines) (full ∷ whole) h all = (
   begins_unfailed lines whole h.1 all.1,
 )
 
--- no failure is told by a beginning of a text that tells none
+-- If no line of a text reports a failure, no line of a beginning of it does.
 pub beginning_unfailed : (text whole : List ℕ) → IsBeginning text whole → HasNoFailure whole → HasNoFailure text
 beginning_unfailed text whole b h = subst HasNoFailure (sym b.1) (begins_unfailed (lines_of (take b.0 whole)) (lines_of whole) (begin_lines b.0 whole) h)

@@ -1,4 +1,4 @@
--- The run of a script that is given up.
+-- A script's run that is given up.
 use Rattle.std.proofs.Common.{◌≡◌, ◌≢◌, ◌⊎◌, inl, inr, ℕ, ◌+◌, ◌<◌, Bool, false, List, [], ◌∷◌, ◌++◌, length, take, take_all, Option, Some, None, Result, Ok, Err, IfSome, refl, sym, ap, ◌∙◌, subst, append_assoc, append-nil, arith}
 use Rattle.std.specs.Prelude.{◌==◌, IfOk, IfErr, ⊤}
 use Rattle.std.specs.Io.BufRead.{take_through, drop_through, strip_last, DropsThrough}
@@ -29,12 +29,12 @@ use Rattle.oramsim.proofs.Passing.{Came, all_split, came_clean, head_passed, pas
 use Rattle.oramsim.proofs.Started.{nothing_shown}
 use Rattle.oramsim.proofs.Writes.{Appends-kept}
 
--- memory ran out before anything of a line was written
+-- Memory ran out before anything of a line was written.
 pub stays_at : (p : Point) (m : Option Machine) (Unmeddled : Type 0) (To : Point → Type 0) (old new : Option (List ℕ)) → StandsAt p.stage m → (Unmeddled → IsCalmAt p.stage) → To p → new ≡ old
     → GivesUpAt p Unmeddled To OutOfMemory old new
 stays_at p m Unmeddled To old new f calm to same = (p, to, run_done p.stage m f, calm, none_told (text_at p) old new same)
 
--- the point before a device
+-- the point before there is a device
 abbrev pub behind : List ℕ → Point
 behind head = record { stage = None; head = head }
 
@@ -62,15 +62,15 @@ faulted_cut head made fault e old new is wrote write =
     let cut : GivesUpAt (behind head) ⊤ (λ u. (u ≡ behind head) ⊎ Starts head made u) Write old new = (q, inr to, tt, (λ on. tt), (text, take wrote.0 text, more, (wrote.0, refl), wrote.1)) in
     subst (λ (f : SimFault). GivesUpAt (behind head) ⊤ (λ u. (u ≡ behind head) ⊎ Starts head made u) f old new) (sym write) cut
 
--- where a line may lead to before it is passed, and where it leads to then
+-- the points within a line and after it
 abbrev pub Leads : Point → List ℕ → Point → Type 0
 Leads p bytes q = IsPassed p bytes q ⊎ IsWithin p (bytes ∷ []) q
 
--- nothing meddled up to the line, nor does the line
+-- Nothing meddled before the line, and the line doesn't either.
 abbrev pub IsUnmeddledAt : Point → Option Machine → List ℕ → Type 0
 IsUnmeddledAt p from bytes = IsHarmless (line_of bytes) × IsFaithfulAt p.stage from
 
--- a device gave up within a line
+-- A device gave up within a line.
 obeyed_at : (stage : Stage) (head : List ℕ) (m : Machine) (bytes : List ℕ) (line : Line) (result : Result Bool SimFault) (old new : Option (List ℕ)) →
     ((r : Running) → IsAtRun r m → IfErr result (λ e. GivesUp r (IsUnmeddled r m.core.state line) (IsUnder r line) e old new))
     → (length bytes == 0) ≡ false → line_of bytes ≡ Some line → StandsAt stage (Some m)
@@ -97,7 +97,7 @@ obeyed_cut p from m bytes line result old new cut some e is f =
     subst (λ (o : Option Machine). IfErr result (λ u. GivesUpAt p (IsUnmeddledAt p o bytes) (Leads p bytes) u old new)) (sym is)
     (obeyed_at p.stage p.head m bytes line result old new cut some e (subst (StandsAt p.stage) is f))
 
--- no device came of a line
+-- A line made no device.
 started_at : (stage : Stage) (head : List ℕ) (from : Option Machine) (bytes : List ℕ) (blocks block_bytes slots top lifetime : ℕ) (made : Result Sizes ShapeFault) (fault : SimFault) (old new : Option (List ℕ)) →
     made ≡ device_of (record { blocks = blocks; block_bytes = block_bytes; slots = slots; top = top; lifetime = lifetime })
     → ((h : List ℕ) → GivesUpAt (behind h) ⊤ (λ q. (q ≡ behind h) ⊎ Starts h made q) fault old new)
@@ -123,7 +123,7 @@ within_self : (p : Point) (ls : List (List ℕ)) → IsWithin p ls p
 within_self p [] = refl
 within_self p (l ∷ ls) = inl refl
 
--- where the lines passed lead to
+-- the point after the lines that were passed
 passed_reaches : (input : List ℕ) (rest : List (List ℕ)) (q : Point) → HasPassed input rest q → GetsTo input q
 passed_reaches input rest q h = (q, rest, h, within_self q rest, h.right)
 
@@ -135,7 +135,7 @@ front_of input rest q OutOfMemory h = (q, passed_reaches input rest q h, refl)
 front_of input rest q Read h = (rest, q, h, refl)
 front_of input rest q Write h = whole_due input (text_at q) (inl (q, passed_reaches input rest q h, inl refl))
 
--- no failure is told by a clean text, nor behind it that memory ran out
+-- A clean text reports no failure, and neither does `out of memory` after it.
 clean_front : (e : SimFault) (text : List ℕ) → Clean text → HasNoFailure (told_at e text)
 clean_front OutOfMemory text clean = clean_text (text ++ memory_text) (clean_append text memory_text clean memory_clean)
 clean_front Read text clean = clean_text text clean
@@ -144,11 +144,11 @@ clean_front Write text clean = clean_text text clean
 here : (input : List ℕ) (left old new : Option (List ℕ)) (number : ℕ) (m : Option Machine) → (came : Came input left old new number m) → HasPassed input (lines_of came.rest) came.point
 here input left old new number m came = record { lines = came.lines; split = came.split; passed = came.passed; right = run_done came.point.stage m came.stands }
 
--- the lines that were passed meddle no more than the script
+-- The lines that were passed meddle no more than the script.
 before_rest : (input : List ℕ) (lines rest : List (List ℕ)) → lines_of input ≡ lines ++ rest → IsHarmlessScript input → AllByRecursion (λ bytes. IsHarmless (line_of bytes)) lines
 before_rest input lines rest split harmless = (all_split (λ b. IsHarmless (line_of b)) lines rest (subst (AllByRecursion (λ b. IsHarmless (line_of b))) split harmless)).0
 
--- the run was given up between two lines
+-- The run was given up between two lines.
 pub cut_here : (all left old mid new : Option (List ℕ)) (number : ℕ) (m : Option Machine) (e : SimFault) → IfSome all (λ input. Came input left old mid number m) → Keeps mid new
     → IsGivingUp all old new e
 cut_here None left old mid new number m e came keeps = tt
@@ -159,7 +159,7 @@ cut_here (Some input) left old mid new number m e came keeps = (
   Appends-kept old mid new (text_at came.point) came.wrote keeps,
 )
 
--- what was written is written out
+-- What was written is flushed.
 pub came_kept : (all left old mid new : Option (List ℕ)) (number : ℕ) (m : Option Machine) → IfSome all (λ input. Came input left old mid number m) → Keeps mid new → IfSome all (λ input. Came input left old new number m)
 came_kept None left old mid new number m came keeps = tt
 came_kept (Some input) left old mid new number m came keeps = record {
@@ -176,7 +176,7 @@ came_kept (Some input) left old mid new number m came keeps = record {
   faithful = came.faithful;
 }
 
--- a beginning of what comes behind a text
+-- a beginning of what follows a text
 beginning_behind : (a b part out : List ℕ) → b ≡ a ++ out → IsBeginning part out → IsBeginning (a ++ part) b
 beginning_behind a b part out e h = (length a + h.0, ap (λ l. a ++ l) h.1 ∙ (sym (take-append-add a out h.0) ∙ ap (take (length a + h.0)) (sym e)))
 
@@ -191,13 +191,13 @@ clean_part p q Read out part clean eq left = absurd left
 clean_part p q Write out part clean eq left =
     beginning_unfailed (text_at p ++ part) (text_at q) (beginning_behind (text_at p) (text_at q) part out eq left) (clean_text (text_at q) clean)
 
--- what was printed before the device's turns is clean wherever a line leads
+-- What was printed before the device's turns is clean wherever a line leads.
 head_leads : (p q : Point) (bytes : List ℕ) → Leads p bytes q → Clean p.head → Clean q.head
 head_leads p q bytes (inl passes) clean = head_passed p q bytes passes clean
 head_leads p q bytes (inr (inl same)) clean = subst (λ (u : Point). Clean u.head) (sym same) clean
 head_leads p q bytes (inr (inr within)) clean = subst (λ (u : Point). Clean u.head) (sym within.6) clean
 
--- the lines before this one are passed
+-- The lines before this one are passed.
 abbrev Split : List ℕ → List (List ℕ) → List ℕ → List ℕ → Type 0
 Split input lines bytes rest = lines_of input ≡ lines ++ bytes ∷ lines_of rest
 
@@ -215,7 +215,7 @@ split_at input left later old mid number m line bytes came e drops some cut =
     let read = read_rest left later line came.rest e drops came.known in
     came.split ∙ ap (λ l. came.lines ++ l) (lines_first came.rest line read.0 some ∙ ap (λ b. b ∷ lines_of (drop_through 10 came.rest)) (sym cut))
 
--- the run was given up within a line
+-- The run was given up within a line.
 pub cut_within : (all left later old mid new : Option (List ℕ)) (number : ℕ) (m : Option Machine) (line bytes : List ℕ) (e : SimFault) →
     IfSome all (λ input. Came input left old mid number m) → IfSome left (λ xs. line ≡ take_through 10 xs) → DropsThrough left later 10 → 0 < length line → bytes ≡ strip_last 10 line
     → ((p : Point) → StandsAt p.stage m → GivesUpAt p (IsUnmeddledAt p m bytes) (Leads p bytes) e mid new)
@@ -235,7 +235,7 @@ cut_within (Some input) left later old mid new number m line bytes e came has dr
       Appends-trans old mid new (text_at p) g.4.1 came.wrote g.4.4,
     )
 
--- the line of an error was told in part
+-- The error line was written in part.
 pub cut_error : (all left later old mid next new : Option (List ℕ)) (number : ℕ) (m : Option Machine) (line bytes : List ℕ) (e : SimFault) →
     IfSome all (λ input. Came input left old mid number m) → IfSome left (λ xs. line ≡ take_through 10 xs) → DropsThrough left later 10 → 0 < length line → bytes ≡ strip_last 10 line
     → ((p : Point) → StandsAt p.stage m → IsBad p.stage bytes × (next ≡ mid)) → IsUntold e (error_text (number + 1)) next new
@@ -265,23 +265,23 @@ cut_error (Some input) left later old mid next new number m line bytes Write cam
       Appends-trans old next new (text_at p) told.0 (subst (λ w. Appends old w (text_at p)) (sym b.1) came.wrote) told.2,
     )
 
--- at a fault that is known
+-- a fault that is known
 pub giving_up_as : (all old new : Option (List ℕ)) (e : SimFault) → e ≡ OutOfMemory → IsGivingUp all old new e → IsGivingUp all old new OutOfMemory
 giving_up_as all old new e same front = subst (IsGivingUp all old new) same front
 
--- nothing more is to be told at the other faults
+-- At the other faults, nothing more has to be printed.
 pub all_told : (all old new : Option (List ℕ)) (e : SimFault) → e ≢ OutOfMemory → IsGivingUp all old new e → HasGivenUp all old new e
 all_told None old new e other front = tt
 all_told (Some input) old new OutOfMemory other front = absurd (other refl)
 all_told (Some input) old new Read other front = front
 all_told (Some input) old new Write other front = front
 
--- that memory ran out was told
+-- `out of memory` was printed,
 pub memory_told : (all old mid new : Option (List ℕ)) → IsGivingUp all old mid OutOfMemory → Appends mid new memory_text → HasGivenUp all old new OutOfMemory
 memory_told None old mid new front told = tt
 memory_told (Some input) old mid new front told = (front.0 ++ memory_text, front.1, front.2, Appends-trans old mid new front.0 memory_text front.3 told)
 
--- or a beginning of it
+-- or a beginning of it.
 pub memory_cut : (all old mid new : Option (List ℕ)) (e : SimFault) → IsGivingUp all old mid OutOfMemory → (k : ℕ) × Appends mid new (take k memory_text) → e ≡ Write → HasGivenUp all old new e
 memory_cut None old mid new e front told write = tt
 memory_cut (Some input) old mid new e front told write =
@@ -305,7 +305,7 @@ script_due input text End c =
     whole_due input text (inl (c.0, passed_reaches input [] c.0 (record { lines = lines_of input; split = sym (append-nil (lines_of input)); passed = c.1; right = c.2 }), inl c.3))
 script_due input text (BadLine n) c = whole_due input text (inr (n, c))
 
--- what was written can't be written out
+-- What was written can't be flushed.
 pub unflushed : (all old mid new : Option (List ℕ)) (ended : Result Ending SimFault) (e : SimFault) → IfOk ended (λ ending. HasEnded all old mid ending) → IfErr ended (λ f. HasGivenUp all old mid f)
     → Keeps mid new → e ≡ Write → HasGivenUp all old new e
 unflushed None old mid new ended e ok err keeps write = tt
@@ -314,7 +314,7 @@ unflushed (Some input) old mid new (Ok ending) e ok err keeps write =
 unflushed (Some input) old mid new (Err f) e ok err keeps write =
     (err.0, subst (IsCutText input err.0) (sym write) (cut_due input err.0 f err.1), err.2, Appends-kept old mid new err.0 err.3 keeps)
 
--- a text that was given up in writing
+-- a text whose writing was given up
 pub untold : {T : Type 0} (result : Result T SimFault) (shown text : List ℕ) (old new : Option (List ℕ)) → shown ≡ text → (k : ℕ) × Appends old new (take k shown) → IfErr result (λ e. e ≡ Write)
     → IfErr result (λ e. IsUntold e text old new)
 untold (Ok t) shown text old new same cut write = tt

@@ -50,7 +50,7 @@ stays_faithful r m e x sent t f played before honest h =
       hosts = k.hosts;
     }
 
--- an event that isn't an answer, of which the host hears nothing
+-- an event that isn't an answer, and so doesn't reach the host
 pub unheard : (now : Status) (last : List ℕ) (e : Event) (host : Host) → is_answer e ≡ false → IsHonest now last e host host
 unheard Waiting last (Submit s c w) host off = refl
 unheard Waiting last (Answer bytes) host off = cc
@@ -89,7 +89,7 @@ pub late_honest : (s : State) (message : Option (List ℕ)) (bytes : List ℕ) (
 late_honest s None bytes host after w same r = idle_host (status_in s) s.last Lost host after (sym w) r.1
 late_honest s (Some m) bytes host after w same r = late_waiting (status_in s) s.last bytes m host after (sym w) same r
 
--- what was shown is right
+-- What was shown is right.
 along : (v : Setting) (s t : State) (turns : List Turn) → FoldsTo (λ a (u : Turn) b. StepsByRule v.shape a u.event u.shown b) s turns t
     → StepsAlong v.shape s (map (λ (u : Turn). u.event) turns) (map (λ (u : Turn). u.shown) turns)
 along v s t [] run = tt

@@ -1,4 +1,4 @@
--- The first field of what is left of a line.
+-- The first field of the rest of a line.
 use Rattle.std.proofs.Common.{◌≡◌, ℕ, ◌+◌, ◌-◌, ◌≤◌, Bool, true, false, List, [], ◌∷◌, length, length-drop, take, take_all, drop, Some, None, refl, sym, ap, ◌∙◌, subst, arith}
 use Rattle.std.specs.Prelude.{◌==◌, cond, position}
 use Rattle.std.specs.List.{onto_first, position_or_len}
@@ -26,11 +26,11 @@ whole : (bs : List ℕ) → length bs ≤ position_or_len is_space bs → fields
 whole [] h = refl
 whole (x ∷ xs) h = whole_at (x == 32) x xs refl (whole xs) h
 
--- without a space the whole is one field
+-- Without a space, the whole rest is one field.
 pub one_field : (bs : List ℕ) → position is_space bs ≡ None → fields_of bs ≡ bs ∷ []
 one_field bs e = whole bs (ltb-false _ _ (lost _ _ e))
 
--- with one, the first field ends there
+-- With a space, the first field ends there.
 pub first_field : (bs : List ℕ) (at : ℕ) → position is_space bs ≡ Some at → fields_of bs ≡ take at bs ∷ fields_of (take (length bs - (at + 1)) (drop (at + 1) bs))
 first_field bs at e =
     let f = found _ _ at e in

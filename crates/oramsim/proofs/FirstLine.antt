@@ -1,4 +1,4 @@
--- The first line of what is left of a script.
+-- The first line of the rest of a script.
 use Rattle.std.proofs.Common.{◌≡◌, ◌≢◌, ℕ, zero, suc, ◌+◌, ◌-◌, ◌<◌, ◌⊎◌, inl, inr, Bool, true, false, List, [], ◌∷◌, ◌++◌, length, length-append, get_or, take, refl, sym, ap, ◌∙◌, arith}
 use Rattle.std.specs.Prelude.{◌==◌, nat_lt, if◌then◌else◌}
 use Rattle.std.specs.Io.BufRead.{take_through, drop_through, ends_with_byte, strip_last}
@@ -65,7 +65,7 @@ stripped xs = elim (through xs) [
   | inr h ↦ ap (strip_last 10) h ∙ stripped_none (first_of xs) (first_no_ten xs)
 ]
 
--- what is read of a rest that isn't empty is its first line
+-- What is read of a rest that isn't empty is its first line.
 pub lines_first : (rest line : List ℕ) → line ≡ take_through 10 rest → 0 < length line → lines_of rest ≡ strip_last 10 line ∷ lines_of (drop_through 10 rest)
 lines_first [] line e some = absurd (omega (arith, ap length e))
 lines_first (x ∷ xs) line e some = first_line (x == 10) x xs refl ∙ ap (λ l. l ∷ lines_of (drop_through 10 (x ∷ xs))) (sym (ap (strip_last 10) e ∙ stripped (x ∷ xs)))

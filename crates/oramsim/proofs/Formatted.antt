@@ -1,4 +1,4 @@
--- A device just formatted.
+-- A device that has just been formatted.
 use Rattle.std.proofs.Common.{◌≡◌, ◌<◌, ◌*◌, [], None, replicate, refl, sym, ap, subst, arith}
 use Rattle.oram_geometry.specs.declared.Sizes.{Sizes}
 use Rattle.oram_geometry.specs.Sizes.{IsDevice, trees_of}
@@ -38,7 +38,7 @@ new_run d m from is device empty k out copy =
       rw k.state (record { calm = tt; alive = refl; world = world_of v []; array = λ a. replicate d.block_bytes 0; serving = new.serving; hosts = new.hosts }),
     )
 
--- a formatting of a host that keeps nothing is broken off for want of memory alone
+-- A formatting on a host that keeps nothing is broken off only if memory runs out.
 pub room_alone : (d : Sizes) (from to : Host) (fault : FormatFault) → IsDevice d → from ≡ [] → IsBrokenOff Takes Refusing (IsFormatBegun (plain_shape d)) from fault to → fault ≡ formatting.OutOfMemory
 room_alone d from to fault is empty broken =
     broken_off_for_room (plain_shape d) fault to is (omega arith) (subst (λ (h : Host). IsBrokenOff Takes Refusing (IsFormatBegun (plain_shape d)) h fault to) empty broken)

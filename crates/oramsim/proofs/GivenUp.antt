@@ -27,12 +27,12 @@ pub if_err : {T : Type 0} (P Q : SimFault → Type 0) (r : Result T SimFault) �
 if_err P Q (Ok x) f p = tt
 if_err P Q (Err e) f p = f e p
 
--- the fault that a `?` makes
+-- the fault that a `?` raises
 pub raised : {T : Type 0} (P : SimFault → Type 0) (r : Result T SimFault) (x : SimFault) → IsErrAnd r (λ e. e ≡ x) → P x → IfErr r P
 raised P (Ok t) x same p = tt
 raised P (Err e) x same p = subst P (sym same) p
 
--- nothing is written behind a point, where memory ran out
+-- Nothing is written after a point at which memory ran out.
 pub none_told : (a : List ℕ) (old new : Option (List ℕ)) → new ≡ old → TellsPart OutOfMemory a a old new
 none_told a old new same = ([], [], sym (append-nil a), refl, subst (λ w. Appends old w []) (sym same) (Appends-nil old))
 
@@ -41,20 +41,20 @@ left_more OutOfMemory o out part h = ap (λ l. o ++ l) h
 left_more Write o out part h = (length o + h.0, ap (λ l. o ++ l) h.1 ∙ sym (take-append-add o out h.0))
 left_more Read o out part h = absurd h
 
--- what was told before, and then a part
+-- What was printed before, and then a part.
 pub told_before : (e : SimFault) (a b c : List ℕ) (old mid new : Option (List ℕ)) → Prints a b old mid → TellsPart e b c mid new → TellsPart e a c old new
 told_before e a b c old mid new p q =
     (p.0 ++ q.0, p.0 ++ q.1, q.2 ∙ (ap (λ l. l ++ q.0) p.1 ∙ append_assoc a p.0 q.0), left_more e p.0 q.0 q.1 q.3, Appends-trans old mid new p.0 q.1 p.2 q.4)
 
--- behind a head that was printed before
+-- The same after a head that was printed before.
 pub told_behind : (e : SimFault) (head a b : List ℕ) (old new : Option (List ℕ)) → TellsPart e a b old new → TellsPart e (head ++ a) (head ++ b) old new
 told_behind e head a b old new p = (p.0, p.1, ap (λ l. head ++ l) p.2 ∙ sym (append_assoc head a p.0), p.3, p.4)
 
--- memory ran out before anything was written
+-- Memory ran out before anything was written.
 pub stays : (r : Running) (m : Machine) (Unmeddled : Type 0) (To : Running → Type 0) (old new : Option (List ℕ)) → IsAtRun r m → (Unmeddled → IsCalm r) → To r → new ≡ old → GivesUp r Unmeddled To OutOfMemory old new
 stays r m Unmeddled To old new f calm to same = (r, to, run_right r m f, calm, none_told (stage_text (Some r)) old new same)
 
--- where the host hears nothing of an event
+-- An event that doesn't reach the host.
 pub honest_unheard : (r : Running) (s : State) (ev : Event) → is_answer ev ≡ false → IsFaithful r s → IsHonestAt r s ev
 honest_unheard r s ev off h = (r.host, unheard (status_in s) s.last ev r.host off, h)
 
@@ -98,11 +98,11 @@ drain_cut r mid s m e old between new xs folds gone some on q = (q.0, come q.0 q
   come later (inl same) = (xs, subst (FoldsTo IsDrained r xs) (sym same) folds)
   come later (inr a) = (xs ++ a.0 ∷ [], FoldsTo-push IsDrained r xs mid a.0 later folds (some_there m.outstanding mid.message some gone.0.message, a.1))
 
--- of a line that is `told`
+-- The line is `told`.
 under_as : (r : Running) (l told : Line) (later : Running) → l ≡ told → IsUnder r told later → IsUnder r l later
 under_as r l told later e q = subst (λ (k : Line). IsUnder r k later) (sym e) q
 
--- nothing meddled up to the line, nor does the line
+-- Nothing meddled before the line, and the line doesn't either.
 abbrev pub IsUnmeddled : Running → State → Line → Type 0
 IsUnmeddled r s l = (is_meddling l ≡ false) × IsFaithful r s
 

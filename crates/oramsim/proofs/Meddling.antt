@@ -1,4 +1,4 @@
--- A host that is kept, put back or changed.
+-- A host that is kept, restored or changed.
 use Rattle.std.proofs.Common.{◌≡◌, ℕ, Bool, true, false, Some, refl, sym, ap, ◌∙◌, subst}
 use Rattle.std.specs.Prelude.{MatchBool}
 use Rattle.oram_host.specs.Host.{Host}

@@ -1,4 +1,4 @@
--- What a line has done.
+-- The effect of a line.
 use Rattle.std.proofs.Common.{◌≡◌, ℕ, Bool, true, false, List, Option, Some, None, Result, Ok, refl, sym, ap, ◌∙◌, subst}
 use Rattle.std.specs.Prelude.{MatchBool}
 use Rattle.std.specs.List.{FoldsTo}
@@ -16,7 +16,7 @@ use Rattle.oramsim.specs.declared.script.SimFault.{SimFault}
 use Rattle.oramsim.proofs.Faithful.{unheard}
 use Rattle.oramsim.proofs.Turning.{silent}
 
--- the run goes on as the line says
+-- The run goes on as the line says.
 abbrev pub Obeyed : Running → State → Line → Machine → Option (List ℕ) → Option (List ℕ) → Type 0
 Obeyed r s line m old new = (later : Running) × Obeys r line later × RunsOn r later m old new × (is_meddling line ≡ false → IsFaithful r s → IsFaithful later m.core.state)
 
@@ -67,7 +67,7 @@ pub restore_obeyed : (r : Running) (s : State) (line : Line) (m : Machine) (old 
     → (later : Running) × Obeys r Restore later × IsAtRun later m → Obeyed r s line m old old
 restore_obeyed r s line m old is q = as_line r s line Restore m old old is (q.0, q.1, same_text r q.0 Restore m old q.2 _ q.1.2 refl, λ calm. refused true calm refl)
 
--- what a test's answer tells
+-- what the answer of a test means
 pub when_true : (P Q : Type 0) (b : Bool) (r : Result Bool SimFault) → r ≡ Ok b → MatchBool b P Q → r ≡ Ok true → P
 when_true P Q true r e m on = m
 when_true P Q false r e m on = absurd (let both : Ok false ≡ Ok true = sym e ∙ on in cc)

@@ -24,7 +24,7 @@ use Rattle.oramsim.specs.declared.machine.Machine.{Machine}
 use Rattle.oramsim.specs.declared.script.Ending.TheVariants.{End, BadLine}
 use Rattle.oramsim.specs.declared.script.SimFault.{SimFault}
 
--- a line was passed, and the run goes on
+-- A line was passed, and the run goes on.
 abbrev pub Passed : Point → List ℕ → Option Machine → Option Machine → Option (List ℕ) → Option (List ℕ) → Type 0
 Passed p bytes from m old new = (q : Point) × IsPassed p bytes q × RunsOnAt p q m old new × (IsHarmless (line_of bytes) → IsFaithfulAt p.stage from → IsFaithfulAt q.stage m)
 
@@ -46,7 +46,7 @@ no_text p old = ([], sym (append-nil (text_at p)), Appends-nil old)
 pub empty_passed : (p : Point) (m : Option Machine) (bytes : List ℕ) (old : Option (List ℕ)) → (length bytes == 0) ≡ true → StandsAt p.stage m → Passed p bytes m m old old
 empty_passed p m bytes old e f = (p, passes_empty p bytes e, (f, no_text p old), λ harmless h. h)
 
--- a device obeyed a line
+-- A device obeyed a line.
 passed_at : (stage : Stage) (head : List ℕ) (m n : Machine) (bytes : List ℕ) (line : Line) (result : Result Bool SimFault) (old new : Option (List ℕ)) →
     ((r : Running) → IsAtRun r m → result ≡ Ok true → Obeyed r m.core.state line n old new)
     → (length bytes == 0) ≡ false → line_of bytes ≡ Some line → StandsAt stage (Some m) → result ≡ Ok true
@@ -75,7 +75,7 @@ pub refused_some : (p : Point) (m : Machine) (bytes : List ℕ) (line : Line) (r
     → (length bytes == 0) ≡ false → line_of bytes ≡ Some line → StandsAt p.stage (Some m) → result ≡ Ok false → IsBad p.stage bytes × (new ≡ old)
 refused_some p m bytes line result old new bad some e f done = refused_at p.stage m bytes line result old new bad some e f done
 
--- a device where there was none
+-- A device was made where there was none.
 started_at : (stage : Stage) (head : List ℕ) (from m : Option Machine) (bytes : List ℕ) (blocks block_bytes slots top lifetime : ℕ) (made : Result Sizes ShapeFault) (old new : Option (List ℕ)) →
     made ≡ device_of (record { blocks = blocks; block_bytes = block_bytes; slots = slots; top = top; lifetime = lifetime })
     → ((h : List ℕ) → (q : Point) × Starts h made q × RunsOnAt (record { stage = None; head = h }) q m old new × IsFaithfulAt q.stage m)
@@ -157,7 +157,7 @@ pub came_none : (all text : Option (List ℕ)) → IfSome all (λ input. Came in
 came_none None text = tt
 came_none (Some input) text = record { lines = []; rest = input; point = start; known = refl; split = refl; count = refl; passed = refl; stands = tt; wrote = Appends-nil text; neat = clean_nil; faithful = λ harmless. tt }
 
--- what a line that was read is to the rest that it was read from
+-- A line that was read is the first one of the rest from which it was read.
 pub read_rest : (left later : Option (List ℕ)) (line rest : List ℕ) → IfSome left (λ xs. line ≡ take_through 10 xs) → DropsThrough left later 10 → left ≡ Some rest → (line ≡ take_through 10 rest) × (later ≡ Some (drop_through 10 rest))
 read_rest left later line rest e drops known = (subst (λ o. IfSome o (λ xs. line ≡ take_through 10 xs)) known e, subst (λ o. DropsThrough o later 10) known drops)
 
@@ -183,7 +183,7 @@ came_more (Some input) left later old mid new number m n line bytes came e drops
       faithful = λ harmless. let parts = all_split (λ b. IsHarmless (line_of b)) came.lines (bytes ∷ []) harmless in p.3 parts.1.0 (came.faithful parts.0);
     }
 
--- the end of the input
+-- The input has ended.
 pub came_end : (all left old new : Option (List ℕ)) (number : ℕ) (m : Option Machine) → IfSome all (λ input. Came input left old new number m) → IsAtEnd left
     → IfSome all (λ input. (text : List ℕ) × IsScriptText input text End × (IsHarmlessScript input → HasNoFailure text) × Appends old new text)
 came_end None left old new number m came end = tt
@@ -196,7 +196,7 @@ came_end (Some input) left old new number m came end =
       came.wrote,
     )
 
--- a line that can't be, and its number is told
+-- A line that the script can't have, and its number is printed.
 pub came_bad : (all left later old mid next new : Option (List ℕ)) (number : ℕ) (m : Option Machine) (line bytes : List ℕ) →
     IfSome all (λ input. Came input left old mid number m) → IfSome left (λ xs. line ≡ take_through 10 xs) → DropsThrough left later 10 → 0 < length line → bytes ≡ strip_last 10 line
     → ((p : Point) → StandsAt p.stage m → IsBad p.stage bytes × (next ≡ mid)) → Appends next new (error_text (number + 1))
@@ -225,6 +225,6 @@ came_bad (Some input) left later old mid next new number m line bytes came e dro
       Appends-trans _ _ _ _ _ (subst (λ w. Appends old w (text_at came.point)) (sym p.1) came.wrote) told,
     )
 
--- what was read into an emptied buffer
+-- what is read into an emptied buffer
 pub fresh : (left : Option (List ℕ)) (old new : List ℕ) → old ≡ [] → IfSome left (λ xs. new ≡ old ++ take_through 10 xs) → IfSome left (λ xs. new ≡ take_through 10 xs)
 fresh left old new none h = subst (λ (l : List ℕ). IfSome left (λ xs. new ≡ l ++ take_through 10 xs)) none h

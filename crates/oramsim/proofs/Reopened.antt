@@ -15,7 +15,7 @@ same_whole m n same w = rw same w
 pub same_stands : (r : Running) (m n : Machine) → n ≡ m → IsAtRun r m → IsAtRun r n
 same_stands r m n same f = rw same f
 
--- a core that was told that it was read back
+-- a core that got the event that it was read back
 pub reopened : (r : Running) (m k n : Machine) (old new : Option (List ℕ)) → k ≡ m
     → (x : Shown) × RunsOn r (after_turn r event.Reopen x) n old new × StaysFaithful r k.core.state event.Reopen x n.core.state
     → (later : Running) × Obeys r Reopen later × RunsOn r later n old new × (IsFaithful r m.core.state → IsFaithful later n.core.state)

@@ -19,7 +19,7 @@ use Rattle.oramsim.specs.Standing.{RunsOn, IsPlayed, IsAtRun, Prints}
 use Rattle.oramsim.specs.declared.machine.Machine.{Machine}
 use Rattle.oramsim.proofs.Whole.{newest_or}
 
--- what is outstanding after a step
+-- the message that is outstanding after a step
 pub outstanding_is : (xs : List (List ℕ)) (sent left out : Option (List ℕ)) → out ≡ option_or sent left → sent ≡ newest_of xs None → out ≡ newest_of xs left
 outstanding_is xs sent left out e s = e ∙ (ap (λ o. option_or o left) s ∙ newest_or xs left)
 
@@ -51,7 +51,7 @@ goes_on r m n e x sent old new f played device out server snapshot wrote = (
   (reaction_text x, turn_text r e x, wrote),
 )
 
--- nothing more is printed
+-- Nothing more is printed.
 pub silent : (a b : List ℕ) (old : Option (List ℕ)) → b ≡ a → Prints a b old old
 silent a b old e = ([], e ∙ sym (append-nil a), Appends-nil old)
 

@@ -1,4 +1,4 @@
--- What a step leaves of a core and the message that is outstanding.
+-- The core and the outstanding message after a step.
 use Rattle.std.proofs.Common.{◌≡◌, ℕ, ◌+◌, ◌-◌, ◌*◌, ◌<◌, suc, inl, inr, Bool, true, false, List, [], ◌∷◌, ◌++◌, length, Option, Some, None, IfSome, refl, sym, ap, ◌∙◌, subst, arith}
 use Rattle.std.specs.Prelude.{is_some, option_to_list, MatchOption}
 use Rattle.std.specs.Option.{option_or}
@@ -39,12 +39,12 @@ none_left : (xs : List (List ℕ)) → length xs ≡ 0 → None ≡ newest_of xs
 none_left [] e = refl
 none_left (x ∷ xs) e = absurd (omega (arith, e))
 
--- the last of the messages is taken off
+-- The last message is taken off the list.
 pub popped : (xs rest : List (List ℕ)) (o : Option (List ℕ)) (a b : ℕ) → a ≡ length xs → xs ≡ rest ++ option_to_list o → MatchOption o ((a ≡ 0) × (b ≡ 0)) (λ _. b + 1 ≡ a) → o ≡ newest_of xs None
 popped xs rest None a b len e empty = none_left xs (sym len ∙ empty.0)
 popped xs rest (Some x) a b len e some = sym (rw e (newest_last rest x None))
 
--- what is done, and which message is outstanding then
+-- the state after a step, and the message that is outstanding then
 abbrev Leaves : Sizes → Option (List ℕ) → Done → Type 0
 Leaves d left y = IsWhole d y.state (newest_of y.sends left)
 
@@ -171,7 +171,7 @@ answered d s t x bytes message Idle b e r w step = by_plain d None x t (noted s 
 answered d s t x bytes message Stalling b e r w step = by_plain d None x t (noted s Unexpected) (step.plain (noted s Unexpected) (rw e refl)) (ignored d s message (ap is_waiting e) w)
 answered d s t x bytes message Over b e r w step = by_plain d None x t (noted s Unexpected) (step.plain (noted s Unexpected) (rw e refl)) (ignored d s message (ap is_waiting e) w)
 
--- a step keeps the message that is outstanding and the core together
+-- After a step, the outstanding message still fits the core.
 pub whole_after : (d : Sizes) (s t : State) (event : Event) (x : Shown) (message : Option (List ℕ)) → IsWhole d s message → Steps (plain_shape d) s event x t → IsWhole d t (newest_of x.sends (left_at event message))
 whole_after d s t (Submit session c words) x message w step =
     let sub : Submission = record { session = session; ticket = s.next; command = c; words = words } in
@@ -182,7 +182,7 @@ whole_after d s t Lost x message w step = by_plain d None x t (lost_by s (status
 whole_after d s t Reopen x message w step = by_plain d None x t (lost_by s (status_in s)) (step.plain _ refl) (lost d s message (status_in s) refl w)
 whole_after d s t Retry x message w step = by_plain d message x t (retried_by s (status_in s)) (step.plain _ refl) (retried d s message (status_in s) refl w)
 
--- fewer answers are wanted after each
+-- After each answer, fewer answers are needed.
 none_wanted : (d : Sizes) (t : State) (xs : List (List ℕ)) (n : ℕ) → xs ≡ [] → answers_left d t (newest_of xs None) < n + 1
 none_wanted d t xs n e = rw e (omega arith)
 

@@ -1,4 +1,4 @@
--- What several writes leave.
+-- The text after several writes.
 use Rattle.std.proofs.Common.{take_all, ◌≡◌, ℕ, ◌+◌, List, take, drop, length, length-drop, arith, ◌-◌, Option, Some, None, sym, ◌∙◌, subst}
 use Rattle.std.proofs.Math.Seq.{take-add}
 use Rattle.std.proofs.KnownBytes.{Appends-trans}
@@ -13,6 +13,6 @@ Appends-kept (Some x) (Some y) (Some z) bs p k = k ∙ p
 pub Appends-next : (a b c : Option (List ℕ)) (text : List ℕ) (at count : ℕ) → Appends a b (take at text) → Appends b c (take count (drop at text)) → Appends a c (take (at + count) text)
 Appends-next a b c text at count p q = subst (Appends a c) (sym (take-add at count text)) (Appends-trans a b c _ _ p q)
 
--- all that is left of a text, as a range of it
+-- the whole rest of a text, as a range of it
 pub rest_is : (text : List ℕ) (at : ℕ) → take (length text - at) (drop at text) ≡ drop at text
 rest_is text at = take_all (length text - at) (drop at text) (omega (arith, length-drop {A = ℕ}))

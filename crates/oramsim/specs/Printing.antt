@@ -1,4 +1,4 @@
--- What the run of a script prints. Each line ends with the byte 10.
+-- The text that the run of a script prints. Each line ends with the byte 10.
 use Rattle.std.specs.Prelude.{ℕ, ◌==◌, nat_le, if◌then◌else◌, List, [], ◌∷◌, ◌++◌, length, slice_index, slice_range, codes}
 use Rattle.std.specs.Fmt.{decimal}
 use Rattle.std.specs.List.{flat_map}
@@ -37,7 +37,7 @@ reason_text Malformed = codes "malformed"
 reason_text (Tampered tree level) = codes "tampered " ++ decimal tree ++ space ++ decimal level
 reason_text (HostRefused code) = codes "host " ++ decimal code
 
--- a note's line; an answer that was taken has none, nor has a message that was sent again
+-- the line of a note; a note that an answer was taken, or a message sent again, has none
 abbrev pub note_text : Note → List ℕ
 note_text (Accepted ticket) = codes "accepted " ++ decimal ticket ++ newline
 note_text (Refused refused) = codes "refused " ++ refusal_text refused ++ newline
@@ -58,7 +58,8 @@ reply_line session ticket says = codes "reply " ++ decimal session ++ space ++ d
 abbrev pub reply_text : Reply → List ℕ
 reply_text r = reply_line r.session r.ticket (body_text r.body)
 
--- the line of a message: its first byte is 1 for a fetch and 2 for a store, then come the tree and four bytes of the leaf
+-- the line of a message: its first byte is 1 for a fetch and 2 for a store; then come the tree and the four bytes of
+-- the leaf
 abbrev pub send_text : List ℕ → List ℕ
 send_text message =
     if nat_le 6 (length message)
@@ -68,15 +69,15 @@ send_text message =
 abbrev pub reaction_text : Shown → List ℕ
 reaction_text x = note_text x.note ++ flat_map reply_text x.replies ++ flat_map send_text x.sends
 
--- a device of so many trees is there
+-- the line for a new device with this many trees
 abbrev pub ready_text : ℕ → List ℕ
 ready_text trees = codes "ready " ++ decimal trees ++ newline
 
--- five numbers that make no device
+-- the line for five numbers that make no device
 abbrev pub shape_text : ShapeFault → List ℕ
 shape_text f = codes "shape " ++ decimal (fault_number f) ++ newline
 
--- line n isn't one that a script has there
+-- the line for a line n that the script can't have
 abbrev pub error_text : ℕ → List ℕ
 error_text n = codes "error line " ++ decimal n ++ newline
 

@@ -24,11 +24,11 @@ abbrev pub lines_of : List ℕ → List (List ℕ)
 lines_of [] = []
 lines_of (x ∷ xs) = if x == 10 then [] ∷ lines_of xs else onto_line x (lines_of xs)
 
--- the fields of a line, parted by one space
+-- the fields of a line, which one space separates
 abbrev pub fields_of : List ℕ → List (List ℕ)
 fields_of line = slice_split (λ b. b == 32) line
 
--- the fields of what is left of a line, if anything is
+-- the fields of the rest of a line, if there is any
 abbrev pub fields_left : Option (List ℕ) → List (List ℕ)
 fields_left None = []
 fields_left (Some rest) = fields_of rest
@@ -40,12 +40,12 @@ has_leading_zero bytes = nat_lt 1 (length bytes) && slice_index bytes 0 == 48
 abbrev pub is_numeral : List ℕ → Bool
 is_numeral bytes = nat_lt 0 (length bytes) && not (has_leading_zero bytes) && list_all is_ascii_digit bytes
 
--- the number that a field spells, where it is below the limit
+-- the number in a field, if it is below the limit
 unfoldable pub number_below : ℕ → List ℕ → Option ℕ
 number_below limit bytes =
     if is_numeral bytes && nat_lt (digits_value 10 bytes) limit then Some (digits_value 10 bytes) else None
 
--- the numbers that fields spell, each below the limit
+-- the numbers in these fields, each below the limit
 unfoldable pub numbers_below : ℕ → List (List ℕ) → Option (List ℕ)
 numbers_below limit [] = Some []
 numbers_below limit (field ∷ fields) = do
@@ -53,7 +53,7 @@ numbers_below limit (field ∷ fields) = do
   numbers ← numbers_below limit fields
   Some (number ∷ numbers)
 
--- the bytes that a field spells as pairs of hex digits, at least one
+-- the bytes that a field gives as pairs of hexadecimal digits, at least one
 unfoldable pub hex_bytes : List ℕ → Option (List ℕ)
 hex_bytes bytes = if length bytes == 0 then None else result_ok (decode_of bytes)
 
@@ -67,7 +67,7 @@ device_from (n ∷ b ∷ z ∷ t ∷ l ∷ []) = do
   Some (Device blocks block_bytes slots top lifetime)
 device_from _ = None
 
--- a session, an address and words, as a command has them that brings no data
+-- a session, an address and words: the fields of a command that brings no data
 unfoldable pub addressed : List (List ℕ) → Option (ℕ × ℕ × List ℕ)
 addressed (s ∷ a ∷ w) = do
   session ← number_below (2 ^ 32) s
@@ -118,7 +118,7 @@ swap_from (ta ∷ na ∷ tb ∷ nb ∷ []) = do
   Some (Swap tree_a node_a tree_b node_b)
 swap_from _ = None
 
--- the line that a word alone makes
+-- the line that consists of this word alone
 unfoldable pub named_line : List ℕ → Option Line
 named_line word =
     if bytes_eq word (codes "answer") then Some Answer
@@ -136,7 +136,7 @@ abbrev pub alone : List ℕ → List (List ℕ) → Option Line
 alone word [] = named_line word
 alone word (field ∷ fields) = None
 
--- what a word and the fields after it say
+-- the line that a word and the fields after it make
 unfoldable pub line_from : List ℕ → List (List ℕ) → Option Line
 line_from word fields =
     if bytes_eq word (codes "device") then device_from fields
@@ -152,6 +152,6 @@ abbrev pub line_of_fields : List (List ℕ) → Option Line
 line_of_fields [] = None
 line_of_fields (word ∷ fields) = line_from word fields
 
--- what a line says, if it is one of a script's
+-- the line of a script that these bytes make, if they make one
 abbrev pub line_of : List ℕ → Option Line
 line_of bytes = line_of_fields (fields_of bytes)

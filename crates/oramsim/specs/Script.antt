@@ -1,4 +1,4 @@
--- The run of a script: what its lines make a device and its host do, and what is printed.
+-- The run of a script: what its lines do to a device and its host, and what it prints.
 use Rattle.std.specs.Prelude.{◌≡◌, ◌≢◌, ◌⊎◌, ℕ, ◌+◌, Bool, true, false, List, [], ◌∷◌, ◌++◌, length, map, take, codes, Option, Some, None, Result, Ok, Err, ⊤}
 use Rattle.std.specs.List.{AllByRecursion, flat_map, FoldsTo}
 use Rattle.oram_geometry.specs.declared.Sizes.{Sizes}
@@ -47,7 +47,7 @@ events r = map (λ t. t.event) r.turns
 abbrev pub all_shown : Running → List Shown
 all_shown r = map (λ t. t.shown) r.turns
 
--- what an event leaves outstanding: an answer and a loss end the wait for the answer
+-- the message that is still outstanding after an event: none after an answer or a loss
 abbrev pub left_at : Event → Option (List ℕ) → Option (List ℕ)
 left_at (event.Submit session c words) message = message
 left_at (event.Answer bytes) message = None
@@ -55,24 +55,24 @@ left_at event.Lost message = None
 left_at event.Reopen message = None
 left_at event.Retry message = message
 
--- the newest of the messages that were sent, else the one of before
+-- the newest of the messages that were sent, or the earlier one if none was
 abbrev pub newest_of : List (List ℕ) → Option (List ℕ) → Option (List ℕ)
 newest_of [] message = message
 newest_of (m ∷ more) message = newest_of more (Some m)
 
--- the device shows x at an event
+-- the run after an event at which the device shows x
 abbrev pub after_turn : Running → Event → Shown → Running
 after_turn r e x = record r { turns = r.turns ++ (record { event = e; shown = x }) ∷ []; message = newest_of x.sends (left_at e r.message) }
 
 abbrev pub with_host : Running → Host → Running
 with_host r host = record r { host = host }
 
--- the host answers the outstanding message by these bytes; with none outstanding there are no bytes
+-- The host answers the outstanding message with these bytes; with none outstanding there are no bytes.
 abbrev pub HostAnswers : Host → Option (List ℕ) → List ℕ → Host → Type 0
 HostAnswers host None bytes after = (bytes ≡ []) × (after ≡ host)
 HostAnswers host (Some message) bytes after = (answer : HostAnswer) × Serves host message answer after × (bytes ≡ answer_body answer)
 
--- the event is the host's answer
+-- The event is the host's answer to the outstanding message.
 abbrev pub IsAnswered : Running → Shown → Running → Type 0
 IsAnswered r x after = (bytes : List ℕ) × (host : Host) × HostAnswers r.host r.message bytes host × (after ≡ after_turn (with_host r host) (event.Answer bytes) x)
 
@@ -82,7 +82,7 @@ IsDrained r x after = (r.message ≢ None) × IsAnswered r x after
 abbrev pub AtEvent : Running → Event → Running → Type 0
 AtEvent r e after = (x : Shown) × (after ≡ after_turn r e x)
 
--- what a line does to a device and its host
+-- the effect of a line on a device and its host
 abbrev pub Obeys : Running → Line → Running → Type 0
 Obeys r (Device blocks block_bytes slots top lifetime) after = ⊥
 Obeys r (Told e) after = AtEvent r e after
@@ -95,11 +95,11 @@ Obeys r (Swap tree_a node_a tree_b node_b) after = (host : Host) × IsSwapped r.
 Obeys r Snapshot after = after ≡ record r { copy = Some r.host }
 Obeys r Restore after = (host : Host) × (r.copy ≡ Some host) × (after ≡ with_host r host)
 
--- a device and what the sealer does that changes nothing
+-- a device with the sealer that changes nothing
 abbrev pub plain_shape : Sizes → Shape
 plain_shape d = record { device = d; overhead = 0; sealing = λ nonce plain. plain; opening = λ bytes. Some bytes }
 
--- a device that was just formatted, on a host that kept nothing before
+-- a device that has just been formatted, on a host that kept nothing before
 pub record IsNewRun (d : Sizes) (r : Running) : Type 0 where
   pub shape : r.setting.shape ≡ plain_shape d
   pub trees : List Tree
@@ -109,11 +109,11 @@ pub record IsNewRun (d : Sizes) (r : Running) : Type 0 where
   pub message : r.message ≡ None
   pub copy : r.copy ≡ None
 
--- where a script stands: there is no device yet, or one is at work
+-- the stage of a script: there is no device yet, or one is at work
 abbrev pub Stage : Type 0
 Stage = Option Running
 
--- and what was printed before the device's turns
+-- a stage, and what was printed before the device's turns
 pub record Point : Type 0 where
   pub stage : Stage
   pub head : List ℕ
@@ -121,7 +121,7 @@ pub record Point : Type 0 where
 abbrev pub start : Point
 start = record { stage = None; head = [] }
 
--- what was printed so far
+-- what the device's turns have printed so far
 abbrev pub stage_text : Stage → List ℕ
 stage_text None = []
 stage_text (Some r) = flat_map reaction_text (all_shown r)
@@ -129,7 +129,7 @@ stage_text (Some r) = flat_map reaction_text (all_shown r)
 abbrev pub text_at : Point → List ℕ
 text_at p = p.head ++ stage_text p.stage
 
--- five numbers make a device, or not
+-- Five numbers make a device, or none.
 abbrev pub Starts : List ℕ → Result Sizes ShapeFault → Point → Type 0
 Starts head (Ok d) q = (r : Running) × IsNewRun d r × (q ≡ record { stage = Some r; head = head ++ ready_text (trees_of d) })
 Starts head (Err fault) q = q ≡ record { stage = None; head = head ++ shape_text fault }
@@ -148,12 +148,13 @@ IsDone p None (Swap tree_a node_a tree_b node_b) q = ⊥
 IsDone p None Snapshot q = ⊥
 IsDone p None Restore q = ⊥
 
--- one line of the script, which is passed over where it is empty
+-- One line of the script is passed; an empty one does nothing.
 abbrev pub IsPassed : Point → List ℕ → Point → Type 0
 IsPassed p [] q = q ≡ p
 IsPassed p (b ∷ bytes) q = (line : Line) × (line_of (b ∷ bytes) ≡ Some line) × IsDone p p.stage line q
 
--- a line that a device at work doesn't take: another device, a byte or a pair of records that isn't there, or a snapshot that wasn't taken
+-- a line that a device at work doesn't take: another device, a byte or a pair of records that isn't there, or a
+-- restore without a snapshot
 abbrev pub IsUnfit : Running → Line → Type 0
 IsUnfit r (Device blocks block_bytes slots top lifetime) = ⊤
 IsUnfit r (Tamper tree node offset) = IsByteless r.host tree node offset
@@ -178,7 +179,8 @@ is_device (Swap tree_a node_a tree_b node_b) = false
 is_device Snapshot = false
 is_device Restore = false
 
--- a line that the script can't have where it stands: none of a script's, any but a device's where there is none, or one that the device doesn't take
+-- a line that the script can't have where it is: it is no line of a script, or makes no device where there is none
+-- yet, or the device doesn't take it
 abbrev pub IsRefusedLine : Stage → Option Line → Type 0
 IsRefusedLine stage None = ⊤
 IsRefusedLine None (Some line) = is_device line ≡ false
@@ -188,12 +190,13 @@ abbrev pub IsBad : Stage → List ℕ → Type 0
 IsBad stage [] = ⊥
 IsBad stage (b ∷ bytes) = IsRefusedLine stage (line_of (b ∷ bytes))
 
--- what the device showed at its events is right, by all that a run of it is to do
+-- What the device showed at its events is right for a run.
 abbrev pub HasRun : Stage → Type 0
 HasRun None = ⊤
 HasRun (Some r) = AllRight r.setting [] (events r) (all_shown r)
 
--- What is printed for an input, and how its run ends: each line is passed, or the first that can't be has its number in the last line.
+-- The text that is printed for an input, and how the run ends: each line is passed, or the last line of the text has
+-- the number of the first line that the script can't have.
 abbrev pub IsScriptText : List ℕ → List ℕ → Ending → Type 0
 IsScriptText input text End = (q : Point) × FoldsTo IsPassed start (lines_of input) q × HasRun q.stage × (text ≡ text_at q)
 IsScriptText input text (BadLine n) =
@@ -201,32 +204,34 @@ IsScriptText input text (BadLine n) =
     × (lines_of input ≡ lines ++ bad ∷ rest) × FoldsTo IsPassed start lines q × HasRun q.stage × IsBad q.stage bad × (n ≡ length lines + 1)
     × (text ≡ text_at q ++ error_text n)
 
--- Where a run stands within the next line: at p still, or, where that is a drain, behind some of its answers.
+-- A run is still at p, or, if the next line is a drain, after some of its answers.
 abbrev pub IsWithin : Point → List (List ℕ) → Point → Type 0
 IsWithin p [] q = q ≡ p
 IsWithin p (line ∷ rest) q = (q ≡ p) ⊎ ((r later : Running) × (xs : List Shown) × (line_of line ≡ Some Drain) × (p.stage ≡ Some r)
     × FoldsTo IsDrained r xs later × (q ≡ record { stage = Some later; head = p.head }))
 
--- The run of an input has passed its lines but for the rest.
+-- The run of an input has passed all lines but `rest`.
 pub record HasPassed (input : List ℕ) (rest : List (List ℕ)) (q : Point) : Type 0 where
   pub lines : List (List ℕ)
   pub split : lines_of input ≡ lines ++ rest
   pub passed : FoldsTo IsPassed start lines q
   pub right : HasRun q.stage
 
--- it has passed a beginning of them, and stands there or within the next
+-- The run of an input has passed its first lines, and is at a point there or within the next line.
 abbrev pub GetsTo : List ℕ → Point → Type 0
 GetsTo input q = (p : Point) × (rest : List (List ℕ)) × HasPassed input rest p × IsWithin p rest q × HasRun q.stage
 
--- what a run of the input has to write: all up to a point, and behind it perhaps that memory ran out, or that a line can't be
+-- What a run of the input has to write: everything up to a point that it reaches, perhaps with `out of memory` after
+-- it, or the text with an error line.
 abbrev pub IsDue : List ℕ → List ℕ → Type 0
 IsDue input text = ((q : Point) × GetsTo input q × ((text ≡ text_at q) ⊎ (text ≡ text_at q ++ memory_text))) ⊎ ((n : ℕ) × IsScriptText input text (BadLine n))
 
 abbrev pub IsBeginning : List ℕ → List ℕ → Type 0
 IsBeginning text whole = (count : ℕ) × (text ≡ take count whole)
 
--- What is printed for an input whose run is given up. Nothing of an event or a line that memory runs out at is printed, but that it
--- ran out; where the input can't be read, the lines before are passed; where writing fails, there is a beginning of what was due.
+-- The text for an input whose run is given up. If memory runs out at an event or a line, nothing of that is printed,
+-- only `out of memory`. If the input can't be read, the lines before that are passed. If writing fails, the text is a
+-- beginning of what was due.
 abbrev pub IsCutText : List ℕ → List ℕ → SimFault → Type 0
 IsCutText input text OutOfMemory = (q : Point) × GetsTo input q × (text ≡ text_at q ++ memory_text)
 IsCutText input text Read = (rest : List (List ℕ)) × (q : Point) × HasPassed input rest q × (text ≡ text_at q)
@@ -239,7 +244,7 @@ is_answer event.Lost = false
 is_answer event.Reopen = false
 is_answer event.Retry = false
 
--- a line that forges an answer, or changes what the host keeps
+-- whether a line forges an answer, or changes what the host keeps
 abbrev pub is_meddling : Line → Bool
 is_meddling (Told e) = is_answer e
 is_meddling (Tamper tree node offset) = true
@@ -256,11 +261,11 @@ abbrev pub IsHarmless : Option Line → Type 0
 IsHarmless None = ⊤
 IsHarmless (Some line) = is_meddling line ≡ false
 
--- no line of the script meddles
+-- No line of the script meddles with the host.
 abbrev pub IsHarmlessScript : List ℕ → Type 0
 IsHarmlessScript input = AllByRecursion (λ bytes. IsHarmless (line_of bytes)) (lines_of input)
 
--- the status that the program ends with
+-- the exit status of a run
 abbrev pub exit_status : Result Ending SimFault → ℕ
 exit_status (Ok End) = 0
 exit_status (Ok (BadLine n)) = 2
@@ -268,6 +273,6 @@ exit_status (Err OutOfMemory) = 3
 exit_status (Err Read) = 4
 exit_status (Err Write) = 4
 
--- no line of the text tells of a failure
+-- No line of the text reports a failure.
 abbrev pub HasNoFailure : List ℕ → Type 0
 HasNoFailure text = AllByRecursion (λ line. take 6 line ≢ codes "failed") (lines_of text)

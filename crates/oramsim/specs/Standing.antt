@@ -1,4 +1,4 @@
--- How a machine stands to the run of a script.
+-- How a machine corresponds to the run of a script.
 use Rattle.std.specs.Prelude.{◌≡◌, ◌⊎◌, ℕ, ◌+◌, ◌-◌, ◌*◌, ◌<◌, false, if◌then◌else◌, List, length, ◌++◌, Option, Some, None, is_some, IfSome, ⊤}
 use Rattle.std.specs.Io.KnownBytes.{Appends}
 use Rattle.std.specs.List.{AllByRecursion, FoldsTo}
@@ -24,7 +24,7 @@ use Rattle.oramsim.specs.declared.script.SimFault.{SimFault}
 use Rattle.oramsim.specs.declared.script.SimFault.TheVariants.{OutOfMemory, Read, Write}
 use Rattle.oramsim.specs.declared.machine.Machine.{Machine}
 
--- A core and the message that is outstanding: it is the one that the core waits for the answer to.
+-- A message is outstanding exactly while the core waits for an answer, and it is the message that the core sent last.
 pub record IsWhole (d : Sizes) (s : State) (message : Option (List ℕ)) : Type 0 where
   pub waits : is_some message ≡ is_waiting (status_in s)
   pub latest : IfSome message (λ m. m ≡ s.last)
@@ -34,23 +34,23 @@ pub record IsWhole (d : Sizes) (s : State) (message : Option (List ℕ)) : Type 
 abbrev pub IsWholeMachine : Machine → Type 0
 IsWholeMachine m = IsWhole m.core.device m.core.state m.outstanding
 
--- how many answers the commands without a reply still want
+-- how many answers are still needed until all commands have a reply
 abbrev pub answers_left : Sizes → State → Option (List ℕ) → ℕ
 answers_left d s message = if is_some message then 2 * trees_of d * length s.queue - s.stage + 1 else 0
 
 abbrev pub still_wanted : Machine → ℕ
 still_wanted m = answers_left m.core.device m.core.state m.outstanding
 
--- A step was made at an event: it shows x, and this is the newest message that it sent.
+-- The core made a step at an event, which shows x, and `sent` is the newest message of that step.
 pub record IsPlayed (d : Sizes) (s : State) (event : Event) (x : Shown) (sent : Option (List ℕ)) (t : State) : Type 0 where
   pub steps : Steps (plain_shape d) s event x t
   pub newest : sent ≡ newest_of x.sends None
 
--- steps lead from a core just formatted to this one
+-- Steps lead from a core that has just been formatted to this one.
 abbrev pub LeadsTo : Setting → List Turn → State → Type 0
 LeadsTo v turns s = (trees : List Tree) × IsFormatted v trees × FoldsTo (λ a t b. StepsByRule v.shape a t.event t.shown b) (new_state v trees) turns s
 
--- the machine is at work as the run says
+-- The machine is in the state that the run describes.
 pub record IsAtRun (r : Running) (m : Machine) : Type 0 where
   pub ranges : IsDevice m.core.device
   pub shape : r.setting.shape ≡ plain_shape m.core.device
@@ -59,7 +59,7 @@ pub record IsAtRun (r : Running) (m : Machine) : Type 0 where
   pub host : m.server ≡ r.host
   pub copy : m.snapshot ≡ r.copy
 
--- the device never failed
+-- The device has never failed.
 abbrev pub IsCalm : Running → Type 0
 IsCalm r = AllByRecursion (λ t. fails_now t.shown.note ≡ false) r.turns
 
@@ -67,7 +67,7 @@ abbrev pub IsCalmAt : Stage → Type 0
 IsCalmAt None = ⊤
 IsCalmAt (Some r) = IsCalm r
 
--- The device never failed, its core serves an array, and the host keeps what it serves it from.
+-- The device has never failed, its core serves an array, and the host keeps the records for that.
 pub record IsFaithful (r : Running) (s : State) : Type 0 where
   pub calm : IsCalm r
   pub alive : s.failure ≡ None
@@ -81,11 +81,12 @@ IsFaithfulAt None machine = ⊤
 IsFaithfulAt (Some r) None = ⊥
 IsFaithfulAt (Some r) (Some m) = IsFaithful r m.core.state
 
--- a run goes on so where the host was `before`, and is now, what an honest one is
+-- If the run was faithful with the host as `before`, and the host did at this event what an honest one does, the run
+-- stays faithful.
 abbrev pub StaysFaithful : Running → State → Event → Shown → State → Type 0
 StaysFaithful r s e x t = (before : Host) → IsHonest (status_in s) s.last e before r.host → IsFaithful (with_host r before) s → IsFaithful (after_turn r e x) t
 
--- At this event the host does what an honest one does, and before it the run was faithful.
+-- The run was faithful before this event, and at the event the host does what an honest one does.
 abbrev pub IsHonestAt : Running → State → Event → Type 0
 IsHonestAt r s e = (before : Host) × IsHonest (status_in s) s.last e before r.host × IsFaithful (with_host r before) s
 
@@ -99,28 +100,28 @@ StandsAt None (Some m) = ⊥
 StandsAt (Some r) None = ⊥
 StandsAt (Some r) (Some m) = IsAtRun r m
 
--- what is printed between two points
+-- What is printed between two points was written.
 abbrev pub Prints : List ℕ → List ℕ → Option (List ℕ) → Option (List ℕ) → Type 0
 Prints before after old new = (out : List ℕ) × (after ≡ before ++ out) × Appends old new out
 
--- the machine goes on, and so does the run
+-- The machine goes on, and so does the run.
 abbrev pub RunsOn : Running → Running → Machine → Option (List ℕ) → Option (List ℕ) → Type 0
 RunsOn r later m old new = IsAtRun later m × Prints (stage_text (Some r)) (stage_text (Some later)) old new
 
 abbrev pub RunsOnAt : Point → Point → Option Machine → Option (List ℕ) → Option (List ℕ) → Type 0
 RunsOnAt p q m old new = StandsAt q.stage m × Prints (text_at p) (text_at q) old new
 
--- What there is of a text at a fault: all of it where memory ran out behind it, a beginning where writing failed.
+-- The part of a text that is written at a fault: all of it if memory ran out afterwards, a beginning if writing failed.
 abbrev pub IsCutAt : SimFault → List ℕ → List ℕ → Type 0
 IsCutAt OutOfMemory out part = part ≡ out
 IsCutAt Write out part = IsBeginning part out
 IsCutAt Read out part = ⊥
 
--- what is written, at a fault, of the text between two points
+-- At a fault, this part of the text between two points was written.
 abbrev pub TellsPart : SimFault → List ℕ → List ℕ → Option (List ℕ) → Option (List ℕ) → Type 0
 TellsPart fault before after old new = (out part : List ℕ) × (after ≡ before ++ out) × IsCutAt fault out part × Appends old new part
 
--- The run was given up on its way to some such point. Where nothing meddled, the device never failed up to there.
+-- The run was given up on its way to some point of `To`. If nothing meddled, the device didn't fail before that point.
 abbrev pub GivesUp : Running → Type 0 → (Running → Type 0) → SimFault → Option (List ℕ) → Option (List ℕ) → Type 0
 GivesUp r Unmeddled To fault old new =
     (later : Running) × To later × HasRun (Some later) × (Unmeddled → IsCalm later) × TellsPart fault (stage_text (Some r)) (stage_text (Some later)) old new
@@ -129,40 +130,41 @@ abbrev pub GivesUpAt : Point → Type 0 → (Point → Type 0) → SimFault → 
 GivesUpAt p Unmeddled To fault old new =
     (q : Point) × To q × HasRun q.stage × (Unmeddled → IsCalmAt q.stage) × TellsPart fault (text_at p) (text_at q) old new
 
--- where a device may stand within a line
+-- where a device may be within a line
 abbrev pub IsUnder : Running → Line → Running → Type 0
 IsUnder r line later = (later ≡ r) ⊎ (Obeys r line later ⊎ ((xs : List Shown) × (line ≡ Drain) × FoldsTo IsDrained r xs later))
 
--- a text, and behind it, where memory ran out, the line that tells of it
+-- a text, followed by `out of memory` if that is the fault
 abbrev pub told_at : SimFault → List ℕ → List ℕ
 told_at OutOfMemory text = text ++ memory_text
 told_at Read text = text
 told_at Write text = text
 
--- What a step that was given up has left: without memory nothing was written, and where writing failed the step was made.
+-- What a step leaves that was given up: if memory ran out, nothing was written; if writing failed, the step was made
+-- and a beginning of its text was written.
 abbrev pub IsHalted : SimFault → Sizes → State → Event → State → Option (List ℕ) → Option (List ℕ) → Type 0
 IsHalted OutOfMemory d s event t old new = new ≡ old
 IsHalted Write d s event t old new =
     (x : Shown) × (sent : Option (List ℕ)) × IsPlayed d s event x sent t × (part : List ℕ) × IsBeginning part (reaction_text x) × Appends old new part
 IsHalted Read d s event t old new = ⊥
 
--- a text was given up: without memory nothing of it was written, and where writing failed a beginning
+-- What was written of a text that was given up: nothing if memory ran out, a beginning if writing failed.
 abbrev pub IsUntold : SimFault → List ℕ → Option (List ℕ) → Option (List ℕ) → Type 0
 IsUntold OutOfMemory text old new = new ≡ old
 IsUntold Write text old new = (part : List ℕ) × IsBeginning part text × Appends old new part
 IsUntold Read text old new = ⊥
 
--- All that a script's run to its ending prints was written, and no failure is told where no line meddles.
+-- Everything that the script's run prints up to this ending was written. If no line meddles, it reports no failure.
 abbrev pub HasEnded : Option (List ℕ) → Option (List ℕ) → Option (List ℕ) → Ending → Type 0
 HasEnded unread old new ending =
     IfSome unread (λ input. (text : List ℕ) × IsScriptText input text ending × (IsHarmlessScript input → HasNoFailure text) × Appends old new text)
 
--- What was written is what a run prints that is given up, and no failure is told where no line meddles.
+-- What was written is the text of a run that was given up. If no line meddles, it reports no failure.
 abbrev pub HasGivenUp : Option (List ℕ) → Option (List ℕ) → Option (List ℕ) → SimFault → Type 0
 HasGivenUp unread old new fault =
     IfSome unread (λ input. (text : List ℕ) × IsCutText input text fault × (IsHarmlessScript input → HasNoFailure text) × Appends old new text)
 
--- The same, where the line that tells of want of memory is still to be written behind the text.
+-- The same, before the line `out of memory` has been written after the text.
 abbrev pub IsGivingUp : Option (List ℕ) → Option (List ℕ) → Option (List ℕ) → SimFault → Type 0
 IsGivingUp unread old new fault =
     IfSome unread (λ input. (text : List ℕ) × IsCutText input (told_at fault text) fault × (IsHarmlessScript input → HasNoFailure (told_at fault text)) × Appends old new text)

@@ -5,10 +5,11 @@ ghost use Rattle.oramsim.specs.Reading.{fields_of, fields_left};
 
 use std::marker::Model;
 
-/// The fields of a line that are still to be read, parted by one space. None is kept: each is found when it is asked for.
+/// The fields of a line that are still to be read. One space separates two fields. It keeps no list of them, and finds
+/// each when it is asked for.
 #[derive(Drop)]
 pub struct Fields<'a> {
-    /// The bytes of these fields, if one is left.
+    /// The bytes of these fields; `None` if no field is left.
     rest: Option<&'a [u8]>,
 }
 
@@ -18,7 +19,7 @@ impl<'a> Model for Fields<'a> {
     ghost view = { λ f. fields_left (option_copied f.rest) };
 }
 
-/// The place of the first space.
+/// Returns the position of the first space.
 fn first_space(bytes: &[u8]) -> Option<usize>
     ensures { result ≡ position (λ b. b == 32) bytes.now }
 {
@@ -26,14 +27,14 @@ fn first_space(bytes: &[u8]) -> Option<usize>
 }
 
 impl<'a> Fields<'a> {
-    /// All fields of a line.
+    /// Returns all fields of a line.
     pub fn of(line: &'a [u8]) -> Fields<'a>
         ensures { result ≡ fields_of line.now }
     {
         Fields { rest: Some(line) }
     }
 
-    /// The first of these fields and those behind it.
+    /// Returns the first of these fields, and the fields after it.
     pub fn split_first(self) -> Option<(&'a [u8], Fields<'a>)>
         ensures { MatchOption result (self.entry ≡ []) (λ x. self.entry ≡ x.0.now ∷ x.1) }
     {

@@ -15,7 +15,7 @@ use std::str;
 /// What a line of a script asks for.
 #[derive(Debug, Drop)]
 pub enum Line {
-    /// A device of these sizes.
+    /// Makes a device of these sizes.
     Device {
         blocks: u64,
         block_bytes: u64,
@@ -23,32 +23,32 @@ pub enum Line {
         top: u64,
         lifetime: u64,
     },
-    /// The device is told this event, of which the server hears nothing.
+    /// Gives the device this event. The server takes no part in it.
     Told(Event),
-    /// The server answers the outstanding message.
+    /// Lets the server answer the outstanding message.
     Answer,
-    /// The server answers until no message is outstanding.
+    /// Lets the server answer until no message is outstanding.
     Drain,
-    /// The server gets the outstanding message, and its answer is lost.
+    /// Gives the server the outstanding message, and loses its answer.
     Late,
-    /// The device's core is saved and read back, and the outstanding message is lost with the old one.
+    /// Saves the device's core and reads it back. The outstanding message is lost with the old core.
     Reopen,
-    /// The lowest bit of a byte of a stored record flips.
+    /// Flips the lowest bit of a byte of a stored record.
     Tamper {
         tree: u64,
         node: u64,
         offset: u64,
     },
-    /// Two stored records change places.
+    /// Swaps two stored records.
     Swap {
         tree_a: u64,
         node_a: u64,
         tree_b: u64,
         node_b: u64,
     },
-    /// A copy of the server is kept, in place of an earlier one.
+    /// Keeps a copy of the server, in place of an earlier one.
     Snapshot,
-    /// The server is again the copy that was kept.
+    /// Replaces the server by the copy that was kept.
     Restore,
 }
 
@@ -64,7 +64,7 @@ fn is_of_digits(field: &[u8]) -> bool
     field.iter().all(|byte| byte.is_ascii_digit())
 }
 
-/// Whether a field is decimal digits without leading zeros.
+/// Returns whether a field is decimal digits without leading zeros.
 fn is_plain(field: &[u8]) -> bool
     ensures { result ≡ is_numeral field.now }
 {
@@ -91,7 +91,7 @@ fn short_number(field: &[u8]) -> Option<u32>
     u32::try_from(long_number(field)?).ok()
 }
 
-/// The words that fields spell, or none where one of them is no number.
+/// Reads fields as words; `None` if one of them is not a number.
 #[tactic(auto, unfolding(crate::specs::Reading::numbers_below))]
 fn words_in(alloc: Global, fields: Fields) -> Result<Option<Words>, AllocError>
     ensures { IfOk result (λ o. o ≡ numbers_below (2 ^ 64) fields.entry) }
@@ -108,7 +108,7 @@ fn words_in(alloc: Global, fields: Fields) -> Result<Option<Words>, AllocError>
     Ok(Some(Words::from_vec(words)))
 }
 
-/// The bytes that a field spells in hex, or none.
+/// Decodes the hexadecimal digits of a field; `None` if it is empty or isn't hexadecimal.
 #[tactic(auto, unfolding(crate::specs::Reading::hex_bytes))]
 fn bytes_in(alloc: Global, field: &[u8]) -> Result<Option<Bytes>, AllocError>
     ensures { IfOk result (λ o. o ≡ hex_bytes field.now) }
@@ -144,7 +144,7 @@ fn device_in(fields: Fields) -> Option<Line>
     })
 }
 
-/// A session, an address and words, as a command has them that brings no data.
+/// Reads a session, an address and words, the fields of a command that brings no data.
 #[tactic(auto, unfolding(crate::specs::Reading::addressed))]
 fn addressed_in(alloc: Global, fields: Fields) -> Result<Option<(u32, u32, Words)>, AllocError>
     ensures { IfOk result (λ o. o ≡ addressed fields.entry) }
@@ -273,7 +273,7 @@ fn swap_in(fields: Fields) -> Option<Line>
     })
 }
 
-/// The line that a word alone makes.
+/// Returns the line that consists of this word alone.
 #[tactic(auto, unfolding(crate::specs::Reading::named_line))]
 fn word_line(word: &[u8]) -> Option<Line>
     ensures { result ≡ named_line word.now }
@@ -299,7 +299,7 @@ fn word_line(word: &[u8]) -> Option<Line>
     }
 }
 
-/// A line of one word.
+/// Returns a line of one word.
 fn alone(word: &[u8], fields: Fields) -> Option<Line>
     ensures { result ≡ spec.alone word.now fields.entry }
 {
@@ -309,7 +309,7 @@ fn alone(word: &[u8], fields: Fields) -> Option<Line>
     }
 }
 
-/// What a word and the fields after it say.
+/// Returns the line that a word and the fields after it make.
 #[tactic(auto, unfolding(crate::specs::Reading::line_from))]
 fn command_in(alloc: Global, word: &[u8], fields: Fields) -> Result<Option<Line>, AllocError>
     ensures { IfOk result (λ o. o ≡ line_from word.now fields.entry) }
@@ -334,7 +334,8 @@ fn command_in(alloc: Global, word: &[u8], fields: Fields) -> Result<Option<Line>
 }
 
 impl Line {
-    /// Reads a line, which has no byte 0A at its end. None is a line that no script has.
+    /// Reads a line, which comes without the byte 0A at its end. Returns `None` if no script has such
+    /// a line.
     pub fn read(alloc: Global, bytes: &[u8]) -> Result<Option<Line>, AllocError>
         ensures { IfOk result (λ o. o ≡ line_of bytes.now) }
     {

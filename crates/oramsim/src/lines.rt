@@ -1,4 +1,4 @@
-//! The lines of a reader, as they come.
+//! Reads the lines of a script as they come.
 ghost use Rattle.std.specs.Prelude.{◌≡◌, ◌≢◌, ◌<◌, true, false, IfOk, IfErr, IfSome, vec_len};
 ghost use Rattle.std.specs.IoError.{error_kind};
 ghost use Rattle.std.specs.Io.BufRead.{take_through, DropsThrough};
@@ -8,7 +8,7 @@ use crate::script::SimFault;
 use std::io;
 use std::io::{BufRead, ErrorKind, Write};
 
-/// What a reader's error is to a script.
+/// Returns the script's fault for a reader's error.
 fn read_fault(error: &io::Error) -> SimFault
     ensures memory { error_kind error.now ≡ ErrorKind.OutOfMemory → result ≡ SimFault.OutOfMemory }
     ensures read { error_kind error.now ≢ ErrorKind.OutOfMemory → result ≡ SimFault.Read }
@@ -20,7 +20,7 @@ fn read_fault(error: &io::Error) -> SimFault
     }
 }
 
-/// Writes out what the writer has buffered.
+/// Writes out what is still in the writer's buffer.
 pub fn flush<W: Write>(writer: &mut W) -> Result<(), SimFault>
     ensures same { Keeps (W.contents writer.old) (W.contents writer.new) }
     ensures fault { IfErr result (λ e. e ≡ SimFault.Write) }
@@ -31,14 +31,15 @@ pub fn flush<W: Write>(writer: &mut W) -> Result<(), SimFault>
     }
 }
 
-/// What a reader holds, so that it is read without waiting.
+/// The bytes that a reader already holds, which can be read without waiting.
 #[derive(Clone, Copy)]
 struct AtHand {
     bytes: usize,
     has_line: bool,
 }
 
-/// What the reader holds. It waits for input only where it holds nothing, and holds nothing then only at the end.
+/// Returns what the reader holds. It waits for input only if the reader holds nothing; if it still holds nothing then,
+/// the input has ended.
 fn at_hand<R: BufRead>(reader: &mut R) -> Result<AtHand, SimFault>
     ensures same { Keeps (R.remaining reader.old) (R.remaining reader.new) }
     ensures end { IfOk result (λ held. held.bytes ≡ 0 → IsAtEnd (R.remaining reader.old)) }
@@ -62,8 +63,8 @@ fn at_hand<R: BufRead>(reader: &mut R) -> Result<AtHand, SimFault>
     Err(SimFault::Read)
 }
 
-/// Writes out what was printed before input is waited for, and tells how many bytes the reader holds. `held` is how many
-/// it is known to hold before; zero afterwards is the end of the input.
+/// Flushes what was printed before it waits for input, and returns how many bytes the reader holds. `held` is how many
+/// it is known to hold beforehand. Zero as the result means that the input has ended.
 fn wait_for_line<R: BufRead, W: Write>(
     reader: &mut R,
     writer: &mut W,
@@ -83,8 +84,8 @@ fn wait_for_line<R: BufRead, W: Write>(
     Ok(at_hand(reader)?.bytes)
 }
 
-/// Reads the next line, with the byte 0A at its end. False is the end of the input. `held` is how many bytes the reader is
-/// known to hold; what was printed is written out before any others are waited for.
+/// Reads the next line, with the byte 0A at its end. Returns false at the end of the input. `held` is how many bytes
+/// the reader is known to hold; what was printed is flushed before it waits for more input.
 pub fn next_line<R: BufRead, W: Write>(
     reader: &mut R,
     writer: &mut W,

@@ -24,7 +24,7 @@ use oram_tree::FormatFault;
 use std::alloc::{AllocError, Global};
 use std::io::{ErrorKind, Write};
 
-/// Writes all of the text, or a beginning of it.
+/// Writes all of the text, or a beginning of it if the writer fails.
 pub fn put<W: Write>(writer: &mut W, text: &[u8]) -> Result<(), SimFault>
     ensures ok { OnOk result (Appends (W.contents writer.old) (W.contents writer.new) text.now) }
     ensures cut { (count : ℕ) × Appends (W.contents writer.old) (W.contents writer.new) (take count text.now) }
@@ -53,12 +53,12 @@ pub fn put<W: Write>(writer: &mut W, text: &[u8]) -> Result<(), SimFault>
 pub struct Machine {
     pub core: Core<PlainSeal>,
     pub server: Server,
-    /// The copy of the server that was kept, if one was.
+    /// The kept copy of the server, if there is one.
     pub snapshot: Option<Server>,
     pub outstanding: Option<Bytes>,
 }
 
-/// Makes one step and prints what it shows. The message that it sends, if any, is handed back.
+/// Makes one step of the core and prints what it shows. Returns the message that it sends, if any.
 fn play<W: Write>(
     alloc: Global,
     writer: &mut W,
@@ -76,7 +76,7 @@ fn play<W: Write>(
     Ok(reaction.sends.pop())
 }
 
-/// What an event leaves outstanding: an answer and a loss end the wait for the answer.
+/// Returns which message is still outstanding after an event: none after an answer or a loss.
 fn left_at(event: &Event, outstanding: Option<Bytes>) -> Option<Bytes>
     ensures { result ≡ spec.left_at event.now outstanding }
 {
@@ -86,7 +86,7 @@ fn left_at(event: &Event, outstanding: Option<Bytes>) -> Option<Bytes>
     }
 }
 
-/// The core that is read back from the file of this one.
+/// Saves a core and reads it back.
 fn read_back(alloc: Global, core: &Core<PlainSeal>) -> Result<Core<PlainSeal>, AllocError>
     ensures { IfOk result (λ again. again ≡ core.now) }
 {
@@ -102,7 +102,7 @@ fn read_back(alloc: Global, core: &Core<PlainSeal>) -> Result<Core<PlainSeal>, A
 }
 
 impl Machine {
-    /// Tells the device an event.
+    /// Gives the device an event.
     pub fn tell<W: Write>(
         &mut self,
         alloc: Global,
@@ -123,7 +123,7 @@ impl Machine {
         Ok(())
     }
 
-    /// The bytes by which the host answers the outstanding message. With none outstanding there are none.
+    /// Returns the bytes of the host's answer to the outstanding message, or no bytes if none is outstanding.
     fn answer_of_host(&mut self, alloc: Global) -> Result<Bytes, AllocError>
         ensures bytes { IfOk result (λ bytes. HostAnswers self.old.server self.old.outstanding bytes self.new.server) }
         ensures core { self.new.core ≡ self.old.core }
@@ -137,7 +137,7 @@ impl Machine {
         Ok(Bytes::from_vec(bytes))
     }
 
-    /// The host answers the outstanding message. With none outstanding the device is told an answer of no bytes.
+    /// Lets the host answer the outstanding message. If none is outstanding, the device gets an answer of no bytes.
     pub fn answer<W: Write>(&mut self, alloc: Global, writer: &mut W) -> Result<(), SimFault>
         requires { IsWholeMachine self.old }
         ensures whole { OnOk result (IsWholeMachine self.new) }
@@ -151,7 +151,7 @@ impl Machine {
         self.tell(alloc, writer, &Event::Answer(bytes))
     }
 
-    /// The host answers until no message is outstanding.
+    /// Lets the host answer until no message is outstanding.
     pub fn drain<W: Write>(&mut self, alloc: Global, writer: &mut W) -> Result<(), SimFault>
         requires { IsWholeMachine self.old }
         ensures whole { OnOk result (IsWholeMachine self.new) }
@@ -167,7 +167,7 @@ impl Machine {
         Ok(())
     }
 
-    /// The host gets the outstanding message, and its answer is lost.
+    /// Gives the host the outstanding message, and loses its answer.
     pub fn lose_answer<W: Write>(&mut self, alloc: Global, writer: &mut W) -> Result<(), SimFault>
         requires { IsWholeMachine self.old }
         ensures whole { OnOk result (IsWholeMachine self.new) }
@@ -180,7 +180,7 @@ impl Machine {
         self.tell(alloc, writer, &Event::Lost)
     }
 
-    /// Goes on with the core that is read back from the file of this one. The outstanding message is lost with the old core.
+    /// Saves the core, reads it back and goes on with that one. The outstanding message is lost with the old core.
     pub fn reopen<W: Write>(&mut self, alloc: Global, writer: &mut W) -> Result<(), SimFault>
         requires { IsWholeMachine self.old }
         ensures whole { OnOk result (IsWholeMachine self.new) }
@@ -204,7 +204,7 @@ impl Machine {
         Ok(())
     }
 
-    /// Puts the host back that was kept. False is that none was.
+    /// Replaces the host by its kept copy. Returns false if there is none.
     pub fn restore(&mut self, alloc: Global) -> Result<bool, AllocError>
         requires { IsWholeMachine self.old }
         ensures whole { OnOk result (IsWholeMachine self.new) }
@@ -218,7 +218,7 @@ impl Machine {
         Ok(true)
     }
 
-    /// Flips the lowest bit of a byte of a record that the host keeps. False is that there is no such byte.
+    /// Flips the lowest bit of a byte of a record that the host keeps. Returns false if there is no such byte.
     pub fn tamper(&mut self, tree: u64, node: u64, offset: u64) -> bool
         requires { IsWholeMachine self.old }
         ensures whole { IsWholeMachine self.new }
@@ -228,7 +228,7 @@ impl Machine {
         self.server.flip(tree, node, offset)
     }
 
-    /// Lets two records that the host keeps change places. False is that one isn't there, or that they have two lengths.
+    /// Swaps two records that the host keeps. Returns false if one isn't there, or their lengths differ.
     pub fn swap(&mut self, tree_a: u64, node_a: u64, tree_b: u64, node_b: u64) -> bool
         requires { IsWholeMachine self.old }
         ensures whole { IsWholeMachine self.new }
@@ -239,8 +239,8 @@ impl Machine {
         self.server.swap(tree_a, node_a, tree_b, node_b)
     }
 
-    /// Does what a line says. False is a line that the device doesn't take: a second device, a byte or a pair of records
-    /// that isn't there, or a host that wasn't kept.
+    /// Does what a line says. Returns false if the line can't be done: it makes a second device, names a byte or a pair
+    /// of records that isn't there, or restores a copy that wasn't kept.
     pub fn obey<W: Write>(
         &mut self,
         alloc: Global,
@@ -293,7 +293,7 @@ impl Machine {
     }
 }
 
-/// Formats a device, on a host that keeps nothing yet. Such a host refuses a formatting for want of memory alone.
+/// Formats a device on a host that keeps nothing yet. Such a host refuses a formatting only if it is out of memory.
 fn formatted(alloc: Global, device: Device) -> Result<Machine, FormatFault>
     requires { IsDevice device }
     ensures whole { IfOk result (λ machine. IsWholeMachine machine) }
@@ -310,7 +310,7 @@ fn formatted(alloc: Global, device: Device) -> Result<Machine, FormatFault>
     })
 }
 
-/// Makes a device of five numbers and tells how many trees it has, or tells why there is no device.
+/// Makes a device and prints how many trees it has, or prints why its numbers make no device.
 pub fn begin<W: Write>(
     alloc: Global,
     writer: &mut W,

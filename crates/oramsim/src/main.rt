@@ -1,7 +1,8 @@
 //! A program that runs scripts over the block store.
 //!
-//! A script is lines of text: a device's five numbers, then reads and writes of its sessions, what the host answers and
-//! what becomes of the messages on their way. What the device replies and sends is printed, a line each.
+//! A script is lines of text. They give a device's five numbers, submit commands of its sessions, and say what the host
+//! answers and what happens to the messages on their way. The program prints what the device replies and sends, a line
+//! each.
 #![tactic(auto)]
 
 ghost use Rattle.std.specs.Prelude.{◌≡◌};
@@ -19,7 +20,7 @@ use std::io;
 use std::io::{BufReader, BufWriter};
 use std::process::ExitCode;
 
-/// The status that a run ends with.
+/// Returns the exit status of a run.
 fn status(ended: Result<Ending, SimFault>) -> u8
     ensures { result ≡ exit_status ended }
 {
@@ -31,7 +32,7 @@ fn status(ended: Result<Ending, SimFault>) -> u8
     }
 }
 
-/// Runs the script of the standard input.
+/// Runs the script from standard input.
 fn run(rt: &(impl Input + Print + AllocGlobal)) -> Result<Ending, SimFault> {
     let reader = BufReader::new(rt.alloc(), rt.reader());
     let writer = BufWriter::new(rt.alloc(), io::writer(rt));

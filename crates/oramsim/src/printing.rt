@@ -1,4 +1,4 @@
-//! What the run of a script prints.
+//! The text that the run of a script prints.
 ghost use Rattle.std.specs.Prelude.{◌≡◌, Some, IfOk};
 ghost use Rattle.std.specs.String.{string_bytes};
 ghost use Rattle.oram_run.specs.Run.{shown};
@@ -11,7 +11,7 @@ use oram_run::{Note, Reaction, Reason, Refusal, Reply, ReplyBody};
 use std::alloc::{AllocError, Global};
 use std::fmt;
 
-/// The bytes of a message that say what it asks for: its kind, its tree and its leaf.
+/// How many bytes of a message say what it asks for: its kind, its tree and its leaf.
 const HEAD: usize = 6;
 
 /// The kind of a message that fetches a path.
@@ -50,7 +50,7 @@ impl fmt::Display for ReasonText {
     }
 }
 
-/// The line of a note, or nothing for an answer that was taken and for a message that was sent again.
+/// The line of a note. A note that an answer was taken, or a message sent again, has no line.
 #[derive(Drop)]
 struct NoteText(Note);
 
@@ -75,7 +75,7 @@ impl fmt::Display for NoteText {
     }
 }
 
-/// What a reply says.
+/// Returns what a reply says.
 fn body_text(alloc: Global, body: &ReplyBody) -> Result<String, AllocError>
     ensures { IfOk result (λ text. string_bytes text ≡ spec.body_text body.now) }
 {
@@ -89,7 +89,7 @@ fn body_text(alloc: Global, body: &ReplyBody) -> Result<String, AllocError>
     }
 }
 
-/// The line of a reply that says this.
+/// The line of a reply, which `says` this.
 #[derive(Drop)]
 struct ReplyText<'a> {
     session: u32,
@@ -108,7 +108,7 @@ impl fmt::Display for ReplyText<'_> {
     }
 }
 
-/// The line of a reply.
+/// Returns the line of a reply.
 fn reply_text(alloc: Global, reply: &Reply) -> Result<String, AllocError>
     ensures { IfOk result (λ text. string_bytes text ≡ spec.reply_text reply.now) }
 {
@@ -121,7 +121,7 @@ fn reply_text(alloc: Global, reply: &Reply) -> Result<String, AllocError>
     format!(in alloc; "{text}")
 }
 
-/// The line of a message to the server, from its first six bytes.
+/// The line of a message to the server, which shows its first six bytes.
 #[derive(Drop)]
 struct SendText<'a>(&'a [u8]);
 
@@ -142,7 +142,7 @@ impl fmt::Display for SendText<'_> {
     }
 }
 
-/// What a reaction prints: a line for its note, for each reply and for its message.
+/// Returns the text of a reaction: a line for its note, for each reply and for its message.
 pub fn reaction_text(alloc: Global, reaction: &Reaction) -> Result<String, AllocError>
     ensures { IfOk result (λ text. string_bytes text ≡ spec.reaction_text (shown reaction.now)) }
 {
@@ -158,7 +158,7 @@ pub fn reaction_text(alloc: Global, reaction: &Reaction) -> Result<String, Alloc
     Ok(text)
 }
 
-/// What a shape fault prints.
+/// The line for a shape fault.
 #[derive(Drop)]
 pub struct FaultText(pub ShapeFault);
 
@@ -171,7 +171,7 @@ impl fmt::Display for FaultText {
     }
 }
 
-/// What a device of so many trees prints.
+/// The line for a new device, with the number of its trees.
 #[derive(Drop)]
 pub struct ReadyText(pub u8);
 
@@ -184,7 +184,7 @@ impl fmt::Display for ReadyText {
     }
 }
 
-/// What a line that a script can't have prints: its number.
+/// The line for a line that a script can't have, with its number.
 #[derive(Drop)]
 pub struct ErrorText(pub u64);
 

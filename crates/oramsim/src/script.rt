@@ -20,9 +20,9 @@ use thiserror::Error;
 /// How a script ended.
 #[derive(Clone, Copy, Debug, PartialEq, Eq)]
 pub enum Ending {
-    /// At the end of its lines.
+    /// All lines were run.
     End,
-    /// At the line of this number, from 1, which is none that a script may have there.
+    /// The script can't have the line of this number where it is. Lines count from 1.
     BadLine(u64),
 }
 
@@ -45,7 +45,7 @@ impl From<AllocError> for SimFault {
     }
 }
 
-/// A line without the byte 0A at its end.
+/// Returns a line without the byte 0A at its end.
 fn without_end(line: &[u8]) -> &[u8]
     ensures { result.now ≡ strip_last 10 line.now }
 {
@@ -55,7 +55,7 @@ fn without_end(line: &[u8]) -> &[u8]
     }
 }
 
-/// Does what a line says. False is a line that the script can't have where it stands.
+/// Does what a line says. Returns false if the script can't have this line where it is.
 fn pass<W: Write>(
     alloc: Global,
     writer: &mut W,
@@ -97,7 +97,7 @@ fn pass<W: Write>(
     }
 }
 
-/// Tells the number of a line that the script can't have.
+/// Prints the number of a line that the script can't have.
 fn tell_bad<W: Write>(alloc: Global, writer: &mut W, number: u64) -> Result<(), SimFault>
     ensures ok { OnOk result (Appends (W.contents writer.old) (W.contents writer.new) (error_text number)) }
     ensures err { IfErr result (λ e. IsUntold e (error_text number) (W.contents writer.old) (W.contents writer.new)) }
@@ -131,7 +131,7 @@ fn run_lines<R: BufRead, W: Write>(
     Err(SimFault::Read)
 }
 
-/// Runs the lines of a script, and tells where memory ran out.
+/// Runs the lines of a script, and prints `out of memory` if memory runs out.
 fn run_to_end<R: BufRead, W: Write>(
     alloc: Global,
     reader: &mut R,
@@ -150,8 +150,8 @@ fn run_to_end<R: BufRead, W: Write>(
     }
 }
 
-/// Runs a script and writes what it prints. What ends a run early is the last line that is written: the number of a
-/// line that the script can't have, or that memory ran out.
+/// Runs a script and writes what it prints. If the run ends early because of a line that the script can't have or
+/// because memory runs out, the last line that is written says so.
 pub fn run_script<R: BufRead, W: Write>(
     alloc: Global,
     reader: &mut R,

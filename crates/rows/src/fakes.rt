@@ -1,4 +1,4 @@
-//! Readers and writers that give or take little at a time, are interrupted, and end or fail.
+//! Readers and writers that give or take only a few bytes per call, are interrupted, and end or fail.
 
 use crate::reading::RowFault;
 use crate::words::Words;
@@ -6,7 +6,7 @@ use std::alloc::{AllocError, Global};
 use std::io;
 use std::io::{ErrorKind, Read, Write};
 
-/// How a reader or a writer goes on.
+/// How fast a reader or a writer goes on, and how it ends.
 #[derive(Drop)]
 pub struct Pace {
     /// How many bytes it gives or takes in a call, at most.
@@ -14,12 +14,12 @@ pub struct Pace {
     /// Whether it is interrupted before each call that gives or takes bytes.
     interrupts: bool,
     is_interrupted: bool,
-    /// Whether it fails where there are no more bytes, or no more room.
+    /// Whether it fails when there are no more bytes or no more room. If not, it ends.
     fails: bool,
     calls: u64,
 }
 
-/// The pace of the words `MOST smooth|interrupted ends|fails`.
+/// Reads the pace from the words `MOST smooth|interrupted ends|fails`.
 pub fn pace_in(words: &mut Words) -> Result<Pace, RowFault> {
     let most = words.size();
     let interrupts = match words.text() {
@@ -42,7 +42,7 @@ pub fn pace_in(words: &mut Words) -> Result<Pace, RowFault> {
 }
 
 impl Pace {
-    /// Gives or takes all that is asked for in one call.
+    /// Makes a pace that gives or takes everything that is asked for in one call.
     pub fn smooth(fails: bool) -> Pace {
         Pace {
             most: usize::MAX,
@@ -53,7 +53,8 @@ impl Pace {
         }
     }
 
-    /// Counts a call, and tells how many bytes it gives or takes, where `ready` could be. A call that is interrupted is an error.
+    /// Counts a call, and returns how many bytes it gives or takes at most, where `ready` is how many there are. Fails
+    /// if the call is interrupted, or if nothing is ready and the pace fails at the end.
     fn next(&mut self, ready: usize) -> io::Result<usize> {
         self.calls = self.calls.saturating_add(1);
         self.is_interrupted = self.interrupts && !self.is_interrupted;
@@ -67,7 +68,7 @@ impl Pace {
     }
 }
 
-/// Gives bytes at a pace.
+/// A reader that gives bytes at a pace.
 #[derive(Drop)]
 pub struct Source<'a> {
     rest: &'a [u8],
@@ -79,12 +80,12 @@ impl<'a> Source<'a> {
         Source { rest: bytes, pace }
     }
 
-    /// The bytes that were not given.
+    /// Returns the bytes that it hasn't given yet.
     pub fn rest(&self) -> &'a [u8] {
         self.rest
     }
 
-    /// How often it was called.
+    /// Returns how many times it was called.
     pub fn calls(&self) -> u64 {
         self.pace.calls
     }
@@ -101,7 +102,7 @@ impl Read for Source<'_> {
     }
 }
 
-/// Takes bytes at a pace, as long as it has room.
+/// A writer that takes bytes at a pace, as long as it has room.
 #[derive(Drop)]
 pub struct Target {
     bytes: Vec<u8>,
@@ -110,7 +111,7 @@ pub struct Target {
 }
 
 impl Target {
-    /// A target whose room is there from the beginning, so that writing takes no memory.
+    /// Makes a target with all its room, so that writing to it allocates nothing.
     pub fn new(alloc: Global, room: usize, pace: Pace) -> Result<Target, AllocError> {
         Ok(Target {
             bytes: Vec::with_capacity(alloc, room)?,
@@ -119,12 +120,12 @@ impl Target {
         })
     }
 
-    /// The bytes that were taken.
+    /// Returns the bytes that it has taken.
     pub fn bytes(&self) -> &[u8] {
         self.bytes.as_slice()
     }
 
-    /// How often it was called.
+    /// Returns how many times it was called.
     pub fn calls(&self) -> u64 {
         self.pace.calls
     }

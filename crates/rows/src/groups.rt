@@ -1,9 +1,9 @@
-//! What many calls answer: equal answers of calls in a row are written once.
+//! The answers of many calls: equal answers of calls in a row are written once.
 
 use crate::page::Page;
 use std::alloc::Global;
 
-/// The calls in a row that answered the same, up to now.
+/// The last calls in a row that gave the same answer.
 #[derive(Drop)]
 pub struct Groups {
     first: u64,
@@ -20,7 +20,8 @@ impl Groups {
         }
     }
 
-    /// Takes what the call of a number answers. Where that is new, the group before is written.
+    /// Adds the answer of call `number`. If it differs from the answer before, the group before is
+    /// written.
     pub fn add(&mut self, number: u64, said: &Page, page: &mut Page) {
         if !self.said.is_like(said) {
             self.end(page);
@@ -30,7 +31,7 @@ impl Groups {
         self.last = number;
     }
 
-    /// Writes the group, as `FIRST..LAST ANSWER`, if there is one.
+    /// Writes the group as `FIRST..LAST ANSWER`, if there is one.
     pub fn end(&mut self, page: &mut Page) {
         if self.said.is_empty() {
             return;

@@ -1,8 +1,9 @@
-//! What the row programs share: they read rows of text, make the call that each row names, and write the row with what the
-//! call answered.
+//! What the row programs share. They read rows of text, make the call that each row names, and write the row with the
+//! call's answer.
 //!
-//! A row is `CALL ARGUMENTS => ANSWER`. Lines that are empty or begin with `#` are copied. Bytes are written in hexadecimal,
-//! with `ff*16` for a byte that stands eight times or more in a row, parts parted by dots, and `-` for no bytes.
+//! A row is `CALL ARGUMENTS => ANSWER`. Lines that are empty or begin with `#` are copied. Bytes are written in
+//! hexadecimal, in parts that dots separate: `ff*16` is one byte with how many times it occurs, which is used from
+//! eight times on, and `-` is no bytes.
 #![tactic(auto)]
 
 mod fakes;

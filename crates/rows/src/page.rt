@@ -1,4 +1,4 @@
-//! The answer of a row, as it is written.
+//! The answer of a row as text.
 
 ghost use Rattle.std.specs.Prelude.{◌≤◌, length};
 
@@ -6,11 +6,11 @@ use crate::reading::RowFault;
 use std::alloc::{AllocError, Global};
 use std::fmt::{Debug, Display};
 
-/// From how many on equal bytes are written once, with their count.
+/// Equal bytes are written once, with their count, if there are at least this many.
 const LONG_RUN: usize = 8;
 
-/// Text that grows: the answer of one row. A page that finds no memory remembers that, and from then on has no text to give;
-/// so what writes on it goes on, and only who asks for the text has a fault to handle.
+/// Text that grows: the answer of one row. If memory runs out, the page remembers that and gives no text any more. So
+/// code that writes on a page has no faults to handle; only the code that asks for the text has.
 #[derive(Drop)]
 pub struct Page {
     alloc: Global,
@@ -19,7 +19,7 @@ pub struct Page {
 }
 
 impl Page {
-    /// An empty page.
+    /// Makes an empty page.
     pub fn new(alloc: Global) -> Page {
         Page {
             alloc,
@@ -28,7 +28,7 @@ impl Page {
         }
     }
 
-    /// What was written. The fault is that there was no memory for all of it.
+    /// Returns what was written. Fails if there was no memory for all of it.
     pub fn text(&self) -> Result<&str, RowFault> {
         if self.lacks_memory {
             Err(RowFault::OutOfMemory)
@@ -37,34 +37,34 @@ impl Page {
         }
     }
 
-    /// Whether nothing was written.
+    /// Returns whether nothing was written.
     pub fn is_empty(&self) -> bool {
         self.text.is_empty()
     }
 
-    /// Whether both have the same text. A page that found no memory is like no other.
+    /// Returns whether both have the same text. A page that ran out of memory is like no other.
     pub fn is_like(&self, other: &Page) -> bool {
         let are_whole = !self.lacks_memory && !other.lacks_memory;
         are_whole && self.text.as_str() == other.text.as_str()
     }
 
-    /// Takes the text away. A want of memory is not forgotten.
+    /// Removes the text. The page still remembers if memory ran out.
     pub fn clear(&mut self) {
         self.text.clear();
     }
 
-    /// Remembers that memory ran out, where it did.
+    /// Remembers if memory ran out.
     fn note(&mut self, written: Result<(), AllocError>) {
         self.lacks_memory = self.lacks_memory || written.is_err();
     }
 
-    /// Writes text behind what stands there.
+    /// Appends text.
     fn put(&mut self, text: &str) {
         let written = self.text.push_str(text);
         self.note(written);
     }
 
-    /// Writes a word behind what stands there, with a space between.
+    /// Appends a word, after a space if there is text before it.
     pub fn word(&mut self, word: &str) {
         if !self.text.is_empty() {
             self.put(" ");
@@ -72,14 +72,14 @@ impl Page {
         self.put(word);
     }
 
-    /// Ends a part of the answer by a semicolon. Where nothing stands yet, there is none.
+    /// Ends a part of the answer with a semicolon, if there is text.
     pub fn part(&mut self) {
         if !self.text.is_empty() {
             self.put(";");
         }
     }
 
-    /// Writes a word that was made, if there was memory to make it.
+    /// Appends a word that was made, if there was memory to make it.
     pub fn made(&mut self, word: Result<String, AllocError>) {
         match word {
             Ok(word) => self.word(word.as_str()),
@@ -87,37 +87,37 @@ impl Page {
         }
     }
 
-    /// Writes a number in decimal digits as a word.
+    /// Appends a number in decimal digits as a word.
     pub fn number<T: Display + Copy>(&mut self, number: T) {
         let word = format!(in self.alloc; "{number}");
         self.made(word);
     }
 
-    /// Writes the first and the last number of a range as a word.
+    /// Appends the first and the last number of a range as a word.
     pub(crate) fn range(&mut self, first: u64, last: u64) {
         let word = format!(in self.alloc; "{first}..{last}");
         self.made(word);
     }
 
-    /// Writes a fault in brackets, as it is shown to a person.
+    /// Appends a fault in brackets, as a person reads it.
     pub fn fault<T: Display + Copy>(&mut self, fault: T) {
         let word = format!(in self.alloc; "({fault})");
         self.made(word);
     }
 
-    /// Writes a value as it is shown to a programmer: of a case without fields its name.
+    /// Appends a value as a programmer reads it; a case without fields is its name.
     pub fn show<T: Debug>(&mut self, value: &T) {
         let word = format!(in self.alloc; "{value:?}");
         self.made(word);
     }
 
-    /// Writes what stands on another page as a word.
+    /// Appends the text of another page as a word.
     pub fn page(&mut self, other: &Page) {
         self.lacks_memory = self.lacks_memory || other.lacks_memory;
         self.word(other.text.as_str());
     }
 
-    /// Writes a text as it is, line ends as `\n`, with a space before it.
+    /// Appends a text as it is, with `\n` for the ends of lines, after a space.
     pub fn lines(&mut self, text: &str) {
         self.word("");
         let mut rest = text;
@@ -132,18 +132,18 @@ impl Page {
         self.put(rest);
     }
 
-    /// Writes `yes` or `no`.
+    /// Appends `yes` or `no`.
     pub fn flag(&mut self, flag: bool) {
         self.word(if flag { "yes" } else { "no" });
     }
 
-    /// Writes bytes as a word, runs of equal ones by their count, `-` where there are none.
+    /// Appends bytes as a word: runs of equal bytes with their count, and `-` if there are none.
     pub fn bytes(&mut self, bytes: &[u8]) {
         self.word("");
         self.bytes_behind(bytes);
     }
 
-    /// The same without a space before it.
+    /// Appends bytes in the same way, but without a space before them.
     pub fn bytes_behind(&mut self, bytes: &[u8]) {
         if bytes.is_empty() {
             self.put("-");
@@ -160,7 +160,7 @@ impl Page {
         }
     }
 
-    /// Writes bytes that are all equal, behind another part of a word.
+    /// Appends bytes that are all equal, after the part `before` of the same word.
     fn equal_bytes(&mut self, before: Part, first: u8, bytes: &[u8]) -> Part {
         let run = bytes.len();
         let part = if run < LONG_RUN {
@@ -184,7 +184,7 @@ impl Page {
     }
 }
 
-/// What stands before some bytes in a word.
+/// The part of a word that is before some bytes.
 #[derive(Clone, Copy)]
 enum Part {
     Nothing,
@@ -194,7 +194,7 @@ enum Part {
     Run,
 }
 
-/// How many bytes from the first on are equal to it.
+/// Returns how many bytes from the first on are equal to it.
 fn run_len(bytes: &[u8], first: u8) -> usize
     ensures { result ≤ length bytes.now }
 {

@@ -1,4 +1,4 @@
-//! Rows are read in turn, and written with their answers.
+//! Reads rows in turn, and writes each with its answer.
 
 use crate::page::Page;
 use crate::words::Words;
@@ -9,10 +9,10 @@ use std::io::{BufRead, BufReader, BufWriter, ErrorKind, Write};
 use std::num::{ParseIntError, TryFromIntError};
 use std::process::ExitCode;
 
-/// What keeps a row from being answered.
+/// Why a row isn't answered.
 #[derive(Clone, Copy, Debug, PartialEq, Eq)]
 pub enum RowFault {
-    /// The words are no call's.
+    /// The words make no call.
     NoRow,
     OutOfMemory,
 }
@@ -50,9 +50,10 @@ impl From<FromHexError> for RowFault {
     }
 }
 
-/// The calls that the rows of a program may name, and what they work on from row to row.
+/// The calls that the rows of a program may name, and the values that these calls keep from row to row.
 pub trait Table {
-    /// Makes the call of this name with these words, and writes on the page what it answers.
+    /// Makes the call of this name with these words, and writes its answer on the page. Fails with [`RowFault::NoRow`]
+    /// if the words make no call.
     fn answer(
         &mut self,
         alloc: Global,
@@ -62,7 +63,7 @@ pub trait Table {
     ) -> Result<(), RowFault>;
 }
 
-/// Answers one row, without its line's end.
+/// Answers one row, which comes without the end of its line.
 fn answer_row<T: Table>(
     alloc: Global,
     table: &mut T,
@@ -83,7 +84,7 @@ fn answer_row<T: Table>(
     }
 }
 
-/// A row without its expected answer.
+/// Returns a row without its expected answer.
 fn call_of(line: &str) -> &str {
     match line.split_once(" =>") {
         Some((row, _)) => row,
@@ -117,8 +118,8 @@ fn answer_rows<R: BufRead + Drop, W: Write, T: Table>(
     Ok(())
 }
 
-/// Answers the rows of the standard input on the standard output. The status is 3 where memory ran out, which the last line
-/// says, and 4 where reading or writing failed.
+/// Answers the rows of standard input on standard output. The exit status is 3 if memory ran out, which the last line
+/// then says, and 4 if reading or writing failed.
 pub fn run_table<T: Table>(rt: &(impl Input + Print + AllocGlobal), table: &mut T) -> ExitCode {
     let alloc = rt.alloc();
     let reader = BufReader::new(alloc, rt.reader());
@@ -133,7 +134,7 @@ pub fn run_table<T: Table>(rt: &(impl Input + Print + AllocGlobal), table: &mut 
     ended(&mut writer, answered)
 }
 
-/// The status of rows that ended so, once the last line is written.
+/// Writes the last line, and returns the exit status of rows that ended like this.
 fn ended<W: Write>(writer: &mut W, answered: io::Result<()>) -> ExitCode {
     let status = match answered {
         Ok(()) => 0,

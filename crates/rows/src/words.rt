@@ -1,10 +1,11 @@
-//! The words of a row, as they are asked for.
+//! The words of a row, read one by one.
 
 use crate::reading::RowFault;
 use std::alloc::Global;
 
-/// The words of a call that are still to be read. One that is missing, or isn't what is asked for, is remembered as a fault, and a
-/// zero or nothing stands in its place; so who reads words has no fault to handle, and the row's answer is not written in the end.
+/// The words of a call that are still to be read. If a word is missing or isn't what was asked for, that is remembered
+/// as a fault, and a zero or an empty value is returned instead. So code that reads words has no faults to handle; in
+/// the end the row's answer isn't written.
 #[derive(Drop)]
 pub struct Words<'a> {
     rest: &'a str,
@@ -12,7 +13,7 @@ pub struct Words<'a> {
 }
 
 impl<'a> Words<'a> {
-    /// The words of a line, which single spaces part.
+    /// Splits a line into words, which single spaces separate.
     pub fn of(line: &'a str) -> Words<'a> {
         Words {
             rest: line.trim(),
@@ -20,12 +21,12 @@ impl<'a> Words<'a> {
         }
     }
 
-    /// Whether every word was read.
+    /// Returns whether every word was read.
     pub fn is_empty(&self) -> bool {
         self.rest.is_empty()
     }
 
-    /// Tells the first fault of the words that were read, if there was any.
+    /// Returns the first fault of the words that were read, if there was one.
     pub fn check(&self) -> Result<(), RowFault> {
         match self.fault {
             None => Ok(()),
@@ -33,13 +34,13 @@ impl<'a> Words<'a> {
         }
     }
 
-    /// Remembers a fault, and gives what stands in place of the word.
+    /// Remembers a fault, and returns the value to use instead of the word.
     fn note<T>(&mut self, fault: RowFault, instead: T) -> T {
         self.fault = self.fault.or(Some(fault));
         instead
     }
 
-    /// What was read, or what stands in its place where that failed.
+    /// Returns what was read, or `instead` if that failed.
     fn noted<T: Drop>(&mut self, read: Result<T, RowFault>, instead: T) -> T {
         match read {
             Ok(value) => value,
@@ -47,7 +48,7 @@ impl<'a> Words<'a> {
         }
     }
 
-    /// The next word.
+    /// Returns the next word.
     pub fn text(&mut self) -> &'a str {
         if self.rest.is_empty() {
             return self.note(RowFault::NoRow, "");
@@ -57,20 +58,20 @@ impl<'a> Words<'a> {
         word
     }
 
-    /// All words that are left, as one text.
+    /// Returns all words that are left, as one text.
     pub fn all(&mut self) -> &'a str {
         let rest = self.rest;
         self.rest = "";
         rest
     }
 
-    /// All words that are left, as a text in which `\n` stands for the end of a line.
+    /// Returns all words that are left, as a text in which `\n` is the end of a line.
     pub fn lines(&mut self, alloc: Global) -> String {
         let read = lines_of(alloc, self.all());
         self.noted(read, String::new(alloc))
     }
 
-    /// The next word as a decimal number.
+    /// Reads the next word as a decimal number.
     pub fn number(&mut self) -> u64 {
         match self.text().parse::<u64>() {
             Ok(number) => number,
@@ -78,8 +79,8 @@ impl<'a> Words<'a> {
         }
     }
 
-    /// The next five words as decimal numbers, as those of a device: its blocks, the bytes of each, the slots of a bucket, the
-    /// greatest table and the lifetime.
+    /// Reads the next five words as the decimal numbers of a device: its blocks, the bytes of each, the slots of a
+    /// bucket, the greatest number of entries of the table, and the lifetime.
     pub fn five_numbers(&mut self) -> [u64; 5] {
         [
             self.number(),
@@ -90,7 +91,7 @@ impl<'a> Words<'a> {
         ]
     }
 
-    /// The next word as a decimal number below 2^32.
+    /// Reads the next word as a decimal number below 2^32.
     pub fn short(&mut self) -> u32 {
         match u32::try_from(self.number()) {
             Ok(number) => number,
@@ -98,7 +99,7 @@ impl<'a> Words<'a> {
         }
     }
 
-    /// The next word as a decimal number below 2^8.
+    /// Reads the next word as a decimal number below 2^8.
     pub fn byte(&mut self) -> u8 {
         match u8::try_from(self.number()) {
             Ok(number) => number,
@@ -106,7 +107,7 @@ impl<'a> Words<'a> {
         }
     }
 
-    /// The next word as a length or a place.
+    /// Reads the next word as a length or a position.
     pub fn size(&mut self) -> usize {
         match usize::try_from(self.number()) {
             Ok(number) => number,
@@ -114,7 +115,7 @@ impl<'a> Words<'a> {
         }
     }
 
-    /// Whether the next word is `yes`; `no` is the other that may stand there.
+    /// Reads the next word, which is `yes` or `no`, as a flag.
     pub fn flag(&mut self) -> bool {
         match self.text() {
             "yes" => true,
@@ -123,13 +124,13 @@ impl<'a> Words<'a> {
         }
     }
 
-    /// The next word as bytes.
+    /// Reads the next word as bytes.
     pub fn bytes(&mut self, alloc: Global) -> Vec<u8> {
         let read = bytes_of(alloc, self.text());
         self.noted(read, Vec::new(alloc))
     }
 
-    /// The next word as 32 bytes. With another number of bytes the row is not one.
+    /// Reads the next word as 32 bytes. Any other number of bytes is a fault.
     pub fn array(&mut self, alloc: Global) -> [u8; 32] {
         let bytes = self.bytes(alloc);
         let mut array = [0; 32];
@@ -140,7 +141,7 @@ impl<'a> Words<'a> {
         array
     }
 
-    /// All words that are left, each as bytes.
+    /// Reads all words that are left, each as bytes.
     pub fn bodies(&mut self, alloc: Global) -> Vec<Vec<u8>> {
         let mut bodies = Vec::new(alloc);
         for _ in 0..u64::MAX {
@@ -154,7 +155,7 @@ impl<'a> Words<'a> {
         bodies
     }
 
-    /// All words that are left, as decimal numbers.
+    /// Reads all words that are left as decimal numbers.
     pub fn numbers(&mut self, alloc: Global) -> Vec<u64> {
         let mut numbers = Vec::new(alloc);
         for _ in 0..u64::MAX {
@@ -168,7 +169,7 @@ impl<'a> Words<'a> {
         numbers
     }
 
-    /// All words that are left, as decimal numbers below 2^32.
+    /// Reads all words that are left as decimal numbers below 2^32.
     pub fn shorts(&mut self, alloc: Global) -> Vec<u32> {
         let mut numbers = Vec::new(alloc);
         for _ in 0..u64::MAX {
@@ -183,7 +184,7 @@ impl<'a> Words<'a> {
     }
 }
 
-/// A text in which `\n` stands for the end of a line.
+/// Replaces each `\n` in a text by the end of a line.
 fn lines_of(alloc: Global, word: &str) -> Result<String, RowFault> {
     let mut text = String::new(alloc);
     let mut rest = word;
@@ -199,7 +200,7 @@ fn lines_of(alloc: Global, word: &str) -> Result<String, RowFault> {
     Ok(text)
 }
 
-/// The bytes that a word means: parts of hexadecimal digits, or of one byte that stands there many times, and `-` for none.
+/// Reads the bytes that a word means: parts that are hexadecimal digits or one byte with its count, or `-` for none.
 fn bytes_of(alloc: Global, word: &str) -> Result<Vec<u8>, RowFault> {
     let mut rest = word;
     let mut bytes = Vec::new(alloc);
@@ -217,7 +218,7 @@ fn bytes_of(alloc: Global, word: &str) -> Result<Vec<u8>, RowFault> {
     Ok(bytes)
 }
 
-/// Adds the bytes of one part: hexadecimal digits, or one byte and how many times it stands there.
+/// Appends the bytes of one part: hexadecimal digits, or one byte with its count.
 fn push_part(alloc: Global, bytes: &mut Vec<u8>, part: &str) -> Result<(), RowFault> {
     let Some((byte, count)) = part.split_once('*') else {
         let made = hex::decode(alloc, part)?;

@@ -1,11 +1,11 @@
-//! Commands and events as words.
+//! Reads commands and events from words.
 
 use oram_bytes::{Bytes, Words as Tape};
 use oram_run::{Command, Event};
 use rows::{Page, RowFault, Words};
 use std::alloc::Global;
 
-/// A command of this kind: `read ADDRESS`, `write ADDRESS DATA` or `discard ADDRESS`.
+/// Reads a command of this kind: `read ADDRESS`, `write ADDRESS DATA` or `discard ADDRESS`.
 pub fn command_of(alloc: Global, kind: &str, words: &mut Words) -> Result<Command, RowFault> {
     let address = words.short();
     match kind {
@@ -16,8 +16,8 @@ pub fn command_of(alloc: Global, kind: &str, words: &mut Words) -> Result<Comman
     }
 }
 
-/// An event of this kind: `KIND SESSION ADDRESS [DATA] TAPE` for a command, `hear BYTES` for an answer, `lost`, `reopened`
-/// or `retry`.
+/// Reads an event of this kind: `KIND SESSION ADDRESS [DATA] TAPE` for a command, `hear BYTES` for an answer, `lost`,
+/// `reopened` or `retry`.
 pub fn event_of(alloc: Global, kind: &str, words: &mut Words) -> Result<Event, RowFault> {
     match kind {
         "hear" => Ok(Event::Answer(Bytes::from_vec(words.bytes(alloc)))),

@@ -1,7 +1,7 @@
 //! Rows of a core over a host in memory.
 //!
-//! `core new SEALER` formats the device anew, where the sealer is `plain` or `chacha KEY`. The core before it is kept as the
-//! former one, for `core alike`.
+//! `core new SEALER` formats the device again, with the sealer `plain` or `chacha KEY`. What was seen of the core
+//! before it is kept, for `core alike`.
 
 mod changed;
 mod hostile;
@@ -16,7 +16,7 @@ use oram_geometry::Device;
 use rows::{Page, RowFault, Words};
 use std::alloc::Global;
 
-/// The core of the rows, by its sealer, and what was seen of the one before it.
+/// The core of the rows, with the one sealer or the other, and what was seen of the core before it.
 #[derive(Drop)]
 pub struct Cores {
     plain: Option<Machine<PlainSeal>>,
@@ -24,7 +24,7 @@ pub struct Cores {
     former: Option<Seen>,
 }
 
-/// What was seen of a core.
+/// Returns what was seen of a core.
 fn seen_of<S: Sealer>(machine: Option<Machine<S>>) -> Option<Seen> {
     Some(machine?.into_seen())
 }
@@ -38,7 +38,7 @@ impl Cores {
         }
     }
 
-    /// Begins anew with a device just formatted: how many messages that took.
+    /// Formats the device again. Writes how many messages that took.
     fn begin(
         &mut self,
         alloc: Global,
@@ -69,7 +69,7 @@ impl Cores {
         Ok(())
     }
 
-    /// `core alike`: whether the host sees of this core what it saw of the former one.
+    /// `core alike`: writes whether the host sees the same of this core as of the former one.
     fn alike(&self, page: &mut Page) -> Result<(), RowFault> {
         let seen = match (&self.plain, &self.chacha) {
             (Some(machine), _) => machine.seen(),

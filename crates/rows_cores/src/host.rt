@@ -6,10 +6,10 @@ use oram_wire::{Sink, SinkFault};
 use rows::RowFault;
 use std::alloc::Global;
 
-/// What a host answers that has no room.
+/// The answer of a host that has no room.
 const NO_ROOM: [u8; 2] = [0x81, 8];
 
-/// The host that took these messages.
+/// Makes the host that took these messages.
 pub fn host_of(alloc: Global, messages: &[Vec<u8>]) -> Result<Server, RowFault> {
     let mut host = Server::new(alloc);
     for message in messages {
@@ -22,7 +22,7 @@ pub fn host_of(alloc: Global, messages: &[Vec<u8>]) -> Result<Server, RowFault> 
     Ok(host)
 }
 
-/// What a fault of a formatting is to a row.
+/// Returns the row's fault for a fault of a formatting.
 pub fn row_fault(fault: FormatFault) -> RowFault {
     match fault {
         FormatFault::OutOfMemory => RowFault::OutOfMemory,
@@ -30,7 +30,7 @@ pub fn row_fault(fault: FormatFault) -> RowFault {
     }
 }
 
-/// What a host answers. That it has no room is a want of memory.
+/// Returns the host's answer. Here a host has no room only if memory ran out, so this fails then.
 pub fn host_answer(alloc: Global, host: &mut Server, body: &[u8]) -> Result<Vec<u8>, RowFault> {
     let answer = host.answer(alloc, body)?;
     if answer.as_slice() == NO_ROOM.as_slice() {

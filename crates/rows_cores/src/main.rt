@@ -1,7 +1,7 @@
 //! Rows of a run: commands, events and cores.
 //!
-//! `device BLOCKS BLOCK_BYTES SLOTS TOP LIFETIME` begins anew with a device. Every other row begins with the layer that it
-//! calls.
+//! `device BLOCKS BLOCK_BYTES SLOTS TOP LIFETIME` begins with a new device. Every other row begins with the layer that
+//! it calls.
 #![tactic(auto)]
 
 mod commands;
@@ -24,7 +24,7 @@ struct Calls {
 }
 
 impl Calls {
-    /// `device SIZES`: how many trees the device has, or the number of the fault.
+    /// `device SIZES`: writes how many trees the device has, or the number of the fault.
     fn begin(&mut self, words: &mut Words, page: &mut Page) -> Result<(), RowFault> {
         let [blocks, block_bytes, slots, top, lifetime] = words.five_numbers();
         self.cores = Cores::new();

@@ -6,7 +6,7 @@ use oram_run::{Note, Reaction, Refusal};
 use rows::{Page, RowFault, Words};
 use std::alloc::Global;
 
-/// `run copy COMMAND`: the copy of a command, and whether it equals the command.
+/// `run copy COMMAND`: writes the copy of a command, and whether it equals the command.
 fn copy(alloc: Global, words: &mut Words, page: &mut Page) -> Result<(), RowFault> {
     let command = command_of(alloc, words.text(), words)?;
     let copy = command.copy(alloc)?;
@@ -16,7 +16,7 @@ fn copy(alloc: Global, words: &mut Words, page: &mut Page) -> Result<(), RowFaul
     Ok(())
 }
 
-/// `run equal COMMAND COMMAND`: whether the two are equal.
+/// `run equal COMMAND COMMAND`: writes whether the two are equal.
 fn equal(alloc: Global, words: &mut Words, page: &mut Page) -> Result<(), RowFault> {
     let first = command_of(alloc, words.text(), words)?;
     let second = command_of(alloc, words.text(), words)?;
@@ -24,7 +24,7 @@ fn equal(alloc: Global, words: &mut Words, page: &mut Page) -> Result<(), RowFau
     Ok(())
 }
 
-/// `run same EVENT EVENT`: whether the two are equal.
+/// `run same EVENT EVENT`: writes whether the two are equal.
 fn same(alloc: Global, words: &mut Words, page: &mut Page) -> Result<(), RowFault> {
     let first = event_of(alloc, words.text(), words)?;
     let second = event_of(alloc, words.text(), words)?;
@@ -32,14 +32,14 @@ fn same(alloc: Global, words: &mut Words, page: &mut Page) -> Result<(), RowFaul
     Ok(())
 }
 
-/// `run only REASON`: the reaction that is a failure, and nothing else.
+/// `run only REASON`: writes a reaction that is a failure and nothing else.
 fn only(alloc: Global, words: &mut Words, page: &mut Page) -> Result<(), RowFault> {
     let reaction = Reaction::only(alloc, Note::FailedNow(reason_of(words)?));
     show_reaction(&reaction, page);
     Ok(())
 }
 
-/// `run refusals`: the numbers and names of the refusals.
+/// `run refusals`: writes the numbers and names of the refusals.
 fn refusals(page: &mut Page) -> Result<(), RowFault> {
     for refusal in [
         Refusal::BadAddress,

@@ -1,9 +1,9 @@
-//! What a core says, in words.
+//! Writes what a core says, in words.
 
 use oram_run::{Note, Reaction, Reason, Refusal, Reply, ReplyBody};
 use rows::{Page, RowFault, Words};
 
-/// The name of a refusal.
+/// Returns the name of a refusal.
 pub fn refusal_name(refusal: Refusal) -> &'static str {
     match refusal {
         Refusal::BadAddress => "address",
@@ -103,7 +103,7 @@ pub fn show_reaction(reaction: &Reaction, page: &mut Page) {
     show_rest(reaction, page);
 }
 
-/// Writes a reaction to one of many answers: its note only where the answer was not taken.
+/// Writes a reaction to one of many answers. Its note is left out if the answer was taken.
 pub fn show_answered(reaction: &Reaction, page: &mut Page) {
     if reaction.note != Note::Taken {
         show_note(reaction.note, page);
@@ -111,7 +111,7 @@ pub fn show_answered(reaction: &Reaction, page: &mut Page) {
     show_rest(reaction, page);
 }
 
-/// The reason that words name.
+/// Reads a reason from words.
 pub fn reason_of(words: &mut Words) -> Result<Reason, RowFault> {
     match words.text() {
         "malformed" => Ok(Reason::Malformed),

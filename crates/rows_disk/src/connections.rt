@@ -1,4 +1,4 @@
-//! Connections to a device of four blocks of four bytes, whose export has the name `disk`.
+//! Connections to a device of four blocks of four bytes. Its export has the name `disk`.
 
 use crate::endings::{with_memory, write_ended};
 use crate::stopping;
@@ -8,27 +8,27 @@ use std::alloc::Global;
 use std::io;
 use std::io::{BufReader, Read};
 
-/// Room for what a client is told.
+/// The most bytes that a client receives.
 const ROOM: usize = 65_536;
 
-/// What a client said, and what it was told.
+/// What a client sent, and what it received.
 #[derive(Drop)]
 pub struct Connections {
     said: Vec<u8>,
     told: Vec<u8>,
 }
 
-/// How a connection ended, and what the client was told.
+/// How a connection ended, and the writer that has what the client received.
 type Talk = (Result<u64, NbdFault>, Target);
 
-/// Takes no notice of when a handshake is done.
+/// Ignores when a handshake is done.
 struct NoWatch;
 
 impl HandshakeWatch for NoWatch {
     fn agreed(&self) {}
 }
 
-/// A connection of a client that says what a reader gives, and takes no more bytes than there is room for.
+/// Serves a client that sends what `reader` gives, and has room for `room` bytes.
 fn talked<R: Read>(
     alloc: Global,
     reader: &mut R,
@@ -41,7 +41,7 @@ fn talked<R: Read>(
     Ok((with_memory(ended, target.bytes())?, target))
 }
 
-/// The pace of a word: whether a stream `ends` or `fails` where it can't go on.
+/// Reads the pace of a stream, which `ends` or `fails` when it can't go on.
 fn pace_of(words: &mut Words) -> Result<Pace, RowFault> {
     match words.text() {
         "ends" => Ok(Pace::smooth(false)),
@@ -56,7 +56,8 @@ fn write_talk(page: &mut Page, talk: &Talk) -> Result<(), RowFault> {
     Ok(())
 }
 
-/// `nbd options COUNT HEAD`: how a connection ends whose client takes one option so often, and how many bytes it is told.
+/// `nbd options COUNT HEAD`: a client sends the option `HEAD` `COUNT` times. Writes how its connection ends, and how
+/// many bytes it receives.
 fn options(alloc: Global, words: &mut Words, page: &mut Page) -> Result<(), RowFault> {
     let count = words.short();
     let head = words.bytes(alloc);
@@ -71,7 +72,8 @@ fn options(alloc: Global, words: &mut Words, page: &mut Page) -> Result<(), RowF
     Ok(())
 }
 
-/// `nbd passes HEAD COUNT REST`: what comes of requests, of which the first is followed by so many bytes.
+/// `nbd passes HEAD COUNT REST`: a client sends the requests `HEAD`, then `COUNT` bytes, then `REST`. Writes how its
+/// connection ends, and what it receives.
 fn passes(alloc: Global, words: &mut Words, page: &mut Page) -> Result<(), RowFault> {
     let head = words.bytes(alloc);
     let count = words.number();
@@ -96,7 +98,7 @@ impl Connections {
         }
     }
 
-    /// `nbd talk SAID`: how a connection ends whose client says this and no more, and what it is told.
+    /// `nbd talk SAID`: a client sends `SAID` and no more. Writes how its connection ends, and what it receives.
     fn talk(&mut self, alloc: Global, words: &mut Words, page: &mut Page) -> Result<(), RowFault> {
         self.said = words.bytes(alloc);
         let mut source = Source::new(&self.said, Pace::smooth(false));
@@ -105,7 +107,7 @@ impl Connections {
         write_talk(page, &talk)
     }
 
-    /// `nbd ahead`: the same over a reader that reads ahead.
+    /// `nbd ahead`: the same with a reader that reads ahead.
     fn ahead(&self, alloc: Global, page: &mut Page) -> Result<(), RowFault> {
         let Ok(mut reader) = BufReader::new(alloc, self.said.as_slice()) else {
             return Err(RowFault::OutOfMemory);
@@ -114,7 +116,8 @@ impl Connections {
         write_talk(page, &talk)
     }
 
-    /// How a connection ends whose client says so many bytes of it, and how many bytes it is told, which begin what it was told.
+    /// Cuts off the connection after the client has sent `len` bytes. Returns how it ends, and how many bytes the
+    /// client receives. These have to be a beginning of what it received for all of its bytes.
     fn cut(
         &self,
         alloc: Global,
@@ -132,8 +135,9 @@ impl Connections {
         Ok((ended, target.bytes().len()))
     }
 
-    /// `nbd cuts FROM TO`, `nbd breaks FROM TO`: what comes of a client that says so many of these bytes, from one count on
-    /// and below another, before its connection ends or fails; which is the same at each count.
+    /// `nbd cuts FROM TO`, `nbd breaks FROM TO`: a client's connection ends, or fails, after it has sent a number of
+    /// its bytes, from `FROM` up to but not including `TO`. Writes how the connection ends, and how many bytes the
+    /// client receives; or `not alike` if that isn't the same for all these numbers.
     fn cuts(
         &self,
         alloc: Global,
@@ -154,15 +158,16 @@ impl Connections {
         Ok(())
     }
 
-    /// Whether a connection over which no more bytes can be told ends for that, once they are.
+    /// Returns whether a connection to a client with room for `room` bytes ends because there is no more room, after
+    /// the client has received that many.
     fn is_full(&self, alloc: Global, room: usize, pace: Pace) -> Result<bool, RowFault> {
         let mut source = Source::new(&self.said, Pace::smooth(false));
         let (ended, target) = talked(alloc, &mut source, room, pace)?;
         Ok(ended == Err(NbdFault::Write) && self.told.get(..room) == Some(target.bytes()))
     }
 
-    /// `nbd rooms FROM TO ends|fails`: whether a connection ends for that wherever no more bytes can be told, from one count
-    /// on and below another, once they are.
+    /// `nbd rooms FROM TO ends|fails`: writes whether this holds for every amount of room from `FROM` up to but not
+    /// including `TO`: the client receives so many bytes, and the connection ends because there is no more room.
     fn rooms(&self, alloc: Global, words: &mut Words, page: &mut Page) -> Result<(), RowFault> {
         let from = words.size();
         let to = words.size();

@@ -4,10 +4,10 @@ use oram_nbd::NbdFault;
 use rows::{Page, RowFault};
 use std::alloc::Global;
 
-/// The beginning of a reply that refuses a request for want of memory.
+/// The beginning of a reply that refuses a request because memory ran out.
 const NO_MEMORY: [u8; 8] = [0x67, 0x44, 0x66, 0x98, 0, 0, 0, 12];
 
-/// How a connection ended, and what its client was told, where there was memory for all of it.
+/// Returns how a connection ended. Fails with [`RowFault::OutOfMemory`] if memory ran out in it.
 pub fn with_memory(
     ended: Result<u64, NbdFault>,
     told: &[u8],

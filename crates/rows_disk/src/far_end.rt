@@ -1,4 +1,4 @@
-//! The far end of a connection, where a host answers each message when its answer is read.
+//! The far end of a connection: a host that answers each message when its answer is read.
 
 use oram_host::Server;
 use oram_wire::{LONGEST_BODY, next_frame, put_frame};
@@ -7,36 +7,36 @@ use std::cell::RefCell;
 use std::io;
 use std::io::{ErrorKind, Read, Write};
 
-/// The answer of a host that found no memory.
+/// The answer of a host that is out of memory.
 const NO_ROOM: [u8; 2] = [0x81, 8];
 
-/// The bytes of an answer that gives back an identity.
+/// The length in bytes of an answer that gives back an identity.
 const IDENTITY_ANSWER_LEN: usize = 33;
 
-/// How a host answers otherwise than an honest one.
+/// How a host answers, honestly or not.
 #[derive(Clone, Copy, Debug)]
 pub enum Conduct {
     Honest,
-    /// A byte of each path is another.
+    /// Changes a byte of each path.
     AltersPaths,
-    /// A byte of the identity is another.
+    /// Changes a byte of the identity.
     AltersIdentity,
-    /// Behind so many messages it refuses one by this code.
+    /// Refuses the message after the first `behind` ones with this code.
     Refuses { behind: u64, code: u8 },
 }
 
-/// A host, and what is on its way to it and from it.
+/// A host, and the bytes on their way to it and from it.
 #[derive(Drop)]
 pub struct FarEnd {
     alloc: Global,
     server: Server,
     sent: Vec<u8>,
-    /// How many of the bytes that were sent it has read.
+    /// How many of the sent bytes the host has read.
     heard: usize,
     answer: Vec<u8>,
     /// How many bytes of the answer were read.
     taken: usize,
-    /// How many messages it has answered, of how many before the connection ends.
+    /// How many messages the host has answered. After `most` answers the connection ends.
     answered: u64,
     most: u64,
     conduct: Conduct,
@@ -59,12 +59,12 @@ impl FarEnd {
         }
     }
 
-    /// Whether it failed for want of memory.
+    /// Returns whether the host failed because memory ran out.
     pub fn lacks_memory(&self) -> bool {
         self.lacks_memory
     }
 
-    /// The next message, of which all is to be here.
+    /// Returns the next message. Fails if not all of it was sent yet.
     fn next_message(&mut self) -> io::Result<Vec<u8>> {
         let mut rest = self.sent.get(self.heard..).unwrap_or(&[]);
         let Ok(Some(body)) = next_frame(self.alloc, &mut rest) else {
@@ -74,7 +74,7 @@ impl FarEnd {
         Ok(body)
     }
 
-    /// The answer of an honest host to a message.
+    /// Returns an honest host's answer to a message.
     pub fn honest_answer(&mut self, body: &[u8]) -> io::Result<Vec<u8>> {
         let answer = self.server.answer(self.alloc, body)?;
         if answer.as_slice() == NO_ROOM.as_slice() {
@@ -83,7 +83,7 @@ impl FarEnd {
         Ok(answer)
     }
 
-    /// The answer to a message.
+    /// Returns the answer to a message by this host's conduct.
     fn answer_to(&mut self, body: &[u8]) -> io::Result<Vec<u8>> {
         if let Conduct::Refuses { behind, code } = self.conduct
             && behind == self.answered
@@ -104,7 +104,7 @@ impl FarEnd {
         Ok(answer)
     }
 
-    /// Answers the next message, if there is to be an answer.
+    /// Answers the next message, unless the connection has ended.
     fn serve(&mut self) -> io::Result<()> {
         if self.answered == self.most {
             return Ok(());
@@ -120,7 +120,7 @@ impl FarEnd {
         Ok(())
     }
 
-    /// The bytes of the answer that weren't read, or of the next one. A want of memory is kept in mind.
+    /// Returns the unread bytes of the answer, or those of the next one. Remembers if memory ran out.
     fn ready(&mut self) -> io::Result<&[u8]> {
         if self.taken >= self.answer.len()
             && let Err(error) = self.serve()
@@ -132,7 +132,7 @@ impl FarEnd {
     }
 }
 
-/// The end of a connection that is read.
+/// The reading end of a connection.
 #[derive(Drop)]
 pub struct Answers<'a>(pub &'a RefCell<FarEnd>);
 
@@ -149,7 +149,7 @@ impl<'a> Read for Answers<'a> {
     }
 }
 
-/// The end of a connection that is written.
+/// The writing end of a connection.
 #[derive(Drop)]
 pub struct Messages<'a>(pub &'a RefCell<FarEnd>);
 

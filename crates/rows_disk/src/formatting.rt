@@ -11,14 +11,14 @@ use std::io::BufWriter;
 
 const IDENTITY: Identity = Identity([0x1d; 32]);
 
-/// What was told last.
+/// The progress that was reported last.
 #[derive(Drop)]
 struct Told {
     messages: Cell<u64>,
     of: Cell<u64>,
 }
 
-/// Keeps what it hears.
+/// Keeps the progress that it receives.
 #[derive(Drop)]
 struct Hearer<'a>(&'a Told);
 
@@ -29,7 +29,7 @@ impl<'a> Progress for Hearer<'a> {
     }
 }
 
-/// The device of five numbers.
+/// Makes the device with the next five numbers.
 fn device_in(words: &mut Words) -> Result<Device, RowFault> {
     let [blocks, block_bytes, slots, top, lifetime] = words.five_numbers();
     match Device::new(blocks, block_bytes, slots, top, lifetime) {
@@ -52,7 +52,7 @@ fn connection<'a>(
     }
 }
 
-/// What comes of so many formattings in turn, up to one that fails, and whether the core is idle then.
+/// Formats a device `times` times in turn, up to a time that fails. Returns whether each core is idle.
 fn formatted(
     alloc: Global,
     device: &Device,
@@ -66,7 +66,7 @@ fn formatted(
     Ok(is_idle)
 }
 
-/// Writes what came of formattings, where there was memory for them.
+/// Writes the result of formattings. Fails if memory ran out for them.
 fn write_made(
     page: &mut Page,
     made: Result<bool, FormattingFault>,
@@ -83,7 +83,8 @@ fn write_made(
     Ok(())
 }
 
-/// Writes what comes of so many formattings of a device over a connection, and how many messages of how many were done.
+/// Formats a device `times` times over a connection. Writes the result, and how many messages out of how many were
+/// answered.
 fn write_formatted(
     alloc: Global,
     page: &mut Page,
@@ -104,9 +105,9 @@ fn write_formatted(
     Ok(())
 }
 
-/// `format ahead TIMES MOST same|paths|identity SIZES`: what comes of so many formattings of a device over a connection, on which so many
-/// messages are answered, and where the paths or the identity that are fetched are others than the host's; and how many messages of how
-/// many were done.
+/// `format ahead TIMES MOST same|paths|identity SIZES`: formats a device `TIMES` times over a connection that ends
+/// after `MOST` answers. With `paths` or `identity` the host changes the paths or the identity that are fetched. Writes
+/// the result, and how many messages out of how many were answered.
 fn ahead(alloc: Global, words: &mut Words, page: &mut Page) -> Result<(), RowFault> {
     let times = words.short();
     let most = words.number();
@@ -121,7 +122,8 @@ fn ahead(alloc: Global, words: &mut Words, page: &mut Page) -> Result<(), RowFau
     write_formatted(alloc, page, &device, &far, times)
 }
 
-/// `format refused BEHIND CODE SIZES`: the same of one formatting, of which the message behind so many others is refused by this code.
+/// `format refused BEHIND CODE SIZES`: the same for one formatting, where the host refuses the message after the first
+/// `BEHIND` ones with this code.
 fn refused(alloc: Global, words: &mut Words, page: &mut Page) -> Result<(), RowFault> {
     let conduct = Conduct::Refuses {
         behind: words.number(),
@@ -132,7 +134,7 @@ fn refused(alloc: Global, words: &mut Words, page: &mut Page) -> Result<(), RowF
     write_formatted(alloc, page, &device, &far, 1)
 }
 
-/// `format meets BODY SIZES`: the same over a host that was given this message before.
+/// `format meets BODY SIZES`: the same for one formatting on a host that got this message before.
 fn meets(alloc: Global, words: &mut Words, page: &mut Page) -> Result<(), RowFault> {
     let body = words.bytes(alloc);
     let device = device_in(words)?;

@@ -4,7 +4,7 @@ use oram_nbd::{Command, HandshakeOption, OptionHead, Request};
 use rows::{Page, RowFault, Words};
 use std::alloc::Global;
 
-/// `head option CODE LENGTH`: the head of an option that carries so many bytes.
+/// `head option CODE LENGTH`: writes the head of an option that carries `LENGTH` bytes.
 fn option(alloc: Global, words: &mut Words, page: &mut Page) -> Result<(), RowFault> {
     let head = OptionHead {
         option: HandshakeOption::of(words.short()),
@@ -14,7 +14,7 @@ fn option(alloc: Global, words: &mut Words, page: &mut Page) -> Result<(), RowFa
     Ok(())
 }
 
-/// `head read_option BYTES`: the option of a head, and how many bytes it carries.
+/// `head read_option BYTES`: writes the option of a head, and how many bytes it carries.
 fn read_option(alloc: Global, words: &mut Words, page: &mut Page) -> Result<(), RowFault> {
     let bytes = words.bytes(alloc);
     let Some(head) = OptionHead::decode(&bytes) else {
@@ -26,12 +26,12 @@ fn read_option(alloc: Global, words: &mut Words, page: &mut Page) -> Result<(), 
     Ok(())
 }
 
-/// The next word as a decimal number below 2^16.
+/// Reads the next word as a decimal number below 2^16.
 fn code_in(words: &mut Words) -> Result<u16, RowFault> {
     Ok(u16::try_from(words.number())?)
 }
 
-/// `head request CODE FLAGS COOKIE OFFSET LENGTH`: the head of a request.
+/// `head request CODE FLAGS COOKIE OFFSET LENGTH`: writes the head of a request.
 fn request(alloc: Global, words: &mut Words, page: &mut Page) -> Result<(), RowFault> {
     let request = Request {
         command: Command::of(code_in(words)?),
@@ -44,7 +44,8 @@ fn request(alloc: Global, words: &mut Words, page: &mut Page) -> Result<(), RowF
     Ok(())
 }
 
-/// `head read_request BYTES`: the command of a request, its flags, its cookie, and the range that it is about.
+/// `head read_request BYTES`: writes the command of a request, its flags, its cookie, and the range of bytes
+/// that it is about.
 fn read_request(alloc: Global, words: &mut Words, page: &mut Page) -> Result<(), RowFault> {
     let bytes = words.bytes(alloc);
     let Some(request) = Request::decode(&bytes) else {

@@ -25,7 +25,8 @@ fn write_head(page: &mut Page, head: &Head) {
     page.show(&head.sealer);
 }
 
-/// `disk put ROOM PACE SALT CHECK SEALER STATE`: whether the file of a disk is written, and the bytes that were.
+/// `disk put ROOM PACE SALT CHECK SEALER STATE`: writes whether the kept file of a disk was written, and the bytes that
+/// were.
 fn put(alloc: Global, words: &mut Words, page: &mut Page) -> Result<(), RowFault> {
     let room = words.size();
     let mut target = Target::new(alloc, room, pace_in(words)?)?;
@@ -41,7 +42,7 @@ fn put(alloc: Global, words: &mut Words, page: &mut Page) -> Result<(), RowFault
     Ok(())
 }
 
-/// `disk read FILE`: the salt, the key check, the sealer and the state of a disk's file.
+/// `disk read FILE`: writes the salt, the key check, the sealer and the state of a kept file.
 fn read(alloc: Global, words: &mut Words, page: &mut Page) -> Result<(), RowFault> {
     let file = words.bytes(alloc);
     match read_kept_file(&file) {
@@ -54,7 +55,7 @@ fn read(alloc: Global, words: &mut Words, page: &mut Page) -> Result<(), RowFaul
     Ok(())
 }
 
-/// `disk keys KEY SALT`: the sealer's key, the tape's, the key check and the identity.
+/// `disk keys KEY SALT`: writes the sealer's key, the tape's key, the key check and the identity.
 fn keys(alloc: Global, words: &mut Words, page: &mut Page) -> Result<(), RowFault> {
     let key = DiskKey(words.array(alloc));
     let salt = Salt(words.array(alloc));
@@ -65,7 +66,8 @@ fn keys(alloc: Global, words: &mut Words, page: &mut Page) -> Result<(), RowFaul
     Ok(())
 }
 
-/// `disk opens KEY SALT CHECK`: what a key opens a disk of this salt and key check with: the sealer's key, the tape's and the identity.
+/// `disk opens KEY SALT CHECK`: opens a disk with this salt and key check. Writes the sealer's key, the tape's key and
+/// the identity, or why it doesn't open.
 fn opens(alloc: Global, words: &mut Words, page: &mut Page) -> Result<(), RowFault> {
     let key = DiskKey(words.array(alloc));
     let head = Head {
@@ -84,7 +86,8 @@ fn opens(alloc: Global, words: &mut Words, page: &mut Page) -> Result<(), RowFau
     Ok(())
 }
 
-/// `disk head KEY SALT SEALER OTHER`: the head of a disk that is formatted with a key, and whether another key opens it.
+/// `disk head KEY SALT SEALER OTHER`: writes the head of a disk that is formatted with `KEY`, and whether the key
+/// `OTHER` opens it.
 fn head(alloc: Global, words: &mut Words, page: &mut Page) -> Result<(), RowFault> {
     let key = DiskKey(words.array(alloc));
     let salt = Salt(words.array(alloc));
@@ -120,14 +123,14 @@ fn reason_in(words: &mut Words) -> Result<FileReason, RowFault> {
     }
 }
 
-/// Writes a failure as a client tells it.
+/// Writes a failure as the client prints it.
 fn write_failure(alloc: Global, page: &mut Page, failure: FileFailure) -> Result<(), RowFault> {
     let text = format!(in alloc; "{failure}")?;
     page.lines(text.as_str());
     Ok(())
 }
 
-/// `disk failure STEP REASON`: the text of a failure.
+/// `disk failure STEP REASON`: writes the text of a failure.
 fn failure(alloc: Global, words: &mut Words, page: &mut Page) -> Result<(), RowFault> {
     let failure = FileFailure {
         step: step_in(words)?,
@@ -136,11 +139,11 @@ fn failure(alloc: Global, words: &mut Words, page: &mut Page) -> Result<(), RowF
     write_failure(alloc, page, failure)
 }
 
-/// A place where one deed fails, the others being done.
+/// A place in which one deed fails and all others are done.
 #[derive(Drop)]
 struct Desk<'a> {
     deeds: &'a Cell<u64>,
-    /// How many deeds are done before it.
+    /// How many deeds are done before the one that fails.
     fails_behind: u64,
     reason: FileReason,
 }
@@ -190,7 +193,7 @@ impl<'a> Place for Desk<'a> {
     }
 }
 
-/// Keeps so many states, and writes whether each was kept.
+/// Keeps `count` states, and writes whether each was kept.
 fn keep_states(
     page: &mut Page,
     keeper: &mut FileKeeper<Desk<'_>>,
@@ -205,8 +208,9 @@ fn keep_states(
     Ok(())
 }
 
-/// `disk keeps COUNT SYNC DEEDS REASON`: whether each of so many states is kept, on the disk or not, in a place where the deed
-/// behind so many others fails; how many deeds there were, and why a state was not kept.
+/// `disk keeps COUNT SYNC DEEDS REASON`: keeps `COUNT` states, with sync or without, in a place in which the deed after
+/// the first `DEEDS` ones fails. Writes whether each state was kept, how many deeds there were, and why a state was not
+/// kept.
 fn keeps(alloc: Global, words: &mut Words, page: &mut Page) -> Result<(), RowFault> {
     let count = words.short();
     let sync = words.flag();

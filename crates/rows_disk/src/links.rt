@@ -8,20 +8,21 @@ use rows::{Page, RowFault, Words};
 use std::alloc::Global;
 use std::cell::Cell;
 
-/// How many milliseconds pass before a try that is slow fails.
+/// The milliseconds after which a slow try fails.
 const SLOW: u64 = 350;
 
-/// How many milliseconds nobody uses the link at an `idle`.
+/// The milliseconds for which nobody uses the link at an `idle`.
 const IDLE: u64 = 1_000_000;
 
-/// What is to happen to a link, a letter for each try to open a way and for each call over one, in order; and what is counted meanwhile.
+/// What happens to a link: a letter for each try to open a connection and for each call over one, in order. It also
+/// counts what happened.
 #[derive(Drop)]
 struct Play<'a> {
     letters: &'a [u8],
     place: Cell<usize>,
     /// Whether the clock can be read.
     has_clock: bool,
-    /// In milliseconds, what the clock reads.
+    /// What the clock reads, in milliseconds.
     time: Cell<u64>,
     paused: Cell<u64>,
     tries: Cell<u64>,
@@ -31,7 +32,7 @@ struct Play<'a> {
     back: Cell<u64>,
 }
 
-/// Adds to a count, which stays at its greatest number.
+/// Adds to a count, up to the greatest number.
 fn add(count: &Cell<u64>, more: u64) {
     let before = count.get();
     count.set(before.saturating_add(more));
@@ -53,7 +54,7 @@ impl<'a> Play<'a> {
         }
     }
 
-    /// The next letter. Behind the last one everything fails.
+    /// Returns the next letter. After the last one, everything fails.
     fn next(&self) -> u8 {
         let place = self.place.get();
         self.place.set(place.saturating_add(1));
@@ -61,8 +62,9 @@ impl<'a> Play<'a> {
     }
 }
 
-/// A way whose calls go by the letters: `a` is answered with a refusal of an empty message, `r` by a host without room; `s` has no answer while
-/// the host may be silent, `t` no whole one while it may give one, `w` fails after some time, and any other at once.
+/// A connection whose calls go by the letters. For `a` the host refuses an empty message, and for `r` it has no room.
+/// For `s` it is silent for as long as it may be, for `t` it gives no whole answer in the time for one, for `w` the
+/// call fails after some time, and for any other letter at once.
 #[derive(Drop)]
 struct Way<'a> {
     play: &'a Play<'a>,
@@ -116,8 +118,9 @@ impl<'a> Link for Way<'a> {
     ghost counts = { λ l m body outcome h. h };
 }
 
-/// Opens ways by the letters: `o` opens one, `d` leads to another disk, `n` to a host without one, `r` to one without room; `s` has no answer
-/// within the limit, `w` fails after some time, and any other at once.
+/// Opens connections by the letters. For `o` it opens one. For `d` the host keeps another disk, for `n` it keeps none,
+/// and for `r` it has no room. For `s` the host gives no answer within the limit, for `w` the try fails after some
+/// time, and for any other letter at once.
 #[derive(Drop)]
 struct Script<'a>(&'a Play<'a>);
 
@@ -167,7 +170,7 @@ impl<'a> Dial for Script<'a> {
     }
 }
 
-/// Counts how often the host was lost, had no room, and was back.
+/// Counts how many times the host was lost, had no room, and was back.
 #[derive(Drop)]
 struct News<'a>(&'a Play<'a>);
 
@@ -185,7 +188,8 @@ impl<'a> Watch for News<'a> {
     }
 }
 
-/// Does with the link what a word says: a `call` of an empty message, to `reach` the host, or to stay `idle` for a thousand seconds.
+/// Does with the link what a word says: it makes a `call` with an empty message, tries to `reach` the host, or stays
+/// `idle` for a thousand seconds.
 fn ask<'a>(
     alloc: Global,
     link: &mut PatientLink<Script<'a>, News<'a>>,
@@ -209,13 +213,13 @@ fn ask<'a>(
     Ok(())
 }
 
-/// A count with its name.
+/// Writes a count with its name.
 fn write_count(page: &mut Page, name: &str, count: &Cell<u64>) {
     page.word(name);
     page.number(count.get());
 }
 
-/// What the link answers to the words, and then how many faults it had and why it gave up.
+/// Writes what the link answers to the words, and then how many faults it had and why it gave up.
 fn perform(
     alloc: Global,
     play: &Play,
@@ -239,10 +243,11 @@ fn perform(
     Ok(())
 }
 
-/// `link plays SECONDS CLOCK LETTERS WORDS`: what a link of so much patience answers to the words, by a clock that `ticks` or `fails`, where
-/// the letters say what comes of its tries and calls; how many faults it had, and why it gave up, or that it is `patient`; how many ways it
-/// tried to open and how many calls went over them, how many milliseconds it paused and how many passed; how often the host was lost, had no
-/// room, and was back.
+/// `link plays SECONDS CLOCK LETTERS WORDS`: a link with `SECONDS` of patience does what the words say, with a clock
+/// that `ticks` or `fails`; the letters decide about its tries and calls. Writes the answers to the words, how many
+/// faults the link had, and why it gave up, or that it is `patient`; how many connections it tried to open and how many
+/// calls went over them; how many milliseconds it paused and how many passed; and how many times the host was lost, had
+/// no room, and was back.
 fn plays(alloc: Global, words: &mut Words, page: &mut Page) -> Result<(), RowFault> {
     let seconds = words.number();
     let has_clock = match words.text() {

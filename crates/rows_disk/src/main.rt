@@ -1,6 +1,6 @@
-//! Rows of the block device: the NBD protocol, a volume behind it, and what a client keeps of a disk.
+//! Rows of the block device: the NBD protocol, a volume, and what a client keeps of a disk.
 //!
-//! The first word of a row names the layer that it is about, the second one the call.
+//! The first word of a row names its layer, the second one the call.
 #![tactic(auto)]
 
 mod connections;
@@ -19,7 +19,7 @@ use std::alloc::Global;
 use std::process::ExitCode;
 use volumes::Volumes;
 
-/// The calls of these rows, with what each layer keeps from row to row.
+/// The calls of these rows, with the values that each layer keeps from row to row.
 #[derive(Drop)]
 struct Calls {
     connections: Connections,

@@ -1,4 +1,4 @@
-//! A device in memory that stops once it was called so often.
+//! A device in memory that stops after a number of calls.
 
 use crate::endings::{with_memory, write_ended};
 use oram_nbd::{Disk, DiskFault, MemDisk, transmit};
@@ -70,7 +70,8 @@ impl Disk for StoppingDisk {
     }
 }
 
-/// `nbd stops CALLS SAID`: what comes of requests to a device that stops behind so many calls, and what is told.
+/// `nbd stops CALLS SAID`: a client sends the requests `SAID` to a device that stops after `CALLS` calls. Writes
+/// how its connection ends, and what it receives.
 pub fn stops(alloc: Global, words: &mut Words, page: &mut Page) -> Result<(), RowFault> {
     let mut disk = StoppingDisk {
         disk: MemDisk::new(alloc, 4, 4)?,

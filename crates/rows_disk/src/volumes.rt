@@ -1,4 +1,4 @@
-//! Volumes in memory, and what becomes of them where a keeper or a link fails.
+//! Volumes in memory, whose keeper or link may fail.
 
 use crate::endings::{with_memory, write_ended};
 use oram_bucket::PlainSeal;
@@ -12,7 +12,7 @@ use oram_volume::Volume;
 use rows::{Pace, Page, RowFault, Source, Target, Words};
 use std::alloc::Global;
 
-/// Keeps nothing, so often.
+/// A keeper that accepts this many states, and keeps none of them.
 #[derive(Drop)]
 struct Room(u64);
 
@@ -36,7 +36,7 @@ pub struct Volumes {
     volume: Option<Volume<PlainSeal, FaultLink<Direct>, Room, ChaChaTape>>,
 }
 
-/// The core of a new device of 64 blocks of 16 bytes over three trees, whose records the host takes.
+/// Formats a new device of 64 blocks of 16 bytes in three trees, and returns its core. The host takes the records.
 fn formatted(alloc: Global, server: &mut Server) -> Result<Core<PlainSeal>, RowFault> {
     let Ok(device) = Device::new(64, 16, 4, 4, 100) else {
         return Err(RowFault::NoRow);
@@ -52,7 +52,8 @@ impl Volumes {
         Volumes { volume: None }
     }
 
-    /// `volume new ROOM AT TIMES`: a new volume, whose keeper keeps so many states, and whose link fails from one call on so often.
+    /// `volume new ROOM AT TIMES`: makes a new volume. Its keeper keeps `ROOM` states, and its link fails `TIMES` times
+    /// from call `AT` on.
     fn begin(&mut self, alloc: Global, words: &mut Words) -> Result<(), RowFault> {
         let room = words.number();
         let at = words.number();
@@ -71,7 +72,7 @@ impl Volumes {
         Ok(())
     }
 
-    /// `volume keeps ROOM`: the keeper keeps so many states from now on.
+    /// `volume keeps ROOM`: from now on the keeper keeps `ROOM` states.
     fn give_room(&mut self, words: &mut Words) -> Result<(), RowFault> {
         let Some(volume) = &mut self.volume else {
             return Err(RowFault::NoRow);
@@ -80,7 +81,7 @@ impl Volumes {
         Ok(())
     }
 
-    /// `volume bare`: the host is another from now on, that has nothing of the device.
+    /// `volume bare`: from now on the host is another one, which has nothing of the device.
     fn mislead(&mut self, alloc: Global) -> Result<(), RowFault> {
         let Some(volume) = &mut self.volume else {
             return Err(RowFault::NoRow);
@@ -90,7 +91,7 @@ impl Volumes {
         Ok(())
     }
 
-    /// `volume asks SAID`: what comes of requests, and what is told.
+    /// `volume asks SAID`: a client sends the requests `SAID`. Writes how its connection ends, and what it receives.
     fn asks(&mut self, alloc: Global, words: &mut Words, page: &mut Page) -> Result<(), RowFault> {
         let said = words.bytes(alloc);
         let Some(volume) = &mut self.volume else {

@@ -10,7 +10,7 @@ use oram_geometry::Device;
 use rows::{Page, RowFault, Words};
 use std::alloc::Global;
 
-/// The device whose first tree has the buckets of the next rows.
+/// The device of the next rows, in whose first tree the buckets are.
 #[derive(Drop)]
 pub struct Buckets {
     device: Option<Device>,
@@ -22,7 +22,7 @@ fn write_block(page: &mut Page, block: &Block) {
     page.bytes(&block.content);
 }
 
-/// Writes the address, the leaf and the data of each block, or that there is none.
+/// Writes the address, the leaf and the data of each block, or `empty` if there are none.
 fn write_blocks(page: &mut Page, blocks: &[Block]) {
     if blocks.is_empty() {
         page.word("empty");
@@ -32,7 +32,7 @@ fn write_blocks(page: &mut Page, blocks: &[Block]) {
     }
 }
 
-/// `bucket decode BYTES`: the blocks that the bytes spell, or the first fault.
+/// `bucket decode BYTES`: writes the blocks that the bytes encode, or the first fault.
 fn decode(
     alloc: Global,
     device: &Device,
@@ -51,7 +51,7 @@ fn decode(
     Ok(())
 }
 
-/// `bucket again BYTES`: the bytes of the bucket with the blocks that these spell.
+/// `bucket again BYTES`: decodes the bytes and writes the encoded bucket.
 fn again(
     alloc: Global,
     device: &Device,
@@ -92,7 +92,7 @@ fn write_sealed<S: Sealer>(
     Ok(())
 }
 
-/// `bucket seal SEALER NONCE BYTES`: the sealed bytes of the bucket that the bytes spell.
+/// `bucket seal SEALER NONCE BYTES`: decodes the bytes and writes the sealed bucket.
 fn seal(
     alloc: Global,
     device: &Device,
@@ -126,7 +126,7 @@ fn write_opened<S: Sealer>(
     Ok(())
 }
 
-/// `bucket open SEALER BYTES`: the blocks of a sealed bucket.
+/// `bucket open SEALER BYTES`: writes the blocks of a sealed bucket.
 fn open(
     alloc: Global,
     device: &Device,
@@ -141,7 +141,7 @@ fn open(
     }
 }
 
-/// `bucket copy ADDRESS LEAF BYTES`: the copy of a block.
+/// `bucket copy ADDRESS LEAF BYTES`: writes the copy of a block.
 fn copy(alloc: Global, words: &mut Words, page: &mut Page) -> Result<(), RowFault> {
     let block = Block {
         address: words.short(),
@@ -158,7 +158,8 @@ impl Buckets {
         Buckets { device: None }
     }
 
-    /// Answers a row about buckets. `bucket device SIZES` says of which device, and tells its depth.
+    /// Answers a row about buckets. `bucket device SIZES` sets the device, and writes whether there
+    /// is one.
     pub fn answer(
         &mut self,
         alloc: Global,

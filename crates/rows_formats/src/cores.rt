@@ -1,4 +1,4 @@
-//! Cores under the one sealer or the other.
+//! Cores with one sealer or the other.
 
 use crate::sealers::Sealing;
 use oram_bucket::{ChaChaSeal, PlainSeal, Sealer};
@@ -8,14 +8,14 @@ use oram_host::Server;
 use oram_state::{StateFault, decode_state, encode_state};
 use std::alloc::{AllocError, Global};
 
-/// A core under its sealer.
+/// A core with its sealer.
 #[derive(Drop)]
 pub enum AnyCore {
     Plain(Core<PlainSeal>),
     ChaCha(Core<ChaChaSeal>),
 }
 
-/// The core of a device just formatted, whose records a new server takes. It refuses them for want of memory alone.
+/// Formats a device on a new server, and returns its core. Such a server refuses a record only if memory ran out.
 fn formatted<S: Sealer>(
     alloc: Global,
     device: Device,
@@ -29,7 +29,7 @@ fn formatted<S: Sealer>(
 }
 
 impl AnyCore {
-    /// The core of a device just formatted, whose records a new server takes.
+    /// Formats a device on a new server, and returns its core.
     pub fn format(
         alloc: Global,
         device: Device,
@@ -42,7 +42,7 @@ impl AnyCore {
         })
     }
 
-    /// The core that a file tells of.
+    /// Reads a core from a file.
     pub fn read(alloc: Global, sealing: Sealing, file: &[u8]) -> Result<AnyCore, StateFault> {
         Ok(match sealing {
             Sealing::Plain(sealer) => AnyCore::Plain(decode_state(alloc, sealer, file)?),
@@ -58,7 +58,7 @@ impl AnyCore {
         }
     }
 
-    /// The file of the core.
+    /// Returns the file of the core.
     pub fn file(&self, alloc: Global) -> Result<Vec<u8>, AllocError> {
         match self {
             AnyCore::Plain(core) => encode_state(alloc, core),
@@ -66,7 +66,7 @@ impl AnyCore {
         }
     }
 
-    /// What a client keeps of the core.
+    /// Returns what a client keeps of the core.
     pub fn parts(&self, alloc: Global) -> Result<Parts, AllocError> {
         match self {
             AnyCore::Plain(core) => core.parts(alloc),
@@ -74,7 +74,7 @@ impl AnyCore {
         }
     }
 
-    /// How many bytes its sealer adds.
+    /// Returns how many bytes the sealer adds.
     pub fn overhead(&self) -> usize {
         match self {
             AnyCore::Plain(core) => core.overhead(),

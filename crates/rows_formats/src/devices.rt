@@ -11,13 +11,13 @@ pub struct Devices {
     device: Option<Device>,
 }
 
-/// The device of five numbers, or why there is none.
+/// Makes the device of the next five numbers, or returns why there is none.
 pub fn device_in(words: &mut Words) -> Result<Device, ShapeFault> {
     let [blocks, block_bytes, slots, top, lifetime] = words.five_numbers();
     Device::new(blocks, block_bytes, slots, top, lifetime)
 }
 
-/// `device record OVERHEAD`: the bytes of a record.
+/// `device record OVERHEAD`: writes the length of a record.
 fn record(device: &Device, words: &mut Words, page: &mut Page) -> Result<(), RowFault> {
     let overhead = words.size();
     if overhead > 64 {
@@ -27,7 +27,7 @@ fn record(device: &Device, words: &mut Words, page: &mut Page) -> Result<(), Row
     Ok(())
 }
 
-/// `device tree TREE`: its blocks, and its depth.
+/// `device tree TREE`: writes how many blocks the tree has, and its depth.
 fn tree(device: &Device, words: &mut Words, page: &mut Page) -> Result<(), RowFault> {
     let tree = words.byte();
     if tree >= device.trees() {
@@ -38,7 +38,7 @@ fn tree(device: &Device, words: &mut Words, page: &mut Page) -> Result<(), RowFa
     Ok(())
 }
 
-/// `device address TREE ADDRESS`: the address there of what belongs to a block of the device.
+/// `device address TREE ADDRESS`: writes the address in the tree of the block that leads to this block of the device.
 fn address(device: &Device, words: &mut Words, page: &mut Page) -> Result<(), RowFault> {
     let tree = words.byte();
     let address = words.short();
@@ -49,7 +49,7 @@ fn address(device: &Device, words: &mut Words, page: &mut Page) -> Result<(), Ro
     Ok(())
 }
 
-/// `device leaf TREE WORD`: the leaf that a word names.
+/// `device leaf TREE WORD`: writes the leaf that a word names.
 fn leaf(device: &Device, words: &mut Words, page: &mut Page) -> Result<(), RowFault> {
     let tree = words.byte();
     let word = words.number();
@@ -60,7 +60,7 @@ fn leaf(device: &Device, words: &mut Words, page: &mut Page) -> Result<(), RowFa
     Ok(())
 }
 
-/// `device node TREE LEAF LEVEL`: the node at a level of a leaf's path.
+/// `device node TREE LEAF LEVEL`: writes the node at a level of a leaf's path.
 fn node(device: &Device, words: &mut Words, page: &mut Page) -> Result<(), RowFault> {
     let tree = words.byte();
     let leaf = words.short();
@@ -72,7 +72,7 @@ fn node(device: &Device, words: &mut Words, page: &mut Page) -> Result<(), RowFa
     Ok(())
 }
 
-/// `device shared TREE LEAF LEAF`: the greatest level at which the paths of two leaves have one node.
+/// `device shared TREE LEAF LEAF`: writes the greatest level at which the paths of two leaves share a node.
 fn shared(device: &Device, words: &mut Words, page: &mut Page) -> Result<(), RowFault> {
     let tree = words.byte();
     let x = words.short();
@@ -84,7 +84,8 @@ fn shared(device: &Device, words: &mut Words, page: &mut Page) -> Result<(), Row
     Ok(())
 }
 
-/// `device sizes`: the bytes of a block, the slots, the table's entries, the lifetime, and the entries of a map block.
+/// `device sizes`: writes the bytes of a block, the slots, the table's entries, the lifetime, and the entries of a map
+/// block.
 fn sizes(device: &Device, page: &mut Page) -> Result<(), RowFault> {
     page.number(device.block_bytes());
     page.number(device.slots());
@@ -99,7 +100,8 @@ impl Devices {
         Devices { device: None }
     }
 
-    /// `device new BLOCKS BLOCK_BYTES SLOTS TOP LIFETIME`: how many trees it has, or the first fault.
+    /// `device new BLOCKS BLOCK_BYTES SLOTS TOP LIFETIME`: makes the device. Writes how many trees it has, or the
+    /// first fault.
     fn begin(&mut self, words: &mut Words, page: &mut Page) -> Result<(), RowFault> {
         match device_in(words) {
             Ok(device) => {

@@ -15,10 +15,10 @@ pub struct Files {
     sealing: Sealing,
 }
 
-/// Bytes of the digest at the end.
+/// The length of the digest at the end in bytes.
 const DIGEST_LEN: usize = 32;
 
-/// The core of a file, or why there is none.
+/// Reads the core of a file, or returns why there is none.
 pub fn core_in(
     alloc: Global,
     sealing: Sealing,
@@ -30,7 +30,7 @@ pub fn core_in(
     }
 }
 
-/// What is wrong with a file.
+/// Returns what is wrong with a file.
 fn fault_of(alloc: Global, sealing: Sealing, file: &[u8]) -> Result<Option<StateFault>, RowFault> {
     Ok(core_in(alloc, sealing, file)?.err())
 }
@@ -52,7 +52,7 @@ fn flip(file: &mut [u8], place: usize) -> Result<(), RowFault> {
     Ok(())
 }
 
-/// `file again SEALER FILE`: the file of the core that a file tells of.
+/// `file again SEALER FILE`: reads the core of a file, and writes the core's file.
 fn again(alloc: Global, words: &mut Words, page: &mut Page) -> Result<(), RowFault> {
     let sealing = sealing_in(alloc, words)?;
     let file = words.bytes(alloc);
@@ -71,7 +71,7 @@ impl Files {
         }
     }
 
-    /// `file kept SEALER FILE`: what is wrong with the file that the next rows change.
+    /// `file kept SEALER FILE`: sets the file that the next rows change. Writes what is wrong with it.
     fn keep(&mut self, alloc: Global, words: &mut Words, page: &mut Page) -> Result<(), RowFault> {
         self.sealing = sealing_in(alloc, words)?;
         self.file = words.bytes(alloc);
@@ -79,7 +79,7 @@ impl Files {
         Ok(())
     }
 
-    /// What is wrong with the file where the lowest bit of this byte is another.
+    /// Returns what is wrong with the file if the lowest bit of this byte is flipped.
     fn fault_beside(
         &mut self,
         alloc: Global,
@@ -91,8 +91,8 @@ impl Files {
         Ok(fault)
     }
 
-    /// `file flips FROM TO`: what is wrong with the file where the lowest bit of one byte is another, which is the same at
-    /// each place of the range.
+    /// `file flips FROM TO`: flips the lowest bit of one byte at a time. Writes what is wrong with the file then, or
+    /// `not alike` if that isn't the same for each byte from `FROM` up to but not including `TO`.
     fn flips(&mut self, alloc: Global, words: &mut Words, page: &mut Page) -> Result<(), RowFault> {
         let from = words.size();
         let wanted = self.fault_beside(alloc, from)?;
@@ -106,7 +106,7 @@ impl Files {
         Ok(())
     }
 
-    /// What is wrong with so many of the file's first bytes.
+    /// Returns what is wrong with the file's first `len` bytes.
     fn fault_before(&self, alloc: Global, len: usize) -> Result<Option<StateFault>, RowFault> {
         let Some(cut) = self.file.get(..len) else {
             return Err(RowFault::NoRow);
@@ -114,7 +114,8 @@ impl Files {
         fault_of(alloc, self.sealing, cut)
     }
 
-    /// `file cuts FROM TO`: what is wrong with so many of the file's first bytes, which is the same at each count of the range.
+    /// `file cuts FROM TO`: writes what is wrong with the file's first bytes, or `not alike` if that isn't the same for
+    /// each number of bytes from `FROM` up to but not including `TO`.
     fn cuts(&self, alloc: Global, words: &mut Words, page: &mut Page) -> Result<(), RowFault> {
         let from = words.size();
         let wanted = self.fault_before(alloc, from)?;
@@ -128,14 +129,15 @@ impl Files {
         Ok(())
     }
 
-    /// `file flip PLACE`: what is wrong with the file, in which the lowest bit of this byte is another from now on.
+    /// `file flip PLACE`: flips the lowest bit of a byte for the next rows too. Writes what is wrong with the file
+    /// then.
     fn flip(&mut self, alloc: Global, words: &mut Words, page: &mut Page) -> Result<(), RowFault> {
         flip(&mut self.file, words.size())?;
         write_fault(page, fault_of(alloc, self.sealing, &self.file)?);
         Ok(())
     }
 
-    /// The file with another byte at a place, and with the digest of what it then is.
+    /// Returns the file with another byte at a place, and with the right digest.
     fn edited(&self, alloc: Global, place: usize, byte: u8) -> Result<Vec<u8>, RowFault> {
         let mut file = self.file.as_slice().to_vec(alloc)?;
         file.truncate(file.len().saturating_sub(DIGEST_LEN));
@@ -148,7 +150,7 @@ impl Files {
         Ok(file)
     }
 
-    /// `file edit PLACE BYTE`: what is wrong with the file where this byte is another, behind its right digest.
+    /// `file edit PLACE BYTE`: writes what is wrong with the file if it has this byte there and the right digest.
     fn edit(&self, alloc: Global, words: &mut Words, page: &mut Page) -> Result<(), RowFault> {
         let place = words.size();
         let byte = words.byte();

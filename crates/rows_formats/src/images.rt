@@ -6,7 +6,7 @@ use oram_host::{ImageFault, Server};
 use rows::{Page, RowFault, Source, Target, Words, pace_in};
 use std::alloc::Global;
 
-/// `image save ROOM PACE`: how saving the host's image ends, and the bytes that were written.
+/// `image save ROOM PACE`: writes how saving the host's image ends, and the bytes that were written.
 fn save(
     alloc: Global,
     server: &Server,
@@ -23,7 +23,8 @@ fn save(
     Ok(())
 }
 
-/// `image load PACE BYTES`: how loading an image ends. The next rows are about the host that was loaded.
+/// `image load PACE BYTES`: loads an image, and writes how that ends. The next rows are about the host
+/// that was loaded.
 fn load(
     alloc: Global,
     servers: &mut Servers,

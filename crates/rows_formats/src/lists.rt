@@ -4,7 +4,7 @@ use oram_bytes::{Bytes, Words as WordList};
 use rows::{Page, RowFault, Words};
 use std::alloc::Global;
 
-/// `list bytes BYTES`: their count, whether there are none, and they themselves.
+/// `list bytes BYTES`: writes how many bytes there are, whether there are none, the bytes, and how many the vector has.
 fn bytes(alloc: Global, words: &mut Words, page: &mut Page) -> Result<(), RowFault> {
     let list = Bytes::from_vec(words.bytes(alloc));
     page.number(list.len());
@@ -14,7 +14,7 @@ fn bytes(alloc: Global, words: &mut Words, page: &mut Page) -> Result<(), RowFau
     Ok(())
 }
 
-/// `list same BYTES BYTES`: whether a list is equal to a copy of another.
+/// `list same BYTES BYTES`: writes whether a list is equal to a copy of another.
 fn same(alloc: Global, words: &mut Words, page: &mut Page) -> Result<(), RowFault> {
     let list = Bytes::from_vec(words.bytes(alloc));
     let other = words.bytes(alloc);
@@ -29,7 +29,8 @@ fn write_numbers(page: &mut Page, numbers: &[u64]) {
     }
 }
 
-/// `list words NUMBERS`: how many there are, whether there are none, they themselves, and how many there are in the vector.
+/// `list words NUMBERS`: writes how many numbers there are, whether there are none, the numbers, and how many the
+/// vector has.
 fn numbers(alloc: Global, words: &mut Words, page: &mut Page) -> Result<(), RowFault> {
     let list = WordList::from_vec(words.numbers(alloc));
     page.number(list.len());
@@ -39,7 +40,7 @@ fn numbers(alloc: Global, words: &mut Words, page: &mut Page) -> Result<(), RowF
     Ok(())
 }
 
-/// `list alike COUNT NUMBERS`: whether the first so many are equal to a copy of the others.
+/// `list alike COUNT NUMBERS`: writes whether the first `COUNT` numbers are equal to a copy of the others.
 fn alike(alloc: Global, words: &mut Words, page: &mut Page) -> Result<(), RowFault> {
     let count = words.size();
     let numbers = words.numbers(alloc);

@@ -1,6 +1,6 @@
 //! Rows of sizes, buckets, sealed bytes, messages, streams of frames, bucket hosts, their images, and state files.
 //!
-//! The first word of a row names the layer that it is about, the second one the call.
+//! The first word of a row names its layer, the second one the call.
 #![tactic(auto)]
 
 mod buckets;
@@ -27,7 +27,7 @@ use std::alloc::Global;
 use std::process::ExitCode;
 use streams::Streams;
 
-/// The calls of these rows, with what each layer keeps from row to row.
+/// The calls of these rows, with the values that each layer keeps from row to row.
 #[derive(Drop)]
 struct Calls {
     devices: Devices,

@@ -17,7 +17,7 @@ pub fn write_fault(page: &mut Page, fault: WireFault) -> Result<(), RowFault> {
     Ok(())
 }
 
-/// The request that words tell, as `write_view` writes it.
+/// Reads a request from words, in the form in which `write_view` writes it.
 fn request_in(alloc: Global, words: &mut Words) -> Result<HostRequest, RowFault> {
     match words.text() {
         "fetch" => Ok(HostRequest::Fetch {
@@ -43,7 +43,7 @@ fn request_in(alloc: Global, words: &mut Words) -> Result<HostRequest, RowFault>
     }
 }
 
-/// The request with its bytes lent.
+/// Returns the request with its bytes lent.
 fn view_of(request: &HostRequest) -> HostView<'_> {
     match request {
         HostRequest::Fetch { tree, leaf } => HostView::Fetch {
@@ -110,14 +110,14 @@ fn write_view(page: &mut Page, view: HostView<'_>) {
     }
 }
 
-/// `host write REQUEST`: the body of a request.
+/// `host write REQUEST`: writes the body of a request.
 fn write(alloc: Global, words: &mut Words, page: &mut Page) -> Result<(), RowFault> {
     let request = request_in(alloc, words)?;
     page.bytes(&request.encode(alloc)?);
     Ok(())
 }
 
-/// `host read BODY`: the request that a body is.
+/// `host read BODY`: reads a body as a request, and writes it.
 fn read(alloc: Global, words: &mut Words, page: &mut Page) -> Result<(), RowFault> {
     let body = words.bytes(alloc);
     match HostRequest::decode(alloc, &body) {
@@ -129,7 +129,7 @@ fn read(alloc: Global, words: &mut Words, page: &mut Page) -> Result<(), RowFaul
     }
 }
 
-/// `host view BODY`: the request that a body is, with the body's bytes.
+/// `host view BODY`: reads a body as a view, which has the body's own bytes, and writes the request.
 fn view(alloc: Global, words: &mut Words, page: &mut Page) -> Result<(), RowFault> {
     let body = words.bytes(alloc);
     match HostView::read(&body) {
@@ -141,7 +141,7 @@ fn view(alloc: Global, words: &mut Words, page: &mut Page) -> Result<(), RowFaul
     }
 }
 
-/// `host heads TREE LEAF`: the body of a fetch of this path, and the beginning of a store to it.
+/// `host heads TREE LEAF`: writes the body of a fetch of this path, and the beginning of a store to it.
 fn heads(words: &mut Words, page: &mut Page) -> Result<(), RowFault> {
     let tree = words.byte();
     let leaf = words.short();
@@ -165,7 +165,7 @@ pub fn write_answer(page: &mut Page, answer: &HostAnswer) {
     }
 }
 
-/// `host answered BODY`: the answer that a body is.
+/// `host answered BODY`: reads a body as an answer, and writes it.
 fn answered(alloc: Global, words: &mut Words, page: &mut Page) -> Result<(), RowFault> {
     let body = words.bytes(alloc);
     match HostAnswer::decode(alloc, &body) {
@@ -177,13 +177,13 @@ fn answered(alloc: Global, words: &mut Words, page: &mut Page) -> Result<(), Row
     }
 }
 
-/// `host done`: the body of that answer.
+/// `host done`: writes the body of the answer `done`.
 fn done(alloc: Global, page: &mut Page) -> Result<(), RowFault> {
     page.bytes(&HostAnswer::Done.encode(alloc)?);
     Ok(())
 }
 
-/// `host refused CODE`: the body of a refusal.
+/// `host refused CODE`: writes the body of a refusal.
 fn refused(alloc: Global, words: &mut Words, page: &mut Page) -> Result<(), RowFault> {
     let code = words.byte();
     if code == 0 || code > 8 {
@@ -193,7 +193,7 @@ fn refused(alloc: Global, words: &mut Words, page: &mut Page) -> Result<(), RowF
     Ok(())
 }
 
-/// `host records BYTES`: the body of an answer with these.
+/// `host records BYTES`: writes the body of an answer with these records.
 fn records(alloc: Global, words: &mut Words, page: &mut Page) -> Result<(), RowFault> {
     let bytes = Bytes::from_vec(words.bytes(alloc));
     if bytes.is_empty() {
@@ -203,7 +203,7 @@ fn records(alloc: Global, words: &mut Words, page: &mut Page) -> Result<(), RowF
     Ok(())
 }
 
-/// Puts a body into a sink, known by its bound alone. Of a list of bodies nothing but memory can be refused.
+/// Puts a body into a sink of any kind. A list of bodies fails only if memory runs out.
 fn put<S: Sink>(sink: &mut S, body: &[u8]) -> Result<(), RowFault> {
     match sink.put(body) {
         Ok(()) => Ok(()),
@@ -212,7 +212,7 @@ fn put<S: Sink>(sink: &mut S, body: &[u8]) -> Result<(), RowFault> {
     }
 }
 
-/// The sink that took the bodies of the words.
+/// Puts the bodies in the words into a sink, and returns it.
 fn filled(alloc: Global, words: &mut Words) -> Result<ListSink, RowFault> {
     let mut sink = ListSink::new(alloc);
     for body in &words.bodies(alloc) {
@@ -221,7 +221,7 @@ fn filled(alloc: Global, words: &mut Words) -> Result<ListSink, RowFault> {
     Ok(sink)
 }
 
-/// `host kept BODIES`: the bodies that a list keeps of these, behind their count.
+/// `host kept BODIES`: puts the bodies into a list. Writes how many it keeps, and which.
 fn kept(alloc: Global, words: &mut Words, page: &mut Page) -> Result<(), RowFault> {
     let sink = filled(alloc, words)?;
     page.number(sink.bodies().len());

@@ -1,17 +1,17 @@
-//! What hides bytes from the host.
+//! Sealers, which hide bytes from the host.
 
 use oram_bucket::{ChaChaSeal, OpenFault, PlainSeal, Sealer};
 use rows::{Page, RowFault, Words};
 use std::alloc::{AllocError, Global};
 
-/// A sealer as a row names it.
+/// One of the sealers that rows name.
 #[derive(Clone, Copy)]
 pub enum Sealing {
     Plain(PlainSeal),
     ChaCha(ChaChaSeal),
 }
 
-/// The sealer of a word: `plain`, or a key of 32 bytes for ChaCha20.
+/// Reads a sealer: `plain`, or a key of 32 bytes for ChaCha20.
 pub fn sealing_in(alloc: Global, words: &mut Words) -> Result<Sealing, RowFault> {
     let word = words.text();
     if word == "plain" {
@@ -23,7 +23,7 @@ pub fn sealing_in(alloc: Global, words: &mut Words) -> Result<Sealing, RowFault>
     Ok(Sealing::ChaCha(ChaChaSeal { key }))
 }
 
-/// Writes what sealed bytes open to.
+/// Opens sealed bytes, and writes the result.
 pub fn write_opened<S: Sealer>(
     alloc: Global,
     sealer: &S,
@@ -38,7 +38,7 @@ pub fn write_opened<S: Sealer>(
     Ok(())
 }
 
-/// `seal close SEALER NONCE BYTES`: the bytes sealed under a nonce.
+/// `seal close SEALER NONCE BYTES`: writes the bytes sealed with a nonce.
 fn close(alloc: Global, words: &mut Words, page: &mut Page) -> Result<(), RowFault> {
     let sealing = sealing_in(alloc, words)?;
     let nonce = words.number();
@@ -51,7 +51,7 @@ fn close(alloc: Global, words: &mut Words, page: &mut Page) -> Result<(), RowFau
     Ok(())
 }
 
-/// `seal open SEALER BYTES`: what sealed bytes open to.
+/// `seal open SEALER BYTES`: opens sealed bytes, and writes the result.
 fn open(alloc: Global, words: &mut Words, page: &mut Page) -> Result<(), RowFault> {
     let sealing = sealing_in(alloc, words)?;
     let sealed = words.bytes(alloc);
@@ -61,12 +61,13 @@ fn open(alloc: Global, words: &mut Words, page: &mut Page) -> Result<(), RowFaul
     }
 }
 
-/// The bytes 0, 1, 2 and so on, again from 0 behind 250.
+/// Returns the bytes 0, 1, 2 and so on; after 250 comes 0 again.
 fn counted(alloc: Global, len: usize) -> Result<Vec<u8>, AllocError> {
     (0..len).map(|place| (place % 251) as u8).collect(alloc)
 }
 
-/// Writes whether a sealer, known by its law alone, opens what it sealed behind a byte, and by how many bytes that is longer.
+/// Seals bytes after another byte, with a sealer of any kind. Writes whether the sealer opens what it sealed, how many
+/// bytes it adds, and how many bytes there are then.
 fn write_law<S: Sealer>(
     alloc: Global,
     sealer: &S,
@@ -87,8 +88,8 @@ fn write_law<S: Sealer>(
     Ok(())
 }
 
-/// `seal again SEALER LENGTH`: whether so many bytes are opened as they were sealed, how many bytes a sealing adds, and
-/// how many they are then behind one other.
+/// `seal again SEALER LENGTH`: seals `LENGTH` bytes after another byte, and opens them. Writes whether they are the
+/// same, how many bytes the sealer adds, and how many bytes there are then.
 fn again(alloc: Global, words: &mut Words, page: &mut Page) -> Result<(), RowFault> {
     let sealing = sealing_in(alloc, words)?;
     let plain = counted(alloc, words.size())?;

@@ -6,17 +6,17 @@ use oram_wire::{HostAnswer, Sink, SinkFault};
 use rows::{Page, RowFault, Words};
 use std::alloc::Global;
 
-/// The host that the next rows ask, and a copy of it that was kept.
+/// The host of the next rows, and the copy of it that was kept.
 #[derive(Drop)]
 pub struct Servers {
     server: Option<Server>,
     copy: Option<Server>,
 }
 
-/// The code of a refusal for want of memory.
+/// The code by which a host refuses a body because memory ran out.
 const NO_ROOM: u8 = 8;
 
-/// `server asks BODY`: the answer to a body.
+/// `server asks BODY`: writes the answer to a body.
 fn asks(
     alloc: Global,
     server: &mut Server,
@@ -31,7 +31,7 @@ fn asks(
     Ok(())
 }
 
-/// The bytes of a host's answer, which has memory.
+/// Returns the bytes of a host's answer. Fails if the host is out of memory.
 pub fn answer_to(alloc: Global, server: &mut Server, body: &[u8]) -> Result<Vec<u8>, RowFault> {
     let answer = server.answer(alloc, body)?;
     if answer.as_slice() == [0x81, NO_ROOM].as_slice() {
@@ -40,7 +40,7 @@ pub fn answer_to(alloc: Global, server: &mut Server, body: &[u8]) -> Result<Vec<
     Ok(answer)
 }
 
-/// `server bytes BODY`: the bytes of the answer to a body.
+/// `server bytes BODY`: writes the bytes of the answer to a body.
 fn bytes(
     alloc: Global,
     server: &mut Server,
@@ -52,7 +52,7 @@ fn bytes(
     Ok(())
 }
 
-/// `server put BODY`: whether the host takes a body of a formatting.
+/// `server put BODY`: writes whether the host takes a body of a formatting.
 fn put(
     alloc: Global,
     server: &mut Server,
@@ -68,7 +68,8 @@ fn put(
     Ok(())
 }
 
-/// `server flip TREE NODE PLACE`: whether the record has that byte, of which a bit then is another.
+/// `server flip TREE NODE PLACE`: flips a bit of a byte in a record. Writes whether there is such a
+/// byte.
 fn flip(server: &mut Server, words: &mut Words, page: &mut Page) -> Result<(), RowFault> {
     let tree = words.number();
     let node = words.number();
@@ -77,7 +78,8 @@ fn flip(server: &mut Server, words: &mut Words, page: &mut Page) -> Result<(), R
     Ok(())
 }
 
-/// `server swap TREE NODE TREE NODE`: whether there are two records that change places.
+/// `server swap TREE NODE TREE NODE`: swaps two records. Writes whether there are two that can be
+/// swapped.
 fn swap(server: &mut Server, words: &mut Words, page: &mut Page) -> Result<(), RowFault> {
     let tree_a = words.number();
     let node_a = words.number();
@@ -87,7 +89,7 @@ fn swap(server: &mut Server, words: &mut Words, page: &mut Page) -> Result<(), R
     Ok(())
 }
 
-/// Answers a row about a host that is there.
+/// Answers a row about the host that is there.
 fn answer_of(
     alloc: Global,
     server: &mut Server,
@@ -113,7 +115,7 @@ impl Servers {
         }
     }
 
-    /// The host.
+    /// Returns the host.
     pub fn server(&self) -> Result<&Server, RowFault> {
         self.server.as_ref().ok_or(RowFault::NoRow)
     }
@@ -130,7 +132,8 @@ impl Servers {
         Ok(())
     }
 
-    /// Answers a row about a host. `server new` begins one, and `server other` goes on with the copy.
+    /// Answers a row about a host. `server new` makes a new host, and `server other` goes on with the
+    /// copy.
     pub fn answer(
         &mut self,
         alloc: Global,

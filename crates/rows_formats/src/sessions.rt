@@ -6,7 +6,7 @@ use oram_wire::{BAD_REQUEST, DEVICE_FAILED, SessionReply, SessionRequest};
 use rows::{Page, RowFault, Words};
 use std::alloc::Global;
 
-/// The request that words tell, as `write_request` writes it.
+/// Reads a request from words, in the form in which `write_request` writes it.
 fn request_in(alloc: Global, words: &mut Words) -> Result<SessionRequest, RowFault> {
     match words.text() {
         "read" => Ok(SessionRequest::Read {
@@ -42,14 +42,14 @@ fn write_request(page: &mut Page, request: &SessionRequest) {
     }
 }
 
-/// `session write REQUEST`: the body of a request.
+/// `session write REQUEST`: writes the body of a request.
 fn write(alloc: Global, words: &mut Words, page: &mut Page) -> Result<(), RowFault> {
     let request = request_in(alloc, words)?;
     page.bytes(&request.encode(alloc)?);
     Ok(())
 }
 
-/// `session read BODY`: the request that a body is.
+/// `session read BODY`: reads a body as a request, and writes it.
 fn read(alloc: Global, words: &mut Words, page: &mut Page) -> Result<(), RowFault> {
     let body = words.bytes(alloc);
     match SessionRequest::decode(alloc, &body) {
@@ -61,20 +61,20 @@ fn read(alloc: Global, words: &mut Words, page: &mut Page) -> Result<(), RowFaul
     }
 }
 
-/// `session data BYTES`: the body of the reply with these.
+/// `session data BYTES`: writes the body of the reply with this data.
 fn data(alloc: Global, words: &mut Words, page: &mut Page) -> Result<(), RowFault> {
     let bytes = Bytes::from_vec(words.bytes(alloc));
     page.bytes(&SessionReply::Data(bytes).encode(alloc)?);
     Ok(())
 }
 
-/// `session done`: the body of that reply.
+/// `session done`: writes the body of the reply `done`.
 fn done(alloc: Global, page: &mut Page) -> Result<(), RowFault> {
     page.bytes(&SessionReply::Done.encode(alloc)?);
     Ok(())
 }
 
-/// `session refused CODE`: the body of a refusal.
+/// `session refused CODE`: writes the body of a refusal.
 fn refused(alloc: Global, words: &mut Words, page: &mut Page) -> Result<(), RowFault> {
     let code = words.byte();
     if code == 0 || code > 7 {
@@ -84,7 +84,7 @@ fn refused(alloc: Global, words: &mut Words, page: &mut Page) -> Result<(), RowF
     Ok(())
 }
 
-/// `session codes`: the codes of a failed device, and of a body that is no request.
+/// `session codes`: writes the codes of a failed device, and of a body that is no request.
 fn codes(page: &mut Page) -> Result<(), RowFault> {
     page.number(DEVICE_FAILED);
     page.number(BAD_REQUEST);
@@ -105,7 +105,7 @@ fn write_reply(page: &mut Page, reply: &SessionReply) {
     }
 }
 
-/// `session replied BODY`: the reply that a body is.
+/// `session replied BODY`: reads a body as a reply, and writes it.
 fn replied(alloc: Global, words: &mut Words, page: &mut Page) -> Result<(), RowFault> {
     let body = words.bytes(alloc);
     match SessionReply::decode(alloc, &body) {

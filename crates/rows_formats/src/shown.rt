@@ -1,4 +1,4 @@
-//! Faults that have numbers.
+//! Faults with numbers.
 
 use rows::{Page, RowFault};
 use std::alloc::Global;

@@ -1,4 +1,4 @@
-//! Cores at work with a bucket host, and the files that are kept of them.
+//! Cores at work with a bucket host, and the state files that are kept of them.
 
 use crate::cores::AnyCore;
 use crate::devices::device_in;
@@ -18,18 +18,18 @@ pub struct States {
     core: Option<AnyCore>,
     server: Server,
     outstanding: Option<Bytes>,
-    /// The core that was never saved, which hears of the same events.
+    /// The core that was never saved, which gets the same events.
     twin: Option<AnyCore>,
-    /// Whether the two once did something else.
+    /// Whether the two have ever done different things.
     is_unlike: bool,
 }
 
-/// Whether two cores did the same, byte for byte.
+/// Returns whether two cores did the same, byte for byte.
 fn are_alike(one: &Reaction, other: &Reaction) -> bool {
     one.note == other.note && one.replies == other.replies && one.sends == other.sends
 }
 
-/// The event in which a session submits a command: its words are those that are left.
+/// Makes the event in which a session submits a command, with the words that are left.
 fn submission(alloc: Global, session: u32, command: Command, words: &mut Words) -> Event {
     let words = WordList::from_vec(words.numbers(alloc));
     Event::Submit {
@@ -39,8 +39,8 @@ fn submission(alloc: Global, session: u32, command: Command, words: &mut Words) 
     }
 }
 
-/// `core read SESSION ADDRESS WORDS`, `core write SESSION ADDRESS BYTES WORDS` and `core discard SESSION ADDRESS WORDS`:
-/// what the core makes of a command.
+/// `core read SESSION ADDRESS WORDS`, `core write SESSION ADDRESS BYTES WORDS` and
+/// `core discard SESSION ADDRESS WORDS`: returns the event of this command.
 fn command_in(alloc: Global, name: &str, words: &mut Words) -> Result<Event, RowFault> {
     let session = words.short();
     let address = words.short();
@@ -70,7 +70,7 @@ fn write_replies(page: &mut Page, replies: &[Reply]) {
     }
 }
 
-/// Writes a command that waits: its session, what is asked, its address and its words.
+/// Writes a command that waits: its session, its kind, its address and its words.
 fn write_pending(page: &mut Page, pending: &Pending) {
     page.number(pending.session);
     page.word(match &pending.command {
@@ -84,7 +84,8 @@ fn write_pending(page: &mut Page, pending: &Pending) {
     }
 }
 
-/// `core counts`: the bytes that the sealer adds, the tickets, the next nonce, and how many entries the table has.
+/// `core counts`: writes the bytes that the sealer adds, the tickets, the next nonce, and how many entries the table
+/// has.
 fn write_counts(page: &mut Page, overhead: usize, parts: &Parts) {
     page.number(overhead);
     page.number(parts.tickets);
@@ -92,7 +93,7 @@ fn write_counts(page: &mut Page, overhead: usize, parts: &Parts) {
     page.number(parts.table.len());
 }
 
-/// `core stash`: how many blocks each tree has in its stash.
+/// `core stash`: writes how many blocks each tree has in its stash.
 fn write_stashes(page: &mut Page, parts: &Parts) {
     page.number(parts.trees.len());
     page.word("trees");
@@ -101,14 +102,15 @@ fn write_stashes(page: &mut Page, parts: &Parts) {
     }
 }
 
-/// `core work`: the entry that is outstanding, whether its message counts as lost, and how many bytes are held.
+/// `core work`: writes the entry that is outstanding, whether its message counts as lost, and how many bytes of data
+/// are held.
 fn write_work(page: &mut Page, parts: &Parts) {
     page.number(parts.r);
     page.word(if parts.stalled { "stalled" } else { "sent" });
     page.number(parts.held_data.len());
 }
 
-/// `core waiting`: the commands without a reply.
+/// `core waiting`: writes the commands without a reply.
 fn write_waiting(page: &mut Page, parts: &Parts) {
     page.number(parts.waiting.len());
     for pending in &parts.waiting {
@@ -116,7 +118,7 @@ fn write_waiting(page: &mut Page, parts: &Parts) {
     }
 }
 
-/// `core failure`: why the core failed.
+/// `core failure`: writes why the core failed.
 fn write_failure(page: &mut Page, parts: &Parts) {
     match parts.failure {
         Some(why) => page.show(&why),
@@ -139,7 +141,7 @@ impl States {
         self.core.as_ref().ok_or(RowFault::NoRow)
     }
 
-    /// `core format SEALER SIZES`: formats a device over a new host, or tells why there is no device.
+    /// `core format SEALER SIZES`: formats a device on a new host, or writes why there is no device.
     fn format(
         &mut self,
         alloc: Global,
@@ -177,8 +179,8 @@ impl States {
         Ok(())
     }
 
-    /// `core again SEALER`: saves the core, and goes on with the one that is read back. The message on its way stays there. The core
-    /// that was never saved hears of the same events from then on, and has to do the same.
+    /// `core again SEALER`: saves the core, and goes on with the one that is read back. The message on its way stays
+    /// outstanding. The core that was never saved gets the same events from then on, and has to do the same.
     fn again(&mut self, alloc: Global, words: &mut Words, page: &mut Page) -> Result<(), RowFault> {
         let sealing = sealing_in(alloc, words)?;
         let file = self.core()?.file(alloc)?;
@@ -195,7 +197,7 @@ impl States {
         Ok(())
     }
 
-    /// What the core makes of an event.
+    /// Gives the core an event, and returns what it does.
     fn step(&mut self, alloc: Global, event: &Event) -> Result<Reaction, RowFault> {
         let Some(core) = &mut self.core else {
             return Err(RowFault::NoRow);
@@ -212,7 +214,7 @@ impl States {
         Ok(reaction)
     }
 
-    /// Tells the core an event, and writes what became of it, and the replies.
+    /// Gives the core an event, and writes its note and the replies.
     fn tell(&mut self, alloc: Global, event: &Event, page: &mut Page) -> Result<(), RowFault> {
         let reaction = self.step(alloc, event)?;
         page.show(&reaction.note);
@@ -223,7 +225,7 @@ impl States {
         Ok(())
     }
 
-    /// The event in which the host answers the outstanding message.
+    /// Returns the event that the host answers the outstanding message.
     fn answer_of_host(&mut self, alloc: Global) -> Result<Event, RowFault> {
         let Some(message) = &self.outstanding else {
             return Err(RowFault::NoRow);
@@ -232,7 +234,7 @@ impl States {
         Ok(Event::Answer(Bytes::from_vec(answer)))
     }
 
-    /// `core drain`: the replies until no message is outstanding.
+    /// `core drain`: lets the host answer until no message is outstanding, and writes the replies.
     fn drain(&mut self, alloc: Global, page: &mut Page) -> Result<(), RowFault> {
         for _ in 0..u64::MAX {
             if self.outstanding.is_none() {
@@ -245,7 +247,7 @@ impl States {
         Ok(())
     }
 
-    /// `core tamper TREE NODE PLACE`: whether the record has that byte, of which a bit then is another.
+    /// `core tamper TREE NODE PLACE`: flips a bit of a byte in a record. Writes whether there is such a byte.
     fn tamper(&mut self, words: &mut Words, page: &mut Page) -> Result<(), RowFault> {
         let tree = words.number();
         let node = words.number();
@@ -254,7 +256,7 @@ impl States {
         Ok(())
     }
 
-    /// `core swap TREE NODE TREE NODE`: whether there are two records that change places.
+    /// `core swap TREE NODE TREE NODE`: swaps two records. Writes whether there are two that can be swapped.
     fn swap(&mut self, words: &mut Words, page: &mut Page) -> Result<(), RowFault> {
         let tree_a = words.number();
         let node_a = words.number();
@@ -264,7 +266,7 @@ impl States {
         Ok(())
     }
 
-    /// `core message`: the message that the core sent last.
+    /// `core message`: writes the message that the core sent last.
     fn message(&self, alloc: Global, page: &mut Page) -> Result<(), RowFault> {
         let parts = self.core()?.parts(alloc)?;
         page.bytes(parts.message.as_slice());
@@ -286,7 +288,7 @@ impl States {
         Ok(())
     }
 
-    /// Tells the core the event that a row names.
+    /// Gives the core the event that a row names.
     fn event(
         &mut self,
         alloc: Global,
@@ -298,7 +300,7 @@ impl States {
             "answer" => self.answer_of_host(alloc)?,
             "raw" => Event::Answer(Bytes::from_vec(words.bytes(alloc))),
             "lost" => Event::Lost,
-            // The host hears the message, and its answer is lost.
+            // The host gets the message, and its answer is lost.
             "late" => {
                 let _unheard = self.answer_of_host(alloc)?;
                 Event::Lost

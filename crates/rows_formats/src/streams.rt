@@ -1,4 +1,4 @@
-//! Frames in a stream: cut from pieces, read from a reader, and written to a writer.
+//! Frames in a stream: taken out of pieces, read from a reader, and written to a writer.
 
 use oram_wire::{FrameFault, Frames, LONGEST_BODY, next_frame, put_frame};
 use rows::{Page, RowFault, Source, Target, Words, pace_in};
@@ -33,7 +33,8 @@ fn write_held(page: &mut Page, frames: &Frames) {
     page.number(frames.rest_len());
 }
 
-/// `frame pieces SIZE BYTES`: the bodies in a stream that comes in pieces of this size, and how many bytes are held then.
+/// `frame pieces SIZE BYTES`: writes the bodies in a stream that comes in pieces of `SIZE` bytes, and how many bytes
+/// are held in the end.
 fn pieces(alloc: Global, words: &mut Words, page: &mut Page) -> Result<(), RowFault> {
     let size = words.size();
     let stream = words.bytes(alloc);
@@ -48,7 +49,8 @@ fn pieces(alloc: Global, words: &mut Words, page: &mut Page) -> Result<(), RowFa
     Ok(())
 }
 
-/// `frame read PACE BYTES`: the next body that a reader gives, the bytes that are left, and how often it was called.
+/// `frame read PACE BYTES`: writes the next body that a reader gives, the bytes that are left, and how many times the
+/// reader was called.
 fn read(alloc: Global, words: &mut Words, page: &mut Page) -> Result<(), RowFault> {
     let pace = pace_in(words)?;
     let bytes = words.bytes(alloc);
@@ -66,7 +68,8 @@ fn read(alloc: Global, words: &mut Words, page: &mut Page) -> Result<(), RowFaul
     Ok(())
 }
 
-/// `frame write ROOM PACE BODY`: how writing a frame ends, the bytes that were taken, and how often the writer was called.
+/// `frame write ROOM PACE BODY`: writes how writing a frame ends, the bytes that were taken, and how many times the
+/// writer was called.
 fn write(alloc: Global, words: &mut Words, page: &mut Page) -> Result<(), RowFault> {
     let room = words.size();
     let pace = pace_in(words)?;
@@ -88,7 +91,8 @@ impl Streams {
         Streams { frames: None }
     }
 
-    /// `frame feed PIECE`: the bodies that the next piece of the stream completes, and how many bytes are held then.
+    /// `frame feed PIECE`: writes the bodies that the next piece of the stream completes, and how many bytes are held
+    /// then.
     fn feed(&mut self, alloc: Global, words: &mut Words, page: &mut Page) -> Result<(), RowFault> {
         let piece = words.bytes(alloc);
         let Some(frames) = &mut self.frames else {
@@ -99,7 +103,7 @@ impl Streams {
         Ok(())
     }
 
-    /// Answers a row about frames. `frame stream` begins a stream of pieces.
+    /// Answers a row about frames. `frame stream` begins a new stream of pieces.
     pub fn answer(
         &mut self,
         alloc: Global,

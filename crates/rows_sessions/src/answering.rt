@@ -8,7 +8,7 @@ use oram_host::Server;
 use rows::{Page, RowFault, Words};
 use std::alloc::{AllocError, Global};
 
-/// A server, and whether it answered that it has no memory.
+/// A server, and whether it has answered that it is out of memory.
 #[derive(Drop)]
 pub(crate) struct WatchedServer {
     server: Server,
@@ -23,7 +23,7 @@ impl WatchedServer {
         }
     }
 
-    /// A row whose server found no memory has no answer.
+    /// Fails if the server ran out of memory, since its row has no answer then.
     pub(crate) fn check_memory(&self) -> Result<(), RowFault> {
         if self.lacks_memory {
             return Err(RowFault::OutOfMemory);
@@ -46,7 +46,8 @@ impl BucketServer for WatchedServer {
     }
 }
 
-/// `hosted READER WRITER`: what a new server answers to the frames of a reader, and how many there were.
+/// `hosted READER WRITER`: writes what a new server answers to the frames of a reader, and how many
+/// there were.
 pub(crate) fn hosted(alloc: Global, words: &mut Words, page: &mut Page) -> Result<(), RowFault> {
     let mut given = Given::read(alloc, words)?;
     let mut sheet = Sheet::read(alloc, words)?;

@@ -1,24 +1,24 @@
-//! Readers and writers that end or fail where a row wants them to.
+//! Readers and writers that end or fail where a row says.
 
 use rows::{RowFault, Words};
 use std::alloc::Global;
 use std::io;
 use std::io::{ErrorKind, Read, Write};
 
-/// A reader of bytes that a row gives.
+/// A reader of the bytes in a row.
 #[derive(Drop)]
 pub(crate) struct Given {
     bytes: Vec<u8>,
-    /// How many of them were read.
+    /// How many bytes were read.
     at: usize,
-    /// How many it gives at most at once.
+    /// How many bytes it gives at most at once.
     step: usize,
     fails: bool,
 }
 
 impl Given {
-    /// A reader of the next words: `whole BYTES`, `ends LEN BYTES` or `fails LEN BYTES`. The last two give the first bytes, one at a
-    /// time, and then end or fail.
+    /// Makes a reader from the next words: `whole BYTES`, `ends LEN BYTES` or `fails LEN BYTES`. The last two give the
+    /// first `LEN` bytes, one at a time, and then end or fail.
     pub(crate) fn read(alloc: Global, words: &mut Words) -> Result<Given, RowFault> {
         let (len, fails) = match words.text() {
             "whole" => (None, false),
@@ -38,7 +38,7 @@ impl Given {
         })
     }
 
-    /// A reader of all these bytes.
+    /// Makes a reader of all these bytes.
     pub(crate) fn of(bytes: Vec<u8>) -> Given {
         Given {
             bytes,
@@ -48,7 +48,7 @@ impl Given {
         }
     }
 
-    /// Begins anew.
+    /// Goes back to the first byte.
     pub(crate) fn rewind(&mut self) {
         self.at = 0;
     }
@@ -67,7 +67,7 @@ impl Read for Given {
     }
 }
 
-/// A writer, and what was written.
+/// A writer that keeps what was written.
 #[derive(Drop)]
 pub(crate) struct Sheet {
     bytes: Vec<u8>,
@@ -81,7 +81,7 @@ pub(crate) struct Sheet {
 }
 
 impl Sheet {
-    /// A writer that takes all that it is given.
+    /// Makes a writer that takes everything.
     pub(crate) fn ample(alloc: Global) -> Sheet {
         Sheet {
             bytes: Vec::new(alloc),
@@ -94,8 +94,8 @@ impl Sheet {
         }
     }
 
-    /// A writer of the next words: `ample`, `room LEN`, which takes a byte at a time and fails behind so many, or `unflushed`, whose
-    /// flush fails.
+    /// Makes a writer from the next words: `ample`; `room LEN`, which takes a byte at a time and fails after `LEN`
+    /// bytes; or `unflushed`, whose flush fails.
     pub(crate) fn read(alloc: Global, words: &mut Words) -> Result<Sheet, RowFault> {
         let mut sheet = Sheet::ample(alloc);
         match words.text() {
@@ -110,7 +110,7 @@ impl Sheet {
         Ok(sheet)
     }
 
-    /// What was written.
+    /// Returns what was written. Fails if memory ran out for it.
     pub(crate) fn text(&self) -> Result<&[u8], RowFault> {
         if self.lacks_memory {
             return Err(RowFault::OutOfMemory);
@@ -118,7 +118,7 @@ impl Sheet {
         Ok(&self.bytes)
     }
 
-    /// What was written, in place of the sheet.
+    /// Turns the sheet into what was written. Fails if memory ran out for it.
     pub(crate) fn into_text(self) -> Result<Vec<u8>, RowFault> {
         if self.lacks_memory {
             return Err(RowFault::OutOfMemory);

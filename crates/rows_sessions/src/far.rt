@@ -8,7 +8,7 @@ use oram_session::{ListTape, ServeFault, StreamLink, host_serve};
 use rows::{Page, RowFault, Words};
 use std::alloc::Global;
 
-/// How many answers a session may want.
+/// The most answers that a session may need.
 const MOST_ANSWERS: u64 = 100;
 
 /// A session, and how far it has come.
@@ -16,7 +16,7 @@ const MOST_ANSWERS: u64 = 100;
 struct Far {
     numbers: [u64; 5],
     given: Given,
-    /// What the host has answered so far.
+    /// The host's answers so far.
     answers: Vec<u8>,
     replies: Sheet,
     asked: Sheet,
@@ -43,7 +43,7 @@ impl Far {
         )
     }
 
-    /// Has a host answer all that was asked.
+    /// Lets a host answer everything that was asked.
     fn answer(&mut self, alloc: Global) -> Result<(), RowFault> {
         let (_core, server) = formatted(alloc, self.numbers)?;
         let mut host = WatchedServer::over(server);
@@ -55,7 +55,8 @@ impl Far {
         Ok(())
     }
 
-    /// Begins anew with each answer more, until the session doesn't stall for want of one, and tells how many it wanted.
+    /// Begins again with one more answer each time, until the session doesn't stall because it lacks one. Returns how
+    /// many answers it needed, and how it ended.
     fn go_on(&mut self, alloc: Global) -> Result<(u64, Result<u64, ServeFault>), RowFault> {
         for wanted in 0..MOST_ANSWERS {
             let ended = self.serve(alloc)?;
@@ -68,8 +69,9 @@ impl Far {
     }
 }
 
-/// `far_session DEVICE READER`: the replies of a session over a link of a reader and a writer with its host at the other end, how many
-/// there were or why there were no more, and how many answers of the host it wanted.
+/// `far_session DEVICE READER`: serves a session over a link of a reader and a writer, with its host at the other end.
+/// Writes the replies, how many there were or why there were no more, and how many answers of the host the session
+/// needed.
 pub(crate) fn far_session(
     alloc: Global,
     words: &mut Words,

@@ -1,4 +1,4 @@
-//! Rows of a link, and of a core over it, that are kept from row to row.
+//! Rows of a link and of a core over it, which are kept from row to row.
 
 use crate::network::Cutter;
 use crate::telling::{device_of, standing, tell_end, tell_note, tell_outcome};
@@ -32,7 +32,7 @@ impl<'a, R: Net> Kept<'a, R> {
         }
     }
 
-    /// Makes the call of this name, on the link or the core.
+    /// Makes the call of this name on the link or the core.
     pub(crate) fn make(
         &mut self,
         alloc: Global,
@@ -53,7 +53,7 @@ impl<'a, R: Net> Kept<'a, R> {
         }
     }
 
-    /// `link LINK`: a link to a new server, without a core.
+    /// `link LINK`: makes a link to a new server, without a core.
     fn begin(&mut self, alloc: Global, words: &mut Words, page: &mut Page) -> Result<(), RowFault> {
         self.core = None;
         self.link = Some(AnyLink::read(alloc, words, self.net, Server::new(alloc))?);
@@ -61,7 +61,7 @@ impl<'a, R: Net> Kept<'a, R> {
         Ok(())
     }
 
-    /// `relink LINK`: another link to the server of the `direct` one.
+    /// `relink LINK`: makes another link to the server of the `direct` link.
     fn relink(
         &mut self,
         alloc: Global,
@@ -74,7 +74,7 @@ impl<'a, R: Net> Kept<'a, R> {
         Ok(())
     }
 
-    /// The server of the `direct` link, which is there no more.
+    /// Takes the server of the `direct` link, and removes the link.
     fn take_server(&mut self) -> Result<Server, RowFault> {
         match self.link.take() {
             Some(link) => link.into_server(),
@@ -82,7 +82,7 @@ impl<'a, R: Net> Kept<'a, R> {
         }
     }
 
-    /// `call BODY`: what the link answers to a message.
+    /// `call BODY`: sends a message over the link, and writes the answer.
     fn call(&mut self, alloc: Global, words: &mut Words, page: &mut Page) -> Result<(), RowFault> {
         let body = words.bytes(alloc);
         let Some(link) = &mut self.link else {
@@ -93,7 +93,7 @@ impl<'a, R: Net> Kept<'a, R> {
         tell_outcome(page, outcome)
     }
 
-    /// `calls`: how many calls the link had, and how many of them a fault.
+    /// `calls`: writes how many calls the link had, and how many of them had a fault.
     fn calls(&mut self, page: &mut Page) -> Result<(), RowFault> {
         match &self.link {
             Some(link) => link.tell(page),
@@ -101,7 +101,7 @@ impl<'a, R: Net> Kept<'a, R> {
         }
     }
 
-    /// `cut`: shuts the connection of the `loop` link down.
+    /// `cut`: shuts down the connection of the `loop` link.
     fn cut(&mut self, page: &mut Page) -> Result<(), RowFault> {
         if self.net.cut().is_err() {
             return Err(RowFault::NoRow);
@@ -135,7 +135,7 @@ impl<'a, R: Net> Kept<'a, R> {
         Ok(())
     }
 
-    /// `read ADDRESS WORDS`, `lost` or `answer BYTES`: what becomes of the event.
+    /// `read ADDRESS WORDS`, `lost` or `answer BYTES`: gives the core this event, and writes its note.
     fn step(&mut self, alloc: Global, event: &Event, page: &mut Page) -> Result<(), RowFault> {
         let Some(core) = &mut self.core else {
             return Err(RowFault::NoRow);
@@ -144,8 +144,8 @@ impl<'a, R: Net> Kept<'a, R> {
         Ok(())
     }
 
-    /// `resume`: how many commands were carried out, or why the rest wasn't; how the core then stands, how many commands wait and how
-    /// many there were; and the calls of the link.
+    /// `resume`: carries out the commands that wait. Writes how many were carried out, or why the rest wasn't; then how
+    /// the core is, how many commands wait and how many there were; and the calls of the link.
     fn resume(&mut self, alloc: Global, page: &mut Page) -> Result<(), RowFault> {
         let (Some(core), Some(link)) = (&mut self.core, &mut self.link) else {
             return Err(RowFault::NoRow);
@@ -158,12 +158,12 @@ impl<'a, R: Net> Kept<'a, R> {
     }
 }
 
-/// What becomes of an event.
+/// Returns the core's note at an event.
 fn note_of(alloc: Global, core: &mut Core<PlainSeal>, event: &Event) -> Result<Note, RowFault> {
     Ok(core.step(alloc, event)?.note)
 }
 
-/// Writes how a core stands, how many commands wait and how many there were.
+/// Writes how a core is, how many commands wait and how many there were.
 fn tell_waiting(core: &Core<PlainSeal>, page: &mut Page) {
     page.word(standing(core));
     page.word("waiting");
@@ -172,7 +172,7 @@ fn tell_waiting(core: &Core<PlainSeal>, page: &mut Page) {
     page.number(core.next_ticket());
 }
 
-/// The core of a device that is formatted over a link. Writes how it stands, or why there is none.
+/// Formats a device over a link. Writes how its core is, or why there is none.
 fn formatted<R: Net>(
     alloc: Global,
     device: Device,
@@ -193,7 +193,7 @@ fn formatted<R: Net>(
     Ok(None)
 }
 
-/// The event of a call.
+/// Reads the event of a call.
 fn event_in(alloc: Global, call: &str, words: &mut Words) -> Result<Event, RowFault> {
     match call {
         "read" => Ok(Event::Submit {

@@ -1,4 +1,4 @@
-//! Rows of whole lives of a device: its process ends, and another begins with what was kept.
+//! Rows of whole lives of a device: its process ends, and another one goes on from what was kept.
 ghost use Rattle.std.specs.Prelude.{⊤};
 
 use crate::network::Cutter;
@@ -14,24 +14,24 @@ use rows::{Page, RowFault, Words};
 use std::alloc::Global;
 use std::net::Net;
 
-/// Blocks 1, 2 and 3 are written, each with bytes of its number.
+/// How many blocks are written. They are blocks 1, 2 and 3, each filled with its number.
 const WRITES: u8 = 3;
 
-/// Keeps the newest file in memory, and fails once it has kept so many.
+/// A keeper that keeps the newest file in memory, and fails once it has kept `room` files.
 #[derive(Drop)]
 struct Shelf {
     alloc: Global,
     newest: Vec<u8>,
     room: u64,
-    /// Whether the file that it fails at is the newest all the same.
+    /// Whether the newest file is also the one at which the keeper fails.
     late: bool,
     kept: u64,
     lacks_memory: bool,
 }
 
 impl Shelf {
-    /// A keeper of the next words: `keeps_all`, `keeps COUNT` files, or `keeps_late COUNT`, where the one behind them is kept too
-    /// though the keeper fails.
+    /// Makes a keeper from the next words: `keeps_all`, `keeps COUNT` files, or `keeps_late COUNT`, which also keeps
+    /// the file after these although it reports that it failed.
     fn read(alloc: Global, words: &mut Words) -> Result<Shelf, RowFault> {
         let (late, room) = match words.text() {
             "keeps_all" => (false, u64::MAX),
@@ -110,7 +110,7 @@ impl<R: Net> Life<'_, R> {
         }
     }
 
-    /// Writes one block after the other, and tells how many had their reply, and why the next one had none.
+    /// Writes one block after the other. Returns how many writes had their reply, and why the next one had none.
     fn write_all(&mut self, alloc: Global) -> (u8, Option<KeepFault>) {
         for number in 1..=WRITES {
             if let Err(fault) = self.write(alloc, number) {
@@ -120,7 +120,7 @@ impl<R: Net> Life<'_, R> {
         (WRITES, None)
     }
 
-    /// Goes on with what was kept, as the next process does, and a keeper that doesn't fail.
+    /// Goes on from what was kept, as the next process does, with a keeper that doesn't fail.
     fn begin_anew(&mut self, alloc: Global) -> Result<(), RowFault> {
         match decode_state(alloc, PlainSeal, &self.shelf.newest) {
             Ok(core) => self.core = core,
@@ -134,7 +134,7 @@ impl<R: Net> Life<'_, R> {
         }
     }
 
-    /// The byte that all those of a block are.
+    /// Reads a block whose bytes are all equal, and returns that byte.
     fn read(&mut self, alloc: Global, address: u32) -> Result<u8, RowFault> {
         match self.ask(alloc, Command::Read(address)) {
             Ok(Asked::Replied(ReplyBody::Data(bytes))) => byte_of(bytes.as_slice()),
@@ -143,7 +143,7 @@ impl<R: Net> Life<'_, R> {
         }
     }
 
-    /// How many blocks are as they were written, from the first on; those behind have to be zeros.
+    /// Returns how many blocks have what was written to them, from the first on. The blocks after these must be zeros.
     fn found(&mut self, alloc: Global) -> Result<u8, RowFault> {
         let mut found = 0;
         for number in 1..=WRITES {
@@ -157,12 +157,12 @@ impl<R: Net> Life<'_, R> {
         Ok(found)
     }
 
-    /// Whether the link or the keeper found no memory.
+    /// Returns whether the link or the keeper ran out of memory.
     fn lacks_memory(&self) -> bool {
         self.shelf.lacks_memory || self.link.check_memory().is_err()
     }
 
-    /// What keeps a row from being answered that a fault ends.
+    /// Returns the row's fault for a fault that ends the row.
     fn row_fault(&self, fault: KeepFault) -> RowFault {
         if fault == KeepFault::OutOfMemory || self.lacks_memory() {
             RowFault::OutOfMemory
@@ -171,8 +171,8 @@ impl<R: Net> Life<'_, R> {
         }
     }
 
-    /// Writes how many writes had their reply, and why the next one had none, how often the core was kept, and how often the link
-    /// called.
+    /// Writes how many writes had their reply, why the next one had none, how many times the core was kept, and how
+    /// many calls the link had.
     fn tell_first(&mut self, alloc: Global, page: &mut Page) -> Result<(), RowFault> {
         let (written, ended) = self.write_all(alloc);
         if ended == Some(KeepFault::OutOfMemory) || self.lacks_memory() {
@@ -203,7 +203,7 @@ impl<R: Net> Life<'_, R> {
     }
 }
 
-/// The byte that all these are.
+/// Returns the byte that all of these are.
 fn byte_of(bytes: &[u8]) -> Result<u8, RowFault> {
     match bytes.split_first() {
         Some((first, rest)) if rest.iter().all(|byte| byte == first) => Ok(*first),
@@ -211,8 +211,8 @@ fn byte_of(bytes: &[u8]) -> Result<u8, RowFault> {
     }
 }
 
-/// `lives DEVICE KEEPER LINK`: what comes of a life that writes three blocks and may end before, and how many of them the next life
-/// finds written, which begins with what was kept.
+/// `lives DEVICE KEEPER LINK`: lets a device write three blocks, in a life that may end early, and begins the next life
+/// from what was kept. Writes how the first life went, and how many of the blocks the next life finds written.
 pub(crate) fn lives<R: Net>(
     alloc: Global,
     net: &Cutter<R>,

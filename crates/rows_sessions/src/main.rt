@@ -1,4 +1,4 @@
-//! Rows of sessions: links and tapes, devices that are formatted, served, gone on with, and kept through whole lives.
+//! Rows of sessions: links and tapes, and devices that are formatted, served, resumed, and kept through whole lives.
 #![tactic(auto)]
 
 mod answering;
@@ -42,13 +42,13 @@ impl<R: Net> Table for Kept<'_, R> {
     }
 }
 
-/// Answers the rows of the standard input, with links over a network.
+/// Answers the rows of standard input, with links over a network.
 fn answer_rows<R: Input + Print + AllocGlobal, N: Net>(rt: &R, net: &Cutter<N>) -> ExitCode {
     let mut kept = Kept::new(net);
     run_table(rt, &mut kept)
 }
 
-/// The same, over a network that it is given.
+/// Answers the rows over the network `net`, which it takes over.
 fn run<R: Input + Print + AllocGlobal, N: Net + Drop>(rt: &R, net: Cutter<N>) -> ExitCode {
     answer_rows(rt, &net)
 }

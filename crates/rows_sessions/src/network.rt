@@ -5,7 +5,7 @@ use std::io;
 use std::io::ErrorKind;
 use std::net::{Net, OpenStream, Shutdown, SocketAddr};
 
-/// Another network, and a second handle of the connection that was made last.
+/// A network that goes through another one, with a second handle of the newest connection.
 #[derive(Drop)]
 pub(crate) struct Cutter<R: Net> {
     rt: R,
@@ -20,7 +20,7 @@ impl<R: Net> Cutter<R> {
         }
     }
 
-    /// Shuts the newest connection down, both ways.
+    /// Shuts down the newest connection in both directions.
     pub(crate) fn cut(&self) -> io::Result<()> {
         match self.newest.take() {
             Some(stream) => stream.shutdown(Shutdown::Both),

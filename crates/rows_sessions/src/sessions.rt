@@ -14,7 +14,7 @@ use rows::{Page, RowFault, Words};
 use std::alloc::Global;
 use std::net::Net;
 
-/// A core of a device that was just formatted over a link, and the host that holds it.
+/// Formats a device over a link. Returns its core, and the host that has its records.
 pub(crate) fn formatted(
     alloc: Global,
     numbers: [u64; 5],
@@ -26,7 +26,7 @@ pub(crate) fn formatted(
     }
 }
 
-/// Serves a session, with the words of the tape.
+/// Serves a session, with words from the tape.
 pub(crate) fn served<L: Link, T: Tape>(
     alloc: Global,
     core: &mut Core<PlainSeal>,
@@ -41,9 +41,9 @@ pub(crate) fn served<L: Link, T: Tape>(
     Ok(serve(alloc, given, sheet, core, link, tape, 0))
 }
 
-/// `session DEVICE TAPE LINK READER WRITER`: the replies to the frames of a reader, how many there were or why there were no more,
-/// how the core then stands, and the calls of the link. The device was just formatted. The tape is `zeros`, or `chacha` under a key of
-/// zeros.
+/// `session DEVICE TAPE LINK READER WRITER`: formats a device and serves a session of it. Writes the replies to the
+/// frames of the reader, how many there were or why there were no more, how the core is afterwards, and the calls of
+/// the link. The tape is `zeros`, or `chacha` with a key of zeros.
 pub(crate) fn session<R: Net>(
     alloc: Global,
     net: &Cutter<R>,
@@ -68,7 +68,7 @@ pub(crate) fn session<R: Net>(
     }
 }
 
-/// The same, from the words of the link on.
+/// Does the same, reading from the words of the link on.
 fn session_with<R: Net, T: Tape>(
     alloc: Global,
     net: &Cutter<R>,

@@ -6,8 +6,8 @@ use oram_session::{Link, StreamLink};
 use rows::{Page, RowFault, Words};
 use std::alloc::Global;
 
-/// `stream READER WRITER BODIES`: what each call with the next body is answered, how many had a fault, what was sent, and by how
-/// many writes and flushes.
+/// `stream READER WRITER BODIES`: calls a link with each of the bodies. Writes the outcome of each call, how many calls
+/// had a fault, what was sent, and with how many writes and flushes.
 pub(crate) fn stream(alloc: Global, words: &mut Words, page: &mut Page) -> Result<(), RowFault> {
     let given = Given::read(alloc, words)?;
     let mut sheet = Sheet::read(alloc, words)?;

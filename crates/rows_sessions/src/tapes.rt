@@ -4,7 +4,7 @@ use oram_session::{ChaChaTape, ListTape, Tape};
 use rows::{Page, RowFault, Words};
 use std::alloc::Global;
 
-/// The words of a ticket, drawn as any tape's are.
+/// Draws the words of a ticket from any tape.
 fn drawn<T: Tape>(
     alloc: Global,
     tape: &mut T,
@@ -14,7 +14,7 @@ fn drawn<T: Tape>(
     Ok(tape.draw(alloc, ticket, count)?)
 }
 
-/// `list_words TICKET COUNT WORDS`: so many words of a ticket on a tape of a list.
+/// `list_words TICKET COUNT WORDS`: writes `COUNT` words for a ticket from the tape of a list.
 pub(crate) fn list_words(
     alloc: Global,
     words: &mut Words,
@@ -30,7 +30,8 @@ pub(crate) fn list_words(
     Ok(())
 }
 
-/// `chacha_words KEY TREES TICKET COUNT`: the same on a tape of the stream cipher, each word in hexadecimal.
+/// `chacha_words KEY TREES TICKET COUNT`: the same from a tape of the stream cipher. Writes each word in
+/// hexadecimal.
 pub(crate) fn chacha_words(
     alloc: Global,
     words: &mut Words,

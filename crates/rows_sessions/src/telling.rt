@@ -1,4 +1,4 @@
-//! What is written of cores, and of how calls end.
+//! Writes about cores, and about how calls end.
 
 use oram_answering::ServeFault;
 use oram_bucket::PlainSeal;
@@ -8,7 +8,7 @@ use oram_keep::KeepFault;
 use oram_session::LinkFault;
 use rows::{Page, RowFault, Words};
 
-/// Writes how many requests were carried out, all of them, or why there were no more.
+/// Writes how many requests were carried out if all were, or why there were no more.
 pub(crate) fn tell_end(page: &mut Page, ended: Result<u64, ServeFault>) -> Result<(), RowFault> {
     match ended {
         Ok(count) => {
@@ -34,7 +34,7 @@ pub(crate) fn tell_outcome(
     Ok(())
 }
 
-/// Writes what became of an event.
+/// Writes the note of an event.
 pub(crate) fn tell_note(page: &mut Page, note: Note) {
     page.word(match note {
         Note::Accepted(_) => "accepted",
@@ -52,7 +52,7 @@ pub(crate) fn tell_note(page: &mut Page, note: Note) {
     }
 }
 
-/// Whether a core is idle, failed or at work.
+/// Returns whether a core is idle, failed or at work.
 pub(crate) fn standing(core: &Core<PlainSeal>) -> &'static str {
     if core.failure().is_some() {
         "failed"
@@ -63,7 +63,7 @@ pub(crate) fn standing(core: &Core<PlainSeal>) -> &'static str {
     }
 }
 
-/// The device of five numbers.
+/// Makes the device with five numbers.
 pub(crate) fn device_of(numbers: [u64; 5]) -> Result<Device, RowFault> {
     let [blocks, block_bytes, slots, top, lifetime] = numbers;
     match Device::new(blocks, block_bytes, slots, top, lifetime) {
@@ -72,7 +72,8 @@ pub(crate) fn device_of(numbers: [u64; 5]) -> Result<Device, RowFault> {
     }
 }
 
-/// `names of link faults`, `names of session faults`, `names of keeping faults`: what each of them is called.
+/// `names of link faults`, `names of session faults`, `names of keeping faults`: writes the name of each
+/// fault.
 pub(crate) fn names(words: &mut Words, page: &mut Page) -> Result<(), RowFault> {
     match words.all() {
         "of link faults" => tell_link_faults(page),

@@ -10,7 +10,7 @@ use rows::{Page, RowFault, Words};
 use std::alloc::Global;
 use std::net::Net;
 
-/// A link of any kind.
+/// A link of one of the kinds.
 #[derive(Drop)]
 enum Way<'a, R: Net> {
     Direct(Direct),
@@ -39,10 +39,10 @@ impl<R: Net> Way<'_, R> {
     }
 }
 
-/// A host's answer that it has no memory.
+/// A host's answer that it is out of memory.
 pub(crate) const NO_ROOM: [u8; 2] = [0x81, 8];
 
-/// Whether a call found no memory, here or at the host.
+/// Returns whether memory ran out in a call, here or at the host.
 fn lacks_memory(outcome: &Result<Vec<u8>, LinkFault>) -> bool {
     match outcome {
         Ok(answer) => answer.as_slice() == NO_ROOM.as_slice(),
@@ -50,7 +50,7 @@ fn lacks_memory(outcome: &Result<Vec<u8>, LinkFault>) -> bool {
     }
 }
 
-/// A link that counts its calls, and remembers whether one of them found no memory.
+/// A link that counts its calls, and remembers whether memory ran out in one of them.
 #[derive(Drop)]
 pub(crate) struct AnyLink<'a, R: Net> {
     way: Way<'a, R>,
@@ -60,13 +60,14 @@ pub(crate) struct AnyLink<'a, R: Net> {
 }
 
 impl<'a, R: Net> AnyLink<'a, R> {
-    /// A link of the next words:
+    /// Makes a link from the next words:
     ///
     /// - `direct`: to the server in memory.
-    /// - `forgetful`: to one that keeps nothing in its place.
-    /// - `faults AT TIMES before|after`: to it too, but so many calls from a number on have a fault, before or after the server's work.
-    /// - `loop`: to it over a connection of this machine to itself.
-    /// - `stream READER`: what is sent goes nowhere, and the answers are what the reader gives.
+    /// - `forgetful`: to a new server instead, which keeps nothing.
+    /// - `faults AT TIMES before|after`: to the server in memory, but `TIMES` calls from call `AT` on have a fault,
+    ///   before or after the server has done its work.
+    /// - `loop`: to the server over a connection from this machine to itself.
+    /// - `stream READER`: what is sent goes nowhere, and the reader gives the answers.
     pub(crate) fn read(
         alloc: Global,
         words: &mut Words,
@@ -90,7 +91,7 @@ impl<'a, R: Net> AnyLink<'a, R> {
         Ok(AnyLink::over(way))
     }
 
-    /// A `direct` link.
+    /// Makes a `direct` link.
     pub(crate) fn direct(alloc: Global, server: Server) -> AnyLink<'a, R> {
         AnyLink::over(Way::Direct(Direct::new(alloc, server)))
     }
@@ -104,7 +105,7 @@ impl<'a, R: Net> AnyLink<'a, R> {
         }
     }
 
-    /// The server of a `direct` link.
+    /// Returns the server of a `direct` link.
     pub(crate) fn into_server(self) -> Result<Server, RowFault> {
         match self.way {
             Way::Direct(link) => Ok(link.into_server()),
@@ -112,7 +113,7 @@ impl<'a, R: Net> AnyLink<'a, R> {
         }
     }
 
-    /// A row whose link found no memory has no answer.
+    /// Fails if memory ran out in a call, since its row has no answer then.
     pub(crate) fn check_memory(&self) -> Result<(), RowFault> {
         if self.lacks_memory {
             return Err(RowFault::OutOfMemory);
@@ -120,7 +121,7 @@ impl<'a, R: Net> AnyLink<'a, R> {
         Ok(())
     }
 
-    /// How many calls there were.
+    /// Returns how many calls there were.
     pub(crate) fn calls(&self) -> u64 {
         match &self.way {
             Way::Faults(link) => link.calls(),
@@ -128,7 +129,7 @@ impl<'a, R: Net> AnyLink<'a, R> {
         }
     }
 
-    /// Writes how many calls there were, and how many of them had a fault, as the link itself tells it.
+    /// Writes how many calls there were, and how many of them had a fault by the link's own count.
     pub(crate) fn tell(&self, page: &mut Page) -> Result<(), RowFault> {
         self.check_memory()?;
         page.word("calls");
@@ -139,7 +140,7 @@ impl<'a, R: Net> AnyLink<'a, R> {
     }
 }
 
-/// A link of the words `AT TIMES before|after`.
+/// Makes a link from the words `AT TIMES before|after`.
 fn faulty(alloc: Global, words: &mut Words, server: Server) -> Result<FaultLink<Direct>, RowFault> {
     let (at, times) = (words.number(), words.number());
     let after = match words.text() {

@@ -1,4 +1,4 @@
-//! What `oramdisk` says when all goes well, the amounts in it, and what it says of a settings file that is wrong.
+//! What `oramdisk` prints when all goes well, the amounts in it, and what it prints about a wrong settings file.
 
 use oram_settings::{
     Sealing, amount_text, begun_text, counted, device_of, disk_complaint, host_complaint,
@@ -7,9 +7,9 @@ use oram_settings::{
 use rows::{Page, RowFault, Words};
 use std::alloc::Global;
 
-/// `says amount BYTES`, `says size BYTES`, `says counted COUNT NAME`, `says stored SIZE BLOCK SLOTS TABLE SEALER`, `says made FOLDER SIZE STORED`,
-/// `says begun STORED HOST`, `says hosting FILE LISTEN`, `says serving SIZE URI`, and `says bad-disk NAME TEXT` and
-/// `says bad-host NAME TEXT` of a file's text: what `oramdisk` says so.
+/// `says amount BYTES`, `says size BYTES`, `says counted COUNT NAME`, `says stored SIZE BLOCK SLOTS TABLE SEALER`,
+/// `says made FOLDER SIZE STORED`, `says begun STORED HOST`, `says hosting FILE LISTEN`, `says serving SIZE URI`, and,
+/// about the text of a file, `says bad-disk NAME TEXT` and `says bad-host NAME TEXT`: writes what `oramdisk` prints.
 pub fn says(alloc: Global, words: &mut Words, page: &mut Page) -> Result<(), RowFault> {
     let kind = words.text();
     let text = match kind {
@@ -29,7 +29,7 @@ pub fn says(alloc: Global, words: &mut Words, page: &mut Page) -> Result<(), Row
     Ok(())
 }
 
-/// What a disk of these settings takes at its host.
+/// Returns how many bytes a disk with these settings takes at its host.
 fn stored(words: &mut Words) -> Result<u64, RowFault> {
     let size = words.number();
     let block = words.number();

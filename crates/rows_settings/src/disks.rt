@@ -7,13 +7,14 @@ use oram_settings::{
 use rows::{Page, RowFault, Words};
 use std::alloc::Global;
 
-/// `disk TEXT`: the settings that a document is: size, block, slots, table, sealer, key, host, listen, state, sync and patience.
+/// `disk TEXT`: writes the settings in a document: size, block, slots, table, sealer, key, host, listen, state, sync
+/// and patience.
 pub fn disk(alloc: Global, words: &mut Words, page: &mut Page) -> Result<(), RowFault> {
     let text = words.lines(alloc);
     put_settings(alloc, text.as_str(), page)
 }
 
-/// Reads settings, and writes what they are.
+/// Reads settings, and writes them.
 fn put_settings(alloc: Global, text: &str, page: &mut Page) -> Result<(), RowFault> {
     let Some(settings) = read_or_bad(read_disk_settings(alloc, text), page)? else {
         return Ok(());
@@ -43,7 +44,7 @@ fn put_names(settings: &DiskSettings, page: &mut Page) {
     page.number(settings.patience);
 }
 
-/// `device SIZE BLOCK SLOTS TABLE`: the trees and blocks of the device of such a disk.
+/// `device SIZE BLOCK SLOTS TABLE`: writes how many trees and blocks the device of such a disk has.
 pub fn device(words: &mut Words, page: &mut Page) -> Result<(), RowFault> {
     let size = words.number();
     let block = words.number();
@@ -61,8 +62,7 @@ pub fn device(words: &mut Words, page: &mut Page) -> Result<(), RowFault> {
     Ok(())
 }
 
-/// `first-settings SIZE KEY`: whether the text that a new disk gets is read as this size and key, and the other values of its
-/// settings.
+/// `first-settings SIZE KEY`: reads the text of a new disk's settings, and writes the settings in it.
 pub fn first_settings(alloc: Global, words: &mut Words, page: &mut Page) -> Result<(), RowFault> {
     let size = words.number();
     let key = words.array(alloc);
@@ -70,7 +70,7 @@ pub fn first_settings(alloc: Global, words: &mut Words, page: &mut Page) -> Resu
     put_settings(alloc, text.as_str(), page)
 }
 
-/// The text of a new disk's settings, with the settings that stand there as comments set.
+/// Returns the text of a new disk's settings with those settings set that it has only as comments.
 fn all_set(alloc: Global, text: &str) -> Result<String, RowFault> {
     let mut all = String::new(alloc);
     for line in text.lines() {
@@ -84,7 +84,7 @@ fn all_set(alloc: Global, text: &str) -> Result<String, RowFault> {
     Ok(all)
 }
 
-/// `first-settings-set SIZE KEY`: how the text that a new disk gets is read where the settings that it has as comments are set.
+/// `first-settings-set SIZE KEY`: the same, but with those settings set that the text has only as comments.
 pub fn first_settings_set(
     alloc: Global,
     words: &mut Words,
@@ -105,8 +105,8 @@ fn sealing_in(words: &mut Words) -> Result<Sealing, RowFault> {
     }
 }
 
-/// `differs SIZE BLOCK SLOTS TABLE SEALER SIZE BLOCK SLOTS TABLE SEALER`: at which key the first settings differ first from the second, which
-/// a disk was formatted with.
+/// `differs SIZE BLOCK SLOTS TABLE SEALER SIZE BLOCK SLOTS TABLE SEALER`: writes the first key at which the first
+/// settings differ from the second ones, with which a disk was formatted.
 pub fn differs(alloc: Global, words: &mut Words, page: &mut Page) -> Result<(), RowFault> {
     let settings = DiskSettings {
         size: words.number(),

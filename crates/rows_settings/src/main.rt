@@ -11,7 +11,7 @@ use rows::{Page, RowFault, Table, Words, run_table};
 use std::alloc::Global;
 use std::process::ExitCode;
 
-/// What the rows work on: the document that was read last, and the meter that was begun last.
+/// The document that was read last, and the meter that was begun last.
 #[derive(Drop)]
 struct Calls {
     document: Option<toml::Table>,

@@ -1,11 +1,11 @@
-//! What is told of a formatting and of a disk.
+//! Reports about a formatting and about a disk.
 
 use oram_core::Reason;
 use oram_settings::{Meter, Status, progress_text, report};
 use rows::{Page, RowFault, Words};
 use std::alloc::Global;
 
-/// `progress DONE OF MILLISECONDS`: the line of a formatting that is so far.
+/// `progress DONE OF MILLISECONDS`: writes the line of a formatting that has come this far.
 pub fn progress(alloc: Global, words: &mut Words, page: &mut Page) -> Result<(), RowFault> {
     let done = words.number();
     let of = words.number();
@@ -15,7 +15,7 @@ pub fn progress(alloc: Global, words: &mut Words, page: &mut Page) -> Result<(),
     Ok(())
 }
 
-/// `meter STEP`: a meter that tells of each such step in a hundred.
+/// `meter STEP`: begins a meter that is due at each such step in a hundred.
 pub fn meter(
     meter: &mut Option<Meter>,
     words: &mut Words,
@@ -26,7 +26,7 @@ pub fn meter(
     Ok(())
 }
 
-/// `due PERCENT`: whether the meter tells of it.
+/// `due PERCENT`: writes whether the meter is due.
 pub fn due(meter: Option<&mut Meter>, words: &mut Words, page: &mut Page) -> Result<(), RowFault> {
     let Some(meter) = meter else {
         return Err(RowFault::NoRow);
@@ -35,8 +35,8 @@ pub fn due(meter: Option<&mut Meter>, words: &mut Words, page: &mut Page) -> Res
     Ok(())
 }
 
-/// `report BLOCKS BLOCK_BYTES TREES ACCESSES LIFETIME WAITING FAILURE ..`: the report of a disk, which is `sound`, or failed by
-/// `malformed`, `tampered TREE LEVEL` or `refused CODE`.
+/// `report BLOCKS BLOCK_BYTES TREES ACCESSES LIFETIME WAITING FAILURE ..`: writes the report of a disk. The disk is
+/// `sound`, or has failed with `malformed`, `tampered TREE LEVEL` or `refused CODE`.
 pub fn disk_report(alloc: Global, words: &mut Words, page: &mut Page) -> Result<(), RowFault> {
     let status = Status {
         blocks: words.number(),

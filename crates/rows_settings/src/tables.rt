@@ -1,4 +1,4 @@
-//! What stands at the keys of a TOML document.
+//! The values at the keys of a TOML document.
 
 use oram_edge::{
     InputFault, address_at, count_at, has_only, key_at, name_at, number_at, sealer_in, table_of,
@@ -7,7 +7,7 @@ use rows::{Page, RowFault, Words};
 use std::alloc::Global;
 use toml::Table;
 
-/// What was read, or `bad` written on the page in its place.
+/// Returns what was read. If it was bad, writes `bad` instead.
 pub fn read_or_bad<T: Drop>(
     read: Result<T, InputFault>,
     page: &mut Page,
@@ -22,7 +22,7 @@ pub fn read_or_bad<T: Drop>(
     }
 }
 
-/// `document TEXT`: the document of the rows below. The answer is whether the text is one.
+/// `document TEXT`: reads the document of the rows below, and writes whether the text is one.
 pub fn document(
     alloc: Global,
     document: &mut Option<Table>,
@@ -38,7 +38,8 @@ pub fn document(
     Ok(())
 }
 
-/// `at KIND KEY`: what stands there, if it is of that kind. A `sealer` is read from its two keys together.
+/// `at KIND KEY`: writes the value at the key, if it is of that kind. A `sealer` is read from its two keys
+/// together.
 pub fn at(document: Option<&Table>, words: &mut Words, page: &mut Page) -> Result<(), RowFault> {
     let Some(table) = document else {
         return Err(RowFault::NoRow);
@@ -84,7 +85,7 @@ fn put_sealer(read: Result<Option<[u8; 32]>, InputFault>, page: &mut Page) -> Re
     Ok(())
 }
 
-/// `only KEY ..`: whether the document has no other keys.
+/// `only KEY ..`: writes whether the document has no other keys.
 pub fn only(
     alloc: Global,
     document: Option<&Table>,

@@ -1,11 +1,11 @@
-//! Sizes, names, command lines and texts that are written.
+//! Sizes, names, command lines, and texts that are written.
 
 use oram_edge::{put_between, put_number};
 use oram_settings::{NoRequest, Words as CommandWords, beside, read_size, read_words};
 use rows::{Page, RowFault, Words};
 use std::alloc::Global;
 
-/// `size TEXT`: the bytes that a size means.
+/// `size TEXT`: writes how many bytes a size means.
 pub fn size(words: &mut Words, page: &mut Page) -> Result<(), RowFault> {
     match read_size(words.all()) {
         Some(bytes) => page.number(bytes),
@@ -14,7 +14,7 @@ pub fn size(words: &mut Words, page: &mut Page) -> Result<(), RowFault> {
     Ok(())
 }
 
-/// `beside FILE NAME`: the name, as seen from the file's folder.
+/// `beside FILE NAME`: writes the path of the file that is called `NAME` in the folder of `FILE`.
 pub fn beside_file(alloc: Global, words: &mut Words, page: &mut Page) -> Result<(), RowFault> {
     let file = words.text();
     let name = words.text();
@@ -23,7 +23,7 @@ pub fn beside_file(alloc: Global, words: &mut Words, page: &mut Page) -> Result<
     Ok(())
 }
 
-/// `words WORD ..`: what a command line asks `oramdisk` for.
+/// `words WORD ..`: writes what a command line asks `oramdisk` for.
 pub fn command_line(alloc: Global, words: &mut Words, page: &mut Page) -> Result<(), RowFault> {
     let mut texts = Vec::new(alloc);
     for _ in 0..64 {
@@ -67,14 +67,15 @@ fn put_both(page: &mut Page, role: &str, name: &String) {
     page.word(name.as_str());
 }
 
-/// Writes what a writer holds that has so much room left, and whether that is all.
+/// Writes the bytes that a writer holds while it has room for `left` more, and whether they are the whole text.
 fn show_held(held: &[u8], left: usize, is_whole: bool, page: &mut Page) {
     let len = held.len().saturating_sub(left);
     page.bytes(held.get(..len).unwrap_or(&[]));
     page.word(if is_whole { "all" } else { "a beginning" });
 }
 
-/// `write ROOM FRONT TEXT REST`: the bytes that a writer with that room holds behind them, and whether all of them are.
+/// `write ROOM FRONT TEXT REST`: writes the three texts to a writer with `ROOM` bytes. Writes the bytes that the writer
+/// then holds, and whether these are all.
 pub fn write(alloc: Global, words: &mut Words, page: &mut Page) -> Result<(), RowFault> {
     let room = words.size();
     let front = words.bytes(alloc);
@@ -88,7 +89,7 @@ pub fn write(alloc: Global, words: &mut Words, page: &mut Page) -> Result<(), Ro
     Ok(())
 }
 
-/// `write-number ROOM FRONT NUMBER`: the same, of a text with a number behind it.
+/// `write-number ROOM FRONT NUMBER`: the same for a text and a number after it.
 pub fn write_number(alloc: Global, words: &mut Words, page: &mut Page) -> Result<(), RowFault> {
     let room = words.size();
     let front = words.bytes(alloc);

@@ -1,4 +1,4 @@
--- Where the files of the rows of a redo log may have what.
+-- The bounds of the files in the rows of a redo log.
 use Rattle.oram_redo.specs.declared.bounds.Bounds.{Bounds}
 
 abbrev pub bounds : Bounds

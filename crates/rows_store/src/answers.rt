@@ -1,4 +1,4 @@
-//! What a store and the bucket server in memory answer to the same body.
+//! The answers of a store and of the bucket server in memory to the same body.
 
 use oram_host::Server;
 use oram_redo::MemoryPair;
@@ -7,10 +7,10 @@ use oram_wire::HostAnswer;
 use rows::{Page, RowFault};
 use std::alloc::Global;
 
-/// The code of a refusal for want of room.
+/// The code by which a host refuses a body because it has no room.
 pub const NO_ROOM: u8 = 8;
 
-/// Writes an answer. Here a refusal for want of room is one for want of memory.
+/// Writes an answer. Here a host has no room only if memory ran out, so this fails then.
 pub fn write_answer(page: &mut Page, answer: &HostAnswer) -> Result<(), RowFault> {
     match answer {
         HostAnswer::Done => page.word("done"),
@@ -27,14 +27,14 @@ pub fn write_answer(page: &mut Page, answer: &HostAnswer) -> Result<(), RowFault
     Ok(())
 }
 
-/// The answer of one of the two, written on a page of its own.
+/// Writes the answer of one of the two on its own page.
 fn written(alloc: Global, answer: &HostAnswer) -> Result<Page, RowFault> {
     let mut page = Page::new(alloc);
     write_answer(&mut page, answer)?;
     Ok(page)
 }
 
-/// Writes what both said where it is the same, and else what each said.
+/// Writes the answer of both if it is the same, and else the answer of each.
 fn write_both(page: &mut Page, store: &Page, server: &Page) {
     if store.is_like(server) {
         page.page(store);
@@ -47,7 +47,7 @@ fn write_both(page: &mut Page, store: &Page, server: &Page) {
     page.page(server);
 }
 
-/// Asks both, and writes their answer.
+/// Asks both, and writes their answers.
 pub fn ask(
     alloc: Global,
     store: &mut Store<MemoryPair>,
@@ -61,7 +61,8 @@ pub fn ask(
     Ok(())
 }
 
-/// Writes the bytes of an answer on a page of their own. Here a refusal for want of room is one for want of memory.
+/// Writes the bytes of an answer on their own page. Here a host has no room only if memory ran out, so this fails
+/// then.
 fn spelled(alloc: Global, answer: &[u8]) -> Result<Page, RowFault> {
     if answer == [0x81, NO_ROOM].as_slice() {
         return Err(RowFault::OutOfMemory);
@@ -71,7 +72,7 @@ fn spelled(alloc: Global, answer: &[u8]) -> Result<Page, RowFault> {
     Ok(page)
 }
 
-/// Asks both, and writes the bytes of their answer.
+/// Asks both, and writes the bytes of their answers.
 pub fn ask_bytes(
     alloc: Global,
     store: &mut Store<MemoryPair>,

@@ -1,4 +1,4 @@
-//! Patches that words tell.
+//! Reads patches from words.
 ghost use Rattle.std.specs.Prelude.{All, IfOk};
 ghost use Rattle.oram_redo.specs.Batch.{patch_of, patches_of};
 ghost use Rattle.oram_redo.specs.Log.{Fits};
@@ -16,7 +16,7 @@ pub struct OwnedPatch {
     pub bytes: Vec<u8>,
 }
 
-/// The patches of the words that are left, as `AT BYTES AT BYTES ..`.
+/// Reads the words that are left as patches, `AT BYTES AT BYTES ..`.
 pub fn patches_in(alloc: Global, words: &mut Words) -> Result<Vec<OwnedPatch>, RowFault> {
     let mut patches = Vec::new(alloc);
     for _ in 0..u64::MAX {
@@ -30,7 +30,8 @@ pub fn patches_in(alloc: Global, words: &mut Words) -> Result<Vec<OwnedPatch>, R
     Ok(patches)
 }
 
-/// A patch whose bytes are lent. Where it would not end within the file of records, the row is not one.
+/// Lends the bytes of a patch. Fails with [`RowFault::NoRow`] if the patch doesn't end within the file
+/// of records.
 fn lent(patch: &OwnedPatch) -> Result<Patch<'_>, RowFault>
     ensures { IfOk result (λ lent. Fits bounds (patch_of lent)) }
 {
@@ -44,7 +45,7 @@ fn lent(patch: &OwnedPatch) -> Result<Patch<'_>, RowFault>
     })
 }
 
-/// The batch of these patches.
+/// Returns the batch of these patches.
 pub fn batch_of(alloc: Global, patches: &[OwnedPatch]) -> Result<Vec<Patch<'_>>, RowFault>
     ensures { IfOk result (λ batch. All (Fits bounds) (patches_of batch.items)) }
 {

@@ -9,7 +9,7 @@ use std::alloc::Global;
 /// The identity of new files. No answer shows it.
 const IDENTITY: Identity = Identity([0x5a; 16]);
 
-/// The files of a new store.
+/// Returns the files of a new store.
 pub fn created(alloc: Global) -> Result<MemoryPair, RowFault> {
     let mut files = MemoryPair::new(alloc);
     match create(&mut files, &IDENTITY) {
@@ -18,7 +18,7 @@ pub fn created(alloc: Global) -> Result<MemoryPair, RowFault> {
     }
 }
 
-/// The next word as one of the two files.
+/// Reads the next word as one of the two files.
 pub fn file_in(words: &mut Words) -> Result<FileKind, RowFault> {
     match words.text() {
         "records" => Ok(FileKind::Records),
@@ -27,7 +27,7 @@ pub fn file_in(words: &mut Words) -> Result<FileKind, RowFault> {
     }
 }
 
-/// Writes the bytes that the words `FILE AT LEN` name.
+/// Writes the bytes of a file that the words `FILE AT LEN` name.
 pub fn write_bytes(
     alloc: Global,
     files: &mut MemoryPair,

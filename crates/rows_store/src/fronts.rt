@@ -4,7 +4,7 @@ use oram_layout::{Front, Identity, front_of, log_front_of, read_front, read_log_
 use rows::{Page, RowFault, Words};
 use std::alloc::Global;
 
-/// The next word as an identity. With another number of bytes than 16 the row is not one.
+/// Reads the next word as an identity. Fails if it doesn't have 16 bytes.
 fn identity_in(alloc: Global, words: &mut Words) -> Result<Identity, RowFault> {
     let bytes = words.bytes(alloc);
     let mut identity = [0; 16];
@@ -20,7 +20,7 @@ fn write_ours(page: &mut Page, identity: &Identity) {
     page.bytes(&identity.0);
 }
 
-/// `front read BYTES`: what a file is that begins so.
+/// `front read BYTES`: writes what kind of file begins with these bytes.
 fn read(alloc: Global, words: &mut Words, page: &mut Page) -> Result<(), RowFault> {
     let bytes = words.bytes(alloc);
     match read_front(&bytes) {
@@ -30,7 +30,7 @@ fn read(alloc: Global, words: &mut Words, page: &mut Page) -> Result<(), RowFaul
     Ok(())
 }
 
-/// `front read_log BYTES`: whether a log begins so.
+/// `front read_log BYTES`: writes whether a log begins with these bytes.
 fn read_log(alloc: Global, words: &mut Words, page: &mut Page) -> Result<(), RowFault> {
     let bytes = words.bytes(alloc);
     match read_log_front(&bytes) {
@@ -40,7 +40,8 @@ fn read_log(alloc: Global, words: &mut Words, page: &mut Page) -> Result<(), Row
     Ok(())
 }
 
-/// Answers a row about fronts. `front buckets IDENTITY` is that of a bucket file, and `front log IDENTITY` that of its log.
+/// Answers a row about fronts. `front buckets IDENTITY` writes the front of a bucket file, and `front log IDENTITY`
+/// that of its log.
 pub fn answer(
     alloc: Global,
     name: &str,

@@ -4,7 +4,8 @@ use oram_layout::{ENTRY_LEN, LayoutFault, TREES, Tree, next_base, read_trees};
 use rows::{Page, RowFault, Words};
 use std::alloc::Global;
 
-/// The trees of the next word, which is the 4096 bytes of a header's entries, or what is wrong with them.
+/// Reads the next word, the 4096 bytes of a header's entries, as trees. Returns the fault if they are no
+/// trees.
 fn trees_in(
     alloc: Global,
     words: &mut Words,
@@ -19,7 +20,7 @@ fn trees_in(
     }
 }
 
-/// Writes a tree: its number, the depth, the bytes of a record, and where its cells begin.
+/// Writes a tree: its number, its depth, the length of a record, and the place where its cells begin.
 fn write_tree(page: &mut Page, number: u64, tree: &Tree) {
     page.part();
     page.number(number);
@@ -28,7 +29,7 @@ fn write_tree(page: &mut Page, number: u64, tree: &Tree) {
     page.number(tree.base);
 }
 
-/// Writes each tree that there is, or `none`.
+/// Writes each tree, or `none`.
 fn write_trees(page: &mut Page, trees: &[Option<Tree>]) {
     for (number, tree) in trees.iter().enumerate() {
         if let Some(tree) = tree {
@@ -40,7 +41,7 @@ fn write_trees(page: &mut Page, trees: &[Option<Tree>]) {
     }
 }
 
-/// `header trees ENTRIES`: the trees.
+/// `header trees ENTRIES`: writes the trees.
 fn trees(alloc: Global, words: &mut Words, page: &mut Page) -> Result<(), RowFault> {
     match trees_in(alloc, words)? {
         Ok(trees) => write_trees(page, &trees),
@@ -49,7 +50,7 @@ fn trees(alloc: Global, words: &mut Words, page: &mut Page) -> Result<(), RowFau
     Ok(())
 }
 
-/// `header next ENTRIES`: where the cells of the next tree will begin.
+/// `header next ENTRIES`: writes the place where the cells of the next tree will begin.
 fn next(alloc: Global, words: &mut Words, page: &mut Page) -> Result<(), RowFault> {
     match trees_in(alloc, words)? {
         Ok(trees) => page.number(next_base(&trees)),

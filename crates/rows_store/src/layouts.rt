@@ -4,23 +4,24 @@ use oram_layout::{Shape, Tree, entry_place};
 use rows::{Page, RowFault, Words};
 use std::alloc::Global;
 
-/// The shape of the words `DEPTH RECORD_LEN`, if a tree may have it.
+/// Reads the shape from the words `DEPTH RECORD_LEN`; `None` if no tree may have it.
 fn shape_in(words: &mut Words) -> Option<Shape> {
     Shape::new(words.byte(), words.short())
 }
 
-/// The tree of the words `DEPTH RECORD_LEN BASE`, if it ends where the cells of trees may.
+/// Reads the tree from the words `DEPTH RECORD_LEN BASE`; `None` if it ends beyond the last place for cells.
 fn placed_in(words: &mut Words) -> Result<Option<Tree>, RowFault> {
     let shape = shape_in(words).ok_or(RowFault::NoRow)?;
     Ok(Tree::place(shape, words.number()))
 }
 
-/// The tree of the words `DEPTH RECORD_LEN BASE`.
+/// Reads the tree from the words `DEPTH RECORD_LEN BASE`.
 fn tree_in(words: &mut Words) -> Result<Tree, RowFault> {
     placed_in(words)?.ok_or(RowFault::NoRow)
 }
 
-/// `layout shape DEPTH RECORD_LEN`: how many leaves and nodes a tree of this shape has, and how many bytes the records of a path.
+/// `layout shape DEPTH RECORD_LEN`: writes how many leaves and nodes a tree of this shape has, and how many bytes the
+/// records of a path have.
 fn shape(words: &mut Words, page: &mut Page) -> Result<(), RowFault> {
     let Some(shape) = shape_in(words) else {
         page.word("none");
@@ -32,7 +33,7 @@ fn shape(words: &mut Words, page: &mut Page) -> Result<(), RowFault> {
     Ok(())
 }
 
-/// `layout node DEPTH RECORD_LEN LEAF LEVEL`: the node at a level of a leaf's path.
+/// `layout node DEPTH RECORD_LEN LEAF LEVEL`: writes the node at a level of a leaf's path.
 fn node(words: &mut Words, page: &mut Page) -> Result<(), RowFault> {
     let shape = shape_in(words).ok_or(RowFault::NoRow)?;
     let leaf = words.short();
@@ -44,7 +45,7 @@ fn node(words: &mut Words, page: &mut Page) -> Result<(), RowFault> {
     Ok(())
 }
 
-/// `layout place DEPTH RECORD_LEN BASE`: where the cells of a tree end that begin at this place.
+/// `layout place DEPTH RECORD_LEN BASE`: writes where the cells of a tree end if they begin at `BASE`.
 fn place(words: &mut Words, page: &mut Page) -> Result<(), RowFault> {
     match placed_in(words)? {
         Some(tree) => page.number(tree.end()),
@@ -53,7 +54,7 @@ fn place(words: &mut Words, page: &mut Page) -> Result<(), RowFault> {
     Ok(())
 }
 
-/// `layout cell DEPTH RECORD_LEN BASE NODE`: the place of a node's cell.
+/// `layout cell DEPTH RECORD_LEN BASE NODE`: writes the place of a node's cell.
 fn cell(words: &mut Words, page: &mut Page) -> Result<(), RowFault> {
     let tree = tree_in(words)?;
     let node = words.short();
@@ -64,8 +65,8 @@ fn cell(words: &mut Words, page: &mut Page) -> Result<(), RowFault> {
     Ok(())
 }
 
-/// Answers a row about places. `layout entry DEPTH RECORD_LEN BASE` is a tree's entry in the header, and `layout entry_at TREE` is the
-/// place of the entry of the tree with this number.
+/// Answers a row about places. `layout entry DEPTH RECORD_LEN BASE` writes a tree's entry in the header, and
+/// `layout entry_at TREE` writes the place of the entry of tree `TREE`.
 pub fn answer(name: &str, words: &mut Words, page: &mut Page) -> Result<(), RowFault> {
     match name {
         "shape" => shape(words, page),

@@ -3,11 +3,11 @@ ghost use Rattle.std.specs.Prelude.{◌≡◌, ℕ};
 
 use oram_redo::{FileKind, FilePair, RedoError};
 
-/// Files that are lent.
+/// Files that are lent to a store.
 #[derive(Drop)]
 pub struct Lent<'a, F: FilePair> {
     pub files: &'a mut F,
-    /// How many calls they still answer. Each one after these fails.
+    /// How many more calls the files answer. After that, each call fails.
     pub calls: u64,
 }
 
@@ -22,7 +22,7 @@ impl<F: FilePair> FilePair for Lent<'_, F> {
 
     ghost is_honest = { λ l. F.is_honest l.files.now };
 
-    // Each call may be one too many.
+    // Any call may be one too many.
     ghost failures = { λ l n. Unit {0} };
 
     ghost shortages = { λ l n. Unit {0} };

@@ -1,4 +1,4 @@
-//! Stores over the same files, one after the other. Each has a life: it is opened, asked, and closed or cut off.
+//! Stores over the same files, one after the other. In its life, a store is opened, asked, and closed or cut off.
 
 use crate::answers::NO_ROOM;
 use crate::files::{created, write_bytes};
@@ -20,26 +20,27 @@ pub struct Lives {
 struct Life {
     /// How many calls its files answer before they fail.
     calls: u64,
-    /// Whether it is closed at the end. Else its process is killed.
+    /// Whether the store is closed at the end. If not, its process is killed.
     is_closed: bool,
 }
 
-/// How many calls a request makes at the most.
+/// The most calls that a request makes.
 const MOST_CALLS: u64 = 1_000;
 
-/// A life whose files don't fail, and at whose end the process is killed.
+/// A life in which the files don't fail, and at the end the process is killed.
 const KILLED: Life = Life {
     calls: u64::MAX,
     is_closed: false,
 };
 
-/// A life whose files don't fail, and at whose end the store is closed.
+/// A life in which the files don't fail, and at the end the store is closed.
 const CLOSED: Life = Life {
     calls: u64::MAX,
     is_closed: true,
 };
 
-/// Writes why a store didn't do what it was asked. Files in memory find no room for want of memory alone, and `Io` says that they fail.
+/// Writes why a store didn't do what it was asked. Files in memory have no room only if memory ran out, and `Io` means
+/// that they were made to fail.
 fn write_fault(page: &mut Page, fault: StoreFault) -> Result<(), RowFault> {
     match fault {
         StoreFault::OutOfMemory | StoreFault::NoRoom => return Err(RowFault::OutOfMemory),
@@ -59,7 +60,7 @@ fn write_failure(store: &Store<Lent<'_, MemoryPair>>, page: &mut Page) -> Result
     }
 }
 
-/// Asks a store, and writes its answer, with the reason where it has no room.
+/// Asks a store, and writes its answer. If the store has no room, the reason follows.
 fn ask(
     store: &mut Store<Lent<'_, MemoryPair>>,
     body: &[u8],
@@ -94,7 +95,7 @@ fn close(store: Store<Lent<'_, MemoryPair>>, page: &mut Page) -> Result<(), RowF
     }
 }
 
-/// Asks a store these bodies, and closes it or not.
+/// Asks a store these bodies, and closes it if `is_closed` is set.
 fn ask_each(
     mut store: Store<Lent<'_, MemoryPair>>,
     bodies: &[Vec<u8>],
@@ -112,7 +113,7 @@ fn ask_each(
     }
 }
 
-/// A life of a store over these files: what it answers to the bodies, or why it can't be opened.
+/// Lets a store live over these files. Writes its answers to the bodies, or why it can't be opened.
 fn live(
     alloc: Global,
     files: &mut MemoryPair,
@@ -130,8 +131,9 @@ fn live(
     }
 }
 
-/// New files over which a store was asked some bodies and closed, so that the log is empty; the next store's files fail behind so many calls,
-/// while it is asked others; and the store after that is asked the last of these. Writes what the last two stores answer.
+/// Lets three stores live over new files, one after the other. The first one is asked all bodies but the last two and
+/// closed, so that the log is empty. The second one is asked the last two, and its files fail after `calls` calls. The
+/// third one is asked the last body. Writes what the last two stores answer.
 fn cut(alloc: Global, bodies: &[Vec<u8>], calls: u64, page: &mut Page) -> Result<(), RowFault> {
     let (first, cut) = bodies.split_at(bodies.len().saturating_sub(2));
     let (_, last) = cut.split_at(cut.len().saturating_sub(1));
@@ -149,7 +151,7 @@ fn cut(alloc: Global, bodies: &[Vec<u8>], calls: u64, page: &mut Page) -> Result
     Ok(())
 }
 
-/// What `cut` writes, on a page of its own.
+/// Writes what `cut` writes, on its own page.
 fn case(alloc: Global, bodies: &[Vec<u8>], calls: u64) -> Result<Page, RowFault> {
     let mut page = Page::new(alloc);
     cut(alloc, bodies, calls, &mut page)?;
@@ -157,9 +159,10 @@ fn case(alloc: Global, bodies: &[Vec<u8>], calls: u64) -> Result<Page, RowFault>
     Ok(page)
 }
 
-/// `life cuts BODIES BODY FETCH`: a store is asked the first bodies and closed, the next one is asked the last two, and one after that the last
-/// one again. The files of the second store fail behind no calls, behind one, and so on until it isn't cut off any more. Writes what the
-/// last two stores answer, each case once where the next has the same.
+/// `life cuts BODIES BODY FETCH`: a store is asked `BODIES` and closed, the next one is asked `BODY` and `FETCH`, and
+/// the one after that is asked `FETCH` again. The files of the second store fail after no call, after one, and so on,
+/// until they don't cut it off any more. Writes what the last two stores answer; equal answers in a row are written
+/// once.
 fn cuts(alloc: Global, words: &mut Words, page: &mut Page) -> Result<(), RowFault> {
     let bodies = words.bodies(alloc);
     if bodies.len() < 2 {
@@ -188,8 +191,8 @@ impl Lives {
         Lives { files: None }
     }
 
-    /// Answers a row about lives. `life new` begins new files; `life killed BODIES` and `life closed BODIES` are the lives of stores over
-    /// them; `life file FILE AT LEN` are bytes that these have left.
+    /// Answers a row about lives. `life new` makes new files; `life killed BODIES` and `life closed BODIES` let a store
+    /// live over them; `life file FILE AT LEN` writes bytes that are in them afterwards.
     pub fn answer(
         &mut self,
         alloc: Global,

@@ -1,6 +1,6 @@
-//! Rows of the file of buckets: where it has what, its redo log, and the server that keeps its records there.
+//! Rows of the bucket file: its layout, its redo log, and the server that keeps its records in it.
 //!
-//! The first word of a row names the layer that it is about, the second one the call.
+//! The first word of a row names its layer, the second one the call.
 #![tactic(auto)]
 
 mod answers;
@@ -21,7 +21,7 @@ use std::alloc::Global;
 use std::process::ExitCode;
 use stores::Stores;
 
-/// The calls of these rows, with what each layer keeps from row to row.
+/// The calls of these rows, with the values that each layer keeps from row to row.
 #[derive(Drop)]
 struct Calls {
     redos: Redos,

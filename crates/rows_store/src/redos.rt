@@ -9,7 +9,7 @@ use oram_redo::{Bounds, FilePair, MemoryPair, Redo, RedoError, recover};
 use rows::{Page, RowFault, Words};
 use std::alloc::Global;
 
-/// Where the files of these rows may have what: a log of a few entries, and 32 bytes of records.
+/// The bounds of the files of these rows: a log with room for a few entries, and 32 bytes of records.
 pub const BOUNDS: Bounds = Bounds {
     log_start: 4,
     log_end: 60,
@@ -31,7 +31,7 @@ pub struct Redos {
     opened: Option<Opened>,
 }
 
-/// Writes why a call was not carried out. Files in memory fail for want of memory alone.
+/// Writes why a call was not carried out. Files in memory fail only if memory ran out.
 fn write_fault(page: &mut Page, fault: RedoError) -> Result<(), RowFault> {
     match fault {
         RedoError::LogFull | RedoError::Damaged => page.show(&fault),
@@ -53,7 +53,7 @@ fn write_end(page: &mut Page, ended: Result<(), RedoError>) -> Result<(), RowFau
     }
 }
 
-/// `redo write FILE AT BYTES`: writes bytes into a file, past the redo log.
+/// `redo write FILE AT BYTES`: writes bytes into a file directly, without the redo log.
 fn write(
     alloc: Global,
     files: &mut MemoryPair,
@@ -66,7 +66,7 @@ fn write(
     write_end(page, files.write_at(file, at, &bytes))
 }
 
-/// `redo commit AT BYTES AT BYTES ..`: how a batch of these patches is taken.
+/// `redo commit AT BYTES AT BYTES ..`: commits a batch of these patches.
 fn commit(
     alloc: Global,
     opened: &mut Opened,
@@ -92,13 +92,13 @@ fn loose(
     write_end(page, ended)
 }
 
-/// `redo restart`: begins the log anew.
+/// `redo restart`: empties the log.
 fn restart(opened: &mut Opened, page: &mut Page) -> Result<(), RowFault> {
     let ended = opened.redo.restart(&mut opened.files);
     write_end(page, ended)
 }
 
-/// `redo read AT LEN`: so many bytes of the records.
+/// `redo read AT LEN`: writes `LEN` bytes of the records.
 fn read(
     alloc: Global,
     opened: &mut Opened,
@@ -115,7 +115,7 @@ fn read(
     }
 }
 
-/// Answers a row about files whose log was read. `redo file FILE AT LEN` are so many bytes of a file, as they stand there.
+/// Answers a row about files whose log was read. `redo file FILE AT LEN` writes `LEN` bytes as they are in a file.
 fn answer_opened(
     alloc: Global,
     opened: &mut Opened,
@@ -142,7 +142,7 @@ impl Redos {
         }
     }
 
-    /// `redo recover`: reads the log of the files, puts its patches into their places, and goes on with what it has.
+    /// `redo recover`: reads the log of the files, writes its patches to their places, and goes on with this log.
     fn recover(&mut self, alloc: Global, page: &mut Page) -> Result<(), RowFault> {
         let mut files = match (self.files.take(), self.opened.take()) {
             (Some(files), _) => files,
@@ -162,7 +162,7 @@ impl Redos {
         }
     }
 
-    /// Answers a row about a redo log. `redo new` begins two empty files.
+    /// Answers a row about a redo log. `redo new` makes two empty files.
     pub fn answer(
         &mut self,
         alloc: Global,

@@ -9,14 +9,14 @@ use oram_wire::{HostAnswer, Sink, SinkFault};
 use rows::{Page, RowFault, Words};
 use std::alloc::Global;
 
-/// The store that the next rows ask, and the server that they ask the same.
+/// The store that the next rows ask, and the server that gets the same bodies.
 #[derive(Drop)]
 pub struct Stores {
     store: Option<Store<MemoryPair>>,
     server: Option<Server>,
 }
 
-/// Why a store couldn't be opened or didn't end. Files in memory fail for want of memory alone.
+/// Returns why a store couldn't be opened or closed. Files in memory fail only if memory ran out, so this fails then.
 fn fault_of(fault: StoreFault) -> Result<StoreFault, RowFault> {
     match fault {
         StoreFault::OutOfMemory | StoreFault::NoRoom | StoreFault::Io | StoreFault::Closed => {
@@ -35,7 +35,7 @@ fn write_end(page: &mut Page, ended: Result<(), StoreFault>) -> Result<(), RowFa
     Ok(())
 }
 
-/// Writes bytes from the beginning of a file on.
+/// Writes bytes at the beginning of a file.
 fn fill(files: &mut MemoryPair, file: FileKind, bytes: &[u8]) -> Result<(), RowFault> {
     match files.write_at(file, 0, bytes) {
         Ok(()) => Ok(()),
@@ -43,7 +43,7 @@ fn fill(files: &mut MemoryPair, file: FileKind, bytes: &[u8]) -> Result<(), RowF
     }
 }
 
-/// `store full BODY`: the store's refusal of a body for want of room, and why.
+/// `store full BODY`: writes that the store has no room for a body, and why.
 fn full(
     alloc: Global,
     store: &mut Store<MemoryPair>,
@@ -59,7 +59,7 @@ fn full(
     Ok(())
 }
 
-/// `store failure`: why there was no room, the last time that there was none.
+/// `store failure`: writes why there was no room, the last time that there was none.
 fn write_failure(store: &Store<MemoryPair>, page: &mut Page) {
     match store.failure() {
         Some(fault) => page.show(&fault),
@@ -67,7 +67,7 @@ fn write_failure(store: &Store<MemoryPair>, page: &mut Page) {
     }
 }
 
-/// `store put BODY`: whether the store takes a body of a formatting.
+/// `store put BODY`: writes whether the store takes a body of a formatting.
 fn put(
     alloc: Global,
     store: &mut Store<MemoryPair>,
@@ -83,7 +83,7 @@ fn put(
     Ok(())
 }
 
-/// `store alone BODY`: what the store answers to a body that the server isn't asked.
+/// `store alone BODY`: asks the store alone, and writes its answer.
 fn alone(
     alloc: Global,
     store: &mut Store<MemoryPair>,
@@ -123,7 +123,7 @@ impl Stores {
         }
     }
 
-    /// Goes on with a store over these files, and a server without trees.
+    /// Opens a store over these files, and makes a server without trees.
     fn open(&mut self, alloc: Global, files: MemoryPair, page: &mut Page) -> Result<(), RowFault> {
         self.server = Some(Server::new(alloc));
         match Store::over(alloc, files) {
@@ -139,13 +139,13 @@ impl Stores {
         Ok(())
     }
 
-    /// `store new`: begins a store over new files.
+    /// `store new`: opens a store over new files.
     fn begin(&mut self, alloc: Global, page: &mut Page) -> Result<(), RowFault> {
         let files = created(alloc)?;
         self.open(alloc, files, page)
     }
 
-    /// `store over RECORDS LOG`: begins a store over files that hold these bytes.
+    /// `store over RECORDS LOG`: opens a store over files with these bytes.
     fn over(&mut self, alloc: Global, words: &mut Words, page: &mut Page) -> Result<(), RowFault> {
         let mut files = MemoryPair::new(alloc);
         fill(&mut files, FileKind::Records, &words.bytes(alloc))?;
@@ -153,7 +153,7 @@ impl Stores {
         self.open(alloc, files, page)
     }
 
-    /// `store close`: how the store ends. The next row has none.
+    /// `store close`: closes the store, and writes how that ends. After that there is no store.
     fn close(&mut self, page: &mut Page) -> Result<(), RowFault> {
         match self.store.take() {
             Some(store) => write_end(page, store.close()),
@@ -161,7 +161,8 @@ impl Stores {
         }
     }
 
-    /// `store ask BODY`: what the store and the server answer to a body; `store bytes BODY`: the bytes of their answer.
+    /// `store ask BODY`: writes the answers of the store and of the server to a body; `store bytes BODY`: writes the
+    /// bytes of their answers.
     fn ask(
         &mut self,
         alloc: Global,

@@ -1,4 +1,4 @@
-//! Rows of hashed paths. `hash path` makes one of tree 0, which the other rows read.
+//! Rows of hashed paths. `hash path` makes a path of tree 0, which the other rows read.
 ghost use Rattle.std.specs.Prelude.{◌≡◌, ◌<◌, ◌+◌, ◌^◌, All, IfOk, length, vec_len, true};
 ghost use Rattle.oram_geometry.specs.Sizes.{depth_of, record_len_of};
 ghost use Rattle.oram_hash.specs.Path.{path_of};
@@ -10,14 +10,14 @@ use oram_hash::{HashFault, PathView, check_path, node_digest, rebuild};
 use rows::{Groups, Page, RowFault, Words};
 use std::alloc::{AllocError, Global};
 
-/// What is kept of a path.
+/// The leaf and the bytes of a path, which are kept from row to row.
 #[derive(Drop)]
 pub struct Hashes {
     leaf: u32,
     bytes: Vec<u8>,
 }
 
-/// Whether tree 0 of a device has a leaf.
+/// Returns whether tree 0 of a device has this leaf.
 fn has_leaf(device: &Device, leaf: u32) -> bool
     ensures { result ≡ true → leaf < 2 ^ depth_of device.now 0 }
 {
@@ -25,7 +25,8 @@ fn has_leaf(device: &Device, leaf: u32) -> bool
     leaf < 1u32 << device.depth(0)
 }
 
-/// The path that bytes are under a root digest, where the tree has the leaf.
+/// Checks bytes as the path of a leaf with this root digest. Fails with [`RowFault::NoRow`] if the tree doesn't have
+/// the leaf.
 fn checked<'a>(
     device: &Device,
     leaf: u32,
@@ -42,7 +43,7 @@ fn checked<'a>(
     Ok(check_path(device, 0, leaf, 0, root, bytes))
 }
 
-/// The same path, which has to be accepted.
+/// Returns the same path. Fails if it isn't accepted.
 fn accepted<'a>(
     device: &Device,
     leaf: u32,
@@ -57,7 +58,7 @@ fn accepted<'a>(
     }
 }
 
-/// Writes what a check says.
+/// Writes the result of a check.
 fn show(checked: Result<PathView<'_>, HashFault>, page: &mut Page) {
     match checked {
         Ok(_) => page.word("accepted"),
@@ -69,14 +70,14 @@ fn show(checked: Result<PathView<'_>, HashFault>, page: &mut Page) {
     }
 }
 
-/// `hash digest BYTES`: the digest of a record.
+/// `hash digest BYTES`: writes the digest of a record.
 fn digest(alloc: Global, words: &mut Words, page: &mut Page) -> Result<(), RowFault> {
     let record = words.bytes(alloc);
     page.bytes(&node_digest(&record));
     Ok(())
 }
 
-/// Sealed buckets of this length, each of which is one byte again and again.
+/// Makes sealed buckets of length `len`, each of which repeats one byte.
 fn sealed(alloc: Global, fills: &[u8], len: usize) -> Result<Vec<Vec<u8>>, AllocError> {
     let mut parts = Vec::new(alloc);
     for fill in fills {
@@ -85,7 +86,7 @@ fn sealed(alloc: Global, fills: &[u8], len: usize) -> Result<Vec<Vec<u8>>, Alloc
     Ok(parts)
 }
 
-/// Whether these are the sealed buckets of a path of tree 0.
+/// Returns whether these are the sealed buckets of a path of tree 0.
 fn are_buckets(device: &Device, parts: &[Vec<u8>]) -> bool
     ensures count { result ≡ true → length parts.now ≡ depth_of device.now 0 + 1 }
     ensures lengths { result ≡ true → All (λ part. vec_len part + 64 ≡ record_len_of device.now 0) parts.now }
@@ -104,7 +105,7 @@ impl Hashes {
         }
     }
 
-    /// `hash path LEAF FILLS`: the root digest of a path whose records are filled with these bytes.
+    /// `hash path LEAF FILLS`: makes a path whose records are filled with these bytes, and writes its root digest.
     fn path(
         &mut self,
         alloc: Global,
@@ -125,13 +126,14 @@ impl Hashes {
         Ok(())
     }
 
-    /// `hash bytes`: the bytes of the path.
+    /// `hash bytes`: writes the bytes of the path.
     fn bytes(&self, page: &mut Page) -> Result<(), RowFault> {
         page.bytes(&self.bytes);
         Ok(())
     }
 
-    /// `hash check LEN ROOT`: whether the path is accepted under a root digest, cut or filled up with zeros to a length.
+    /// `hash check LEN ROOT`: writes whether the path is accepted with this root digest when it is cut off, or filled
+    /// up with zeros, at `LEN` bytes.
     fn check(
         &self,
         alloc: Global,
@@ -147,7 +149,7 @@ impl Hashes {
         Ok(())
     }
 
-    /// `hash flips ROOT`: what the check says where the lowest bit of a byte is flipped, byte by byte.
+    /// `hash flips ROOT`: writes the result of the check with the lowest bit of a byte flipped, byte by byte.
     fn flips(
         &self,
         alloc: Global,
@@ -170,7 +172,7 @@ impl Hashes {
         Ok(())
     }
 
-    /// `hash sealed|left|right ROOT LEVEL`: that part of the record at a level.
+    /// `hash sealed|left|right ROOT LEVEL`: writes this part of the record at a level.
     fn part(
         &self,
         alloc: Global,
@@ -195,7 +197,7 @@ impl Hashes {
         Ok(())
     }
 
-    /// `hash rebuild ROOT FILLS`: the root digest of the path under new sealed buckets, which takes the place of the path.
+    /// `hash rebuild ROOT FILLS`: replaces the path by one with new sealed buckets, and writes its root digest.
     fn rebuild(
         &mut self,
         alloc: Global,
@@ -212,7 +214,8 @@ impl Hashes {
         Ok(())
     }
 
-    /// Puts new sealed buckets into the path that is accepted under a root digest, and gives the new one.
+    /// Puts new sealed buckets into the path, which has to be accepted with the root digest `root`. Returns the new
+    /// root digest.
     fn take_buckets(
         &mut self,
         alloc: Global,

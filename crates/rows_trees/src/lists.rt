@@ -1,9 +1,10 @@
-//! Lists in one word: `5,2,5`, with `7*20` for 20 times 7, and `-` for none. Blocks are written `ADDRESS:LEAF`.
+//! Lists in one word: `5,2,5`, with `7*20` for 20 times 7, and `-` for an empty list. Blocks are written
+//! `ADDRESS:LEAF`.
 
 use rows::{Page, RowFault, Words};
 use std::alloc::Global;
 
-/// Adds one part of a list: a number, or a number and how many times it stands there.
+/// Adds one part of a list: a number, or a number and how many times it occurs.
 fn push_part(numbers: &mut Vec<u64>, part: &str) -> Result<(), RowFault> {
     let (number, count) = part.split_once('*').unwrap_or((part, "1"));
     let number = number.parse::<u64>()?;
@@ -13,7 +14,7 @@ fn push_part(numbers: &mut Vec<u64>, part: &str) -> Result<(), RowFault> {
     Ok(())
 }
 
-/// The numbers of the next word.
+/// Reads the next word as numbers.
 pub fn numbers(alloc: Global, words: &mut Words) -> Result<Vec<u64>, RowFault> {
     let mut numbers = Vec::new(alloc);
     let mut rest = words.text();
@@ -31,7 +32,7 @@ pub fn numbers(alloc: Global, words: &mut Words) -> Result<Vec<u64>, RowFault> {
     Ok(numbers)
 }
 
-/// The numbers of the next word, each below 2^32.
+/// Reads the next word as numbers below 2^32.
 pub fn shorts(alloc: Global, words: &mut Words) -> Result<Vec<u32>, RowFault> {
     let mut shorts = Vec::new(alloc);
     for number in &numbers(alloc, words)? {
@@ -40,7 +41,7 @@ pub fn shorts(alloc: Global, words: &mut Words) -> Result<Vec<u32>, RowFault> {
     Ok(shorts)
 }
 
-/// The numbers of the next word, each below 2^8.
+/// Reads the next word as numbers below 2^8.
 pub fn fills(alloc: Global, words: &mut Words) -> Result<Vec<u8>, RowFault> {
     let mut fills = Vec::new(alloc);
     for number in &numbers(alloc, words)? {
@@ -49,7 +50,7 @@ pub fn fills(alloc: Global, words: &mut Words) -> Result<Vec<u8>, RowFault> {
     Ok(fills)
 }
 
-/// Writes numbers as words, and `-` where there are none.
+/// Writes numbers as words, and `-` if there are none.
 pub fn show(numbers: &[u64], page: &mut Page) {
     if numbers.is_empty() {
         page.word("-");

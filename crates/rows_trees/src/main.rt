@@ -1,7 +1,7 @@
 //! Rows of the trees: hashed paths, stashes, trees and tapes.
 //!
-//! `device BLOCKS BLOCK_BYTES SLOTS TOP LIFETIME` begins anew with a device. Every other row begins with the layer that it
-//! calls.
+//! `device BLOCKS BLOCK_BYTES SLOTS TOP LIFETIME` begins with a new device. Every other row begins with the layer that
+//! it calls.
 #![tactic(auto)]
 
 mod hashes;
@@ -19,7 +19,7 @@ use rows::{Page, RowFault, Table, Words, run_table};
 use std::alloc::Global;
 use std::process::ExitCode;
 
-/// What the layers keep from row to row, for one device.
+/// The values that the layers keep from row to row, for one device.
 #[derive(Drop)]
 struct Layers {
     hashes: Hashes,
@@ -36,7 +36,7 @@ impl Layers {
         }
     }
 
-    /// Makes a call of the layer of this name.
+    /// Makes a call of the layer `layer`.
     fn answer(
         &mut self,
         alloc: Global,
@@ -63,7 +63,7 @@ struct Calls {
 }
 
 impl Calls {
-    /// `device SIZES`: how many trees the device has, or the number of the fault.
+    /// `device SIZES`: writes how many trees the device has, or the number of the fault.
     fn begin(&mut self, alloc: Global, words: &mut Words, page: &mut Page) -> Result<(), RowFault> {
         let [blocks, block_bytes, slots, top, lifetime] = words.five_numbers();
         self.layers = Layers::new(alloc);

@@ -3,17 +3,17 @@
 use oram_hash::{NO_DIGEST, node_digest};
 use std::alloc::{AllocError, Global};
 
-/// The digest of each node beside the path.
+/// The digest of every node beside the path.
 const BESIDE: [u8; 32] = [9; 32];
 
-/// The records of a path, root first, and the digest of the first.
+/// The records of a path, root first, and the digest of the root's record.
 #[derive(Drop)]
 pub struct MadePath {
     pub bytes: Vec<u8>,
     pub root: [u8; 32],
 }
 
-/// The digests that end a record above the leaf's.
+/// Returns the two digests at the end of a record above the leaf's.
 fn children(is_left: bool, below: &[u8; 32]) -> ([u8; 32], [u8; 32]) {
     if is_left {
         (*below, BESIDE)
@@ -22,7 +22,7 @@ fn children(is_left: bool, below: &[u8; 32]) -> ([u8; 32], [u8; 32]) {
     }
 }
 
-/// The path of a leaf. The sealed bucket of a record is one byte again and again: `fills` has that byte, level by level.
+/// Makes the path of a leaf. The sealed bucket of each record repeats one byte: `fills` has that byte, level by level.
 pub fn made_path(
     alloc: Global,
     leaf: u32,

@@ -11,7 +11,7 @@ pub use random::next;
 use rows::{Page, RowFault, Words};
 use std::alloc::{AllocError, Global};
 
-/// A block without data.
+/// Makes a block without data.
 fn bare_block(alloc: Global, address: u32, leaf: u32) -> Block {
     Block {
         address,
@@ -20,7 +20,7 @@ fn bare_block(alloc: Global, address: u32, leaf: u32) -> Block {
     }
 }
 
-/// The block that a word stands for.
+/// Reads the block in a word.
 fn block_of(alloc: Global, word: &str) -> Result<Block, RowFault> {
     let Some((address, leaf)) = word.split_once(':') else {
         return Err(RowFault::NoRow);
@@ -28,7 +28,7 @@ fn block_of(alloc: Global, word: &str) -> Result<Block, RowFault> {
     Ok(bare_block(alloc, address.parse::<u32>()?, leaf.parse::<u32>()?))
 }
 
-/// The blocks of all words that are left.
+/// Reads the blocks in all words that are left.
 fn blocks_of(alloc: Global, words: &mut Words) -> Result<Vec<Block>, RowFault> {
     let mut blocks = Vec::new(alloc);
     for _ in 0..u64::MAX {
@@ -40,7 +40,7 @@ fn blocks_of(alloc: Global, words: &mut Words) -> Result<Vec<Block>, RowFault> {
     Ok(blocks)
 }
 
-/// A stash that absorbed these blocks.
+/// Makes a stash that absorbs these blocks.
 fn stash_of(alloc: Global, blocks: Vec<Block>) -> Result<Stash, RowFault> {
     let mut stash = Stash::new(alloc);
     for block in blocks {
@@ -53,7 +53,7 @@ fn stash_of(alloc: Global, blocks: Vec<Block>) -> Result<Stash, RowFault> {
     Ok(stash)
 }
 
-/// Whether tree 0 of a device has a leaf.
+/// Returns whether tree 0 of a device has this leaf.
 fn has_leaf(device: &Device, leaf: u32) -> bool
     ensures { result ≡ true → leaf < 2 ^ depth_of device.now 0 }
 {
@@ -61,7 +61,7 @@ fn has_leaf(device: &Device, leaf: u32) -> bool
     leaf < 1u32 << device.depth(0)
 }
 
-/// Whether all blocks are of leaves of tree 0.
+/// Returns whether tree 0 has the leaves of all these blocks.
 fn all_have_leaves(device: &Device, blocks: &[Block]) -> bool
     ensures { result ≡ true → All (λ block. block.leaf < 2 ^ depth_of device.now 0) blocks.now }
 {
@@ -77,7 +77,7 @@ fn show_block(alloc: Global, block: &Block, page: &mut Page) {
     page.made(word);
 }
 
-/// Writes the block that there is, or `none`.
+/// Writes the block if there is one, or `none`.
 fn show_found(alloc: Global, block: Option<&Block>, page: &mut Page) {
     match block {
         Some(block) => show_block(alloc, block, page),
@@ -85,7 +85,7 @@ fn show_found(alloc: Global, block: Option<&Block>, page: &mut Page) {
     }
 }
 
-/// Writes blocks, and `-` where there are none.
+/// Writes blocks, and `-` if there are none.
 fn show_blocks(alloc: Global, blocks: &[Block], page: &mut Page) {
     if blocks.is_empty() {
         page.word("-");
@@ -95,7 +95,7 @@ fn show_blocks(alloc: Global, blocks: &[Block], page: &mut Page) {
     }
 }
 
-/// Writes the addresses of blocks that are lent, and `-` where there are none.
+/// Writes the addresses of blocks that are lent, and `-` if there are none.
 fn show_lent(blocks: &[&Block], page: &mut Page) {
     if blocks.is_empty() {
         page.word("-");
@@ -105,7 +105,7 @@ fn show_lent(blocks: &[&Block], page: &mut Page) {
     }
 }
 
-/// Writes the addresses of blocks, and `-` where there are none.
+/// Writes the addresses of blocks, and `-` if there are none.
 fn show_addresses(blocks: &[Block], page: &mut Page) {
     if blocks.is_empty() {
         page.word("-");
@@ -115,7 +115,8 @@ fn show_addresses(blocks: &[Block], page: &mut Page) {
     }
 }
 
-/// What an eviction takes out of a stash, level by level, and the level down to which the path is then full.
+/// The blocks that an eviction takes out of a stash, level by level, and the level down to which the path is full
+/// afterwards.
 type Evicted = (Vec<Vec<Block>>, Option<u8>);
 
 /// Evicts the blocks of a stash to the path of a leaf.
@@ -135,7 +136,7 @@ fn evicted(
     Ok((lists, tight))
 }
 
-/// What is kept: a stash, and a copy of one.
+/// A stash, and a copy of one, which are kept from row to row.
 #[derive(Drop)]
 pub struct Stashes {
     stash: Stash,
@@ -150,14 +151,15 @@ impl Stashes {
         }
     }
 
-    /// `stash of BLOCKS`: how many blocks the stash has that absorbed them.
+    /// `stash of BLOCKS`: makes a stash that absorbs these blocks, and writes how many it has.
     fn of(&mut self, alloc: Global, words: &mut Words, page: &mut Page) -> Result<(), RowFault> {
         self.stash = stash_of(alloc, blocks_of(alloc, words)?)?;
         page.number(self.stash.len());
         Ok(())
     }
 
-    /// `stash made BLOCKS`: how many blocks the stash has that is made of them as they stand, or `none`.
+    /// `stash made BLOCKS`: makes a stash of these blocks, in this order. Writes how many it has, or `none` if there is
+    /// no such stash.
     fn made(&mut self, alloc: Global, words: &mut Words, page: &mut Page) -> Result<(), RowFault> {
         match Stash::from_blocks(blocks_of(alloc, words)?) {
             Some(stash) => {
@@ -169,7 +171,7 @@ impl Stashes {
         Ok(())
     }
 
-    /// `stash absorb BLOCK`: `absorbed`, or the block that comes back.
+    /// `stash absorb BLOCK`: writes `absorbed`, or the block that is given back.
     fn absorb(
         &mut self,
         alloc: Global,
@@ -187,20 +189,20 @@ impl Stashes {
         Ok(())
     }
 
-    /// `stash get ADDRESS`: the block, or `none`.
+    /// `stash get ADDRESS`: writes the block, or `none`.
     fn get(&self, alloc: Global, words: &mut Words, page: &mut Page) -> Result<(), RowFault> {
         show_found(alloc, self.stash.get(words.short()), page);
         Ok(())
     }
 
-    /// `stash take ADDRESS`: the block, which is there no more, or `none`.
+    /// `stash take ADDRESS`: takes the block out of the stash. Writes the block, or `none`.
     fn take(&mut self, alloc: Global, words: &mut Words, page: &mut Page) -> Result<(), RowFault> {
         let taken = self.stash.take(words.short());
         show_found(alloc, taken.as_ref(), page);
         Ok(())
     }
 
-    /// `stash found COUNT`: the blocks that are got at the addresses below a number.
+    /// `stash found COUNT`: writes the blocks that the stash has at the addresses below `COUNT`.
     fn found(&self, alloc: Global, words: &mut Words, page: &mut Page) -> Result<(), RowFault> {
         for address in 0..words.short() {
             if let Some(block) = self.stash.get(address) {
@@ -213,32 +215,33 @@ impl Stashes {
         Ok(())
     }
 
-    /// `stash contains ADDRESS`: whether a block is there.
+    /// `stash contains ADDRESS`: writes whether the stash has the block.
     fn contains(&self, words: &mut Words, page: &mut Page) -> Result<(), RowFault> {
         page.flag(self.stash.contains(words.short()));
         Ok(())
     }
 
-    /// `stash list`: the blocks.
+    /// `stash list`: writes the blocks.
     fn list(&self, alloc: Global, page: &mut Page) -> Result<(), RowFault> {
         show_blocks(alloc, &self.stash.list(alloc)?, page);
         Ok(())
     }
 
-    /// `stash copied`: the blocks of the copy.
+    /// `stash copied`: writes the blocks of the copy.
     fn copied(&self, alloc: Global, page: &mut Page) -> Result<(), RowFault> {
         show_blocks(alloc, &self.copy.list(alloc)?, page);
         Ok(())
     }
 
-    /// `stash copy`: keeps a copy, and tells how many blocks it has.
+    /// `stash copy`: keeps a copy, and writes how many blocks it has.
     fn copy(&mut self, alloc: Global, page: &mut Page) -> Result<(), RowFault> {
         self.copy = self.stash.copy(alloc)?;
         page.number(self.copy.len());
         Ok(())
     }
 
-    /// `stash evict LEAF`: the addresses by level, those that stay, and the level down to which the path is full.
+    /// `stash evict LEAF`: writes the addresses that are evicted, level by level, those that stay, and the level down
+    /// to which the path is full.
     fn evict(
         &mut self,
         alloc: Global,
@@ -262,7 +265,8 @@ impl Stashes {
         Ok(())
     }
 
-    /// Where an eviction puts the blocks of this stash, but for the one of an address. The other stash is empty.
+    /// Returns where an eviction puts the blocks of this stash, except for the one at address `stays`. The stash
+    /// `other` is empty.
     fn placed<'a>(
         &'a self,
         alloc: Global,
@@ -282,8 +286,8 @@ impl Stashes {
         Ok(place(alloc, device, 0, leaf, waiting)?)
     }
 
-    /// `stash place LEAF ADDRESS`: the addresses by level of the blocks that an eviction puts there, and those that stay, where the
-    /// block of an address is to stay.
+    /// `stash place LEAF ADDRESS`: plans an eviction in which the block at `ADDRESS` stays. Writes the addresses of the
+    /// blocks that it puts at each level, and those of the blocks that stay besides.
     fn place(
         &self,
         alloc: Global,
@@ -303,7 +307,7 @@ impl Stashes {
         Ok(())
     }
 
-    /// `stash settle ADDRESS`: the blocks once all but that of an address went.
+    /// `stash settle ADDRESS`: removes all blocks but the one at `ADDRESS`, and writes what is left.
     fn settle(
         &mut self,
         alloc: Global,
@@ -317,7 +321,7 @@ impl Stashes {
         self.list(alloc, page)
     }
 
-    /// Makes a call on the stash as a whole: `empty` tells whether it has no blocks, `len` how many it has.
+    /// Makes a call on the stash as a whole: `empty` writes whether it has no blocks, `len` how many it has.
     fn answer_whole(&mut self, alloc: Global, call: &str, page: &mut Page) -> Result<(), RowFault> {
         match call {
             "empty" => page.flag(self.stash.is_empty()),

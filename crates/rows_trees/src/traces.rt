@@ -1,4 +1,4 @@
-//! Rows of places of the tape. Addresses and words are written as lists in one word each.
+//! Rows about places on the tape. Addresses and words are written as lists, each in one word.
 ghost use Rattle.std.specs.Prelude.{◌≡◌, ◌<◌, ◌≤◌, ◌^◌, All, IfOk, length, true};
 ghost use Rattle.oram_geometry.specs.Sizes.{blocks_in};
 
@@ -8,7 +8,7 @@ use oram_trace::{Entry, MOST_ADDRESSES, RearrangeFault, entry, place, rearrange}
 use rows::{Page, RowFault, Words};
 use std::alloc::Global;
 
-/// Whether these are addresses of the device, and few enough.
+/// Returns whether these are addresses of the device, and not too many.
 fn are_addresses(device: &Device, addresses: &[u32]) -> bool
     ensures within { result ≡ true → All (λ a. a < blocks_in device.now 0) addresses.now }
     ensures few { result ≡ true → length addresses.now ≤ 1000000 }
@@ -18,7 +18,7 @@ fn are_addresses(device: &Device, addresses: &[u32]) -> bool
     addresses.len() <= 1_000_000 && addresses.iter().all(|address| *address < blocks)
 }
 
-/// `trace places TREE ADDRESSES`: the place that each ticket shows in a tree.
+/// `trace places TREE ADDRESSES`: writes the place that each ticket shows in a tree.
 fn places(
     alloc: Global,
     device: &Device,
@@ -44,7 +44,7 @@ fn show_entry(entry: Entry, page: &mut Page) {
     page.number(entry.leaf);
 }
 
-/// `trace entries ADDRESSES TAPE`: the path of each entry.
+/// `trace entries ADDRESSES TAPE`: writes the path of each entry.
 fn entries(
     alloc: Global,
     device: &Device,
@@ -66,7 +66,7 @@ fn entries(
     Ok(())
 }
 
-/// The name of a fault.
+/// Returns the name of a fault.
 fn fault_name(fault: RearrangeFault) -> &'static str {
     match fault {
         RearrangeFault::Lengths => "lengths",
@@ -76,7 +76,7 @@ fn fault_name(fault: RearrangeFault) -> &'static str {
     }
 }
 
-/// `trace fault NAME`: the number of a fault.
+/// `trace fault NAME`: writes the number of a fault.
 fn fault(words: &mut Words, page: &mut Page) -> Result<(), RowFault> {
     let name = words.text();
     let faults = [
@@ -95,7 +95,8 @@ fn fault(words: &mut Words, page: &mut Page) -> Result<(), RowFault> {
     Ok(())
 }
 
-/// The order that two lists of addresses ask for, or the fault.
+/// Returns the order of the tape's places in which the second list of addresses shows what the
+/// first one does, or the fault.
 fn order(
     alloc: Global,
     device: &Device,
@@ -109,7 +110,7 @@ fn order(
     }
 }
 
-/// `trace rearrange ADDRESSES ADDRESSES`: the order, or the fault.
+/// `trace rearrange ADDRESSES ADDRESSES`: writes this order, or the fault.
 fn rearranged(
     alloc: Global,
     device: &Device,
@@ -126,7 +127,7 @@ fn rearranged(
     Ok(())
 }
 
-/// `trace tape ADDRESSES ADDRESSES TAPE`: the tape in that order.
+/// `trace tape ADDRESSES ADDRESSES TAPE`: writes the tape in this order.
 fn tape(
     alloc: Global,
     device: &Device,
@@ -146,7 +147,7 @@ fn tape(
     Ok(())
 }
 
-/// `trace most`: how long lists may be that are rearranged.
+/// `trace most`: writes how long lists may be that are rearranged.
 fn most(page: &mut Page) -> Result<(), RowFault> {
     page.number(MOST_ADDRESSES);
     Ok(())

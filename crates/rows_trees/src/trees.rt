@@ -1,4 +1,4 @@
-//! Rows of one tree without a seal, with its host. Blocks are written `ADDRESS:LEAF:DATA`.
+//! Rows of one tree without a sealer, with its host. Blocks are written `ADDRESS:LEAF:DATA`.
 ghost use Rattle.std.specs.Prelude.{◌≡◌, ◌<◌, All, IfOk, IfSome, OnOk};
 ghost use Rattle.oram_geometry.specs.Sizes.{trees_of};
 ghost use Rattle.oram_bucket.specs.Bucket.{IsBlockOf};
@@ -16,7 +16,7 @@ use oram_wire::{HostRequest, ListSink, Sink, SinkFault, store_header};
 use rows::{Page, RowFault, Words};
 use std::alloc::{AllocError, Global};
 
-/// What is kept: the parts of a tree, its host, and the messages that formatted it.
+/// The parts of a tree, its host, and the messages that formatted it, which are kept from row to row.
 #[derive(Drop)]
 pub struct Trees {
     number: u8,
@@ -25,7 +25,7 @@ pub struct Trees {
     messages: Vec<Vec<u8>>,
 }
 
-/// The host that took these messages.
+/// Makes the host that took these messages.
 pub fn host_of(alloc: Global, messages: &[Vec<u8>]) -> Result<Server, RowFault> {
     let mut host = Server::new(alloc);
     for message in messages {
@@ -38,7 +38,7 @@ pub fn host_of(alloc: Global, messages: &[Vec<u8>]) -> Result<Server, RowFault> 
     Ok(host)
 }
 
-/// What a fault of a formatting is to a row.
+/// Returns the row's fault for a fault of a formatting.
 pub fn row_fault(fault: FormatFault) -> RowFault {
     match fault {
         FormatFault::OutOfMemory => RowFault::OutOfMemory,
@@ -46,7 +46,7 @@ pub fn row_fault(fault: FormatFault) -> RowFault {
     }
 }
 
-/// The tree of these parts, or none where they are no tree's.
+/// Makes the tree with these parts; `None` if no tree has them.
 pub fn tree_of(
     alloc: Global,
     device: &Device,
@@ -64,7 +64,7 @@ pub fn tree_of(
     }
 }
 
-/// Whether a device has a tree of this number. Else the row is not one.
+/// Fails with [`RowFault::NoRow`] if the device has no tree of this number.
 fn check_number(device: &Device, number: u8) -> Result<(), RowFault>
     ensures { OnOk result (number < trees_of device.now) }
 {
@@ -74,7 +74,7 @@ fn check_number(device: &Device, number: u8) -> Result<(), RowFault>
     Ok(())
 }
 
-/// The block of a word.
+/// Reads the block in a word.
 fn block_of(alloc: Global, word: &str) -> Result<Block, RowFault> {
     let Some((address, rest)) = word.split_once(':') else {
         return Err(RowFault::NoRow);
@@ -92,7 +92,7 @@ fn block_of(alloc: Global, word: &str) -> Result<Block, RowFault> {
     })
 }
 
-/// The parts of a tree with this root digest, and the blocks of all words that are left.
+/// Makes the parts of a tree with this root digest, and with the blocks in all words that are left.
 fn parts_of(alloc: Global, root: [u8; 32], words: &mut Words) -> Result<TreeParts, RowFault> {
     let mut stash = Vec::new(alloc);
     for _ in 0..u64::MAX {
@@ -112,7 +112,7 @@ fn show_block(alloc: Global, block: &Block, page: &mut Page) {
     page.bytes_behind(&block.content);
 }
 
-/// Writes what an access found.
+/// Writes the result of an access.
 fn show_lookup(lookup: &Lookup, page: &mut Page) {
     page.word(if lookup.found { "found" } else { "absent" });
     page.bytes(&lookup.before);
@@ -127,7 +127,7 @@ enum OwnedEdit {
 }
 
 impl OwnedEdit {
-    /// The edit of the words `keep`, `replace DATA` or `entry INDEX VALUE`.
+    /// Reads an edit from the words `keep`, `replace DATA` or `entry INDEX VALUE`.
     fn read(alloc: Global, words: &mut Words) -> Result<OwnedEdit, RowFault> {
         match words.text() {
             "keep" => Ok(OwnedEdit::Keep),
@@ -146,7 +146,7 @@ impl OwnedEdit {
     }
 }
 
-/// The messages of a formatting, and the parts of the tree that was formatted.
+/// Formats a tree. Returns the messages, and the parts of the tree.
 fn formatted(
     alloc: Global,
     device: &Device,
@@ -169,7 +169,7 @@ fn formatted(
     }
 }
 
-/// A host that has one path of a tree and nothing else.
+/// Makes a host that has one path of a tree and nothing else.
 fn host_with_path(
     alloc: Global,
     device: &Device,
@@ -191,7 +191,7 @@ fn host_with_path(
     Ok(host)
 }
 
-/// A path of empty buckets.
+/// Makes a path of empty buckets.
 fn empty_path(alloc: Global, device: &Device, number: u8, leaf: u32) -> Result<MadePath, RowFault> {
     check_number(device, number)?;
     let empty = vec![in alloc; 0; usize::from(device.depth(number)) + 1]?;
@@ -208,7 +208,7 @@ impl Trees {
         }
     }
 
-    /// The kept parts, which are there no more.
+    /// Takes out the kept parts.
     fn take_parts(&mut self) -> Result<TreeParts, RowFault> {
         match self.parts.take() {
             Some(parts) => Ok(parts),
@@ -216,7 +216,7 @@ impl Trees {
         }
     }
 
-    /// The kept parts.
+    /// Returns the kept parts.
     fn parts(&self) -> Result<&TreeParts, RowFault> {
         match &self.parts {
             Some(parts) => Ok(parts),
@@ -224,7 +224,7 @@ impl Trees {
         }
     }
 
-    /// `tree format TREE NONCE`: how many messages the formatting sends.
+    /// `tree format TREE NONCE`: formats a tree, and writes how many messages that takes.
     fn format(
         &mut self,
         alloc: Global,
@@ -242,7 +242,7 @@ impl Trees {
         Ok(())
     }
 
-    /// `tree message NUMBER`: the bytes of a message of the formatting.
+    /// `tree message NUMBER`: writes the bytes of a message of the formatting.
     fn message(&self, words: &mut Words, page: &mut Page) -> Result<(), RowFault> {
         match self.messages.get(words.size()) {
             Some(message) => page.bytes(message),
@@ -251,7 +251,7 @@ impl Trees {
         Ok(())
     }
 
-    /// `tree puts`: the nodes in the order in which the formatting puts their records.
+    /// `tree puts`: writes the nodes in the order in which the formatting puts their records.
     fn puts(&self, page: &mut Page) -> Result<(), RowFault> {
         for message in &self.messages {
             if let [3, _, a, b, c, d, ..] = message.as_slice() {
@@ -261,13 +261,13 @@ impl Trees {
         Ok(())
     }
 
-    /// `tree root`: the digest of the root's record.
+    /// `tree root`: writes the digest of the root's record.
     fn root(&self, page: &mut Page) -> Result<(), RowFault> {
         page.bytes(&self.parts()?.root);
         Ok(())
     }
 
-    /// `tree stash`: the blocks of the stash, or `-`.
+    /// `tree stash`: writes the blocks of the stash, or `-`.
     fn stash(&self, alloc: Global, page: &mut Page) -> Result<(), RowFault> {
         let parts = self.parts()?;
         if parts.stash.is_empty() {
@@ -279,8 +279,8 @@ impl Trees {
         Ok(())
     }
 
-    /// Takes the tree of these parts in the place of the kept one. Writes how many blocks are in its stash, or `content` where there is
-    /// no such tree.
+    /// Replaces the kept tree by the one with these parts. Writes how many blocks are in its stash, or `content` if
+    /// there is no such tree.
     fn take_tree(
         &mut self,
         alloc: Global,
@@ -299,7 +299,7 @@ impl Trees {
         Ok(())
     }
 
-    /// `tree made TREE ROOT BLOCKS`: the tree that has these parts.
+    /// `tree made TREE ROOT BLOCKS`: makes the tree with these parts.
     fn made(
         &mut self,
         alloc: Global,
@@ -313,14 +313,14 @@ impl Trees {
         self.take_tree(alloc, device, parts, page)
     }
 
-    /// `tree again`: the kept tree, made of its parts.
+    /// `tree again`: rebuilds the kept tree from its parts.
     fn again(&mut self, alloc: Global, device: &Device, page: &mut Page) -> Result<(), RowFault> {
         let parts = self.take_parts()?;
         self.take_tree(alloc, device, parts, page)
     }
 
-    /// `tree bare TREE LEAF BLOCKS`: a tree with these blocks in its stash and empty buckets on one path, the only one that
-    /// its host knows.
+    /// `tree bare TREE LEAF BLOCKS`: makes a tree with these blocks in its stash and empty buckets on one path, the
+    /// only path that its host knows.
     fn bare(
         &mut self,
         alloc: Global,
@@ -336,8 +336,8 @@ impl Trees {
         self.take_tree(alloc, device, parts, page)
     }
 
-    /// Makes the access that words name, and writes whether the block was found, and its data before the edit. Gives the records, behind
-    /// the bytes that they are to be put behind.
+    /// Makes the access that the words name. Writes whether the block was found, and its data before the edit. Returns
+    /// the records, after the bytes of `front` if there are some.
     fn reach(
         &mut self,
         alloc: Global,
@@ -360,8 +360,8 @@ impl Trees {
         Ok(reached.records)
     }
 
-    /// `tree access ADDRESS OLD_LEAF NEW_LEAF NONCE EDIT`: whether the block was found, and its data before the edit, which
-    /// is `keep`, `replace DATA` or `entry INDEX VALUE`.
+    /// `tree access ADDRESS OLD_LEAF NEW_LEAF NONCE EDIT`: makes an access with the edit `keep`, `replace DATA` or
+    /// `entry INDEX VALUE`. Writes whether the block was found, and its data before the edit.
     fn access(
         &mut self,
         alloc: Global,
@@ -373,7 +373,7 @@ impl Trees {
         Ok(())
     }
 
-    /// `tree behind BYTES ADDRESS OLD_LEAF NEW_LEAF NONCE EDIT`: the same, and the records behind these bytes.
+    /// `tree behind BYTES ADDRESS OLD_LEAF NEW_LEAF NONCE EDIT`: the same, and writes the records after these bytes.
     fn behind(
         &mut self,
         alloc: Global,
@@ -387,7 +387,7 @@ impl Trees {
         Ok(())
     }
 
-    /// Makes a call: `random` makes many accesses beside a plain map.
+    /// Makes a call. `random` makes many accesses, and compares them with a plain map.
     pub fn answer(
         &mut self,
         alloc: Global,

@@ -1,4 +1,4 @@
-//! What a session takes, beside the same accesses through the core and the server alone.
+//! How long a session takes, beside the same accesses in the core and the server alone.
 
 use super::{ACCESSES, MOST_MESSAGES, hundredths, some_access};
 use oram_bucket::PlainSeal;
@@ -14,7 +14,7 @@ use std::alloc::{AllocError, Global};
 use std::io;
 use std::time::{Duration, Instant};
 
-/// The request for a command.
+/// Returns the request for a command.
 fn request_for(alloc: Global, command: &Command) -> Result<SessionRequest, AllocError> {
     Ok(match command {
         Command::Read(address) => SessionRequest::Read { address: *address },
@@ -26,7 +26,7 @@ fn request_for(alloc: Global, command: &Command) -> Result<SessionRequest, Alloc
     })
 }
 
-/// Puts the request's frame behind those before it.
+/// Appends the frame of a request.
 fn append_frame(alloc: Global, frames: &mut Vec<u8>, event: &Event) -> Result<(), AllocError> {
     if let Event::Submit { command, .. } = event {
         let body = request_for(alloc, command)?.encode(alloc)?;
@@ -39,7 +39,7 @@ fn append_frame(alloc: Global, frames: &mut Vec<u8>, event: &Event) -> Result<()
     Ok(())
 }
 
-/// The accesses, and the frames of their requests.
+/// Returns the accesses, and the frames of their requests.
 fn some_accesses(alloc: Global, device: &Device) -> Result<(Vec<Event>, Vec<u8>), AllocError> {
     let mut random = ChaCha20Rng::from_seed([1; 32]);
     let mut events = Vec::new(alloc);
@@ -72,7 +72,7 @@ fn carry_out(
     Ok(())
 }
 
-/// Makes the accesses through the core and the server alone, and gives what that took.
+/// Makes the accesses in the core and the server alone, and returns how long that took.
 fn alone(rt: &HostRuntime, device: Device, events: &[Event]) -> io::Result<Duration> {
     let mut server = Server::new(rt.alloc());
     let Ok(mut core) = Core::format(rt.alloc(), device, PlainSeal, &mut server) else {
@@ -85,7 +85,7 @@ fn alone(rt: &HostRuntime, device: Device, events: &[Event]) -> io::Result<Durat
     Ok(start.elapsed(rt)?)
 }
 
-/// Serves these frames over a link to a server in memory, and gives what that took.
+/// Serves these frames over a link to a server in memory, and returns how long that took.
 fn served(rt: &HostRuntime, device: Device, frames: &[u8]) -> io::Result<Duration> {
     let mut server = Server::new(rt.alloc());
     let Ok(mut core) = Core::format(rt.alloc(), device, PlainSeal, &mut server) else {
@@ -113,7 +113,7 @@ fn served(rt: &HostRuntime, device: Device, frames: &[u8]) -> io::Result<Duratio
     Ok(start.elapsed(rt)?)
 }
 
-/// Prints what a session takes beside the same accesses alone.
+/// Prints how long a session takes, beside the same accesses alone.
 pub(crate) fn measure_session(rt: &HostRuntime, name: &str, device: Device) -> io::Result<()> {
     let (events, frames) = some_accesses(rt.alloc(), &device)?;
     let alone = alone(rt, device.copy(), &events)?;

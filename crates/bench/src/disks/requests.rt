@@ -1,4 +1,4 @@
-//! The requests, as a client of NBD says them, and as block commands.
+//! The requests, as a client of NBD sends them, and as block commands.
 
 use oram_bytes::Bytes;
 use oram_core::Command;
@@ -21,7 +21,7 @@ pub(crate) struct Access {
 }
 
 impl Access {
-    /// The block command.
+    /// Returns the block command.
     pub(crate) fn command(self, alloc: Global) -> Result<Command, AllocError> {
         if self.writes {
             let bytes = vec![in alloc; 7u8; BLOCK_BYTES as usize]?;
@@ -31,7 +31,7 @@ impl Access {
         }
     }
 
-    /// Adds what a client says of it.
+    /// Appends what a client sends for the access.
     fn say(self, alloc: Global, said: &mut Vec<u8>) -> Result<(), AllocError> {
         let request = Request {
             command: if self.writes {
@@ -53,7 +53,7 @@ impl Access {
     }
 }
 
-/// Reads and writes of blocks drawn at random.
+/// Returns reads and writes of blocks drawn at random.
 pub(crate) fn some_accesses(alloc: Global) -> Result<Vec<Access>, AllocError> {
     let mut random = ChaCha20Rng::from_seed([1; 32]);
     let mut accesses = Vec::new(alloc);
@@ -66,7 +66,7 @@ pub(crate) fn some_accesses(alloc: Global) -> Result<Vec<Access>, AllocError> {
     Ok(accesses)
 }
 
-/// What a client says of these.
+/// Returns what a client sends for these accesses.
 pub(crate) fn said(alloc: Global, accesses: &[Access]) -> Result<Vec<u8>, AllocError> {
     let mut said = Vec::new(alloc);
     for access in accesses {

@@ -1,4 +1,4 @@
-//! A file of some size, filled and opened again.
+//! Fills a file of some size, and opens it again.
 
 use super::system::{close, new_store, opened, report_memory};
 use super::{Shape, bodies, first_shape, format, shape_body};
@@ -14,7 +14,7 @@ use std::time::{Duration, Instant};
 /// How many paths are fetched from a file that was filled.
 const FETCHES: u32 = 1_000;
 
-/// A tree of this depth, with the records of the first device.
+/// Returns a tree of this depth, with records as long as those of the first device.
 fn shape_of(depth: &str) -> Option<Shape> {
     let depth: u8 = depth.parse().ok()?;
     let first = first_shape()?;
@@ -44,7 +44,7 @@ pub(crate) fn fill(rt: &HostRuntime, file: &str, depth: &str) -> io::Result<()> 
     report_memory(rt)
 }
 
-/// How many STOREs to leaves drawn at random are done.
+/// Makes STOREs to leaves drawn at random, and returns how many are done.
 fn store_paths<F: FilePair>(
     alloc: Global,
     store: &mut Store<F>,
@@ -62,8 +62,8 @@ fn store_paths<F: FilePair>(
     Ok(done)
 }
 
-/// Makes a new file with one tree, and stores random paths in it. It doesn't close the file, as if the process were killed: the paths that
-/// were stored last stand in the log.
+/// Makes a new file with one tree, and stores random paths in it. It doesn't close the file, as if the process were
+/// killed: the paths that were stored last are in the log.
 pub(crate) fn scatter(rt: &HostRuntime, file: &str, depth: &str, stores: &str) -> io::Result<()> {
     let (Some(shape), Ok(stores)) = (shape_of(depth), stores.parse()) else {
         return Err(io::ErrorKind::InvalidInput.into());
@@ -77,7 +77,7 @@ pub(crate) fn scatter(rt: &HostRuntime, file: &str, depth: &str, stores: &str) -
     )
 }
 
-/// How many of the paths of the first leaves are answered with records.
+/// Fetches the paths of the first leaves, and returns how many are answered with records.
 fn fetch_paths<F: FilePair>(alloc: Global, store: &mut Store<F>) -> Result<u32, AllocError> {
     let mut found = 0u32;
     for leaf in 0..FETCHES {
@@ -88,7 +88,7 @@ fn fetch_paths<F: FilePair>(alloc: Global, store: &mut Store<F>) -> Result<u32, 
     Ok(found)
 }
 
-/// Tells how long the opening took, and the fetching.
+/// Prints how long the opening and the fetching took.
 fn fetch_first<F: FilePair>(
     rt: &HostRuntime,
     store: &mut Store<F>,

@@ -1,10 +1,10 @@
-//! What the system is asked: files that aren't there yet, and how much memory the process had.
+//! Calls of the system: new files, and how much memory the process had.
 
 use oram_store::{BucketFile, open_store};
 use std::rt::Files;
 use std::{fs, io};
 
-/// A new file's store. A file that is there is left alone.
+/// Returns the store of a new file. If the file exists already, leaves it alone and fails.
 pub(crate) fn new_store(rt: &HostRuntime, name: &str) -> io::Result<BucketFile> {
     if fs::exists(rt, name)? {
         return Err(io::ErrorKind::AlreadyExists.into());
@@ -22,7 +22,7 @@ pub(crate) fn opened(rt: &HostRuntime, name: &str) -> io::Result<BucketFile> {
     }
 }
 
-/// Closes a store, so that all of it lies in its file. It is what ends every use of one.
+/// Closes a store, so that all of it lies in its file. Every use of a store ends with this.
 pub(crate) fn close(store: BucketFile) -> io::Result<()> {
     match store.close() {
         Ok(()) => Ok(()),
@@ -30,7 +30,7 @@ pub(crate) fn close(store: BucketFile) -> io::Result<()> {
     }
 }
 
-/// Prints the line of the process's status that tells the most memory that it had.
+/// Prints the line of the process's status that has the most memory that it used.
 pub(crate) fn report_memory(rt: &(impl Files + AllocGlobal + Print)) -> io::Result<()> {
     let status = fs::read_to_string(rt, "/proc/self/status")?;
     for line in status.as_str().lines() {

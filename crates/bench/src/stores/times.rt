@@ -16,7 +16,7 @@ impl Times {
         Ok(self.0.push(time)?)
     }
 
-    /// Their mean, median and longest. Where there were no calls, each is zero.
+    /// Returns their mean, median and longest. If there were no calls, each is zero.
     pub(crate) fn summary(&mut self) -> Result<Summary, AllocError> {
         self.0.sort()?;
         let times = self.0.as_slice();
@@ -40,7 +40,7 @@ pub(crate) struct Summary {
     pub(crate) longest: Duration,
 }
 
-/// How many times the one time is the other, in hundredths.
+/// Returns how many times the one time is the other, in hundredths.
 pub(crate) fn ratio(time: Duration, other: Duration) -> u128 {
     time.as_micros().saturating_mul(100) / other.as_micros().max(1)
 }

@@ -1,4 +1,4 @@
-//! Which parts may be those of a core.
+//! Checks whether parts can be those of a core.
 ghost use Rattle.std.specs.Prelude.{◌≡◌, ◌↔◌, ◌+◌, ◌-◌, ◌*◌, ◌<◌, ◌≤◌, ◌^◌, ◌==◌, ℕ, if◌then◌else◌, List, [], Some, length, slice_index, All, IsTrue};
 ghost use Rattle.oram_geometry.specs.Sizes.{trees_of, depth_of, blocks_in, leaf_of};
 ghost use Rattle.oram_wire.specs.HostMessages.{fetch_body};
@@ -17,7 +17,7 @@ use oram_geometry::Device;
 use oram_run::{Command, Reason};
 use oram_wire::HostView;
 
-/// Whether a reason names a tree of the device and a level of it, or a code of the host.
+/// Returns whether a reason names a tree of the device and a level of that tree, or a code of the host.
 fn is_reason(device: &Device, reason: Reason) -> bool
     ensures { IsTrue result ↔ IsReasonOf device.now reason }
 {
@@ -28,7 +28,7 @@ fn is_reason(device: &Device, reason: Reason) -> bool
     }
 }
 
-/// Whether no command is at work.
+/// Returns whether no command is at work.
 fn is_resting(parts: &Parts) -> bool
     ensures { IsTrue result ↔ IsResting (state_of parts.now) }
 {
@@ -39,21 +39,21 @@ fn is_resting(parts: &Parts) -> bool
         && !parts.stalled
 }
 
-/// Whether a core that failed for this reason has these parts: it holds nothing else.
+/// Returns whether these can be the parts of a core that failed for `reason`, which holds nothing else.
 fn is_ended(parts: &Parts, reason: Reason) -> bool
     ensures { IsTrue result ↔ IsEnded parts.now reason }
 {
     is_reason(&parts.device, reason) && holds_nothing(parts) && is_resting(parts)
 }
 
-/// Whether there are no table, no trees and no commands.
+/// Returns whether there are no table, no trees and no commands.
 fn holds_nothing(parts: &Parts) -> bool
     ensures { IsTrue result ↔ HoldsNothing parts.now }
 {
     parts.table.is_empty() && parts.trees.is_empty() && parts.waiting.is_empty()
 }
 
-/// Whether a table has an entry for each block of the last tree, none above its leaves.
+/// Returns whether the table has an entry for each block of the last tree, and none that is too great for its leaves.
 fn is_table(device: &Device, table: &[u32]) -> bool
     ensures { IsTrue result ↔ HasTable device.now table.now }
 {
@@ -62,7 +62,7 @@ fn is_table(device: &Device, table: &[u32]) -> bool
     table.len() == device.blocks_in(last) as usize && table.iter().all(|entry| *entry <= most)
 }
 
-/// Whether the device allows a command.
+/// Returns whether the device allows the command.
 fn is_allowed(device: &Device, pending: &Pending) -> bool
     ensures { IsTrue result ↔ IsAllowed device.now (submission_at 0 pending.now) }
 {
@@ -75,14 +75,14 @@ fn is_allowed(device: &Device, pending: &Pending) -> bool
         && pending.words.len() == 2 * usize::from(device.trees())
 }
 
-/// Whether the device allows them all.
+/// Returns whether the device allows all of these commands.
 fn are_allowed(device: &Device, waiting: &[Pending]) -> bool
     ensures { IsTrue result ↔ All (λ p. IsAllowed device.now (submission_at 0 p)) waiting.now }
 {
     waiting.iter().all(|pending| is_allowed(device, pending))
 }
 
-/// Whether there are no more commands than may wait, each accepted and allowed.
+/// Returns whether at most 64 commands wait, no more than were accepted, and the device allows each.
 fn are_waiting(parts: &Parts) -> bool
     ensures { IsTrue result ↔ AreWaiting parts.now }
 {
@@ -91,7 +91,7 @@ fn are_waiting(parts: &Parts) -> bool
         && are_allowed(&parts.device, &parts.waiting)
 }
 
-/// The most that may be named for a block at this entry of a command.
+/// Returns the greatest map entry that can be held at this stage of a command.
 fn most_named(device: &Device, stage: u32) -> u32
     requires { stage < 2 * trees_of device.now }
     ensures { result ≡ most_named device.now stage }
@@ -103,7 +103,7 @@ fn most_named(device: &Device, stage: u32) -> u32
     1 << device.depth((trees - 1 - (stage + stage % 2) / 2) as u8)
 }
 
-/// Whether a message is the FETCH of this path.
+/// Returns whether `message` is the FETCH of this path.
 fn is_fetch(message: &[u8], tree: u8, leaf: u32) -> bool
     ensures { IsTrue result ↔ (message.now ≡ fetch_body tree leaf) }
 {
@@ -118,7 +118,7 @@ fn is_fetch(message: &[u8], tree: u8, leaf: u32) -> bool
     }
 }
 
-/// Whether a message is the STORE of some path of a tree.
+/// Returns whether `message` is the STORE of some path of `tree`.
 fn is_store(message: &[u8], device: &Device, overhead: usize, tree: u8) -> bool
     requires tree { tree < trees_of device.now }
     requires overhead { overhead ≤ 64 }
@@ -140,7 +140,7 @@ fn is_store(message: &[u8], device: &Device, overhead: usize, tree: u8) -> bool
     }
 }
 
-/// Whether the outstanding message is the one that the oldest command has at this entry.
+/// Returns whether the outstanding message is the one that the oldest command has at this stage.
 fn is_message(parts: &Parts, oldest: &Pending, overhead: usize) -> bool
     requires stage { parts.now.r < 2 * trees_of parts.now.device }
     requires table { HasTable parts.now.device parts.now.table }
@@ -161,7 +161,7 @@ fn is_message(parts: &Parts, oldest: &Pending, overhead: usize) -> bool
     is_fetch(parts.message.as_slice(), tree, leaf)
 }
 
-/// Whether the oldest command is at work so.
+/// Returns whether the parts at work can be those of the oldest command.
 fn is_at_work(parts: &Parts, oldest: &Pending, overhead: usize) -> bool
     requires table { HasTable parts.now.device parts.now.table }
     requires allowed { IsAllowed parts.now.device (submission_at 0 oldest.now) }
@@ -179,7 +179,7 @@ fn is_at_work(parts: &Parts, oldest: &Pending, overhead: usize) -> bool
     parts.held_data.len() == held_len && is_message(parts, oldest, overhead)
 }
 
-/// How many buckets were sealed at the formatting.
+/// Returns the number of buckets that the formatting seals.
 fn formatted(device: &Device) -> u64
     ensures { result ≡ formatted device.now }
 {
@@ -190,7 +190,7 @@ fn formatted(device: &Device) -> u64
     buckets
 }
 
-/// How many buckets the paths of a ticket have in the trees from this one on.
+/// Returns the number of buckets on one command's paths in the trees from `first` on.
 fn path_buckets(device: &Device, first: u8) -> u64
     requires { first ≤ trees_of device.now }
     ensures { result ≡ buckets_below device.now (trees_of device.now) - buckets_below device.now first }
@@ -202,7 +202,7 @@ fn path_buckets(device: &Device, first: u8) -> u64
     buckets
 }
 
-/// The nonce of the next bucket that is sealed, where so many tickets have their reply and the next one is at this entry.
+/// Returns the nonce for the next bucket, if `answered` commands have their replies and the next one is at `stage`.
 fn next_nonce(device: &Device, answered: u64, stage: u32) -> u64
     requires answered { answered ≤ 2 ^ 40 }
     requires stage { stage < 2 * trees_of device.now }
@@ -212,7 +212,7 @@ fn next_nonce(device: &Device, answered: u64, stage: u32) -> u64
     formatted(device) + answered * path_buckets(device, 0) + path_buckets(device, unstored)
 }
 
-/// Whether the parts may be those of a core that has not failed, as far as its trees' stashes don't matter.
+/// Returns whether these can be the parts of a core that hasn't failed, without looking at the stashes.
 fn is_working(parts: &Parts, overhead: usize) -> bool
     requires tickets { parts.now.tickets ≤ parts.now.device.lifetime }
     requires overhead { overhead ≤ 64 }
@@ -233,7 +233,7 @@ fn is_working(parts: &Parts, overhead: usize) -> bool
     is_right && parts.nonce == next_nonce(device, answered, parts.r)
 }
 
-/// Whether the parts may be those of a core, as far as the blocks of its stashes don't matter.
+/// Returns whether these can be the parts of a core, without looking at the blocks of the stashes.
 pub(super) fn is_fitting(parts: &Parts, overhead: usize) -> bool
     requires tickets { parts.now.tickets ≤ parts.now.device.lifetime }
     requires overhead { overhead ≤ 64 }

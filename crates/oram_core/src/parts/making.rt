@@ -1,4 +1,4 @@
-//! A core made of its parts.
+//! Makes a core from its parts.
 ghost use Rattle.std.specs.Prelude.{◌≡◌, ◌-◌, ◌≤◌, ◌<◌, ◌^◌, length, IfOk, IsOk, Err};
 ghost use Rattle.oram_geometry.specs.Sizes.{IsDevice, trees_of};
 ghost use Rattle.oram_core.specs.Fitting.{AreTrees};
@@ -14,7 +14,7 @@ use oram_tree::{PartsFault, Tree, TreeParts};
 use std::alloc::{AllocError, Global};
 use std::collections::VecDeque;
 
-/// The trees of a device that have these parts.
+/// Makes the trees of a device from their parts. Fails with `Content` if they can't be the parts of these trees.
 fn trees_of(alloc: Global, device: &Device, parts: Vec<TreeParts>) -> Result<Vec<Tree>, PartsFault>
     requires { length parts.items ≤ trees_of device.now }
     ensures ranges { IsDevice device.now }
@@ -34,7 +34,7 @@ fn trees_of(alloc: Global, device: &Device, parts: Vec<TreeParts>) -> Result<Vec
     Ok(trees)
 }
 
-/// The commands with their tickets, the last ones of so many accepted.
+/// Returns the commands with their tickets, which are the last ones of the `accepted` tickets.
 fn queue_of(
     alloc: Global,
     accepted: u64,
@@ -59,8 +59,8 @@ fn queue_of(
 }
 
 impl<S: Sealer> Core<S> {
-    /// The core that has these parts, if they may be those of a core with this sealer. Blocks, table and message aren't
-    /// copied.
+    /// Makes the core that has these parts, or fails with `Content` if they can't be those of a core with this sealer.
+    /// Doesn't copy the blocks, the table and the message.
     pub fn from_parts(alloc: Global, sealer: S, parts: Parts) -> Result<Core<S>, PartsFault>
         ensures device { IfOk result (λ c. c.device ≡ parts.device) }
         ensures sealer { IfOk result (λ c. c.sealer ≡ sealer) }

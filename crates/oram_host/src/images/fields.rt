@@ -1,4 +1,4 @@
-//! The fields of an image, read one after the other.
+//! Reads the fields of an image, one after the other.
 
 ghost use Rattle.std.specs.Prelude.{◌≡◌, ◌<◌, ◌≤◌, ◌∷◌, [], length, take, codes, IfErr, IfOk, OnOk};
 ghost use Rattle.std.specs.Int.{w32, to_be_bytes};
@@ -10,7 +10,7 @@ use super::{ImageFault, MAGIC, VERSION};
 use byteorder::{BigEndian, ByteOrder};
 use std::io::{ErrorKind, Read};
 
-/// Reads until the buffer is full or the input ends, and tells how many bytes were read.
+/// Reads until the buffer is full or the input ends, and returns the number of bytes that it read.
 fn fill<R: Read>(reader: &mut R, buf: &mut [u8]) -> Result<usize, ImageFault>
     ensures within { IfOk result (λ n. n ≤ length buf.new) }
     ensures ok { IfOk result (λ n. Consumes (R.remaining reader.old) (R.remaining reader.new)
@@ -37,7 +37,7 @@ fn fill<R: Read>(reader: &mut R, buf: &mut [u8]) -> Result<usize, ImageFault>
     Err(ImageFault::Io)
 }
 
-/// Fills the buffer.
+/// Fills the buffer. Fails with `Length` if the input ends before that.
 pub(super) fn read_bytes<R: Read>(reader: &mut R, buf: &mut [u8]) -> Result<(), ImageFault>
     ensures ok { OnOk result (Consumes (R.remaining reader.old) (R.remaining reader.new) buf.new) }
     ensures consumed { TakesFrom (R.remaining reader.old) (R.remaining reader.new) }
@@ -61,7 +61,7 @@ pub(super) fn read_byte<R: Read>(reader: &mut R) -> Result<u8, ImageFault>
     Ok(buf[0])
 }
 
-/// The number that four bytes spell.
+/// Returns the number that four bytes spell, the most significant first.
 fn number_of(bytes: &[u8]) -> u32
     requires { length bytes.now ≡ 4 }
     ensures { to_be_bytes w32 result ≡ bytes.now }
@@ -94,7 +94,7 @@ pub(super) fn read_letters<R: Read>(reader: &mut R) -> Result<(), ImageFault>
     Ok(())
 }
 
-/// Reads the version, of which there is one.
+/// Reads the version, which must be 1.
 pub(super) fn read_version<R: Read>(reader: &mut R) -> Result<(), ImageFault>
     ensures ok { OnOk result (Consumes (R.remaining reader.old) (R.remaining reader.new)
         (to_be_bytes w32 1)) }
@@ -107,7 +107,7 @@ pub(super) fn read_version<R: Read>(reader: &mut R) -> Result<(), ImageFault>
     Ok(())
 }
 
-/// Sees that the input ends here.
+/// Fails with `Length` unless the input ends here.
 pub(super) fn read_end<R: Read>(reader: &mut R) -> Result<(), ImageFault>
     ensures ok { OnOk result (Consumes (R.remaining reader.old) (R.remaining reader.new) []) }
     ensures end { OnOk result (IsAtEnd (R.remaining reader.new)) }

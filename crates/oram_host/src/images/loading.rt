@@ -1,4 +1,4 @@
-//! An image is read.
+//! Reads an image.
 
 ghost use Rattle.std.specs.Prelude.{◌≤◌, IfErr, IfOk, OnOk};
 ghost use Rattle.std.specs.Ordering.{nat_cmp};
@@ -19,10 +19,10 @@ use std::alloc::Global;
 use std::collections::BTreeMap;
 use std::io::Read;
 
-/// The most trees that a host has.
+/// The greatest number of trees that a host can have.
 const MOST_TREES: u32 = 256;
 
-/// Reads a node, from `least` on and below `nodes`, and its record.
+/// Reads a node's number, which must be at least `least` and below `nodes`, and its record.
 fn load_record<R: Read>(
     alloc: Global,
     reader: &mut R,
@@ -47,7 +47,7 @@ fn load_record<R: Read>(
     Ok((node, Bytes::from_vec(bytes)))
 }
 
-/// Reads how many records a tree of so many nodes has, and the records.
+/// Reads the number of records of a tree with `nodes` nodes, and the records.
 fn load_records<R: Read>(
     alloc: Global,
     reader: &mut R,
@@ -76,7 +76,7 @@ fn load_records<R: Read>(
     Ok(records)
 }
 
-/// Reads a shape and the records.
+/// Reads the shape of a tree and its records.
 fn load_kept<R: Read>(alloc: Global, reader: &mut R) -> Result<Tree, ImageFault>
     ensures ok { IfOk result (λ tree. Consumes (R.remaining reader.old) (R.remaining reader.new)
         (kept_text (kept_by tree))) }
@@ -97,7 +97,7 @@ fn load_kept<R: Read>(alloc: Global, reader: &mut R) -> Result<Tree, ImageFault>
     })
 }
 
-/// Reads a number of a tree, from `least` on, and the tree.
+/// Reads the number of a tree, which must be at least `least`, and the tree.
 fn load_tree<R: Read>(alloc: Global, reader: &mut R, least: u16) -> Result<(u8, Tree), ImageFault>
     ensures ok { IfOk result (λ e. Consumes (R.remaining reader.old) (R.remaining reader.new)
         (tree_text (e.0, kept_by e.1))) }
@@ -115,7 +115,7 @@ fn load_tree<R: Read>(alloc: Global, reader: &mut R, least: u16) -> Result<(u8, 
     Ok((number, tree))
 }
 
-/// Reads how many trees there are, and the trees.
+/// Reads the number of trees, and the trees.
 fn load_each_tree<R: Read>(alloc: Global, reader: &mut R) -> Result<BTreeMap<u8, Tree>, ImageFault>
     ensures ok { IfOk result (λ m. Consumes (R.remaining reader.old) (R.remaining reader.new)
         (entries_text tree_text (host_of m))) }
@@ -138,7 +138,7 @@ fn load_each_tree<R: Read>(alloc: Global, reader: &mut R) -> Result<BTreeMap<u8,
     Ok(trees)
 }
 
-/// Reads the image of trees, which is all that the reader holds.
+/// Reads the image of trees. The reader must hold nothing after it.
 pub(crate) fn load_trees<R: Read>(
     alloc: Global,
     reader: &mut R,

@@ -1,4 +1,4 @@
-//! An image is written.
+//! Writes an image.
 
 ghost use Rattle.std.specs.Prelude.{◌≡◌, ◌++◌, length, IfErr, OnOk};
 ghost use Rattle.std.specs.List.{flat_map};
@@ -14,7 +14,7 @@ use oram_bytes::Bytes;
 use std::collections::BTreeMap;
 use std::io::{ErrorKind, Write};
 
-/// Writes all of the bytes, or a beginning of them.
+/// Writes the bytes. If the writer fails, it has taken a beginning of them.
 fn write<W: Write>(writer: &mut W, bytes: &[u8]) -> Result<(), ImageFault>
     ensures ok { OnOk result (Appends (W.contents writer.old) (W.contents writer.new) bytes.now) }
     ensures begun { Begins (W.contents writer.old) (W.contents writer.new) bytes.now }

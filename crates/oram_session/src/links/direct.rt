@@ -6,7 +6,7 @@ use oram_host::Server;
 use std::alloc::Global;
 use std::marker::Model;
 
-/// A link that owns its server. It can fail for want of memory only, and then the server is as it was.
+/// A link that owns its server. A call fails only if memory runs out, and then the server is unchanged.
 #[derive(Debug, Drop)]
 pub struct Direct {
     server: Server,
@@ -22,14 +22,14 @@ impl Model for Direct {
 }
 
 impl Direct {
-    /// A link to this server. It takes no memory.
+    /// Makes a link to this server. Needs no memory.
     pub fn new(_alloc: Global, server: Server) -> Direct
         ensures { result ≡ record { host = server; faults = 0 } }
     {
         Direct { server, faults: 0 }
     }
 
-    /// The server again, as the calls left it.
+    /// Gives the server back, as the calls have changed it.
     pub fn into_server(self) -> Server
         ensures { result ≡ self.host }
     {

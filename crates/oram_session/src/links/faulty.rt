@@ -1,4 +1,4 @@
-//! A link with faults of its own.
+//! A link that simulates faults.
 ghost use Rattle.std.specs.Prelude.{◌≡◌};
 ghost use Rattle.oram_session.specs.Links.{is_due};
 
@@ -6,7 +6,7 @@ use crate::link::{Link, LinkFault};
 use std::alloc::Global;
 use std::marker::Model;
 
-/// A link over another, to try what goes on where calls fail: so many calls, from a given one on, answer `Io`.
+/// A link over another link that simulates faults, for tests: from a given call on, some calls in a row answer `Io`.
 #[derive(Debug, Drop)]
 pub struct FaultLink<L> {
     inner: L,
@@ -26,8 +26,8 @@ impl<L> Model for FaultLink<L> {
 }
 
 impl<L> FaultLink<L> {
-    /// A link whose calls from number `at` on, `times` of them, answer `Io`; calls count from 0. With `after` the link
-    /// below is called first and its outcome dropped, else it isn't called.
+    /// Makes a link whose calls from number `at` on, `times` of them, answer `Io`; calls count from 0. With `after`,
+    /// such a call still calls the link below and drops the outcome; without it, it doesn't.
     pub fn new(inner: L, at: u64, times: u64, after: bool) -> FaultLink<L>
         ensures { result ≡ record { inner = inner; at = at; times = times; after = after; calls = 0; faults = 0 } }
     {
@@ -41,14 +41,14 @@ impl<L> FaultLink<L> {
         }
     }
 
-    /// How many calls there were; the count stays at `u64::MAX`.
+    /// Returns the number of calls; the count stops at `u64::MAX`.
     pub fn calls(&self) -> u64
         ensures { result ≡ self.now.calls }
     {
         self.calls
     }
 
-    /// Whether the next call has a fault.
+    /// Returns whether the next call gets a fault.
     fn is_due(&self) -> bool
         ensures { result ≡ is_due self.now }
     {

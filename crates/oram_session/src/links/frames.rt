@@ -1,4 +1,4 @@
-//! A body sent as one frame, and the body of a frame that is read.
+//! Sends a body as one frame, and receives the body of a frame.
 ghost use Rattle.std.specs.Prelude.{◌≡◌, IfOk, IfErr, OnOk};
 ghost use Rattle.std.specs.Io.KnownBytes.{Appends};
 ghost use Rattle.oram_wire.specs.FrameStream.{IsBody, frame};
@@ -10,7 +10,7 @@ use oram_wire::{FrameFault, LONGEST_BODY, WriteFault, next_frame, write};
 use std::alloc::{AllocError, Global};
 use std::io::{Read, Write};
 
-/// A body as a frame, in one piece.
+/// Returns a body as a frame, in one piece.
 fn framed(alloc: Global, body: &[u8]) -> Result<Vec<u8>, AllocError>
     requires { IsBody body.now }
     ensures { IfOk result (λ v. v.items ≡ frame body.now) }
@@ -22,7 +22,7 @@ fn framed(alloc: Global, body: &[u8]) -> Result<Vec<u8>, AllocError>
     Ok(whole)
 }
 
-/// Sends a body as one frame, written at once, and lets nothing of it wait in a buffer.
+/// Sends a body as one frame, in one write, and flushes it.
 pub(crate) fn send<W: Write>(alloc: Global, writer: &mut W, body: &[u8]) -> Result<(), LinkFault>
     ensures fits { OnOk result (IsBody body.now) }
     ensures ok { OnOk result (Appends (W.contents writer.old) (W.contents writer.new) (frame body.now)) }
@@ -41,7 +41,7 @@ pub(crate) fn send<W: Write>(alloc: Global, writer: &mut W, body: &[u8]) -> Resu
     Ok(())
 }
 
-/// The body of the next frame.
+/// Receives the next frame and returns its body.
 pub(crate) fn receive<R: Read>(alloc: Global, reader: &mut R) -> Result<Vec<u8>, LinkFault>
     ensures { Receives (R.remaining reader.old) (R.remaining reader.new) (outcome_of result) }
 {

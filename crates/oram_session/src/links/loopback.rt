@@ -18,22 +18,24 @@ use std::net::{
     Ipv4Addr, Net, OpenListener, OpenStream, SocketAddr, SocketAddrV4, TcpListener, TcpStream,
 };
 
-/// The longest frame that goes over the link, in bytes. The system takes one whole before anyone reads it.
+/// The number of bytes of the longest frame that goes over the link. The system can buffer such a frame before anyone
+/// reads it.
 const LONGEST_FRAME: usize = 16_384;
 
-/// The length at a frame's front, in bytes.
+/// The number of bytes of the length at a frame's front.
 const HEAD: usize = 4;
 
-/// A link that owns its server and both ends of a connection to it on this machine. A call asks at one end and serves the other, so
-/// nothing else has to run.
+/// A link that owns its server and both ends of a connection to it on this machine. A call asks at one end and serves
+/// the other, so nothing else has to run.
 ///
-/// A message or an answer whose frame has more than 16,384 bytes is `TooLarge`, and the connection stays. After any other fault both
-/// ends are closed, so that nothing of that call waits in them, and the next call opens new ones.
+/// A message or an answer whose frame has more than 16,384 bytes gives the fault `TooLarge`, and the connection stays
+/// open. Any other fault closes both ends, so that no bytes of that call are left in them, and the next call opens a
+/// new connection.
 #[derive(Drop)]
 pub struct LoopLink<R: Net> {
     rt: R,
     server: Server,
-    /// The near end, which asks, and the far one, which answers.
+    /// The near end, which asks, and the far end, which answers.
     ends: Option<(R::Stream, R::Stream)>,
     faults: u64,
 }
@@ -46,7 +48,7 @@ impl<R: Net> Model for LoopLink<R> {
     ghost view = { λ l. record { host = l.server; ends = l.ends; faults = l.faults } };
 }
 
-/// Both ends of a new connection, the near one first. No one else's is taken for it.
+/// Opens a connection and returns both ends, the near one first. Checks that the accepted connection is this one.
 fn connected<R: Net>(rt: &R) -> Result<(R::Stream, R::Stream), LinkFault>
     ensures { IfErr result (λ fault. fault ≡ LinkFault.Io) }
 {
@@ -62,14 +64,14 @@ fn connected<R: Net>(rt: &R) -> Result<(R::Stream, R::Stream), LinkFault>
     Ok((near, far))
 }
 
-/// Whether a body's frame is too long for the link.
+/// Returns whether a body's frame is too long for the link.
 fn is_too_large(body: &[u8]) -> bool
     ensures { MatchBool result (longest_frame < length (frame body.now)) (length (frame body.now) ≤ longest_frame) }
 {
     body.len() > LONGEST_FRAME - HEAD
 }
 
-/// Takes a message to the far end, and gives the server's answer to what is read there.
+/// Sends a message to the far end, and returns the server's answer to the message that arrives there.
 fn ask<S: Read + Write>(
     alloc: Global,
     server: &mut Server,
@@ -87,7 +89,7 @@ fn ask<S: Read + Write>(
     Ok(server.answer(alloc, &asked)?)
 }
 
-/// Takes an answer back to the near end, and gives what is read there.
+/// Sends an answer back to the near end, and returns the bytes that arrive there.
 fn give_back<S: Read + Write>(
     alloc: Global,
     near: &mut S,
@@ -107,7 +109,7 @@ fn give_back<S: Read + Write>(
     receive(alloc, near)
 }
 
-/// Takes a message over and its answer back.
+/// Sends a message to the far end and its answer back to the near end.
 fn cross<S: Read + Write>(
     alloc: Global,
     server: &mut Server,
@@ -128,7 +130,8 @@ fn cross<S: Read + Write>(
 }
 
 impl<R: Net> LoopLink<R> {
-    /// A link to this server. It opens a connection on this machine; where there is none to be had, it answers `Io`.
+    /// Makes a link to this server and opens a connection on this machine. Fails with `Io` if no connection can be
+    /// opened.
     pub fn open(rt: R, _alloc: Global, server: Server) -> Result<LoopLink<R>, LinkFault>
     where
         R: Drop,
@@ -144,7 +147,7 @@ impl<R: Net> LoopLink<R> {
         })
     }
 
-    /// The ends of the connection, or of a new one.
+    /// Takes the ends of the connection, or opens a new one.
     fn take_ends(&mut self) -> Result<(R::Stream, R::Stream), LinkFault>
         ensures host { self.new.host ≡ self.old.host }
         ensures faults { self.new.faults ≡ self.old.faults }
@@ -158,7 +161,7 @@ impl<R: Net> LoopLink<R> {
         }
     }
 
-    /// Takes a message over and its answer back, and counts nothing.
+    /// Sends a message and returns its answer, without counting faults.
     fn pass(&mut self, alloc: Global, body: &[u8]) -> Result<Vec<u8>, LinkFault>
         ensures faults { self.new.faults ≡ self.old.faults }
         ensures answer { Carries R.Stream.remaining R.Stream.contents self.old body.now (outcome_of result) self.new }

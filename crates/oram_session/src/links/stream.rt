@@ -9,8 +9,9 @@ use std::alloc::Global;
 use std::io::{Read, Write};
 use std::marker::Model;
 
-/// A link to a host at the other end of a reader and a writer. A message is one frame, written at once and flushed, and so
-/// is its answer. After any fault the link is closed: each call answers `Closed`, and neither reads nor writes.
+/// A link to a host at the other end of a reader and a writer. A message is one frame, written at once and flushed,
+/// and the answer is one frame too. Any fault closes the link: from then on each call answers `Closed`, and neither
+/// reads nor writes.
 #[derive(Debug, Drop)]
 pub struct StreamLink<R, W> {
     reader: R,
@@ -27,7 +28,7 @@ impl<R, W> Model for StreamLink<R, W> {
 }
 
 impl<R, W> StreamLink<R, W> {
-    /// A link that sends by this writer and is answered by this reader. It takes no memory.
+    /// Makes a link that sends messages to `writer` and receives answers from `reader`. Needs no memory.
     pub fn new(_alloc: Global, reader: R, writer: W) -> StreamLink<R, W>
         ensures { result ≡ record { reader = reader; writer = writer; faults = 0 } }
     {
@@ -38,7 +39,7 @@ impl<R, W> StreamLink<R, W> {
         }
     }
 
-    /// Whether there was a fault.
+    /// Returns whether a fault has closed the link.
     fn is_closed(&self) -> bool
         ensures { result ≡ is_closed self.now }
     {
@@ -46,7 +47,7 @@ impl<R, W> StreamLink<R, W> {
     }
 }
 
-/// Sends a message, and reads its answer.
+/// Sends a message and receives its answer.
 fn ask<R: Read, W: Write>(
     alloc: Global,
     reader: &mut R,

@@ -1,4 +1,4 @@
-//! A tape of the stream cipher ChaCha20.
+//! A tape from the stream cipher ChaCha20.
 
 use crate::tape::Tape;
 use rand_chacha::ChaCha20Rng;
@@ -6,16 +6,16 @@ use rand_core::{SeedableRng, utils};
 use std::alloc::{AllocError, Global};
 use std::fmt;
 
-/// The words of the generator ChaCha20 (RFC 8439) under one key, stream 0: two of its words of 32 bits make one, the low half
-/// first. Each ticket has two for each tree.
+/// The words of the generator ChaCha20 (RFC 8439) under one key, in stream 0. Two of the generator's words of 32 bits
+/// make one word of the tape, the low half first. Each ticket has two words for each tree.
 #[derive(Clone, Copy)]
 pub struct ChaChaTape {
     pub key: [u8; 32],
-    /// How many trees the device has, from 1 to 13.
+    /// The number of trees of the device, from 1 to 13.
     pub trees: u8,
 }
 
-// The key is not shown.
+// Doesn't show the key.
 impl fmt::Debug for ChaChaTape {
     fn fmt<W: fmt::Write>(&self, f: &mut fmt::Formatter<W>) -> fmt::Result {
         f.write_str("ChaChaTape { .. }")
@@ -27,7 +27,7 @@ impl Tape for ChaChaTape {
 
     ghost words = { λ tape. chacha_words tape.key tape.trees };
 
-    // The generator is set to the ticket's first word: nothing before it is drawn.
+    // Sets the generator to the ticket's first word, so that it draws no words before that.
     fn draw(&mut self, alloc: Global, ticket: u64, count: usize) -> Result<Vec<u64>, AllocError> {
         let mut generator = ChaCha20Rng::from_seed(self.key);
         generator.set_word_pos(4 * u128::from(self.trees) * u128::from(ticket));

@@ -1,18 +1,18 @@
-//! A tape of a list.
+//! A tape from a list.
 ghost use Rattle.std.specs.Prelude.{◌≡◌, slice_index};
 
 use crate::tape::Tape;
 use std::alloc::{AllocError, Global};
 
-/// Word j of ticket t, where each has `count` words, stands at place `t * count + j` of the list. Behind its end all words
-/// are 0.
+/// If each ticket has `count` words, word j of ticket t is the list's element `t * count + j`. After the end of the list
+/// all words are 0.
 #[derive(Debug, Drop)]
 pub struct ListTape {
     pub words: Vec<u64>,
 }
 
 impl ListTape {
-    /// The word at a place, which may be any.
+    /// Returns the word at any index, which is 0 after the end of the list.
     fn word(&self, place: u128) -> u64
         ensures { result ≡ slice_index self.now.words.items place }
     {

@@ -1,4 +1,4 @@
-//! Cores made of changed parts.
+//! Cores that are made from changed parts.
 
 use super::machine::Machine;
 use crate::said::reason_of;
@@ -33,7 +33,7 @@ fn change(
     Ok(())
 }
 
-/// The block of the words `ADDRESS LEAF DATA`.
+/// Reads a block from the words `ADDRESS LEAF DATA`.
 fn block_in(alloc: Global, words: &mut Words) -> Block {
     Block {
         address: words.short(),
@@ -42,7 +42,7 @@ fn block_in(alloc: Global, words: &mut Words) -> Block {
     }
 }
 
-/// Puts a block behind those of the stash of a tree.
+/// Puts a block at the end of a tree's stash.
 fn put_block(trees: &mut [TreeParts], number: usize, block: Block) -> Result<(), RowFault> {
     let Some(tree) = trees.get_mut(number) else {
         return Err(RowFault::NoRow);
@@ -52,8 +52,8 @@ fn put_block(trees: &mut [TreeParts], number: usize, block: Block) -> Result<(),
 }
 
 impl<S: Sealer + Copy> Machine<S> {
-    /// `core parts FIELD VALUE`: whether there is a core with the parts of this one, one of them changed: `core`, or
-    /// `content` where there is none. Of `trees` and `waiting` the first so many are left.
+    /// `core parts FIELD VALUE`: changes one of the parts of this core, and writes `core` if there is a core with these
+    /// parts, and `content` if there is none. For `trees` and `waiting`, `VALUE` is how many are left.
     pub fn parts(
         &mut self,
         alloc: Global,
@@ -69,7 +69,7 @@ impl<S: Sealer + Copy> Machine<S> {
         Ok(())
     }
 
-    /// `core put TREE ADDRESS LEAF DATA`: goes on with a core that has one more block, behind those of the stash of a tree.
+    /// `core put TREE ADDRESS LEAF DATA`: goes on with a core that has one more block at the end of a tree's stash.
     pub fn put(
         &mut self,
         alloc: Global,

@@ -1,4 +1,4 @@
-//! Answers that a host shouldn't give, each to a copy of the core.
+//! Answers that a host shouldn't give. Each goes to a copy of the core.
 
 use super::machine::{Machine, reaction_of};
 use crate::said::show_reaction;
@@ -9,7 +9,7 @@ use oram_run::{Command, Event};
 use rows::{Groups, Page, RowFault, Words};
 use std::alloc::Global;
 
-/// A read with words that are all 0.
+/// Makes a read with words that are all 0.
 fn read_of_zero(alloc: Global, trees: u8) -> Result<Event, RowFault> {
     Ok(Event::Submit {
         session: 3,
@@ -18,7 +18,7 @@ fn read_of_zero(alloc: Global, trees: u8) -> Result<Event, RowFault> {
     })
 }
 
-/// Tells a core an event, and writes what it says.
+/// Gives a core an event, and writes its reaction.
 fn tell<S: Sealer>(
     alloc: Global,
     core: &mut Core<S>,
@@ -29,7 +29,7 @@ fn tell<S: Sealer>(
     Ok(())
 }
 
-/// Writes what a core says to an answer, and then to a read, a retry, a loss and a good answer.
+/// Gives a core an answer, and then a read, a retry, a loss and a good answer. Writes the reactions.
 fn show_asked<S: Sealer>(
     alloc: Global,
     core: &mut Core<S>,
@@ -62,7 +62,8 @@ fn flip(bytes: &mut [u8], place: usize) {
 }
 
 impl<S: Sealer + Copy> Machine<S> {
-    /// Gives an answer to a copy of the core, and asks on: what it says joins the group of what was said before.
+    /// Gives an answer to a copy of the core, and further events after it. Its reactions join the group of those before
+    /// if they are the same.
     fn try_answer(
         &self,
         alloc: Global,
@@ -78,8 +79,8 @@ impl<S: Sealer + Copy> Machine<S> {
         Ok(())
     }
 
-    /// `core flips FIRST LAST`: what the core says to the host's answer with one bit of a byte flipped, byte by byte, and
-    /// then to a read, a retry, a loss and a good answer.
+    /// `core flips FIRST LAST`: for each byte, gives the core the host's answer with one bit of that byte flipped, and
+    /// then a read, a retry, a loss and a good answer. Writes the reactions.
     pub fn flips(
         &mut self,
         alloc: Global,
@@ -101,7 +102,7 @@ impl<S: Sealer + Copy> Machine<S> {
         Ok(())
     }
 
-    /// `core lengths FIRST LAST`: the same for the host's answer cut, or filled up with zeros, to a length.
+    /// `core lengths FIRST LAST`: the same with the host's answer cut off, or filled up with zeros, at each length.
     pub fn lengths(
         &mut self,
         alloc: Global,

@@ -14,10 +14,10 @@ use oram_wire::ListSink;
 use rows::{Page, RowFault, Words};
 use std::alloc::Global;
 
-/// More answers than a row may ask for.
+/// The most answers that one `drain` gives: more than any row needs.
 const MOST_ANSWERS: u32 = 1000;
 
-/// A core with its host, the message that has no answer yet, and all that happened so far.
+/// A core with its host, the message that has no answer yet, and everything that has happened so far.
 #[derive(Drop)]
 pub struct Machine<S: Sealer> {
     sealer: S,
@@ -32,7 +32,7 @@ pub struct Machine<S: Sealer> {
     seen: Seen,
 }
 
-/// The core of these parts, or none where they are no core's.
+/// Makes the core with these parts; `None` if no core has them.
 pub fn core_of<S: Sealer>(
     alloc: Global,
     sealer: S,
@@ -45,7 +45,7 @@ pub fn core_of<S: Sealer>(
     }
 }
 
-/// The core of a device just formatted, and the messages of the formatting.
+/// Formats a device. Returns its core, and the messages of the formatting.
 fn formatted<S: Sealer>(
     alloc: Global,
     device: &Device,
@@ -58,7 +58,7 @@ fn formatted<S: Sealer>(
     }
 }
 
-/// What a core says to an event.
+/// Returns a core's reaction to an event.
 pub fn reaction_of<S: Sealer>(
     alloc: Global,
     core: &mut Core<S>,
@@ -67,7 +67,7 @@ pub fn reaction_of<S: Sealer>(
     Ok(core.step(alloc, event)?)
 }
 
-/// Whether an event ends the wait for an answer.
+/// Returns whether an event ends the wait for an answer.
 fn ends_wait(event: &Event) -> bool {
     match event {
         Event::Answer(_) | Event::Lost | Event::Reopen => true,
@@ -76,7 +76,7 @@ fn ends_wait(event: &Event) -> bool {
 }
 
 impl<S: Sealer + Copy> Machine<S> {
-    /// A device just formatted.
+    /// Formats a device on a new host.
     pub fn new(alloc: Global, device: &Device, sealer: S) -> Result<Machine<S>, RowFault> {
         let (core, format) = formatted(alloc, device, sealer)?;
         Ok(Machine {
@@ -94,17 +94,17 @@ impl<S: Sealer + Copy> Machine<S> {
         })
     }
 
-    /// How many messages the formatting took.
+    /// Returns how many messages the formatting took.
     pub fn messages(&self) -> usize {
         self.seen.format.len()
     }
 
-    /// A core with these parts, under the same sealer.
+    /// Makes a core with these parts and the same sealer.
     pub fn core_with(&self, alloc: Global, parts: Parts) -> Result<Option<Core<S>>, RowFault> {
         core_of(alloc, self.sealer, parts)
     }
 
-    /// The core again, made of its parts.
+    /// Rebuilds the core from its parts.
     pub fn core_again(&self, alloc: Global) -> Result<Core<S>, RowFault> {
         match self.core_with(alloc, self.core.parts(alloc)?)? {
             Some(core) => Ok(core),
@@ -112,7 +112,7 @@ impl<S: Sealer + Copy> Machine<S> {
         }
     }
 
-    /// Makes a step.
+    /// Makes a step of the core.
     fn step(&mut self, alloc: Global, event: Event) -> Result<&Reaction, RowFault> {
         let reaction = reaction_of(alloc, &mut self.core, &event)?;
         if ends_wait(&event) {
@@ -135,7 +135,7 @@ impl<S: Sealer + Copy> Machine<S> {
         Ok(())
     }
 
-    /// What the host answers to the outstanding message. With none outstanding it is no byte.
+    /// Returns the host's answer to the outstanding message, or no bytes if none is outstanding.
     pub fn answer_of_host(&mut self, alloc: Global) -> Result<Vec<u8>, RowFault> {
         match &self.outstanding {
             Some(message) => host_answer(alloc, &mut self.host, message.as_slice()),
@@ -143,14 +143,14 @@ impl<S: Sealer + Copy> Machine<S> {
         }
     }
 
-    /// `core answer`: the host answers.
+    /// `core answer`: lets the host answer.
     fn answer(&mut self, alloc: Global, page: &mut Page) -> Result<(), RowFault> {
         let bytes = self.answer_of_host(alloc)?;
         self.tell(alloc, Event::Answer(Bytes::from_vec(bytes)), page)
     }
 
-    /// The host answers so many messages, as long as one is outstanding. The core may be made again of its parts before
-    /// each.
+    /// Lets the host answer up to `count` messages, as long as one is outstanding. If `remakes` is set, rebuilds the
+    /// core from its parts before each answer.
     fn answers(
         &mut self,
         alloc: Global,
@@ -178,13 +178,13 @@ impl<S: Sealer + Copy> Machine<S> {
         self.tell(alloc, Event::Lost, page)
     }
 
-    /// `core reopen`: the core is made again of its parts, and is told so.
+    /// `core reopen`: rebuilds the core from its parts, and gives it the event `Reopen`.
     fn reopen(&mut self, alloc: Global, page: &mut Page) -> Result<(), RowFault> {
         self.core = self.core_again(alloc)?;
         self.tell(alloc, Event::Reopen, page)
     }
 
-    /// `core times COUNT EVENT`: the last of so many reactions to one event.
+    /// `core times COUNT EVENT`: gives the core an event `COUNT` times, and writes the last reaction.
     fn times(&mut self, alloc: Global, words: &mut Words, page: &mut Page) -> Result<(), RowFault> {
         let count = words.short();
         let kind = words.text();
@@ -199,8 +199,8 @@ impl<S: Sealer + Copy> Machine<S> {
         Ok(())
     }
 
-    /// `core told`: the next ticket, how many commands wait, whether the core is idle, whether a store is outstanding, and
-    /// why the device failed.
+    /// `core told`: writes the next ticket, how many commands wait, whether the core is idle, whether a store is
+    /// outstanding, and why the device failed.
     fn told(&self, page: &mut Page) {
         page.word("next");
         page.number(self.core.next_ticket());
@@ -221,14 +221,14 @@ impl<S: Sealer + Copy> Machine<S> {
         }
     }
 
-    /// `core stashes`: how many blocks are in the stash of each tree.
+    /// `core stashes`: writes how many blocks are in the stash of each tree.
     fn stashes(&self, page: &mut Page) {
         for tree in 0..self.core.device().trees() {
             page.number(self.core.stash_len(tree));
         }
     }
 
-    /// `core message`: the bytes of the outstanding message, or `none`.
+    /// `core message`: writes the bytes of the outstanding message, or `none`.
     fn message(&self, page: &mut Page) {
         match &self.outstanding {
             Some(message) => page.bytes(message.as_slice()),
@@ -236,7 +236,7 @@ impl<S: Sealer + Copy> Machine<S> {
         }
     }
 
-    /// Makes a call that changes nothing: `overhead` is what the sealer adds to a bucket.
+    /// Makes a call that changes nothing. `overhead` writes how many bytes the sealer adds to a bucket.
     fn look(&self, alloc: Global, call: &str, page: &mut Page) -> Result<(), RowFault> {
         match call {
             "told" => self.told(page),
@@ -248,7 +248,7 @@ impl<S: Sealer + Copy> Machine<S> {
         Ok(())
     }
 
-    /// Tells the core the event of a call.
+    /// Gives the core the event of a call.
     fn event(
         &mut self,
         alloc: Global,
@@ -260,14 +260,15 @@ impl<S: Sealer + Copy> Machine<S> {
         self.tell(alloc, event, page)
     }
 
-    /// `core run`: whether a run of all that happened formats the device and reacts as this core did.
+    /// `core run`: makes one run of everything that happened, and writes whether it formats the device and reacts as
+    /// this core did.
     fn run(&self, alloc: Global, page: &mut Page) -> Result<(), RowFault> {
         let device = self.core.device().copy();
         show_run(alloc, device, self.sealer, &self.events, &self.seen, page)
     }
 
-    /// Makes a call: `drain` has the host answer until no message is outstanding, and `redrain` does so with the core made again
-    /// of its parts before each answer.
+    /// Makes a call. `drain` lets the host answer until no message is outstanding, and `redrain` does so too, but
+    /// rebuilds the core from its parts before each answer.
     pub fn call(
         &mut self,
         alloc: Global,
@@ -297,12 +298,12 @@ impl<S: Sealer + Copy> Machine<S> {
 }
 
 impl<S: Sealer> Machine<S> {
-    /// What was seen.
+    /// Returns what was seen.
     pub fn seen(&self) -> &Seen {
         &self.seen
     }
 
-    /// What was seen, without the rest.
+    /// Returns what was seen, and drops the rest.
     pub fn into_seen(self) -> Seen {
         self.seen
     }

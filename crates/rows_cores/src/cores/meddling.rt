@@ -1,4 +1,4 @@
-//! What a host does besides answering.
+//! What a host does other than answer.
 
 use super::machine::Machine;
 use oram_bucket::Sealer;
@@ -8,7 +8,7 @@ use rows::{Page, RowFault, Words};
 use std::alloc::Global;
 
 impl<S: Sealer + Copy> Machine<S> {
-    /// `core keep`: keeps what the host answers to the outstanding message, and tells how many bytes it has.
+    /// `core keep`: keeps the host's answer to the outstanding message, and writes how many bytes it has.
     fn keep(&mut self, alloc: Global, page: &mut Page) -> Result<(), RowFault> {
         self.kept = self.answer_of_host(alloc)?;
         page.number(self.kept.len());
@@ -16,13 +16,13 @@ impl<S: Sealer + Copy> Machine<S> {
         Ok(())
     }
 
-    /// `core kept`: the host answers by what was kept.
+    /// `core kept`: lets the host answer with what was kept.
     fn kept(&mut self, alloc: Global, page: &mut Page) -> Result<(), RowFault> {
         let bytes = Bytes::copy(alloc, &self.kept)?;
         self.tell(alloc, Event::Answer(bytes), page)
     }
 
-    /// `core same`: whether the host would now answer what was kept.
+    /// `core same`: writes whether the host would now give the answer that was kept.
     fn same(&mut self, alloc: Global, page: &mut Page) -> Result<(), RowFault> {
         let bytes = self.answer_of_host(alloc)?;
         page.flag(bytes.as_slice() == self.kept.as_slice());
@@ -35,7 +35,7 @@ impl<S: Sealer + Copy> Machine<S> {
         Ok(true)
     }
 
-    /// `core restore`: puts the host back that was kept.
+    /// `core restore`: replaces the host by its kept copy.
     fn restore(&mut self, alloc: Global) -> Result<bool, RowFault> {
         let Some(kept) = &self.snapshot else {
             return Ok(false);
@@ -50,14 +50,14 @@ impl<S: Sealer + Copy> Machine<S> {
         self.host.flip(tree, node, words.number())
     }
 
-    /// `core swap TREE NODE TREE NODE`: exchanges two records.
+    /// `core swap TREE NODE TREE NODE`: swaps two records.
     fn swap(&mut self, words: &mut Words) -> bool {
         let (tree_a, node_a) = (words.number(), words.number());
         self.host
             .swap(tree_a, node_a, words.number(), words.number())
     }
 
-    /// Makes a call. What changes the host tells whether that could be done.
+    /// Makes a call. A call that changes the host writes whether that could be done.
     pub fn meddle(
         &mut self,
         alloc: Global,

@@ -1,4 +1,4 @@
-//! What the host and the sessions saw of a core.
+//! What the host and the sessions have seen of a core.
 
 use oram_bucket::Sealer;
 use oram_bytes::Bytes;
@@ -15,7 +15,7 @@ pub struct Seen {
     pub reactions: Vec<Reaction>,
 }
 
-/// What the host sees of a message: its head and its length.
+/// Returns what the host sees of a message: its head and its length.
 fn head(message: &Bytes) -> (&[u8], usize) {
     (
         message.as_slice().get(..6).unwrap_or_default(),
@@ -23,7 +23,7 @@ fn head(message: &Bytes) -> (&[u8], usize) {
     )
 }
 
-/// Whether the host can't tell two reactions apart.
+/// Returns whether the host can't tell two reactions apart.
 fn looks_alike(one: &Reaction, other: &Reaction) -> bool {
     one.note == other.note
         && one.replies.len() == other.replies.len()
@@ -35,12 +35,12 @@ fn looks_alike(one: &Reaction, other: &Reaction) -> bool {
             .all(|(a, b)| head(a) == head(b))
 }
 
-/// Whether two reactions are equal.
+/// Returns whether two reactions are equal.
 fn is_equal(one: &Reaction, other: &Reaction) -> bool {
     one.note == other.note && one.replies == other.replies && one.sends == other.sends
 }
 
-/// Writes whether two formattings are alike, and how many of so many events.
+/// Writes whether two formattings are alike, and how many of `count` events are.
 fn show(formats_alike: bool, alike: usize, count: usize, page: &mut Page) {
     page.word(if formats_alike {
         "format alike"
@@ -54,7 +54,7 @@ fn show(formats_alike: bool, alike: usize, count: usize, page: &mut Page) {
     page.word("events alike");
 }
 
-/// Writes whether the host sees two cores alike.
+/// Writes whether two cores look the same to the host.
 pub fn show_alike(one: &Seen, other: &Seen, page: &mut Page) {
     let pairs = one.reactions.iter().zip(&other.reactions);
     let alike = pairs.filter(|(a, b)| looks_alike(a, b)).count();
@@ -62,7 +62,8 @@ pub fn show_alike(one: &Seen, other: &Seen, page: &mut Page) {
     show(one.format == other.format, alike, count, page);
 }
 
-/// A run of these events as a whole, where there is memory for it: the messages of the formatting, and the reactions.
+/// Makes one run of these events. Returns the messages of the formatting and the reactions, and fails if memory ran
+/// out.
 fn run_of<S: Sealer>(
     alloc: Global,
     device: Device,
@@ -80,7 +81,7 @@ fn run_of<S: Sealer>(
     Ok(Seen { format, reactions })
 }
 
-/// Runs these events as a whole, and writes whether that is what was seen of them.
+/// Makes one run of these events, and writes whether it is what was seen of them.
 pub fn show_run<S: Sealer>(
     alloc: Global,
     device: Device,

@@ -1,4 +1,4 @@
-//! Evictions of many stashes, beside the plainest eviction that there is.
+//! Evictions of many stashes, compared with the simplest eviction that there is.
 
 use super::{bare_block, evicted, stash_of};
 use oram_geometry::Device;
@@ -6,10 +6,10 @@ use oram_stash::Stash;
 use rows::{Page, RowFault, Words};
 use std::alloc::{AllocError, Global};
 
-/// Blocks of the devices, and leaves of their trees.
+/// The number of blocks of the devices, and of the leaves of their trees.
 const LEAVES: u32 = 128;
 
-/// The next number of a fixed generator.
+/// Returns the next number of a fixed generator.
 pub fn next(state: &mut u64) -> u32 {
     *state = state
         .wrapping_mul(6_364_136_223_846_793_005)
@@ -17,7 +17,7 @@ pub fn next(state: &mut u64) -> u32 {
     (*state >> 33) as u32
 }
 
-/// From 0 to 60 blocks, by rising address: the address and the leaf of each.
+/// Makes 0 to 60 blocks, by rising address: the address and the leaf of each.
 fn next_blocks(alloc: Global, state: &mut u64) -> Result<Vec<(u32, u32)>, AllocError> {
     let mut blocks = Vec::new(alloc);
     for k in 0..next(state) % 61 {
@@ -27,7 +27,8 @@ fn next_blocks(alloc: Global, state: &mut u64) -> Result<Vec<(u32, u32)>, AllocE
     Ok(blocks)
 }
 
-/// The addresses that a level of the plain eviction takes: the least that fit there, of those that none has yet.
+/// Returns the addresses that the simple eviction takes for a level: the least ones that fit there and have no place
+/// yet.
 fn plain_level(
     alloc: Global,
     slots: usize,
@@ -47,7 +48,8 @@ fn plain_level(
     Ok(list)
 }
 
-/// The plain eviction: it looks through all blocks once a level. Gives the addresses by level, the deepest first.
+/// Plans the simple eviction, which looks through all blocks for each level. Returns the addresses by level, the
+/// deepest level first.
 fn plain_eviction(
     alloc: Global,
     device: &Device,
@@ -65,7 +67,7 @@ fn plain_eviction(
     Ok(lists)
 }
 
-/// The eviction by the stash. Gives the addresses by level, the deepest first, and how many blocks stay.
+/// Evicts with the stash. Returns the addresses by level, the deepest level first, and how many blocks stay.
 fn eviction(
     alloc: Global,
     device: &Device,
@@ -81,7 +83,7 @@ fn eviction(
     Ok((lists, stash.len()))
 }
 
-/// A stash of blocks with these addresses and leaves.
+/// Makes a stash of blocks with these addresses and leaves.
 fn stash_with(alloc: Global, blocks: &[(u32, u32)]) -> Result<Stash, RowFault> {
     let mut whole = Vec::new(alloc);
     for (address, leaf) in blocks {
@@ -90,7 +92,7 @@ fn stash_with(alloc: Global, blocks: &[(u32, u32)]) -> Result<Stash, RowFault> {
     stash_of(alloc, whole)
 }
 
-/// How many blocks are in none of these lists.
+/// Returns how many blocks are in none of these lists.
 fn left_over(blocks: &[(u32, u32)], lists: &[Vec<u32>]) -> usize {
     blocks
         .iter()
@@ -98,7 +100,7 @@ fn left_over(blocks: &[(u32, u32)], lists: &[Vec<u32>]) -> usize {
         .count()
 }
 
-/// A device whose buckets have so many slots.
+/// Makes a device whose buckets have `slots` slots.
 fn device_with(slots: u32) -> Result<Device, RowFault> {
     let (count, slots) = (u64::from(LEAVES), u64::from(slots));
     match Device::new(count, 16, slots, count, 1) {
@@ -107,7 +109,7 @@ fn device_with(slots: u32) -> Result<Device, RowFault> {
     }
 }
 
-/// Whether both evict the next stash alike.
+/// Returns whether both evict the next stash alike.
 fn is_alike(alloc: Global, round: u32, state: &mut u64) -> Result<bool, RowFault> {
     let device = device_with(1 + round % 4)?;
     let leaf = next(state) % LEAVES;
@@ -117,7 +119,7 @@ fn is_alike(alloc: Global, round: u32, state: &mut u64) -> Result<bool, RowFault
     Ok(lists == plain && stays == left_over(&blocks, &plain))
 }
 
-/// How many of so many stashes are evicted alike, up to the first that isn't.
+/// Returns how many of `count` stashes are evicted alike, up to the first that isn't.
 fn alike(alloc: Global, count: u32, seed: u64) -> Result<u32, RowFault> {
     let mut state = seed;
     for round in 0..count {
@@ -128,8 +130,8 @@ fn alike(alloc: Global, count: u32, seed: u64) -> Result<u32, RowFault> {
     Ok(count)
 }
 
-/// `stash random COUNT SEED`: how many of so many stashes are evicted as the plain eviction does it, with 1 to 4 slots in
-/// turn, up to the first that isn't.
+/// `stash random COUNT SEED`: writes how many of `COUNT` stashes are evicted as by the simple eviction, up to the first
+/// that isn't. The buckets have 1 to 4 slots in turn.
 pub fn evictions(alloc: Global, words: &mut Words, page: &mut Page) -> Result<(), RowFault> {
     let alike = alike(alloc, words.short(), words.number())?;
     page.number(alike);

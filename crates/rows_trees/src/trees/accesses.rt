@@ -1,4 +1,4 @@
-//! Accesses to a tree by its parts, with a host.
+//! Accesses to a tree that is given by its parts, with a host.
 ghost use Rattle.std.specs.Prelude.{◌≡◌, ◌<◌, ◌^◌, All, IfOk, OnOk, true};
 ghost use Rattle.oram_geometry.specs.Sizes.{trees_of, blocks_in, depth_of};
 ghost use Rattle.oram_bucket.specs.Bucket.{IsBlockOf};
@@ -13,10 +13,10 @@ use oram_wire::{GOOD, fetch_header, store_header};
 use rows::{RowFault, Words};
 use std::alloc::Global;
 
-/// What the host answers where it has no room.
+/// The answer of a host that has no room.
 const NO_ROOM: [u8; 2] = [0x81, 8];
 
-/// Which block is asked for, and which leaves and nonce the access has.
+/// The block that is asked for, and the leaves and the nonce of the access.
 #[derive(Clone, Copy)]
 pub struct Asked {
     pub address: u32,
@@ -26,7 +26,7 @@ pub struct Asked {
 }
 
 impl Asked {
-    /// Four words.
+    /// Reads four words.
     pub fn read(words: &mut Words) -> Asked {
         Asked {
             address: words.short(),
@@ -37,7 +37,7 @@ impl Asked {
     }
 }
 
-/// What an access gives: what it found, the tree's parts, and the records, behind what they were put behind.
+/// The result of an access: what it found, the tree's parts, and the records, after the bytes that were there before.
 #[derive(Drop)]
 pub struct Reached {
     pub lookup: Lookup,
@@ -45,7 +45,7 @@ pub struct Reached {
     pub records: Vec<u8>,
 }
 
-/// What a host answers. That it has no room is a want of memory.
+/// Returns the host's answer. Here a host has no room only if memory ran out, so this fails then.
 fn host_answer(alloc: Global, host: &mut Server, body: &[u8]) -> Result<Vec<u8>, RowFault> {
     let answer = host.answer(alloc, body)?;
     if answer.as_slice() == NO_ROOM.as_slice() {
@@ -54,7 +54,7 @@ fn host_answer(alloc: Global, host: &mut Server, body: &[u8]) -> Result<Vec<u8>,
     Ok(answer)
 }
 
-/// Has a host carry a message out that it answers without records.
+/// Sends the host a message that it answers with done.
 pub fn told_host(alloc: Global, host: &mut Server, body: &[u8]) -> Result<(), RowFault> {
     let answer = host_answer(alloc, host, body)?;
     if answer.as_slice() == [GOOD].as_slice() {
@@ -64,7 +64,7 @@ pub fn told_host(alloc: Global, host: &mut Server, body: &[u8]) -> Result<(), Ro
     }
 }
 
-/// The records of a path.
+/// Fetches the records of a path.
 fn fetched(alloc: Global, host: &mut Server, tree: u8, leaf: u32) -> Result<Vec<u8>, RowFault> {
     let answer = host_answer(alloc, host, &fetch_header(tree, leaf))?;
     match answer.as_slice() {
@@ -86,7 +86,7 @@ fn stored(
     told_host(alloc, host, &store)
 }
 
-/// Whether a tree has the block and the leaves.
+/// Returns whether a tree has the block and the leaves.
 fn is_asked(device: &Device, tree: u8, asked: Asked) -> bool
     requires { tree < trees_of device.now }
     ensures address { result ≡ true → asked.address < blocks_in device.now tree }
@@ -98,7 +98,7 @@ fn is_asked(device: &Device, tree: u8, asked: Asked) -> bool
     asked.address < device.blocks_in(tree) && asked.old_leaf < leaves && asked.new_leaf < leaves
 }
 
-/// Whether an edit is one of a tree's blocks.
+/// Returns whether an edit is one for a block of this tree.
 fn is_edit(device: &Device, tree: u8, edit: Edit<'_>) -> bool
     requires { tree < trees_of device.now }
     ensures { result ≡ true → IsEditOf device.now tree edit.entry }
@@ -112,7 +112,7 @@ fn is_edit(device: &Device, tree: u8, edit: Edit<'_>) -> bool
     }
 }
 
-/// Whether a device has a tree that may be asked so. Else the row is not one.
+/// Fails with [`RowFault::NoRow`] if the device has no tree with this block, these leaves and this edit.
 fn check_asked(device: &Device, tree: u8, asked: Asked, edit: Edit<'_>) -> Result<(), RowFault>
     ensures tree { OnOk result (tree < trees_of device.now) }
     ensures address { OnOk result (asked.address < blocks_in device.now tree) }
@@ -127,7 +127,7 @@ fn check_asked(device: &Device, tree: u8, asked: Asked, edit: Edit<'_>) -> Resul
     }
 }
 
-/// What a fault of an access is to a row.
+/// Returns the row's fault for a fault of an access.
 fn row_fault(fault: TreeFault) -> RowFault {
     match fault {
         TreeFault::OutOfMemory => RowFault::OutOfMemory,
@@ -135,7 +135,7 @@ fn row_fault(fault: TreeFault) -> RowFault {
     }
 }
 
-/// What an access is made to: a tree of these parts, and its host.
+/// What an access is made to: a tree with these parts, and its host.
 #[derive(Drop)]
 pub struct Target<'a> {
     pub device: &'a Device,
@@ -144,7 +144,8 @@ pub struct Target<'a> {
     pub host: &'a mut Server,
 }
 
-/// Accesses a tree whose path has these bytes: what it found, and the records, behind what they are to be put behind.
+/// Accesses a tree whose path has these bytes. Returns what it found, and the records, after the bytes of `front` if
+/// there are some.
 fn reach<S: Sealer>(
     alloc: Global,
     device: &Device,
@@ -184,7 +185,7 @@ fn reach<S: Sealer>(
     behind(made, out)
 }
 
-/// What an access gave that put its records behind nothing.
+/// Returns the result of an access whose records come after nothing.
 fn alone(made: Result<Access, TreeFault>) -> Result<(Lookup, Vec<u8>), RowFault> {
     match made {
         Ok(
@@ -198,7 +199,7 @@ fn alone(made: Result<Access, TreeFault>) -> Result<(Lookup, Vec<u8>), RowFault>
     }
 }
 
-/// What an access gave that put its records behind other bytes.
+/// Returns the result of an access whose records come after other bytes.
 fn behind(made: Result<Lookup, TreeFault>, out: Vec<u8>) -> Result<(Lookup, Vec<u8>), RowFault> {
     match made {
         Ok(lookup) => Ok((lookup, out)),
@@ -206,7 +207,7 @@ fn behind(made: Result<Lookup, TreeFault>, out: Vec<u8>) -> Result<(Lookup, Vec<
     }
 }
 
-/// The tree of these parts.
+/// Makes the tree with these parts.
 fn whole_tree(
     alloc: Global,
     device: &Device,
@@ -223,7 +224,7 @@ fn whole_tree(
     }
 }
 
-/// Accesses the tree of these parts.
+/// Accesses the tree with these parts.
 fn carried_out<S: Sealer>(
     alloc: Global,
     device: &Device,
@@ -245,7 +246,7 @@ fn carried_out<S: Sealer>(
     })
 }
 
-/// An access to a tree: its records are stored. They are put behind the bytes of `front`, where it has some.
+/// Accesses a tree, and stores the records. Returns them after the bytes of `front` if there are some.
 pub fn access<S: Sealer>(
     alloc: Global,
     sealer: &S,

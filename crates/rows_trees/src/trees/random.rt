@@ -1,4 +1,4 @@
-//! Many accesses to a tree, beside a plain map.
+//! Many accesses to a tree, compared with a plain map.
 ghost use Rattle.std.specs.Prelude.{◌≢◌, ◌<◌};
 
 use super::accesses::{Asked, Reached, Target, access};
@@ -13,12 +13,13 @@ use rows::{Page, RowFault, Words};
 use std::alloc::Global;
 use std::mem::replace;
 
-/// Blocks of the map, each of this many bytes.
+/// The blocks of the map, each of [`BLOCK_BYTES`] bytes.
 const BLOCKS: usize = 8;
 
 const BLOCK_BYTES: usize = 16;
 
-/// What the plain map has at an address: the block's leaf, none where it is absent, and the byte that fills its data.
+/// What the plain map has at an address: the block's leaf, or `None` if the block is absent, and the byte that fills
+/// its data.
 #[derive(Clone, Copy)]
 struct Held {
     leaf: Option<u32>,
@@ -33,7 +34,7 @@ struct Pair {
     plain: [Held; BLOCKS],
 }
 
-/// A tree just formatted, and a map without blocks.
+/// Formats a tree, and makes a map without blocks.
 fn formatted<S: Sealer>(alloc: Global, device: &Device, sealer: &S) -> Result<Pair, RowFault> {
     prove!(device.trees() > 0 && device.depth(0) <= 24);
     let mut sink = ListSink::new(alloc);
@@ -43,7 +44,7 @@ fn formatted<S: Sealer>(alloc: Global, device: &Device, sealer: &S) -> Result<Pa
     }
 }
 
-/// A tree of these parts with the host that took these messages, and a map without blocks.
+/// Makes a tree with these parts, the host that took these messages, and a map without blocks.
 fn pair_of(alloc: Global, parts: TreeParts, messages: &[Vec<u8>]) -> Result<Pair, RowFault> {
     let absent = Held {
         leaf: None,
@@ -56,7 +57,8 @@ fn pair_of(alloc: Global, parts: TreeParts, messages: &[Vec<u8>]) -> Result<Pair
     })
 }
 
-/// The access that the generator chooses, on the path that the map names, and the byte of which the edit is made.
+/// Returns an access that the generator chooses, on the path that the map names, and the byte that decides about the
+/// edit.
 fn choose(leaves: u32, plain: &[Held; BLOCKS], state: &mut u64) -> (Asked, u8)
     requires { leaves ≢ 0 }
     ensures { result.0.address < 8 }
@@ -71,8 +73,8 @@ fn choose(leaves: u32, plain: &[Held; BLOCKS], state: &mut u64) -> (Asked, u8)
     (asked, (next(state) % 256) as u8)
 }
 
-/// The edit that a byte stands for, and the byte that fills the block afterwards: an even byte stands for no change, and an odd one fills
-/// the block.
+/// Returns the edit for a byte, and the byte that fills the block afterwards. An even byte changes nothing, and an odd
+/// one fills the block.
 fn edit_of(byte: u8, content: &[u8], fill: u8) -> (Edit<'_>, u8) {
     if byte % 2 == 0 {
         (Edit::Keep, fill)
@@ -82,7 +84,7 @@ fn edit_of(byte: u8, content: &[u8], fill: u8) -> (Edit<'_>, u8) {
 }
 
 impl Pair {
-    /// Makes an access to the tree, and tells what it found.
+    /// Makes an access to the tree, and returns what it found.
     fn access<S: Sealer>(
         &mut self,
         alloc: Global,
@@ -106,7 +108,7 @@ impl Pair {
         Ok(lookup)
     }
 
-    /// Makes the next access, and the same to the map. Tells whether both had the same data.
+    /// Makes the next access to the tree and to the map. Returns whether both had the same data.
     fn step<S: Sealer>(
         &mut self,
         alloc: Global,
@@ -130,7 +132,7 @@ impl Pair {
     }
 }
 
-/// How many of so many accesses are as the plain map's, up to the first that isn't.
+/// Returns how many of `count` accesses find the same as the plain map, up to the first that doesn't.
 fn alike<S: Sealer>(
     alloc: Global,
     device: &Device,
@@ -148,8 +150,8 @@ fn alike<S: Sealer>(
     Ok(count)
 }
 
-/// `tree random COUNT SEED SEALER`: how many of so many accesses to a tree of eight blocks find what a plain map has, up to
-/// the first that doesn't. The sealer is `plain` or `chacha KEY`.
+/// `tree random COUNT SEED SEALER`: makes `COUNT` accesses to a tree of eight blocks. Writes how many find what a plain
+/// map has, up to the first that doesn't. The sealer is `plain` or `chacha KEY`.
 pub fn accesses(
     alloc: Global,
     device: &Device,

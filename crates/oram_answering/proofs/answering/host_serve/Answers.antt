@@ -9,7 +9,7 @@ use Rattle.oram_answering.proofs.Answered.{err_is, was_read, was_frame, was_memo
 use Rattle.oram_answering.proofs.Hosted.{hosted_kept, hosted_more, hosted_then}
 use Rattle.oram_answering.proofs.answering.host_serve.Goals as goal
 
--- the reader ends it
+-- the reader ends the loop
 
 pub returns-in_err-body-clause-frame : goal.returns-in_err-body-clause-frame
 returns-in_err-body-clause-frame g c = λ e.
@@ -40,7 +40,7 @@ returns-clause-read g c = λ _.
     let k = c.loop-served.invariant in
     (k.all, [], (λ h. absurd (omega arith)), hosted_then g.H.BucketServer.serves _ _ _ _ _ _ _ _ _ [] [] k (Consumes-nil _) (Appends-nil _))
 
--- or a request does, for want of memory
+-- or a request does, because memory runs out
 
 pub returns-in_err-answer-clause-memory : goal.returns-in_err-answer-clause-memory
 returns-in_err-answer-clause-memory g c = λ e.
@@ -53,7 +53,7 @@ returns-in_err-answer-clause-memory g c = λ e.
       hosted_kept g.H.BucketServer.serves _ _ _ _ _ _ _ _ _ _ (frame body) k c.in_err-answer.ensures.err came.1 (Appends-nil _),
     )
 
--- or its answer
+-- or the writing of its answer does
 
 pub returns-in_err-put_body-clause-write : goal.returns-in_err-put_body-clause-write
 returns-in_err-put_body-clause-write g c = λ e.
@@ -73,7 +73,7 @@ returns-in_err-put_body-clause-write g c = λ e.
           (subst (λ (b : List ℕ). Appends (g.W.Write.contents c.loop-served.writer) (g.W.Write.contents c.put_body.new.writer) (take w.0 (frame b))) (c.deref-in-loop-served.ensures.value ∙ a.3) w.1),
     )
 
--- or it goes on
+-- or the loop goes on
 
 pub loop-served-preserved : goal.loop-served-preserved
 loop-served-preserved g c =

@@ -6,7 +6,7 @@ use Rattle.oram_bucket.specs.Keystream.{xored_from}
 use Rattle.oram_bucket.proofs.KeystreamLemmas.{run_more, run_long, front_of, rest_more, get_or-first_chunks}
 use Rattle.oram_bucket.proofs.chacha.append_xored.Goals as goal
 
--- where the generator is of the key and the nonce, what is XORed is so by their keystream
+-- if the generator belongs to the key and the nonce, the bytes are XORed with their keystream
 xored_by : (key generator_key : List ℕ) (nonce stream k at : ℕ) (run xored : List ℕ) → generator_key ≡ key → stream ≡ nonce → at ≡ k
     → xored ≡ xored_from generator_key stream (256 * at) run → xored ≡ xored_from key nonce (256 * k) run
 xored_by key generator_key nonce stream k at run xored same_key same_nonce same_place value =

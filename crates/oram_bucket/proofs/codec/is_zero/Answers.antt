@@ -7,7 +7,7 @@ use Rattle.std.specs.Int.Bits.{or_zero_l}
 use Rattle.std.specs.List.{list_all}
 use Rattle.oram_bucket.proofs.codec.is_zero.Goals as goal
 
--- no bit of two numbers is set
+-- a bitwise or is 0 only if both numbers are
 or_is_zero : (a b : ℕ) → (bit_or a b == 0) ≡ (a == 0 && b == 0)
 or_is_zero zero b = ap (λ (n : ℕ). n == 0) (or_zero_l b)
 or_is_zero (suc a) b = let above = le_or_l (suc a) b in grind (arith, nat_tests)

@@ -8,7 +8,7 @@ use Rattle.oram_bucket.specs.Bucket.{slot_of}
 use Rattle.oram_bucket.proofs.Spelling.{few_of_device, small_block, filled_up, slots_more, bytes_and_zeros, bytes_taken}
 use Rattle.oram_bucket.proofs.codec.write_bucket.Goals as goal
 
--- the block that is lent at a place
+-- the borrowed block at an index
 lent_at : (blocks : List (Bor Block)) (i : ℕ) (block : Bor Block) → i < length blocks → block ≡ get_or blocks i block → block.now ≡ get_or (map (λ b. b.now) blocks) i block.now
 lent_at blocks i block h is = ap (λ b. b.now) is ∙ sym (get_or-map (λ b. b.now) blocks i block block.now h)
 

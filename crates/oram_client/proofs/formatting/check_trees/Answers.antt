@@ -11,7 +11,7 @@ use Rattle.oram_client.proofs.formatting.check_trees.Goals as goal
 use Rattle.oram_client.proofs.formatting.check_trees.Goals.{After-check_tree}
 use Rattle.oram_client.proofs.formatting.check_trees.Given as given
 
--- the root that a path is checked under is the one that the core knows
+-- The root digest with which a path is checked is the one that the core has.
 stands : (g : given.Over) (c : After-check_tree g) → c.behind-parts.inside.root ≡ (slice_index_or c.args.core.now.state.trees c.loop-tree.tree no_tree).root
 stands g c =
     let trees : c.parts-2.inside.trees.items ≡ map parts_of c.args.core.now.state.trees = ap (λ (p : Parts). p.trees) (c.parts-2.view_is ∙ c.in_ok-parts.ensures.same) in

@@ -4,7 +4,7 @@ use Rattle.oram_hash.specs.Path.{Path, HasLength, with_bytes}
 use Rattle.oram_hash.specs.Rebuild.{IsJoined, IsRebuilt, StandsRebuilt}
 use Rattle.oram_hash.proofs.rebuilding.rebuild.Goals as goal
 
--- a buffer that is written over whole holds what was written
+-- a buffer that is overwritten completely holds exactly the new bytes
 written_over : (n : ℕ) (written was : List ℕ) → length written ≡ n → take n (written ++ drop (length written) was) ≡ written
 written_over n written was len = take_at written (drop (length written) was) n len
 

@@ -13,7 +13,7 @@ pub loop-served-init : goal.loop-served-init
 unfolding begin
 loop-served-init g c = record { served = begin _ _ _ _ _ _; keeps = λ h. h; lasting = λ h. elim h [ inl f ↦ f | inr none ↦ absurd none ]; block = refl; size = refl }
 
--- the client goes
+-- the client leaves
 
 pub returns-in_default-clause-ok : goal.returns-in_default-clause-ok
 returns-in_default-clause-ok g c =
@@ -74,7 +74,7 @@ returns-in_err-put_reply-clause-err g c =
     if_err _ _ _ _ p.1 (p.2 ∙ c.in_err-put_reply.ensures.err.0)
     (stopped_at_reply _ _ _ _ _ _ _ held held' _ _ _ _ (turn_of r got.0 reply) inv.served served (Consumes-trans _ _ _ (request_text r) got.0 came.1 got.2) c.in_err-put_reply.ensures.err.1)
 
--- or it goes on
+-- or the loop goes on
 
 pub loop-served-preserved : goal.loop-served-preserved
 unfolding next

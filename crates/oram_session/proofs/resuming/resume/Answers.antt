@@ -17,7 +17,7 @@ returns-then-is_settled-clause-count g c = λ going. absurd (going (sym c.is_set
 pub returns-then-is_settled-clause-ok : goal.returns-then-is_settled-clause-ok
 returns-then-is_settled-clause-ok g c = λ going. absurd (going (sym c.is_settled.ensures ∙ c.if-is_settled.true))
 
--- any other
+-- any other core
 
 pub reopen-requires : goal.reopen-requires
 reopen-requires g c = λ settled. let e : false ≡ true = sym c.if-is_settled.false ∙ c.is_settled.ensures ∙ settled in cc

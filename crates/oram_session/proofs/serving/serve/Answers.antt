@@ -56,7 +56,7 @@ returns-clause-read g c = λ _.
     let v = shape_of g.S.Sealer.overhead g.S.Sealer.sealing g.S.Sealer.opening c.args.core.now in
     (k.all, [], (λ h. absurd (omega arith)), served_then v g.L.Link.calls (g.T.Tape.words c.args.tape.now) c.args.session _ _ _ _ _ _ _ _ _ [] [] k (Consumes-nil _) (Appends-nil _))
 
--- a request ends it
+-- a request ends the session
 
 pub returns-in_err-reply-clause-stalled : goal.returns-in_err-reply-clause-stalled
 returns-in_err-reply-clause-stalled g c = λ e.
@@ -105,7 +105,7 @@ returns-in_err-reply-clause-memory g c = λ e.
       served_then v g.L.Link.calls words c.args.session _ _ _ _ _ _ _ _ _ (frame c.in-Some.body.items) [] k came.1 (Appends-nil _),
     )
 
--- its reply ends it
+-- its reply ends the session
 
 pub returns-in_err-put_reply-clause-write : goal.returns-in_err-put_reply-clause-write
 returns-in_err-put_reply-clause-write g c = λ e.
@@ -150,7 +150,7 @@ returns-in_err-put_reply-clause-memory g c = λ e.
       served_then v g.L.Link.calls words c.args.session _ _ _ _ _ _ _ _ _ (frame c.in-Some.body.items) [] k came.1 w,
     )
 
--- or it goes on
+-- or the session goes on
 
 pub loop-served-preserved : goal.loop-served-preserved
 loop-served-preserved g c =

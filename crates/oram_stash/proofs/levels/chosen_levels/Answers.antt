@@ -6,7 +6,7 @@ use Rattle.oram_stash.proofs.Popping.{one_round}
 use Rattle.oram_stash.proofs.levels.chosen_levels.Goals as goal
 use Rattle.oram_stash.proofs.levels.chosen_levels.Goals.{then-loop-level-test+in_ok-admit+else-level-gt0, else-loop-level-test}
 
--- the places that wait are those of blocks
+-- the indices that wait are indices of blocks
 pub fill_level-requires-clause-in_range : goal.fill_level-requires-clause-in_range
 fill_level-requires-clause-in_range c =
     let deep = depth c.args.device.now c.args.tree in

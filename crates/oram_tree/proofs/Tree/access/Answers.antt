@@ -2,7 +2,7 @@ use Rattle.std.proofs.Common.{◌++◌, ap, sym}
 use Rattle.std.proofs.lemmas.Result.{err_from_is_err_and}
 use Rattle.oram_tree.proofs.Tree.access.Goals as goal
 
--- a vector that was empty holds what it gained
+-- a vector that was empty holds exactly what it gained
 pub returns-clause-updates : goal.returns-clause-updates
 returns-clause-updates g c records content stored path named =
     c.in_ok-before.ensures.updates records content stored path named c.access_to.new.out.items

@@ -9,7 +9,7 @@ use Rattle.oram_tree.specs.Access.{IsNear, IsReadable, IsLookup, IsRewritten, Is
 use Rattle.oram_tree.proofs.Rewrites.{updated, readable_before, only_memory, moved, gained_is}
 use Rattle.oram_tree.proofs.Tree.access_to.Goals as goal
 
--- a tree that was stored is readable, so memory was refused
+-- a stored tree is readable, so memory ran out
 pub returns-in_err-lookup-clause-updates : goal.returns-in_err-lookup-clause-updates
 returns-in_err-lookup-clause-updates g c records content stored path named =
     let opening = g.S.Sealer.opening c.args.sealer.now in

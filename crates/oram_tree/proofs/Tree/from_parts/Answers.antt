@@ -5,7 +5,7 @@ use Rattle.oram_bucket.specs.Cell.{IsRising}
 use Rattle.oram_tree.specs.Parts.{Parts}
 use Rattle.oram_tree.proofs.Tree.from_parts.Goals as goal
 
--- a block is none of that tree
+-- a block can't be in this tree
 pub returns-then-not-are_blocks-clause-fits : goal.returns-then-not-are_blocks-clause-fits
 returns-then-not-are_blocks-clause-fits c = (
   λ no. absurd (false≢true no),
@@ -15,7 +15,7 @@ returns-then-not-are_blocks-clause-fits c = (
       sym c.if-not-are_blocks.true ∙ c.are_blocks.ensures.1 all,
 )
 
--- the blocks don't rise
+-- the blocks' addresses don't rise
 pub returns-in-None-clause-fits : goal.returns-in-None-clause-fits
 returns-in-None-clause-fits c = (
   λ no. absurd (false≢true no),

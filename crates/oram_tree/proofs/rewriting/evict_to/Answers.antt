@@ -11,7 +11,7 @@ use Rattle.oram_tree.proofs.Sealed.{lent}
 use Rattle.oram_tree.proofs.Prepared.{lent_all, lists_buckets}
 use Rattle.oram_tree.proofs.rewriting.evict_to.Goals as goal
 
--- the eviction, of the lists and the rest as they are named
+-- the eviction, in terms of the names that the code gives to the lists and the rest
 placed_so : (waiting : List Cell) (deep slots leaf : ℕ) (vs ws : List (Vec (Bor Cell) Global)) (rest left : List (Bor Cell)) → vs ≡ ws → rest ≡ left → IsEviction deep slots leaf waiting (lent ws) (map (λ (b : Bor Cell). b.now) left)
     → IsEviction deep slots leaf waiting (lent vs) (map (λ (b : Bor Cell). b.now) rest)
 placed_so waiting deep slots leaf vs ws rest left lists_are rest_is e =

@@ -4,7 +4,7 @@ use Rattle.oram_wire.specs.FrameStream.{IsBody, frame}
 use Rattle.oram_wire.specs.ListOfBodies.{bodies_in}
 use Rattle.oram_wire.proofs.framing.cut.Given as goal
 
--- the frames so far and what follows them are the stream
+-- the stream consists of the frames so far and the bytes after them
 abbrev pub invariant-loop-body : goal.invariant-loop-body
 invariant-loop-body l = record {
   whole : flat_map frame (bodies_in l.frames.items) ++ l.rest ≡ flat_map frame (bodies_in l.fn.frames.items) ++ l.bytes;

@@ -9,7 +9,7 @@ use Rattle.oram_host.specs.declared.trees.Tree.{Tree}
 use Rattle.oram_host.proofs.Transfers.{begun_first, begun_last}
 use Rattle.oram_host.proofs.images.saving.save_tree.Goals as goal
 
--- what stands before the records of a tree
+-- the bytes before the records of a tree
 abbrev head_of : ℕ → Tree → List ℕ
 head_of number tree = (number ∷ tree.depth ∷ []) ++ to_be_bytes w32 tree.record_len ++ to_be_bytes w32 (length (records_in tree.records))
 
