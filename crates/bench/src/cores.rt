@@ -247,7 +247,7 @@ fn large_parts(alloc: Global, device: Device, blocks: u32) -> Result<Parts, Allo
         trees,
         failure: None,
         waiting: Vec::new(alloc),
-        r: 0,
+        entry_number: 0,
         held_entry: 0,
         held_data: Bytes::from_vec(Vec::new(alloc)),
         message: Bytes::from_vec(Vec::new(alloc)),

@@ -25,9 +25,9 @@ use std::{fs, io};
 
 /// A keeper that keeps nothing.
 #[derive(Clone, Copy, Drop)]
-struct Nowhere;
+struct NullKeeper;
 
-impl Keeper for Nowhere {
+impl Keeper for NullKeeper {
     ghost use Rattle.std.specs.Prelude.{⊤};
 
     ghost keeps = { λ _ _ _ _. ⊤ };
@@ -37,14 +37,14 @@ impl Keeper for Nowhere {
     }
 }
 
-type Disk<K> = Volume<ChaChaSeal, Direct, K, ChaChaTape>;
+type KeptVolume<K> = Volume<ChaChaSeal, Direct, K, ChaChaTape>;
 
 fn failed() -> io::Error {
     io::ErrorKind::Other.into()
 }
 
 /// Returns a new disk, whose table has room for 1,024 entries.
-fn formatted<K: Keeper + Drop>(alloc: Global, keeper: K) -> io::Result<Disk<K>> {
+fn formatted<K: Keeper + Drop>(alloc: Global, keeper: K) -> io::Result<KeptVolume<K>> {
     let blocks = u64::from(BLOCKS);
     let Ok(device) = Device::new(blocks, u64::from(BLOCK_BYTES), 4, 1_024, 1 << 40) else {
         return Err(failed());
@@ -69,7 +69,7 @@ fn formatted<K: Keeper + Drop>(alloc: Global, keeper: K) -> io::Result<Disk<K>> 
 /// Returns how long the accesses take as commands of the core, with nothing kept.
 fn by_the_core(rt: &(impl Alloc<A = Global> + Clock), accesses: &[Access]) -> io::Result<Duration> {
     let alloc = rt.alloc();
-    let mut disk = formatted(alloc, Nowhere)?;
+    let mut disk = formatted(alloc, NullKeeper)?;
     let start = Instant::now(rt)?;
     for access in accesses {
         if !is_settled(&disk.core) {
@@ -139,7 +139,7 @@ pub(crate) fn measure<R: Files + Clock + Print + Alloc<A = Global>>(
     report(
         rt,
         "requests, nothing kept",
-        by_requests(rt, Nowhere, &said)?,
+        by_requests(rt, NullKeeper, &said)?,
         core,
     )?;
     for (line, sync) in [

@@ -23,7 +23,7 @@ use oram_bytes::Bytes;
 use oram_geometry::Device;
 use oram_host::Server;
 use oram_redo::FilePair;
-use oram_store::Store;
+use oram_store::FileStore;
 use oram_wire::{GOOD, HostRequest};
 use rand_chacha::ChaCha20Rng;
 use rand_core::{Rng, SeedableRng};
@@ -48,17 +48,17 @@ pub(crate) struct Shape {
 }
 
 /// Something that takes the bodies of requests.
-pub(crate) trait Takes {
+pub(crate) trait RequestTaker {
     fn take(&mut self, alloc: Global, body: &[u8]) -> io::Result<Vec<u8>>;
 }
 
-impl Takes for Server {
+impl RequestTaker for Server {
     fn take(&mut self, alloc: Global, body: &[u8]) -> io::Result<Vec<u8>> {
         Ok(self.answer(alloc, body)?)
     }
 }
 
-impl<F: FilePair> Takes for Store<F> {
+impl<F: FilePair> RequestTaker for FileStore<F> {
     fn take(&mut self, alloc: Global, body: &[u8]) -> io::Result<Vec<u8>> {
         Ok(self.answer(alloc, body)?)
     }
@@ -68,7 +68,7 @@ impl<F: FilePair> Takes for Store<F> {
 #[derive(Drop)]
 struct Plain<W>(W);
 
-impl<W: OpenFile + Write + Seek> Takes for Plain<W> {
+impl<W: OpenFile + Write + Seek> RequestTaker for Plain<W> {
     fn take(&mut self, alloc: Global, body: &[u8]) -> io::Result<Vec<u8>> {
         self.0.rewind()?;
         self.0.write_all(body)?;
@@ -112,7 +112,7 @@ impl Compared {
 }
 
 /// Hands over a body, and notes how long that takes.
-fn timed<T: Takes>(
+fn timed<T: RequestTaker>(
     rt: &(impl Alloc<A = Global> + Clock),
     taker: &mut T,
     body: &[u8],
@@ -145,7 +145,11 @@ fn put_body(alloc: Global, shape: Shape, node: u32) -> Result<Vec<u8>, AllocErro
 }
 
 /// Gives a tree its shape and all its records. Returns how many records were taken.
-pub(crate) fn format<T: Takes>(alloc: Global, taker: &mut T, shape: Shape) -> io::Result<u32> {
+pub(crate) fn format<T: RequestTaker>(
+    alloc: Global,
+    taker: &mut T,
+    shape: Shape,
+) -> io::Result<u32> {
     let _ = taker.take(alloc, shape_body(alloc, shape)?.as_slice())?;
     let mut taken = 0u32;
     for node in 0..(2u32 << shape.depth).saturating_sub(1) {
@@ -182,7 +186,7 @@ pub(crate) fn bodies(
 fn compare<F: FilePair, W: OpenFile + Write + Seek>(
     rt: &(impl Alloc<A = Global> + Clock),
     shape: Shape,
-    store: &mut Store<F>,
+    store: &mut FileStore<F>,
     server: &mut Server,
     plain: &mut Plain<W>,
     times: &mut Compared,
@@ -243,7 +247,7 @@ fn report(rt: &impl Print, times: &mut Compared, differing: u32) -> io::Result<(
 fn measure_shape<R: Files + Clock + Print + Alloc<A = Global>, F: FilePair>(
     rt: &R,
     shape: Shape,
-    store: &mut Store<F>,
+    store: &mut FileStore<F>,
     file: &str,
 ) -> io::Result<()>
 where
@@ -252,7 +256,7 @@ where
     let mut server = Server::new(rt.alloc());
     let start = Instant::now(rt)?;
     let taken = format(rt.alloc(), store, shape)?;
-    if store.settle().is_err() {
+    if store.commit_puts().is_err() {
         return Err(io::ErrorKind::Other.into());
     }
     let formatting = start.elapsed(rt)?;

@@ -6,8 +6,8 @@ use Rattle.oram_geometry.specs.Sizes.{blocks_in, depth_of, bucket_len}
 use Rattle.oram_bucket.specs.Slots.{number_of, leaf_of, slot_at, number_before}
 use Rattle.oram_bucket.specs.declared.codec.BucketFault.{BucketFault}
 use Rattle.oram_bucket.specs.declared.codec.BucketFault.TheVariants.{Length, Address, Order, Leaf, Dummy, OutOfMemory}
-use Rattle.oram_bucket.specs.declared.sealing.OpenFault.{OpenFault}
-use Rattle.oram_bucket.specs.declared.sealing.OpenFault.TheVariants as opens
+use Rattle.oram_bucket.specs.declared.sealer.OpenFault.{OpenFault}
+use Rattle.oram_bucket.specs.declared.sealer.OpenFault.TheVariants as opens
 
 -- whether a real slot with this number may follow `before`: no slot, or a real one with a lesser number
 abbrev pub may_follow : Option ℕ → ℕ → Bool

@@ -1,8 +1,8 @@
 -- The result for sealed bytes, given the plain bytes that the sealer opens them to.
 use Rattle.std.specs.Prelude.{◌≡◌, ℕ, List, Option, Some, None, Result, Err, MatchOption, IsOkUnless, IsErr}
 use Rattle.oram_geometry.specs.declared.Sizes.{Sizes}
-use Rattle.oram_bucket.specs.declared.sealing.OpenFault.{OpenFault}
-use Rattle.oram_bucket.specs.declared.sealing.OpenFault.TheVariants.{Broken, OutOfMemory}
+use Rattle.oram_bucket.specs.declared.sealer.OpenFault.{OpenFault}
+use Rattle.oram_bucket.specs.declared.sealer.OpenFault.TheVariants.{Broken, OutOfMemory}
 use Rattle.oram_bucket.specs.Fault.{first_fault}
 
 -- if the sealer finds the bytes broken, the result says so, even if memory is short; plain bytes with a fault as a

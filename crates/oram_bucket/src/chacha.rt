@@ -7,7 +7,7 @@ ghost use Rattle.oram_bucket.specs.ChaChaLaws.{chacha_longer, chacha_undoes};
 ghost use Rattle.std.specs.List.{flat_map};
 ghost use Rattle.std.proofs.Common.{arith};
 
-use crate::sealing::{OpenFault, Sealer};
+use crate::sealer::{OpenFault, Sealer};
 use byteorder::{BigEndian, ByteOrder};
 use rand_chacha::ChaCha20Rng;
 use rand_core::SeedableRng;

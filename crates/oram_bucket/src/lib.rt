@@ -9,10 +9,10 @@ mod block;
 mod chacha;
 mod codec;
 mod sealed;
-mod sealing;
+mod sealer;
 
 pub use block::Block;
 pub use chacha::ChaChaSeal;
 pub use codec::{BucketFault, decode_bucket, encode_bucket};
 pub use sealed::{open_bucket, seal_bucket, seal_bucket_to};
-pub use sealing::{OpenFault, PlainSeal, Sealer};
+pub use sealer::{OpenFault, PlainSeal, Sealer};

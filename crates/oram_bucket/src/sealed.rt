@@ -8,7 +8,7 @@ ghost use Rattle.oram_bucket.specs.Opening.{IsOpened};
 
 use crate::block::Block;
 use crate::codec::{BucketFault, decode_bucket, encode_bucket, write_bucket};
-use crate::sealing::{OpenFault, Sealer};
+use crate::sealer::{OpenFault, Sealer};
 use oram_geometry::Device;
 use std::alloc::{AllocError, Global};
 

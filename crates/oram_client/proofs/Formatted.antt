@@ -20,12 +20,12 @@ use Rattle.oram_tree.specs.Format.{IsBrokenOff, PutsAll}
 use Rattle.oram_tree.specs.Parts.{Parts as TreeParts, parts_of}
 use Rattle.oram_tree.specs.State.{State as Tree}
 use Rattle.oram_tree.specs.declared.faults.FormatFault.{FormatFault}
-use Rattle.oram_run.specs.Formatting.{IsFormatBegun}
-use Rattle.oram_run.specs.Shape.{Shape}
-use Rattle.oram_run.specs.State.{State, no_tree}
+use Rattle.oram_semantics.specs.Formatting.{IsFormatBegun}
+use Rattle.oram_semantics.specs.Scheme.{Scheme}
+use Rattle.oram_semantics.specs.State.{State, no_tree}
 use Rattle.oram_core.specs.Formatting.{IsNew}
 use Rattle.oram_client.specs.declared.faults.FormattingFault.{FormattingFault}
-use Rattle.oram_client.specs.declared.naming.TheConstants.{IDENTITY_TREE}
+use Rattle.oram_client.specs.declared.identity.TheConstants.{IDENTITY_TREE}
 use Rattle.oram_client.specs.declared.refusals.Refusal.{Refusal}
 use Rattle.oram_client.specs.Ahead.{ToHost, ArePut, AreTaken, IsAsked, IsDrained, IsPut, IsStopped, IsUnput, dones}
 use Rattle.oram_client.specs.Formatting.{Collects, AreGenuine, AreSeen, AreTreesMade, AreTreesMadeInPart, IsFormattedAhead, IsUnheld, IsUnseen, fetches, paths}
@@ -50,7 +50,7 @@ paths_more : (answers : List (List ℕ)) (records : List ℕ) → paths (answers
 paths_more answers records =
     flat_map-append (λ r. frame (128 ∷ r)) answers (records ∷ []) ∙ ap (λ l. paths answers ++ l) (append-nil (frame (128 ∷ records)))
 
-genuine_more : (v : Shape) (s : State) (n : ℕ) (answers : List (List ℕ)) (records : List ℕ) (d : Sizes) (overhead : ℕ) (root : List ℕ) → length answers ≡ n → AreGenuine v s n answers
+genuine_more : (v : Scheme) (s : State) (n : ℕ) (answers : List (List ℕ)) (records : List ℕ) (d : Sizes) (overhead : ℕ) (root : List ℕ) → length answers ≡ n → AreGenuine v s n answers
     → IsAccepted (path_of d n 0 overhead records) root → d ≡ v.device → overhead ≡ v.overhead → root ≡ (slice_index_or s.trees n no_tree).root → AreGenuine v s (n + 1) (answers ++ records ∷ [])
 genuine_more v s n answers records d overhead root count before accepted device over stands =
     let P = λ (i : ℕ). IsAccepted (path_of v.device i 0 v.overhead (slice_index_or (answers ++ records ∷ []) i [])) (slice_index_or s.trees i no_tree).root in
@@ -81,7 +81,7 @@ module _ {R W : Type 0} (remaining : R → Option (List ℕ)) (contents : W → 
       (before ++ body ∷ [], refl, subst (PutsAll Collects (before ++ body ∷ []) bodies) (append_assoc before (body ∷ []) bodies) (collects_all next bodies b (before ++ body ∷ []) others))
 
   -- a genuine path of one more tree
-  pub seen_more : (v : Shape) (s : State) (n : ℕ) (a b c : ToHost R W) (records : List ℕ) (d : Sizes) (overhead : ℕ) (root : List ℕ) → AreSeen remaining contents v s n a b
+  pub seen_more : (v : Scheme) (s : State) (n : ℕ) (a b c : ToHost R W) (records : List ℕ) (d : Sizes) (overhead : ℕ) (root : List ℕ) → AreSeen remaining contents v s n a b
       → IsAsked remaining contents b (fetch_body n 0) (128 ∷ records) c → IsAccepted (path_of d n 0 overhead records) root
       → d ≡ v.device → overhead ≡ v.overhead → root ≡ (slice_index_or s.trees n no_tree).root → AreSeen remaining contents v s (n + 1) a c
   seen_more v s n a b c records d overhead root seen asked accepted device over stands = record {
@@ -95,7 +95,7 @@ module _ {R W : Type 0} (remaining : R → Option (List ℕ)) (contents : W → 
     genuine = genuine_more v s n seen.answers records d overhead root seen.answers_count seen.genuine accepted device over stands;
   }
 
-  pub made_ahead : (v : Shape) (a : ToHost R W) (s : State) (b : ToHost R W) → IsNew v (IsPut remaining contents) a s b → (messages : List (List ℕ)) × IsNew v Collects [] s messages × ArePut remaining contents a messages b
+  pub made_ahead : (v : Scheme) (a : ToHost R W) (s : State) (b : ToHost R W) → IsNew v (IsPut remaining contents) a s b → (messages : List (List ℕ)) × IsNew v Collects [] s messages × ArePut remaining contents a messages b
   made_ahead v a s b h = (
     h.format,
     record { ranges = h.ranges; format = h.format; puts = collects_all a h.format b [] h.puts; trees = h.trees; formatted = h.formatted; state = h.state },
@@ -103,10 +103,10 @@ module _ {R W : Type 0} (remaining : R → Option (List ℕ)) (contents : W → 
   )
 
   -- All messages were answered then, and a path of each tree was fetched.
-  pub trees_made : (u v : Shape) → u ≡ v → (a b c d : ToHost R W) (s : State) (count : ℕ) → IsNew v (IsPut remaining contents) a s b → IsDrained remaining contents b b.due c
+  pub trees_made : (u v : Scheme) → u ≡ v → (a b c d : ToHost R W) (s : State) (count : ℕ) → IsNew v (IsPut remaining contents) a s b → IsDrained remaining contents b b.due c
       → count ≡ trees_of v.device → AreSeen remaining contents u s count c d → AreTreesMade remaining contents v a s d
   trees_made u v same a b c d s count new drained is seen_so =
-      let seen = subst (λ (w : Shape). AreSeen remaining contents w s count c d) same seen_so in
+      let seen = subst (λ (w : Scheme). AreSeen remaining contents w s count c d) same seen_so in
       let made = made_ahead v a s b new in
       let put = made.2 in
       let all : put.count + b.due ≡ a.due + length made.0 = (let e = put.due in omega arith) in
@@ -128,7 +128,7 @@ module _ {R W : Type 0} (remaining : R → Option (List ℕ)) (contents : W → 
       }
 
   -- No path was fetched yet.
-  pub seen_none : (v : Shape) (s : State) (a : ToHost R W) → AreSeen remaining contents v s 0 a a
+  pub seen_none : (v : Scheme) (s : State) (a : ToHost R W) → AreSeen remaining contents v s 0 a a
   seen_none v s a = record {
     answers = [];
     answers_count = refl;
@@ -139,7 +139,7 @@ module _ {R W : Type 0} (remaining : R → Option (List ℕ)) (contents : W → 
   }
 
   -- There was no genuine path of a tree, for the root digest that the core has.
-  pub unheld_there : (v : Shape) (s : State) (n : ℕ) (a : ToHost R W) (fault : FormattingFault) (b : ToHost R W) (d : Sizes) (overhead : ℕ) (root : List ℕ)
+  pub unheld_there : (v : Scheme) (s : State) (n : ℕ) (a : ToHost R W) (fault : FormattingFault) (b : ToHost R W) (d : Sizes) (overhead : ℕ) (root : List ℕ)
       → IsUnheld remaining contents d overhead root n a fault b → d ≡ v.device → overhead ≡ v.overhead → root ≡ (slice_index_or s.trees n no_tree).root
       → IsUnheld remaining contents v.device v.overhead (slice_index_or s.trees n no_tree).root n a fault b
   unheld_there v s n a fault b d overhead root unheld device over stands =
@@ -148,7 +148,7 @@ module _ {R W : Type 0} (remaining : R → Option (List ℕ)) (contents : W → 
       subst (λ (r : List ℕ). IsUnheld remaining contents v.device v.overhead r n a fault b) stands e
 
   -- The formatting was broken off while messages were put,
-  pub unmade : (v : Shape) (a : ToHost R W) (fault : FormatFault) (b : ToHost R W) → IsBrokenOff (IsPut remaining contents) (IsUnput remaining contents) (IsFormatBegun v) a fault b
+  pub unmade : (v : Scheme) (a : ToHost R W) (fault : FormatFault) (b : ToHost R W) → IsBrokenOff (IsPut remaining contents) (IsUnput remaining contents) (IsFormatBegun v) a fault b
       → AreTreesMadeInPart remaining contents v a (format_told b.refusal fault) b
   unmade v a fault b h = record {
     messages = h.taken;
@@ -164,22 +164,22 @@ module _ {R W : Type 0} (remaining : R → Option (List ℕ)) (contents : W → 
   }
 
   -- or while answers were read,
-  pub unsettled : (v : Shape) (a b c : ToHost R W) (s : State) (why : SinkFault) → IsNew v (IsPut remaining contents) a s b → IsStopped remaining contents b b.due why c
+  pub unsettled : (v : Scheme) (a b c : ToHost R W) (s : State) (why : SinkFault) → IsNew v (IsPut remaining contents) a s b → IsStopped remaining contents b b.due why c
       → AreTreesMadeInPart remaining contents v a (sink_told c.refusal why) c
   unsettled v a b c s why new stopped =
       let made = made_ahead v a s b new in
       record { messages = made.0; mid = b; put = made.2; ended = inr (s, made.1, inl (why, stopped, refl)) }
 
   -- or while paths were fetched.
-  pub unchecked : (u v : Shape) → u ≡ v → (a b c d : ToHost R W) (s : State) (fault : FormattingFault) → IsNew v (IsPut remaining contents) a s b → IsDrained remaining contents b b.due c
+  pub unchecked : (u v : Scheme) → u ≡ v → (a b c d : ToHost R W) (s : State) (fault : FormattingFault) → IsNew v (IsPut remaining contents) a s b → IsDrained remaining contents b b.due c
       → IsUnseen remaining contents u s c fault d → AreTreesMadeInPart remaining contents v a fault d
   unchecked u v same a b c d s fault new drained unseen =
       let made = made_ahead v a s b new in
-      let there = subst (λ (w : Shape). IsUnseen remaining contents w s c fault d) same unseen in
+      let there = subst (λ (w : Scheme). IsUnseen remaining contents w s c fault d) same unseen in
       record { messages = made.0; mid = b; put = made.2; ended = inr (s, made.1, inr (c, drained, there)) }
 
   -- The identity was put, the trees were made, and the host gave back the identity.
-  pub formatted_ahead : (v : Shape) (identity : List ℕ) (a b c d : ToHost R W) (s : State) → AreTaken remaining contents a (identity_messages identity) b → AreTreesMade remaining contents v b s c
+  pub formatted_ahead : (v : Scheme) (identity : List ℕ) (a b c d : ToHost R W) (s : State) → AreTaken remaining contents a (identity_messages identity) b → AreTreesMade remaining contents v b s c
       → IsAsked remaining contents c (fetch_body IDENTITY_TREE 0) (128 ∷ identity) d → IsFormattedAhead remaining contents v identity a s d
   formatted_ahead v identity a b c d s named made asked =
       let ids = identity_messages identity in

@@ -4,8 +4,8 @@ use Rattle.oram_session.specs.Outcome.{Outcome}
 use Rattle.oram_session.specs.Streams.{StreamCall, ToStreams}
 use Rattle.oram_session.specs.declared.link.LinkFault.{LinkFault}
 use Rattle.oram_client.specs.Dialing.{Asks, IsUngreeted, IsUngreetedOver, Shows, greeting}
-use Rattle.oram_client.specs.declared.dialing.Trouble.{Trouble}
-use Rattle.oram_client.specs.declared.dialing.Trouble.TheVariants.{OutOfReach}
+use Rattle.oram_client.specs.declared.dialer.Trouble.{Trouble}
+use Rattle.oram_client.specs.declared.dialer.Trouble.TheVariants.{OutOfReach}
 
 module _ {S : Type 0} (remaining contents : S → Option (List ℕ)) where
   -- The host was asked.

@@ -4,9 +4,9 @@ use Rattle.std.specs.Prelude.{MatchOption}
 use Rattle.std.specs.List.{FoldsTo}
 use Rattle.std.proofs.lemmas.Fn.{FoldsTo-push}
 use Rattle.oram_session.specs.Outcome.{Outcome}
-use Rattle.oram_client.specs.declared.dialing.Limits.{Limits}
-use Rattle.oram_client.specs.declared.dialing.Trouble.{Trouble}
-use Rattle.oram_client.specs.Patience.{Patient, Attempt, IsTroubleIn, IsDelayed, IsPaused, IsTried, IsUsedUp, Persists, Waiting, first_pause, limits, told}
+use Rattle.oram_client.specs.declared.dialer.Limits.{Limits}
+use Rattle.oram_client.specs.declared.dialer.Trouble.{Trouble}
+use Rattle.oram_client.specs.Patience.{Patient, Attempt, IsTroubleIn, IsDelayed, IsPaused, IsTried, IsUsedUp, Persists, Waiting, first_pause, limits, link_outcome}
 
 module _ {D L : Type 0} (opens : D → Limits → L → D → Type 0) (fails : D → Limits → Trouble → D → Type 0) (pauses : D → ℕ → D → Type 0)
     (reads : D → Option ℕ → D → Type 0) (calls : L → List ℕ → Outcome → L → Type 0) where
@@ -63,7 +63,7 @@ module _ {D L : Type 0} (opens : D → Limits → L → D → Type 0) (fails : D
   pub answered_behind : (begin : Option ℕ) (body : List ℕ) (first : D) (l a b m : Patient D L) (pause left : ℕ) (came : Attempt) (outcome : Outcome)
       → reads l.dialer begin first → Delayed l.patience begin body first l.line a.dialer a.line pause left → a.patience ≡ l.patience → a.trouble ≡ None
       → IsTried opens fails calls a.dialer a.line (limits a.patience left) body came b.dialer b.line → b ≡ record a { dialer = b.dialer; line = b.line }
-      → IsTroubleIn came None → m ≡ b → outcome ≡ told came → Persists opens fails pauses reads calls l body outcome m.dialer m.line m.trouble
+      → IsTroubleIn came None → m ≡ b → outcome ≡ link_outcome came → Persists opens fails pauses reads calls l body outcome m.dialer m.line m.trouble
   answered_behind begin body first l a b m pause left came outcome read (troubles, before) whole none tried after shows told_of says =
       let none_here : m.trouble ≡ None = ap (λ (p : Patient D L). p.trouble) told_of ∙ ap (λ (p : Patient D L). p.trouble) after ∙ none in
       record {
@@ -90,7 +90,7 @@ module _ {D L : Type 0} (opens : D → Limits → L → D → Type 0) (fails : D
       → reads l.dialer begin first → Delayed l.patience begin body first l.line a.dialer a.line pause left → a.patience ≡ l.patience
       → IsTried opens fails calls a.dialer a.line (limits a.patience left) body came b.dialer b.line → b ≡ record a { dialer = b.dialer; line = b.line }
       → IsTroubleIn came (Some trouble) → t ≡ b → IsUsedUp pauses reads t.patience begin t.dialer left trouble w.dialer → w ≡ record t { dialer = w.dialer }
-      → m ≡ record w { trouble = Some trouble } → outcome ≡ told came → Persists opens fails pauses reads calls l body outcome m.dialer m.line m.trouble
+      → m ≡ record w { trouble = Some trouble } → outcome ≡ link_outcome came → Persists opens fails pauses reads calls l body outcome m.dialer m.line m.trouble
   given_up_behind begin body first l a b t w m pause left came trouble outcome read (troubles, before) whole tried after shows told_of used later is says =
       let used_here : IsUsedUp pauses reads l.patience begin b.dialer left trouble m.dialer =
       subst (λ (d : D). IsUsedUp pauses reads l.patience begin b.dialer left trouble d) (ap (λ (p : Patient D L). p.dialer) (sym is))

@@ -1,7 +1,7 @@
 -- The file that is found if a process ends while a file is replaced.
 use Rattle.std.proofs.Common.{◌≡◌, ◌⊎◌, inl, inr, ℕ, Bool, true, false, List, [], ◌∷◌, Option, Some, sym, ◌∙◌, ap}
 use Rattle.oram_client.specs.declared.file_step.FileStep.{FileStep}
-use Rattle.oram_client.specs.Placing.{Deed, Writes, SetsAside, Settles, SyncsFolder, Clears, deeds_of, IsBrokenOff, Names, first_of, found, Makes, Leaves, EndsIn, DoesToNames, FilesStayWhole, FilesOutlastFailures, FilesAreKept}
+use Rattle.oram_client.specs.Placing.{Deed, Writes, SetsAside, Renames, SyncsFolder, Clears, deeds_of, IsBrokenOff, Names, first_of, found, Makes, Leaves, EndsIn, DoesToNames, FilesStayWhole, FilesOutlastFailures, FilesAreKept}
 
 -- The new file is whole, and the file that is found is still the same.
 record IsReady (n : Names) (file : List ℕ) (m : Names) : Type 0 where
@@ -20,7 +20,7 @@ written sync file n m made = record { same = ap found made; fresh = ap (λ (k : 
 set_aside : (file : List ℕ) (n k m : Names) → IsReady n file k → Makes k SetsAside m → IsReady n file m
 set_aside file n k m ready made = record { same = ap found made ∙ ready.same; fresh = ap (λ (k : Names). k.fresh) made ∙ ready.fresh }
 
-settled : (file : List ℕ) (n k m : Names) → IsReady n file k → Makes k Settles m → IsPlaced file m
+settled : (file : List ℕ) (n k m : Names) → IsReady n file k → Makes k Renames m → IsPlaced file m
 settled file n k m ready made = ap (λ (k : Names). k.kept) made.2 ∙ sym made.1 ∙ ready.fresh
 
 cleared : (file : List ℕ) (k m : Names) → IsPlaced file k → Makes k Clears m → IsPlaced file m
@@ -38,19 +38,19 @@ ends_syncing : (file : List ℕ) (k m : Names) → IsPlaced file k → EndsIn k 
 ends_syncing file k m placed (inl same) = stays file k m placed same
 ends_syncing file k m placed (inr more) = ends_clearing file more.0 m (stays file k more.0 placed more.1) more.2
 
-ends_settling : (file : List ℕ) (n k m : Names) → IsReady n file k → Leaves k Settles m → (found m ≡ found n) ⊎ (found m ≡ Some file)
+ends_settling : (file : List ℕ) (n k m : Names) → IsReady n file k → Leaves k Renames m → (found m ≡ found n) ⊎ (found m ≡ Some file)
 ends_settling file n k m ready (inl same) = inl (ap found same ∙ ready.same)
 ends_settling file n k m ready (inr made) = inr (found_placed file m (settled file n k m ready made))
 
-ends_replacing : (file : List ℕ) (n k m : Names) → IsReady n file k → EndsIn k (Settles ∷ SyncsFolder ∷ Clears ∷ []) m → (found m ≡ found n) ⊎ (found m ≡ Some file)
+ends_replacing : (file : List ℕ) (n k m : Names) → IsReady n file k → EndsIn k (Renames ∷ SyncsFolder ∷ Clears ∷ []) m → (found m ≡ found n) ⊎ (found m ≡ Some file)
 ends_replacing file n k m ready (inl left) = ends_settling file n k m ready left
 ends_replacing file n k m ready (inr more) = inr (found_placed file m (ends_syncing file more.0 m (settled file n k more.0 ready more.1) more.2))
 
-ends_renaming : (file : List ℕ) (n k m : Names) → IsReady n file k → EndsIn k (Settles ∷ Clears ∷ []) m → (found m ≡ found n) ⊎ (found m ≡ Some file)
+ends_renaming : (file : List ℕ) (n k m : Names) → IsReady n file k → EndsIn k (Renames ∷ Clears ∷ []) m → (found m ≡ found n) ⊎ (found m ≡ Some file)
 ends_renaming file n k m ready (inl left) = ends_settling file n k m ready left
 ends_renaming file n k m ready (inr more) = inr (found_placed file m (ends_clearing file more.0 m (settled file n k more.0 ready more.1) more.2))
 
-ends_moving : (file : List ℕ) (n k m : Names) → IsReady n file k → EndsIn k (SetsAside ∷ Settles ∷ Clears ∷ []) m → (found m ≡ found n) ⊎ (found m ≡ Some file)
+ends_moving : (file : List ℕ) (n k m : Names) → IsReady n file k → EndsIn k (SetsAside ∷ Renames ∷ Clears ∷ []) m → (found m ≡ found n) ⊎ (found m ≡ Some file)
 ends_moving file n k m ready (inl (inl same)) = inl (ap found same ∙ ready.same)
 ends_moving file n k m ready (inl (inr made)) = inl ((set_aside file n k m ready made).same)
 ends_moving file n k m ready (inr more) = ends_renaming file n more.0 m (set_aside file n k more.0 ready more.1) more.2

@@ -17,7 +17,7 @@ pub record ToHost (R W : Type 0) : Type 0 where
   pub reader : R
   pub writer : W
   pub due : ℕ  -- how many messages have no answer yet
-  pub refusal : Option Refusal  -- what an answer meant that wasn't that the host is done, once there was one
+  pub refusal : Option Refusal  -- the meaning of the answer that wasn't done, if there was one
 
 -- the most messages that may be without an answer
 abbrev pub most_due : ℕ

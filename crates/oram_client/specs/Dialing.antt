@@ -4,14 +4,14 @@ use Rattle.oram_wire.specs.HostMessages.{fetch_body, answer_body}
 use Rattle.oram_wire.specs.declared.host_messages.HostAnswer.TheVariants.{Payload, Refused}
 use Rattle.oram_host.specs.Refusals.{code_of}
 use Rattle.oram_host.specs.declared.refusals.HostRefusal.TheVariants as refusal
-use Rattle.oram_edge.specs.declared.hosts.HostFault.{HostFault}
-use Rattle.oram_edge.specs.declared.hosts.HostFault.TheVariants as host
+use Rattle.oram_cli.specs.declared.hosts.HostFault.{HostFault}
+use Rattle.oram_cli.specs.declared.hosts.HostFault.TheVariants as host
 use Rattle.oram_session.specs.Outcome.{Outcome}
 use Rattle.oram_session.specs.Streams.{StreamCall, ToStreams}
 use Rattle.oram_session.specs.declared.link.LinkFault.{LinkFault}
 use Rattle.oram_session.specs.declared.link.LinkFault.TheVariants.{Io, Closed, OutOfMemory}
-use Rattle.oram_client.specs.declared.dialing.Trouble.{Trouble}
-use Rattle.oram_client.specs.declared.dialing.Trouble.TheVariants.{OutOfReach, NoRoom, AnotherDisk, NoDisk}
+use Rattle.oram_client.specs.declared.dialer.Trouble.{Trouble}
+use Rattle.oram_client.specs.declared.dialer.Trouble.TheVariants.{OutOfReach, NoRoom, AnotherDisk, NoDisk}
 
 -- whether a trouble may pass while one waits
 abbrev pub may_pass : Trouble → Bool

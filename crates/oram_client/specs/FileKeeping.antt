@@ -9,7 +9,7 @@ pub record FileKeeping (P : Type 0) : Type 0 where
   pub place : P
   pub head : Head  -- stands in each file, in front of the state
   pub sync : Bool
-  pub failure : Option FileFailure  -- why a state was not kept, once one wasn't
+  pub failure : Option FileFailure  -- why the last state was not kept, if it was not
 
 -- for places where deeds are done, or fail, by `does`
 module _ {P : Type 0} (does : P → Deed → Bool → P → Type 0) where

@@ -8,13 +8,13 @@ use Rattle.oram_wire.specs.FrameStream.{frame}
 use Rattle.oram_wire.specs.HostMessages.{fetch_body}
 use Rattle.oram_wire.specs.declared.sinks.SinkFault.{SinkFault}
 use Rattle.oram_hash.specs.Path.{IsAccepted, path_of}
-use Rattle.oram_run.specs.Formatting.{IsFormatBegun}
-use Rattle.oram_run.specs.Shape.{Shape}
-use Rattle.oram_run.specs.State.{State, no_tree}
+use Rattle.oram_semantics.specs.Formatting.{IsFormatBegun}
+use Rattle.oram_semantics.specs.Scheme.{Scheme}
+use Rattle.oram_semantics.specs.State.{State, no_tree}
 use Rattle.oram_core.specs.Formatting.{IsNew}
 use Rattle.oram_client.specs.declared.faults.FormattingFault.{FormattingFault}
-use Rattle.oram_client.specs.declared.faults.FormattingFault.TheVariants.{Unheld, OutOfMemory}
-use Rattle.oram_client.specs.declared.naming.TheConstants.{IDENTITY_TREE}
+use Rattle.oram_client.specs.declared.faults.FormattingFault.TheVariants.{NotStored, OutOfMemory}
+use Rattle.oram_client.specs.declared.identity.TheConstants.{IDENTITY_TREE}
 use Rattle.oram_client.specs.Ahead.{ToHost, ArePut, AreTaken, IsAsked, IsDrained, IsStopped, IsUnasked, IsUnput, dones}
 use Rattle.oram_client.specs.Faults.{sink_told}
 use Rattle.oram_client.specs.Naming.{IsUnnamed, IsUnrecognized, identity_messages}
@@ -32,7 +32,7 @@ abbrev pub paths : List (List ℕ) → List ℕ
 paths answers = flat_map (λ records. frame (128 ∷ records)) answers
 
 -- `answers` are the records of a path of each of the first `count` trees, and each path has the tree's root digest.
-abbrev pub AreGenuine : Shape → State → ℕ → List (List ℕ) → Type 0
+abbrev pub AreGenuine : Scheme → State → ℕ → List (List ℕ) → Type 0
 AreGenuine v s count answers =
     (i : ℕ) → i < count → IsAccepted (path_of v.device i 0 v.overhead (slice_index_or answers i [])) (slice_index_or s.trees i no_tree).root
 
@@ -44,7 +44,7 @@ IsFalse d overhead root tree answer =
 -- for readers and writers whose bytes `remaining` and `contents` give
 module _ {R W : Type 0} (remaining : R → Option (List ℕ)) (contents : W → Option (List ℕ)) where
   -- A path of each of the first `count` trees was fetched, and is genuine.
-  pub record AreSeen (v : Shape) (s : State) (count : ℕ) (a b : ToHost R W) : Type 0 where
+  pub record AreSeen (v : Scheme) (s : State) (count : ℕ) (a b : ToHost R W) : Type 0 where
     pub answers : List (List ℕ)
     pub answers_count : length answers ≡ count
     pub due : b.due ≡ a.due
@@ -56,11 +56,11 @@ module _ {R W : Type 0} (remaining : R → Option (List ℕ)) (contents : W → 
   abbrev pub IsUnheld : Sizes → ℕ → List ℕ → ℕ → ToHost R W → FormattingFault → ToHost R W → Type 0
   IsUnheld d overhead root tree a fault b =
       ((why : SinkFault) × IsUnasked remaining contents a (fetch_body tree 0) why b × (fault ≡ sink_told b.refusal why))
-      ⊎ ((answer : List ℕ) × IsAsked remaining contents a (fetch_body tree 0) answer b × IsFalse d overhead root tree answer × (fault ≡ Unheld))
+      ⊎ ((answer : List ℕ) × IsAsked remaining contents a (fetch_body tree 0) answer b × IsFalse d overhead root tree answer × (fault ≡ NotStored))
 
   -- Genuine paths of the first trees were fetched. Then memory ran out elsewhere, or there was no genuine path of the
   -- next tree.
-  pub record IsUnseen (v : Shape) (s : State) (a : ToHost R W) (fault : FormattingFault) (b : ToHost R W) : Type 0 where
+  pub record IsUnseen (v : Scheme) (s : State) (a : ToHost R W) (fault : FormattingFault) (b : ToHost R W) : Type 0 where
     pub count : ℕ
     pub mid : ToHost R W
     pub seen : AreSeen v s count a mid
@@ -69,7 +69,7 @@ module _ {R W : Type 0} (remaining : R → Option (List ℕ)) (contents : W → 
 
   -- The messages that make the device's trees were written, and then those that fetch a path of each. The host is done
   -- with the former, and the paths are genuine.
-  pub record AreTreesMade (v : Shape) (a : ToHost R W) (s : State) (b : ToHost R W) : Type 0 where
+  pub record AreTreesMade (v : Scheme) (a : ToHost R W) (s : State) (b : ToHost R W) : Type 0 where
     pub messages : List (List ℕ)
     pub new : IsNew v Collects [] s messages
     pub answers : List (List ℕ)
@@ -81,7 +81,7 @@ module _ {R W : Type 0} (remaining : R → Option (List ℕ)) (contents : W → 
 
   -- These messages are the first ones of those that make the device's trees. Then memory ran out elsewhere, or the next
   -- message wasn't put.
-  abbrev pub IsUnmade : Shape → List (List ℕ) → ToHost R W → FormattingFault → ToHost R W → Type 0
+  abbrev pub IsUnmade : Scheme → List (List ℕ) → ToHost R W → FormattingFault → ToHost R W → Type 0
   IsUnmade v messages a fault b =
       IsFormatBegun v messages
       × (((fault ≡ OutOfMemory) × (b ≡ a))
@@ -90,13 +90,13 @@ module _ {R W : Type 0} (remaining : R → Option (List ℕ)) (contents : W → 
 
   -- All messages that make the trees were written. Then reading the answers that were due stopped; or all were read,
   -- and there was no genuine path of some tree.
-  abbrev pub IsUnchecked : Shape → State → ToHost R W → FormattingFault → ToHost R W → Type 0
+  abbrev pub IsUnchecked : Scheme → State → ToHost R W → FormattingFault → ToHost R W → Type 0
   IsUnchecked v s a fault b =
       ((why : SinkFault) × IsStopped remaining contents a a.due why b × (fault ≡ sink_told b.refusal why))
       ⊎ ((mid : ToHost R W) × IsDrained remaining contents a a.due mid × IsUnseen v s mid fault b)
 
   -- Making the trees was broken off, while their messages were put or afterwards.
-  pub record AreTreesMadeInPart (v : Shape) (a : ToHost R W) (fault : FormattingFault) (b : ToHost R W) : Type 0 where
+  pub record AreTreesMadeInPart (v : Scheme) (a : ToHost R W) (fault : FormattingFault) (b : ToHost R W) : Type 0 where
     pub messages : List (List ℕ)
     pub mid : ToHost R W
     pub put : ArePut remaining contents a messages mid
@@ -105,7 +105,7 @@ module _ {R W : Type 0} (remaining : R → Option (List ℕ)) (contents : W → 
   -- The messages of the identity were written, then those that make the device's trees, those that fetch a path of
   -- each, and the one that fetches the identity. The host is done with those that put something, the paths are genuine,
   -- and the host gave back the identity.
-  pub record IsFormattedAhead (v : Shape) (identity : List ℕ) (a : ToHost R W) (s : State) (b : ToHost R W) : Type 0 where
+  pub record IsFormattedAhead (v : Scheme) (identity : List ℕ) (a : ToHost R W) (s : State) (b : ToHost R W) : Type 0 where
     pub messages : List (List ℕ)
     pub new : IsNew v Collects [] s messages
     pub answers : List (List ℕ)
@@ -118,7 +118,7 @@ module _ {R W : Type 0} (remaining : R → Option (List ℕ)) (contents : W → 
     pub genuine : AreGenuine v s (trees_of v.device) answers
 
   -- A formatting was broken off: while it put the identity, while it made the trees, or when it fetched the identity.
-  abbrev pub IsFormattedInPart : Shape → List ℕ → ToHost R W → FormattingFault → ToHost R W → Type 0
+  abbrev pub IsFormattedInPart : Scheme → List ℕ → ToHost R W → FormattingFault → ToHost R W → Type 0
   IsFormattedInPart v identity a fault b =
       IsUnnamed remaining contents identity a fault b
       ⊎ ((named : ToHost R W) × AreTaken remaining contents a (identity_messages identity) named × AreTreesMadeInPart v named fault b)

@@ -3,8 +3,8 @@ use Rattle.std.specs.Prelude.{◌≡◌, ◌≢◌, ℕ, ◌⊎◌, List, [], �
 use Rattle.oram_wire.specs.HostMessages.{fetch_body, put_body, shape_body}
 use Rattle.oram_wire.specs.declared.sinks.SinkFault.{SinkFault}
 use Rattle.oram_client.specs.declared.faults.FormattingFault.{FormattingFault}
-use Rattle.oram_client.specs.declared.faults.FormattingFault.TheVariants.{Unheld, OutOfMemory}
-use Rattle.oram_client.specs.declared.naming.TheConstants.{IDENTITY_TREE, IDENTITY_LEN}
+use Rattle.oram_client.specs.declared.faults.FormattingFault.TheVariants.{NotStored, OutOfMemory}
+use Rattle.oram_client.specs.declared.identity.TheConstants.{IDENTITY_TREE, IDENTITY_LEN}
 use Rattle.oram_client.specs.Ahead.{ToHost, AreUntaken, IsAsked, IsUnasked}
 use Rattle.oram_client.specs.Faults.{sink_told}
 
@@ -25,4 +25,4 @@ module _ {R W : Type 0} (remaining : R → Option (List ℕ)) (contents : W → 
   abbrev pub IsUnrecognized : List ℕ → ToHost R W → FormattingFault → ToHost R W → Type 0
   IsUnrecognized identity a fault b =
       ((why : SinkFault) × IsUnasked remaining contents a (fetch_body IDENTITY_TREE 0) why b × (fault ≡ sink_told b.refusal why))
-      ⊎ ((answer : List ℕ) × IsAsked remaining contents a (fetch_body IDENTITY_TREE 0) answer b × (answer ≢ 128 ∷ identity) × (fault ≡ Unheld))
+      ⊎ ((answer : List ℕ) × IsAsked remaining contents a (fetch_body IDENTITY_TREE 0) answer b × (answer ≢ 128 ∷ identity) × (fault ≡ NotStored))

@@ -5,9 +5,9 @@ use Rattle.std.specs.List.{FoldsTo}
 use Rattle.oram_session.specs.Outcome.{Outcome, faults_after}
 use Rattle.oram_session.specs.declared.link.LinkFault.TheVariants.{Closed}
 use Rattle.oram_client.specs.Dialing.{may_pass, fault_of, no_room}
-use Rattle.oram_client.specs.declared.dialing.Limits.{Limits}
-use Rattle.oram_client.specs.declared.dialing.Trouble.{Trouble}
-use Rattle.oram_client.specs.declared.dialing.Trouble.TheVariants.{OutOfReach, NoRoom}
+use Rattle.oram_client.specs.declared.dialer.Limits.{Limits}
+use Rattle.oram_client.specs.declared.dialer.Trouble.{Trouble}
+use Rattle.oram_client.specs.declared.dialer.Trouble.TheVariants.{OutOfReach, NoRoom}
 
 -- a patient link: what opens its connections, the open connection, and times in milliseconds
 pub record Patient (D L : Type 0) : Type 0 where
@@ -33,9 +33,9 @@ IsTroubleIn (Ok answer) (Some trouble) = (answer ≡ no_room) × (trouble ≡ No
 IsTroubleIn (Err why) trouble = trouble ≡ Some why
 
 -- what the caller receives for an attempt
-abbrev pub told : Attempt → Outcome
-told (Ok answer) = Ok answer
-told (Err trouble) = Err (fault_of trouble)
+abbrev pub link_outcome : Attempt → Outcome
+link_outcome (Ok answer) = Ok answer
+link_outcome (Err trouble) = Err (fault_of trouble)
 
 -- the first pause, and the longest
 abbrev pub first_pause : ℕ
@@ -109,7 +109,7 @@ pub record Waiting (D L : Type 0) : Type 0 where
   pub dialer : D
   pub line : Option L
   pub pause : ℕ  -- the next one
-  pub left : ℕ  -- of the patience
+  pub left : ℕ  -- what is left of the patience
 
 -- for dialers and connections that do all of this by these relations
 module _ {D L : Type 0} (opens : D → Limits → L → D → Type 0) (fails : D → Limits → Trouble → D → Type 0) (pauses : D → ℕ → D → Type 0)
@@ -136,7 +136,7 @@ module _ {D L : Type 0} (opens : D → Limits → L → D → Type 0) (fails : D
     pub tried : IsTried opens fails calls last.dialer last.line (limits l.patience last.left) body came mid line
     pub shows : IsTroubleIn came trouble
     pub ends : MatchOption trouble (dialer ≡ mid) (λ why. IsUsedUp pauses reads l.patience begin mid last.left why dialer)
-    pub says : outcome ≡ told came
+    pub says : outcome ≡ link_outcome came
 
   -- A link that has given up tries nothing.
   pub record IsGivenUp (l : Patient D L) (outcome : Outcome) (dialer : D) (line : Option L) (trouble : Option Trouble) : Type 0 where

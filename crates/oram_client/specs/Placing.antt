@@ -7,21 +7,21 @@ use Rattle.oram_client.specs.declared.file_step.FileStep.TheVariants as step
 pub data Deed : Type 0 where
   Writes : Bool → List ℕ → Deed  -- the new one; true where it is synced too
   SetsAside : Deed  -- the file, if there is one
-  Settles : Deed  -- the new one takes the file's place
+  Renames : Deed  -- the new one takes the file's place
   SyncsFolder : Deed
   Clears : Deed  -- the one that was set aside goes
 
 -- Without sync, no rename replaces the old file: some file systems would then write the new one to the disk first, and
 -- each keeping would wait for that.
 abbrev pub deeds_of : Bool → List ℕ → List Deed
-deeds_of true file = Writes true file ∷ Settles ∷ SyncsFolder ∷ Clears ∷ []
-deeds_of false file = Writes false file ∷ SetsAside ∷ Settles ∷ Clears ∷ []
+deeds_of true file = Writes true file ∷ Renames ∷ SyncsFolder ∷ Clears ∷ []
+deeds_of false file = Writes false file ∷ SetsAside ∷ Renames ∷ Clears ∷ []
 
 -- the steps in which a deed may fail
 abbrev pub IsStepOf : Deed → FileStep → Type 0
 IsStepOf (Writes sync file) at = (at ≡ step.Create) ⊎ (at ≡ step.Write) ⊎ ((sync ≡ true) × (at ≡ step.Sync))
 IsStepOf SetsAside at = at ≡ step.SetAside
-IsStepOf Settles at = at ≡ step.Rename
+IsStepOf Renames at = at ≡ step.Rename
 IsStepOf SyncsFolder at = at ≡ step.SyncFolder
 IsStepOf Clears at = at ≡ step.Clear
 
@@ -56,7 +56,7 @@ found n = first_of n.kept n.aside
 abbrev pub Makes : Names → Deed → Names → Type 0
 Makes n (Writes sync file) m = m ≡ record n { fresh = Some file }
 Makes n SetsAside m = m ≡ record n { kept = None; aside = first_of n.kept n.aside }
-Makes n Settles m = (file : List ℕ) × (n.fresh ≡ Some file) × (m ≡ record n { kept = Some file; fresh = None })
+Makes n Renames m = (file : List ℕ) × (n.fresh ≡ Some file) × (m ≡ record n { kept = Some file; fresh = None })
 Makes n SyncsFolder m = m ≡ n
 Makes n Clears m = m ≡ record n { aside = None }
 
@@ -65,7 +65,7 @@ Makes n Clears m = m ≡ record n { aside = None }
 abbrev pub Leaves : Names → Deed → Names → Type 0
 Leaves n (Writes sync file) m = (torn : Option (List ℕ)) × (m ≡ record n { fresh = torn })
 Leaves n SetsAside m = (m ≡ n) ⊎ Makes n SetsAside m
-Leaves n Settles m = (m ≡ n) ⊎ Makes n Settles m
+Leaves n Renames m = (m ≡ n) ⊎ Makes n Renames m
 Leaves n SyncsFolder m = m ≡ n
 Leaves n Clears m = (m ≡ n) ⊎ Makes n Clears m
 

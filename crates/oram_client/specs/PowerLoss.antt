@@ -1,6 +1,6 @@
 -- The file that is found after the machine has lost its power.
 use Rattle.std.specs.Prelude.{◌≡◌, ◌⊎◌, ℕ, Bool, true, false, List, [], ◌∷◌, Option, None, Some, ⊤, MatchBool}
-use Rattle.oram_client.specs.Placing.{Deed, Writes, SetsAside, Settles, SyncsFolder, Clears, Names, deeds_of, found}
+use Rattle.oram_client.specs.Placing.{Deed, Writes, SetsAside, Renames, SyncsFolder, Clears, Names, deeds_of, found}
 
 -- a file: once it is synced, its bytes are on the disk
 pub record File : Type 0 where
@@ -14,7 +14,7 @@ pub record Folder : Type 0 where
   pub aside : Option File
 
 -- the folder as processes see it now, and as it was at each moment since it was last synced
-pub record Disk : Type 0 where
+pub record FolderHistory : Type 0 where
   pub now : Folder
   pub before : List Folder
 
@@ -30,16 +30,16 @@ MayStand name (moment ∷ moments) read = MayRead (name moment) read ⊎ MayStan
 
 -- After a loss of power each name has the file that it had at any moment since the folder was last synced, whatever the
 -- others have.
-pub record IsLeftByLoss (d : Disk) (m : Names) : Type 0 where
+pub record IsLeftByLoss (d : FolderHistory) (m : Names) : Type 0 where
   pub kept : MayStand (λ f. f.kept) (d.now ∷ d.before) m.kept
   pub fresh : MayStand (λ f. f.fresh) (d.now ∷ d.before) m.fresh
   pub aside : MayStand (λ f. f.aside) (d.now ∷ d.before) m.aside
 
 -- Whatever a loss of power leaves, this file is found.
-abbrev pub IsSure : Disk → Option (List ℕ) → Type 0
+abbrev pub IsSure : FolderHistory → Option (List ℕ) → Type 0
 IsSure d file = (m : Names) → IsLeftByLoss d m → found m ≡ file
 
-abbrev pub changed : Disk → Folder → Disk
+abbrev pub changed : FolderHistory → Folder → FolderHistory
 changed d folder = record { now = folder; before = d.now ∷ d.before }
 
 abbrev pub first_file : Option File → Option File → Option File
@@ -47,32 +47,32 @@ first_file None aside = aside
 first_file (Some file) aside = Some file
 
 -- a disk after a deed
-abbrev pub behind : Disk → Deed → Disk
-behind d (Writes sync bytes) = changed d (record d.now { fresh = Some (record { synced = sync; bytes = bytes }) })
-behind d SetsAside = changed d (record d.now { kept = None; aside = first_file d.now.kept d.now.aside })
-behind d Settles = changed d (record d.now { kept = d.now.fresh; fresh = None })
-behind d SyncsFolder = record d { before = [] }
-behind d Clears = changed d (record d.now { aside = None })
+abbrev pub after_deed : FolderHistory → Deed → FolderHistory
+after_deed d (Writes sync bytes) = changed d (record d.now { fresh = Some (record { synced = sync; bytes = bytes }) })
+after_deed d SetsAside = changed d (record d.now { kept = None; aside = first_file d.now.kept d.now.aside })
+after_deed d Renames = changed d (record d.now { kept = d.now.fresh; fresh = None })
+after_deed d SyncsFolder = record d { before = [] }
+after_deed d Clears = changed d (record d.now { aside = None })
 
-abbrev pub behind_all : Disk → List Deed → Disk
-behind_all d [] = d
-behind_all d (deed ∷ deeds) = behind_all (behind d deed) deeds
+abbrev pub after_deeds : FolderHistory → List Deed → FolderHistory
+after_deeds d [] = d
+after_deeds d (deed ∷ deeds) = after_deeds (after_deed d deed) deeds
 
 -- a disk during a deed: a file isn't synced before it is whole
-abbrev pub amid : Disk → Deed → Disk
-amid d (Writes sync bytes) = behind d (Writes false bytes)
-amid d deed = d
+abbrev pub during_deed : FolderHistory → Deed → FolderHistory
+during_deed d (Writes sync bytes) = after_deed d (Writes false bytes)
+during_deed d deed = d
 
 -- The machine loses its power during one of the deeds, or after all of them, and leaves this.
-abbrev pub LosesPowerIn : Disk → List Deed → Names → Type 0
+abbrev pub LosesPowerIn : FolderHistory → List Deed → Names → Type 0
 LosesPowerIn d [] m = IsLeftByLoss d m
-LosesPowerIn d (deed ∷ deeds) m = IsLeftByLoss (amid d deed) m ⊎ LosesPowerIn (behind d deed) deeds m
+LosesPowerIn d (deed ∷ deeds) m = IsLeftByLoss (during_deed d deed) m ⊎ LosesPowerIn (after_deed d deed) deeds m
 
 -- These deeds keep a file even if the machine loses its power: during them, the file that is found is the one that was
 -- sure before or the new one; after them it is the new one.
 pub record AreLasting (file : List ℕ) (deeds : List Deed) : Type 0 where
-  pub meanwhile : (old : Option (List ℕ)) (d : Disk) → IsSure d old → (m : Names) → LosesPowerIn d deeds m → (found m ≡ old) ⊎ (found m ≡ Some file)
-  pub afterwards : (d : Disk) → IsSure (behind_all d deeds) (Some file)
+  pub meanwhile : (old : Option (List ℕ)) (d : FolderHistory) → IsSure d old → (m : Names) → LosesPowerIn d deeds m → (found m ≡ old) ⊎ (found m ≡ Some file)
+  pub afterwards : (d : FolderHistory) → IsSure (after_deeds d deeds) (Some file)
 
 -- The deeds that write a file with sync do so.
 abbrev pub SyncedFilesLast : Type 0
@@ -80,5 +80,5 @@ SyncedFilesLast = (file : List ℕ) → AreLasting file (deeds_of true file)
 
 -- Without one of the two syncs they don't.
 abbrev pub SyncsAreNeeded : Type 0
-SyncsAreNeeded = (file : List ℕ) → (¬ AreLasting file (Writes false file ∷ Settles ∷ SyncsFolder ∷ Clears ∷ []))
-    × (¬ AreLasting file (Writes true file ∷ Settles ∷ Clears ∷ []))
+SyncsAreNeeded = (file : List ℕ) → (¬ AreLasting file (Writes false file ∷ Renames ∷ SyncsFolder ∷ Clears ∷ []))
+    × (¬ AreLasting file (Writes true file ∷ Renames ∷ Clears ∷ []))

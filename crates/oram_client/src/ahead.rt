@@ -1,5 +1,5 @@
 //! A connection that sends messages to a host ahead of its answers.
-ghost use Rattle.std.specs.Prelude.{◌≡◌, ◌↔◌, ◌+◌, ◌<◌, ◌≤◌, ℕ, [], ◌∷◌, None, IfErr, IfOk, IsTrue, MatchBool, OnOk};
+ghost use Rattle.std.specs.Prelude.{◌≡◌, ◌+◌, ◌<◌, ◌≤◌, ℕ, [], ◌∷◌, None, IfErr, IfOk, MatchBool, OnOk};
 ghost use Rattle.std.specs.Io.KnownBytes.{Appends, Consumes, Keeps};
 ghost use Rattle.oram_wire.specs.FrameStream.{frame};
 ghost use Rattle.oram_wire.specs.HostMessages.{fetch_body};
@@ -8,7 +8,7 @@ ghost use Rattle.oram_client.specs.Ahead.{GivesNone, IsAsked, IsDrained, IsStopp
 use crate::refusals::Refusal;
 use oram_geometry::Device;
 use oram_wire::{
-    FrameFault, GOOD, LONGEST_BODY, Sink, SinkFault, WriteFault, fetch_header, next_frame,
+    FrameFault, LONGEST_BODY, Sink, SinkFault, WriteFault, fetch_header, is_done, next_frame,
     put_frame,
 };
 use std::alloc::Global;
@@ -59,13 +59,6 @@ fn messages_of(device: &Device) -> u64 {
         messages = messages.saturating_add(2 << device.depth(tree));
     }
     messages
-}
-
-/// Returns whether an answer is the one byte by which a host says that it is done.
-fn is_done(answer: &[u8]) -> bool
-    ensures { IsTrue result ↔ (answer.now ≡ 128 ∷ []) }
-{
-    answer == [GOOD].as_slice()
 }
 
 impl<R, W, P> Ahead<R, W, P> {
@@ -203,7 +196,7 @@ impl<R: Read, W: Write, P: Progress> Ahead<R, W, P> {
     }
 
     /// Reads all answers that are due.
-    pub(crate) fn settle(&mut self) -> Result<(), SinkFault>
+    pub(crate) fn await_answers(&mut self) -> Result<(), SinkFault>
         ensures ok { OnOk result (IsDrained R.remaining W.contents self.old self.old.due self.new) }
         ensures err { IfErr result (λ fault. IsStopped R.remaining W.contents self.old self.old.due fault self.new) }
     {

@@ -25,7 +25,7 @@ pub enum FormattingFault {
     Link,
     /// The identity or a path, fetched at the end, isn't what was put there.
     #[error("the host doesn't hold what it was given")]
-    Unheld,
+    NotStored,
     #[error("out of memory")]
     OutOfMemory,
 }

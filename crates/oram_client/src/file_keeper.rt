@@ -3,7 +3,7 @@ ghost use Rattle.std.specs.Prelude.{◌≡◌, None};
 
 use crate::file_step::FileFailure;
 use crate::kept_file::Head;
-use crate::placing::{Place, put_file};
+use crate::place::{Place, put_file};
 use oram_keep::{Keeper, Unkept};
 use std::marker::Model;
 

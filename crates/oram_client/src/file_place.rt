@@ -1,21 +1,17 @@
 //! A place for a file in a folder.
 ghost use Rattle.std.specs.Prelude.{◌≡◌, ◌⊎◌, ◌++◌, codes, string_bytes, IfOk, IfSome};
 
-use crate::file_step::{FileFailure, FileStep, stepped};
+use crate::file_step::{FileFailure, FileStep, step_result};
 use crate::kept_file::{Head, put_kept_file};
-use crate::placing::Place;
-use oram_edge::{FileFault, call_fault};
+use crate::place::Place;
+use oram_cli::{FileFault, call_fault, create_for_owner, new_name};
 use std::alloc::{AllocError, Global};
-use std::fs::{File, OpenFile, OpenOptions};
+use std::fs::{File, OpenFile};
 use std::io::ErrorKind;
 use std::marker::Model;
-use std::os::unix::fs::OpenOptionsExt;
 use std::path::Path;
 use std::rt::Files;
 use std::{fs, io};
-
-/// Only the owner may open the file, since a state shows where each block lies.
-const OWNERS_ALONE: u32 = 0o600;
 
 /// How many times [`kept_bytes`] looks at both names. A file that is being kept meanwhile always has one of the two
 /// names, but may change from one to the other between two looks.
@@ -30,15 +26,6 @@ fn aside_name(alloc: Global, name: &str) -> Result<String, AllocError>
     Ok(aside)
 }
 
-/// Returns the name of the new file.
-fn new_name(alloc: Global, name: &str) -> Result<String, AllocError>
-    ensures { IfOk result (λ new. string_bytes new ≡ name.now ++ codes ".new") }
-{
-    let mut new = String::from_str(alloc, name)?;
-    new.push_str(".new")?;
-    Ok(new)
-}
-
 /// Returns the folder of the file `name`.
 fn folder_of(name: &str) -> &str {
     match Path::new(name).parent() {
@@ -48,7 +35,7 @@ fn folder_of(name: &str) -> &str {
 }
 
 /// Returns `Ok` if the only trouble was that the file doesn't exist.
-fn if_there(done: io::Result<()>) -> io::Result<()> {
+fn ignore_missing(done: io::Result<()>) -> io::Result<()> {
     match done {
         Err(error) if error.kind() == ErrorKind::NotFound => Ok(()),
         done => done,
@@ -98,13 +85,7 @@ impl<R> FilePlace<R> {
 impl<R: Files> FilePlace<R> {
     /// Creates the new file, for the owner alone.
     fn create(&self) -> io::Result<R::File> {
-        let mut options = OpenOptions::new();
-        options
-            .write(true)
-            .create(true)
-            .truncate(true)
-            .mode(OWNERS_ALONE);
-        options.open(&self.rt, self.new_name.as_str())
+        create_for_owner(&self.rt, self.new_name.as_str())
     }
 
     fn rename(&self, from: &str, to: &str) -> io::Result<()> {
@@ -123,32 +104,32 @@ impl<R: Files> Place for FilePlace<R> {
     ghost does = { λ p _ _ q. q ≡ p };
 
     fn write(&mut self, head: &Head, state: &[u8], sync: bool) -> Result<(), FileFailure> {
-        let mut file = stepped(FileStep::Create, self.create())?;
+        let mut file = step_result(FileStep::Create, self.create())?;
         let written = put_kept_file(&mut file, head, state);
-        stepped(FileStep::Write, written)?;
+        step_result(FileStep::Write, written)?;
         if sync {
-            stepped(FileStep::Sync, file.sync_all())?;
+            step_result(FileStep::Sync, file.sync_all())?;
         }
         Ok(())
     }
 
     fn set_aside(&mut self) -> Result<(), FileFailure> {
         let moved = self.rename(self.name.as_str(), self.aside_name.as_str());
-        stepped(FileStep::SetAside, if_there(moved))
+        step_result(FileStep::SetAside, ignore_missing(moved))
     }
 
-    fn settle(&mut self) -> Result<(), FileFailure> {
+    fn rename_into_place(&mut self) -> Result<(), FileFailure> {
         let moved = self.rename(self.new_name.as_str(), self.name.as_str());
-        stepped(FileStep::Rename, moved)
+        step_result(FileStep::Rename, moved)
     }
 
     fn sync_folder(&mut self) -> Result<(), FileFailure> {
-        stepped(FileStep::SyncFolder, self.sync_all())
+        step_result(FileStep::SyncFolder, self.sync_all())
     }
 
     fn clear(&mut self) -> Result<(), FileFailure> {
         let removed = fs::remove_file(&self.rt, self.aside_name.as_str());
-        stepped(FileStep::Clear, if_there(removed))
+        step_result(FileStep::Clear, ignore_missing(removed))
     }
 }
 

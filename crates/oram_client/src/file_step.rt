@@ -76,7 +76,7 @@ impl fmt::Display for FileFailure {
 }
 
 /// Returns the value of a system call, or the failure of `step` if the call failed.
-pub(crate) fn stepped<T>(step: FileStep, given: io::Result<T>) -> Result<T, FileFailure>
+pub(crate) fn step_result<T>(step: FileStep, given: io::Result<T>) -> Result<T, FileFailure>
     ensures ok { IfOk result (λ value. given ≡ Ok value) }
     ensures err { IfErr result (λ failure. failure.step ≡ step) }
 {

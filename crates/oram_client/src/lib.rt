@@ -11,37 +11,37 @@
 #![tactic(auto)]
 
 mod ahead;
-mod dialing;
+mod dialer;
+mod disk_format;
+mod disk_keys;
 mod faults;
 mod file_keeper;
 mod file_place;
 mod file_step;
-mod formatting;
+mod identity;
 mod kept_file;
 mod keys;
-mod naming;
-mod opening;
 mod patient_link;
-mod placing;
+mod place;
 mod refusals;
 mod tcp_dialer;
 mod timed_link;
 
 pub use ahead::{Ahead, Progress};
-pub use dialing::{Dial, Limits, Trouble, Watch, given_up};
+pub use dialer::{Dial, HostWatch, Limits, Trouble, given_up};
+pub use disk_format::format_ahead;
+pub use disk_keys::{Keys, WrongKey, keys_for};
 pub use faults::FormattingFault;
 pub use file_keeper::FileKeeper;
 pub use file_place::{FilePlace, kept_bytes, kept_name};
 pub use file_step::{FileFailure, FileReason, FileStep};
-pub use formatting::format_ahead;
+pub use identity::{IDENTITY_LEN, IDENTITY_TREE};
 pub use kept_file::{Head, KeptFault, KeptFile, SealerKind, put_kept_file, read_kept_file};
 pub use keys::{
     DiskKey, Identity, KeyCheck, Salt, SealerKey, TapeKey, disk_identity, key_check, sealer_key,
     tape_key,
 };
-pub use naming::{IDENTITY_LEN, IDENTITY_TREE};
-pub use opening::{Keys, WrongKey, keys_for};
 pub use patient_link::PatientLink;
-pub use placing::{Place, files_stay_whole, put_file, synced_files_last};
+pub use place::{Place, files_stay_whole, put_file, synced_files_last};
 pub use tcp_dialer::TcpDialer;
 pub use timed_link::TimedLink;

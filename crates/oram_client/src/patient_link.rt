@@ -1,9 +1,9 @@
 //! A link that tries until its host answers.
 ghost use Rattle.std.specs.Prelude.{◌≡◌, ◌*◌, ◌-◌, ◌<◌, ◌≤◌, ◌^◌, [], None, Some, min, IfOk, IfErr, IfSome, IsOk, MatchOption};
 ghost use Rattle.oram_session.specs.Outcome.{Outcome, outcome_of};
-ghost use Rattle.oram_client.specs.Patience.{HasLine, IsPaused, IsTried, IsTroubleIn, IsUsedUp, Passes, PatientCall, Persists, attempt_of, elapsed, left_at, limits, told};
+ghost use Rattle.oram_client.specs.Patience.{HasLine, IsPaused, IsTried, IsTroubleIn, IsUsedUp, Passes, PatientCall, Persists, attempt_of, elapsed, left_at, limits, link_outcome};
 
-use crate::dialing::{Dial, Limits, Trouble, Watch};
+use crate::dialer::{Dial, HostWatch, Limits, Trouble};
 use oram_host::HostRefusal;
 use oram_session::{Link, LinkFault};
 use oram_wire::REFUSED;
@@ -24,14 +24,14 @@ const MOST_SILENCE: u64 = 60_000;
 
 /// Reports to the watch, and each trouble only once until the host has answered again.
 #[derive(Debug, Drop)]
-struct News<W> {
+struct TroubleReporter<W> {
     watch: W,
     lost: bool,
     full: bool,
 }
 
-impl<W: Watch> News<W> {
-    fn tell_trouble(&mut self, trouble: Trouble) {
+impl<W: HostWatch> TroubleReporter<W> {
+    fn report_trouble(&mut self, trouble: Trouble) {
         match trouble {
             Trouble::OutOfReach(_) => {
                 if !self.lost {
@@ -49,7 +49,7 @@ impl<W: Watch> News<W> {
         }
     }
 
-    fn tell_answer(&mut self) {
+    fn report_answer(&mut self) {
         if self.lost || self.full {
             self.lost = false;
             self.full = false;
@@ -78,7 +78,7 @@ struct Wait {
 #[derive(Debug, Drop)]
 pub struct PatientLink<D: Dial, W> {
     dialer: D,
-    news: News<W>,
+    news: TroubleReporter<W>,
     line: Option<D::Line>,
     /// In milliseconds.
     patience: u64,
@@ -108,8 +108,8 @@ fn trouble_in(came: &Result<Vec<u8>, Trouble>) -> Option<Trouble>
 }
 
 /// Returns what the caller receives for an attempt.
-fn told(came: Result<Vec<u8>, Trouble>) -> Result<Vec<u8>, LinkFault>
-    ensures { outcome_of result ≡ told (attempt_of came) }
+fn link_outcome(came: Result<Vec<u8>, Trouble>) -> Result<Vec<u8>, LinkFault>
+    ensures { outcome_of result ≡ link_outcome (attempt_of came) }
 {
     match came {
         Ok(answer) => Ok(answer),
@@ -139,12 +139,12 @@ fn left_at(patience: u64, begin: Option<u64>, left: u64, trouble: Trouble, now: 
     }
 }
 
-impl<D: Dial, W: Watch> PatientLink<D, W> {
+impl<D: Dial, W: HostWatch> PatientLink<D, W> {
     /// Makes a link with no connection yet and with `seconds` of patience. Allocates nothing.
     pub fn new(_alloc: Global, dialer: D, watch: W, seconds: u64) -> PatientLink<D, W>
         ensures { result ≡ record { dialer = dialer; line = None; patience = min (seconds * 1000) (2 ^ 64 - 1); trouble = None; faults = 0 } }
     {
-        let news = News {
+        let news = TroubleReporter {
             watch,
             lost: false,
             full: false,
@@ -171,7 +171,7 @@ impl<D: Dial, W: Watch> PatientLink<D, W> {
     /// up.
     pub fn reach(&mut self, alloc: Global) -> Result<(), Trouble>
         ensures called { (outcome : Outcome) × PatientCall D.opens D.fails D.pauses D.reads D.Line.calls self.old [] outcome self.new }
-        ensures told { MatchOption self.new.trouble (IsOk result) (λ trouble. result ≡ Err trouble) }
+        ensures link_outcome { MatchOption self.new.trouble (IsOk result) (λ trouble. result ≡ Err trouble) }
     {
         let _answer = self.call(alloc, &[]);
         match self.trouble {
@@ -255,16 +255,16 @@ impl<D: Dial, W: Watch> PatientLink<D, W> {
         self.trouble = Some(trouble);
     }
 
-    fn tell_trouble(&mut self, trouble: Trouble)
+    fn report_trouble(&mut self, trouble: Trouble)
         ensures { self.new ≡ self.old }
     {
-        self.news.tell_trouble(trouble);
+        self.news.report_trouble(trouble);
     }
 
-    fn tell_answer(&mut self)
+    fn report_answer(&mut self)
         ensures { self.new ≡ self.old }
     {
-        self.news.tell_answer();
+        self.news.report_answer();
     }
 
     /// Tries until there is an answer to give, or no patience is left. Doesn't count faults.
@@ -283,15 +283,15 @@ impl<D: Dial, W: Watch> PatientLink<D, W> {
         loop {
             let came = self.attempt(alloc, body, wait.left);
             let Some(trouble) = trouble_in(&came) else {
-                self.tell_answer();
-                return told(came);
+                self.report_answer();
+                return link_outcome(came);
             };
-            self.tell_trouble(trouble);
+            self.report_trouble(trouble);
             match self.wait(begin, wait, trouble) {
                 Some(next) => wait = next,
                 None => {
                     self.give_up(trouble);
-                    return told(came);
+                    return link_outcome(came);
                 }
             }
         }
@@ -310,7 +310,7 @@ impl<D: Dial, W: Watch> PatientLink<D, W> {
     }
 }
 
-impl<D: Dial, W: Watch> Link for PatientLink<D, W> {
+impl<D: Dial, W: HostWatch> Link for PatientLink<D, W> {
     ghost calls = { λ l body outcome m. PatientCall D.opens D.fails D.pauses D.reads D.Line.calls l body outcome m };
 
     ghost fault_count = { λ l. l.faults };

@@ -4,11 +4,11 @@ ghost use Rattle.oram_wire.specs.HostMessages.{answer_body};
 ghost use Rattle.oram_wire.specs.declared.host_messages.HostAnswer.TheVariants.{Payload};
 ghost use Rattle.oram_client.specs.Dialing.{Shows, IsGreetedOver, IsUngreetedOver};
 
-use crate::dialing::{Dial, Limits, Trouble};
-use crate::naming::IDENTITY_TREE;
+use crate::dialer::{Dial, Limits, Trouble};
+use crate::identity::IDENTITY_TREE;
 use crate::patient_link::elapsed;
 use crate::timed_link::{TimedLink, milliseconds};
-use oram_edge::connect_within;
+use oram_cli::connect_within;
 use oram_host::HostRefusal;
 use oram_session::{Link, LinkFault};
 use oram_wire::{GOOD, REFUSED, fetch_header};

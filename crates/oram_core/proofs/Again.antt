@@ -6,10 +6,10 @@ use Rattle.oram_geometry.specs.declared.Sizes.{Sizes}
 use Rattle.oram_bucket.specs.Cell.{IsRising}
 use Rattle.oram_tree.specs.State.{State as Tree}
 use Rattle.oram_tree.specs.Parts.{parts_of as tree_parts}
-use Rattle.oram_run.specs.Agree.{TicketsFrom}
-use Rattle.oram_run.specs.State.{State, failed_state, no_tree}
-use Rattle.oram_run.specs.declared.events.Reason.{Reason}
-use Rattle.oram_run.specs.declared.events.Submission.{Submission}
+use Rattle.oram_semantics.specs.Agree.{TicketsFrom}
+use Rattle.oram_semantics.specs.State.{State, failed_state, no_tree}
+use Rattle.oram_semantics.specs.declared.events.Reason.{Reason}
+use Rattle.oram_semantics.specs.declared.events.Submission.{Submission}
 use Rattle.oram_core.specs.Core.{IsSound, IsHealthy, IsWhole}
 use Rattle.oram_core.specs.Parts.{Parts, AreParts, parts_of, pending_of, state_of, submissions_from, trees_from}
 

@@ -6,17 +6,17 @@ use Rattle.oram_geometry.specs.declared.Sizes.{Sizes}
 use Rattle.oram_geometry.specs.Sizes.{trees_of, depth_of, record_len_of}
 use Rattle.oram_geometry.proofs.Measuring.{trees_of-few}
 use Rattle.oram_wire.specs.HostMessages.{store_body}
-use Rattle.oram_run.specs.Content.{block_of, new_leaf, stage_tree}
-use Rattle.oram_run.specs.Messages.{asked}
-use Rattle.oram_run.specs.Moves.{fetch_at, latest}
-use Rattle.oram_run.specs.Blocks.{next_named, kept_of, body_from}
-use Rattle.oram_run.specs.Shape.{Shape}
-use Rattle.oram_run.specs.Progress.Status.{Waiting}
-use Rattle.oram_run.specs.State.{State, status_in, named_now}
-use Rattle.oram_run.specs.declared.events.Note.TheVariants.{Accepted, Taken}
-use Rattle.oram_run.specs.declared.events.Reaction.{Reaction}
-use Rattle.oram_run.specs.declared.events.Reply.{Reply}
-use Rattle.oram_run.specs.declared.events.Submission.{Submission}
+use Rattle.oram_semantics.specs.Content.{block_of, new_leaf, entry_tree}
+use Rattle.oram_semantics.specs.Messages.{requested}
+use Rattle.oram_semantics.specs.Moves.{fetch_at, latest}
+use Rattle.oram_semantics.specs.Blocks.{next_named, kept_of, body_from}
+use Rattle.oram_semantics.specs.Scheme.{Scheme}
+use Rattle.oram_semantics.specs.Progress.Status.{Waiting}
+use Rattle.oram_semantics.specs.State.{State, status_in, named_now}
+use Rattle.oram_semantics.specs.declared.events.Note.TheVariants.{Accepted, Taken}
+use Rattle.oram_semantics.specs.declared.events.Reaction.{Reaction}
+use Rattle.oram_semantics.specs.declared.events.Reply.{Reply}
+use Rattle.oram_semantics.specs.declared.events.Submission.{Submission}
 use Rattle.oram_core.specs.Core.{IsSound, IsPathStore}
 use Rattle.oram_core.specs.Doing.{Done, done, accepted_by, sent_if_idle, fetch_of, first_message, first_messages, fetched_by, finished_by, stored_by, is_misled}
 use Rattle.oram_core.proofs.Heard.{if_ok}
@@ -24,40 +24,40 @@ use Rattle.oram_core.proofs.Small.{named_none}
 use Rattle.oram_core.proofs.Sound.{HasOldest, has_oldest, stage_within, fetched_as, finished_as, stored_as}
 
 -- the number of stages is small
-pub stage_small : (d : Sizes) (o : ℕ) (s : State) → IsSound d o s → s.stage < 26
+pub stage_small : (d : Sizes) (o : ℕ) (s : State) → IsSound d o s → s.entry_number < 26
 stage_small d o s h =
     let few : trees_of d ≤ 13 = trees_of-few d h.ranges in
-    let within : s.stage < 2 * trees_of d = stage_within d o s h in
+    let within : s.entry_number < 2 * trees_of d = stage_within d o s h in
     omega (arith, few, within)
 
 -- the leaf of the outstanding message is one of its tree's
-pub leaf_here : (d : Sizes) (o : ℕ) (s : State) → IsSound d o s → status_in s ≡ Waiting → (asked s.last).leaf < 2 ^ depth_of d (stage_tree d s.stage)
+pub leaf_here : (d : Sizes) (o : ℕ) (s : State) → IsSound d o s → status_in s ≡ Waiting → (requested s.message).leaf < 2 ^ depth_of d (entry_tree d s.entry_number)
 leaf_here d o s h now = (has_oldest d o s h now).work.leaf
 
 -- a path is stored
-pub commit_sound : (d : Sizes) (o : ℕ) (s : State) (tree block leaf named nonce : ℕ) (before table kept last : List ℕ) → IsSound d o s → status_in s ≡ Waiting → s.stage % 2 ≡ 0 → tree ≡ stage_tree d s.stage →
-    length before ≡ d.block_bytes → IsPathStore d o tree (asked s.last).leaf last →
+pub commit_sound : (d : Sizes) (o : ℕ) (s : State) (tree block leaf named nonce : ℕ) (before table kept last : List ℕ) → IsSound d o s → status_in s ≡ Waiting → s.entry_number % 2 ≡ 0 → tree ≡ entry_tree d s.entry_number →
+    length before ≡ d.block_bytes → IsPathStore d o tree (requested s.message).leaf last →
     ((x : Submission) (rest : List Submission) → s.queue ≡ x ∷ rest → (block ≡ block_of d tree x) × (leaf ≡ new_leaf d tree x) × (named ≡ next_named d tree x before)) →
     named ≤ 2 ^ depth_of d (tree - 1) →
-    table ≡ (if s.stage == 0 then slice_set s.table block (leaf + 1) else s.table) → nonce ≡ s.nonce + (depth_of d tree + 1) → kept ≡ kept_of tree before →
-    IsSound d o (record s { table = table; nonce = nonce; stage = s.stage + 1; named = named; before = kept; last = last })
+    table ≡ (if s.entry_number == 0 then slice_set s.table block (leaf + 1) else s.table) → nonce ≡ s.nonce + (depth_of d tree + 1) → kept ≡ kept_of tree before →
+    IsSound d o (record s { table = table; nonce = nonce; entry_number = s.entry_number + 1; held_entry = named; held_data = kept; message = last })
 commit_sound d o s tree block leaf named nonce before table kept last h now even here long sent oldest low t n k =
     let w : HasOldest d s = has_oldest d o s h now in
     let x : Submission = w.oldest in
     let of = oldest x w.rest w.queue in
-    let i : ℕ = stage_tree d s.stage in
+    let i : ℕ = entry_tree d s.entry_number in
     let block_is : block ≡ block_of d i x = of.0 ∙ ap (λ j. block_of d j x) here in
     let leaf_is : leaf ≡ new_leaf d i x = of.1 ∙ ap (λ j. new_leaf d j x) here in
     let named_is : named ≡ next_named d i x before = of.2 ∙ ap (λ j. next_named d j x before) here in
-    let table_is : table ≡ (if s.stage == 0 then slice_set s.table (block_of d i x) (new_leaf d i x + 1) else s.table) =
-    t ∙ ap (λ b. if s.stage == 0 then slice_set s.table b (leaf + 1) else s.table) block_is ∙ ap (λ l. if s.stage == 0 then slice_set s.table (block_of d i x) (l + 1) else s.table) leaf_is in
+    let table_is : table ≡ (if s.entry_number == 0 then slice_set s.table (block_of d i x) (new_leaf d i x + 1) else s.table) =
+    t ∙ ap (λ b. if s.entry_number == 0 then slice_set s.table b (leaf + 1) else s.table) block_is ∙ ap (λ l. if s.entry_number == 0 then slice_set s.table (block_of d i x) (l + 1) else s.table) leaf_is in
     let fits : next_named d i x before ≤ 2 ^ depth_of d (i - 1) = subst (λ (z : ℕ). z ≤ 2 ^ depth_of d (i - 1)) named_is (subst (λ (j : ℕ). named ≤ 2 ^ depth_of d (j - 1)) here low) in
     stored_as d o s x w.rest before sent.records table nonce named kept last h w.healthy w.queue even long (sent.long ∙ ap (λ j. (depth_of d j + 1) * record_len_of d o) here) fits table_is (n ∙ ap (λ j. s.nonce + (depth_of d j + 1)) here) named_is (k ∙ ap (λ j. kept_of j before) here)
-    (sent.body ∙ ap (λ j. store_body j (asked s.last).leaf sent.records) here)
+    (sent.body ∙ ap (λ j. store_body j (requested s.message).leaf sent.records) here)
 
 -- the path of the next tree is fetched
-pub fetch_sound : (d : Sizes) (o : ℕ) (s : State) (last : List ℕ) → IsSound d o s → status_in s ≡ Waiting → s.stage % 2 ≡ 1 → s.stage + 1 < 2 * trees_of d →
-    ((x : Submission) (rest : List Submission) → s.queue ≡ x ∷ rest → last ≡ fetch_of (fetch_at d (s.stage + 1) s.named x)) → IsSound d o (record s { stage = s.stage + 1; last = last })
+pub fetch_sound : (d : Sizes) (o : ℕ) (s : State) (last : List ℕ) → IsSound d o s → status_in s ≡ Waiting → s.entry_number % 2 ≡ 1 → s.entry_number + 1 < 2 * trees_of d →
+    ((x : Submission) (rest : List Submission) → s.queue ≡ x ∷ rest → last ≡ fetch_of (fetch_at d (s.entry_number + 1) s.held_entry x)) → IsSound d o (record s { entry_number = s.entry_number + 1; message = last })
 fetch_sound d o s last h now odd more fetch =
     let w : HasOldest d s = has_oldest d o s h now in
     fetched_as d o s w.oldest w.rest last h w.healthy w.queue odd more (fetch w.oldest w.rest w.queue)
@@ -67,8 +67,8 @@ only_one x [] one = refl
 only_one x (y ∷ rest) one = absurd (omega arith)
 
 -- the last command gets its reply
-pub end_sound : (d : Sizes) (o : ℕ) (s : State) (queue : List Submission) (before last : List ℕ) → IsSound d o s → status_in s ≡ Waiting → s.stage + 1 ≡ 2 * trees_of d → length s.queue ≡ 1 →
-    queue ≡ drop 1 s.queue → before ≡ [] → last ≡ [] → IsSound d o (record s { queue = queue; stage = 0; named = 0; before = before; last = last })
+pub end_sound : (d : Sizes) (o : ℕ) (s : State) (queue : List Submission) (before last : List ℕ) → IsSound d o s → status_in s ≡ Waiting → s.entry_number + 1 ≡ 2 * trees_of d → length s.queue ≡ 1 →
+    queue ≡ drop 1 s.queue → before ≡ [] → last ≡ [] → IsSound d o (record s { queue = queue; entry_number = 0; held_entry = 0; held_data = before; message = last })
 end_sound d o s queue before last h now end alone q b l =
     let w : HasOldest d s = has_oldest d o s h now in
     let none : w.rest ≡ [] = only_one w.oldest w.rest (sym (ap length w.queue) ∙ alone) in
@@ -80,25 +80,25 @@ next_sent d o s x [] last q more next = absurd (omega (arith, ap length q))
 next_sent d o s x (y ∷ rest) last q more next = next x y rest q
 
 -- another command gets its reply, and the next one begins
-pub pass_sound : (d : Sizes) (o : ℕ) (s : State) (queue : List Submission) (before last : List ℕ) → IsSound d o s → status_in s ≡ Waiting → s.stage + 1 ≡ 2 * trees_of d → 1 < length s.queue →
+pub pass_sound : (d : Sizes) (o : ℕ) (s : State) (queue : List Submission) (before last : List ℕ) → IsSound d o s → status_in s ≡ Waiting → s.entry_number + 1 ≡ 2 * trees_of d → 1 < length s.queue →
     ((x y : Submission) (rest : List Submission) → s.queue ≡ x ∷ y ∷ rest → last ≡ first_message d s y) →
-    queue ≡ drop 1 s.queue → before ≡ [] → IsSound d o (record s { queue = queue; stage = 0; named = 0; before = before; last = last })
+    queue ≡ drop 1 s.queue → before ≡ [] → IsSound d o (record s { queue = queue; entry_number = 0; held_entry = 0; held_data = before; message = last })
 pass_sound d o s queue before last h now end more next q b =
     let w : HasOldest d s = has_oldest d o s h now in
     finished_as d o s w.oldest w.rest queue before last h w.healthy w.queue w.calm end (q ∙ ap (drop 1) w.queue) b (next_sent d o s w.oldest w.rest last w.queue more next)
 
 -- what the core did if no command waits after the oldest one
-pub ended_by : (v : Shape) (s : State) (x : Submission) (rest queue : List Submission) (replies : List Reply) (sends : List (List ℕ)) (before last : List ℕ) → IsSound v.device v.overhead s → s.queue ≡ x ∷ rest → length s.queue ≡ 1 →
-    replies ≡ (record { session = x.session; ticket = x.ticket; body = body_from s.before x.command }) ∷ [] → sends ≡ [] → queue ≡ drop 1 s.queue → before ≡ [] → last ≡ [] →
-    (let d : Done = record { note = Taken; replies = replies; sends = sends; state = record s { queue = queue; stage = 0; named = 0; before = before; last = last } } in d ≡ finished_by v s x rest)
+pub ended_by : (v : Scheme) (s : State) (x : Submission) (rest queue : List Submission) (replies : List Reply) (sends : List (List ℕ)) (before last : List ℕ) → IsSound v.device v.overhead s → s.queue ≡ x ∷ rest → length s.queue ≡ 1 →
+    replies ≡ (record { session = x.session; ticket = x.ticket; body = body_from s.held_data x.command }) ∷ [] → sends ≡ [] → queue ≡ drop 1 s.queue → before ≡ [] → last ≡ [] →
+    (let d : Done = record { note = Taken; replies = replies; sends = sends; state = record s { queue = queue; entry_number = 0; held_entry = 0; held_data = before; message = last } } in d ≡ finished_by v s x rest)
 ended_by v s x [] queue replies sends before last h q alone r m k b l = let e : queue ≡ [] = k ∙ ap (drop 1) q in cc
 ended_by v s x (y ∷ rest) queue replies sends before last h q alone r m k b l = absurd (omega (arith, ap length q))
 
 -- and if one does
-pub passed_by : (v : Shape) (s : State) (x : Submission) (rest queue : List Submission) (replies : List Reply) (sends : List (List ℕ)) (before last : List ℕ) → IsSound v.device v.overhead s → s.queue ≡ x ∷ rest → 1 < length s.queue →
+pub passed_by : (v : Scheme) (s : State) (x : Submission) (rest queue : List Submission) (replies : List Reply) (sends : List (List ℕ)) (before last : List ℕ) → IsSound v.device v.overhead s → s.queue ≡ x ∷ rest → 1 < length s.queue →
     ((x y : Submission) (rest : List Submission) → s.queue ≡ x ∷ y ∷ rest → last ≡ first_message v.device s y) →
-    replies ≡ (record { session = x.session; ticket = x.ticket; body = body_from s.before x.command }) ∷ [] → sends ≡ last ∷ [] → queue ≡ drop 1 s.queue → before ≡ [] →
-    (let d : Done = record { note = Taken; replies = replies; sends = sends; state = record s { queue = queue; stage = 0; named = 0; before = before; last = last } } in d ≡ finished_by v s x rest)
+    replies ≡ (record { session = x.session; ticket = x.ticket; body = body_from s.held_data x.command }) ∷ [] → sends ≡ last ∷ [] → queue ≡ drop 1 s.queue → before ≡ [] →
+    (let d : Done = record { note = Taken; replies = replies; sends = sends; state = record s { queue = queue; entry_number = 0; held_entry = 0; held_data = before; message = last } } in d ≡ finished_by v s x rest)
 passed_by v s x [] queue replies sends before last h q more next r m k b = absurd (omega (arith, ap length q))
 passed_by v s x (y ∷ rest) queue replies sends before last h q more next r m k b =
     let e : queue ≡ y ∷ rest = k ∙ ap (drop 1) q in
@@ -107,34 +107,34 @@ passed_by v s x (y ∷ rest) queue replies sends before last h q more next r m k
     cc
 
 -- what the core did if it fetched another tree's path
-pub fetched_so : (v : Shape) (s : State) (x : Submission) (replies : List Reply) (sends : List (List ℕ)) (last : List ℕ) → IsSound v.device v.overhead s →
-    last ≡ fetch_of (fetch_at v.device (s.stage + 1) s.named x) → sends ≡ last ∷ [] → replies ≡ [] →
-    (let d : Done = record { note = Taken; replies = replies; sends = sends; state = record s { stage = s.stage + 1; last = last } } in d ≡ fetched_by v s x)
+pub fetched_so : (v : Scheme) (s : State) (x : Submission) (replies : List Reply) (sends : List (List ℕ)) (last : List ℕ) → IsSound v.device v.overhead s →
+    last ≡ fetch_of (fetch_at v.device (s.entry_number + 1) s.held_entry x) → sends ≡ last ∷ [] → replies ≡ [] →
+    (let d : Done = record { note = Taken; replies = replies; sends = sends; state = record s { entry_number = s.entry_number + 1; message = last } } in d ≡ fetched_by v s x)
 fetched_so v s x replies sends last h l m r =
-    let one : sends ≡ fetch_of (fetch_at v.device (s.stage + 1) s.named x) ∷ [] = m ∙ ap (λ b. b ∷ []) l in
+    let one : sends ≡ fetch_of (fetch_at v.device (s.entry_number + 1) s.held_entry x) ∷ [] = m ∙ ap (λ b. b ∷ []) l in
     cc
 
 -- what the core did if it stored a path
-pub stored_so : (v : Shape) (s : State) (x : Submission) (tree block new named : ℕ) (before records kept : List ℕ) → tree ≡ stage_tree v.device s.stage → block ≡ block_of v.device tree x → new ≡ new_leaf v.device tree x →
-    named ≡ next_named v.device tree x before → kept ≡ store_body tree (asked s.last).leaf records →
+pub stored_so : (v : Scheme) (s : State) (x : Submission) (tree block new named : ℕ) (before records kept : List ℕ) → tree ≡ entry_tree v.device s.entry_number → block ≡ block_of v.device tree x → new ≡ new_leaf v.device tree x →
+    named ≡ next_named v.device tree x before → kept ≡ store_body tree (requested s.message).leaf records →
     (let d : Done = record {
       note = Taken;
       replies = [];
       sends = kept ∷ [];
-      state = record s { table = if s.stage == 0 then slice_set s.table block (new + 1) else s.table; nonce = s.nonce + (depth_of v.device tree + 1); stage = s.stage + 1; named = named; before = kept_of tree before; last = kept };
+      state = record s { table = if s.entry_number == 0 then slice_set s.table block (new + 1) else s.table; nonce = s.nonce + (depth_of v.device tree + 1); entry_number = s.entry_number + 1; held_entry = named; held_data = kept_of tree before; message = kept };
     } in d ≡ stored_by v s x before records)
 stored_so v s x tree block new named before records kept t b n m k =
-    let i : ℕ = stage_tree v.device s.stage in
+    let i : ℕ = entry_tree v.device s.entry_number in
     let block_is : block ≡ block_of v.device i x = b ∙ ap (λ j. block_of v.device j x) t in
     let new_is : new ≡ new_leaf v.device i x = n ∙ ap (λ j. new_leaf v.device j x) t in
     let named_is : named ≡ next_named v.device i x before = m ∙ ap (λ j. next_named v.device j x before) t in
-    let kept_is : kept ≡ store_body i (asked s.last).leaf records = k ∙ ap (λ j. store_body j (asked s.last).leaf records) t in
+    let kept_is : kept ≡ store_body i (requested s.message).leaf records = k ∙ ap (λ j. store_body j (requested s.message).leaf records) t in
     let deep : depth_of v.device tree ≡ depth_of v.device i = ap (λ j. depth_of v.device j) t in
     let read : kept_of tree before ≡ kept_of i before = ap (λ j. kept_of j before) t in
-    let table : (if s.stage == 0 then slice_set s.table block (new + 1) else s.table) ≡ (if s.stage == 0 then slice_set s.table (block_of v.device i x) (new_leaf v.device i x + 1) else s.table) =
-    ap (λ a. if s.stage == 0 then slice_set s.table a (new + 1) else s.table) block_is ∙ ap (λ l. if s.stage == 0 then slice_set s.table (block_of v.device i x) (l + 1) else s.table) new_is in
+    let table : (if s.entry_number == 0 then slice_set s.table block (new + 1) else s.table) ≡ (if s.entry_number == 0 then slice_set s.table (block_of v.device i x) (new_leaf v.device i x + 1) else s.table) =
+    ap (λ a. if s.entry_number == 0 then slice_set s.table a (new + 1) else s.table) block_is ∙ ap (λ l. if s.entry_number == 0 then slice_set s.table (block_of v.device i x) (l + 1) else s.table) new_is in
     let nonce : s.nonce + (depth_of v.device tree + 1) ≡ s.nonce + (depth_of v.device i + 1) = ap (λ z. s.nonce + (z + 1)) deep in
-    let sent : kept ∷ [] ≡ store_body i (asked s.last).leaf records ∷ [] = ap (λ body. body ∷ []) kept_is in
+    let sent : kept ∷ [] ≡ store_body i (requested s.message).leaf records ∷ [] = ap (λ body. body ∷ []) kept_is in
     cc
 
 neither : (a b : Bool) → (a || b) ≡ false → b ≡ false
@@ -146,10 +146,10 @@ not_both true b first e = e
 not_both false b first e = absurd (let no_way : false ≡ true = first in cc)
 
 -- if the map hasn't led astray, it names a leaf of the tree below
-pub led_right : (v : Shape) (s : State) (x : Submission) (found : Bool) (before : List ℕ) (tree named : ℕ) → is_misled v s x found before ≡ false → tree ≡ stage_tree v.device s.stage → named ≡ next_named v.device tree x before →
+pub led_right : (v : Scheme) (s : State) (x : Submission) (found : Bool) (before : List ℕ) (tree named : ℕ) → is_misled v s x found before ≡ false → tree ≡ entry_tree v.device s.entry_number → named ≡ next_named v.device tree x before →
     named ≤ 2 ^ depth_of v.device (tree - 1)
 led_right v s x found before tree named right t m =
-    let i : ℕ = stage_tree v.device s.stage in
+    let i : ℕ = entry_tree v.device s.entry_number in
     let n : ℕ = next_named v.device i x before in
     let low : (nat_lt 0 i && nat_lt (2 ^ depth_of v.device (i - 1)) n) ≡ false = neither (not (named_now v.device s x == 0) && not found) _ right in
     let fits : n ≤ 2 ^ depth_of v.device (i - 1) = elim (cases_eq i 0) [
@@ -168,18 +168,18 @@ none_sent (x ∷ rest) m some = refl
 
 -- what a core does with an accepted command, given what it sends
 abbrev joined : State → Submission → List (List ℕ) → Done
-joined s x sends = record { note = Accepted x.ticket; replies = []; sends = sends; state = record s { next = s.next + 1; queue = s.queue ++ x ∷ []; last = latest sends s.last } }
+joined s x sends = record { note = Accepted x.ticket; replies = []; sends = sends; state = record s { next = s.next + 1; queue = s.queue ++ x ∷ []; message = latest sends s.message } }
 
 -- an idle core fetches the first path of the command,
-pub begun_so : {E : Type 0} (v : Shape) (s t : State) (x y : Submission) (r : Result Reaction E) → length s.queue ≡ 0 → y ≡ x → y.ticket ≡ s.next →
-    IfOk r (λ a. done a t ≡ (let m = first_message v.device s y in record { note = Accepted s.next; replies = []; sends = m ∷ []; state = record s { next = s.next + 1; queue = s.queue ++ y ∷ []; last = m } })) → IfOk r (λ a. done a t ≡ accepted_by v s x)
+pub begun_so : {E : Type 0} (v : Scheme) (s t : State) (x y : Submission) (r : Result Reaction E) → length s.queue ≡ 0 → y ≡ x → y.ticket ≡ s.next →
+    IfOk r (λ a. done a t ≡ (let m = first_message v.device s y in record { note = Accepted s.next; replies = []; sends = m ∷ []; state = record s { next = s.next + 1; queue = s.queue ++ y ∷ []; message = m } })) → IfOk r (λ a. done a t ≡ accepted_by v s x)
 begun_so v s t x y r none same ticket h =
     let m : List ℕ = first_message v.device s y in
-    let numbered = ap (λ (n : ℕ). let d : Done = record { note = Accepted n; replies = []; sends = m ∷ []; state = record s { next = s.next + 1; queue = s.queue ++ y ∷ []; last = m } } in d) (sym ticket) in
+    let numbered = ap (λ (n : ℕ). let d : Done = record { note = Accepted n; replies = []; sends = m ∷ []; state = record s { next = s.next + 1; queue = s.queue ++ y ∷ []; message = m } } in d) (sym ticket) in
     if_ok _ _ r (λ a e. e ∙ numbered ∙ ap (joined s y) (sym (first_sent s.queue m none)) ∙ ap (accepted_by v s) same) h
 
 -- and in any other core the command waits
-pub enqueued_so : {E : Type 0} (v : Shape) (s t : State) (x y : Submission) (r : Result Reaction E) → 0 < length s.queue → y ≡ x → y.ticket ≡ s.next →
+pub enqueued_so : {E : Type 0} (v : Scheme) (s t : State) (x y : Submission) (r : Result Reaction E) → 0 < length s.queue → y ≡ x → y.ticket ≡ s.next →
     IfOk r (λ a. done a t ≡ record { note = Accepted s.next; replies = []; sends = []; state = record s { next = s.next + 1; queue = s.queue ++ y ∷ [] } }) → IfOk r (λ a. done a t ≡ accepted_by v s x)
 enqueued_so v s t x y r some same ticket h =
     let m : List ℕ = first_message v.device s y in

@@ -5,10 +5,10 @@ use Rattle.oram_geometry.specs.declared.Sizes.{Sizes}
 use Rattle.oram_geometry.specs.Sizes.{IsDevice, trees_of}
 use Rattle.oram_bucket.specs.Cell.{IsRising}
 use Rattle.oram_tree.specs.Parts.{Parts as TreeParts}
-use Rattle.oram_run.specs.Agree.{IsAllowed, TicketsFrom}
-use Rattle.oram_run.specs.Nonces.{next_nonce}
-use Rattle.oram_run.specs.State.{State, failed_state, no_tree}
-use Rattle.oram_run.specs.declared.events.Reason.{Reason}
+use Rattle.oram_semantics.specs.Agree.{IsAllowed, TicketsFrom}
+use Rattle.oram_semantics.specs.Nonces.{next_nonce}
+use Rattle.oram_semantics.specs.State.{State, failed_state, no_tree}
+use Rattle.oram_semantics.specs.declared.events.Reason.{Reason}
 use Rattle.oram_core.specs.Core.{IsHealthy, IsWhole, IsTreeKept, IsReasonOf}
 use Rattle.oram_core.specs.Fitting.{AreTrees, IsEnded, IsFitting, IsWorking}
 use Rattle.oram_core.specs.Parts.{Parts, AreParts, state_of, submission_at, submissions_from, trees_from}
@@ -81,7 +81,7 @@ healthy_by o p w ts =
       most = omega (arith, count, w.waiting.most);
       begun = omega (arith, count, w.waiting.begun);
       work = w.work;
-      nonce = w.nonce ∙ ap (λ (n : ℕ). next_nonce d n p.r) (sym (answered_is p));
+      nonce = w.nonce ∙ ap (λ (n : ℕ). next_nonce d n p.entry_number) (sym (answered_is p));
     }
 
 ended_by : (p : Parts) (e : Reason) → p.failure ≡ Some e → IsEnded p e → state_of p ≡ failed_state p.tickets p.nonce e
@@ -89,12 +89,12 @@ ended_by p e failed h =
     let trees : trees_from 0 p.trees ≡ [] = ap (trees_from 0) h.nothing.trees in
     let queue : submissions_from (p.tickets - length p.waiting) p.waiting ≡ [] = ap (submissions_from (p.tickets - length p.waiting)) h.nothing.waiting in
     let table = h.nothing.table in
-    let stage = h.rests.stage in
-    let named = h.rests.named in
-    let before = h.rests.before in
-    let last = h.rests.last in
+    let entry_number = h.rests.entry_number in
+    let named = h.rests.held_entry in
+    let before = h.rests.held_data in
+    let last = h.rests.message in
     let lost = h.rests.lost in
-    rw (trees, queue, table, stage, named, before, last, lost, failed) refl
+    rw (trees, queue, table, entry_number, named, before, last, lost, failed) refl
 
 whole_by : (o : ℕ) (p : Parts) (f : Option Reason) → p.failure ≡ f → IsFitting o p f → AreTrees p.device 0 p.trees → IsWhole p.device o (state_of p) f
 whole_by o p None is w ts = healthy_by o p w ts
@@ -121,7 +121,7 @@ working_by o p h =
       count = sym (trees_length 0 p.trees) ∙ h.count;
       waiting = record { most = omega (arith, count, h.most); begun = omega (arith, count, h.begun); allowed = allowed_back p.device t p.waiting h.queue };
       work = h.work;
-      nonce = h.nonce ∙ ap (λ (n : ℕ). next_nonce p.device n p.r) (answered_is p);
+      nonce = h.nonce ∙ ap (λ (n : ℕ). next_nonce p.device n p.entry_number) (answered_is p);
     }
 
 end_of : (p : Parts) (e : Reason) → IsReasonOf p.device e → state_of p ≡ failed_state p.tickets p.nonce e → IsEnded p e
@@ -133,10 +133,10 @@ end_of p e reason is = record {
     waiting = no_commands (p.tickets - length p.waiting) p.waiting (ap (λ (s : State). s.queue) is);
   };
   rests = record {
-    stage = ap (λ (s : State). s.stage) is;
-    named = ap (λ (s : State). s.named) is;
-    before = ap (λ (s : State). s.before) is;
-    last = ap (λ (s : State). s.last) is;
+    entry_number = ap (λ (s : State). s.entry_number) is;
+    held_entry = ap (λ (s : State). s.held_entry) is;
+    held_data = ap (λ (s : State). s.held_data) is;
+    message = ap (λ (s : State). s.message) is;
     lost = ap (λ (s : State). s.lost) is;
   };
 }

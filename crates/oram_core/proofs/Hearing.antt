@@ -7,26 +7,26 @@ use Rattle.std.proofs.lemmas.Bool.Decides.{nat_tests}
 use Rattle.oram_geometry.specs.declared.Sizes.{Sizes}
 use Rattle.oram_geometry.specs.Sizes.{depth_of, trees_of}
 use Rattle.oram_bucket.specs.Bucket.{IsBlockOf}
-use Rattle.oram_trace.specs.declared.asked.Entry.{Entry}
+use Rattle.oram_trace.specs.declared.entries.Entry.{Entry}
 use Rattle.oram_hash.specs.declared.HashFault.{HashFault}
 use Rattle.oram_hash.specs.declared.HashFault.TheVariants as fault
 use Rattle.oram_hash.specs.Path.{Path, path_of, HasLength, IsAccepted, IsTamperedAt}
 use Rattle.oram_hash.specs.Tree.{IsStored, IsPathOf, Collides}
 use Rattle.oram_hash.specs.Verdict.{IsFaultOf}
 use Rattle.oram_tree.specs.State.{State as Tree}
-use Rattle.oram_run.specs.Answers.{answered_path, outcome_of, outcome_by, pair_in, is_payload, is_refusal}
-use Rattle.oram_run.specs.Answers.Outcome.{Good, Fails}
-use Rattle.oram_run.specs.Content.{stage_tree}
-use Rattle.oram_run.specs.Messages.{asked}
-use Rattle.oram_run.specs.Moves.{Fits}
-use Rattle.oram_run.specs.Progress.Status.{Waiting}
-use Rattle.oram_run.specs.Shape.{Shape, record_len}
-use Rattle.oram_run.specs.State.{State, World, no_tree, status_in}
-use Rattle.oram_run.specs.Trees.{Stands}
-use Rattle.oram_run.proofs.Judged.{pair_is}
-use Rattle.oram_run.specs.declared.events.Reason.TheVariants.{Malformed}
-use Rattle.oram_run.proofs.Outcomes.{fetched_is, stored_is, malformed_store, malformed_is}
-use Rattle.oram_core.specs.Core.{CoreValue, IsSound, IsTreeKept, shape_of}
+use Rattle.oram_semantics.specs.Answers.{answered_path, outcome_of, outcome_by, pair_in, is_payload, is_refusal}
+use Rattle.oram_semantics.specs.Answers.Outcome.{Good, Fails}
+use Rattle.oram_semantics.specs.Content.{entry_tree}
+use Rattle.oram_semantics.specs.Messages.{requested}
+use Rattle.oram_semantics.specs.Moves.{Fits}
+use Rattle.oram_semantics.specs.Progress.Status.{Waiting}
+use Rattle.oram_semantics.specs.Scheme.{Scheme, record_len}
+use Rattle.oram_semantics.specs.State.{State, World, no_tree, status_in}
+use Rattle.oram_semantics.specs.Trees.{Stands}
+use Rattle.oram_semantics.proofs.Judged.{pair_is}
+use Rattle.oram_semantics.specs.declared.events.Reason.TheVariants.{Malformed}
+use Rattle.oram_semantics.proofs.Outcomes.{fetched_is, stored_is, malformed_store, malformed_is}
+use Rattle.oram_core.specs.Core.{CoreValue, IsSound, IsTreeKept, scheme_of}
 use Rattle.oram_core.specs.Judging.{IsChecked, path_now, tree_now}
 use Rattle.oram_core.specs.Verdicts.{Means, refusal_in}
 use Rattle.oram_core.specs.declared.verdicts.Verdict.{Verdict}
@@ -34,7 +34,7 @@ use Rattle.oram_core.proofs.Meeting.{waits, holds_of}
 use Rattle.oram_core.proofs.Sound.{Outstanding, at_hand, healthy_of, sound_accessed, tree_within}
 
 -- a checked path of the right length is the tree's, unless it shows two records with the same digest
-path_told : (v : Shape) (records : ℕ → ℕ → List ℕ) (e : Entry) (bytes : List ℕ) → e.fetch ≡ true → HasLength (answered_path v e (128 ∷ bytes)) → pair_in v records e (128 ∷ bytes) ≡ false →
+path_told : (v : Scheme) (records : ℕ → ℕ → List ℕ) (e : Entry) (bytes : List ℕ) → e.fetch ≡ true → HasLength (answered_path v e (128 ∷ bytes)) → pair_in v records e (128 ∷ bytes) ≡ false →
     (IsPathOf (records e.tree) (answered_path v e (128 ∷ bytes)) ⊎ Collides (records e.tree) (answered_path v e (128 ∷ bytes))) → IsPathOf (records e.tree) (answered_path v e (128 ∷ bytes))
 path_told v records e bytes fetch whole apart (inl told) = told
 path_told v records e bytes fetch whole apart (inr pair) =
@@ -43,7 +43,7 @@ path_told v records e bytes fetch whole apart (inr pair) =
     absurd (let both : true ≡ false = sym (pair_is v records e (128 ∷ bytes) payload pair) ∙ apart in cc)
 
 -- the outstanding fetch
-fetch_out : (v : Shape) (s : State) → IsSound v.device v.overhead s → status_in s ≡ Waiting → s.stage % 2 ≡ 0 → ((asked s.last).fetch ≡ true) × ((asked s.last).tree ≡ stage_tree v.device s.stage) × ((asked s.last).leaf < 2 ^ depth_of v.device (stage_tree v.device s.stage))
+fetch_out : (v : Scheme) (s : State) → IsSound v.device v.overhead s → status_in s ≡ Waiting → s.entry_number % 2 ≡ 0 → ((requested s.message).fetch ≡ true) × ((requested s.message).tree ≡ entry_tree v.device s.entry_number) × ((requested s.message).leaf < 2 ^ depth_of v.device (entry_tree v.device s.entry_number))
 fetch_out v s h now even =
     let o = waits s now in
     let work : Outstanding v.device s o.oldest = at_hand v.device v.overhead s o.oldest o.rest h o.healthy o.queue in
@@ -51,20 +51,20 @@ fetch_out v s h now even =
     (ap (λ (x : Entry). x.fetch) e, ap (λ (x : Entry). x.tree) e, work.leaf)
 
 -- the host's records are stored under the root digest of the tree at work
-stored_now : (v : Shape) (s : State) (w : World) → IsSound v.device v.overhead s → status_in s ≡ Waiting → Fits v s w →
-    IsStored (depth_of v.device (stage_tree v.device s.stage)) (record_len v) (tree_now v s).root (w.records (stage_tree v.device s.stage))
+stored_now : (v : Scheme) (s : State) (w : World) → IsSound v.device v.overhead s → status_in s ≡ Waiting → Fits v s w →
+    IsStored (depth_of v.device (entry_tree v.device s.entry_number)) (record_len v) (tree_now v s).root (w.records (entry_tree v.device s.entry_number))
 stored_now v s w h now fits =
-    let i : ℕ = stage_tree v.device s.stage in
+    let i : ℕ = entry_tree v.device s.entry_number in
     let stands : Stands v i (tree_now v s) (w.records i) (w.content i) = holds_of v s w fits (waits s now).healthy i (tree_within v.device v.overhead s h) in
     subst (λ (k : ℕ). IsStored (depth_of v.device k) (record_len v) (tree_now v s).root (w.records i)) stands.number stands.stored.stands
 
 -- the answer means what its check says
-pub path_means : {A : Type 0} (v : Shape) (s : State) (w : World) (bytes : List ℕ) (r : Result A HashFault) → IsSound v.device v.overhead s → status_in s ≡ Waiting → s.stage % 2 ≡ 0 → Fits v s w →
-    pair_in v w.records (asked s.last) (128 ∷ bytes) ≡ false → IsChecked v s bytes r → outcome_of v w.records (asked s.last) (128 ∷ bytes) ≡ outcome_by (stage_tree v.device s.stage) r
+pub path_means : {A : Type 0} (v : Scheme) (s : State) (w : World) (bytes : List ℕ) (r : Result A HashFault) → IsSound v.device v.overhead s → status_in s ≡ Waiting → s.entry_number % 2 ≡ 0 → Fits v s w →
+    pair_in v w.records (requested s.message) (128 ∷ bytes) ≡ false → IsChecked v s bytes r → outcome_of v w.records (requested s.message) (128 ∷ bytes) ≡ outcome_by (entry_tree v.device s.entry_number) r
 path_means v s w bytes r h now even fits apart checked =
-    let i : ℕ = stage_tree v.device s.stage in
+    let i : ℕ = entry_tree v.device s.entry_number in
     let out = fetch_out v s h now even in
-    let e : Entry = asked s.last in
+    let e : Entry = requested s.message in
     let root : List ℕ = (tree_now v s).root in
     let stored = stored_now v s w h now fits in
     subst (λ (k : ℕ). outcome_of v w.records e (128 ∷ bytes) ≡ outcome_by k r) out.1
@@ -77,12 +77,12 @@ path_means v s w bytes r h now even fits apart checked =
     (checked.judged (w.records i) stored)))
 
 -- the path that is checked
-pub path_same : (v : Shape) (s : State) (number leaf overhead : ℕ) (device : Sizes) (bytes : List ℕ) → device ≡ v.device → number ≡ stage_tree v.device s.stage → leaf ≡ (asked s.last).leaf → overhead ≡ v.overhead →
+pub path_same : (v : Scheme) (s : State) (number leaf overhead : ℕ) (device : Sizes) (bytes : List ℕ) → device ≡ v.device → number ≡ entry_tree v.device s.entry_number → leaf ≡ (requested s.message).leaf → overhead ≡ v.overhead →
     path_of device number leaf overhead bytes ≡ path_now v s bytes
 path_same v s number leaf overhead device bytes d n l o = cc
 
 -- the result of the check, case by case
-pub checked_as : {A : Type 0} (v : Shape) (s : State) (number leaf overhead : ℕ) (device : Sizes) (t : Tree) (bytes : List ℕ) (r : Result A HashFault) → device ≡ v.device → number ≡ stage_tree v.device s.stage → leaf ≡ (asked s.last).leaf → overhead ≡ v.overhead → t ≡ tree_now v s →
+pub checked_as : {A : Type 0} (v : Scheme) (s : State) (number leaf overhead : ℕ) (device : Sizes) (t : Tree) (bytes : List ℕ) (r : Result A HashFault) → device ≡ v.device → number ≡ entry_tree v.device s.entry_number → leaf ≡ (requested s.message).leaf → overhead ≡ v.overhead → t ≡ tree_now v s →
     (let p = path_of device number leaf overhead bytes in IsOk r ↔ IsAccepted p t.root) →
     (let p = path_of device number leaf overhead bytes in (r ≡ Err fault.Length) ↔ (¬ HasLength p)) →
     (let p = path_of device number leaf overhead bytes in (level : ℕ) → (r ≡ Err (fault.Tampered level)) ↔ IsTamperedAt p t.root level) →
@@ -111,27 +111,27 @@ told_ok : {A P C : Type 0} (Q : HashFault → Type 0) (r : Result A HashFault) (
 told_ok {A} {P} {C} Q r a ok h = subst (λ (o : Result A HashFault). MatchResult o (λ _. P) Q ⊎ C) ok h
 
 -- and a path that passes the check is the one last stored
-pub path_stands : {A : Type 0} (v : Shape) (s : State) (w : World) (bytes : List ℕ) (a : A) (r : Result A HashFault) → IsSound v.device v.overhead s → status_in s ≡ Waiting → s.stage % 2 ≡ 0 → Fits v s w →
-    pair_in v w.records (asked s.last) (128 ∷ bytes) ≡ false → IsChecked v s bytes r → r ≡ Ok a → IsPathOf (w.records (stage_tree v.device s.stage)) (path_now v s bytes)
+pub path_stands : {A : Type 0} (v : Scheme) (s : State) (w : World) (bytes : List ℕ) (a : A) (r : Result A HashFault) → IsSound v.device v.overhead s → status_in s ≡ Waiting → s.entry_number % 2 ≡ 0 → Fits v s w →
+    pair_in v w.records (requested s.message) (128 ∷ bytes) ≡ false → IsChecked v s bytes r → r ≡ Ok a → IsPathOf (w.records (entry_tree v.device s.entry_number)) (path_now v s bytes)
 path_stands v s w bytes a r h now even fits apart checked ok =
     let out = fetch_out v s h now even in
-    let e : Entry = asked s.last in
+    let e : Entry = requested s.message in
     let whole : HasLength (path_now v s bytes) = whole_by (path_now v s bytes) a r ok checked.short in
     subst (λ (k : ℕ). IsPathOf (w.records k) (path_of v.device k e.leaf v.overhead bytes)) out.1
     (path_told v w.records e bytes out.0 (subst (λ (k : ℕ). HasLength (path_of v.device k e.leaf v.overhead bytes)) (sym out.1) whole) apart
     (subst (λ (k : ℕ). IsPathOf (w.records k) (path_of v.device k e.leaf v.overhead bytes) ⊎ Collides (w.records k) (path_of v.device k e.leaf v.overhead bytes)) (sym out.1)
-    (told_ok _ r a ok (checked.judged (w.records (stage_tree v.device s.stage)) (stored_now v s w h now fits)))))
+    (told_ok _ r a ok (checked.judged (w.records (entry_tree v.device s.entry_number)) (stored_now v s w h now fits)))))
 
 -- the tree at work, as the code reads it
-pub record IsTreeAt (v : Shape) (s : State) (t : Tree) : Type 0 where
-  pub is : t ≡ slice_index_or s.trees (stage_tree v.device s.stage) no_tree
-  pub number : t.number ≡ stage_tree v.device s.stage
-  pub blocks : All (IsBlockOf v.device (stage_tree v.device s.stage)) t.stash
+pub record IsTreeAt (v : Scheme) (s : State) (t : Tree) : Type 0 where
+  pub is : t ≡ slice_index_or s.trees (entry_tree v.device s.entry_number) no_tree
+  pub number : t.number ≡ entry_tree v.device s.entry_number
+  pub blocks : All (IsBlockOf v.device (entry_tree v.device s.entry_number)) t.stash
 
-pub tree_at : (v : Shape) (s : State) (t : Tree) (i tree : ℕ) → IsSound v.device v.overhead s → status_in s ≡ Waiting → i ≡ tree → tree ≡ stage_tree v.device s.stage → t ≡ slice_index_or s.trees i t → IsTreeAt v s t
+pub tree_at : (v : Scheme) (s : State) (t : Tree) (i tree : ℕ) → IsSound v.device v.overhead s → status_in s ≡ Waiting → i ≡ tree → tree ≡ entry_tree v.device s.entry_number → t ≡ slice_index_or s.trees i t → IsTreeAt v s t
 tree_at v s t i tree h now from of read =
     let q = healthy_of v.device v.overhead s h (waits s now).healthy in
-    let n : ℕ = stage_tree v.device s.stage in
+    let n : ℕ = entry_tree v.device s.entry_number in
     let same : i ≡ n = from ∙ of in
     let within : n < trees_of v.device = tree_within v.device v.overhead s h in
     let inside : n < length s.trees = let count : length s.trees ≡ trees_of v.device = q.count in omega arith in
@@ -140,16 +140,16 @@ tree_at v s t i tree h now from of read =
     record { is = is; number = kept.number; blocks = kept.blocks }
 
 -- A core from which a method borrows the tree at work: inside the method it is the same as outside.
-pub record Lends (v : Shape) (s : State) (t : Tree) (tree : ℕ) : Type 0 where
+pub record Lends (v : Scheme) (s : State) (t : Tree) (tree : ℕ) : Type 0 where
   pub sound : IsSound v.device v.overhead s
   pub at : IsTreeAt v s t
   pub number : t.number ≡ tree
 
 pub lends : {S : Type 0} (overhead : S → ℕ) (sealing : S → ℕ → List ℕ → List ℕ) (opening : S → List ℕ → Option (List ℕ)) (inside now : CoreValue S) (t : Tree) (i tree : ℕ) → inside ≡ now →
-    IsSound inside.device (overhead inside.sealer) inside.state → status_in now.state ≡ Waiting → i ≡ tree → tree ≡ stage_tree now.device now.state.stage → t ≡ slice_index_or inside.state.trees i t →
-    Lends (shape_of overhead sealing opening now) now.state t tree
+    IsSound inside.device (overhead inside.sealer) inside.state → status_in now.state ≡ Waiting → i ≡ tree → tree ≡ entry_tree now.device now.state.entry_number → t ≡ slice_index_or inside.state.trees i t →
+    Lends (scheme_of overhead sealing opening now) now.state t tree
 lends overhead sealing opening inside now t i tree same sound waiting from of read =
-    let v = shape_of overhead sealing opening now in
+    let v = scheme_of overhead sealing opening now in
     let here : IsSound v.device v.overhead now.state = subst (λ (u : CoreValue _). IsSound u.device (overhead u.sealer) u.state) same sound in
     let at : IsTreeAt v now.state t = tree_at v now.state t i tree here waiting from of (subst (λ (u : CoreValue _). t ≡ slice_index_or u.state.trees i t) same read) in
     record { sound = here; at = at; number = at.number ∙ sym of }
@@ -222,7 +222,7 @@ not_refused bytes none = record {
   room = λ is. absurd (let no_way : Some 8 ≡ None = sym (ap refusal_in is) ∙ none in cc);
 }
 
-store_out : (v : Shape) (s : State) → IsSound v.device v.overhead s → status_in s ≡ Waiting → s.stage % 2 ≡ 1 → (asked s.last).fetch ≡ false
+store_out : (v : Scheme) (s : State) → IsSound v.device v.overhead s → status_in s ≡ Waiting → s.entry_number % 2 ≡ 1 → (requested s.message).fetch ≡ false
 store_out v s h now odd =
     let o = waits s now in
     let work : Outstanding v.device s o.oldest = at_hand v.device v.overhead s o.oldest o.rest h o.healthy o.queue in
@@ -233,24 +233,24 @@ nothing [] none = refl
 nothing (x ∷ bytes) none = absurd (omega arith)
 
 -- byte 80 alone is a good answer to a STORE,
-pub stored_means : (v : Shape) (s : State) (w : World) (records : List ℕ) → IsSound v.device v.overhead s → status_in s ≡ Waiting → s.stage % 2 ≡ 1 → length records ≡ 0 → outcome_of v w.records (asked s.last) (128 ∷ records) ≡ Good
-stored_means v s w records h now odd none = stored_is v w.records (asked s.last) (128 ∷ records) (store_out v s h now odd) (ap (λ r. 128 ∷ r) (nothing records none))
+pub stored_means : (v : Scheme) (s : State) (w : World) (records : List ℕ) → IsSound v.device v.overhead s → status_in s ≡ Waiting → s.entry_number % 2 ≡ 1 → length records ≡ 0 → outcome_of v w.records (requested s.message) (128 ∷ records) ≡ Good
+stored_means v s w records h now odd none = stored_is v w.records (requested s.message) (128 ∷ records) (store_out v s h now odd) (ap (λ r. 128 ∷ r) (nothing records none))
 
 -- more bytes than that are not,
-pub longer_means : (v : Shape) (s : State) (w : World) (records : List ℕ) → IsSound v.device v.overhead s → status_in s ≡ Waiting → s.stage % 2 ≡ 1 → 0 < length records → outcome_of v w.records (asked s.last) (128 ∷ records) ≡ Fails Malformed
-longer_means v s w records h now odd some = malformed_store v w.records (asked s.last) (128 ∷ records) (store_out v s h now odd) refl (λ same. absurd (omega (arith, ap length same)))
+pub longer_means : (v : Scheme) (s : State) (w : World) (records : List ℕ) → IsSound v.device v.overhead s → status_in s ≡ Waiting → s.entry_number % 2 ≡ 1 → 0 < length records → outcome_of v w.records (requested s.message) (128 ∷ records) ≡ Fails Malformed
+longer_means v s w records h now odd some = malformed_store v w.records (requested s.message) (128 ∷ records) (store_out v s h now odd) refl (λ same. absurd (omega (arith, ap length same)))
 
 -- and nothing else begins a good answer
-pub other_means : (v : Shape) (s : State) (w : World) (bytes : List ℕ) → refusal_in bytes ≡ None → slice_index bytes 0 ≢ 128 → outcome_of v w.records (asked s.last) bytes ≡ Fails Malformed
-other_means v s w bytes none first = malformed_is v w.records (asked s.last) bytes first (not_refused bytes none).room (not_refused bytes none).refusal
+pub other_means : (v : Scheme) (s : State) (w : World) (bytes : List ℕ) → refusal_in bytes ≡ None → slice_index bytes 0 ≢ 128 → outcome_of v w.records (requested s.message) bytes ≡ Fails Malformed
+other_means v s w bytes none first = malformed_is v w.records (requested s.message) bytes first (not_refused bytes none).room (not_refused bytes none).refusal
 
-pub empty_means : (v : Shape) (s : State) (w : World) (bytes : List ℕ) → refusal_in bytes ≡ None → length bytes ≡ 0 → outcome_of v w.records (asked s.last) bytes ≡ Fails Malformed
+pub empty_means : (v : Scheme) (s : State) (w : World) (bytes : List ℕ) → refusal_in bytes ≡ None → length bytes ≡ 0 → outcome_of v w.records (requested s.message) bytes ≡ Fails Malformed
 empty_means v s w bytes none empty = other_means v s w bytes none (λ first. absurd (let zero : slice_index bytes 0 ≡ 0 = ap (λ xs. slice_index xs 0) (nothing bytes empty) in omega arith))
 
 -- byte 80 and the bytes after it
-pub payload_means : (v : Shape) (s : State) (bytes xs : List ℕ) (r : Verdict) → ((w : World) → Fits v s w → pair_in v w.records (asked s.last) (128 ∷ xs) ≡ false → Means v s w (128 ∷ xs) r) → xs ≡ drop 1 bytes → slice_index bytes 0 ≡ 128 →
-    (w : World) → Fits v s w → pair_in v w.records (asked s.last) bytes ≡ false → Means v s w bytes r
+pub payload_means : (v : Scheme) (s : State) (bytes xs : List ℕ) (r : Verdict) → ((w : World) → Fits v s w → pair_in v w.records (requested s.message) (128 ∷ xs) ≡ false → Means v s w (128 ∷ xs) r) → xs ≡ drop 1 bytes → slice_index bytes 0 ≡ 128 →
+    (w : World) → Fits v s w → pair_in v w.records (requested s.message) bytes ≡ false → Means v s w bytes r
 payload_means v s [] xs r told is first = absurd (omega arith)
 payload_means v s (x ∷ bytes) xs r told is first =
     let whole : 128 ∷ xs ≡ x ∷ bytes = cc in
-    λ w fits apart. subst (λ (ys : List ℕ). pair_in v w.records (asked s.last) ys ≡ false → Means v s w ys r) whole (told w fits) apart
+    λ w fits apart. subst (λ (ys : List ℕ). pair_in v w.records (requested s.message) ys ≡ false → Means v s w ys r) whole (told w fits) apart

@@ -16,15 +16,15 @@ use Rattle.oram_tree.specs.State.{State as Tree}
 use Rattle.oram_tree.specs.declared.faults.FormatFault.{FormatFault}
 use Rattle.oram_tree.specs.declared.faults.FormatFault.TheVariants.{OutOfMemory}
 use Rattle.oram_tree.proofs.Puts.{PutsAll-append, broken_after}
-use Rattle.oram_run.specs.Formatting.{IsFormatBegun}
-use Rattle.oram_run.specs.Nonces.{formatted, formatted_below, buckets_below, next_nonce}
-use Rattle.oram_run.specs.Shape.{Shape, IsLawful}
-use Rattle.oram_run.specs.State.{State, no_tree}
-use Rattle.oram_run.specs.declared.events.Submission.{Submission}
-use Rattle.oram_run.proofs.Beginnings.{begun_between, begun_within}
-use Rattle.oram_run.proofs.Bounds.{some_trees}
-use Rattle.oram_run.proofs.Formatting.{no_trees_made, one_more_made}
-use Rattle.oram_run.specs.Agree.{IsAllowed, TicketsFrom}
+use Rattle.oram_semantics.specs.Formatting.{IsFormatBegun}
+use Rattle.oram_semantics.specs.Nonces.{formatted, formatted_below, buckets_below, next_nonce}
+use Rattle.oram_semantics.specs.Scheme.{Scheme, IsLawful}
+use Rattle.oram_semantics.specs.State.{State, no_tree}
+use Rattle.oram_semantics.specs.declared.events.Submission.{Submission}
+use Rattle.oram_semantics.proofs.Beginnings.{begun_between, begun_within}
+use Rattle.oram_semantics.proofs.Bounds.{some_trees}
+use Rattle.oram_semantics.proofs.Formatting.{no_trees_made, one_more_made}
+use Rattle.oram_semantics.specs.Agree.{IsAllowed, TicketsFrom}
 use Rattle.oram_core.specs.Core.{IsTreeKept, AtWork, IsHealthy, IsWhole, IsSound}
 use Rattle.oram_core.specs.Formatting.{IsMade, AreMade}
 
@@ -52,8 +52,8 @@ nonce_first : (d : Sizes) → 0 < trees_of d → next_nonce d 0 0 ≡ formatted 
 nonce_first d some = let all : trees_of d - (0 + 1) / 2 ≡ trees_of d = omega arith in ap (λ (k : ℕ). formatted d + 0 * buckets_below d (trees_of d) + (buckets_below d (trees_of d) - buckets_below d k)) all ∙ omega arith
 
 -- a core just formatted is sound
-pub new_sound : {K : Type 0} (v : Shape) (putting : K → List ℕ → K → Type 0) (from to : K) (trees : List Tree) (s : State) → IsDevice v.device → v.overhead ≤ 64 → AreMade v putting from (trees_of v.device) trees to
-    → s.table ≡ replicate (blocks_in v.device (trees_of v.device - 1)) 0 → s.trees ≡ trees → s.next ≡ 0 → s.nonce ≡ formatted v.device → s.queue ≡ [] → s.stage ≡ 0 → s.named ≡ 0 → s.before ≡ [] → s.last ≡ [] → s.lost ≡ false → s.failure ≡ None → IsSound v.device v.overhead s
+pub new_sound : {K : Type 0} (v : Scheme) (putting : K → List ℕ → K → Type 0) (from to : K) (trees : List Tree) (s : State) → IsDevice v.device → v.overhead ≤ 64 → AreMade v putting from (trees_of v.device) trees to
+    → s.table ≡ replicate (blocks_in v.device (trees_of v.device - 1)) 0 → s.trees ≡ trees → s.next ≡ 0 → s.nonce ≡ formatted v.device → s.queue ≡ [] → s.entry_number ≡ 0 → s.held_entry ≡ 0 → s.held_data ≡ [] → s.message ≡ [] → s.lost ≡ false → s.failure ≡ None → IsSound v.device v.overhead s
 new_sound v putting from to trees s device small a table_is trees_is next_is nonce_is queue_is stage_is named_is before_is last_is lost_is alive =
     let d = v.device in
     let few : trees_of d ≤ 13 = trees_of-few d device in
@@ -76,12 +76,12 @@ new_sound v putting from to trees s device small a table_is trees_is next_is non
       tickets = subst Tickets (sym queue_is) tt;
       most = omega (arith, none);
       begun = omega (arith, none);
-      work = subst Work (sym queue_is) (record { stage = stage_is; named = named_is; before = before_is; last = last_is; lost = lost_is });
-      nonce = nonce_is ∙ sym (nonce_first d some) ∙ ap (λ (k : ℕ). next_nonce d 0 k) (sym stage_is) ∙ ap (λ (k : ℕ). next_nonce d k s.stage) (sym answered);
+      work = subst Work (sym queue_is) (record { entry_number = stage_is; held_entry = named_is; held_data = before_is; message = last_is; lost = lost_is });
+      nonce = nonce_is ∙ sym (nonce_first d some) ∙ ap (λ (k : ℕ). next_nonce d 0 k) (sym stage_is) ∙ ap (λ (k : ℕ). next_nonce d k s.entry_number) (sym answered);
     } in
     record { ranges = device; small = small; next = omega (arith, next_is); whole = subst (IsWhole d v.overhead s) (sym alive) whole }
 
-module _ {K : Type 0} (v : Shape) (putting : K → List ℕ → K → Type 0) where
+module _ {K : Type 0} (v : Scheme) (putting : K → List ℕ → K → Type 0) where
   pub none_made : (from : K) (trees : List Tree) → trees ≡ [] → AreMade v putting from 0 trees from
   none_made from trees none = subst (λ (ts : List Tree). AreMade v putting from 0 ts from) (sym none) (record { messages = []; puts = refl; made = no_trees_made v; empty = λ i below. absurd (omega arith) })
 

@@ -4,7 +4,7 @@ use Rattle.std.proofs.Common.{◌≡◌, ℕ, ◌+◌, ◌-◌, ◌*◌, ◌^◌
 use Rattle.std.proofs.lemmas.Bool.Decides.{nat_tests}
 use Rattle.std.proofs.Math.Pow.{pow_mono}
 use Rattle.oram_geometry.specs.Sizes.{depth_of, trees_of}
-use Rattle.oram_trace.specs.declared.asked.Entry.{Entry}
+use Rattle.oram_trace.specs.declared.entries.Entry.{Entry}
 use Rattle.oram_wire.specs.HostMessages.{store_body}
 use Rattle.oram_hash.specs.Path.{Path, path_of, with_bytes}
 use Rattle.oram_bucket.specs.Cell.{Cell}
@@ -12,17 +12,17 @@ use Rattle.oram_bucket.specs.Reading.{Reads}
 use Rattle.oram_tree.specs.Content.{Map, entry_of, put}
 use Rattle.oram_tree.specs.State.{State as Tree}
 use Rattle.oram_tree.specs.Access.{IsRewritten, IsUpdate}
-use Rattle.oram_run.specs.Content.{block_of, new_leaf, stage_tree}
-use Rattle.oram_run.specs.Messages.{asked}
-use Rattle.oram_run.specs.Moves.{PlacedIn, IsReadyFor, stores, records_after}
-use Rattle.oram_run.specs.Blocks.{found_in, block_after, next_named, put_in}
-use Rattle.oram_run.specs.Shape.{Shape, record_len}
-use Rattle.oram_run.specs.State.{State, World, AllStand, named_now, no_tree}
-use Rattle.oram_run.specs.Trees.{Stands, IsPlaced}
-use Rattle.oram_run.specs.declared.events.Submission.{Submission}
-use Rattle.oram_run.proofs.Others.{all_one}
-use Rattle.oram_run.proofs.Bounds.{some_trees, depth_small}
-use Rattle.oram_run.proofs.Placing.{IsMade, store_stands, store_places, holds_stored, there_if_named}
+use Rattle.oram_semantics.specs.Content.{block_of, new_leaf, entry_tree}
+use Rattle.oram_semantics.specs.Messages.{requested}
+use Rattle.oram_semantics.specs.Moves.{PlacedIn, IsReadyFor, stores, records_after}
+use Rattle.oram_semantics.specs.Blocks.{found_in, block_after, next_named, put_in}
+use Rattle.oram_semantics.specs.Scheme.{Scheme, record_len}
+use Rattle.oram_semantics.specs.State.{State, World, AllStand, named_now, no_tree}
+use Rattle.oram_semantics.specs.Trees.{Stands, IsPlaced}
+use Rattle.oram_semantics.specs.declared.events.Submission.{Submission}
+use Rattle.oram_semantics.proofs.Others.{all_one}
+use Rattle.oram_semantics.proofs.Bounds.{some_trees, depth_small}
+use Rattle.oram_semantics.proofs.Placing.{IsMade, store_stands, store_places, holds_stored, there_if_named}
 use Rattle.oram_core.specs.Core.{IsSound}
 use Rattle.oram_core.proofs.Sound.{Outstanding, healthy_of}
 use Rattle.oram_core.specs.Doing.{stored_by, is_misled}
@@ -30,18 +30,18 @@ use Rattle.oram_core.proofs.Quiet.{Meets}
 use Rattle.oram_core.proofs.Sound.{asked_store}
 
 -- an access to the tree at work: the block as changed, and the tree and the records that it has made
-pub record IsAccess (v : Shape) (s : State) (w : World) (x : Submission) (path : Path) (tree : Tree) (found : Bool) (before records : List ℕ) : Type 0 where
-  pub number : tree.number ≡ stage_tree v.device s.stage
-  pub path_is : path ≡ path_of v.device (stage_tree v.device s.stage) (asked s.last).leaf v.overhead path.bytes
-  pub long : length records ≡ (depth_of v.device (stage_tree v.device s.stage) + 1) * record_len v
+pub record IsAccess (v : Scheme) (s : State) (w : World) (x : Submission) (path : Path) (tree : Tree) (found : Bool) (before records : List ℕ) : Type 0 where
+  pub number : tree.number ≡ entry_tree v.device s.entry_number
+  pub path_is : path ≡ path_of v.device (entry_tree v.device s.entry_number) (requested s.message).leaf v.overhead path.bytes
+  pub long : length records ≡ (depth_of v.device (entry_tree v.device s.entry_number) + 1) * record_len v
   pub rewritten :
       let d = v.device in
-      let i = stage_tree d s.stage in
+      let i = entry_tree d s.entry_number in
       IsRewritten (Reads v.opening d i) v.sealing d s.nonce path (slice_index_or s.trees i no_tree).stash (with_bytes path records)
       (record { address = block_of d i x; leaf = new_leaf d i x; content = block_after d i x before }) tree.stash
   pub update :
       let d = v.device in
-      let i = stage_tree d s.stage in
+      let i = entry_tree d s.entry_number in
       IsUpdate v.opening v.overhead d path (with_bytes path records) (w.records i) (w.content i)
       (record { address = block_of d i x; leaf = new_leaf d i x; content = block_after d i x before }) found before tree
 
@@ -50,24 +50,24 @@ both_ways true = refl
 both_ways false = refl
 
 -- if the core is ready for the FETCH, the map doesn't lead astray
-pub not_misled : (v : Shape) (s : State) (w : World) (x : Submission) (path : Path) (tree : Tree) (found : Bool) (before records : List ℕ) →
+pub not_misled : (v : Scheme) (s : State) (w : World) (x : Submission) (path : Path) (tree : Tree) (found : Bool) (before records : List ℕ) →
     IsReadyFor v s w x → IsAccess v s w x path tree found before records → is_misled v s x found before ≡ false
 not_misled v s w x path tree found before records ready a =
     let d = v.device in
-    let i : ℕ = stage_tree d s.stage in
-    let there : found ≡ not (named_now v.device s x == 0) = a.update.told ∙ there_if_named (w.content i (block_of d i x)) (named_now v.device s x) ready.named in
+    let i : ℕ = entry_tree d s.entry_number in
+    let there : found ≡ not (named_now v.device s x == 0) = a.update.told ∙ there_if_named (w.content i (block_of d i x)) (named_now v.device s x) ready.held_entry in
     let fits : next_named d i x before ≤ 2 ^ depth_of d (i - 1) = subst (λ (bytes : List ℕ). next_named d i x bytes ≤ 2 ^ depth_of d (i - 1)) (sym a.update.data_told) ready.next in
     let leaf : nat_lt (2 ^ depth_of d (i - 1)) (next_named d i x before) ≡ false = grind (arith, nat_tests) in
     let none : (nat_lt 0 i && nat_lt (2 ^ depth_of d (i - 1)) (next_named d i x before)) ≡ false = rw leaf (elim (nat_lt 0 i) as (λ b. (b && false) ≡ false) [ true ↦ refl | false ↦ refl ]) in
     rw (there, both_ways (named_now v.device s x == 0)) none
 
 -- The core takes over the access by the rule, if the access found what the tree's content has.
-taken_over : (v : Shape) (s : State) (w : World) (x : Submission) (path : Path) (tree : Tree) (found : Bool) (records : List ℕ) → IsSound v.device v.overhead s → s.failure ≡ None → Outstanding v.device s x → AllStand v s w →
-    IsAccess v s w x path tree found (found_in v.device (w.content (stage_tree v.device s.stage) (block_of v.device (stage_tree v.device s.stage) x))) records →
-    Meets v s w (stores v s w x) (stored_by v (record s { trees = slice_set s.trees (stage_tree v.device s.stage) tree }) x (found_in v.device (w.content (stage_tree v.device s.stage) (block_of v.device (stage_tree v.device s.stage) x))) records)
+taken_over : (v : Scheme) (s : State) (w : World) (x : Submission) (path : Path) (tree : Tree) (found : Bool) (records : List ℕ) → IsSound v.device v.overhead s → s.failure ≡ None → Outstanding v.device s x → AllStand v s w →
+    IsAccess v s w x path tree found (found_in v.device (w.content (entry_tree v.device s.entry_number) (block_of v.device (entry_tree v.device s.entry_number) x))) records →
+    Meets v s w (stores v s w x) (stored_by v (record s { trees = slice_set s.trees (entry_tree v.device s.entry_number) tree }) x (found_in v.device (w.content (entry_tree v.device s.entry_number) (block_of v.device (entry_tree v.device s.entry_number) x))) records)
 taken_over v s w x path tree found records sound alive work holds a =
-    let i : ℕ = stage_tree v.device s.stage in
-    let leaf : ℕ = (asked s.last).leaf in
+    let i : ℕ = entry_tree v.device s.entry_number in
+    let leaf : ℕ = (requested s.message).leaf in
     let b : ℕ = block_of v.device i x in
     let bytes : List ℕ = found_in v.device (w.content i b) in
     let c : Cell = record { address = b; leaf = new_leaf v.device i x; content = block_after v.device i x bytes } in
@@ -97,11 +97,11 @@ taken_over v s w x path tree found records sound alive work holds a =
           subst (λ (e : Entry). IsPlaced v e.tree e.leaf s.nonce (after.records e.tree) (after.content e.tree)) (sym (asked_store i leaf records small)) placed_here);
     }
 
-pub stores_met : (v : Shape) (s : State) (w : World) (x : Submission) (path : Path) (tree : Tree) (found : Bool) (before records : List ℕ) → IsSound v.device v.overhead s → s.failure ≡ None → Outstanding v.device s x → AllStand v s w →
+pub stores_met : (v : Scheme) (s : State) (w : World) (x : Submission) (path : Path) (tree : Tree) (found : Bool) (before records : List ℕ) → IsSound v.device v.overhead s → s.failure ≡ None → Outstanding v.device s x → AllStand v s w →
     IsAccess v s w x path tree found before records →
-    Meets v s w (stores v s w x) (stored_by v (record s { trees = slice_set s.trees (stage_tree v.device s.stage) tree }) x before records)
+    Meets v s w (stores v s w x) (stored_by v (record s { trees = slice_set s.trees (entry_tree v.device s.entry_number) tree }) x before records)
 stores_met v s w x path tree found before records sound alive work holds a =
-    let i : ℕ = stage_tree v.device s.stage in
+    let i : ℕ = entry_tree v.device s.entry_number in
     let e : before ≡ found_in v.device (w.content i (block_of v.device i x)) = a.update.data_told in
     subst (λ (b : List ℕ). Meets v s w (stores v s w x) (stored_by v (record s { trees = slice_set s.trees i tree }) x b records)) (sym e)
     (taken_over v s w x path tree found records sound alive work holds (subst (λ (b : List ℕ). IsAccess v s w x path tree found b records) e a))

@@ -6,21 +6,21 @@ use Rattle.oram_geometry.specs.declared.Sizes.{Sizes}
 use Rattle.std.proofs.Math.Pow.{pow_mono}
 use Rattle.oram_geometry.specs.Sizes.{fanout, blocks_in, trees_of, depth_of}
 use Rattle.oram_tree.specs.Edits.{with_entry}
-use Rattle.oram_run.specs.Content.{block_of, new_leaf}
-use Rattle.oram_run.specs.Blocks.{entry_in, next_named, block_after, left_by}
-use Rattle.oram_run.specs.Events.{address_of}
-use Rattle.oram_run.specs.Messages.{asked, message_place}
-use Rattle.oram_run.specs.Run.{refusal_of, has_bad_length, is_over}
-use Rattle.oram_run.specs.State.{State, status_by, status_in}
-use Rattle.oram_run.proofs.Bounds.{depth_small}
-use Rattle.oram_run.proofs.Maps.{block_after-zero, block_after-suc}
-use Rattle.oram_run.specs.declared.events.Command.{Command}
-use Rattle.oram_run.specs.declared.events.Command.TheVariants.{Read, Write, Discard}
-use Rattle.oram_run.specs.declared.events.Reason.{Reason}
-use Rattle.oram_run.specs.declared.events.Refusal.TheVariants as refusal
-use Rattle.oram_run.specs.declared.events.Submission.{Submission}
+use Rattle.oram_semantics.specs.Content.{block_of, new_leaf}
+use Rattle.oram_semantics.specs.Blocks.{entry_in, next_named, block_after, left_by}
+use Rattle.oram_semantics.specs.Events.{address_of}
+use Rattle.oram_semantics.specs.Messages.{requested, message_place}
+use Rattle.oram_semantics.specs.Run.{refusal_of, has_bad_length, is_over}
+use Rattle.oram_semantics.specs.State.{State, status_by, status_in}
+use Rattle.oram_semantics.proofs.Bounds.{depth_small}
+use Rattle.oram_semantics.proofs.Maps.{block_after-zero, block_after-suc}
+use Rattle.oram_semantics.specs.declared.events.Command.{Command}
+use Rattle.oram_semantics.specs.declared.events.Command.TheVariants.{Read, Write, Discard}
+use Rattle.oram_semantics.specs.declared.events.Reason.{Reason}
+use Rattle.oram_semantics.specs.declared.events.Refusal.TheVariants as refusal
+use Rattle.oram_semantics.specs.declared.events.Submission.{Submission}
 use Rattle.oram_geometry.proofs.Measuring.{blocks_in-zero}
-use Rattle.oram_run.specs.Agree.{IsAllowed}
+use Rattle.oram_semantics.specs.Agree.{IsAllowed}
 
 -- a block of tree 0 has no map entries
 pub named_none : (d : Sizes) (i : ℕ) (x : Submission) (bytes : List ℕ) → i ≡ 0 → 0 ≡ next_named d i x bytes
@@ -115,6 +115,6 @@ block_mapped d (suc i) x bytes j leaf some place is =
 pub leaf_fits : (d : Sizes) (i leaf : ℕ) → leaf < 2 ^ depth_of d i → leaf < 2 ^ 24
 leaf_fits d i leaf fits = omega (arith, fits, pow_mono {i = depth_of d i} {j = 24} (depth_small d i))
 
-pub asked_leaf : (m : List ℕ) → message_place m ≡ (asked m).leaf
-unfolding asked
+pub asked_leaf : (m : List ℕ) → message_place m ≡ (requested m).leaf
+unfolding requested
 asked_leaf m = refl

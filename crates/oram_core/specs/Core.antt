@@ -6,15 +6,15 @@ use Rattle.oram_geometry.specs.Sizes.{IsDevice, trees_of, depth_of, blocks_in, r
 use Rattle.oram_bucket.specs.Bucket.{IsBlockOf}
 use Rattle.oram_tree.specs.State.{State as Tree}
 use Rattle.oram_wire.specs.HostMessages.{store_body}
-use Rattle.oram_run.specs.Agree.{IsAllowed, TicketsFrom}
-use Rattle.oram_run.specs.Shape.{Shape}
-use Rattle.oram_run.specs.Content.{stage_tree}
-use Rattle.oram_run.specs.Moves.{fetch_at}
-use Rattle.oram_run.specs.Nonces.{next_nonce}
-use Rattle.oram_run.specs.State.{State, failed_state, named_now, no_tree}
-use Rattle.oram_run.specs.declared.events.Reason.{Reason}
-use Rattle.oram_run.specs.declared.events.Reason.TheVariants.{Malformed, Tampered, HostRefused}
-use Rattle.oram_run.specs.declared.events.Submission.{Submission}
+use Rattle.oram_semantics.specs.Agree.{IsAllowed, TicketsFrom}
+use Rattle.oram_semantics.specs.Scheme.{Scheme}
+use Rattle.oram_semantics.specs.Content.{entry_tree}
+use Rattle.oram_semantics.specs.Moves.{fetch_at}
+use Rattle.oram_semantics.specs.Nonces.{next_nonce}
+use Rattle.oram_semantics.specs.State.{State, failed_state, named_now, no_tree}
+use Rattle.oram_semantics.specs.declared.events.Reason.{Reason}
+use Rattle.oram_semantics.specs.declared.events.Reason.TheVariants.{Malformed, Tampered, HostRefused}
+use Rattle.oram_semantics.specs.declared.events.Submission.{Submission}
 use Rattle.oram_core.specs.Doing.{fetch_of}
 
 -- a core, as clauses see it
@@ -24,12 +24,12 @@ pub record CoreValue (S : Type 0) : Type 0 where
   pub state : State
 
 -- a device with a sealer, given by what the sealer does
-abbrev pub shape_with : {S : Type 0} → (S → ℕ) → (S → ℕ → List ℕ → List ℕ) → (S → List ℕ → Option (List ℕ)) → Sizes → S → Shape
-shape_with overhead sealing opening d s = record { device = d; overhead = overhead s; sealing = sealing s; opening = opening s }
+abbrev pub scheme_with : {S : Type 0} → (S → ℕ) → (S → ℕ → List ℕ → List ℕ) → (S → List ℕ → Option (List ℕ)) → Sizes → S → Scheme
+scheme_with overhead sealing opening d s = record { device = d; overhead = overhead s; sealing = sealing s; opening = opening s }
 
 -- the shape of a core
-abbrev pub shape_of : {S : Type 0} → (S → ℕ) → (S → ℕ → List ℕ → List ℕ) → (S → List ℕ → Option (List ℕ)) → CoreValue S → Shape
-shape_of overhead sealing opening c = shape_with overhead sealing opening c.device c.sealer
+abbrev pub scheme_of : {S : Type 0} → (S → ℕ) → (S → ℕ → List ℕ → List ℕ) → (S → List ℕ → Option (List ℕ)) → CoreValue S → Scheme
+scheme_of overhead sealing opening c = scheme_with overhead sealing opening c.device c.sealer
 
 -- the device and the sealer are the same
 abbrev pub IsSameDevice : {S : Type 0} → CoreValue S → CoreValue S → Type 0
@@ -56,23 +56,23 @@ pub record IsStoreOf (d : Sizes) (overhead i : ℕ) (message : List ℕ) : Type 
 -- fetched last, plus one. It is 0 at the first FETCH, whose entry is in the table, and at the last STORE, which no
 -- FETCH follows.
 abbrev pub most_named : Sizes → ℕ → ℕ
-most_named d stage = if stage == 0 then 0 else if stage + 1 == 2 * trees_of d then 0 else 2 ^ depth_of d (stage_tree d (stage + stage % 2))
+most_named d entry_number = if entry_number == 0 then 0 else if entry_number + 1 == 2 * trees_of d then 0 else 2 ^ depth_of d (entry_tree d (entry_number + entry_number % 2))
 
 -- The oldest command is at work: the message sent last is its FETCH of the leaf that the map names for its block, or a
 -- STORE of a path of that tree. The block of tree 0 is held at the last STORE.
 pub record IsAtWork (d : Sizes) (overhead : ℕ) (s : State) (x : Submission) : Type 0 where
-  pub stage : s.stage < 2 * trees_of d
-  pub fetch : s.stage % 2 ≡ 0 → s.last ≡ fetch_of (fetch_at d s.stage (named_now d s x) x)
-  pub store : s.stage % 2 ≡ 1 → IsStoreOf d overhead (stage_tree d s.stage) s.last
-  pub named : s.named ≤ most_named d s.stage
-  pub before : length s.before ≡ (if s.stage + 1 == 2 * trees_of d then d.block_bytes else 0)
+  pub entry_number : s.entry_number < 2 * trees_of d
+  pub fetch : s.entry_number % 2 ≡ 0 → s.message ≡ fetch_of (fetch_at d s.entry_number (named_now d s x) x)
+  pub store : s.entry_number % 2 ≡ 1 → IsStoreOf d overhead (entry_tree d s.entry_number) s.message
+  pub held_entry : s.held_entry ≤ most_named d s.entry_number
+  pub held_data : length s.held_data ≡ (if s.entry_number + 1 == 2 * trees_of d then d.block_bytes else 0)
 
 -- no command is at work
 pub record IsResting (s : State) : Type 0 where
-  pub stage : s.stage ≡ 0
-  pub named : s.named ≡ 0
-  pub before : s.before ≡ []
-  pub last : s.last ≡ []
+  pub entry_number : s.entry_number ≡ 0
+  pub held_entry : s.held_entry ≡ 0
+  pub held_data : s.held_data ≡ []
+  pub message : s.message ≡ []
   pub lost : s.lost ≡ false
 
 abbrev pub AtWork : Sizes → ℕ → State → List Submission → Type 0
@@ -90,7 +90,7 @@ pub record IsHealthy (d : Sizes) (overhead : ℕ) (s : State) : Type 0 where
   pub most : length s.queue ≤ 64
   pub begun : length s.queue ≤ s.next
   pub work : AtWork d overhead s s.queue
-  pub nonce : s.nonce ≡ next_nonce d (s.next - length s.queue) s.stage
+  pub nonce : s.nonce ≡ next_nonce d (s.next - length s.queue) s.entry_number
 
 -- the reason names a tree of the device and a level of that tree, or a code of the host
 abbrev pub IsReasonOf : Sizes → Reason → Type 0

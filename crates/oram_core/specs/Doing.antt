@@ -3,27 +3,27 @@ use Rattle.std.specs.Prelude.{ℕ, ◌+◌, ◌-◌, ◌^◌, ◌==◌, ◌&&◌
 use Rattle.std.specs.Str.{bytes_eq}
 use Rattle.oram_geometry.specs.declared.Sizes.{Sizes}
 use Rattle.oram_geometry.specs.Sizes.{trees_of, depth_of}
-use Rattle.oram_trace.specs.declared.asked.Entry.{Entry}
+use Rattle.oram_trace.specs.declared.entries.Entry.{Entry}
 use Rattle.oram_wire.specs.HostMessages.{fetch_body, store_body}
-use Rattle.oram_run.specs.Events.{failed_reply}
-use Rattle.oram_run.specs.Shape.{Shape}
-use Rattle.oram_run.specs.Content.{block_of, new_leaf, stage_tree}
-use Rattle.oram_run.specs.Messages.{asked}
-use Rattle.oram_run.specs.Moves.{fetch_at, latest}
-use Rattle.oram_run.specs.Blocks.{body_from, next_named, kept_of}
-use Rattle.oram_run.specs.Progress.{Status}
-use Rattle.oram_run.specs.Progress.Status.{Idle, Waiting, Stalling, Over}
-use Rattle.oram_run.specs.Run.{refusal_of, is_over}
-use Rattle.oram_run.specs.State.{State, failed_state, named_now, status_in}
-use Rattle.oram_run.specs.declared.events.Event.{Event}
-use Rattle.oram_run.specs.declared.events.Event.TheVariants.{Submit, Answer, Lost, Reopen, Retry}
-use Rattle.oram_run.specs.declared.events.Note.{Note}
-use Rattle.oram_run.specs.declared.events.Note.TheVariants.{Accepted, Refused, Taken, Stalled, FailedNow, Resent, Unexpected}
-use Rattle.oram_run.specs.declared.events.Reason.{Reason}
-use Rattle.oram_run.specs.declared.events.Refusal.{Refusal}
-use Rattle.oram_run.specs.declared.events.Reply.{Reply}
-use Rattle.oram_run.specs.declared.events.Reaction.{Reaction}
-use Rattle.oram_run.specs.declared.events.Submission.{Submission}
+use Rattle.oram_semantics.specs.Events.{failed_reply}
+use Rattle.oram_semantics.specs.Scheme.{Scheme}
+use Rattle.oram_semantics.specs.Content.{block_of, new_leaf, entry_tree}
+use Rattle.oram_semantics.specs.Messages.{requested}
+use Rattle.oram_semantics.specs.Moves.{fetch_at, latest}
+use Rattle.oram_semantics.specs.Blocks.{body_from, next_named, kept_of}
+use Rattle.oram_semantics.specs.Progress.{Status}
+use Rattle.oram_semantics.specs.Progress.Status.{Idle, Waiting, Stalling, Over}
+use Rattle.oram_semantics.specs.Run.{refusal_of, is_over}
+use Rattle.oram_semantics.specs.State.{State, failed_state, named_now, status_in}
+use Rattle.oram_semantics.specs.declared.events.Event.{Event}
+use Rattle.oram_semantics.specs.declared.events.Event.TheVariants.{Submit, Answer, Lost, Reopen, Retry}
+use Rattle.oram_semantics.specs.declared.events.Note.{Note}
+use Rattle.oram_semantics.specs.declared.events.Note.TheVariants.{Accepted, Refused, Taken, Stalled, FailedNow, Resent, Unexpected}
+use Rattle.oram_semantics.specs.declared.events.Reason.{Reason}
+use Rattle.oram_semantics.specs.declared.events.Refusal.{Refusal}
+use Rattle.oram_semantics.specs.declared.events.Reply.{Reply}
+use Rattle.oram_semantics.specs.declared.events.Reaction.{Reaction}
+use Rattle.oram_semantics.specs.declared.events.Submission.{Submission}
 
 -- what a core shows at a step, and its state afterwards
 pub record Done : Type 0 where
@@ -55,54 +55,54 @@ abbrev pub sent_if_idle : List Submission → List ℕ → List (List ℕ)
 sent_if_idle [] m = m ∷ []
 sent_if_idle (x ∷ rest) m = []
 
-abbrev pub accepted_by : Shape → State → Submission → Done
+abbrev pub accepted_by : Scheme → State → Submission → Done
 accepted_by v s x =
     let sends = sent_if_idle s.queue (first_message v.device s x) in
-    record { note = Accepted x.ticket; replies = []; sends = sends; state = record s { next = s.next + 1; queue = s.queue ++ x ∷ []; last = latest sends s.last } }
+    record { note = Accepted x.ticket; replies = []; sends = sends; state = record s { next = s.next + 1; queue = s.queue ++ x ∷ []; message = latest sends s.message } }
 
 abbrev pub stalled_by : State → Done
 stalled_by s = noted (record s { lost = true }) Stalled
 
 abbrev pub resent_by : State → Done
-resent_by s = record { note = Resent; replies = []; sends = s.last ∷ []; state = record s { lost = false } }
+resent_by s = record { note = Resent; replies = []; sends = s.message ∷ []; state = record s { lost = false } }
 
 abbrev pub failed_by : State → Reason → Done
 failed_by s e = record { note = FailedNow e; replies = map failed_reply s.queue; sends = []; state = failed_state s.next s.nonce e }
 
 -- the core fetches the path of the next tree
-abbrev pub fetched_by : Shape → State → Submission → Done
+abbrev pub fetched_by : Scheme → State → Submission → Done
 fetched_by v s x =
-    let m = fetch_of (fetch_at v.device (s.stage + 1) s.named x) in
-    record { note = Taken; replies = []; sends = m ∷ []; state = record s { stage = s.stage + 1; last = m } }
+    let m = fetch_of (fetch_at v.device (s.entry_number + 1) s.held_entry x) in
+    record { note = Taken; replies = []; sends = m ∷ []; state = record s { entry_number = s.entry_number + 1; message = m } }
 
 -- the core replies to the oldest command
-abbrev pub finished_by : Shape → State → Submission → List Submission → Done
+abbrev pub finished_by : Scheme → State → Submission → List Submission → Done
 finished_by v s x rest =
     let sends = first_messages v.device s rest in
     record {
       note = Taken;
-      replies = (record { session = x.session; ticket = x.ticket; body = body_from s.before x.command }) ∷ [];
+      replies = (record { session = x.session; ticket = x.ticket; body = body_from s.held_data x.command }) ∷ [];
       sends = sends;
-      state = record s { queue = rest; stage = 0; named = 0; before = []; last = latest sends [] };
+      state = record s { queue = rest; entry_number = 0; held_entry = 0; held_data = []; message = latest sends [] };
     }
 
 -- the core stores a path; the tree in s has changed by the access already
-abbrev pub stored_by : Shape → State → Submission → List ℕ → List ℕ → Done
+abbrev pub stored_by : Scheme → State → Submission → List ℕ → List ℕ → Done
 stored_by v s x before records =
     let d = v.device in
-    let i = stage_tree d s.stage in
-    let m = store_body i (asked s.last).leaf records in
+    let i = entry_tree d s.entry_number in
+    let m = store_body i (requested s.message).leaf records in
     record {
       note = Taken;
       replies = [];
       sends = m ∷ [];
       state = record s {
-        table = if s.stage == 0 then slice_set s.table (block_of d i x) (new_leaf d i x + 1) else s.table;
+        table = if s.entry_number == 0 then slice_set s.table (block_of d i x) (new_leaf d i x + 1) else s.table;
         nonce = s.nonce + (depth_of d i + 1);
-        stage = s.stage + 1;
-        named = next_named d i x before;
-        before = kept_of i before;
-        last = m;
+        entry_number = s.entry_number + 1;
+        held_entry = next_named d i x before;
+        held_data = kept_of i before;
+        message = m;
       };
     }
 
@@ -119,13 +119,13 @@ is_stalled Waiting = false
 is_stalled Over = false
 
 -- the map has led astray: it names a block that isn't found, or its entry for the tree below is no leaf there
-abbrev pub is_misled : Shape → State → Submission → Bool → List ℕ → Bool
+abbrev pub is_misled : Scheme → State → Submission → Bool → List ℕ → Bool
 is_misled v s x found before =
-    let i = stage_tree v.device s.stage in
+    let i = entry_tree v.device s.entry_number in
     (not (named_now v.device s x == 0) && not found) || (nat_lt 0 i && nat_lt (2 ^ depth_of v.device (i - 1)) (next_named v.device i x before))
 
 -- the core refuses a submission, or adds it to the queue
-abbrev pub submitted_by : Shape → State → Submission → Option Refusal → Done
+abbrev pub submitted_by : Scheme → State → Submission → Option Refusal → Done
 submitted_by v s x (Some e) = noted s (Refused e)
 submitted_by v s x None = accepted_by v s x
 
@@ -152,7 +152,7 @@ unheard_by s no_room Over = Some (noted s Unexpected)
 
 -- What a core does at an event whatever the host keeps. It is known for each event except an answer that the core
 -- waits for and that isn't the refusal for lack of room.
-abbrev pub plain_step : Shape → State → Event → Option Done
+abbrev pub plain_step : Scheme → State → Event → Option Done
 plain_step v s (Submit session c words) =
     Some (submitted_by v s (record { session = session; ticket = s.next; command = c; words = words }) (refusal_of v.device (is_over (status_in s)) (length s.queue) s.next c words))
 plain_step v s (Answer bytes) = unheard_by s (bytes_eq bytes (129 ∷ 8 ∷ [])) (status_in s)

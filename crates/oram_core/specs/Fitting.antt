@@ -4,13 +4,13 @@ use Rattle.std.specs.List.{All}
 use Rattle.oram_geometry.specs.declared.Sizes.{Sizes}
 use Rattle.oram_geometry.specs.Sizes.{trees_of, depth_of, blocks_in}
 use Rattle.oram_tree.specs.Parts.{Parts as TreeParts, ArePartsOf}
-use Rattle.oram_run.specs.Agree.{IsAllowed}
-use Rattle.oram_run.specs.Content.{stage_tree}
-use Rattle.oram_run.specs.Moves.{fetch_at}
-use Rattle.oram_run.specs.Nonces.{next_nonce}
-use Rattle.oram_run.specs.State.{State, named_now}
-use Rattle.oram_run.specs.declared.events.Submission.{Submission}
-use Rattle.oram_run.specs.declared.events.Reason.{Reason}
+use Rattle.oram_semantics.specs.Agree.{IsAllowed}
+use Rattle.oram_semantics.specs.Content.{entry_tree}
+use Rattle.oram_semantics.specs.Moves.{fetch_at}
+use Rattle.oram_semantics.specs.Nonces.{next_nonce}
+use Rattle.oram_semantics.specs.State.{State, named_now}
+use Rattle.oram_semantics.specs.declared.events.Submission.{Submission}
+use Rattle.oram_semantics.specs.declared.events.Reason.{Reason}
 use Rattle.oram_core.specs.Core.{AtWork, IsReasonOf, IsResting, IsStoreOf}
 use Rattle.oram_core.specs.Doing.{fetch_of}
 use Rattle.oram_core.specs.Parts.{Parts, state_of, submission_at, submissions_from}
@@ -22,8 +22,8 @@ pub record HasTable (d : Sizes) (table : List ℕ) : Type 0 where
 
 -- the message sent last is the one that the command has at this stage
 pub record HasMessage (d : Sizes) (overhead : ℕ) (s : State) (x : Submission) : Type 0 where
-  pub fetch : s.stage % 2 ≡ 0 → s.last ≡ fetch_of (fetch_at d s.stage (named_now d s x) x)
-  pub store : s.stage % 2 ≡ 1 → IsStoreOf d overhead (stage_tree d s.stage) s.last
+  pub fetch : s.entry_number % 2 ≡ 0 → s.message ≡ fetch_of (fetch_at d s.entry_number (named_now d s x) x)
+  pub store : s.entry_number % 2 ≡ 1 → IsStoreOf d overhead (entry_tree d s.entry_number) s.message
 
 -- at most 64 commands wait, no more than were accepted, and the device allows each
 pub record AreWaiting (p : Parts) : Type 0 where
@@ -37,7 +37,7 @@ pub record IsWorking (overhead : ℕ) (p : Parts) : Type 0 where
   pub count : length p.trees ≡ trees_of p.device
   pub waiting : AreWaiting p
   pub work : AtWork p.device overhead (state_of p) (submissions_from (p.tickets - length p.waiting) p.waiting)
-  pub nonce : p.nonce ≡ next_nonce p.device (p.tickets - length p.waiting) p.r
+  pub nonce : p.nonce ≡ next_nonce p.device (p.tickets - length p.waiting) p.entry_number
 
 -- there are no table, no trees and no commands
 pub record HoldsNothing (p : Parts) : Type 0 where

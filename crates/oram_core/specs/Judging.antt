@@ -11,72 +11,72 @@ use Rattle.oram_hash.specs.Tree.{IsStored, IsPathOf, Collides}
 use Rattle.oram_hash.specs.Verdict.{IsFaultOf}
 use Rattle.oram_tree.specs.Access.{IsLookup, IsNear, IsReadable}
 use Rattle.oram_tree.specs.State.{State as Tree}
-use Rattle.oram_run.specs.Answers.{is_refusal}
-use Rattle.oram_run.specs.Content.{block_of, stage_tree}
-use Rattle.oram_run.specs.Messages.{asked}
-use Rattle.oram_run.specs.Shape.{Shape, record_len}
-use Rattle.oram_run.specs.State.{State, no_tree}
-use Rattle.oram_run.specs.declared.events.Note.{Note}
-use Rattle.oram_run.specs.declared.events.Note.TheVariants.{Accepted, Refused, Taken, Stalled, FailedNow, Resent, Unexpected}
-use Rattle.oram_run.specs.declared.events.Reason.{Reason}
-use Rattle.oram_run.specs.declared.events.Reason.TheVariants.{Malformed, Tampered, HostRefused}
-use Rattle.oram_run.specs.declared.events.Submission.{Submission}
+use Rattle.oram_semantics.specs.Answers.{is_refusal}
+use Rattle.oram_semantics.specs.Content.{block_of, entry_tree}
+use Rattle.oram_semantics.specs.Messages.{requested}
+use Rattle.oram_semantics.specs.Scheme.{Scheme, record_len}
+use Rattle.oram_semantics.specs.State.{State, no_tree}
+use Rattle.oram_semantics.specs.declared.events.Note.{Note}
+use Rattle.oram_semantics.specs.declared.events.Note.TheVariants.{Accepted, Refused, Taken, Stalled, FailedNow, Resent, Unexpected}
+use Rattle.oram_semantics.specs.declared.events.Reason.{Reason}
+use Rattle.oram_semantics.specs.declared.events.Reason.TheVariants.{Malformed, Tampered, HostRefused}
+use Rattle.oram_semantics.specs.declared.events.Submission.{Submission}
 use Rattle.oram_core.specs.Doing.{is_misled}
 
 -- the tree of the outstanding path, as the core has it
-abbrev pub tree_now : Shape → State → Tree
-tree_now v s = slice_index_or s.trees (stage_tree v.device s.stage) no_tree
+abbrev pub tree_now : Scheme → State → Tree
+tree_now v s = slice_index_or s.trees (entry_tree v.device s.entry_number) no_tree
 
 -- these bytes, taken as the outstanding path
-abbrev pub path_now : Shape → State → List ℕ → Path
-path_now v s records = path_of v.device (stage_tree v.device s.stage) (asked s.last).leaf v.overhead records
+abbrev pub path_now : Scheme → State → List ℕ → Path
+path_now v s records = path_of v.device (entry_tree v.device s.entry_number) (requested s.message).leaf v.overhead records
 
 -- relates a sealed bucket of that tree to the blocks that it reads as
-abbrev pub reads_now : Shape → State → List ℕ → List Cell → Type 0
-reads_now v s = Reads v.opening v.device (stage_tree v.device s.stage)
+abbrev pub reads_now : Scheme → State → List ℕ → List Cell → Type 0
+reads_now v s = Reads v.opening v.device (entry_tree v.device s.entry_number)
 
 -- The result of checking these records as that path, under the root digest of its tree: in terms of digests, and
 -- compared with every stored tree under this root digest.
-pub record IsChecked {A : Type 0} (v : Shape) (s : State) (records : List ℕ) (checked : Result A HashFault) : Type 0 where
+pub record IsChecked {A : Type 0} (v : Scheme) (s : State) (records : List ℕ) (checked : Result A HashFault) : Type 0 where
   pub accepted : IsOk checked ↔ IsAccepted (path_now v s records) (tree_now v s).root
   pub short : (checked ≡ Err fault.Length) ↔ (¬ HasLength (path_now v s records))
   pub tampered : (level : ℕ) → (checked ≡ Err (fault.Tampered level)) ↔ IsTamperedAt (path_now v s records) (tree_now v s).root level
-  pub judged : (stored : ℕ → List ℕ) → IsStored (depth_of v.device (stage_tree v.device s.stage)) (record_len v) (tree_now v s).root stored →
+  pub judged : (stored : ℕ → List ℕ) → IsStored (depth_of v.device (entry_tree v.device s.entry_number)) (record_len v) (tree_now v s).root stored →
       MatchResult checked (λ _. IsPathOf stored (path_now v s records)) (IsFaultOf stored (path_now v s records)) ⊎ Collides stored (path_now v s records)
 
 -- the number of bytes that should follow the first byte of the answer: those of a path after a FETCH, none after a STORE
-abbrev pub answer_len : Shape → State → ℕ
-answer_len v s = if s.stage % 2 == 0 then (depth_of v.device (stage_tree v.device s.stage) + 1) * record_len v else 0
+abbrev pub answer_len : Scheme → State → ℕ
+answer_len v s = if s.entry_number % 2 == 0 then (depth_of v.device (entry_tree v.device s.entry_number) + 1) * record_len v else 0
 
 -- the answer is byte 80 and the right number of bytes
-abbrev pub is_formed : Shape → State → List ℕ → Bool
+abbrev pub is_formed : Scheme → State → List ℕ → Bool
 is_formed v s [] = false
 is_formed v s (first ∷ rest) = (first == 128) && (length rest == answer_len v s)
 
-abbrev pub IsReadableNow : Shape → State → Path → Type 0
+abbrev pub IsReadableNow : Scheme → State → Path → Type 0
 IsReadableNow v s p = IsReadable (reads_now v s) p (tree_now v s).stash
 
 -- The path is readable, and `lookup` is the result of looking for the oldest command's block on it and in the stash.
 -- `astray` says whether the map has led astray: it names a block that isn't found, or the block's entry for the next
 -- tree is no leaf there.
-pub record Leads (v : Shape) (s : State) (p : Path) (astray : Bool) : Type 0 where
+pub record LooksUp (v : Scheme) (s : State) (p : Path) (astray : Bool) : Type 0 where
   pub readable : IsReadableNow v s p
   pub oldest : Submission
   pub rest : List Submission
   pub queue : s.queue ≡ oldest ∷ rest
   pub found : Bool
   pub before : List ℕ
-  pub lookup : IsLookup (IsNear (reads_now v s) p (tree_now v s).stash) v.device.block_bytes (block_of v.device (stage_tree v.device s.stage) oldest) found before
+  pub lookup : IsLookup (IsNear (reads_now v s) p (tree_now v s).stash) v.device.block_bytes (block_of v.device (entry_tree v.device s.entry_number) oldest) found before
   pub led : is_misled v s oldest found before ≡ astray
 
 -- the path can't be read, or the map has led astray
-abbrev pub IsUseless : Shape → State → Path → Type 0
-IsUseless v s p = (¬ IsReadableNow v s p) ⊎ Leads v s p true
+abbrev pub IsUseless : Scheme → State → Path → Type 0
+IsUseless v s p = (¬ IsReadableNow v s p) ⊎ LooksUp v s p true
 
 -- the note that the core gives when it uses a path that passed the check
-abbrev pub IsUseOf : Shape → State → Path → Note → Type 0
-IsUseOf v s p (FailedNow e) = (e ≡ Tampered (stage_tree v.device s.stage) 0) × IsUseless v s p
-IsUseOf v s p Taken = Leads v s p false
+abbrev pub IsUseOf : Scheme → State → Path → Note → Type 0
+IsUseOf v s p (FailedNow e) = (e ≡ Tampered (entry_tree v.device s.entry_number) 0) × IsUseless v s p
+IsUseOf v s p Taken = LooksUp v s p false
 IsUseOf v s p (Accepted t) = ⊥
 IsUseOf v s p (Refused e) = ⊥
 IsUseOf v s p Stalled = ⊥
@@ -85,33 +85,33 @@ IsUseOf v s p Unexpected = ⊥
 
 -- a path of the right length that is tampered with: at the first record that doesn't have its expected digest, or, at
 -- level 0, as a path that is useless though it passes the check
-pub record IsSpoilt (v : Shape) (s : State) (bytes : List ℕ) (level : ℕ) : Type 0 where
-  pub fetched : s.stage % 2 ≡ 0
+pub record IsSpoilt (v : Scheme) (s : State) (bytes : List ℕ) (level : ℕ) : Type 0 where
+  pub fetched : s.entry_number % 2 ≡ 0
   pub records : List ℕ
   pub answer : bytes ≡ 128 ∷ records
   pub spoilt : IsTamperedAt (path_now v s records) (tree_now v s).root level
       ⊎ ((level ≡ 0) × IsAccepted (path_now v s records) (tree_now v s).root × IsUseless v s (path_now v s records))
 
 -- why the answer fails the device
-abbrev pub IsReasonFor : Shape → State → List ℕ → Reason → Type 0
+abbrev pub IsReasonFor : Scheme → State → List ℕ → Reason → Type 0
 IsReasonFor v s bytes (HostRefused code) = (bytes ≡ 129 ∷ code ∷ []) × (1 ≤ code) × (code ≤ 7)
 IsReasonFor v s bytes Malformed = (is_refusal bytes ≡ false) × (is_formed v s bytes ≡ false)
-IsReasonFor v s bytes (Tampered i level) = (i ≡ stage_tree v.device s.stage) × IsSpoilt v s bytes level
+IsReasonFor v s bytes (Tampered i level) = (i ≡ entry_tree v.device s.entry_number) × IsSpoilt v s bytes level
 
 -- the answer is a path that passes the check and can be used
-pub record IsUseful (v : Shape) (s : State) (bytes : List ℕ) : Type 0 where
+pub record IsUseful (v : Scheme) (s : State) (bytes : List ℕ) : Type 0 where
   pub records : List ℕ
   pub answer : bytes ≡ 128 ∷ records
   pub accepted : IsAccepted (path_now v s records) (tree_now v s).root
-  pub leads : Leads v s (path_now v s records) false
+  pub leads : LooksUp v s (path_now v s records) false
 
 -- the answer is good, as far as the core can tell
-pub record IsGood (v : Shape) (s : State) (bytes : List ℕ) : Type 0 where
-  pub fetched : s.stage % 2 ≡ 0 → IsUseful v s bytes
-  pub stored : s.stage % 2 ≡ 1 → bytes ≡ 128 ∷ []
+pub record IsGood (v : Scheme) (s : State) (bytes : List ℕ) : Type 0 where
+  pub fetched : s.entry_number % 2 ≡ 0 → IsUseful v s bytes
+  pub stored : s.entry_number % 2 ≡ 1 → bytes ≡ 128 ∷ []
 
 -- the note that the core gives for an answer that it waits for, except for the refusal for lack of room
-abbrev pub IsVerdict : Shape → State → List ℕ → Note → Type 0
+abbrev pub IsVerdict : Scheme → State → List ℕ → Note → Type 0
 IsVerdict v s bytes (FailedNow e) = IsReasonFor v s bytes e
 IsVerdict v s bytes Taken = IsGood v s bytes
 IsVerdict v s bytes (Accepted t) = ⊥

@@ -5,9 +5,9 @@ use Rattle.oram_geometry.specs.declared.Sizes.{Sizes}
 use Rattle.oram_bucket.specs.Cell.{IsRising}
 use Rattle.oram_tree.specs.Parts.{Parts as TreeParts, parts_of as tree_parts, tree_of}
 use Rattle.oram_tree.specs.State.{State as Tree}
-use Rattle.oram_run.specs.State.{State}
-use Rattle.oram_run.specs.declared.events.Reason.{Reason}
-use Rattle.oram_run.specs.declared.events.Submission.{Submission}
+use Rattle.oram_semantics.specs.State.{State}
+use Rattle.oram_semantics.specs.declared.events.Reason.{Reason}
+use Rattle.oram_semantics.specs.declared.events.Submission.{Submission}
 use Rattle.oram_core.specs.Core.{IsSound}
 use Rattle.oram_core.specs.declared.parts.Pending.{Pending}
 
@@ -19,8 +19,8 @@ pub record Parts : Type 0 where
   pub trees : List TreeParts  -- from tree 0 on
   pub failure : Option Reason
   pub waiting : List Pending  -- the commands without a reply, the oldest first
-  pub r : ℕ  -- the entry of the oldest of them that is outstanding
-  pub held_entry : ℕ  -- what the map named for the tree of the next fetch, or of the one sent last
+  pub entry_number : ℕ  -- of the oldest command: which of its fetches and stores is outstanding
+  pub held_entry : ℕ  -- the map entry of the block in the tree that is fetched next, or was fetched last
   pub held_data : List ℕ  -- the block of tree 0 as it was read
   pub message : List ℕ  -- the message sent last
   pub stalled : Bool  -- whether that counts as lost
@@ -38,10 +38,10 @@ parts_of d s = record {
   trees = map tree_parts s.trees;
   failure = s.failure;
   waiting = map pending_of s.queue;
-  r = s.stage;
-  held_entry = s.named;
-  held_data = s.before;
-  message = s.last;
+  entry_number = s.entry_number;
+  held_entry = s.held_entry;
+  held_data = s.held_data;
+  message = s.message;
   stalled = s.lost;
 }
 
@@ -67,10 +67,10 @@ state_of p = record {
   next = p.tickets;
   nonce = p.nonce;
   queue = submissions_from (p.tickets - length p.waiting) p.waiting;
-  stage = p.r;
-  named = p.held_entry;
-  before = p.held_data;
-  last = p.message;
+  entry_number = p.entry_number;
+  held_entry = p.held_entry;
+  held_data = p.held_data;
+  message = p.message;
   lost = p.stalled;
   failure = p.failure;
 }

@@ -1,17 +1,17 @@
 -- Everything that a step promises.
 use Rattle.std.specs.Prelude.{◌≡◌, ◌≢◌, ℕ, ◌+◌, ◌*◌, ◌%◌, ◌<◌, ◌⊎◌, false, List, [], ◌∷◌, length, Some, map}
 use Rattle.oram_geometry.specs.Sizes.{trees_of}
-use Rattle.oram_run.specs.Events.{failed_reply}
-use Rattle.oram_run.specs.Moves.{Fits, Moves, shows_in}
-use Rattle.oram_run.specs.Progress.Status.{Waiting}
-use Rattle.oram_run.specs.Run.{Shown}
-use Rattle.oram_run.specs.Shape.{Shape}
-use Rattle.oram_run.specs.State.{State, World, failed_state, status_in}
-use Rattle.oram_run.specs.declared.events.Event.{Event}
-use Rattle.oram_run.specs.declared.events.Event.TheVariants.{Answer}
-use Rattle.oram_run.specs.declared.events.Note.TheVariants.{Taken, FailedNow}
-use Rattle.oram_run.specs.declared.events.Reason.{Reason}
-use Rattle.oram_run.specs.declared.events.Submission.{Submission}
+use Rattle.oram_semantics.specs.Events.{failed_reply}
+use Rattle.oram_semantics.specs.Moves.{Fits, Moves, shows_in}
+use Rattle.oram_semantics.specs.Progress.Status.{Waiting}
+use Rattle.oram_semantics.specs.Run.{Shown}
+use Rattle.oram_semantics.specs.Scheme.{Scheme}
+use Rattle.oram_semantics.specs.State.{State, World, failed_state, status_in}
+use Rattle.oram_semantics.specs.declared.events.Event.{Event}
+use Rattle.oram_semantics.specs.declared.events.Event.TheVariants.{Answer}
+use Rattle.oram_semantics.specs.declared.events.Note.TheVariants.{Taken, FailedNow}
+use Rattle.oram_semantics.specs.declared.events.Reason.{Reason}
+use Rattle.oram_semantics.specs.declared.events.Submission.{Submission}
 use Rattle.oram_core.specs.Doing.{Done, plain_step, fetched_by, finished_by}
 use Rattle.oram_core.specs.Judging.{IsVerdict}
 
@@ -27,39 +27,39 @@ pub record Fails (s : State) (d : Done) : Type 0 where
   pub state : d.state ≡ failed_state s.next s.nonce reason
 
 -- the core fetches the path that the map named for the oldest command's block, and changes nothing else
-pub record IsNextFetched (v : Shape) (s : State) (d : Done) : Type 0 where
+pub record IsNextFetched (v : Scheme) (s : State) (d : Done) : Type 0 where
   pub oldest : Submission
   pub rest : List Submission
   pub queue : s.queue ≡ oldest ∷ rest
   pub does : d ≡ fetched_by v s oldest
 
 -- the core sends the oldest command's next message
-pub record GoesOn (v : Shape) (s : State) (d : Done) : Type 0 where
+pub record GoesOn (v : Scheme) (s : State) (d : Done) : Type 0 where
   pub note : d.note ≡ Taken
   pub replies : d.replies ≡ []
-  pub sends : d.sends ≡ d.state.last ∷ []
+  pub sends : d.sends ≡ d.state.message ∷ []
   pub queue : d.state.queue ≡ s.queue
   pub waits : status_in d.state ≡ Waiting
   pub next : d.state.next ≡ s.next
-  pub stage : d.state.stage ≡ s.stage + 1
-  pub within : d.state.stage < 2 * trees_of v.device
+  pub entry_number : d.state.entry_number ≡ s.entry_number + 1
+  pub within : d.state.entry_number < 2 * trees_of v.device
   -- after a STORE, that is the FETCH of the path that the map named
-  pub fetched : s.stage % 2 ≡ 1 → IsNextFetched v s d
+  pub fetched : s.entry_number % 2 ≡ 1 → IsNextFetched v s d
 
 -- the oldest command gets its reply, with a whole block of data, and the next command begins
-pub record Replies (v : Shape) (s : State) (d : Done) : Type 0 where
+pub record Replies (v : Scheme) (s : State) (d : Done) : Type 0 where
   pub oldest : Submission
   pub rest : List Submission
   pub queue : s.queue ≡ oldest ∷ rest
   pub does : d ≡ finished_by v s oldest rest
-  pub long : length s.before ≡ v.device.block_bytes
+  pub long : length s.held_data ≡ v.device.block_bytes
 
 -- the effect of an answer that the core waits for, whatever host gives it
-abbrev pub Heard : Shape → State → Done → Type 0
+abbrev pub Heard : Scheme → State → Done → Type 0
 Heard v s d = Fails s d ⊎ (GoesOn v s d ⊎ Replies v s d)
 
 -- A step at an event, which shows x and leaves the core in the state t.
-pub record Steps (v : Shape) (s : State) (event : Event) (x : Shown) (t : State) : Type 0 where
+pub record Steps (v : Scheme) (s : State) (event : Event) (x : Shown) (t : State) : Type 0 where
   -- if the effect of the event doesn't depend on the trees, it is the plain step
   pub plain : (d : Done) → plain_step v s event ≡ Some d → did x t ≡ d
   -- any other answer that the core waits for, from whatever host, fails it, makes it go on, or gives a reply

@@ -2,27 +2,27 @@
 use Rattle.std.specs.Prelude.{◌≡◌, ℕ, ◌%◌, ◌==◌, not, if◌then◌else◌, List, [], ◌∷◌, length, slice_index, Option, Some, None, nat_lt}
 use Rattle.oram_hash.specs.Path.{IsAccepted}
 use Rattle.oram_hash.specs.Tree.{IsPathOf}
-use Rattle.oram_run.specs.Answers.{outcome_of}
-use Rattle.oram_run.specs.Answers.Outcome.{Good, NoRoom, Fails}
-use Rattle.oram_run.specs.Content.{stage_tree}
-use Rattle.oram_run.specs.Messages.{asked}
-use Rattle.oram_run.specs.Shape.{Shape}
-use Rattle.oram_run.specs.State.{State, World}
+use Rattle.oram_semantics.specs.Answers.{outcome_of}
+use Rattle.oram_semantics.specs.Answers.Outcome.{Good, NoRoom, Fails}
+use Rattle.oram_semantics.specs.Content.{entry_tree}
+use Rattle.oram_semantics.specs.Messages.{requested}
+use Rattle.oram_semantics.specs.Scheme.{Scheme}
+use Rattle.oram_semantics.specs.State.{State, World}
 use Rattle.oram_core.specs.Judging.{path_now, tree_now, IsReasonFor}
 use Rattle.oram_core.specs.declared.verdicts.Verdict.{Verdict}
 use Rattle.oram_core.specs.declared.verdicts.Verdict.TheVariants as verdict
 
 -- the verdict agrees with the answer's outcome in a world
-abbrev pub Means : Shape → State → World → List ℕ → Verdict → Type 0
-Means v s w bytes (verdict.Path p) = (outcome_of v w.records (asked s.last) bytes ≡ Good) × IsPathOf (w.records (stage_tree v.device s.stage)) p
-Means v s w bytes verdict.Stored = outcome_of v w.records (asked s.last) bytes ≡ Good
-Means v s w bytes verdict.NoRoom = outcome_of v w.records (asked s.last) bytes ≡ NoRoom
-Means v s w bytes (verdict.Bad e) = outcome_of v w.records (asked s.last) bytes ≡ Fails e
+abbrev pub Means : Scheme → State → World → List ℕ → Verdict → Type 0
+Means v s w bytes (verdict.Path p) = (outcome_of v w.records (requested s.message) bytes ≡ Good) × IsPathOf (w.records (entry_tree v.device s.entry_number)) p
+Means v s w bytes verdict.Stored = outcome_of v w.records (requested s.message) bytes ≡ Good
+Means v s w bytes verdict.NoRoom = outcome_of v w.records (requested s.message) bytes ≡ NoRoom
+Means v s w bytes (verdict.Bad e) = outcome_of v w.records (requested s.message) bytes ≡ Fails e
 
 -- the verdict is right by the core's own digests
-abbrev pub Tells : Shape → State → List ℕ → Verdict → Type 0
-Tells v s bytes (verdict.Path p) = (s.stage % 2 ≡ 0) × (bytes ≡ 128 ∷ p.bytes) × (p ≡ path_now v s p.bytes) × IsAccepted p (tree_now v s).root
-Tells v s bytes verdict.Stored = (s.stage % 2 ≡ 1) × (bytes ≡ 128 ∷ [])
+abbrev pub Tells : Scheme → State → List ℕ → Verdict → Type 0
+Tells v s bytes (verdict.Path p) = (s.entry_number % 2 ≡ 0) × (bytes ≡ 128 ∷ p.bytes) × (p ≡ path_now v s p.bytes) × IsAccepted p (tree_now v s).root
+Tells v s bytes verdict.Stored = (s.entry_number % 2 ≡ 1) × (bytes ≡ 128 ∷ [])
 Tells v s bytes verdict.NoRoom = bytes ≡ 129 ∷ 8 ∷ []
 Tells v s bytes (verdict.Bad e) = IsReasonFor v s bytes e
 

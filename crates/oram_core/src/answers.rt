@@ -1,13 +1,13 @@
 //! What a core does with the host's answers.
 ghost use Rattle.std.specs.Prelude.{◌≡◌, ◌≢◌, ◌-◌, ◌<◌, false, [], ◌∷◌, map, IsOk, IfOk, OnErr};
-ghost use Rattle.oram_run.specs.Answers.{outcome_of, pair_in};
-ghost use Rattle.oram_run.specs.Events.{failed_reply};
-ghost use Rattle.oram_run.specs.Messages.{asked};
-ghost use Rattle.oram_run.specs.Moves.{Fits, MovesTo, on_answer};
-ghost use Rattle.oram_run.specs.Progress.Status.{Waiting};
-ghost use Rattle.oram_run.specs.Run.{shown};
-ghost use Rattle.oram_run.specs.State.{World, status_in};
-ghost use Rattle.oram_core.specs.Core.{IsReasonOf, IsSameDevice, shape_of};
+ghost use Rattle.oram_semantics.specs.Answers.{outcome_of, pair_in};
+ghost use Rattle.oram_semantics.specs.Events.{failed_reply};
+ghost use Rattle.oram_semantics.specs.Messages.{requested};
+ghost use Rattle.oram_semantics.specs.Moves.{Fits, MovesTo, on_answer};
+ghost use Rattle.oram_semantics.specs.Progress.Status.{Waiting};
+ghost use Rattle.oram_semantics.specs.Run.{shown_by};
+ghost use Rattle.oram_semantics.specs.State.{World, status_in};
+ghost use Rattle.oram_core.specs.Core.{IsReasonOf, IsSameDevice, scheme_of};
 ghost use Rattle.oram_core.specs.Steps.{Heard};
 ghost use Rattle.oram_core.specs.Judging.{IsVerdict};
 ghost use Rattle.oram_core.specs.Doing.{done, stalled_by, failed_by};
@@ -17,21 +17,25 @@ use crate::messages::failed_replies;
 use crate::verdicts::Verdict;
 use oram_bucket::Sealer;
 use oram_bytes::Bytes;
-use oram_run::{Note, Reaction, Reason, Reply};
+use oram_semantics::{Note, Reaction, Reason, Reply};
 use std::alloc::{AllocError, Global};
 
 impl<S: Sealer> Core<S> {
     /// Takes the host's answer to the outstanding message. If memory runs out, the core is unchanged.
-    pub(crate) fn hear(&mut self, alloc: Global, bytes: &[u8]) -> Result<Reaction, AllocError>
+    pub(crate) fn take_answer(
+        &mut self,
+        alloc: Global,
+        bytes: &[u8],
+    ) -> Result<Reaction, AllocError>
         requires { status_in self.old.state ≡ Waiting }
         ensures kept { IsSameDevice self.old self.new }
-        ensures moves { let v = shape_of S.overhead S.sealing S.opening self.old in let s = self.old.state in
-            (w : World) → Fits v s w → pair_in v w.records (asked s.last) bytes.now ≡ false
-            → IfOk result (λ r. let outcome = outcome_of v w.records (asked s.last) bytes.now in
-            MovesTo v s w (on_answer v s w Waiting outcome) (shown r) self.new.state) }
-        ensures heard { let v = shape_of S.overhead S.sealing S.opening self.old in
+        ensures moves { let v = scheme_of S.overhead S.sealing S.opening self.old in let s = self.old.state in
+            (w : World) → Fits v s w → pair_in v w.records (requested s.message) bytes.now ≡ false
+            → IfOk result (λ r. let outcome = outcome_of v w.records (requested s.message) bytes.now in
+            MovesTo v s w (on_answer v s w Waiting outcome) (shown_by r) self.new.state) }
+        ensures heard { let v = scheme_of S.overhead S.sealing S.opening self.old in
             bytes.now ≢ 129 ∷ 8 ∷ [] → IfOk result (λ r. Heard v self.old.state (done r self.new.state)) }
-        ensures verdict { let v = shape_of S.overhead S.sealing S.opening self.old in
+        ensures verdict { let v = scheme_of S.overhead S.sealing S.opening self.old in
             bytes.now ≢ 129 ∷ 8 ∷ [] → IfOk result (λ r. IsVerdict v self.old.state bytes.now r.note) }
         ensures no_room { bytes.now ≡ 129 ∷ 8 ∷ [] → IfOk result (λ r. done r self.new.state ≡ stalled_by self.old.state) }
         ensures free { bytes.now ≡ 129 ∷ 8 ∷ [] → IsOk result }
@@ -39,7 +43,7 @@ impl<S: Sealer> Core<S> {
     {
         match self.verdict(bytes) {
             Verdict::Path(path) => self.store(alloc, &path),
-            Verdict::Stored => self.go_on(alloc),
+            Verdict::Stored => self.proceed(alloc),
             Verdict::NoRoom => Ok(self.stall(alloc)),
             Verdict::Bad(reason) => {
                 let replies = failed_replies(alloc, &self.queue)?;
@@ -59,10 +63,10 @@ impl<S: Sealer> Core<S> {
         self.table = Vec::new(alloc);
         self.trees = Vec::new(alloc);
         self.queue.clear();
-        self.stage = 0;
-        self.named = 0;
-        self.before = Bytes::from_vec(Vec::new(alloc));
-        self.last = Bytes::from_vec(Vec::new(alloc));
+        self.entry_number = 0;
+        self.held_entry = 0;
+        self.held_data = Bytes::from_vec(Vec::new(alloc));
+        self.message = Bytes::from_vec(Vec::new(alloc));
         self.lost = false;
         self.failure = Some(reason);
         Reaction {

@@ -3,23 +3,25 @@
 //!
 //! One event is one atomic step. The core keeps the trees' root digests and stashes, the position map of the last tree,
 //! the commands without a reply, and the outstanding message (Path ORAM, CCS 2013, sections 3 and 4; the position map of
-//! each tree is kept in the next tree). `oram_run` defines what the core has to do.
+//! each tree is kept in the next tree). `oram_semantics` defines what the core has to do.
 #![tactic(auto)]
 
+mod access;
 mod answers;
-mod errands;
-mod finishing;
-mod formatting;
+mod core_format;
 mod machine;
 mod messages;
 mod outcome;
 mod parts;
-mod storing;
+mod path_access;
+mod progress;
 mod verdicts;
 mod whole;
 
 pub use machine::{Core, MOST_WAITING};
-pub use oram_run::{Command, Event, Note, Reaction, Reason, Refusal, Reply, ReplyBody, Submission};
+pub use oram_semantics::{
+    Command, Event, Note, Reaction, Reason, Refusal, Reply, ReplyBody, Submission,
+};
 pub use oram_tree::{PartsFault, TreeParts};
 pub use outcome::Run;
 pub use parts::{Parts, Pending};

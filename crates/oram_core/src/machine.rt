@@ -2,22 +2,22 @@
 ghost use Rattle.std.specs.Prelude.{◌≡◌, ◌==◌, ◌+◌, ◌*◌, ◌%◌, ◌<◌, ◌≤◌, ◌^◌, ℕ, true, false, List, [], ◌∷◌, ◌++◌, length, IsOk, IfOk, OnOk, OnErr, Option, Some, None, slice_index, slice_index_or};
 ghost use Rattle.oram_geometry.specs.Sizes.{trees_of, depth_of};
 ghost use Rattle.oram_wire.specs.HostMessages.{fetch_body};
-ghost use Rattle.oram_run.specs.Run.{refusal_of, is_over, is_waiting, shown};
-ghost use Rattle.oram_run.specs.Progress.Status.{Waiting};
-ghost use Rattle.oram_run.specs.declared.events.Note.TheVariants as note;
-ghost use Rattle.oram_run.specs.State.{World, no_tree, status_in};
-ghost use Rattle.oram_run.specs.Moves.{Fits, Moves, shows_in, fetch_at, leaf_for};
-ghost use Rattle.oram_run.specs.Agree.{IsAllowed};
-ghost use Rattle.oram_core.specs.Core.{CoreValue, IsSound, IsSameDevice, shape_of};
+ghost use Rattle.oram_semantics.specs.Run.{refusal_of, is_over, is_waiting, shown_by};
+ghost use Rattle.oram_semantics.specs.Progress.Status.{Waiting};
+ghost use Rattle.oram_semantics.specs.declared.events.Note.TheVariants as note;
+ghost use Rattle.oram_semantics.specs.State.{World, no_tree, status_in};
+ghost use Rattle.oram_semantics.specs.Moves.{Fits, Moves, shows_in, fetch_at, leaf_for};
+ghost use Rattle.oram_semantics.specs.Agree.{IsAllowed};
+ghost use Rattle.oram_core.specs.Core.{CoreValue, IsSound, IsSameDevice, scheme_of};
 ghost use Rattle.oram_core.specs.Steps.{Steps};
 ghost use Rattle.oram_core.specs.Doing.{is_idle, is_stalled, Done, plain_step, is_free_note, done, accepted_by, stalled_by, resent_by, noted, first_message};
 
-use crate::errands::leaf_for;
-use crate::messages::Sending;
+use crate::messages::MessageCopies;
+use crate::path_access::leaf_for;
 use oram_bucket::Sealer;
 use oram_bytes::{Bytes, Words};
 use oram_geometry::Device;
-use oram_run::{Command, Event, Note, Reaction, Reason, Refusal, Submission};
+use oram_semantics::{Command, Event, Note, Reaction, Reason, Refusal, Submission};
 use oram_tree::Tree;
 use std::alloc::{AllocError, Global};
 use std::collections::VecDeque;
@@ -43,14 +43,14 @@ pub struct Core<S: Sealer> {
     pub(crate) queue: VecDeque<Submission>,
     /// Which of the oldest command's messages is outstanding, counted from 0. A command has a FETCH and a STORE for each
     /// tree, from the last tree to tree 0.
-    pub(crate) stage: u8,
+    pub(crate) entry_number: u8,
     /// The map entry of the oldest command's block in the tree whose path is fetched next, or was fetched last: 0, or
     /// the block's leaf plus one.
-    pub(crate) named: u32,
+    pub(crate) held_entry: u32,
     /// The data of the block of tree 0 as it was read, until the reply goes out.
-    pub(crate) before: Bytes,
+    pub(crate) held_data: Bytes,
     /// The message that was sent last.
-    pub(crate) last: Bytes,
+    pub(crate) message: Bytes,
     /// Whether the message sent last counts as lost.
     pub(crate) lost: bool,
     pub(crate) failure: Option<Reason>,
@@ -70,10 +70,10 @@ impl<S: Sealer> Model for Core<S> {
         next = c.next;
         nonce = c.nonce;
         queue = c.queue.items;
-        stage = c.stage;
-        named = c.named;
-        before = c.before;
-        last = c.last;
+        entry_number = c.entry_number;
+        held_entry = c.held_entry;
+        held_data = c.held_data;
+        message = c.message;
         lost = c.lost;
         failure = c.failure;
       };
@@ -85,10 +85,10 @@ impl<S: Sealer> Model for Core<S> {
       next = c.next;
       nonce = c.nonce;
       queue = c.queue.items;
-      stage = c.stage;
-      named = c.named;
-      before = c.before;
-      last = c.last;
+      entry_number = c.entry_number;
+      held_entry = c.held_entry;
+      held_data = c.held_data;
+      message = c.message;
       lost = c.lost;
       failure = c.failure;
     }) };
@@ -127,9 +127,9 @@ impl<S: Sealer> Core<S> {
 
     /// Returns whether a STORE is outstanding.
     pub fn is_storing(&self) -> bool
-        ensures { result ≡ (self.now.state.stage % 2 == 1) }
+        ensures { result ≡ (self.now.state.entry_number % 2 == 1) }
     {
-        self.stage % 2 == 1
+        self.entry_number % 2 == 1
     }
 
     /// Returns the number of blocks in the stash of `tree`, or 0 once the device has failed and forgotten its trees.
@@ -165,9 +165,9 @@ impl<S: Sealer> Core<S> {
     /// caller can make the same step again.
     pub fn step(&mut self, alloc: Global, event: &Event) -> Result<Reaction, AllocError>
         ensures kept { IsSameDevice self.old self.new }
-        ensures promise { let v = shape_of S.overhead S.sealing S.opening self.old in
-            IfOk result (λ r. Steps v self.old.state event.now (shown r) self.new.state) }
-        ensures free { let v = shape_of S.overhead S.sealing S.opening self.old in
+        ensures promise { let v = scheme_of S.overhead S.sealing S.opening self.old in
+            IfOk result (λ r. Steps v self.old.state event.now (shown_by r) self.new.state) }
+        ensures free { let v = scheme_of S.overhead S.sealing S.opening self.old in
             (d : Done) → plain_step v self.old.state event.now ≡ Some d → is_free_note d.note ≡ true → IsOk result }
         ensures err { OnErr result (self.new ≡ self.old) }
     {
@@ -180,7 +180,7 @@ impl<S: Sealer> Core<S> {
                 Some(refusal) => Ok(Reaction::only(alloc, Note::Refused(refusal))),
                 None => self.accept(alloc, *session, command, words),
             },
-            Event::Answer(bytes) if self.is_waiting() => self.hear(alloc, bytes.as_slice()),
+            Event::Answer(bytes) if self.is_waiting() => self.take_answer(alloc, bytes.as_slice()),
             Event::Lost | Event::Reopen if self.is_waiting() => Ok(self.stall(alloc)),
             Event::Retry if self.is_stalled() => self.resend(alloc),
             Event::Answer(_) | Event::Lost | Event::Reopen | Event::Retry => {
@@ -228,7 +228,7 @@ impl<S: Sealer> Core<S> {
         requires { let s = self.old.state in
             refusal_of self.old.device (is_over (status_in s)) (length s.queue) s.next command.now words.now ≡ None }
         ensures kept { IsSameDevice self.old self.new }
-        ensures ok { let v = shape_of S.overhead S.sealing S.opening self.old in let s = self.old.state in
+        ensures ok { let v = scheme_of S.overhead S.sealing S.opening self.old in let s = self.old.state in
             IfOk result (λ r. done r self.new.state
             ≡ accepted_by v s (record { session = session; ticket = s.next; command = command.now; words = words.now })) }
         ensures err { OnErr result (self.new ≡ self.old) }
@@ -259,14 +259,14 @@ impl<S: Sealer> Core<S> {
               note = note.Accepted s.next;
               replies = [];
               sends = m ∷ [];
-              state = record s { next = s.next + 1; queue = s.queue ++ submission ∷ []; last = m };
+              state = record s { next = s.next + 1; queue = s.queue ++ submission ∷ []; message = m };
             }) }
         ensures err { OnErr result (self.new ≡ self.old) }
     {
         let ticket = self.next;
-        let Sending { kept, sends } = self.first_fetch(alloc, &submission)?;
+        let MessageCopies { kept, sends } = self.first_fetch(alloc, &submission)?;
         self.queue.push_back(submission)?;
-        self.last = kept;
+        self.message = kept;
         self.next += 1;
         Ok(Reaction {
             note: Note::Accepted(ticket),
@@ -307,19 +307,19 @@ impl<S: Sealer> Core<S> {
         &self,
         alloc: Global,
         submission: &Submission,
-    ) -> Result<Sending, AllocError>
+    ) -> Result<MessageCopies, AllocError>
         requires healthy { self.now.state.failure ≡ None }
         requires allowed { IsAllowed self.now.device submission.now }
-        ensures kept { let v = shape_of S.overhead S.sealing S.opening self.now in
+        ensures kept { let v = scheme_of S.overhead S.sealing S.opening self.now in
             IfOk result (λ s. s.kept ≡ first_message v.device self.now.state submission.now) }
-        ensures sends { let v = shape_of S.overhead S.sealing S.opening self.now in
+        ensures sends { let v = scheme_of S.overhead S.sealing S.opening self.now in
             IfOk result (λ s. s.sends.items ≡ first_message v.device self.now.state submission.now ∷ []) }
     {
         let tree = self.device.trees() - 1;
         let block = self.device.address_in(tree, submission.command.address());
         let named = self.table[block as usize];
         let leaf = leaf_for(&self.device, tree, named, submission.words.as_slice());
-        Sending::fetch(alloc, tree, leaf)
+        MessageCopies::fetch(alloc, tree, leaf)
     }
 
     /// Counts the outstanding message as lost.
@@ -339,7 +339,7 @@ impl<S: Sealer> Core<S> {
         ensures err { OnErr result (self.new ≡ self.old) }
     {
         let mut sends = Vec::with_capacity(alloc, 1)?;
-        sends.push(Bytes::copy(alloc, self.last.as_slice())?)?;
+        sends.push(Bytes::copy(alloc, self.message.as_slice())?)?;
         self.lost = false;
         Ok(Reaction {
             note: Note::Resent,

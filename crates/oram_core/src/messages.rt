@@ -1,13 +1,13 @@
 //! The bodies of the messages that a core sends.
 ghost use Rattle.std.specs.Prelude.{◌≡◌, ℕ, List, ◌≤◌, ◌<◌, ◌+◌, ◌^◌, [], ◌∷◌, ◌++◌, length, map, vec_len, vec_capacity, IfOk};
 ghost use Rattle.oram_wire.specs.HostMessages.{fetch_body, store_body};
-ghost use Rattle.oram_run.specs.Events.{failed_reply};
-ghost use Rattle.oram_run.specs.Messages.{message_place};
+ghost use Rattle.oram_semantics.specs.Events.{failed_reply};
+ghost use Rattle.oram_semantics.specs.Messages.{message_place};
 ghost use Rattle.oram_core.specs.Rooms.{IsRoom};
 
 use byteorder::{BigEndian, ByteOrder};
 use oram_bytes::Bytes;
-use oram_run::{Reply, ReplyBody, Submission};
+use oram_semantics::{Reply, ReplyBody, Submission};
 use oram_wire::{HEADER_LEN, fetch_header, store_header};
 use std::alloc::{AllocError, Global};
 use std::collections::VecDeque;
@@ -22,14 +22,14 @@ pub fn leaf_named(message: &[u8]) -> u32
 
 /// A message in two copies: one to keep in case the message is lost, and one to send.
 #[derive(Drop)]
-pub struct Sending {
+pub struct MessageCopies {
     pub kept: Bytes,
     pub sends: Vec<Bytes>,
 }
 
-impl Sending {
+impl MessageCopies {
     /// Makes the FETCH of a path.
-    pub fn fetch(alloc: Global, tree: u8, leaf: u32) -> Result<Sending, AllocError>
+    pub fn fetch(alloc: Global, tree: u8, leaf: u32) -> Result<MessageCopies, AllocError>
         ensures kept { IfOk result (λ s. s.kept ≡ fetch_body tree leaf) }
         ensures sends { IfOk result (λ s. s.sends.items ≡ fetch_body tree leaf ∷ []) }
     {
@@ -37,7 +37,7 @@ impl Sending {
         let kept = Bytes::copy(alloc, &header)?;
         let mut sends = Vec::with_capacity(alloc, 1)?;
         sends.push(Bytes::copy(alloc, &header)?)?;
-        Ok(Sending { kept, sends })
+        Ok(MessageCopies { kept, sends })
     }
 }
 
@@ -83,7 +83,7 @@ impl Room {
     }
 
     /// Puts a message into the room, as a copy to keep and one to send.
-    pub fn send(self, message: Vec<u8>) -> Sending
+    pub fn send(self, message: Vec<u8>) -> MessageCopies
         requires { (waiting : ℕ) × IsRoom (length message.items) waiting self }
         ensures kept { result.kept ≡ message.items }
         ensures sends { result.sends.items ≡ message.items ∷ [] }
@@ -99,7 +99,7 @@ impl Room {
         if sends.push(Bytes::from_vec(sent)).is_err() {
             unreachable!()
         }
-        Sending {
+        MessageCopies {
             kept: Bytes::from_vec(message),
             sends,
         }

@@ -1,6 +1,6 @@
 //! The result of a whole run.
 
-use oram_run::Reaction;
+use oram_semantics::Reaction;
 
 /// The result of a run.
 #[derive(Debug, Drop)]

@@ -11,7 +11,7 @@ use crate::machine::Core;
 use oram_bucket::Sealer;
 use oram_bytes::{Bytes, Words};
 use oram_geometry::Device;
-use oram_run::{Command, Reason, Submission};
+use oram_semantics::{Command, Reason, Submission};
 use oram_tree::{Tree, TreeParts};
 use std::alloc::{AllocError, Global};
 use std::collections::VecDeque;
@@ -45,7 +45,7 @@ pub struct Parts {
     pub waiting: Vec<Pending>,
     /// Which of the oldest of these commands' messages is outstanding, counted from 0. A command has a FETCH and a STORE
     /// for each tree, from the last tree to tree 0.
-    pub r: u32,
+    pub entry_number: u32,
     /// The map entry of the oldest command's block in the tree whose path is fetched next, or was fetched last; 0 at the
     /// first FETCH and at the last STORE.
     pub held_entry: u32,
@@ -70,7 +70,7 @@ impl Model for Parts {
       trees = p.trees.items;
       failure = p.failure;
       waiting = p.waiting.items;
-      r = p.r;
+      entry_number = p.entry_number;
       held_entry = p.held_entry;
       held_data = p.held_data;
       message = p.message;
@@ -147,10 +147,10 @@ impl<S: Sealer> Core<S> {
             trees,
             failure: self.failure,
             waiting: pendings(alloc, &self.queue)?,
-            r: u32::from(self.stage),
-            held_entry: self.named,
-            held_data: Bytes::copy(alloc, self.before.as_slice())?,
-            message: Bytes::copy(alloc, self.last.as_slice())?,
+            entry_number: u32::from(self.entry_number),
+            held_entry: self.held_entry,
+            held_data: Bytes::copy(alloc, self.held_data.as_slice())?,
+            message: Bytes::copy(alloc, self.message.as_slice())?,
             stalled: self.lost,
         })
     }

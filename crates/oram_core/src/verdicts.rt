@@ -1,11 +1,11 @@
 //! Judges an answer to the outstanding message.
 ghost use Rattle.std.specs.Prelude.{◌≡◌, ◌≢◌, ◌↔◌, ◌%◌, ℕ, false, List, [], ◌∷◌, IfOk};
-ghost use Rattle.oram_run.specs.Answers.{outcome_of, pair_in};
-ghost use Rattle.oram_run.specs.Messages.{asked};
-ghost use Rattle.oram_run.specs.Moves.{Fits};
-ghost use Rattle.oram_run.specs.Progress.Status.{Waiting};
-ghost use Rattle.oram_run.specs.State.{World, status_in};
-ghost use Rattle.oram_core.specs.Core.{CoreValue, IsSound, shape_of};
+ghost use Rattle.oram_semantics.specs.Answers.{outcome_of, pair_in};
+ghost use Rattle.oram_semantics.specs.Messages.{requested};
+ghost use Rattle.oram_semantics.specs.Moves.{Fits};
+ghost use Rattle.oram_semantics.specs.Progress.Status.{Waiting};
+ghost use Rattle.oram_semantics.specs.State.{World, status_in};
+ghost use Rattle.oram_core.specs.Core.{CoreValue, IsSound, scheme_of};
 ghost use Rattle.oram_core.specs.Judging.{IsChecked, path_now};
 ghost use Rattle.oram_core.specs.Verdicts.{Means, Tells, refusal_in};
 
@@ -13,7 +13,7 @@ use crate::machine::Core;
 use crate::messages::leaf_named;
 use oram_bucket::Sealer;
 use oram_hash::{HashFault, PathView};
-use oram_run::Reason;
+use oram_semantics::Reason;
 /// The verdict on an answer to the outstanding message.
 pub(crate) enum Verdict<'a> {
     /// The records of the requested path, as they were last stored.
@@ -49,9 +49,9 @@ impl<S: Sealer> Core<S> {
     /// Judges an answer to the outstanding message.
     pub(crate) fn verdict<'a>(&self, bytes: &'a [u8]) -> Verdict<'a>
         requires { status_in self.now.state ≡ Waiting }
-        ensures means { let v = shape_of S.overhead S.sealing S.opening self.now in let s = self.now.state in
-            (w : World) → Fits v s w → pair_in v w.records (asked s.last) bytes.now ≡ false → Means v s w bytes.now result }
-        ensures tells { Tells (shape_of S.overhead S.sealing S.opening self.now) self.now.state bytes.now result }
+        ensures means { let v = scheme_of S.overhead S.sealing S.opening self.now in let s = self.now.state in
+            (w : World) → Fits v s w → pair_in v w.records (requested s.message) bytes.now ≡ false → Means v s w bytes.now result }
+        ensures tells { Tells (scheme_of S.overhead S.sealing S.opening self.now) self.now.state bytes.now result }
         ensures no_room { (result ≡ Verdict.NoRoom) ↔ (bytes.now ≡ 129 ∷ 8 ∷ []) }
     {
         if let Some(code) = refusal_in(bytes) {
@@ -72,12 +72,12 @@ impl<S: Sealer> Core<S> {
     /// Judges an answer that consists of byte 80 and these bytes.
     fn payload_verdict<'a>(&self, records: &'a [u8]) -> Verdict<'a>
         requires { status_in self.now.state ≡ Waiting }
-        ensures means { let v = shape_of S.overhead S.sealing S.opening self.now in let s = self.now.state in
-            (w : World) → Fits v s w → pair_in v w.records (asked s.last) (128 ∷ records.now) ≡ false → Means v s w (128 ∷ records.now) result }
-        ensures tells { Tells (shape_of S.overhead S.sealing S.opening self.now) self.now.state (128 ∷ records.now) result }
+        ensures means { let v = scheme_of S.overhead S.sealing S.opening self.now in let s = self.now.state in
+            (w : World) → Fits v s w → pair_in v w.records (requested s.message) (128 ∷ records.now) ≡ false → Means v s w (128 ∷ records.now) result }
+        ensures tells { Tells (scheme_of S.overhead S.sealing S.opening self.now) self.now.state (128 ∷ records.now) result }
         ensures room { result ≢ Verdict.NoRoom }
     {
-        if self.stage % 2 == 0 {
+        if self.entry_number % 2 == 0 {
             return self.path_verdict(records);
         }
         if records.is_empty() {
@@ -89,10 +89,10 @@ impl<S: Sealer> Core<S> {
     /// Judges the records that answer a FETCH.
     fn path_verdict<'a>(&self, records: &'a [u8]) -> Verdict<'a>
         requires waiting { status_in self.now.state ≡ Waiting }
-        requires stage { self.now.state.stage % 2 ≡ 0 }
-        ensures means { let v = shape_of S.overhead S.sealing S.opening self.now in let s = self.now.state in
-            (w : World) → Fits v s w → pair_in v w.records (asked s.last) (128 ∷ records.now) ≡ false → Means v s w (128 ∷ records.now) result }
-        ensures tells { Tells (shape_of S.overhead S.sealing S.opening self.now) self.now.state (128 ∷ records.now) result }
+        requires entry_number { self.now.state.entry_number % 2 ≡ 0 }
+        ensures means { let v = scheme_of S.overhead S.sealing S.opening self.now in let s = self.now.state in
+            (w : World) → Fits v s w → pair_in v w.records (requested s.message) (128 ∷ records.now) ≡ false → Means v s w (128 ∷ records.now) result }
+        ensures tells { Tells (scheme_of S.overhead S.sealing S.opening self.now) self.now.state (128 ∷ records.now) result }
         ensures room { result ≢ Verdict.NoRoom }
     {
         match self.checked(records) {
@@ -108,11 +108,11 @@ impl<S: Sealer> Core<S> {
     fn checked<'a>(&self, records: &'a [u8]) -> Result<PathView<'a>, HashFault>
         requires { status_in self.now.state ≡ Waiting }
         ensures sound { IsSound self.now.device (S.overhead self.now.sealer) self.now.state }
-        ensures checked { IsChecked (shape_of S.overhead S.sealing S.opening self.now) self.now.state records.now result }
-        ensures view { IfOk result (λ p. p ≡ path_now (shape_of S.overhead S.sealing S.opening self.now) self.now.state records.now) }
+        ensures checked { IsChecked (scheme_of S.overhead S.sealing S.opening self.now) self.now.state records.now result }
+        ensures view { IfOk result (λ p. p ≡ path_now (scheme_of S.overhead S.sealing S.opening self.now) self.now.state records.now) }
     {
         let tree = self.tree_at_work();
-        let leaf = leaf_named(self.last.as_slice());
+        let leaf = leaf_named(self.message.as_slice());
         let overhead = self.sealer.overhead();
         self.trees[usize::from(tree)].check(&self.device, leaf, overhead, records)
     }

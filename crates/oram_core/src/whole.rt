@@ -1,17 +1,17 @@
 //! A whole run: a formatting, and a step for each event.
 ghost use Rattle.std.specs.Prelude.{◌≡◌, ◌⊎◌, ℕ, false, List, [], ◌<◌, length, map, OnOk, OnErr};
 ghost use Rattle.oram_trace.specs.Tape.{ArePlacesApart};
-ghost use Rattle.oram_run.specs.Law.{StepsAlong};
-ghost use Rattle.oram_run.specs.Nonces.{AreNoncesApart};
-ghost use Rattle.oram_run.specs.Run.{AllRight, shown};
-ghost use Rattle.oram_core.specs.Core.{CoreValue, shape_of, shape_with};
+ghost use Rattle.oram_semantics.specs.Law.{StepsAlong};
+ghost use Rattle.oram_semantics.specs.Nonces.{AreNoncesApart};
+ghost use Rattle.oram_semantics.specs.Run.{AllRight, shown_by};
+ghost use Rattle.oram_core.specs.Core.{CoreValue, scheme_of, scheme_with};
 ghost use Rattle.oram_core.specs.Runs.{setting_by, IsCarriedOut, IsCutShort};
 
 use crate::machine::Core;
 use crate::outcome::Run;
 use oram_bucket::Sealer;
 use oram_geometry::Device;
-use oram_run::{Event, Reaction};
+use oram_semantics::{Event, Reaction};
 use oram_wire::ListSink;
 use std::alloc::{AllocError, Global};
 
@@ -19,14 +19,14 @@ use std::alloc::{AllocError, Global};
 pub fn run<S: Sealer>(alloc: Global, device: Device, sealer: S, events: &[Event]) -> Run
     // Each reply is that of the plain array, in the order of submission. Each message shows the word at a place of the
     // tape that the addresses alone determine. Both hold until an answer shows two records with the same digest.
-    ensures right { let v = shape_with S.overhead S.sealing S.opening device sealer in
-        AllRight (setting_by v result.format.items) [] events.now (map shown result.reactions.items) }
+    ensures right { let v = scheme_with S.overhead S.sealing S.opening device sealer in
+        AllRight (setting_by v result.format.items) [] events.now (map shown_by result.reactions.items) }
     // No two commands show the same place of the tape.
     ensures places { (addresses : List ℕ) → ArePlacesApart device addresses }
     // No nonce is used for two buckets.
     ensures nonces { AreNoncesApart device }
     ensures complete { result.out_of_memory ≡ false → length result.reactions.items ≡ length events.now }
-    ensures formatted { let v = shape_with S.overhead S.sealing S.opening device sealer in
+    ensures formatted { let v = scheme_with S.overhead S.sealing S.opening device sealer in
         IsCutShort v result ⊎ IsCarriedOut v events.now result }
 {
     let mut sink = ListSink::new(alloc);
@@ -54,8 +54,8 @@ fn step_all<S: Sealer>(
     reactions: &mut Vec<Reaction>,
 ) -> Result<(), AllocError>
     requires { reactions.old.items ≡ [] }
-    ensures along { let v = shape_of S.overhead S.sealing S.opening core.old in
-        StepsAlong v core.old.state events.now (map shown reactions.new.items) }
+    ensures along { let v = scheme_of S.overhead S.sealing S.opening core.old in
+        StepsAlong v core.old.state events.now (map shown_by reactions.new.items) }
     ensures complete { OnOk result (length reactions.new.items ≡ length events.now) }
     ensures fewer { OnErr result (length reactions.new.items < length events.now) }
 {

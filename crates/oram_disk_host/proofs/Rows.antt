@@ -3,12 +3,12 @@ use Rattle.std.proofs.Common.{◌≡◌, refl, [], ◌∷◌, Some, codes}
 use Rattle.toml.specs.Data.{member, no_members, string}
 use Rattle.toml.specs.Parse.{parse_document}
 use Rattle.toml.proofs.OnLiterals.{toml_on_literals}
-use Rattle.oram_answering.specs.declared.faults.ServeFault.TheVariants.{Frame}
+use Rattle.oram_host.specs.declared.serve_fault.ServeFault.TheVariants.{Frame}
 use Rattle.oram_disk_host.specs.Faults.{line_of}
 use Rattle.oram_disk_host.specs.Tallies.{frame_len}
-use Rattle.oram_disk_host.specs.Visits.{ending}
+use Rattle.oram_disk_host.specs.ConnectionLine.{ending}
 use Rattle.oram_disk_host.specs.declared.faults.Fault.TheVariants.{OutOfMemory}
-use Rattle.oram_disk_host.specs.declared.visits.EarlyEnd.TheVariants.{Displaced, Fault}
+use Rattle.oram_disk_host.specs.declared.connection.EarlyEnd.TheVariants.{Displaced, Fault}
 
 -- what a new folder's settings say
 the_first_settings : parse_document (codes "# Where the host listens. Your own machine reaches it there, as by ssh -N -L 7001:127.0.0.1:7001 you@rented.\nlisten = \"127.0.0.1:7001\"\n# The file of the buckets, as seen from this folder; its log stands beside it.\nfile = \"buckets\"\n") ≡ Some (member (codes "file") (string (codes "buckets")) (member (codes "listen") (string (codes "127.0.0.1:7001")) no_members))

@@ -3,8 +3,8 @@ use Rattle.std.specs.Global.{Global}
 use Rattle.std.specs.Prelude.{ℕ, List, ◌++◌, String, codes, string_bytes}
 use Rattle.std.specs.declared.io.ErrorKind.{ErrorKind}
 use Rattle.std.specs.declared.io.ErrorKind.TheVariants as error
-use Rattle.oram_edge.specs.declared.files.FileFault.{FileFault}
-use Rattle.oram_edge.specs.declared.files.FileFault.TheVariants as file
+use Rattle.oram_cli.specs.declared.files.FileFault.{FileFault}
+use Rattle.oram_cli.specs.declared.files.FileFault.TheVariants as file
 use Rattle.oram_store.specs.declared.faults.StoreFault.{StoreFault}
 use Rattle.oram_store.specs.declared.faults.StoreFault.TheVariants as store
 use Rattle.oram_disk_host.specs.Kinds as of_kind
@@ -12,11 +12,11 @@ use Rattle.oram_disk_host.specs.declared.kinds.FaultKind.TheVariants as kind
 use Rattle.oram_disk_host.specs.declared.kinds.FileReason.{FileReason}
 use Rattle.oram_disk_host.specs.declared.kinds.FileReason.TheVariants as reason
 use Rattle.oram_disk_host.specs.declared.faults.Fault.{Fault}
-use Rattle.oram_disk_host.specs.declared.faults.Fault.TheVariants.{Of, Size, OutOfMemory, Accept, Random}
+use Rattle.oram_disk_host.specs.declared.faults.Fault.TheVariants.{About, Size, OutOfMemory, Accept, Random}
 
 -- what happened and to what, and what to do
 abbrev pub line_of : Fault → List ℕ
-line_of (Of kind name) = of_kind.front kind ++ string_bytes name ++ of_kind.rest kind
+line_of (About kind name) = of_kind.front kind ++ string_bytes name ++ of_kind.rest kind
 line_of Size = codes "oramdisk: " ++ codes "no disk has this size" ++ codes ": name one up to 64GiB, as 1GiB or 512MiB\n"
 line_of OutOfMemory = codes "oramdisk: " ++ codes "out of memory" ++ codes "\n"
 line_of Accept = codes "oramdisk: " ++ codes "can't accept connections" ++ codes ": start it again\n"
@@ -24,7 +24,7 @@ line_of Random = codes "oramdisk: " ++ codes "the system gives no random bytes" 
 
 -- 2: a size that no disk has; 3: memory; 5: a socket; 15: no random bytes
 abbrev pub status_of : Fault → ℕ
-status_of (Of kind name) = of_kind.status kind
+status_of (About kind name) = of_kind.status kind
 status_of Size = 2
 status_of OutOfMemory = 3
 status_of Accept = 5
@@ -32,7 +32,7 @@ status_of Random = 15
 
 -- the fault of the program if a file can't be read or kept
 abbrev pub kept_fault : FileFault → Fault
-kept_fault (file.File name) = Of (kind.File reason.Other) name
+kept_fault (file.File name) = About (kind.File reason.Other) name
 kept_fault file.OutOfMemory = OutOfMemory
 
 -- the reason for the system's error
@@ -45,19 +45,19 @@ reason_of any_other = reason.Other
 -- the fault of the program for such an error of a call on the file or folder `name`
 abbrev pub file_fault : ErrorKind → String Global → Fault
 file_fault error.OutOfMemory name = OutOfMemory
-file_fault any_other name = Of (kind.File (reason_of any_other)) name
+file_fault any_other name = About (kind.File (reason_of any_other)) name
 
 -- the fault of the program if the store in the file `name` can't be opened, or has stopped
 abbrev pub store_fault : StoreFault → String Global → Fault
-store_fault store.Busy name = Of kind.Busy name
-store_fault store.NotOurs name = Of kind.NotOurs name
-store_fault store.OldKind name = Of kind.OlderFile name
-store_fault store.NewerKind name = Of kind.NewerFile name
-store_fault store.WithoutLog name = Of kind.WithoutLog name
-store_fault store.OthersLog name = Of kind.OthersLog name
-store_fault store.LogAlone name = Of kind.LogAlone name
-store_fault store.Damaged name = Of kind.Damaged name
-store_fault store.NoRoom name = Of (kind.File reason.DiskFull) name
-store_fault store.Io name = Of (kind.File reason.Other) name
-store_fault store.Closed name = Of (kind.File reason.Other) name
+store_fault store.Busy name = About kind.Busy name
+store_fault store.NotABucketFile name = About kind.NotABucketFile name
+store_fault store.OlderVersion name = About kind.OlderFile name
+store_fault store.NewerKind name = About kind.NewerFile name
+store_fault store.WithoutLog name = About kind.WithoutLog name
+store_fault store.LogOfAnotherFile name = About kind.LogOfAnotherFile name
+store_fault store.LogWithoutFile name = About kind.LogWithoutFile name
+store_fault store.Damaged name = About kind.Damaged name
+store_fault store.NoRoom name = About (kind.File reason.DiskFull) name
+store_fault store.Io name = About (kind.File reason.Other) name
+store_fault store.Closed name = About (kind.File reason.Other) name
 store_fault store.OutOfMemory name = OutOfMemory

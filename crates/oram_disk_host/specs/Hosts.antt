@@ -9,11 +9,11 @@ use Rattle.oram_wire.specs.declared.host_messages.HostRequest.{HostRequest}
 use Rattle.oram_store.specs.Answers.{IsGranted, IsKeptAtOnce}
 use Rattle.oram_store.specs.Crashes.{Serves as StoreServes}
 use Rattle.oram_store.specs.Keeping.{IsSound, StoreValue}
-use Rattle.oram_store.specs.Refusals.{IsTold}
+use Rattle.oram_store.specs.Refusals.{RespondsWith}
 use Rattle.oram_store.specs.declared.faults.StoreFault.{StoreFault}
 use Rattle.oram_store.specs.declared.faults.StoreFault.TheVariants as fault
 use Rattle.oram_disk_host.specs.Tallies.{Counts}
-use Rattle.oram_disk_host.specs.declared.tallies.Tally.{Tally}
+use Rattle.oram_disk_host.specs.declared.tally.Tally.{Tally}
 
 pub record HostedValue (F : Type 0) : Type 0 where
   pub store : StoreValue F
@@ -31,7 +31,7 @@ is_lost (Some _) = false
 pub record Serves {F : Type 0} (seen : F → Contents) (may_leave : F → Contents → Type 0) (moment : F → ℕ) (left_since : F → ℕ → Contents → Type 0)
     (is_honest : F → Type 0) (before : HostedValue F) (body : List ℕ) (answer : HostAnswer) (after : HostedValue F) : Type 0 where
   pub counts : Counts before.tally body (answer_body answer) after.tally
-  pub told : (message : HostRequest) → HasNumbers message → body ≡ request_body message → IsTold before.store.trees message answer after.store.trees
+  pub told : (message : HostRequest) → HasNumbers message → body ≡ request_body message → RespondsWith before.store.trees message answer after.store.trees
   pub served : (message : HostRequest) → HasNumbers message → body ≡ request_body message → is_honest after.store.file.files → IsSound seen may_leave before.store
       → StoreServes seen may_leave moment left_since message answer before.store after.store
   pub sure : (message : HostRequest) → HasNumbers message → body ≡ request_body message → IsKeptAtOnce message → IsGranted answer → after.store.pending ≡ []

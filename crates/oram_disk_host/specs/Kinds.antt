@@ -1,11 +1,11 @@
 -- The kinds of faults: the text before and after the name in the line, and the exit status.
 use Rattle.std.specs.Prelude.{ℕ, List, codes}
-use Rattle.oram_edge.specs.declared.hosts.HostFault.TheVariants as host
+use Rattle.oram_cli.specs.declared.hosts.HostFault.TheVariants as host
 use Rattle.oram_settings.specs.declared.differences.FixedKey.{FixedKey}
 use Rattle.oram_settings.specs.declared.differences.FixedKey.TheVariants as fixed
 use Rattle.oram_disk_host.specs.declared.kinds.FileReason.TheVariants as reason
 use Rattle.oram_disk_host.specs.declared.kinds.FaultKind.{FaultKind}
-use Rattle.oram_disk_host.specs.declared.kinds.FaultKind.TheVariants.{CommandLine, Settings, Device, File, Unformatted, Address, NotOurs, OlderFile, NewerFile, WithoutLog, OthersLog, LogAlone, Damaged, Busy, NoFile, FileExists, Exists, Formatted, NotADisk, OlderState, WrongKey, Changed, Host, Unkept, UsedUp, InUse, Failed, NotFailed}
+use Rattle.oram_disk_host.specs.declared.kinds.FaultKind.TheVariants.{CommandLine, Settings, Device, File, Unformatted, Address, NotABucketFile, OlderFile, NewerFile, WithoutLog, LogOfAnotherFile, LogWithoutFile, Damaged, Busy, NoFile, FileExists, Exists, Formatted, NotADisk, OlderState, WrongKey, Changed, Host, StateNotKept, UsedUp, InUse, Failed, NotFailed}
 
 -- the text before the name of the settings with a changed value
 abbrev pub changed : FixedKey → List ℕ
@@ -22,8 +22,8 @@ front Unformatted = codes "oramdisk: the disk isn't formatted yet: start its hos
 front (File reason.Other) = codes "oramdisk: can't open, read or write "
 front Address = codes "oramdisk: can't listen at "
 front WithoutLog = codes "oramdisk: the log of "
-front OthersLog = codes "oramdisk: the log of "
-front LogAlone = codes "oramdisk: there is no file "
+front LogOfAnotherFile = codes "oramdisk: the log of "
+front LogWithoutFile = codes "oramdisk: there is no file "
 front NoFile = codes "oramdisk: there is no file "
 front WrongKey = codes "oramdisk: the key in "
 front (Changed key) = changed key
@@ -33,7 +33,7 @@ front (Host host.NoDisk) = codes "oramdisk: the host at "
 front (Host host.Taken) = codes "oramdisk: the host at "
 front (Host host.Refused) = codes "oramdisk: the host at "
 front (Host host.OutOfReach) = codes "oramdisk: can't reach the host at "
-front Unkept = codes "oramdisk: can't keep the state in "
+front StateNotKept = codes "oramdisk: can't keep the state in "
 front UsedUp = codes "oramdisk: the disk of "
 front InUse = codes "oramdisk: the disk of "
 front Failed = codes "oramdisk: the disk of "
@@ -51,12 +51,12 @@ rest (File reason.NotPermitted) = codes ": permission denied: see that you may r
 rest (File reason.DiskFull) = codes ": the disk is full: make room on it\n"
 rest (File reason.Other) = codes ": see that it is there and may be written, and that its disk has room\n"
 rest Address = codes ": end the program that listens there, or name another place\n"
-rest NotOurs = codes " isn't a file of buckets, and is left as it is: name another file\n"
+rest NotABucketFile = codes " isn't a file of buckets, and is left as it is: name another file\n"
 rest OlderFile = codes " is a SQLite file, which an older version may have written, and is left as it is: serve it with that version, or name another file, and format anew\n"
 rest NewerFile = codes " is a file of buckets of a newer version, and is left as it is: serve it with that version\n"
 rest WithoutLog = codes ", the file beside it with -log behind its name, isn't there: put back the one that it was served with last\n"
-rest OthersLog = codes ", the file beside it with -log behind its name, is another file's: put back the one that it was served with last\n"
-rest LogAlone = codes ", but its log, the file beside it with -log behind its name, holds records of it: put the file back, or take the log away\n"
+rest LogOfAnotherFile = codes ", the file beside it with -log behind its name, is another file's: put back the one that it was served with last\n"
+rest LogWithoutFile = codes ", but its log, the file beside it with -log behind its name, holds records of it: put the file back, or take the log away\n"
 rest Damaged = codes " is damaged, and is left as it is: name another file, and format anew\n"
 rest Busy = codes " is held by another process: end that one first\n"
 rest NoFile = codes ": see that the settings are those of the right host, or say oramdisk host --new to make it\n"
@@ -73,7 +73,7 @@ rest (Host host.NoDisk) = codes " keeps no disk, and nothing was sent to it: see
 rest (Host host.Taken) = codes " keeps a disk already: name a new file at the host\n"
 rest (Host host.OutOfReach) = codes ": see that it runs and that the way to it is open, and start again\n"
 rest (Host host.Refused) = codes " doesn't take this disk: name a new file at the host\n"
-rest Unkept = codes ": see that its folder may be written and has room, and start again\n"
+rest StateNotKept = codes ": see that its folder may be written and has room, and start again\n"
 rest UsedUp = codes " has made all its accesses: move what is in it to a new one\n"
 rest InUse = codes " is in use by another process: end that one first\n"
 rest Failed = codes " has failed, and oramdisk status says why: see that its own host is reached, with its own file, and then say oramdisk retry\n"
@@ -92,7 +92,7 @@ status Device = 2
 status (File why) = 4
 status Unformatted = 4
 status Address = 5
-status NotOurs = 6
+status NotABucketFile = 6
 status Damaged = 7
 status Busy = 8
 status FileExists = 9
@@ -103,7 +103,7 @@ status OlderState = 10
 status (Host host.OutOfReach) = 11
 status (Host host.Taken) = 12
 status (Host host.Refused) = 12
-status Unkept = 13
+status StateNotKept = 13
 status UsedUp = 14
 status InUse = 16
 status Failed = 17
@@ -117,5 +117,5 @@ status (Changed key) = 24
 status OlderFile = 25
 status NewerFile = 25
 status WithoutLog = 26
-status OthersLog = 26
-status LogAlone = 26
+status LogOfAnotherFile = 26
+status LogWithoutFile = 26

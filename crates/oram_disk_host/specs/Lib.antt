@@ -3,4 +3,4 @@ pub mod Kinds
 pub mod Faults
 pub mod Hosts
 pub mod Tallies
-pub mod Visits
+pub mod ConnectionLine

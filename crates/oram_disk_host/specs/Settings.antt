@@ -2,7 +2,7 @@
 use Rattle.std.specs.Prelude.{◌≡◌, ◌∷◌, ℕ, List, [], codes, string_bytes, Some}
 use Rattle.toml.specs.Data.{Members}
 use Rattle.toml.specs.Parse.{parse_document}
-use Rattle.oram_edge.specs.Tables.{HasOnly, HasText, IsAddress, IsName}
+use Rattle.oram_cli.specs.Tables.{HasOnly, HasText, IsAddress, IsName}
 use Rattle.oram_disk_host.specs.declared.settings_file.HostSettings.{HostSettings}
 
 -- the settings by value, without the places of texts in memory
@@ -10,8 +10,8 @@ pub record HostValue : Type 0 where
   pub listen : List ℕ
   pub file : List ℕ
 
-abbrev pub shown : HostSettings → HostValue
-shown s = record { listen = string_bytes s.listen; file = string_bytes s.file }
+abbrev pub settings_value : HostSettings → HostValue
+settings_value s = record { listen = string_bytes s.listen; file = string_bytes s.file }
 
 -- the table has these settings
 pub record IsHost (table : Members) (s : HostValue) : Type 0 where

@@ -1,6 +1,6 @@
 -- The tally of a connection.
 use Rattle.std.specs.Prelude.{◌≡◌, ℕ, ◌+◌, ◌-◌, ◌^◌, min, List, length, None}
-use Rattle.oram_disk_host.specs.declared.tallies.Tally.{Tally}
+use Rattle.oram_disk_host.specs.declared.tally.Tally.{Tally}
 
 -- before the first message
 abbrev pub none : Tally

@@ -5,7 +5,7 @@ ghost use Rattle.oram_host.specs.Transfers.{Begins};
 ghost use Rattle.oram_disk_host.specs.Faults as spec;
 
 use crate::kinds::{FaultKind, FileReason};
-use oram_edge::{FileFault, put_between};
+use oram_cli::{FileFault, put_between};
 use oram_store::StoreFault;
 use std::alloc::AllocError;
 use std::fmt;
@@ -15,7 +15,7 @@ use std::io::Write;
 #[derive(Drop)]
 pub enum Fault {
     /// A fault of a kind, with the name or the address that it is about.
-    Of(FaultKind, String),
+    About(FaultKind, String),
     /// No disk has the size that is asked for.
     Size,
     OutOfMemory,
@@ -42,7 +42,7 @@ impl From<FileFault> for Fault {
 
     fn from(why: FileFault) -> Fault {
         match why {
-            FileFault::File(name) => Fault::Of(FaultKind::File(FileReason::Other), name),
+            FileFault::File(name) => Fault::About(FaultKind::File(FileReason::Other), name),
             FileFault::OutOfMemory => Fault::OutOfMemory,
         }
     }
@@ -54,18 +54,18 @@ pub fn store_fault(name: String, why: StoreFault) -> Fault
 {
     let kind = match why {
         StoreFault::Busy => FaultKind::Busy,
-        StoreFault::NotOurs => FaultKind::NotOurs,
-        StoreFault::OldKind => FaultKind::OlderFile,
+        StoreFault::NotABucketFile => FaultKind::NotABucketFile,
+        StoreFault::OlderVersion => FaultKind::OlderFile,
         StoreFault::NewerKind => FaultKind::NewerFile,
         StoreFault::WithoutLog => FaultKind::WithoutLog,
-        StoreFault::OthersLog => FaultKind::OthersLog,
-        StoreFault::LogAlone => FaultKind::LogAlone,
+        StoreFault::LogOfAnotherFile => FaultKind::LogOfAnotherFile,
+        StoreFault::LogWithoutFile => FaultKind::LogWithoutFile,
         StoreFault::Damaged => FaultKind::Damaged,
         StoreFault::NoRoom => FaultKind::File(FileReason::DiskFull),
         StoreFault::Io | StoreFault::Closed => FaultKind::File(FileReason::Other),
         StoreFault::OutOfMemory => return Fault::OutOfMemory,
     };
-    Fault::Of(kind, name)
+    Fault::About(kind, name)
 }
 
 impl Fault {
@@ -74,7 +74,7 @@ impl Fault {
         ensures { result.0.now ++ result.1.now ++ result.2.now ≡ spec.line_of self.now }
     {
         match self {
-            Fault::Of(kind, name) => (kind.front(), name.as_str(), kind.rest()),
+            Fault::About(kind, name) => (kind.front(), name.as_str(), kind.rest()),
             Fault::Size => (
                 "oramdisk: ",
                 "no disk has this size",
@@ -99,7 +99,7 @@ impl Fault {
         ensures { result ≡ spec.status_of self.now }
     {
         match self {
-            Fault::Of(kind, _) => kind.status(),
+            Fault::About(kind, _) => kind.status(),
             Fault::Size => 2,
             Fault::OutOfMemory => 3,
             Fault::Accept => 5,

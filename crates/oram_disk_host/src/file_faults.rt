@@ -29,7 +29,7 @@ pub fn file_fault(name: String, error: &io::Error) -> Fault
 {
     match error.kind() {
         ErrorKind::OutOfMemory => Fault::OutOfMemory,
-        kind => Fault::Of(FaultKind::File(reason_of(kind)), name),
+        kind => Fault::About(FaultKind::File(reason_of(kind)), name),
     }
 }
 
@@ -47,7 +47,7 @@ pub fn text_of<'a>(alloc: Global, bytes: &'a [u8], name: &str) -> Result<&'a str
         Ok(text) => Ok(text),
         Err(_) => {
             let mistake = format!(in alloc; "{name} isn't text in UTF-8")?;
-            Err(Fault::Of(FaultKind::Settings, mistake))
+            Err(Fault::About(FaultKind::Settings, mistake))
         }
     }
 }

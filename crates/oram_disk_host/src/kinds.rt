@@ -3,7 +3,7 @@
 ghost use Rattle.std.specs.Prelude.{◌≡◌};
 ghost use Rattle.oram_disk_host.specs.Kinds as spec;
 
-use oram_edge::HostFault;
+use oram_cli::HostFault;
 use oram_settings::FixedKey;
 
 /// Why a file or folder can't be opened, read or written.
@@ -36,15 +36,15 @@ pub enum FaultKind {
     /// The program can't listen at this address.
     Address,
     /// The file of this name isn't a file of buckets.
-    NotOurs,
+    NotABucketFile,
     /// The file of buckets of this name is from an older version, or from a newer one.
     OlderFile,
     NewerFile,
     /// The log beside the file of buckets of this name is missing, or belongs to another file.
     WithoutLog,
-    OthersLog,
+    LogOfAnotherFile,
     /// The file of buckets of this name is missing, but its log is there.
-    LogAlone,
+    LogWithoutFile,
     /// The file of this name holds something that no host writes.
     Damaged,
     /// Another process has the file of this name open.
@@ -68,7 +68,7 @@ pub enum FaultKind {
     /// The disk can't use the host at this address.
     Host(HostFault),
     /// The state can't be kept in the file of this name.
-    Unkept,
+    StateNotKept,
     /// The disk whose state is in the file of this name has made all its accesses.
     UsedUp,
     /// Another process uses the disk whose state is in the file of this name.
@@ -103,8 +103,8 @@ impl FaultKind {
                 "oramdisk: the disk isn't formatted yet: start its host, and then say oramdisk format ",
             FaultKind::File(FileReason::Other) => "oramdisk: can't open, read or write ",
             FaultKind::Address => "oramdisk: can't listen at ",
-            FaultKind::WithoutLog | FaultKind::OthersLog => "oramdisk: the log of ",
-            FaultKind::LogAlone | FaultKind::NoFile => "oramdisk: there is no file ",
+            FaultKind::WithoutLog | FaultKind::LogOfAnotherFile => "oramdisk: the log of ",
+            FaultKind::LogWithoutFile | FaultKind::NoFile => "oramdisk: there is no file ",
             FaultKind::WrongKey => "oramdisk: the key in ",
             FaultKind::Changed(key) => changed(key),
             FaultKind::Host(HostFault::NoRoom)
@@ -113,7 +113,7 @@ impl FaultKind {
             | FaultKind::Host(HostFault::Taken)
             | FaultKind::Host(HostFault::Refused) => "oramdisk: the host at ",
             FaultKind::Host(HostFault::OutOfReach) => "oramdisk: can't reach the host at ",
-            FaultKind::Unkept => "oramdisk: can't keep the state in ",
+            FaultKind::StateNotKept => "oramdisk: can't keep the state in ",
             FaultKind::UsedUp | FaultKind::InUse | FaultKind::Failed | FaultKind::NotFailed =>
                 "oramdisk: the disk of ",
             _ => "oramdisk: ",
@@ -136,7 +136,7 @@ impl FaultKind {
             FaultKind::File(FileReason::Other) =>
                 ": see that it is there and may be written, and that its disk has room\n",
             FaultKind::Address => ": end the program that listens there, or name another place\n",
-            FaultKind::NotOurs =>
+            FaultKind::NotABucketFile =>
                 " isn't a file of buckets, and is left as it is: name another file\n",
             FaultKind::OlderFile =>
                 " is a SQLite file, which an older version may have written, and is left as it is: serve it with that version, or name another file, and format anew\n",
@@ -144,9 +144,9 @@ impl FaultKind {
                 " is a file of buckets of a newer version, and is left as it is: serve it with that version\n",
             FaultKind::WithoutLog =>
                 ", the file beside it with -log behind its name, isn't there: put back the one that it was served with last\n",
-            FaultKind::OthersLog =>
+            FaultKind::LogOfAnotherFile =>
                 ", the file beside it with -log behind its name, is another file's: put back the one that it was served with last\n",
-            FaultKind::LogAlone =>
+            FaultKind::LogWithoutFile =>
                 ", but its log, the file beside it with -log behind its name, holds records of it: put the file back, or take the log away\n",
             FaultKind::Damaged =>
                 " is damaged, and is left as it is: name another file, and format anew\n",
@@ -177,7 +177,7 @@ impl FaultKind {
                 ": see that it runs and that the way to it is open, and start again\n",
             FaultKind::Host(HostFault::Refused) =>
                 " doesn't take this disk: name a new file at the host\n",
-            FaultKind::Unkept =>
+            FaultKind::StateNotKept =>
                 ": see that its folder may be written and has room, and start again\n",
             FaultKind::UsedUp => " has made all its accesses: move what is in it to a new one\n",
             FaultKind::InUse => " is in use by another process: end that one first\n",
@@ -195,14 +195,14 @@ impl FaultKind {
             FaultKind::CommandLine | FaultKind::Settings | FaultKind::Device => 2,
             FaultKind::File(_) | FaultKind::Unformatted => 4,
             FaultKind::Address => 5,
-            FaultKind::NotOurs => 6,
+            FaultKind::NotABucketFile => 6,
             FaultKind::Damaged => 7,
             FaultKind::Busy => 8,
             FaultKind::FileExists | FaultKind::Exists | FaultKind::Formatted => 9,
             FaultKind::NotADisk | FaultKind::OlderState => 10,
             FaultKind::Host(HostFault::OutOfReach) => 11,
             FaultKind::Host(HostFault::Taken) | FaultKind::Host(HostFault::Refused) => 12,
-            FaultKind::Unkept => 13,
+            FaultKind::StateNotKept => 13,
             FaultKind::UsedUp => 14,
             FaultKind::InUse => 16,
             FaultKind::Failed => 17,
@@ -214,7 +214,7 @@ impl FaultKind {
             FaultKind::WrongKey => 23,
             FaultKind::Changed(_) => 24,
             FaultKind::OlderFile | FaultKind::NewerFile => 25,
-            FaultKind::WithoutLog | FaultKind::OthersLog | FaultKind::LogAlone => 26,
+            FaultKind::WithoutLog | FaultKind::LogOfAnotherFile | FaultKind::LogWithoutFile => 26,
         }
     }
 }

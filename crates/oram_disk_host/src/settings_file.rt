@@ -2,10 +2,10 @@
 
 ghost use Rattle.std.specs.Prelude.{IfOk, IsErrOf};
 ghost use Rattle.toml.specs.View.{table_view};
-ghost use Rattle.oram_edge.specs.Tables.{Finds};
-ghost use Rattle.oram_disk_host.specs.Settings.{IsDocumentOf, IsHost, shown};
+ghost use Rattle.oram_cli.specs.Tables.{Finds};
+ghost use Rattle.oram_disk_host.specs.Settings.{IsDocumentOf, IsHost, settings_value};
 
-use oram_edge::{InputFault, address_at, has_only, name_at, table_of};
+use oram_cli::{InputFault, address_at, has_only, name_at, table_of};
 use std::alloc::Global;
 use toml::Table;
 
@@ -23,7 +23,7 @@ pub const FIRST_SETTINGS: &str =
     "# Where the host listens. Your own machine reaches it there, as by ssh -N -L 7001:127.0.0.1:7001 you@rented.\nlisten = \"127.0.0.1:7001\"\n# The file of the buckets, as seen from this folder; its log stands beside it.\nfile = \"buckets\"\n";
 
 fn host_in(alloc: Global, table: &Table) -> Result<HostSettings, InputFault>
-    ensures { Finds shown (IsHost (table_view table.now)) result }
+    ensures { Finds settings_value (IsHost (table_view table.now)) result }
 {
     if !has_only(table, &["listen", "file"]) {
         return Err(InputFault::Bad);
@@ -39,7 +39,7 @@ fn host_in(alloc: Global, table: &Table) -> Result<HostSettings, InputFault>
 /// Reads a host's settings from a TOML document.
 pub fn read_host_settings(alloc: Global, text: &str) -> Result<HostSettings, InputFault>
     // The text is a document whose table has these settings.
-    ensures ok { IfOk result (λ s. IsDocumentOf text.now (shown s)) }
+    ensures ok { IfOk result (λ s. IsDocumentOf text.now (settings_value s)) }
     // `Bad` comes only if the text is no such document for any settings.
     ensures bad { IsErrOf result InputFault.Bad → (s : _) → IsDocumentOf text.now s → ⊥ }
 {

@@ -8,10 +8,10 @@
 ghost use Rattle.std.specs.Prelude.{◌≡◌};
 ghost use Rattle.sha2.specs.Sha256.{sha256};
 
-mod rebuilding;
+mod path_rebuild;
 mod view;
 
-pub use rebuilding::rebuild;
+pub use path_rebuild::rebuild;
 use sha2::{Digest, Sha256};
 pub use view::{PathView, check_path};
 

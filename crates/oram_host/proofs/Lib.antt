@@ -13,3 +13,5 @@ pub mod LoadedHosts
 pub mod Flipped
 pub mod ExactImages
 pub mod Transfers
+pub mod Answered
+mod Connections

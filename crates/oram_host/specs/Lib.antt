@@ -8,6 +8,9 @@ pub mod Serving
 pub mod Flips
 pub mod Swaps
 pub mod Transfers
+pub mod ServeFaults
+pub mod Answered
+pub mod Connections
 pub mod Trees
 pub use Rattle.oram_wire.specs.HostMessages
 pub use Rattle.oram_wire.specs.HostReading

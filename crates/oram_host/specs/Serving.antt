@@ -10,8 +10,8 @@ use Rattle.oram_wire.specs.declared.sinks.SinkFault.TheVariants as fault
 use Rattle.oram_host.specs.Answers.{Answers}
 use Rattle.oram_host.specs.Host.{Host}
 use Rattle.oram_host.specs.Path.{IsBehind}
-use Rattle.oram_host.specs.declared.serving.Served.{Served}
-use Rattle.oram_host.specs.declared.serving.Served.TheVariants as served
+use Rattle.oram_host.specs.declared.server.Served.{Served}
+use Rattle.oram_host.specs.declared.server.Served.TheVariants as served
 
 -- The host is sent a body, gives this answer, and is `after` afterwards. It answers a request as `Answers` says; it
 -- refuses any other body and stays as it is.

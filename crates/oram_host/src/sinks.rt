@@ -2,7 +2,7 @@
 
 ghost use Rattle.std.specs.Prelude.{OnOk, IfErr};
 
-use crate::serving::Server;
+use crate::server::Server;
 use oram_wire::{HostAnswer, Sink, SinkFault};
 
 /// The code with which a server says that it is out of memory.

@@ -5,17 +5,17 @@ use Rattle.std.proofs.lemmas.Fn.{FoldsTo-push}
 use Rattle.std.proofs.lemmas.List.Concat.{flat_map-append}
 use Rattle.oram_geometry.specs.declared.Sizes.{Sizes}
 use Rattle.oram_geometry.specs.Sizes.{trees_of}
-use Rattle.oram_run.specs.Progress.Status.{Waiting}
-use Rattle.oram_run.specs.Shape.{Shape}
-use Rattle.oram_run.specs.State.{State, status_by, status_in}
-use Rattle.oram_run.specs.declared.events.Reason.{Reason}
-use Rattle.oram_run.specs.declared.events.Reply.{Reply}
-use Rattle.oram_run.specs.declared.events.Submission.{Submission}
+use Rattle.oram_semantics.specs.Progress.Status.{Waiting}
+use Rattle.oram_semantics.specs.Scheme.{Scheme}
+use Rattle.oram_semantics.specs.State.{State, status_by, status_in}
+use Rattle.oram_semantics.specs.declared.events.Reason.{Reason}
+use Rattle.oram_semantics.specs.declared.events.Reply.{Reply}
+use Rattle.oram_semantics.specs.declared.events.Submission.{Submission}
 use Rattle.oram_core.specs.Core.{CoreValue, IsSameDevice}
 use Rattle.oram_core.specs.Doing.{Done, finished_by}
 use Rattle.oram_core.specs.Steps.{Heard, IsNextFetched}
 use Rattle.oram_state.specs.Decoding.{IsSaved}
-use Rattle.oram_session.specs.Exchanges.{Sending, IsAnswered, IsCutOff, IsGivenUp, IsSent}
+use Rattle.oram_session.specs.Exchanges.{Delivery, IsAnswered, IsCutOff, IsGivenUp, IsSent}
 use Rattle.oram_session.specs.Outcome.{Outcome}
 use Rattle.oram_session.specs.Settled.{outstanding}
 use Rattle.oram_session.specs.Turns.{most_retries}
@@ -41,7 +41,7 @@ pub oldest_of : (s : State) → status_in s ≡ Waiting → Oldest s
 oldest_of s w = let k = at_work s.failure s.queue s.lost w in record { oldest = k.0; rest = k.1; queue = k.2 }
 
 -- its message is the one that was sent last
-pub message_is : (s : State) (m : List ℕ) → status_in s ≡ Waiting → outstanding s ≡ Some m → m ≡ s.last
+pub message_is : (s : State) (m : List ℕ) → status_in s ≡ Waiting → outstanding s ≡ Some m → m ≡ s.message
 message_is s m w e = ap (λ (o : Option (List ℕ)). unwrap_or o []) (sym e ∙ waits_outstanding s w)
 
 -- a file that tells of a core tells of it by the device and the sealer of the core that it came of
@@ -52,20 +52,20 @@ saved_under {S} overhead c d file h k =
 
 -- whether the core is to be kept before the next message
 abbrev pub is_due : Done → Bool
-is_due d = not (length d.sends == 0) && (not (length d.replies == 0) || (d.state.stage % 2 == 1))
+is_due d = not (length d.sends == 0) && (not (length d.replies == 0) || (d.state.entry_number % 2 == 1))
 
-replies_more : (deeds : List Deed) (x : Sending) → replies_of (deeds ++ Sends x ∷ []) ≡ replies_of deeds ++ x.replies
+replies_more : (deeds : List Deed) (x : Delivery) → replies_of (deeds ++ Sends x ∷ []) ≡ replies_of deeds ++ x.replies
 replies_more deeds x =
     flat_map-append replies_in deeds (Sends x ∷ []) ∙ ap (λ (l : List Reply). replies_of deeds ++ l) (append-nil x.replies)
 
 replies_kept : (deeds : List Deed) → replies_of (deeds ++ Keeps ∷ []) ≡ replies_of deeds
 replies_kept deeds = flat_map-append replies_in deeds (Keeps ∷ []) ∙ append-nil (replies_of deeds)
 
-module _ (v : Shape) {L K : Type 0} (calls : L → List ℕ → Outcome → L → Type 0) (keeps : K → List ℕ → Bool → K → Type 0) where
+module _ (v : Scheme) {L K : Type 0} (calls : L → List ℕ → Outcome → L → Type 0) (keeps : K → List ℕ → Bool → K → Type 0) where
   -- What is kept covers the message that waits for its answer, and is the core where that is a STORE.
   pub record Anchored (later s : State) : Type 0 where
-    pub covered : IsCovered v later s.last
-    pub stored : s.stage % 2 ≡ 1 → later ≡ s
+    pub covered : IsCovered v later s.message
+    pub stored : s.entry_number % 2 ≡ 1 → later ≡ s
 
   anchored_here : (s : State) → status_in s ≡ Waiting → Anchored s s
   anchored_here s w =
@@ -73,16 +73,16 @@ module _ (v : Shape) {L K : Type 0} (calls : L → List ℕ → Outcome → L �
       record { covered = record { oldest = o.oldest; rest = o.rest; queue = o.queue; either = inl refl }; stored = λ odd. refl }
 
   -- a FETCH that follows a STORE
-  anchored_next : (later s : State) (d : Done) → later ≡ s → s.stage % 2 ≡ 1 → d.state.stage ≡ s.stage + 1 → d.state.stage < 2 * trees_of v.device
+  anchored_next : (later s : State) (d : Done) → later ≡ s → s.entry_number % 2 ≡ 1 → d.state.entry_number ≡ s.entry_number + 1 → d.state.entry_number < 2 * trees_of v.device
       → IsNextFetched v s d → Anchored later d.state
-  anchored_next later s d same odd stage within n =
-      let here : IsCovered v s d.state.last = record {
+  anchored_next later s d same odd entry_number within n =
+      let here : IsCovered v s d.state.message = record {
         oldest = n.oldest;
         rest = n.rest;
         queue = n.queue;
-        either = inr (record { stores = odd; more = omega (arith, stage, within); fetch = ap (λ (e : Done). e.state.last) n.does });
+        either = inr (record { stores = odd; more = omega (arith, entry_number, within); fetch = ap (λ (e : Done). e.state.message) n.does });
       } in
-      record { covered = subst (λ (k : State). IsCovered v k d.state.last) (sym same) here; stored = λ also. absurd (omega (arith, odd, stage, also)) }
+      record { covered = subst (λ (k : State). IsCovered v k d.state.message) (sym same) here; stored = λ also. absurd (omega (arith, odd, entry_number, also)) }
 
   -- where nothing is due, what waits follows from what was kept
   anchored_after : (later s : State) (d : Done) → Anchored later s → status_in d.state ≡ Waiting → is_due d ≡ false → Heard v s d → Anchored later d.state
@@ -90,11 +90,11 @@ module _ (v : Shape) {L K : Type 0} (calls : L → List ℕ → Outcome → L �
       let o = oldest_of d.state w in
       absurd (let both = sym (ap (λ (t : State). t.queue) f.state) ∙ o.queue in cc)
   anchored_after later s d a w none (inr (inl g)) =
-      let due : (d.state.stage % 2 == 1) ≡ false =
-      subst (λ (rs : List Reply). (not (length rs == 0) || (d.state.stage % 2 == 1)) ≡ false) g.replies
-      (subst (λ (ms : List (List ℕ)). (not (length ms == 0) && (not (length d.replies == 0) || (d.state.stage % 2 == 1))) ≡ false) g.sends none) in
-      let on : d.state.stage ≡ s.stage + 1 = g.stage in
-      let odd : s.stage % 2 ≡ 1 = grind (arith, nat_tests, due, on) in
+      let due : (d.state.entry_number % 2 == 1) ≡ false =
+      subst (λ (rs : List Reply). (not (length rs == 0) || (d.state.entry_number % 2 == 1)) ≡ false) g.replies
+      (subst (λ (ms : List (List ℕ)). (not (length ms == 0) && (not (length d.replies == 0) || (d.state.entry_number % 2 == 1))) ≡ false) g.sends none) in
+      let on : d.state.entry_number ≡ s.entry_number + 1 = g.entry_number in
+      let odd : s.entry_number % 2 ≡ 1 = grind (arith, nat_tests, due, on) in
       anchored_next later s d (a.stored odd) odd on g.within (g.fetched odd)
   anchored_after later s d a w none (inr (inr r)) = finished r.rest r.does
     where
@@ -131,7 +131,7 @@ module _ (v : Shape) {L K : Type 0} (calls : L → List ℕ → Outcome → L �
     covered : (m : List ℕ) → outstanding s ≡ Some m → IsCovered v so.later m
     covered m e = subst (IsCovered v so.later) (sym (message_is s m waits e)) (so.anchored waits).covered
 
-    pub stalled_here : (x : Sending) (t : State) (m : L) → IsSent v calls most_retries (s, l) x (t, m) → IsGivenUp most_retries x
+    pub stalled_here : (x : Delivery) (t : State) (m : L) → IsSent v calls most_retries (s, l) x (t, m) → IsGivenUp most_retries x
         → HasStalled v calls keeps (at s0 kept l0 k0) (at t so.later m k)
     stalled_here x t m sent stuck = record {
       deeds = Keeps ∷ so.deeds;
@@ -145,7 +145,7 @@ module _ (v : Shape) {L K : Type 0} (calls : L → List ℕ → Outcome → L �
       keeper = refl;
     }
 
-    pub cut_here : (x : Sending) (t : State) (m : L) → IsCutOff v calls most_retries (s, l) x (t, m)
+    pub cut_here : (x : Delivery) (t : State) (m : L) → IsCutOff v calls most_retries (s, l) x (t, m)
         → HasRunOut v calls keeps (at s0 kept l0 k0) (at t so.later m k)
     cut_here x t m cut = record {
       deeds = Keeps ∷ so.deeds;
@@ -155,7 +155,7 @@ module _ (v : Shape) {L K : Type 0} (calls : L → List ℕ → Outcome → L �
     }
 
     -- a message was answered
-    module _ (x : Sending) (d : Done) (m : L) (sent : IsSent v calls most_retries (s, l) x (d.state, m)) (answered : IsAnswered x) (heard : Heard v s d) (same : x.replies ≡ d.replies) where
+    module _ (x : Delivery) (d : Done) (m : L) (sent : IsSent v calls most_retries (s, l) x (d.state, m)) (answered : IsAnswered x) (heard : Heard v s d) (same : x.replies ≡ d.replies) where
       sent_done : DoesAll v calls keeps (at s0 kept l0 k0) (Keeps ∷ (so.deeds ++ Sends x ∷ [])) (at d.state so.later m k)
       sent_done =
           FoldsTo-push (Does v calls keeps) (at s0 kept l0 k0) (Keeps ∷ so.deeds) (at s so.later l k) (Sends x) (at d.state so.later m k) so.done

@@ -2,15 +2,15 @@
 use Rattle.std.proofs.Common.{◌≡◌, ℕ, List, ◌∷◌, [], sym, ap, subst, inl, inr, refl}
 use Rattle.std.specs.List.{All}
 use Rattle.std.proofs.lemmas.List.Elements.{All-cons, All-map, All-nil}
-use Rattle.oram_run.specs.Blocks.{body_from}
-use Rattle.oram_run.specs.Events.{failed_reply}
-use Rattle.oram_run.specs.Shape.{Shape}
-use Rattle.oram_run.specs.State.{State}
-use Rattle.oram_run.specs.declared.events.Command.{Command}
-use Rattle.oram_run.specs.declared.events.Command.TheVariants.{Read, Write, Discard}
-use Rattle.oram_run.specs.declared.events.Reply.{Reply}
-use Rattle.oram_run.specs.declared.events.ReplyBody.TheVariants.{Failed}
-use Rattle.oram_run.specs.declared.events.Submission.{Submission}
+use Rattle.oram_semantics.specs.Blocks.{body_from}
+use Rattle.oram_semantics.specs.Events.{failed_reply}
+use Rattle.oram_semantics.specs.Scheme.{Scheme}
+use Rattle.oram_semantics.specs.State.{State}
+use Rattle.oram_semantics.specs.declared.events.Command.{Command}
+use Rattle.oram_semantics.specs.declared.events.Command.TheVariants.{Read, Write, Discard}
+use Rattle.oram_semantics.specs.declared.events.Reply.{Reply}
+use Rattle.oram_semantics.specs.declared.events.ReplyBody.TheVariants.{Failed}
+use Rattle.oram_semantics.specs.declared.events.Submission.{Submission}
 use Rattle.oram_core.specs.Doing.{Done, finished_by}
 use Rattle.oram_core.specs.Steps.{Heard}
 use Rattle.oram_session.specs.Honesty.{HasFailed}
@@ -24,12 +24,12 @@ never_failed before (Read a) h = cc
 never_failed before (Write a bytes) h = cc
 never_failed before (Discard a) h = cc
 
-finished_well : (v : Shape) (s t : State) (x : Submission) (rest : List Submission) → All (IsOfFailed t) (finished_by v s x rest).replies
+finished_well : (v : Scheme) (s t : State) (x : Submission) (rest : List Submission) → All (IsOfFailed t) (finished_by v s x rest).replies
 finished_well v s t x rest =
-    let reply : Reply = record { session = x.session; ticket = x.ticket; body = body_from s.before x.command } in
-    All-cons (IsOfFailed t) reply [] (λ h. absurd (never_failed s.before x.command h)) (All-nil (IsOfFailed t))
+    let reply : Reply = record { session = x.session; ticket = x.ticket; body = body_from s.held_data x.command } in
+    All-cons (IsOfFailed t) reply [] (λ h. absurd (never_failed s.held_data x.command h)) (All-nil (IsOfFailed t))
 
-pub heard_failures : (v : Shape) (s : State) (d : Done) → Heard v s d → All (IsOfFailed d.state) d.replies
+pub heard_failures : (v : Scheme) (s : State) (d : Done) → Heard v s d → All (IsOfFailed d.state) d.replies
 heard_failures v s d (inl f) =
     let failed : HasFailed d.state = (f.reason, ap (λ (t : State). t.failure) f.state) in
     subst (All (IsOfFailed d.state)) (sym f.replies) (All-map (IsOfFailed d.state) failed_reply s.queue (λ k x lt h. failed))

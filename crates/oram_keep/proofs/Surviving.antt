@@ -12,31 +12,31 @@ use Rattle.oram_wire.specs.declared.host_messages.HostRequest.TheVariants.{Fetch
 use Rattle.oram_host.specs.Answers.{Answers}
 use Rattle.oram_host.specs.Host.{Host}
 use Rattle.oram_host.specs.Serving.{Serves}
-use Rattle.oram_run.specs.Content.{stage_tree}
-use Rattle.oram_run.specs.Messages.{asked}
-use Rattle.oram_run.specs.Events.{failed_reply}
-use Rattle.oram_run.specs.Moves.{fetch_at, moved, world_after}
-use Rattle.oram_run.specs.Progress.{Status}
-use Rattle.oram_run.specs.Progress.Status.{Idle, Waiting, Stalling, Over}
-use Rattle.oram_run.specs.Run.{Shown, is_over, refusal_of}
-use Rattle.oram_run.specs.Serving.{ServesArray, array_after, reply_by}
-use Rattle.oram_run.specs.Shape.{Shape}
-use Rattle.oram_run.specs.State.{State, World, status_by, status_in}
-use Rattle.oram_run.specs.declared.events.Command.{Command}
-use Rattle.oram_run.specs.declared.events.Event.{Event}
-use Rattle.oram_run.specs.declared.events.Event.TheVariants.{Answer, Reopen, Retry}
-use Rattle.oram_run.specs.declared.events.Reason.{Reason}
-use Rattle.oram_run.specs.declared.events.Refusal.{Refusal}
-use Rattle.oram_run.specs.declared.events.Reply.{Reply}
-use Rattle.oram_run.specs.declared.events.Submission.{Submission}
-use Rattle.oram_run.proofs.Bounds.{depth_small}
+use Rattle.oram_semantics.specs.Content.{entry_tree}
+use Rattle.oram_semantics.specs.Messages.{requested}
+use Rattle.oram_semantics.specs.Events.{failed_reply}
+use Rattle.oram_semantics.specs.Moves.{fetch_at, moved, world_after}
+use Rattle.oram_semantics.specs.Progress.{Status}
+use Rattle.oram_semantics.specs.Progress.Status.{Idle, Waiting, Stalling, Over}
+use Rattle.oram_semantics.specs.Run.{Shown, is_over, refusal_of}
+use Rattle.oram_semantics.specs.Serving.{ServesArray, array_after, reply_by}
+use Rattle.oram_semantics.specs.Scheme.{Scheme}
+use Rattle.oram_semantics.specs.State.{State, World, status_by, status_in}
+use Rattle.oram_semantics.specs.declared.events.Command.{Command}
+use Rattle.oram_semantics.specs.declared.events.Event.{Event}
+use Rattle.oram_semantics.specs.declared.events.Event.TheVariants.{Answer, Reopen, Retry}
+use Rattle.oram_semantics.specs.declared.events.Reason.{Reason}
+use Rattle.oram_semantics.specs.declared.events.Refusal.{Refusal}
+use Rattle.oram_semantics.specs.declared.events.Reply.{Reply}
+use Rattle.oram_semantics.specs.declared.events.Submission.{Submission}
+use Rattle.oram_semantics.proofs.Bounds.{depth_small}
 use Rattle.oram_core.specs.Doing.{Done as Did, submitted_by}
 use Rattle.oram_core.specs.Steps.{Steps, did}
-use Rattle.oram_honest.specs.Honest.{IsHonest}
-use Rattle.oram_honest.specs.Hosting.{GoesOnHosted, Hosts, HostsBy, HostsWork}
-use Rattle.oram_honest.proofs.Honest.{honest_hosts_serve}
-use Rattle.oram_honest.proofs.Lying.{lying_hosts_fail}
-use Rattle.oram_session.specs.Exchanges.{Runs, Sending, IsSent, event_of, is_stall, outcomes_of, retried}
+use Rattle.oram_host_laws.specs.Honest.{IsHonest}
+use Rattle.oram_host_laws.specs.Hosting.{GoesOnHosted, Hosts, HostsBy, HostsWork}
+use Rattle.oram_host_laws.proofs.Honest.{honest_hosts_serve}
+use Rattle.oram_host_laws.proofs.Lying.{lying_hosts_fail}
+use Rattle.oram_session.specs.Exchanges.{Runs, Delivery, IsSent, event_of, is_stall, outcomes_of, retried}
 use Rattle.oram_session.specs.Honesty.{HasFailed, IsBusy, IsHeardCall, IsHeardLink, IsHeld, IsHonestCall}
 use Rattle.oram_session.specs.Outcome.{Outcome}
 use Rattle.oram_session.specs.Settled.{IsSettled, is_settled_by, outstanding}
@@ -51,8 +51,8 @@ use Rattle.oram_keep.specs.Ends.{IsCutMessage}
 use Rattle.oram_keep.specs.Surviving.{CommandsLast, EndsAmid, Holds, IsLasting, IsLeft, IsResuming, KeptCoresGoOn, Recovers, ReopenedCoresRecover}
 
 -- a FETCH is read as one
-asks_fetch : (tree leaf : ℕ) → (asked (fetch_body tree leaf)).fetch ≡ true
-unfolding asked
+asks_fetch : (tree leaf : ℕ) → (requested (fetch_body tree leaf)).fetch ≡ true
+unfolding requested
 asks_fetch tree leaf = refl
 
 leaf_small : (leaf depth : ℕ) → depth ≤ 24 → leaf < 2 ^ depth → leaf < 2 ^ 32
@@ -89,7 +89,7 @@ call_honest : (o : Outcome) (last : List ℕ) (host after : Host) → IsHonestCa
 call_honest (Ok bytes) last host after h = (h.0, h.2, h.3)
 call_honest (Err fault) last host after h = h
 
-fetch_heard : (may_lie : Bool) (v : Shape) (host after : Host) (tree leaf : ℕ) (o : Outcome) → HasNumbers (Fetch tree leaf)
+fetch_heard : (may_lie : Bool) (v : Scheme) (host after : Host) (tree leaf : ℕ) (o : Outcome) → HasNumbers (Fetch tree leaf)
     → IsHeardCall may_lie v host (fetch_body tree leaf) o after → after ≡ host
 fetch_heard may_lie v host after tree leaf o numbers (inl honest) = fetch_called host after tree leaf o numbers honest
 fetch_heard may_lie v host after tree leaf o numbers (inr lie) = fetch_served host after tree leaf lie.3.answer numbers lie.3.heard
@@ -98,7 +98,7 @@ fetch_heard may_lie v host after tree leaf o numbers (inr lie) = fetch_served ho
 failed_settled : (s : State) → HasFailed s → IsSettled s
 failed_settled s f = ap (λ (k : Option Reason). is_settled_by (status_by k s.queue s.lost)) f.1
 
-module _ (may_lie : Bool) {L : Type 0} (calls : L → List ℕ → Outcome → L → Type 0) (host_of : L → Host) (v : Shape) (heard : IsHeardLink may_lie v calls host_of) where
+module _ (may_lie : Bool) {L : Type 0} (calls : L → List ℕ → Outcome → L → Type 0) (host_of : L → Host) (v : Scheme) (heard : IsHeardLink may_lie v calls host_of) where
   rests_settled : (s : State) (l : L) (array : ℕ → List ℕ) → Holds may_lie v host_of s l array → IsSettled s
   rests_settled s l array (inl held) = held.settled
   rests_settled s l array (inr lost) = failed_settled s lost.1
@@ -113,15 +113,15 @@ module _ (may_lie : Bool) {L : Type 0} (calls : L → List ℕ → Outcome → L
 
   module _ (device : IsDevice v.device) where
     -- the message that waits in a busy core may be sent any number of times
-    calls_keep : (s : State) (w : World) (message : List ℕ) → message ≡ s.last → (outcomes : List Outcome) (l m : L)
+    calls_keep : (s : State) (w : World) (message : List ℕ) → message ≡ s.message → (outcomes : List Outcome) (l m : L)
         → FoldsTo (λ a o b. calls a message o b) l outcomes m → HostsWork v s w (host_of l) → HostsWork v s w (host_of m)
     calls_keep s w message is [] l m called b = subst (λ (k : L). HostsWork v s w (host_of k)) called b
     calls_keep s w message is (o ∷ outcomes) l m called b =
-        let one : IsHeardCall may_lie v (host_of l) s.last o (host_of called.0) =
+        let one : IsHeardCall may_lie v (host_of l) s.message o (host_of called.0) =
         subst (λ (k : List ℕ). IsHeardCall may_lie v (host_of l) k o (host_of called.0)) is (heard l called.0 message o called.1) in
         calls_keep s w message is outcomes called.0 m called.2 (call_keeps may_lie v s w (host_of l) (host_of called.0) o b one)
 
-    busy_called : (s : State) (x : Submission) (array : ℕ → List ℕ) (message : List ℕ) → message ≡ s.last → (outcomes : List Outcome) (l m : L)
+    busy_called : (s : State) (x : Submission) (array : ℕ → List ℕ) (message : List ℕ) → message ≡ s.message → (outcomes : List Outcome) (l m : L)
         → FoldsTo (λ a o b. calls a message o b) l outcomes m → IsBusy v host_of (s, l) x array → IsBusy v host_of (s, m) x array
     busy_called s x array message is outcomes l m called b =
         let work : HostsWork v s b.world (host_of l) = subst (HostsBy v s b.world (host_of l)) b.queue b.hosts in
@@ -129,18 +129,18 @@ module _ (may_lie : Bool) {L : Type 0} (calls : L → List ℕ → Outcome → L
         record { alive = b.alive; queue = b.queue; world = b.world; serving = b.serving; hosts = subst (HostsBy v s b.world (host_of m)) (sym b.queue) kept }
 
     -- so may a FETCH that a busy core waits for, which leaves the host as it was
-    host_left : (s : State) (x : Submission) (array : ℕ → List ℕ) (tree leaf : ℕ) (message : List ℕ) → message ≡ s.last → message ≡ fetch_body tree leaf
+    host_left : (s : State) (x : Submission) (array : ℕ → List ℕ) (tree leaf : ℕ) (message : List ℕ) → message ≡ s.message → message ≡ fetch_body tree leaf
         → (outcomes : List Outcome) (l m : L) → FoldsTo (λ a o b. calls a message o b) l outcomes m → IsBusy v host_of (s, l) x array → host_of m ≡ host_of l
     host_left s x array tree leaf message is fetch outcomes l m called b =
         let work : HostsWork v s b.world (host_of l) = subst (HostsBy v s b.world (host_of l)) b.queue b.hosts in
-        let asks : (asked s.last).fetch ≡ true = ap (λ (k : List ℕ). (asked k).fetch) (sym is ∙ fetch) ∙ asks_fetch tree leaf in
-        let same : s.last ≡ fetch_body (asked s.last).tree (asked s.last).leaf =
-        work.posted.whole.body ∙ ap (λ (f : Bool). if f then fetch_body (asked s.last).tree (asked s.last).leaf else store_body (asked s.last).tree (asked s.last).leaf work.posted.whole.records) asks in
-        let small : (asked s.last).leaf < 2 ^ 32 = leaf_small (asked s.last).leaf (depth_of v.device (stage_tree v.device s.stage)) (depth_small v.device (stage_tree v.device s.stage)) work.posted.leaf in
-        fetches_leave (asked s.last).tree (asked s.last).leaf message small (is ∙ same) outcomes l m called
+        let asks : (requested s.message).fetch ≡ true = ap (λ (k : List ℕ). (requested k).fetch) (sym is ∙ fetch) ∙ asks_fetch tree leaf in
+        let same : s.message ≡ fetch_body (requested s.message).tree (requested s.message).leaf =
+        work.posted.whole.body ∙ ap (λ (f : Bool). if f then fetch_body (requested s.message).tree (requested s.message).leaf else store_body (requested s.message).tree (requested s.message).leaf work.posted.whole.records) asks in
+        let small : (requested s.message).leaf < 2 ^ 32 = leaf_small (requested s.message).leaf (depth_of v.device (entry_tree v.device s.entry_number)) (depth_small v.device (entry_tree v.device s.entry_number)) work.posted.leaf in
+        fetches_leave (requested s.message).tree (requested s.message).leaf message small (is ∙ same) outcomes l m called
 
     -- what is kept recovers the same array, whatever is sent under it
-    recovers_called : (kept s : State) (x : Submission) (array before : ℕ → List ℕ) (message : List ℕ) → message ≡ s.last → IsCovered v kept message
+    recovers_called : (kept s : State) (x : Submission) (array before : ℕ → List ℕ) (message : List ℕ) → message ≡ s.message → IsCovered v kept message
         → (outcomes : List Outcome) (l m : L) → FoldsTo (λ a o b. calls a message o b) l outcomes m → IsBusy v host_of (s, l) x before
         → Recovers may_lie v host_of kept l array → Recovers may_lie v host_of kept m array
     recovers_called kept s x array before message is covered outcomes l m called b (inl (inl held)) =
@@ -149,7 +149,7 @@ module _ (may_lie : Bool) {L : Type 0} (calls : L → List ℕ → Outcome → L
     recovers_called kept s x array before message is covered outcomes l m called b (inr r) = elim covered.either [
       | inl own ↦ inr (r.0, r.1, busy_called kept r.0 r.1 message own outcomes l m called r.2, r.3)
       | inr following ↦
-          let same : host_of m ≡ host_of l = host_left s x before (fetch_at v.device (kept.stage + 1) kept.named covered.oldest).tree (fetch_at v.device (kept.stage + 1) kept.named covered.oldest).leaf message is following.fetch outcomes l m called b in
+          let same : host_of m ≡ host_of l = host_left s x before (fetch_at v.device (kept.entry_number + 1) kept.held_entry covered.oldest).tree (fetch_at v.device (kept.entry_number + 1) kept.held_entry covered.oldest).leaf message is following.fetch outcomes l m called b in
           inr (
             r.0,
             r.1,
@@ -185,7 +185,7 @@ module _ (may_lie : Bool) {L : Type 0} (calls : L → List ℕ → Outcome → L
           let both = sym settled ∙ unsettled (status_in s) k.0 in
           cc
 
-      sends_on : (m n : Moment L K) (y : Sending) (x : Submission) (array lasting : ℕ → List ℕ) → IsBusy v host_of (m.core, m.link) x array
+      sends_on : (m n : Moment L K) (y : Delivery) (x : Submission) (array lasting : ℕ → List ℕ) → IsBusy v host_of (m.core, m.link) x array
           → Recovers may_lie v host_of m.kept m.link lasting → Does v calls keeps m (Sends y) n
           → Next may_lie calls host_of v heard device (n.core, n.link) x array y.replies × Recovers may_lie v host_of n.kept n.link lasting
       sends_on m n y x array lasting b r d =
@@ -317,7 +317,7 @@ module _ (may_lie : Bool) {L : Type 0} (calls : L → List ℕ → Outcome → L
 
       -- and in which the host is honest
       quiet_step : (s t : State) (l m : L) (x : Submission) (array : ℕ → List ℕ) (event : Event) (shown : Shown) → IsBusy v host_of (s, l) x array
-          → Steps v s event shown t → IsHonest (status_in s) s.last event (host_of l) (host_of m) → shown.replies ≡ [] → t.queue ≡ s.queue
+          → Steps v s event shown t → IsHonest (status_in s) s.message event (host_of l) (host_of m) → shown.replies ≡ [] → t.queue ≡ s.queue
           → IsBusy v host_of (t, m) x array
       quiet_step s t l m x array event shown b step host none queue =
           quiet_on s t l m x array event shown b
@@ -328,7 +328,7 @@ module _ (may_lie : Bool) {L : Type 0} (calls : L → List ℕ → Outcome → L
       reopened_once s t l x array going b told =
           let first = reopened v s told.1 told.0 going told.3 in
           subst (λ (u : State). IsBusy v host_of (u, l) x array) told.4.1
-          (quiet_step s told.1 l l x array Reopen told.0 b told.3 (reopen_honest (status_in s) s.last (host_of l)) first.0 (ap (λ (u : State). u.queue) first.1))
+          (quiet_step s told.1 l l x array Reopen told.0 b told.3 (reopen_honest (status_in s) s.message (host_of l)) first.0 (ap (λ (u : State). u.queue) first.1))
 
       reopened_busy : (s t : State) (l : L) (x : Submission) (array : ℕ → List ℕ) → ¬ IsSettled s → IsBusy v host_of (s, l) x array
           → IsReopened v s t → IsBusy v host_of (t, l) x array
@@ -338,19 +338,19 @@ module _ (may_lie : Bool) {L : Type 0} (calls : L → List ℕ → Outcome → L
           let last = told.4 in
           let again = resent v s mid last.1 last.0 going first.1 last.3 in
           let stalled : IsBusy v host_of (mid, l) x array =
-          quiet_step s mid l l x array Reopen told.0 b told.3 (reopen_honest (status_in s) s.last (host_of l)) first.0 (ap (λ (u : State). u.queue) first.1) in
+          quiet_step s mid l l x array Reopen told.0 b told.3 (reopen_honest (status_in s) s.message (host_of l)) first.0 (ap (λ (u : State). u.queue) first.1) in
           let queue : last.1.queue ≡ mid.queue = ap (λ (d : Did). d.state.queue) again ∙ sym (ap (λ (u : State). u.queue) first.1) in
           subst (λ (u : State). IsBusy v host_of (u, l) x array) last.4.1
-          (quiet_step mid last.1 l l x array Retry last.0 stalled last.3 (retry_honest (status_in mid) mid.last (host_of l)) (ap (λ (d : Did). d.replies) again) queue)
+          (quiet_step mid last.1 l l x array Retry last.0 stalled last.3 (retry_honest (status_in mid) mid.message (host_of l)) (ap (λ (d : Did). d.replies) again) queue)
 
       -- a message that stalls leaves its command at work
 
       stalled_on : (s t : State) (l m : L) (x : Submission) (array : ℕ → List ℕ) (o : Outcome) (shown : Shown) → IsBusy v host_of (s, l) x array
           → status_in s ≡ Waiting → Steps v s (event_of o) shown t → shown.replies ≡ [] → t.queue ≡ s.queue → t.failure ≡ s.failure
-          → IsHeardCall may_lie v (host_of l) s.last o (host_of m) → IsBusy v host_of (t, m) x array
+          → IsHeardCall may_lie v (host_of l) s.message o (host_of m) → IsBusy v host_of (t, m) x array
       stalled_on s t l m x array o shown b waits step none queue calm (inl honest) =
           quiet_step s t l m x array (event_of o) shown b step
-          (subst (λ (now : Status). IsHonest now s.last (event_of o) (host_of l) (host_of m)) (sym waits) (call_honest o s.last (host_of l) (host_of m) honest)) none queue
+          (subst (λ (now : Status). IsHonest now s.message (event_of o) (host_of l) (host_of m)) (sym waits) (call_honest o s.message (host_of l) (host_of m) honest)) none queue
       stalled_on s t l m x array o shown b waits step none queue calm (inr lie) =
           let told : Steps v s (Answer lie.1) shown t = subst (λ (k : Outcome). Steps v s (event_of k) shown t) lie.2 step in
           elim (lying_hosts_fail v s t b.world array lie.1 shown (host_of l) (host_of m) device b.alive waits b.serving b.hosts told.moves lie.3) [
@@ -359,15 +359,15 @@ module _ (may_lie : Bool) {L : Type 0} (calls : L → List ℕ → Outcome → L
           ]
 
       stall_on : (stalls : List Outcome) (last : Outcome) (message : List ℕ) (s t : State) (l m : L) (replies : List Reply) (x : Submission) (array : ℕ → List ℕ)
-          → status_in s ≡ Waiting → message ≡ s.last → is_stall last ≡ true → All (λ o. is_stall o ≡ true) stalls
+          → status_in s ≡ Waiting → message ≡ s.message → is_stall last ≡ true → All (λ o. is_stall o ≡ true) stalls
           → FoldsTo (λ a o b. calls a message o b) l (stalls ++ last ∷ []) m → Runs v s (retried stalls ++ event_of last ∷ []) replies t
           → IsBusy v host_of (s, l) x array → IsBusy v host_of (t, m) x array
       stall_on [] last message s t l m replies x array waits named stuck all link core b =
           let is : did core.0 core.1 ≡ _ = stalled v s core.1 last core.0 waits stuck core.3 in
-          let call : calls l s.last last m = subst (λ (k : List ℕ). calls l k last m) named (subst (λ (j : L). calls l message last j) link.2 link.1) in
+          let call : calls l s.message last m = subst (λ (k : List ℕ). calls l k last m) named (subst (λ (j : L). calls l message last j) link.2 link.1) in
           subst (λ (u : State). IsBusy v host_of (u, m) x array) core.4.1
           (stalled_on s core.1 l m x array last core.0 b waits core.3 (ap (λ (d : Did). d.replies) is) (ap (λ (d : Did). d.state.queue) is)
-          (ap (λ (d : Did). d.state.failure) is) (heard l m s.last last call))
+          (ap (λ (d : Did). d.state.failure) is) (heard l m s.message last call))
       stall_on (o ∷ stalls) last message s t l m replies x array waits named stuck all link core b =
           let again = core.4 in
           let first : did core.0 core.1 ≡ _ = stalled v s core.1 o core.0 waits (All-head (λ (y : Outcome). is_stall y ≡ true) o stalls all) core.3 in
@@ -395,7 +395,7 @@ module _ (may_lie : Bool) {L : Type 0} (calls : L → List ℕ → Outcome → L
       recovers_by s l x before array replies is (inr (inl done)) = inl (inl (subst (λ (a : ℕ → List ℕ). IsHeld v host_of (s, l) a) (sym is) done.0))
       recovers_by s l x before array replies is (inr (inr failed)) = inl (inr (failed.0, failed.1))
 
-      lives_told : (s t : State) (l m : L) (y : Sending) (array : ℕ → List ℕ) → IsSent v calls most_retries (s, l) y (t, m)
+      lives_told : (s t : State) (l m : L) (y : Delivery) (array : ℕ → List ℕ) → IsSent v calls most_retries (s, l) y (t, m)
           → Recovers may_lie v host_of s l array → Recovers may_lie v host_of t m array
       lives_told s t l m y array sent (inl rests) = absurd (none_waits s y.message (rests_settled s l array rests) sent.message)
       lives_told s t l m y array sent (inr r) = by (is_stall y.last) refl

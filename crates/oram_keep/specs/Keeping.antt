@@ -2,13 +2,13 @@
 use Rattle.std.specs.Prelude.{◌≡◌, ℕ, ◌+◌, ◌*◌, ◌%◌, ◌<◌, Bool, true, List, [], ◌∷◌, ◌⊎◌}
 use Rattle.std.specs.List.{FoldsTo, flat_map}
 use Rattle.oram_geometry.specs.Sizes.{trees_of}
-use Rattle.oram_run.specs.Shape.{Shape}
-use Rattle.oram_run.specs.State.{State}
-use Rattle.oram_run.specs.declared.events.Reply.{Reply}
-use Rattle.oram_run.specs.declared.events.Submission.{Submission}
+use Rattle.oram_semantics.specs.Scheme.{Scheme}
+use Rattle.oram_semantics.specs.State.{State}
+use Rattle.oram_semantics.specs.declared.events.Reply.{Reply}
+use Rattle.oram_semantics.specs.declared.events.Submission.{Submission}
 use Rattle.oram_core.specs.Doing.{fetched_by}
 use Rattle.oram_state.specs.Decoding.{IsSaved}
-use Rattle.oram_session.specs.Exchanges.{Sending, IsSent, IsAnswered}
+use Rattle.oram_session.specs.Exchanges.{Delivery, IsSent, IsAnswered}
 use Rattle.oram_session.specs.Outcome.{Outcome}
 use Rattle.oram_session.specs.Turns.{most_retries}
 
@@ -23,22 +23,22 @@ abbrev pub at : {L K : Type 0} → State → State → L → K → Moment L K
 at core kept link keeper = record { core = core; kept = kept; link = link; keeper = keeper }
 
 -- A STORE of the oldest command was kept, which another FETCH follows, and this is that FETCH.
-pub record IsFollowing (v : Shape) (kept : State) (oldest : Submission) (message : List ℕ) : Type 0 where
-  pub stores : kept.stage % 2 ≡ 1
-  pub more : kept.stage + 1 < 2 * trees_of v.device
-  pub fetch : message ≡ (fetched_by v kept oldest).state.last
+pub record IsFollowing (v : Scheme) (kept : State) (oldest : Submission) (message : List ℕ) : Type 0 where
+  pub stores : kept.entry_number % 2 ≡ 1
+  pub more : kept.entry_number + 1 < 2 * trees_of v.device
+  pub fetch : message ≡ (fetched_by v kept oldest).state.message
 
 -- What may leave while this is what is kept: the message that waits in it for its answer, or the FETCH behind it.
-pub record IsCovered (v : Shape) (kept : State) (message : List ℕ) : Type 0 where
+pub record IsCovered (v : Scheme) (kept : State) (message : List ℕ) : Type 0 where
   pub oldest : Submission
   pub rest : List Submission
   pub queue : kept.queue ≡ oldest ∷ rest
-  pub either : (message ≡ kept.last) ⊎ IsFollowing v kept oldest message
+  pub either : (message ≡ kept.message) ⊎ IsFollowing v kept oldest message
 
 -- the core is kept, or a message is sent until it is answered
 pub data Deed : Type 0 where
   Keeps : Deed
-  Sends : Sending → Deed
+  Sends : Delivery → Deed
 
 -- the replies that these bring
 abbrev pub replies_in : Deed → List Reply
@@ -49,7 +49,7 @@ abbrev pub replies_of : List Deed → List Reply
 replies_of deeds = flat_map replies_in deeds
 
 -- over a link and a keeper that meet these relations
-module _ (v : Shape) {L K : Type 0} (calls : L → List ℕ → Outcome → L → Type 0) (keeps : K → List ℕ → Bool → K → Type 0) where
+module _ (v : Scheme) {L K : Type 0} (calls : L → List ℕ → Outcome → L → Type 0) (keeps : K → List ℕ → Bool → K → Type 0) where
   -- the keeper is handed the core's state file, and keeps it or fails
   abbrev pub IsHanded : State → K → Bool → K → Type 0
   IsHanded core keeper done after = (file : List ℕ) × IsSaved file v.overhead v.device core × keeps keeper file done after

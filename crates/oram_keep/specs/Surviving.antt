@@ -3,16 +3,16 @@ use Rattle.std.specs.Prelude.{◌≡◌, ◌⊎◌, ℕ, Bool, true, List, [], �
 use Rattle.std.specs.List.{FoldsTo}
 use Rattle.oram_geometry.specs.Sizes.{IsDevice}
 use Rattle.oram_host.specs.Host.{Host}
-use Rattle.oram_run.specs.Blocks.{body_from}
-use Rattle.oram_run.specs.Events.{address_of}
-use Rattle.oram_run.specs.Serving.{array_after}
-use Rattle.oram_run.specs.Shape.{Shape}
-use Rattle.oram_run.specs.State.{State}
-use Rattle.oram_run.specs.declared.events.Command.{Command}
-use Rattle.oram_run.specs.declared.events.Event.TheVariants.{Reopen}
-use Rattle.oram_run.specs.declared.events.Reply.{Reply}
-use Rattle.oram_run.specs.declared.events.ReplyBody.TheVariants.{Failed}
-use Rattle.oram_run.specs.declared.events.Submission.{Submission}
+use Rattle.oram_semantics.specs.Blocks.{body_from}
+use Rattle.oram_semantics.specs.Events.{address_of}
+use Rattle.oram_semantics.specs.Serving.{array_after}
+use Rattle.oram_semantics.specs.Scheme.{Scheme}
+use Rattle.oram_semantics.specs.State.{State}
+use Rattle.oram_semantics.specs.declared.events.Command.{Command}
+use Rattle.oram_semantics.specs.declared.events.Event.TheVariants.{Reopen}
+use Rattle.oram_semantics.specs.declared.events.Reply.{Reply}
+use Rattle.oram_semantics.specs.declared.events.ReplyBody.TheVariants.{Failed}
+use Rattle.oram_semantics.specs.declared.events.Submission.{Submission}
 use Rattle.oram_session.specs.Honesty.{HasFailed, IsBusy, IsHeardLink, IsHeld}
 use Rattle.oram_session.specs.Outcome.{Outcome}
 use Rattle.oram_session.specs.Settled.{IsSettled, outstanding}
@@ -23,16 +23,16 @@ use Rattle.oram_keep.specs.Keeping.{Deed, Does, DoesAll, IsCovered, Moment, at, 
 use Rattle.oram_keep.specs.Keeping.Deed.{Keeps, Sends}
 
 -- A core at which nothing waits holds this array, or has failed, where the host may lie.
-abbrev pub Holds : Bool → Shape → {L : Type 0} → (L → Host) → State → L → (ℕ → List ℕ) → Type 0
+abbrev pub Holds : Bool → Scheme → {L : Type 0} → (L → Host) → State → L → (ℕ → List ℕ) → Type 0
 Holds may_lie v host_of core link array = IsHeld v host_of (core, link) array ⊎ ((may_lie ≡ true) × HasFailed core)
 
 -- A core that is read back holds this array, or will once the one command that is at work in it is carried out.
-abbrev pub Recovers : Bool → Shape → {L : Type 0} → (L → Host) → State → L → (ℕ → List ℕ) → Type 0
+abbrev pub Recovers : Bool → Scheme → {L : Type 0} → (L → Host) → State → L → (ℕ → List ℕ) → Type 0
 Recovers may_lie v host_of kept link array =
     Holds may_lie v host_of kept link array
     ⊎ ((x : Submission) × (before : ℕ → List ℕ) × IsBusy v host_of (kept, link) x before × (array ≡ array_after v.device x.command before))
 
-module _ (v : Shape) {L K : Type 0} (calls : L → List ℕ → Outcome → L → Type 0) (keeps : K → List ℕ → Bool → K → Type 0) where
+module _ (v : Scheme) {L K : Type 0} (calls : L → List ℕ → Outcome → L → Type 0) (keeps : K → List ℕ → Bool → K → Type 0) where
   -- The process ends in this deed, and then this is read back, and the link is left so: a keeping was done, or not; the link was called
   -- with the message that waits for its answer some number of times.
   abbrev pub EndsIn : Moment L K → Deed → State → L → Type 0
@@ -80,19 +80,19 @@ module _ (v : Shape) {L K : Type 0} (calls : L → List ℕ → Outcome → L �
 -- over a link to an honest host, or to one that may lie
 
 abbrev pub CommandsLast : {L K : Type 0} → (L → List ℕ → Outcome → L → Type 0) → (K → List ℕ → Bool → K → Type 0) → Type 0
-CommandsLast {L} {K} calls keeps = (may_lie : Bool) (host_of : L → Host) (v : Shape) → IsHeardLink may_lie v calls host_of
+CommandsLast {L} {K} calls keeps = (may_lie : Bool) (host_of : L → Host) (v : Scheme) → IsHeardLink may_lie v calls host_of
     → (words : ℕ → ℕ → List ℕ) (m : Moment L K) (c : Command) (t : State) (array : ℕ → List ℕ) → IsDevice v.device
     → IsHeld v host_of (m.core, m.link) array → Recovers may_lie v host_of m.kept m.link array → IsAccepted v words m.core c t
     → IsLasting v calls keeps may_lie host_of words m c t array
 
 abbrev pub KeptCoresGoOn : {L K : Type 0} → (L → List ℕ → Outcome → L → Type 0) → (K → List ℕ → Bool → K → Type 0) → Type 0
-KeptCoresGoOn {L} {K} calls keeps = (may_lie : Bool) (host_of : L → Host) (v : Shape) → IsHeardLink may_lie v calls host_of
+KeptCoresGoOn {L} {K} calls keeps = (may_lie : Bool) (host_of : L → Host) (v : Scheme) → IsHeardLink may_lie v calls host_of
     → (kept : State) (link : L) (keeper : K) (t : State) (array : ℕ → List ℕ) → IsDevice v.device
     → Recovers may_lie v host_of kept link array → ¬ IsSettled kept → IsReopened v kept t
     → IsResuming v calls keeps may_lie host_of kept link keeper t array
 
 -- A core that knows of the reopening alone still recovers the array.
 abbrev pub ReopenedCoresRecover : {L : Type 0} → (L → List ℕ → Outcome → L → Type 0) → Type 0
-ReopenedCoresRecover {L} calls = (may_lie : Bool) (host_of : L → Host) (v : Shape) → IsHeardLink may_lie v calls host_of
+ReopenedCoresRecover {L} calls = (may_lie : Bool) (host_of : L → Host) (v : Scheme) → IsHeardLink may_lie v calls host_of
     → (kept : State) (link : L) (t : State) (array : ℕ → List ℕ) → IsDevice v.device
     → Recovers may_lie v host_of kept link array → ¬ IsSettled kept → Runs v kept (Reopen ∷ []) [] t → Recovers may_lie v host_of t link array

@@ -1,13 +1,13 @@
 //! Messages of the core, exchanged over a link, with the core kept in between.
 ghost use Rattle.std.specs.Prelude.{◌≡◌, ◌⊎◌, ◌<◌, ℕ, [], ◌∷◌, ◌++◌, true, false, List, All, length, IfOk, IfErr, IsErrOf, MatchBool, OnOk};
-ghost use Rattle.oram_run.specs.Progress.Status.{Waiting};
-ghost use Rattle.oram_run.specs.State.{State, status_in};
-ghost use Rattle.oram_run.specs.declared.events.Reply.{Reply};
-ghost use Rattle.oram_run.specs.declared.events.ReplyBody.{ReplyBody};
-ghost use Rattle.oram_core.specs.Core.{IsSameDevice, shape_of};
+ghost use Rattle.oram_semantics.specs.Progress.Status.{Waiting};
+ghost use Rattle.oram_semantics.specs.State.{State, status_in};
+ghost use Rattle.oram_semantics.specs.declared.events.Reply.{Reply};
+ghost use Rattle.oram_semantics.specs.declared.events.ReplyBody.{ReplyBody};
+ghost use Rattle.oram_core.specs.Core.{IsSameDevice, scheme_of};
 ghost use Rattle.oram_core.specs.Doing.{done};
 ghost use Rattle.oram_core.specs.Steps.{Heard};
-ghost use Rattle.oram_session.specs.Exchanges.{Sending, IsAnswered, IsCutOff, IsGivenUp, IsSent};
+ghost use Rattle.oram_session.specs.Exchanges.{Delivery, IsAnswered, IsCutOff, IsGivenUp, IsSent};
 ghost use Rattle.oram_session.specs.Honesty.{HasFailed};
 ghost use Rattle.oram_session.specs.Settled.{IsBodyOf, IsSettled, IsUnderWay};
 ghost use Rattle.oram_session.specs.Turns.{most_retries};
@@ -29,18 +29,18 @@ fn send<S: Sealer, L: Link>(
     message: &[u8],
 ) -> Result<Reaction, KeepFault>
     requires waits { status_in core.old.state ≡ Waiting }
-    requires message { message.now ≡ core.old.state.last }
+    requires message { message.now ≡ core.old.state.message }
     ensures kept { IsSameDevice core.old core.new }
-    ensures ok { let v = shape_of S.overhead S.sealing S.opening core.old in
-        IfOk result (λ r. (x : Sending) × IsSent v L.calls most_retries (core.old.state, link.old) x (core.new.state, link.new)
+    ensures ok { let v = scheme_of S.overhead S.sealing S.opening core.old in
+        IfOk result (λ r. (x : Delivery) × IsSent v L.calls most_retries (core.old.state, link.old) x (core.new.state, link.new)
         × IsAnswered x × (x.replies ≡ r.replies.items)) }
-    ensures heard { let v = shape_of S.overhead S.sealing S.opening core.old in
+    ensures heard { let v = scheme_of S.overhead S.sealing S.opening core.old in
         IfOk result (λ r. Heard v core.old.state (done r core.new.state)) }
-    ensures stalled { let v = shape_of S.overhead S.sealing S.opening core.old in
-        IsErrOf result KeepFault.Stalled → (x : Sending)
+    ensures stalled { let v = scheme_of S.overhead S.sealing S.opening core.old in
+        IsErrOf result KeepFault.Stalled → (x : Delivery)
         × IsSent v L.calls most_retries (core.old.state, link.old) x (core.new.state, link.new) × IsGivenUp most_retries x }
-    ensures memory { let v = shape_of S.overhead S.sealing S.opening core.old in
-        IsErrOf result KeepFault.OutOfMemory → (x : Sending)
+    ensures memory { let v = scheme_of S.overhead S.sealing S.opening core.old in
+        IsErrOf result KeepFault.OutOfMemory → (x : Delivery)
         × IsCutOff v L.calls most_retries (core.old.state, link.old) x (core.new.state, link.new) }
     ensures fault { IfErr result (λ e. (e ≡ KeepFault.Stalled) ⊎ (e ≡ KeepFault.OutOfMemory)) }
 {
@@ -64,7 +64,7 @@ pub(crate) fn exchange_all<S: Sealer, L: Link, K: Keeper>(
 ) -> Result<Reaction, KeepFault>
     requires { IsUnderWay (done reaction core.old.state) }
     ensures kept { IsSameDevice core.old core.new }
-    ensures ok { let v = shape_of S.overhead S.sealing S.opening core.old in
+    ensures ok { let v = scheme_of S.overhead S.sealing S.opening core.old in
         IfOk result (λ r. (kept : State) → (all : List Reply) × HasGivenAll v L.calls K.keeps IsSame
         core.old.state link.old keeper.old core.new.state link.new keeper.new kept all
         × (length all ≡ length core.old.state.queue) × ((early : List Reply) × (all ≡ early ++ r.replies.items))) }
@@ -72,13 +72,13 @@ pub(crate) fn exchange_all<S: Sealer, L: Link, K: Keeper>(
     ensures replied { IfOk result (λ r. 0 < length r.replies.items) }
     ensures block { IfOk result (λ r. All (λ reply. IsBodyOf core.old.device reply.body) r.replies.items) }
     ensures failed { IfOk result (λ r. All (λ reply. reply.body ≡ ReplyBody.Failed → HasFailed core.new.state) r.replies.items) }
-    ensures stalled { let v = shape_of S.overhead S.sealing S.opening core.old in
+    ensures stalled { let v = scheme_of S.overhead S.sealing S.opening core.old in
         IsErrOf result KeepFault.Stalled → (kept : State) → HasStalledAt v L.calls K.keeps IsSame
         core.old.state link.old keeper.old core.new.state link.new keeper.new kept }
-    ensures unkept { let v = shape_of S.overhead S.sealing S.opening core.old in
+    ensures unkept { let v = scheme_of S.overhead S.sealing S.opening core.old in
         IsErrOf result KeepFault.Unkept → (kept : State) → IsUnkeptAt v L.calls K.keeps IsSame
         core.old.state link.old keeper.old core.new.state link.new keeper.new kept }
-    ensures memory { let v = shape_of S.overhead S.sealing S.opening core.old in
+    ensures memory { let v = scheme_of S.overhead S.sealing S.opening core.old in
         IsErrOf result KeepFault.OutOfMemory → (kept : State) → HasRunOutAt v L.calls K.keeps IsSame
         core.old.state link.old keeper.old core.new.state link.new keeper.new kept }
 {

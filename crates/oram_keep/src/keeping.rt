@@ -31,7 +31,7 @@ pub(crate) fn keep<S: Sealer, K: Keeper>(
 
 /// Whether the core is to be kept before the message that it wants sent: one that begins a command, or a STORE.
 pub(crate) fn is_to_be_kept<S: Sealer>(core: &Core<S>, reaction: &Reaction) -> bool
-    ensures { result ≡ (not (length reaction.now.sends.items == 0) && (not (length reaction.now.replies.items == 0) || (core.now.state.stage % 2 == 1))) }
+    ensures { result ≡ (not (length reaction.now.sends.items == 0) && (not (length reaction.now.replies.items == 0) || (core.now.state.entry_number % 2 == 1))) }
 {
     !reaction.sends.is_empty() && (!reaction.replies.is_empty() || core.is_storing())
 }

@@ -10,7 +10,7 @@ use Rattle.oram_nbd.specs.declared.TheConstants.{LONGEST_OPTION, MOST_OPTIONS}
 use Rattle.oram_nbd.specs.Streams.{Misses}
 use Rattle.oram_nbd.specs.Options.{option_head, option_text, IsHead}
 use Rattle.oram_nbd.specs.Handshake.{greeting, refused, Answers, IsFixed}
-use Rattle.oram_nbd.specs.Negotiation.{answered, asked, asking, Exchange, HasAgreed, HasNegotiated, IsExchange, IsNoOption, IsUnfinishedOption, StopsAt, StopsChoosing}
+use Rattle.oram_nbd.specs.Negotiation.{answered, options_text, asking, Exchange, HasAgreed, HasNegotiated, IsExchange, IsNoOption, IsUnfinishedOption, StopsAt, StopsChoosing}
 use Rattle.oram_nbd.specs.declared.faults.NbdFault.{NbdFault}
 use Rattle.oram_nbd.specs.declared.faults.NbdFault.TheVariants as fault
 use Rattle.oram_nbd.specs.declared.handshake.Agreement.{Agreement}
@@ -47,7 +47,7 @@ module _ (name : List ℕ) (size preferred : ℕ) (zeroes : Bool) where
     pub flags : ℕ
     pub fixed : IsFixed flags zeroes
     pub each : All (λ x. IsExchange name size preferred zeroes x None) all
-    pub read : Consumes from to (to_be_bytes w32 flags ++ asked all)
+    pub read : Consumes from to (to_be_bytes w32 flags ++ options_text all)
     pub wrote : Appends held holds (greeting ++ answered all)
 
   pub greeted : (from held to holds : Option (List ℕ)) (flags : ℕ) → IsFixed flags zeroes → Consumes from to (to_be_bytes w32 flags) → Appends held holds greeting → Negotiated from held 0 to holds
@@ -70,8 +70,8 @@ module _ (name : List ℕ) (size preferred : ℕ) (zeroes : Bool) where
     fixed = s.fixed;
     each = All-push (λ y. IsExchange name size preferred zeroes y None) s.all x s.each is;
     read = subst (Consumes from later)
-        (append_assoc (to_be_bytes w32 s.flags) (asked s.all) (asking x) ∙ ap (λ (l : List ℕ). to_be_bytes w32 s.flags ++ l) (ap (λ (l : List ℕ). asked s.all ++ l) (sym (append-nil (asking x))) ∙ sym (flat_map-append asking s.all (x ∷ []))))
-        (Consumes-trans from to later (to_be_bytes w32 s.flags ++ asked s.all) (asking x) s.read came);
+        (append_assoc (to_be_bytes w32 s.flags) (options_text s.all) (asking x) ∙ ap (λ (l : List ℕ). to_be_bytes w32 s.flags ++ l) (ap (λ (l : List ℕ). options_text s.all ++ l) (sym (append-nil (asking x))) ∙ sym (flat_map-append asking s.all (x ∷ []))))
+        (Consumes-trans from to later (to_be_bytes w32 s.flags ++ options_text s.all) (asking x) s.read came);
     wrote = subst (Appends held hold)
         (append_assoc greeting (answered s.all) x.answer ∙ ap (λ (l : List ℕ). greeting ++ l) (ap (λ (l : List ℕ). answered s.all ++ l) (sym (append-nil x.answer)) ∙ sym (flat_map-append (λ (y : Exchange). y.answer) s.all (x ∷ []))))
         (Appends-trans held holds hold (greeting ++ answered s.all) x.answer s.wrote wrote);
@@ -84,7 +84,7 @@ module _ (name : List ℕ) (size preferred : ℕ) (zeroes : Bool) where
     flags = s.flags;
     fixed = s.fixed;
     each = s.each;
-    read = Consumes-trans from to later (to_be_bytes w32 s.flags ++ asked s.all) part s.read came;
+    read = Consumes-trans from to later (to_be_bytes w32 s.flags ++ options_text s.all) part s.read came;
     wrote = Appends-trans held holds hold (greeting ++ answered s.all) more s.wrote wrote;
   }
 

@@ -5,10 +5,10 @@ use Rattle.std.proofs.lemmas.List.Elements.{All-push, All-nil}
 use Rattle.std.proofs.lemmas.Grind.{flat_map-append}
 use Rattle.std.specs.Io.KnownBytes.{Appends, Consumes}
 use Rattle.std.proofs.KnownBytes.{Appends-nil, Appends-trans, Consumes-nil, Consumes-trans}
-use Rattle.oram_nbd.specs.Holding.{Leads}
+use Rattle.oram_nbd.specs.Holding.{GoesOnHolding}
 use Rattle.oram_nbd.specs.Messages.{payload_len, request_text, IsRequest}
 use Rattle.oram_nbd.specs.Streams.{ComesShort, IsBegunText, Misses}
-use Rattle.oram_nbd.specs.Serving.{asking, refusal_of, replying, said, told, IsAnswer, IsPartly, IsReplied, IsService, IsRefusal, IsTurn, NeverFails, FailsForGood, SaysFailed, Turn}
+use Rattle.oram_nbd.specs.Serving.{asking, refusal_of, replying, requests_text, replies_text, IsAnswer, IsPartly, IsReplied, IsService, IsRefusal, IsTurn, NeverFails, FailsForGood, SaysFailed, Turn}
 use Rattle.oram_nbd.specs.Transmission.{HasExchanged, HasServed, IsNoRequest, IsUnfinished, StopsServing}
 use Rattle.oram_nbd.specs.declared.faults.NbdError.{NbdError}
 use Rattle.oram_nbd.specs.declared.faults.NbdError.TheVariants.{Io, NoMemory}
@@ -51,7 +51,7 @@ still_failed failed now later [] turn so_far keeps fails (inr (inl io)) = fails 
 still_failed failed now later [] turn so_far keeps fails (inr (inr none)) = absurd none
 still_failed failed now later (t ∷ turns) turn so_far keeps fails (inr (inl io)) = keeps (so_far (inr (inl io)))
 still_failed failed now later (t ∷ turns) turn so_far keeps fails (inr (inr more)) =
-    still_failed failed now later turns turn (λ e. so_far (elim e [ inl f ↦ inl f | inr said ↦ inr (inr said) ])) keeps fails (inr more)
+    still_failed failed now later turns turn (λ e. so_far (elim e [ inl f ↦ inl f | inr requests_text ↦ inr (inr requests_text) ])) keeps fails (inr more)
 
 abbrev pub turn_of : Request → List ℕ → SimpleReply → Turn
 turn_of r bytes reply = record { request = r; payload = bytes; reply = reply }
@@ -62,7 +62,7 @@ module _ (sound failed : Type 0) (size : ℕ) (held : List ℕ → Type 0) where
 
   -- one turn more
   pub served_more : (held' held'' : List ℕ → Type 0) (turns : List Turn) (turn : Turn) → HasServed sound failed size held held' turns → IsReplied size turn → (sound → turn.reply ≡ Refused Io → ⊥) → (failed ⊎ SaysFailed turns → IsRefusal turn.reply) →
-      Leads held' (λ old new. IsAnswer old turn.request turn.payload turn.reply new) held'' → HasServed sound failed size held held'' (turns ++ turn ∷ [])
+      GoesOnHolding held' (λ old new. IsAnswer old turn.request turn.payload turn.reply new) held'' → HasServed sound failed size held held'' (turns ++ turn ∷ [])
   served_more held' held'' turns turn s is works refuses answer = record {
     fits = All-push (λ t. IsReplied size t) turns turn s.fits is;
     never = λ h. never_more turns turn (s.never h) (works h);
@@ -78,8 +78,8 @@ module _ (sound failed : Type 0) (size : ℕ) (held : List ℕ → Type 0) where
     pub turns : List Turn
     pub many : length turns ≡ count
     pub served : HasServed sound failed size held held' turns
-    pub read : Consumes from to (said turns)
-    pub wrote : Appends text told' (told turns)
+    pub read : Consumes from to (requests_text turns)
+    pub wrote : Appends text told' (replies_text turns)
 
   unfoldable pub begin : (from text : Option (List ℕ)) → Served from text 0 held from text
   begin from text = record { turns = []; many = refl; served = served_none; read = Consumes-nil from; wrote = Appends-nil text }
@@ -91,16 +91,16 @@ module _ (sound failed : Type 0) (size : ℕ) (held : List ℕ → Type 0) where
     turns = s.turns ++ turn ∷ [];
     many = length-append s.turns (turn ∷ []) ∙ ap (λ (n : ℕ). n + 1) s.many;
     served = served;
-    read = subst (Consumes from later) (ap (λ (l : List ℕ). said s.turns ++ l) (sym (append-nil (asking turn))) ∙ sym (flat_map-append asking s.turns (turn ∷ []))) (Consumes-trans from to later (said s.turns) (asking turn) s.read came);
-    wrote = subst (Appends text told'') (ap (λ (l : List ℕ). told s.turns ++ l) (sym (append-nil (replying turn))) ∙ sym (flat_map-append replying s.turns (turn ∷ []))) (Appends-trans text told' told'' (told s.turns) (replying turn) s.wrote wrote);
+    read = subst (Consumes from later) (ap (λ (l : List ℕ). requests_text s.turns ++ l) (sym (append-nil (asking turn))) ∙ sym (flat_map-append asking s.turns (turn ∷ []))) (Consumes-trans from to later (requests_text s.turns) (asking turn) s.read came);
+    wrote = subst (Appends text told'') (ap (λ (l : List ℕ). replies_text s.turns ++ l) (sym (append-nil (replying turn))) ∙ sym (flat_map-append replying s.turns (turn ∷ []))) (Appends-trans text told' told'' (replies_text s.turns) (replying turn) s.wrote wrote);
   }
 
   -- and then some more bytes were read and written
   pub exchanged : (from text : Option (List ℕ)) (count : ℕ) (held' : List ℕ → Type 0) (to told' later told'' : Option (List ℕ)) (part more : List ℕ) →
       (s : Served from text count held' to told') → Consumes to later part → Appends told' told'' more → HasExchanged s.turns from later part text told'' more
   exchanged from text count held' to told' later told'' part more s came wrote = record {
-    read = Consumes-trans from to later (said s.turns) part s.read came;
-    wrote = Appends-trans text told' told'' (told s.turns) more s.wrote wrote;
+    read = Consumes-trans from to later (requests_text s.turns) part s.read came;
+    wrote = Appends-trans text told' told'' (replies_text s.turns) more s.wrote wrote;
   }
 
   -- no whole request came
@@ -159,7 +159,7 @@ module _ (sound failed : Type 0) (size : ℕ) (held : List ℕ → Type 0) where
   -- the device stopped at a request
   pub stopped_at_request : (from text : Option (List ℕ)) (count : ℕ) (held' held'' : List ℕ → Type 0) (to told' later : Option (List ℕ)) (r : Request) (payload : List ℕ) →
       Served from text count held' to told' → IsRequest r → length payload ≡ payload_len r.command r.length → refusal_of size r ≡ None →
-      Leads held' (λ old new. IsPartly r.command old r.offset r.length payload new) held'' → Consumes to later (request_text r ++ payload) →
+      GoesOnHolding held' (λ old new. IsPartly r.command old r.offset r.length payload new) held'' → Consumes to later (request_text r ++ payload) →
       StopsServing sound failed size held held'' fault.Stopped from later text told'
   stopped_at_request from text count held' held'' to told' later r payload s is whole fits partly came = (
     s.turns,
@@ -182,6 +182,6 @@ module _ (sound failed : Type 0) (size : ℕ) (held : List ℕ → Type 0) where
 
 -- a request that is refused without being carried out, because memory runs out or the device has failed
 pub refused_later : (held : List ℕ → Type 0) (size : ℕ) → ((bytes : List ℕ) → held bytes → length bytes ≡ size) → (r : Request) (text : List ℕ) (e : NbdError) → (e ≡ Io) ⊎ (e ≡ NoMemory) → refusal_of size r ≡ None →
-    Leads held (λ old new. IsAnswer old r text (Refused e) new) held
+    GoesOnHolding held (λ old new. IsAnswer old r text (Refused e) new) held
 refused_later held size sized r text e why fits = λ bytes h.
     (bytes, inr (subst (λ (n : ℕ). refusal_of n r ≡ None) (sym (sized bytes h)) fits, why, partly_none r.command bytes r.offset r.length text), h)

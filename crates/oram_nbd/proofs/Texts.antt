@@ -2,7 +2,7 @@
 use Rattle.std.proofs.Common.{◌≡◌, ℕ, zero, suc, List, take, drop, refl, sym, ap, ◌∙◌}
 use Rattle.std.specs.Int.{w16, w32, w64, from_be_bytes}
 use Rattle.std.proofs.lemmas.Nat.{from_be_bytes-to_be_bytes_2, from_be_bytes-to_be_bytes_4, from_be_bytes-to_be_bytes_8}
-use Rattle.oram_nbd.specs.Messages.{command_code, request_text, IsRequest, IsTold}
+use Rattle.oram_nbd.specs.Messages.{command_code, request_text, IsRequest, HasOwnCode}
 use Rattle.oram_nbd.specs.Options.{option_code, option_head, IsHead, IsOption}
 use Rattle.oram_nbd.specs.declared.options.HandshakeOption.{HandshakeOption}
 use Rattle.oram_nbd.specs.declared.options.HandshakeOption.TheVariants as option
@@ -21,7 +21,7 @@ command_of (suc (suc (suc (suc (suc zero))))) = Other 5
 command_of (suc (suc (suc (suc (suc (suc zero)))))) = WriteZeroes
 command_of (suc (suc (suc (suc (suc (suc (suc n))))))) = Other (suc (suc (suc (suc (suc (suc (suc n)))))))
 
-command_is : (c : Command) → IsTold c → c ≡ command_of (command_code c)
+command_is : (c : Command) → HasOwnCode c → c ≡ command_of (command_code c)
 command_is Read h = refl
 command_is Write h = refl
 command_is Disconnect h = refl
@@ -37,7 +37,7 @@ command_is (Other (suc (suc (suc (suc (suc zero)))))) h = refl
 command_is (Other (suc (suc (suc (suc (suc (suc zero))))))) h = absurd (h.5 refl)
 command_is (Other (suc (suc (suc (suc (suc (suc (suc n)))))))) h = refl
 
-same_command : (c d : Command) → IsTold c → IsTold d → command_code c ≡ command_code d → c ≡ d
+same_command : (c d : Command) → HasOwnCode c → HasOwnCode d → command_code c ≡ command_code d → c ≡ d
 same_command c d h k e = command_is c h ∙ ap command_of e ∙ sym (command_is d k)
 
 abbrev at_2 : ℕ → List ℕ → ℕ

@@ -6,8 +6,8 @@ abbrev pub StillHolds : (List ℕ → Type 0) → (List ℕ → Type 0) → Type
 StillHolds held held' = (bytes : List ℕ) → held bytes → held' bytes
 
 -- for each array that was held, `step` leads to one that is held now
-abbrev pub Leads : (List ℕ → Type 0) → (List ℕ → List ℕ → Type 0) → (List ℕ → Type 0) → Type 0
-Leads held step held' = (bytes : List ℕ) → held bytes → (later : List ℕ) × step bytes later × held' later
+abbrev pub GoesOnHolding : (List ℕ → Type 0) → (List ℕ → List ℕ → Type 0) → (List ℕ → Type 0) → Type 0
+GoesOnHolding held step held' = (bytes : List ℕ) → held bytes → (later : List ℕ) × step bytes later × held' later
 
 -- a call has met what stops the device, and has left it in this state
 abbrev pub IsStopped : {D : Type 0} → (D → D → Type 0) → D → Type 0

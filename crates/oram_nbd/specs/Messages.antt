@@ -18,9 +18,9 @@ command_code command.WriteZeroes = 6
 command_code (command.Other code) = code
 
 -- a command that isn't served has a number of its own
-abbrev pub IsTold : Command → Type 0
-IsTold (command.Other code) = (code ≢ 0) × (code ≢ 1) × (code ≢ 2) × (code ≢ 3) × (code ≢ 4) × (code ≢ 6)
-IsTold _ = Unit {0}
+abbrev pub HasOwnCode : Command → Type 0
+HasOwnCode (command.Other code) = (code ≢ 0) × (code ≢ 1) × (code ≢ 2) × (code ≢ 3) × (code ≢ 4) × (code ≢ 6)
+HasOwnCode _ = Unit {0}
 
 -- the 28 bytes of a request
 abbrev pub request_text : Request → List ℕ
@@ -30,7 +30,7 @@ request_text r =
 
 -- a request that can be written: its numbers fit their fields
 pub record IsRequest (r : Request) : Type 0 where
-  pub told : IsTold r.command
+  pub told : HasOwnCode r.command
   pub code : command_code r.command < 2 ^ 16
   pub flags : r.flags < 2 ^ 16
   pub cookie : r.cookie < 2 ^ 64

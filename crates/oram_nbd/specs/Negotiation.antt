@@ -26,8 +26,8 @@ pub record Exchange : Type 0 where
 abbrev pub asking : Exchange → List ℕ
 asking x = option_text x.option x.content
 
-abbrev pub asked : List Exchange → List ℕ
-asked xs = flat_map asking xs
+abbrev pub options_text : List Exchange → List ℕ
+options_text xs = flat_map asking xs
 
 abbrev pub answered : List Exchange → List ℕ
 answered xs = flat_map (λ x. x.answer) xs
@@ -103,7 +103,7 @@ module _ (name : List ℕ) (size preferred : ℕ) where
     pub flags : ℕ
     pub fixed : IsFixed flags zeroes
     pub each : All (λ x. IsExchange zeroes x None) xs
-    pub read : Consumes unread unread' (to_be_bytes w32 flags ++ asked xs ++ part)
+    pub read : Consumes unread unread' (to_be_bytes w32 flags ++ options_text xs ++ part)
     pub wrote : Appends written written' (greeting ++ answered xs ++ more)
 
   -- The handshake ended in this agreement: by a last exchange, or because the input ended where an option was due.

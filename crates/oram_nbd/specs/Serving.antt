@@ -103,11 +103,11 @@ asking turn = request_text turn.request ++ turn.payload
 abbrev pub replying : Turn → List ℕ
 replying turn = reply_text turn.request.cookie turn.reply
 
-abbrev pub said : List Turn → List ℕ
-said turns = flat_map asking turns
+abbrev pub requests_text : List Turn → List ℕ
+requests_text turns = flat_map asking turns
 
-abbrev pub told : List Turn → List ℕ
-told turns = flat_map replying turns
+abbrev pub replies_text : List Turn → List ℕ
+replies_text turns = flat_map replying turns
 
 -- no reply says that the device failed
 abbrev pub NeverFails : List Turn → Type 0

@@ -2,8 +2,8 @@
 use Rattle.std.specs.Prelude.{◌≡◌, ◌⊎◌, ℕ, ◌<◌, List, [], ◌∷◌, ◌++◌, length, take, Option, None, All}
 use Rattle.std.specs.Io.KnownBytes.{Appends, Consumes, IsAtEnd}
 use Rattle.oram_nbd.specs.Messages.{payload_len, request_text, IsRequest}
-use Rattle.oram_nbd.specs.Holding.{Leads}
-use Rattle.oram_nbd.specs.Serving.{asking, refusal_of, replying, said, told, IsPartly, IsReplied, IsService, NeverFails, FailsForGood, Turn}
+use Rattle.oram_nbd.specs.Holding.{GoesOnHolding}
+use Rattle.oram_nbd.specs.Serving.{asking, refusal_of, replying, requests_text, replies_text, IsPartly, IsReplied, IsService, NeverFails, FailsForGood, Turn}
 use Rattle.oram_nbd.specs.declared.faults.NbdFault.{NbdFault}
 use Rattle.oram_nbd.specs.declared.faults.NbdFault.TheVariants.{Read, Truncated, Magic, Write, OldClient, UnknownExport, TooManyOptions, OutOfMemory, Stopped}
 use Rattle.oram_nbd.specs.declared.requests.Command.TheVariants.{Disconnect}
@@ -26,8 +26,8 @@ IsLast new last =
 
 -- The turns were read and their replies written. Then `part` was read, and `more` was written.
 pub record HasExchanged (turns : List Turn) (unread unread' : Option (List ℕ)) (part : List ℕ) (written written' : Option (List ℕ)) (more : List ℕ) : Type 0 where
-  pub read : Consumes unread unread' (said turns ++ part)
-  pub wrote : Appends written written' (told turns ++ more)
+  pub read : Consumes unread unread' (requests_text turns ++ part)
+  pub wrote : Appends written written' (replies_text turns ++ more)
 
 -- For a device of `size` bytes. `sound` says that it is sound, and `failed` that it had failed before. `held` are the
 -- arrays that it held before, and `held'` those that it holds now.
@@ -37,7 +37,7 @@ module _ (sound failed : Type 0) (size : ℕ) (held held' : List ℕ → Type 0)
     pub fits : All (λ turn. IsReplied size turn) turns
     pub never : sound → NeverFails turns
     pub refused : FailsForGood failed turns
-    pub service : Leads held (λ old new. IsService old turns new) held'
+    pub service : GoesOnHolding held (λ old new. IsService old turns new) held'
 
   -- The turns were made, and then a request came, with these bytes, at which the device stopped.
   pub record HasStopped (turns : List Turn) (r : Request) (payload : List ℕ) : Type 0 where
@@ -47,7 +47,7 @@ module _ (sound failed : Type 0) (size : ℕ) (held held' : List ℕ → Type 0)
     pub request : IsRequest r
     pub whole : length payload ≡ payload_len r.command r.length
     pub accepted : refusal_of size r ≡ None
-    pub service : Leads held (λ old new. (mid : List ℕ) × IsService old turns mid × IsPartly r.command mid r.offset r.length payload new) held'
+    pub service : GoesOnHolding held (λ old new. (mid : List ℕ) × IsService old turns mid × IsPartly r.command mid r.offset r.length payload new) held'
 
   -- `count` requests were answered, and then the requests ended
   pub record HasTransmitted (count : ℕ) (unread unread' written written' : Option (List ℕ)) : Type 0 where

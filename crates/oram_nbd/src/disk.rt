@@ -9,7 +9,7 @@ use std::alloc::Global;
 /// A device of whole blocks, all of one length. It holds the array of its blocks' bytes.
 ///
 /// After [`DiskFault::Stopped`] a connection makes no more calls of it.
-pub trait Disk {
+pub trait BlockDevice {
     /// The number of bytes of a block.
     ghost block_len: { Self → ℕ };
 

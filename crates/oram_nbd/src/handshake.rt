@@ -110,7 +110,7 @@ impl Export<'_> {
     }
 
     /// Returns the answer to EXPORT_NAME.
-    fn told(&self, alloc: Global, zeroes: bool) -> Result<Vec<u8>, AllocError>
+    fn export_text(&self, alloc: Global, zeroes: bool) -> Result<Vec<u8>, AllocError>
         ensures { IfOk result (λ v. v.items ≡ export_text self.now.size zeroes) }
     {
         let mut text = Vec::new(alloc);
@@ -223,7 +223,7 @@ impl Export<'_> {
                 if !self.is_named(content) {
                     return Ok(None);
                 }
-                let text = self.told(alloc, zeroes)?;
+                let text = self.export_text(alloc, zeroes)?;
                 Ok(Some(Answer::ending(text, Agreement::Transmission)))
             }
             HandshakeOption::Abort => {

@@ -1,38 +1,38 @@
 //! The NBD protocol over a device of whole blocks: its handshake, its requests and replies, and the service of one connection.
 //!
 //! The protocol is the public one (NetworkBlockDevice/nbd, doc/proto.md): the fixed newstyle handshake, simple replies,
-//! and the commands READ, WRITE, FLUSH, TRIM, WRITE_ZEROES and DISC. The server serves a [`Disk`]: an array of bytes
+//! and the commands READ, WRITE, FLUSH, TRIM, WRITE_ZEROES and DISC. The server serves a [`BlockDevice`]: an array of bytes
 //! that is read and written by whole blocks. [`read_range`], [`write_range`] and [`zero_range`] carry out a byte range
 //! on it. [`negotiate`] does the handshake, [`transmit`] answers the requests after it, and [`serve`] serves a whole
 //! connection. [`is_stop`] says whether a connection ended because its disk has stopped.
 #![tactic(auto)]
 
-mod connecting;
+mod connection;
 mod disk;
 mod faults;
 mod handshake;
 mod mem_disk;
-mod negotiating;
+mod negotiation;
 mod numbers;
 mod options;
 mod ranges;
 mod replies;
 mod requests;
-mod serving;
+mod service;
 mod streams;
-mod transmitting;
+mod transmission;
 
-pub use connecting::{HandshakeWatch, is_stop, serve};
-pub use disk::Disk;
+pub use connection::{HandshakeWatch, is_stop, serve};
+pub use disk::BlockDevice;
 pub use faults::{DiskFault, NbdError, NbdFault};
 pub use handshake::{Agreement, Export};
 pub use mem_disk::MemDisk;
-pub use negotiating::negotiate;
+pub use negotiation::negotiate;
 pub use options::{HandshakeOption, OptionHead, ReplyKind, wanted_name};
 pub use ranges::{read_range, write_range, zero_range};
 pub use replies::SimpleReply;
 pub use requests::{Command, Request};
-pub use transmitting::transmit;
+pub use transmission::transmit;
 
 /// The greatest number of bytes of one READ or WRITE.
 pub const LONGEST_PAYLOAD: u32 = 33_554_432;

@@ -2,7 +2,7 @@
 
 ghost use Rattle.std.specs.Prelude.{◌≡◌, ◌*◌, ◌<◌, ◌^◌, length, IfOk};
 
-use crate::disk::Disk;
+use crate::disk::BlockDevice;
 use crate::faults::DiskFault;
 use std::alloc::{AllocError, Global};
 use std::marker::Model;
@@ -44,7 +44,7 @@ impl MemDisk {
     }
 }
 
-impl Disk for MemDisk {
+impl BlockDevice for MemDisk {
     ghost block_len = { λ d. d.block_len };
 
     ghost size = { λ d. length d.bytes };

@@ -2,9 +2,9 @@
 
 ghost use Rattle.std.specs.Prelude.{◌≡◌, ◌⊎◌, ℕ, List, ◌+◌, ◌-◌, ◌*◌, ◌<◌, ◌≤◌, ◌++◌, length, take, IfOk, OnOk, OnErr, IsErrOf};
 ghost use Rattle.oram_nbd.specs.Bytes.{bytes_at, written, zeroes, IsBegun};
-ghost use Rattle.oram_nbd.specs.Holding.{IsStopped, Leads, StillHolds};
+ghost use Rattle.oram_nbd.specs.Holding.{IsStopped, GoesOnHolding, StillHolds};
 
-use crate::disk::Disk;
+use crate::disk::BlockDevice;
 use crate::faults::DiskFault;
 use std::alloc::{AllocError, Global};
 
@@ -38,7 +38,7 @@ impl Part {
 
 /// Reads at most `most` bytes from a place on, as far as its block goes. Appends them to `out`, and returns their
 /// number.
-fn read_part<D: Disk>(
+fn read_part<D: BlockDevice>(
     alloc: Global,
     disk: &mut D,
     at: u64,
@@ -67,7 +67,7 @@ fn read_part<D: Disk>(
 }
 
 /// Reads the bytes of a range. The device holds what it held.
-pub fn read_range<D: Disk>(
+pub fn read_range<D: BlockDevice>(
     alloc: Global,
     disk: &mut D,
     offset: u64,
@@ -107,7 +107,7 @@ fn spliced(alloc: Global, block: &[u8], start: usize, payload: &[u8]) -> Result<
 }
 
 /// Writes bytes that lie in one block. If they are only part of the block, it reads the block first.
-fn write_in_block<D: Disk>(
+fn write_in_block<D: BlockDevice>(
     alloc: Global,
     disk: &mut D,
     block: u64,
@@ -137,7 +137,7 @@ fn write_in_block<D: Disk>(
 }
 
 /// Writes those bytes at the front of the payload that lie in the block of a place, and returns their number.
-fn write_part<D: Disk>(
+fn write_part<D: BlockDevice>(
     alloc: Global,
     disk: &mut D,
     at: u64,
@@ -148,7 +148,7 @@ fn write_part<D: Disk>(
     ensures some { IfOk result (λ n. 0 < n) }
     ensures most { IfOk result (λ n. n ≤ length payload.now) }
     ensures ok { IfOk result (λ n. (bytes : List ℕ) → D.holds disk.old bytes → D.holds disk.new (written bytes at (take n payload.now))) }
-    ensures err { OnErr result (Leads (D.holds disk.old) (λ old new. IsBegun old at payload.now new) (D.holds disk.new)) }
+    ensures err { OnErr result (GoesOnHolding (D.holds disk.old) (λ old new. IsBegun old at payload.now new) (D.holds disk.new)) }
     ensures sound { IsErrOf result DiskFault.Failed → D.is_sound disk.old → ⊥ }
     ensures failing { IsErrOf result DiskFault.Failed → D.failed disk.new }
     ensures stopped { IsErrOf result DiskFault.Stopped → IsStopped D.stops disk.new }
@@ -163,7 +163,7 @@ fn write_part<D: Disk>(
 }
 
 /// Writes a range. No byte outside of it changes.
-pub fn write_range<D: Disk>(
+pub fn write_range<D: BlockDevice>(
     alloc: Global,
     disk: &mut D,
     offset: u64,
@@ -172,7 +172,7 @@ pub fn write_range<D: Disk>(
     requires { offset + length payload.now ≤ D.size disk.old }
     ensures ok { OnOk result ((bytes : List ℕ) → D.holds disk.old bytes → D.holds disk.new (written bytes offset payload.now)) }
     // On an error, a beginning of the payload may be written.
-    ensures err { OnErr result (Leads (D.holds disk.old) (λ old new. IsBegun old offset payload.now new) (D.holds disk.new)) }
+    ensures err { OnErr result (GoesOnHolding (D.holds disk.old) (λ old new. IsBegun old offset payload.now new) (D.holds disk.new)) }
     ensures sound { IsErrOf result DiskFault.Failed → D.is_sound disk.old → ⊥ }
     ensures failing { IsErrOf result DiskFault.Failed → D.failed disk.new }
     ensures stopped { IsErrOf result DiskFault.Stopped → IsStopped D.stops disk.new }
@@ -190,13 +190,18 @@ pub fn write_range<D: Disk>(
 
 /// Makes at most `most` bytes from a place on zeroes, as far as its block goes, and returns their number. If these are
 /// a whole block, it discards that.
-fn zero_part<D: Disk>(alloc: Global, disk: &mut D, at: u64, most: u64) -> Result<u64, DiskFault>
+fn zero_part<D: BlockDevice>(
+    alloc: Global,
+    disk: &mut D,
+    at: u64,
+    most: u64,
+) -> Result<u64, DiskFault>
     requires within { at + most ≤ D.size disk.old }
     requires some { 0 < most }
     ensures some { IfOk result (λ n. 0 < n) }
     ensures most { IfOk result (λ n. n ≤ most) }
     ensures ok { IfOk result (λ n. (bytes : List ℕ) → D.holds disk.old bytes → D.holds disk.new (written bytes at (zeroes n))) }
-    ensures err { OnErr result (Leads (D.holds disk.old) (λ old new. IsBegun old at (zeroes most) new) (D.holds disk.new)) }
+    ensures err { OnErr result (GoesOnHolding (D.holds disk.old) (λ old new. IsBegun old at (zeroes most) new) (D.holds disk.new)) }
     ensures sound { IsErrOf result DiskFault.Failed → D.is_sound disk.old → ⊥ }
     ensures failing { IsErrOf result DiskFault.Failed → D.failed disk.new }
     ensures stopped { IsErrOf result DiskFault.Stopped → IsStopped D.stops disk.new }
@@ -217,7 +222,7 @@ fn zero_part<D: Disk>(alloc: Global, disk: &mut D, at: u64, most: u64) -> Result
 }
 
 /// Makes the bytes of a range zeroes.
-pub fn zero_range<D: Disk>(
+pub fn zero_range<D: BlockDevice>(
     alloc: Global,
     disk: &mut D,
     offset: u64,
@@ -225,7 +230,7 @@ pub fn zero_range<D: Disk>(
 ) -> Result<(), DiskFault>
     requires { offset + count ≤ D.size disk.old }
     ensures ok { OnOk result ((bytes : List ℕ) → D.holds disk.old bytes → D.holds disk.new (written bytes offset (zeroes count))) }
-    ensures err { OnErr result (Leads (D.holds disk.old) (λ old new. IsBegun old offset (zeroes count) new) (D.holds disk.new)) }
+    ensures err { OnErr result (GoesOnHolding (D.holds disk.old) (λ old new. IsBegun old offset (zeroes count) new) (D.holds disk.new)) }
     ensures sound { IsErrOf result DiskFault.Failed → D.is_sound disk.old → ⊥ }
     ensures failing { IsErrOf result DiskFault.Failed → D.failed disk.new }
     ensures stopped { IsErrOf result DiskFault.Stopped → IsStopped D.stops disk.new }

@@ -1,7 +1,7 @@
 //! Requests.
 
 ghost use Rattle.std.specs.Prelude.{◌≡◌, IfSome, IfOk, Some};
-ghost use Rattle.oram_nbd.specs.Messages.{command_code, payload_len, request_text, IsRequest, IsTold};
+ghost use Rattle.oram_nbd.specs.Messages.{command_code, payload_len, request_text, IsRequest, HasOwnCode};
 
 use crate::numbers::{front_u16, front_u32, front_u64};
 use std::alloc::{AllocError, Global};
@@ -25,7 +25,7 @@ impl Command {
     /// Returns the command with the number `code`.
     pub fn of(code: u16) -> Command
         ensures code { command_code result ≡ code }
-        ensures told { IsTold result }
+        ensures told { HasOwnCode result }
     {
         match code {
             0 => Command::Read,

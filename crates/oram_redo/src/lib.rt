@@ -21,11 +21,11 @@
 
 mod batch;
 mod bounds;
+mod call_history;
 mod faults;
 mod file_pair;
 mod laws;
 mod memory;
-mod record;
 mod recovery;
 mod redo;
 mod steps;

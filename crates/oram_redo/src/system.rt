@@ -9,7 +9,7 @@ ghost use Rattle.oram_redo.specs.FilePair.{Contents};
 ghost use Rattle.oram_redo.specs.Note.{Call};
 ghost use Rattle.oram_redo.specs.System.{IsHonestRecord, LeftSince, MayLeaveAfter, only_after, seen_after};
 
-use crate::record::Record;
+use crate::call_history::CallHistory;
 use crate::{FileKind, FilePair, RedoError};
 use std::cell::Cell;
 use std::fs::File;
@@ -57,7 +57,7 @@ pub struct SystemPair<S: Start> {
     /// The number of bytes that were written to the records since their last sync.
     put: Cell<u64>,
     has_failed: bool,
-    noted: Record,
+    history: CallHistory,
     start: PhantomData<S>,
 }
 
@@ -79,7 +79,7 @@ impl<S: Start> SystemPair<S> {
             log_room,
             put: Cell::new(0),
             has_failed: false,
-            noted: Record::new(),
+            history: CallHistory::new(),
             start: PhantomData,
         })
     }
@@ -131,12 +131,12 @@ impl<S: Start> SystemPair<S> {
     }
 }
 
-fn note(noted: &mut Record, kind: u64, file: FileKind, at: u64, is_ok: bool, bytes: &[u8])
-    ensures { noted.new.calls ≡ record { kind = kind; file = file; at = at; is_ok = is_ok; bytes = bytes.now } ∷ noted.old.calls }
+fn note(history: &mut CallHistory, kind: u64, file: FileKind, at: u64, is_ok: bool, bytes: &[u8])
+    ensures { history.new.calls ≡ record { kind = kind; file = file; at = at; is_ok = is_ok; bytes = bytes.now } ∷ history.old.calls }
 {
     match file {
-        FileKind::Records => noted.note(&[kind, 0, at, u64::from(is_ok)], bytes),
-        FileKind::Log => noted.note(&[kind, 1, at, u64::from(is_ok)], bytes),
+        FileKind::Records => history.note(&[kind, 0, at, u64::from(is_ok)], bytes),
+        FileKind::Log => history.note(&[kind, 1, at, u64::from(is_ok)], bytes),
     }
 }
 
@@ -211,15 +211,15 @@ fn error_of(error: &io::Error) -> RedoError
 }
 
 impl<S: Start> FilePair for SystemPair<S> {
-    ghost seen = { λ m. seen_after S.first m.noted.calls };
+    ghost seen = { λ m. seen_after S.first m.history.calls };
 
-    ghost may_leave = { λ m. MayLeaveAfter S.first m.noted.calls };
+    ghost may_leave = { λ m. MayLeaveAfter S.first m.history.calls };
 
-    ghost moment = { λ m. length m.noted.calls };
+    ghost moment = { λ m. length m.history.calls };
 
-    ghost left_since = { λ m. LeftSince S.first m.noted.calls };
+    ghost left_since = { λ m. LeftSince S.first m.history.calls };
 
-    ghost is_honest = { λ m. IsHonestRecord S.first m.noted.calls };
+    ghost is_honest = { λ m. IsHonestRecord S.first m.history.calls };
 
     // Nothing is known about what makes a call fail.
     ghost failures = { λ m n. Unit {0} };
@@ -230,7 +230,7 @@ impl<S: Start> FilePair for SystemPair<S> {
 
     ghost whole = { λ m file i outside. refl };
 
-    ghost only_now = { λ m c left. only_after S.first m.noted.calls c left };
+    ghost only_now = { λ m c left. only_after S.first m.history.calls c left };
 
     fn read_onto(
         &mut self,
@@ -241,7 +241,7 @@ impl<S: Start> FilePair for SystemPair<S> {
     ) -> Result<(), RedoError> {
         let start = bytes.len();
         read_behind(self.file(file), at, len, bytes)?;
-        note(&mut self.noted, READ, file, at, true, &bytes[start..]);
+        note(&mut self.history, READ, file, at, true, &bytes[start..]);
         Ok(())
     }
 
@@ -253,11 +253,11 @@ impl<S: Start> FilePair for SystemPair<S> {
         }
         match write_all(self.file(file), at, bytes) {
             Ok(()) => {
-                note(&mut self.noted, WRITE, file, at, true, bytes);
+                note(&mut self.history, WRITE, file, at, true, bytes);
                 Ok(())
             }
             Err(error) => {
-                note(&mut self.noted, WRITE, file, at, false, bytes);
+                note(&mut self.history, WRITE, file, at, false, bytes);
                 Err(error)
             }
         }
@@ -269,7 +269,7 @@ impl<S: Start> FilePair for SystemPair<S> {
         }
         match self.file(file).sync_data() {
             Ok(()) => {
-                note(&mut self.noted, SYNC, file, 0, true, &[]);
+                note(&mut self.history, SYNC, file, 0, true, &[]);
                 self.grow_beside(file);
                 Ok(())
             }

@@ -4,29 +4,29 @@ use Rattle.std.specs.List.{FoldsTo, All}
 use Rattle.std.proofs.lemmas.Fn.{FoldsTo-push}
 use Rattle.std.proofs.lemmas.List.Concat.{flat_map-append}
 use Rattle.std.proofs.lemmas.List.Elements.{All-push, All-nil}
-use Rattle.oram_run.specs.Progress.Status.{Waiting}
-use Rattle.oram_run.specs.Run.{Shown}
-use Rattle.oram_run.specs.Shape.{Shape}
-use Rattle.oram_run.specs.State.{State, status_in}
-use Rattle.oram_run.specs.declared.events.Event.{Event}
-use Rattle.oram_run.specs.declared.events.Event.TheVariants.{Retry}
-use Rattle.oram_run.specs.declared.events.Reply.{Reply}
+use Rattle.oram_semantics.specs.Progress.Status.{Waiting}
+use Rattle.oram_semantics.specs.Run.{Shown}
+use Rattle.oram_semantics.specs.Scheme.{Scheme}
+use Rattle.oram_semantics.specs.State.{State, status_in}
+use Rattle.oram_semantics.specs.declared.events.Event.{Event}
+use Rattle.oram_semantics.specs.declared.events.Event.TheVariants.{Retry}
+use Rattle.oram_semantics.specs.declared.events.Reply.{Reply}
 use Rattle.oram_core.specs.Doing.{Done}
 use Rattle.oram_core.specs.Steps.{Steps}
-use Rattle.oram_session.specs.Exchanges.{Sending, Runs, event_of, is_stall, retried, IsSent, IsCutOff}
+use Rattle.oram_session.specs.Exchanges.{Delivery, Runs, event_of, is_stall, retried, IsSent, IsCutOff}
 use Rattle.oram_session.specs.Outcome.{Outcome}
 use Rattle.oram_session.proofs.Steppings.{stalled, retried_is, waits_outstanding}
 
-pub Runs-append : (v : Shape) (s t u : State) (es fs : List Event) (rs qs : List Reply) → Runs v s es rs t → Runs v t fs qs u → Runs v s (es ++ fs) (rs ++ qs) u
+pub Runs-append : (v : Scheme) (s t u : State) (es fs : List Event) (rs qs : List Reply) → Runs v s es rs t → Runs v t fs qs u → Runs v s (es ++ fs) (rs ++ qs) u
 Runs-append v s t u [] fs rs qs a b = subst (λ (xs : List Reply). Runs v s fs (xs ++ qs) u) (sym a.0) (subst (λ (w : State). Runs v w fs qs u) (sym a.1) b)
 Runs-append v s t u (e ∷ es) fs rs qs a b =
     (a.0, a.1, a.2 ++ qs, a.3, Runs-append v a.1 t u es fs a.2 qs a.4 b, ap (λ xs. xs ++ qs) a.5 ∙ append_assoc a.0.replies a.2 qs)
 
 -- one event
-pub Runs-one : (v : Shape) (s t : State) (e : Event) (x : Shown) → Steps v s e x t → Runs v s (e ∷ []) x.replies t
+pub Runs-one : (v : Scheme) (s t : State) (e : Event) (x : Shown) → Steps v s e x t → Runs v s (e ∷ []) x.replies t
 Runs-one v s t e x h = (x, t, [], h, (refl, refl), sym (append-nil x.replies))
 
-module _ (v : Shape) {L : Type 0} (calls : L → List ℕ → Outcome → L → Type 0) where
+module _ (v : Scheme) {L : Type 0} (calls : L → List ℕ → Outcome → L → Type 0) where
   -- some calls stalled, and the core is as before
   pub record Tried (message : List ℕ) (s : State) (l : L) (n : ℕ) (t : State) (m : L) : Type 0 where
     pub stalls : List Outcome
@@ -59,7 +59,7 @@ module _ (v : Shape) {L : Type 0} (calls : L → List ℕ → Outcome → L → 
 
   -- the last call
   pub sent : (most : ℕ) (message : List ℕ) (s : State) (l : L) (n : ℕ) (t u : State) (m m' : L) (o : Outcome) (x : Shown) →
-      status_in s ≡ Waiting → message ≡ s.last → n ≤ most → (k : Tried message s l n t m) → calls m message o m' → Steps v t (event_of o) x u →
+      status_in s ≡ Waiting → message ≡ s.message → n ≤ most → (k : Tried message s l n t m) → calls m message o m' → Steps v t (event_of o) x u →
       IsSent v calls most (s, l) (record { message = message; stalls = k.stalls; last = o; replies = x.replies }) (u, m')
   sent most message s l n t u m m' o x waits same few k call step = record {
     message = waits_outstanding s waits ∙ ap Some (sym same);
@@ -71,7 +71,7 @@ module _ (v : Shape) {L : Type 0} (calls : L → List ℕ → Outcome → L → 
 
   -- memory ran out before the core learned of the last call
   pub untold : (most : ℕ) (message : List ℕ) (s : State) (l : L) (n : ℕ) (t : State) (m m' : L) (o : Outcome) →
-      status_in s ≡ Waiting → message ≡ s.last → n ≤ most → (k : Tried message s l n t m) → calls m message o m' →
+      status_in s ≡ Waiting → message ≡ s.message → n ≤ most → (k : Tried message s l n t m) → calls m message o m' →
       IsCutOff v calls most (s, l) (record { message = message; stalls = k.stalls; last = o; replies = [] }) (t, m')
   untold most message s l n t m m' o waits same few k call = record {
     message = waits_outstanding s waits ∙ ap Some (sym same);
@@ -82,5 +82,5 @@ module _ (v : Shape) {L : Type 0} (calls : L → List ℕ → Outcome → L → 
   }
 
   -- and after it did
-  pub told_then : (most : ℕ) (p : State × L) (x : Sending) (q : State × L) → IsSent v calls most p x q → IsCutOff v calls most p x q
+  pub told_then : (most : ℕ) (p : State × L) (x : Delivery) (q : State × L) → IsSent v calls most p x q → IsCutOff v calls most p x q
   told_then most p x q h = record { message = h.message; stalls = h.stalls; few = h.few; link = h.link; core = inr h.core }

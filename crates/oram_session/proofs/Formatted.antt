@@ -3,8 +3,8 @@ use Rattle.std.proofs.Common.{◌≡◌, ℕ, List, [], ◌∷◌, Result, Ok, E
 use Rattle.oram_wire.specs.declared.sinks.SinkFault.{SinkFault}
 use Rattle.oram_tree.specs.Format.{PutsAll, IsBrokenOff}
 use Rattle.oram_tree.specs.declared.faults.FormatFault.{FormatFault}
-use Rattle.oram_run.specs.Shape.{Shape}
-use Rattle.oram_run.specs.State.{State}
+use Rattle.oram_semantics.specs.Scheme.{Scheme}
+use Rattle.oram_semantics.specs.State.{State}
 use Rattle.oram_core.specs.Formatting.{IsNew}
 
 -- A sink of this name holds a link, and keeps its name.
@@ -19,7 +19,7 @@ module _ {K L N : Type 0} (name : K → N) (held : K → L) (takes : L → List 
   puts_lent s [] t p = (sym (ap name p), ap held p)
   puts_lent s (body ∷ bodies) t p = let rest = puts_lent p.0 bodies t p.2 in (rest.0 ∙ p.1.0, (held p.0, p.1.1, rest.1))
 
-  new_lent : (v : Shape) (s : K) (x : State) (t : K) → IsNew v TakesLent s x t → (name t ≡ name s) × IsNew v takes (held s) x (held t)
+  new_lent : (v : Scheme) (s : K) (x : State) (t : K) → IsNew v TakesLent s x t → (name t ≡ name s) × IsNew v takes (held s) x (held t)
   new_lent v s x t h =
       let both = puts_lent s h.format t h.puts in
       (both.0, record { ranges = h.ranges; format = h.format; puts = both.1; trees = h.trees; formatted = h.formatted; state = h.state })
@@ -37,7 +37,7 @@ module _ {K L N : Type 0} (name : K → N) (held : K → L) (takes : L → List 
       ]
 
   -- for both ways in which it can end
-  pub formatted_lent : {C : Type 0} (result : Result C FormatFault) (state : C → State) (v : Shape) (Begins : List (List ℕ) → Type 0) (s t : K)
+  pub formatted_lent : {C : Type 0} (result : Result C FormatFault) (state : C → State) (v : Scheme) (Begins : List (List ℕ) → Type 0) (s t : K)
       → IfOk result (λ c. IsNew v TakesLent s (state c) t) → IfErr result (λ fault. IsBrokenOff TakesLent RefusesLent Begins s fault t)
       → (name t ≡ name s) × IfOk result (λ c. IsNew v takes (held s) (state c) (held t)) × IfErr result (λ fault. IsBrokenOff takes refuses Begins (held s) fault (held t))
   formatted_lent (Ok c) state v Begins s t made broken = let h = new_lent v s (state c) t made in (h.0, h.1, tt)

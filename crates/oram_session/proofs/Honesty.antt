@@ -12,38 +12,38 @@ use Rattle.oram_wire.specs.declared.host_messages.HostAnswer.TheVariants.{Done, 
 use Rattle.oram_host.specs.Host.{Host}
 use Rattle.oram_host.specs.Serving.{Serves}
 use Rattle.oram_tree.specs.Format.{PutsAll}
-use Rattle.oram_run.specs.Events.{failed_reply}
-use Rattle.oram_run.specs.Law.{new_state, world_of}
-use Rattle.oram_run.specs.Moves.{moved, world_after}
-use Rattle.oram_run.specs.Progress.{Setting, Status}
-use Rattle.oram_run.specs.Progress.Status.{Idle, Waiting, Stalling, Over}
-use Rattle.oram_run.specs.Run.{Shown, is_over, is_waiting, refusal_of}
-use Rattle.oram_run.specs.Serving.{ServesArray, array_after, reply_by}
-use Rattle.oram_run.specs.Shape.{Shape}
-use Rattle.oram_run.specs.State.{State, World, status_by, status_in}
-use Rattle.oram_run.specs.declared.events.Command.{Command}
-use Rattle.oram_run.specs.declared.events.Event.{Event}
-use Rattle.oram_run.specs.declared.events.Event.TheVariants.{Answer, Submit}
-use Rattle.oram_run.specs.declared.events.Note.{Note}
-use Rattle.oram_run.specs.declared.events.Refusal.{Refusal}
-use Rattle.oram_run.specs.declared.events.Refusal.TheVariants.{BadAddress, BadLength, BadWords, Busy, Exhausted, Failed}
-use Rattle.oram_run.specs.declared.events.Reply.{Reply}
-use Rattle.oram_run.specs.declared.events.Submission.{Submission}
+use Rattle.oram_semantics.specs.Events.{failed_reply}
+use Rattle.oram_semantics.specs.Law.{new_state, world_of}
+use Rattle.oram_semantics.specs.Moves.{moved, world_after}
+use Rattle.oram_semantics.specs.Progress.{Setting, Status}
+use Rattle.oram_semantics.specs.Progress.Status.{Idle, Waiting, Stalling, Over}
+use Rattle.oram_semantics.specs.Run.{Shown, is_over, is_waiting, refusal_of}
+use Rattle.oram_semantics.specs.Serving.{ServesArray, array_after, reply_by}
+use Rattle.oram_semantics.specs.Scheme.{Scheme}
+use Rattle.oram_semantics.specs.State.{State, World, status_by, status_in}
+use Rattle.oram_semantics.specs.declared.events.Command.{Command}
+use Rattle.oram_semantics.specs.declared.events.Event.{Event}
+use Rattle.oram_semantics.specs.declared.events.Event.TheVariants.{Answer, Submit}
+use Rattle.oram_semantics.specs.declared.events.Note.{Note}
+use Rattle.oram_semantics.specs.declared.events.Refusal.{Refusal}
+use Rattle.oram_semantics.specs.declared.events.Refusal.TheVariants.{BadAddress, BadLength, BadWords, Busy, Exhausted, Failed}
+use Rattle.oram_semantics.specs.declared.events.Reply.{Reply}
+use Rattle.oram_semantics.specs.declared.events.Submission.{Submission}
 use Rattle.oram_core.specs.Doing.{Done as Did, submitted_by}
 use Rattle.oram_core.specs.Steps.{Steps, Heard, did}
-use Rattle.oram_honest.specs.Honest.{IsHonest, Takes}
-use Rattle.oram_honest.specs.Hosting.{GoesOnHosted, Hosts, HostsBy, HostsWork}
-use Rattle.oram_honest.specs.Law.{IsNewHosted}
-use Rattle.oram_honest.specs.Lying.{IsLie}
-use Rattle.oram_honest.proofs.Honest.{honest_hosts_serve, new_hosts_serve}
-use Rattle.oram_honest.proofs.Lying.{lying_hosts_fail}
-use Rattle.oram_honest.proofs.Meeting.{met, met_hosts}
-use Rattle.oram_session.specs.Exchanges.{Runs, Sending, IsSent, IsAnswered, AllSent, event_of, is_stall, retried}
+use Rattle.oram_host_laws.specs.Honest.{IsHonest, Takes}
+use Rattle.oram_host_laws.specs.Hosting.{GoesOnHosted, Hosts, HostsBy, HostsWork}
+use Rattle.oram_host_laws.specs.Law.{IsNewHosted}
+use Rattle.oram_host_laws.specs.Lying.{IsLie}
+use Rattle.oram_host_laws.proofs.Honest.{honest_hosts_serve, new_hosts_serve}
+use Rattle.oram_host_laws.proofs.Lying.{lying_hosts_fail}
+use Rattle.oram_host_laws.proofs.Meeting.{met, met_hosts}
+use Rattle.oram_session.specs.Exchanges.{Runs, Delivery, IsSent, IsAnswered, AllSent, event_of, is_stall, retried}
 use Rattle.oram_session.specs.Formatting.{TakesMessage}
 use Rattle.oram_session.specs.Honesty.{HasFailed, IsHeardCall, IsHeardLink, IsHonestCall, IsHonestLink, IsArrayTurn, IsBusy, IsHeld, NewDevicesHoldZeros, SessionsAreTheArrays}
 use Rattle.oram_session.specs.Links.{AnswersOf, DirectCall, Faulty, FaultyCall, ToServer, is_due}
 use Rattle.oram_session.specs.Outcome.{Outcome}
-use Rattle.oram_session.specs.Requests.{command_of, told}
+use Rattle.oram_session.specs.Requests.{command_of, session_reply}
 use Rattle.oram_session.specs.Settled.{IsSettled, is_settled_by}
 use Rattle.oram_session.specs.Turns.{Turn, IsReply, IsServed, IsTurn, most_retries}
 use Rattle.oram_session.specs.declared.link.LinkFault.TheVariants.{Io}
@@ -73,8 +73,8 @@ pub resting : (s : State) → IsSettled s → s.failure ≡ None → s.queue ≡
 resting s settled alive =
     resting_by s.queue s.lost (sym (ap (λ f. is_settled_by (status_by f s.queue s.lost)) alive) ∙ settled)
 
-pub waits_by : (s : State) (now : Status) (m : List ℕ) → status_in s ≡ now → (if is_waiting now then Some s.last else None) ≡ Some m
-    → (status_in s ≡ Waiting) × (m ≡ s.last)
+pub waits_by : (s : State) (now : Status) (m : List ℕ) → status_in s ≡ now → (if is_waiting now then Some s.message else None) ≡ Some m
+    → (status_in s ≡ Waiting) × (m ≡ s.message)
 waits_by s Waiting m is e = (is, ap (λ (o : Option (List ℕ)). unwrap_or o []) (sym e))
 waits_by s Idle m is e = absurd cc
 waits_by s Stalling m is e = absurd cc
@@ -101,7 +101,7 @@ refused_for d waiting taken c words =
 
 -- the effect of an answer that doesn't fail the device, while one command is at work
 
-module _ (v : Shape) (s t : State) (x : Shown) (alive : t.failure ≡ None) where
+module _ (v : Scheme) (s t : State) (x : Shown) (alive : t.failure ≡ None) where
   still_queued : Heard v s (did x t) → x.replies ≡ [] → t.queue ≡ s.queue
   still_queued (inl f) none = absurd (let both = sym (ap (λ (u : State). u.failure) f.state) ∙ alive in cc)
   still_queued (inr (inl g)) none = g.queue
@@ -124,30 +124,30 @@ submit_honest Waiting last session c words host = refl
 submit_honest Stalling last session c words host = refl
 submit_honest Over last session c words host = refl
 
-honest_keeps : (v : Shape) (s : State) (w : World) (host after : Host) (o : Outcome) → HostsWork v s w host → IsHonestCall host s.last o after
+honest_keeps : (v : Scheme) (s : State) (w : World) (host after : Host) (o : Outcome) → HostsWork v s w host → IsHonestCall host s.message o after
     → HostsWork v s w after
 honest_keeps v s w host after (Ok bytes) b h = met_hosts v s w host after h.0 b (met v s w host after h.0 b h.3)
 honest_keeps v s w host after (Err fault) b (inl same) = subst (HostsWork v s w) (sym same) b
 honest_keeps v s w host after (Err fault) b (inr late) = met_hosts v s w host after late.0 b (met v s w host after late.0 b late.1)
 
 -- the honest host receives each message, whatever the answer is
-pub call_keeps : (may_lie : Bool) (v : Shape) (s : State) (w : World) (host after : Host) (o : Outcome) → HostsWork v s w host
-    → IsHeardCall may_lie v host s.last o after → HostsWork v s w after
+pub call_keeps : (may_lie : Bool) (v : Scheme) (s : State) (w : World) (host after : Host) (o : Outcome) → HostsWork v s w host
+    → IsHeardCall may_lie v host s.message o after → HostsWork v s w after
 call_keeps may_lie v s w host after o b (inl honest) = honest_keeps v s w host after o b honest
 call_keeps may_lie v s w host after o b (inr lie) = met_hosts v s w host after lie.3.answer b (met v s w host after lie.3.answer b lie.3.heard)
 
-module _ (may_lie : Bool) {L : Type 0} (calls : L → List ℕ → Outcome → L → Type 0) (host_of : L → Host) (v : Shape) (heard_by : IsHeardLink may_lie v calls host_of) (device : IsDevice v.device) where
+module _ (may_lie : Bool) {L : Type 0} (calls : L → List ℕ → Outcome → L → Type 0) (host_of : L → Host) (v : Scheme) (heard_by : IsHeardLink may_lie v calls host_of) (device : IsDevice v.device) where
   -- The last call with a message, after those that stalled: the core is as it was at the first one.
   record Reached (s : State) (w : World) (m : L) (last : Outcome) (replies : List Reply) (t : State) : Type 0 where
     at : L
     work : HostsWork v s w (host_of at)
-    call : calls at s.last last m
+    call : calls at s.message last m
     shown : Shown
     step : Steps v s (event_of last) shown t
     replied : replies ≡ shown.replies
 
   reached : (stalls : List Outcome) (last : Outcome) (message : List ℕ) (s t : State) (w : World) (l m : L) (replies : List Reply)
-      → status_in s ≡ Waiting → message ≡ s.last → HostsWork v s w (host_of l) → All (λ o. is_stall o ≡ true) stalls
+      → status_in s ≡ Waiting → message ≡ s.message → HostsWork v s w (host_of l) → All (λ o. is_stall o ≡ true) stalls
       → FoldsTo (λ a o b. calls a message o b) l (stalls ++ last ∷ []) m
       → Runs v s (retried stalls ++ event_of last ∷ []) replies t → Reached s w m last replies t
   reached [] last message s t w l m replies waits named work all link core = record {
@@ -164,7 +164,7 @@ module _ (may_lie : Bool) {L : Type 0} (calls : L → List ℕ → Outcome → L
       let back = retried_is v s core.1 again.1 again.0 waits (ap (λ (d : Did). d.state) first) again.3 in
       let same : replies ≡ again.2 =
       core.5 ∙ ap (λ (xs : List Reply). xs ++ core.2) (ap (λ (d : Did). d.replies) first) ∙ again.5 ∙ ap (λ (xs : List Reply). xs ++ again.2) back.0 in
-      let heard : IsHeardCall may_lie v (host_of l) s.last o (host_of link.0) =
+      let heard : IsHeardCall may_lie v (host_of l) s.message o (host_of link.0) =
       subst (λ (k : List ℕ). IsHeardCall may_lie v (host_of l) k o (host_of link.0)) named (heard_by l link.0 message o link.1) in
       subst (λ (rs : List Reply). Reached s w m last rs t) (sym same)
       (reached stalls last message s t w link.0 m again.2 waits named (call_keeps may_lie v s w (host_of l) (host_of link.0) o work heard)
@@ -222,7 +222,7 @@ module _ (may_lie : Bool) {L : Type 0} (calls : L → List ℕ → Outcome → L
     hosts_at = subst (HostsBy v p.0 b.world (host_of at)) (sym b.queue) work
 
     lied_to : (bytes : List ℕ) → Steps v p.0 (Answer bytes) shown q.0 → is_stall (Ok bytes) ≡ false → may_lie ≡ true
-        → IsLie v (host_of at) p.0.last bytes (host_of q.1) → Next q x array shown.replies
+        → IsLie v (host_of at) p.0.message bytes (host_of q.1) → Next q x array shown.replies
     lied_to bytes step answered may lie =
         elim (lying_hosts_fail v p.0 q.0 b.world array bytes shown (host_of at) (host_of q.1) device b.alive waits b.serving hosts_at step.moves lie) [
           | inl on ↦ next p.0 q.0 q.1 x array b.world (Ok bytes) shown b.queue (heard_is v p.0 q.0 (Ok bytes) shown waits answered step) on
@@ -230,11 +230,11 @@ module _ (may_lie : Bool) {L : Type 0} (calls : L → List ℕ → Outcome → L
         ]
 
     answered_by : (o : Outcome) → Steps v p.0 (event_of o) shown q.0 → is_stall o ≡ false
-        → IsHeardCall may_lie v (host_of at) p.0.last o (host_of q.1) → Next q x array shown.replies
+        → IsHeardCall may_lie v (host_of at) p.0.message o (host_of q.1) → Next q x array shown.replies
     answered_by o step answered (inl honest) =
-        let called : IsHonest (status_in p.0) p.0.last (event_of o) (host_of at) (host_of q.1) =
-        subst (λ (now : Status). IsHonest now p.0.last (event_of o) (host_of at) (host_of q.1)) (sym waits)
-        (as_honest o p.0.last (host_of at) (host_of q.1) honest) in
+        let called : IsHonest (status_in p.0) p.0.message (event_of o) (host_of at) (host_of q.1) =
+        subst (λ (now : Status). IsHonest now p.0.message (event_of o) (host_of at) (host_of q.1)) (sym waits)
+        (as_honest o p.0.message (host_of at) (host_of q.1) honest) in
         let on : GoesOnHosted v p.0 q.0 b.world array (event_of o) shown (host_of q.1) =
         honest_hosts_serve v p.0 q.0 b.world array (event_of o) shown (host_of at) (host_of q.1) device b.alive b.serving hosts_at step.moves called in
         next p.0 q.0 q.1 x array b.world o shown b.queue (heard_is v p.0 q.0 o shown waits answered step) on
@@ -242,7 +242,7 @@ module _ (may_lie : Bool) {L : Type 0} (calls : L → List ℕ → Outcome → L
         lied_to lie.1 (subst (λ (k : Outcome). Steps v p.0 (event_of k) shown q.0) lie.2 step)
         (sym (ap is_stall lie.2) ∙ answered) lie.0 lie.3
 
-  pub sent_on : (p q : State × L) (x : Submission) (array : ℕ → List ℕ) (y : Sending) → Working p x array
+  pub sent_on : (p q : State × L) (x : Submission) (array : ℕ → List ℕ) (y : Delivery) → Working p x array
       → IsSent v calls most_retries p y q → IsAnswered y → Next q x array y.replies
   sent_on p q x array y w sent answered =
       let k = waits_by p.0 (status_in p.0) y.message refl sent.message in
@@ -250,7 +250,7 @@ module _ (may_lie : Bool) {L : Type 0} (calls : L → List ℕ → Outcome → L
       let r : Reached p.0 w.world q.1 y.last y.replies q.0 =
       reached y.stalls y.last y.message p.0 q.0 w.world p.1 q.1 y.replies k.0 k.1 work sent.stalls sent.link sent.core in
       subst (Next q x array) (sym r.replied)
-      (answered_by p q x array w k.0 r.at r.work r.shown y.last r.step answered (heard_by r.at q.1 p.0.last y.last r.call))
+      (answered_by p q x array w k.0 r.at r.work r.shown y.last r.step answered (heard_by r.at q.1 p.0.message y.last r.call))
 
   -- a command that an idle device accepts is at work
   pub accepted : (p : State × L) (session : ℕ) (c : Command) (words : List ℕ) (shown : Shown) (begun : State) (array : ℕ → List ℕ)
@@ -263,7 +263,7 @@ module _ (may_lie : Bool) {L : Type 0} (calls : L → List ℕ → Outcome → L
       let rests : p.0.queue ≡ [] = resting p.0 held.settled held.alive in
       let on : GoesOnHosted v p.0 begun held.world array event shown (host_of p.1) =
       honest_hosts_serve v p.0 begun held.world array event shown (host_of p.1) (host_of p.1) device held.alive held.serving held.hosts step.moves
-      (submit_honest (status_in p.0) p.0.last session c words (host_of p.1)) in
+      (submit_honest (status_in p.0) p.0.message session c words (host_of p.1)) in
       let serves : ServesArray v begun (world_after v held.world (moved v p.0 held.world event) shown.sends) array =
       elim on.goes_on.served [
         | inl quiet ↦ quiet.1
@@ -277,30 +277,30 @@ module _ (may_lie : Bool) {L : Type 0} (calls : L → List ℕ → Outcome → L
         hosts = on.hosts;
       }
 
-module _ {L : Type 0} (calls : L → List ℕ → Outcome → L → Type 0) (host_of : L → Host) (honest : IsHonestLink calls host_of) (v : Shape) (device : IsDevice v.device) where
+module _ {L : Type 0} (calls : L → List ℕ → Outcome → L → Type 0) (host_of : L → Host) (honest : IsHonestLink calls host_of) (v : Scheme) (device : IsDevice v.device) where
   heard_by : IsHeardLink false v calls host_of
   heard_by l m body o call = inl (honest l m body o call)
 
   -- no message is sent after the reply
-  ended : (ys : List Sending) (p q : State × L) (array : ℕ → List ℕ) → IsHeld v host_of p array → AllSent v calls most_retries p ys q
+  ended : (ys : List Delivery) (p q : State × L) (array : ℕ → List ℕ) → IsHeld v host_of p array → AllSent v calls most_retries p ys q
       → IsHeld v host_of q array
   ended [] p q array held sent = subst (λ (z : State × L). IsHeld v host_of z array) sent held
   ended (y ∷ ys) p q array held sent =
       let k = waits_by p.0 (status_in p.0) y.message refl sent.1.0.message in
       absurd (let both = sym held.settled ∙ unsettled (status_in p.0) k.0 in cc)
 
-  all_sent : (ys : List Sending) (p q : State × L) (x : Submission) (array : ℕ → List ℕ) (reply : Reply) → IsBusy v host_of p x array
-      → AllSent v calls most_retries p ys q → flat_map (λ (y : Sending). y.replies) ys ≡ reply ∷ []
+  all_sent : (ys : List Delivery) (p q : State × L) (x : Submission) (array : ℕ → List ℕ) (reply : Reply) → IsBusy v host_of p x array
+      → AllSent v calls most_retries p ys q → flat_map (λ (y : Delivery). y.replies) ys ≡ reply ∷ []
       → (reply ≡ reply_by array x) × IsHeld v host_of q (array_after v.device x.command array)
   all_sent [] p q x array reply w sent one = absurd cc
   all_sent (y ∷ ys) p q x array reply w sent one = elim (sent_on false calls host_of v heard_by device p sent.0 x array y w sent.1.0 sent.1.1) [
     | inl more ↦
         all_sent ys sent.0 q x array reply more.0 sent.2
-        (sym (ap (λ (rs : List Reply). rs ++ flat_map (λ (z : Sending). z.replies) ys) more.1) ∙ one)
+        (sym (ap (λ (rs : List Reply). rs ++ flat_map (λ (z : Delivery). z.replies) ys) more.1) ∙ one)
     | inr (inr failed) ↦ absurd (let lies = failed.0 in cc)
     | inr (inl done) ↦
-        let all : reply_by array x ∷ flat_map (λ (z : Sending). z.replies) ys ≡ reply ∷ [] =
-        sym (ap (λ (rs : List Reply). rs ++ flat_map (λ (z : Sending). z.replies) ys) done.1) ∙ one in
+        let all : reply_by array x ∷ flat_map (λ (z : Delivery). z.replies) ys ≡ reply ∷ [] =
+        sym (ap (λ (rs : List Reply). rs ++ flat_map (λ (z : Delivery). z.replies) ys) done.1) ∙ one in
         (ap (λ (rs : List Reply). first_or rs reply) (sym all), ended ys sent.0 q (array_after v.device x.command array) done.0 sent.2)
   ]
 
@@ -332,7 +332,7 @@ module _ {L : Type 0} (calls : L → List ℕ → Outcome → L → Type 0) (hos
         let w : IsBusy v host_of (h.begun, p.1) x array = accepted false calls host_of v heard_by device p session x.command x.words h.shown h.begun array held h.asked.step is.0 in
         let done = all_sent turn.sendings (h.begun, p.1) q x array reply.2 w reply.0 reply.3 in (
           array_after v.device x.command array,
-          inr (h.asked.message, h.asked.request, inl (reply.4 ∙ ap (λ (z : Reply). told z.body) done.0, refl)),
+          inr (h.asked.message, h.asked.request, inl (reply.4 ∙ ap (λ (z : Reply). session_reply z.body) done.0, refl)),
           done.1,
         )
 
@@ -381,7 +381,7 @@ takes_all calls host_of honest (m ∷ messages) from to puts =
 
 pub new_devices_hold_zeros : {L : Type 0} (calls : L → List ℕ → Outcome → L → Type 0) → NewDevicesHoldZeros calls
 new_devices_hold_zeros calls host_of honest v from to s light empty k =
-    let setting : Setting = record { shape = v; format = k.format } in
+    let setting : Setting = record { scheme = v; format = k.format } in
     let puts : PutsAll Takes [] k.format (host_of to) =
     subst (λ (h : Host). PutsAll Takes h k.format (host_of to)) empty (takes_all calls host_of honest k.format from to k.puts) in
     let new : IsNewHosted v (new_state setting k.trees) (world_of setting []) (host_of to) = new_hosts_serve setting k.trees (host_of to) k.ranges light k.formatted puts in

@@ -3,13 +3,13 @@ use Rattle.std.proofs.Common.{◌≡◌, ℕ, ◌-◌, ◌^◌, List, [], ◌∷
 use Rattle.rand_core.specs.Steps.{u32_at}
 use Rattle.rand_chacha.specs.Block.{quarter_round, column_round, diagonal_round, double_rounds, block_word}
 use Rattle.oram_wire.specs.declared.session_messages.SessionReply.TheVariants.{Refused}
-use Rattle.oram_run.specs.declared.events.Event.TheVariants.{Answer, Lost, Retry}
-use Rattle.oram_run.specs.declared.events.ReplyBody.TheVariants.{Failed}
-use Rattle.oram_session.specs.Exchanges.{Sending, is_stall, events_of}
+use Rattle.oram_semantics.specs.declared.events.Event.TheVariants.{Answer, Lost, Retry}
+use Rattle.oram_semantics.specs.declared.events.ReplyBody.TheVariants.{Failed}
+use Rattle.oram_session.specs.Exchanges.{Delivery, is_stall, events_of}
 use Rattle.oram_session.specs.Links.{Faulty, is_due}
 use Rattle.oram_session.specs.Outcome.{faults_after}
-use Rattle.oram_session.specs.Requests.{told}
-use Rattle.oram_answering.specs.Answered.{frames_of}
+use Rattle.oram_session.specs.Requests.{session_reply}
+use Rattle.oram_host.specs.Answered.{frames_of}
 use Rattle.oram_session.specs.Sessions.{reply_body}
 use Rattle.oram_session.specs.Tapes.{list_words, chacha_words}
 use Rattle.oram_session.specs.Turns.{Turn}
@@ -49,7 +49,7 @@ no_more = refl
 
 -- a message that stalls twice, once without an answer and once without room, and then has its answer
 
-sending : Sending
+sending : Delivery
 sending = record { message = 1 ∷ []; stalls = Err Io ∷ Ok (129 ∷ 8 ∷ []) ∷ []; last = Ok (128 ∷ []); replies = [] }
 
 told_the_core : events_of sending ≡ Lost ∷ Retry ∷ Answer (129 ∷ 8 ∷ []) ∷ Retry ∷ Answer (128 ∷ []) ∷ []
@@ -78,5 +78,5 @@ written : frames_of reply_body turns ≡ 0 ∷ 0 ∷ 0 ∷ 2 ∷ 146 ∷ 7 ∷ 0
 unfolding turns
 written = refl
 
-failure : told Failed ≡ Refused 6
+failure : session_reply Failed ≡ Refused 6
 failure = refl

@@ -2,14 +2,14 @@
 use Rattle.std.proofs.Common.{◌≡◌, ℕ, ◌+◌, List, Option, sym, ap, ◌∙◌, subst}
 use Rattle.std.specs.Io.KnownBytes.{Appends, Consumes}
 use Rattle.oram_wire.specs.FrameStream.{IsBody, frame}
-use Rattle.oram_run.specs.Shape.{Shape}
-use Rattle.oram_run.specs.State.{State}
+use Rattle.oram_semantics.specs.Scheme.{Scheme}
+use Rattle.oram_semantics.specs.State.{State}
 use Rattle.oram_session.specs.Outcome.{Outcome}
 use Rattle.oram_session.specs.Sessions.{reply_body, reply_frame, HasServed}
 use Rattle.oram_session.specs.Turns.{Turn, IsTurn}
-use Rattle.oram_answering.proofs.Answered.{Answered, answered_more, answered_then}
+use Rattle.oram_host.proofs.Answered.{Answered, answered_more, answered_then}
 
-module _ (v : Shape) {L : Type 0} (calls : L → List ℕ → Outcome → L → Type 0) (words : ℕ → ℕ → List ℕ) (session : ℕ) where
+module _ (v : Scheme) {L : Type 0} (calls : L → List ℕ → Outcome → L → Type 0) (words : ℕ → ℕ → List ℕ) (session : ℕ) where
   -- some turns, and nothing more
   abbrev pub Served : State × L → Option (List ℕ) → Option (List ℕ) → ℕ → State × L → Option (List ℕ) → Option (List ℕ) → Type 0
   Served = Answered {P = State × L} (IsTurn v calls words session) (λ x. x.body) reply_body
@@ -24,8 +24,8 @@ module _ (v : Shape) {L : Type 0} (calls : L → List ℕ → Outcome → L → 
   served_then = answered_then {P = State × L} (IsTurn v calls words session) (λ x. x.body) reply_body
 
 -- under another shape and another tape that are equal to these
-pub under : (P : Shape → (ℕ → ℕ → List ℕ) → Type 0) (v v' : Shape) (w w' : ℕ → ℕ → List ℕ) → v' ≡ v → w' ≡ w → P v' w' → P v w
-under P v v' w w' e f h = subst (λ (u : Shape). P u w) e (subst (λ (f : ℕ → ℕ → List ℕ). P v' f) f h)
+pub under : (P : Scheme → (ℕ → ℕ → List ℕ) → Type 0) (v v' : Scheme) (w w' : ℕ → ℕ → List ℕ) → v' ≡ v → w' ≡ w → P v' w' → P v w
+under P v v' w w' e f h = subst (λ (u : Scheme). P u w) e (subst (λ (f : ℕ → ℕ → List ℕ). P v' f) f h)
 
 pub same_pair : {A B : Type 0} {a a' : A} {b b' : B} → a' ≡ a → b' ≡ b → ◌≡◌ {A = A × B} (a, b) (a', b')
 same_pair {A} {B} {a} {a'} {b} {b'} e f = ap (λ (x : A). let y : A × B = (x, b) in y) (sym e) ∙ ap (λ (x : B). let y : A × B = (a', x) in y) (sym f)

@@ -4,20 +4,20 @@ use Rattle.std.specs.List.{flat_map}
 use Rattle.oram_geometry.specs.Sizes.{trees_of}
 use Rattle.oram_wire.specs.declared.session_messages.SessionRequest.{SessionRequest}
 use Rattle.oram_wire.specs.declared.session_messages.SessionReply.TheVariants.{Refused}
-use Rattle.oram_run.specs.Events.{refusal_number}
-use Rattle.oram_run.specs.Run.{Shown}
-use Rattle.oram_run.specs.Shape.{Shape}
-use Rattle.oram_run.specs.State.{State}
-use Rattle.oram_run.specs.declared.events.Command.{Command}
-use Rattle.oram_run.specs.declared.events.Event.TheVariants.{Submit}
-use Rattle.oram_run.specs.declared.events.Note.{Note}
-use Rattle.oram_run.specs.declared.events.Note.TheVariants as note
-use Rattle.oram_run.specs.declared.events.Refusal.{Refusal}
-use Rattle.oram_run.specs.declared.events.Reply.{Reply}
+use Rattle.oram_semantics.specs.Events.{refusal_number}
+use Rattle.oram_semantics.specs.Run.{Shown}
+use Rattle.oram_semantics.specs.Scheme.{Scheme}
+use Rattle.oram_semantics.specs.State.{State}
+use Rattle.oram_semantics.specs.declared.events.Command.{Command}
+use Rattle.oram_semantics.specs.declared.events.Event.TheVariants.{Submit}
+use Rattle.oram_semantics.specs.declared.events.Note.{Note}
+use Rattle.oram_semantics.specs.declared.events.Note.TheVariants as note
+use Rattle.oram_semantics.specs.declared.events.Refusal.{Refusal}
+use Rattle.oram_semantics.specs.declared.events.Reply.{Reply}
 use Rattle.oram_core.specs.Steps.{Steps}
-use Rattle.oram_session.specs.Exchanges.{Sending, AllSent}
+use Rattle.oram_session.specs.Exchanges.{Delivery, AllSent}
 use Rattle.oram_session.specs.Outcome.{Outcome}
-use Rattle.oram_session.specs.Requests.{IsRequest, IsNoRequest, command_of, told}
+use Rattle.oram_session.specs.Requests.{IsRequest, IsNoRequest, command_of, session_reply}
 use Rattle.oram_session.specs.Settled.{IsSettled}
 use Rattle.oram_session.specs.Turns.{Turn, most_retries, IsAsked, IsReply, IsTurn, IsAtWork}
 
@@ -29,7 +29,7 @@ IfOk-weaker (Err e) P Q f h = tt
 pub err_is : {T E : Type 0} (r : Result T E) (y f s : E) → r ≡ Err y → y ≡ f → r ≡ Err s → f ≡ s
 err_is r y f s a b d = cc
 
-module _ (v : Shape) {L : Type 0} (calls : L → List ℕ → Outcome → L → Type 0) (words : ℕ → ℕ → List ℕ) (session : ℕ) where
+module _ (v : Scheme) {L : Type 0} (calls : L → List ℕ → Outcome → L → Type 0) (words : ℕ → ℕ → List ℕ) (session : ℕ) where
   pub bad_turn : (body : List ℕ) (p : State × L) → IsNoRequest body → IsTurn v calls words session p (record { body = body; sendings = []; reply = Refused 7 }) p
   bad_turn body p none = inl (record { none = none; sendings = refl; reply = refl; same = refl })
 
@@ -47,13 +47,13 @@ module _ (v : Shape) {L : Type 0} (calls : L → List ℕ → Outcome → L → 
       let turn : Turn = record { body = body; sendings = []; reply = Refused (refusal_number why) } in
       inr (record { shown = x; begun = t; asked = asked; replied = subst (λ (n : Note). IsReply v calls words session n (t, l) turn (t, l)) (sym is) (refl, refl, refl) })
 
-  pub accepted_turn : (body : List ℕ) (s t : State) (l : L) (q : State × L) (x : Shown) (ticket : ℕ) (xs : List Sending) (r : Reply) → IsAsked v calls words session body s x t →
+  pub accepted_turn : (body : List ℕ) (s t : State) (l : L) (q : State × L) (x : Shown) (ticket : ℕ) (xs : List Delivery) (r : Reply) → IsAsked v calls words session body s x t →
       x.note ≡ note.Accepted ticket → AllSent v calls most_retries (t, l) xs q → IsSettled q.0 → flat_map (λ y. y.replies) xs ≡ r ∷ [] →
-      IsTurn v calls words session (s, l) (record { body = body; sendings = xs; reply = told r.body }) q
+      IsTurn v calls words session (s, l) (record { body = body; sendings = xs; reply = session_reply r.body }) q
   accepted_turn body s t l q x ticket xs r asked is sent settled one =
-      let turn : Turn = record { body = body; sendings = xs; reply = told r.body } in
+      let turn : Turn = record { body = body; sendings = xs; reply = session_reply r.body } in
       inr (record { shown = x; begun = t; asked = asked; replied = subst (λ (n : Note). IsReply v calls words session n (t, l) turn q) (sym is) (sent, settled, r, one, refl) })
 
-  pub at_work : (body : List ℕ) (s t : State) (l : L) (q : State × L) (x : Shown) (ticket : ℕ) (xs : List Sending) → IsAsked v calls words session body s x t →
+  pub at_work : (body : List ℕ) (s t : State) (l : L) (q : State × L) (x : Shown) (ticket : ℕ) (xs : List Delivery) → IsAsked v calls words session body s x t →
       x.note ≡ note.Accepted ticket → AllSent v calls most_retries (t, l) xs q → IsAtWork v calls words session (s, l) body q
   at_work body s t l q x ticket xs asked is sent = record { shown = x; begun = t; ticket = ticket; asked = asked; accepted = is; sendings = xs; sent = sent }

@@ -15,9 +15,9 @@ sink_fault TooLarge = sink.Link
 sink_fault OutOfMemory = sink.OutOfMemory
 
 -- the fault that a formatting reports for a call: for any answer but 80 alone, or for a fault of the link
-abbrev pub IsTold : Outcome → SinkFault → Type 0
-IsTold (Ok bytes) fault = (bytes ≢ 128 ∷ []) × (fault ≡ sink.Refused)
-IsTold (Err why) fault = fault ≡ sink_fault why
+abbrev pub IsReportedAs : Outcome → SinkFault → Type 0
+IsReportedAs (Ok bytes) fault = (bytes ≢ 128 ∷ []) × (fault ≡ sink.Refused)
+IsReportedAs (Err why) fault = fault ≡ sink_fault why
 
 -- over a link with this relation of calls
 module _ {L : Type 0} (calls : L → List ℕ → Outcome → L → Type 0) where
@@ -27,4 +27,4 @@ module _ {L : Type 0} (calls : L → List ℕ → Outcome → L → Type 0) wher
 
   -- the message wasn't answered with 80 alone
   abbrev pub RefusesMessage : L → List ℕ → SinkFault → L → Type 0
-  RefusesMessage l message fault m = (outcome : Outcome) × calls l message outcome m × IsTold outcome fault
+  RefusesMessage l message fault m = (outcome : Outcome) × calls l message outcome m × IsReportedAs outcome fault

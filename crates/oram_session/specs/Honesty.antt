@@ -11,24 +11,24 @@ use Rattle.oram_wire.specs.declared.session_messages.SessionReply.TheVariants.{R
 use Rattle.oram_wire.specs.declared.session_messages.SessionRequest.{SessionRequest}
 use Rattle.oram_host.specs.Host.{Host}
 use Rattle.oram_host.specs.Serving.{Serves}
-use Rattle.oram_run.specs.Blocks.{body_from}
-use Rattle.oram_run.specs.Events.{address_of, refusal_number}
-use Rattle.oram_run.specs.Law.{IsServing}
-use Rattle.oram_run.specs.Serving.{array_after}
-use Rattle.oram_run.specs.Shape.{Shape}
-use Rattle.oram_run.specs.State.{State, World}
-use Rattle.oram_run.specs.declared.events.Command.{Command}
-use Rattle.oram_run.specs.declared.events.Reason.{Reason}
-use Rattle.oram_run.specs.declared.events.Refusal.{Refusal}
-use Rattle.oram_run.specs.declared.events.Refusal.TheVariants.{Failed}
-use Rattle.oram_run.specs.declared.events.Submission.{Submission}
+use Rattle.oram_semantics.specs.Blocks.{body_from}
+use Rattle.oram_semantics.specs.Events.{address_of, refusal_number}
+use Rattle.oram_semantics.specs.Law.{IsServing}
+use Rattle.oram_semantics.specs.Serving.{array_after}
+use Rattle.oram_semantics.specs.Scheme.{Scheme}
+use Rattle.oram_semantics.specs.State.{State, World}
+use Rattle.oram_semantics.specs.declared.events.Command.{Command}
+use Rattle.oram_semantics.specs.declared.events.Reason.{Reason}
+use Rattle.oram_semantics.specs.declared.events.Refusal.{Refusal}
+use Rattle.oram_semantics.specs.declared.events.Refusal.TheVariants.{Failed}
+use Rattle.oram_semantics.specs.declared.events.Submission.{Submission}
 use Rattle.oram_core.specs.Formatting.{IsNew}
-use Rattle.oram_honest.specs.Honest.{HeardOrNot}
-use Rattle.oram_honest.specs.Hosting.{Hosts}
-use Rattle.oram_honest.specs.Lying.{IsLie}
+use Rattle.oram_host_laws.specs.Honest.{HeardOrNot}
+use Rattle.oram_host_laws.specs.Hosting.{Hosts}
+use Rattle.oram_host_laws.specs.Lying.{IsLie}
 use Rattle.oram_session.specs.Formatting.{TakesMessage}
 use Rattle.oram_session.specs.Outcome.{Outcome}
-use Rattle.oram_session.specs.Requests.{IsRequest, IsNoRequest, command_of, told}
+use Rattle.oram_session.specs.Requests.{IsRequest, IsNoRequest, command_of, session_reply}
 use Rattle.oram_session.specs.Settled.{IsSettled}
 use Rattle.oram_session.specs.Turns.{Turn, IsTurn}
 
@@ -43,17 +43,17 @@ abbrev pub IsHonestLink : {L : Type 0} → (L → List ℕ → Outcome → L →
 IsHonestLink {L} calls host_of = (l m : L) (body : List ℕ) (o : Outcome) → calls l body o m → IsHonestCall (host_of l) body o (host_of m)
 
 -- With a host that may lie: an honest host receives each message too, and a call gives that host's answer, or a lie.
-abbrev pub IsHeardCall : Bool → Shape → Host → List ℕ → Outcome → Host → Type 0
+abbrev pub IsHeardCall : Bool → Scheme → Host → List ℕ → Outcome → Host → Type 0
 IsHeardCall may_lie v host body o after =
     IsHonestCall host body o after ⊎ ((may_lie ≡ true) × (bytes : List ℕ) × (o ≡ Ok bytes) × IsLie v host body bytes after)
 
-abbrev pub IsHeardLink : Bool → Shape → {L : Type 0} → (L → List ℕ → Outcome → L → Type 0) → (L → Host) → Type 0
+abbrev pub IsHeardLink : Bool → Scheme → {L : Type 0} → (L → List ℕ → Outcome → L → Type 0) → (L → Host) → Type 0
 IsHeardLink may_lie v {L} calls host_of = (l m : L) (body : List ℕ) (o : Outcome) → calls l body o m → IsHeardCall may_lie v (host_of l) body o (host_of m)
 
 -- the array's reply to a command, or a refusal because of the command itself, never because the device failed
 abbrev pub IsArrayReply : Sizes → Command → (ℕ → List ℕ) → SessionReply → (ℕ → List ℕ) → Type 0
 IsArrayReply d c array reply after =
-    ((reply ≡ told (body_from (array (address_of c)) c)) × (after ≡ array_after d c array))
+    ((reply ≡ session_reply (body_from (array (address_of c)) c)) × (after ≡ array_after d c array))
     ⊎ ((why : Refusal) × (why ≢ Failed) × (reply ≡ Refused (refusal_number why)) × (after ≡ array))
 
 -- the array answers a request and becomes `after`
@@ -64,7 +64,7 @@ IsArrayTurn d array turn after =
 
 -- Between two requests: the core is idle, its trees stand in a world, agree there and hold the array, and the host
 -- behind the link keeps the world's records.
-pub record IsHeld (v : Shape) {L : Type 0} (host_of : L → Host) (p : State × L) (array : ℕ → List ℕ) : Type 0 where
+pub record IsHeld (v : Scheme) {L : Type 0} (host_of : L → Host) (p : State × L) (array : ℕ → List ℕ) : Type 0 where
   pub settled : IsSettled p.0
   pub alive : p.0.failure ≡ None
   pub world : World
@@ -73,7 +73,7 @@ pub record IsHeld (v : Shape) {L : Type 0} (host_of : L → Host) (p : State × 
 
 -- One command is at work on a device that held the array before the command, and the host behind the link keeps the
 -- world's records.
-pub record IsBusy (v : Shape) {L : Type 0} (host_of : L → Host) (p : State × L) (x : Submission) (array : ℕ → List ℕ) : Type 0 where
+pub record IsBusy (v : Scheme) {L : Type 0} (host_of : L → Host) (p : State × L) (x : Submission) (array : ℕ → List ℕ) : Type 0 where
   pub alive : p.0.failure ≡ None
   pub queue : p.0.queue ≡ x ∷ []
   pub world : World
@@ -88,12 +88,12 @@ HasFailed s = (reason : Reason) × (s.failure ≡ Some reason)
 -- of zeros.
 abbrev pub NewDevicesHoldZeros : {L : Type 0} → (L → List ℕ → Outcome → L → Type 0) → Type 0
 NewDevicesHoldZeros {L} calls = (host_of : L → Host) → IsHonestLink calls host_of
-    → (v : Shape) (from to : L) (s : State) → v.overhead ≤ 64 → host_of from ≡ [] → IsNew v (TakesMessage calls) from s to
+    → (v : Scheme) (from to : L) (s : State) → v.overhead ≤ 64 → host_of from ≡ [] → IsNew v (TakesMessage calls) from s to
     → IsHeld v host_of (s, to) (λ a. replicate v.device.block_bytes 0)
 
 -- Over an honest link each turn is one of the array, and afterwards the device is held between requests again.
 abbrev pub SessionsAreTheArrays : {L : Type 0} → (L → List ℕ → Outcome → L → Type 0) → Type 0
 SessionsAreTheArrays {L} calls = (host_of : L → Host) → IsHonestLink calls host_of
-    → (v : Shape) (words : ℕ → ℕ → List ℕ) (session : ℕ) (p q : State × L) (turns : List Turn) (array : ℕ → List ℕ) → IsDevice v.device
+    → (v : Scheme) (words : ℕ → ℕ → List ℕ) (session : ℕ) (p q : State × L) (turns : List Turn) (array : ℕ → List ℕ) → IsDevice v.device
     → IsHeld v host_of p array → FoldsTo {P = State × L} (IsTurn v calls words session) p turns q
     → (after : ℕ → List ℕ) × FoldsTo {P = ℕ → List ℕ} (IsArrayTurn v.device) array turns after × IsHeld v host_of q after

@@ -14,7 +14,7 @@ use Rattle.oram_session.specs.declared.link.LinkFault.TheVariants.{Io, Closed, T
 -- a link to its own server, over the two ends of one connection
 pub record ToItself (S : Type 0) : Type 0 where
   pub host : Host
-  pub ends : Option (S × S)  -- the near end, which asks, and the far one, which answers; none where they are to be opened
+  pub ends : Option (S × S)  -- the near end, which asks, and the far one, which answers; none while they are closed
   pub faults : ℕ  -- how many calls had a fault
 
 -- the number of bytes of the longest frame that goes over it

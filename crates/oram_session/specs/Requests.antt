@@ -6,10 +6,10 @@ use Rattle.oram_wire.specs.declared.session_messages.SessionRequest.{SessionRequ
 use Rattle.oram_wire.specs.declared.session_messages.SessionRequest.TheVariants as request
 use Rattle.oram_wire.specs.declared.session_messages.SessionReply.{SessionReply}
 use Rattle.oram_wire.specs.declared.session_messages.SessionReply.TheVariants as reply
-use Rattle.oram_run.specs.declared.events.Command.{Command}
-use Rattle.oram_run.specs.declared.events.Command.TheVariants.{Read, Write, Discard}
-use Rattle.oram_run.specs.declared.events.ReplyBody.{ReplyBody}
-use Rattle.oram_run.specs.declared.events.ReplyBody.TheVariants as body
+use Rattle.oram_semantics.specs.declared.events.Command.{Command}
+use Rattle.oram_semantics.specs.declared.events.Command.TheVariants.{Read, Write, Discard}
+use Rattle.oram_semantics.specs.declared.events.ReplyBody.{ReplyBody}
+use Rattle.oram_semantics.specs.declared.events.ReplyBody.TheVariants as body
 
 -- the body is that of this request
 pub record IsRequest (body : List ℕ) (message : SessionRequest) : Type 0 where
@@ -27,7 +27,7 @@ command_of (request.Write address bytes) = Write address bytes
 command_of (request.Discard address) = Discard address
 
 -- a session's reply for a reply of the core: a failure becomes a refusal with code 6
-abbrev pub told : ReplyBody → SessionReply
-told (body.Data bytes) = reply.Data bytes
-told body.Done = reply.Done
-told body.Failed = reply.Refused 6
+abbrev pub session_reply : ReplyBody → SessionReply
+session_reply (body.Data bytes) = reply.Data bytes
+session_reply body.Done = reply.Done
+session_reply body.Failed = reply.Refused 6

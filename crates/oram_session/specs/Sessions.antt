@@ -3,14 +3,14 @@ use Rattle.std.specs.Prelude.{◌≡◌, ℕ, ◌≤◌, List, length, Option, �
 use Rattle.oram_wire.specs.FrameStream.{IsBody, frame, length_at}
 use Rattle.oram_wire.specs.SessionMessages.{session_reply_body}
 use Rattle.oram_wire.specs.declared.TheConstants.{LONGEST_BODY}
-use Rattle.oram_run.specs.Shape.{Shape}
-use Rattle.oram_run.specs.State.{State}
-use Rattle.oram_answering.specs.Answered.{HasAnswered}
+use Rattle.oram_semantics.specs.Scheme.{Scheme}
+use Rattle.oram_semantics.specs.State.{State}
+use Rattle.oram_host.specs.Answered.{HasAnswered}
 use Rattle.oram_session.specs.Outcome.{Outcome}
 use Rattle.oram_session.specs.Settled.{IsSettled}
 use Rattle.oram_session.specs.Turns.{Turn, IsTurn, IsCutTurn}
-use Rattle.oram_answering.specs.declared.faults.ServeFault.{ServeFault}
-use Rattle.oram_answering.specs.declared.faults.ServeFault.TheVariants.{Read, Write, Frame, Truncated, Stalled, OutOfMemory}
+use Rattle.oram_host.specs.declared.serve_fault.ServeFault.{ServeFault}
+use Rattle.oram_host.specs.declared.serve_fault.ServeFault.TheVariants.{Read, Write, Frame, Truncated, Stalled, OutOfMemory}
 
 -- a turn's reply as bytes, and as a frame
 abbrev pub reply_body : Turn → List ℕ
@@ -29,7 +29,7 @@ LeavesCore (Err Truncated) s = IsSettled s
 LeavesCore (Err Stalled) s = ⊤
 LeavesCore (Err OutOfMemory) s = ⊤
 
-module _ (v : Shape) {L : Type 0} (calls : L → List ℕ → Outcome → L → Type 0) (words : ℕ → ℕ → List ℕ) (session : ℕ) where
+module _ (v : Scheme) {L : Type 0} (calls : L → List ℕ → Outcome → L → Type 0) (words : ℕ → ℕ → List ℕ) (session : ℕ) where
   -- The turns lead core and link from one state to another, with the bytes read and written for them, and then these
   -- further bytes.
   abbrev pub HasServed : State × L → List Turn → State × L → List ℕ → Option (List ℕ) → Option (List ℕ) → List ℕ → Option (List ℕ) → Option (List ℕ) → Type 0

@@ -2,14 +2,14 @@
 use Rattle.std.specs.Prelude.{◌≡◌, ℕ, ◌+◌, ◌-◌, ◌*◌, Bool, true, false, List, [], ◌∷◌, length, ⊤, Option, Some, None, if◌then◌else◌}
 use Rattle.oram_geometry.specs.declared.Sizes.{Sizes}
 use Rattle.oram_geometry.specs.Sizes.{trees_of}
-use Rattle.oram_run.specs.Progress.{Status}
-use Rattle.oram_run.specs.Progress.Status.{Idle, Waiting, Stalling, Over}
-use Rattle.oram_run.specs.Run.{is_waiting}
-use Rattle.oram_run.specs.State.{State, status_in}
-use Rattle.oram_run.specs.declared.events.Note.{Note}
-use Rattle.oram_run.specs.declared.events.Note.TheVariants as note
-use Rattle.oram_run.specs.declared.events.ReplyBody.{ReplyBody}
-use Rattle.oram_run.specs.declared.events.ReplyBody.TheVariants.{Data, Done, Failed}
+use Rattle.oram_semantics.specs.Progress.{Status}
+use Rattle.oram_semantics.specs.Progress.Status.{Idle, Waiting, Stalling, Over}
+use Rattle.oram_semantics.specs.Run.{is_waiting}
+use Rattle.oram_semantics.specs.State.{State, status_in}
+use Rattle.oram_semantics.specs.declared.events.Note.{Note}
+use Rattle.oram_semantics.specs.declared.events.Note.TheVariants as note
+use Rattle.oram_semantics.specs.declared.events.ReplyBody.{ReplyBody}
+use Rattle.oram_semantics.specs.declared.events.ReplyBody.TheVariants.{Data, Done, Failed}
 use Rattle.oram_core.specs.Doing.{Done as Did}
 
 abbrev pub is_settled_by : Status → Bool
@@ -24,12 +24,12 @@ IsSettled s = is_settled_by (status_in s) ≡ true
 
 -- the message that was sent and isn't answered yet
 abbrev pub outstanding : State → Option (List ℕ)
-outstanding s = if is_waiting (status_in s) then Some s.last else None
+outstanding s = if is_waiting (status_in s) then Some s.message else None
 
 -- the core has sent a message and shown nothing else
 pub record IsUnderWay (m : Did) : Type 0 where
   pub waits : status_in m.state ≡ Waiting
-  pub sends : m.sends ≡ m.state.last ∷ []
+  pub sends : m.sends ≡ m.state.message ∷ []
   pub none : m.replies ≡ []
 
 -- if the reply has data, it is as long as a block
@@ -50,4 +50,4 @@ IsBegun s note.Unexpected m = ⊥
 
 -- a bound on the number of answers that the commands at work still need; it gets less with each answer
 abbrev pub answers_left : Sizes → State → ℕ
-answers_left d s = length s.queue * (2 * trees_of d + 1) + (2 * trees_of d - s.stage)
+answers_left d s = length s.queue * (2 * trees_of d + 1) + (2 * trees_of d - s.entry_number)

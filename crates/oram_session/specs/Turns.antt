@@ -5,24 +5,24 @@ use Rattle.oram_geometry.specs.Sizes.{trees_of}
 use Rattle.oram_wire.specs.declared.session_messages.SessionRequest.{SessionRequest}
 use Rattle.oram_wire.specs.declared.session_messages.SessionReply.{SessionReply}
 use Rattle.oram_wire.specs.declared.session_messages.SessionReply.TheVariants.{Refused}
-use Rattle.oram_run.specs.Events.{refusal_number}
-use Rattle.oram_run.specs.Run.{Shown}
-use Rattle.oram_run.specs.Shape.{Shape}
-use Rattle.oram_run.specs.State.{State}
-use Rattle.oram_run.specs.declared.events.Event.TheVariants.{Submit}
-use Rattle.oram_run.specs.declared.events.Note.{Note}
-use Rattle.oram_run.specs.declared.events.Note.TheVariants as note
-use Rattle.oram_run.specs.declared.events.Reply.{Reply}
+use Rattle.oram_semantics.specs.Events.{refusal_number}
+use Rattle.oram_semantics.specs.Run.{Shown}
+use Rattle.oram_semantics.specs.Scheme.{Scheme}
+use Rattle.oram_semantics.specs.State.{State}
+use Rattle.oram_semantics.specs.declared.events.Event.TheVariants.{Submit}
+use Rattle.oram_semantics.specs.declared.events.Note.{Note}
+use Rattle.oram_semantics.specs.declared.events.Note.TheVariants as note
+use Rattle.oram_semantics.specs.declared.events.Reply.{Reply}
 use Rattle.oram_core.specs.Steps.{Steps}
-use Rattle.oram_session.specs.Exchanges.{Sending, IsSent, IsCutOff, IsGivenUp, AllSent}
+use Rattle.oram_session.specs.Exchanges.{Delivery, IsSent, IsCutOff, IsGivenUp, AllSent}
 use Rattle.oram_session.specs.Outcome.{Outcome}
-use Rattle.oram_session.specs.Requests.{IsRequest, IsNoRequest, command_of, told}
+use Rattle.oram_session.specs.Requests.{IsRequest, IsNoRequest, command_of, session_reply}
 use Rattle.oram_session.specs.Settled.{IsSettled}
 
 -- A turn: a request's body, the messages that it needed, and the reply.
 pub record Turn : Type 0 where
   pub body : List ℕ
-  pub sendings : List Sending
+  pub sendings : List Delivery
   pub reply : SessionReply
 
 -- how often a message may be sent again
@@ -30,7 +30,7 @@ abbrev pub most_retries : ℕ
 most_retries = 3
 
 -- over a link with this relation of calls, with the words of a tape, for a session with this number
-module _ (v : Shape) {L : Type 0} (calls : L → List ℕ → Outcome → L → Type 0) (words : ℕ → ℕ → List ℕ) (session : ℕ) where
+module _ (v : Scheme) {L : Type 0} (calls : L → List ℕ → Outcome → L → Type 0) (words : ℕ → ℕ → List ℕ) (session : ℕ) where
   -- The body is no request and is refused; the core doesn't get it.
   pub record IsUnread (p : State × L) (turn : Turn) (q : State × L) : Type 0 where
     pub none : IsNoRequest turn.body
@@ -48,7 +48,7 @@ module _ (v : Shape) {L : Type 0} (calls : L → List ℕ → Outcome → L → 
   abbrev pub IsReply : Note → State × L → Turn → State × L → Type 0
   IsReply (note.Accepted ticket) p turn q =
       AllSent v calls most_retries p turn.sendings q × IsSettled q.0
-      × (x : Reply) × (flat_map (λ y. y.replies) turn.sendings ≡ x ∷ []) × (turn.reply ≡ told x.body)
+      × (x : Reply) × (flat_map (λ y. y.replies) turn.sendings ≡ x ∷ []) × (turn.reply ≡ session_reply x.body)
   IsReply (note.Refused why) p turn q = (turn.sendings ≡ []) × (turn.reply ≡ Refused (refusal_number why)) × (p ≡ q)
   IsReply note.Taken p turn q = ⊥
   IsReply note.Stalled p turn q = ⊥
@@ -72,14 +72,14 @@ module _ (v : Shape) {L : Type 0} (calls : L → List ℕ → Outcome → L → 
     pub ticket : ℕ
     pub asked : IsAsked body p.0 shown begun
     pub accepted : shown.note ≡ note.Accepted ticket
-    pub sendings : List Sending
+    pub sendings : List Delivery
     pub sent : AllSent v calls most_retries (begun, p.1) sendings q
 
   -- The request got no reply, because one message stalled four times.
   pub record IsStuck (p : State × L) (body : List ℕ) (q : State × L) : Type 0 where
     pub mid : State × L
     pub work : IsAtWork p body mid
-    pub last : Sending
+    pub last : Delivery
     pub tried : IsSent v calls most_retries mid last q
     pub stuck : IsGivenUp most_retries last
 
@@ -87,5 +87,5 @@ module _ (v : Shape) {L : Type 0} (calls : L → List ℕ → Outcome → L → 
   pub record IsCutTurn (p : State × L) (body : List ℕ) (q : State × L) : Type 0 where
     pub mid : State × L
     pub work : IsAtWork p body mid
-    pub last : Sending
+    pub last : Delivery
     pub cut : IsCutOff v calls most_retries mid last q

@@ -8,27 +8,27 @@
 //! [`resume`] carries out the commands that still wait in a core that was read back.
 #![tactic(auto)]
 
+mod device_format;
 mod exchanges;
-mod formatting;
 mod law;
 mod link;
 mod links;
+mod recovery;
 mod requests;
-mod resuming;
-mod serving;
 mod tape;
 mod tapes;
+mod turns;
 
+pub use device_format::format_device;
 pub use exchanges::{MOST_RETRIES, exchange};
-pub use formatting::format_device;
 pub use law::{
     direct_links_are_honest, faulty_links_are_honest, new_devices_hold_zeros,
     sessions_are_the_arrays,
 };
 pub use link::{Link, LinkFault};
 pub use links::{Direct, FaultLink, LoopLink, StreamLink};
-pub use oram_answering::{ServeFault, host_serve};
-pub use resuming::{is_settled, reopen, resume};
-pub use serving::{serve, submit};
+pub use oram_host::{ServeFault, host_serve};
+pub use recovery::{is_settled, reopen, resume};
 pub use tape::Tape;
 pub use tapes::{ChaChaTape, ListTape};
+pub use turns::{serve, submit};

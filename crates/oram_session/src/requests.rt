@@ -1,11 +1,11 @@
 //! What a session asks of the core, and what it replies to the user.
 ghost use Rattle.std.specs.Prelude.{◌≡◌, IfOk, IfErr, MatchOption};
-ghost use Rattle.oram_session.specs.Requests.{IsRequest, IsNoRequest, command_of, told};
+ghost use Rattle.oram_session.specs.Requests.{IsRequest, IsNoRequest, command_of, session_reply};
 ghost use Rattle.oram_wire.specs.declared.session_messages.SessionRequest.{SessionRequest};
 ghost use Rattle.oram_wire.specs.SessionReading.{HasAddress};
 
-use oram_answering::ServeFault;
 use oram_core::{Command, ReplyBody};
+use oram_host::ServeFault;
 use oram_wire::{DEVICE_FAILED, SessionReply, SessionRequest, WireFault};
 use std::alloc::Global;
 
@@ -35,8 +35,8 @@ pub fn command_in(alloc: Global, body: &[u8]) -> Result<Option<Command>, ServeFa
 }
 
 /// Returns what a session replies to the user for a reply of the core.
-pub fn told(body: ReplyBody) -> SessionReply
-    ensures { result ≡ told body }
+pub fn session_reply(body: ReplyBody) -> SessionReply
+    ensures { result ≡ session_reply body }
 {
     match body {
         ReplyBody::Data(bytes) => SessionReply::Data(bytes),

@@ -18,7 +18,7 @@ use Rattle.clap.specs.declared.error.kind.ErrorKind.{ErrorKind}
 use Rattle.clap.specs.declared.error.kind.ErrorKind.TheVariants.{OutOfMemory}
 use Rattle.oram_settings.specs.declared.command_line.NoRequest.{NoRequest}
 use Rattle.oram_settings.specs.declared.command_line.NoRequest.TheVariants as why
-use Rattle.oram_settings.specs.CommandLine.{IsToldAs, IsToldOf, Request, is_given, program, request_by, request_in, request_of, unless_faulty}
+use Rattle.oram_settings.specs.CommandLine.{AnswersFaults, AnswersFault, Request, is_given, program, request_by, request_in, request_of, unless_faulty}
 use Rattle.oram_settings.proofs.Program.{is_free}
 
 -- a subcommand of this name, with these rows
@@ -37,7 +37,7 @@ refused [] e asked (inr h) other = absurd h
 refused (kind ∷ kinds) e asked h other = refl
 
 -- an error that doesn't become OutOfMemory isn't one of memory
-not_memory : (k : ErrorKind) (told : NoRequest) → IsToldOf k told → told ≢ why.OutOfMemory → k ≢ OutOfMemory
+not_memory : (k : ErrorKind) (told : NoRequest) → AnswersFault k told → told ≢ why.OutOfMemory → k ≢ OutOfMemory
 not_memory k (why.Help text) (inl h) other m = cc
 not_memory k (why.Help text) (inr h) other m = cc
 not_memory k (why.Mistake text) h other m = h.2 m
@@ -48,7 +48,7 @@ only k j (inl h) = h
 only k j (inr h) = absurd h
 
 -- an error of one of these kinds becomes what these kinds allow
-told_as : (kinds : Kinds) (e : Error) (told : NoRequest) → HasKind kinds e → IsToldOf (kind_of e) told → IsToldAs kinds told
+told_as : (kinds : Kinds) (e : Error) (told : NoRequest) → HasKind kinds e → AnswersFault (kind_of e) told → AnswersFaults kinds told
 told_as kinds e (why.Help text) (inl memory) (inl h) = absurd cc
 told_as kinds e (why.Help text) (inl memory) (inr h) = absurd cc
 told_as kinds e (why.Help text) (inr among) (inl h) = inl (subst (λ k. IsAmong k kinds) h among)
@@ -64,19 +64,19 @@ module _ (a : App) (same : a ≡ program) (words : List Text) where
   free : is_simple_and_free a ≡ true
   free = ap is_simple_and_free same ∙ is_free
 
-  pub asked_refused : (e : Error) → (is_simple_and_free a ≡ true → HasKind (fault_of a words) e) → (told : NoRequest) → IsToldOf (kind_of e) told → told ≢ why.OutOfMemory
+  pub asked_refused : (e : Error) → (is_simple_and_free a ≡ true → HasKind (fault_of a words) e) → (told : NoRequest) → AnswersFault (kind_of e) told → told ≢ why.OutOfMemory
       → request_in words ≡ None
   asked_refused e kinds told is other =
       sym (ap (λ (b : App). unless_faulty (fault_of b words) (option_and_then request_by (subcommand_of b words))) same)
       ∙ refused (fault_of a words) e _ (kinds free) (not_memory (kind_of e) told is other)
 
   -- and it becomes what the faults that clap finds allow
-  pub told_refused : (e : Error) → (is_simple_and_free a ≡ true → HasKind (fault_of a words) e) → (told : NoRequest) → IsToldOf (kind_of e) told → IsToldAs (fault_of program words) told
-  told_refused e kinds told is = subst (λ (b : App). IsToldAs (fault_of b words) told) same (told_as (fault_of a words) e told (kinds free) is)
+  pub told_refused : (e : Error) → (is_simple_and_free a ≡ true → HasKind (fault_of a words) e) → (told : NoRequest) → AnswersFault (kind_of e) told → AnswersFaults (fault_of program words) told
+  told_refused e kinds told is = subst (λ (b : App). AnswersFaults (fault_of b words) told) same (told_as (fault_of a words) e told (kinds free) is)
 
   -- if clap finds no fault
-  pub told_sound : (is_simple_and_free a ≡ true → fault_of a words ≡ []) → (told : NoRequest) → IsToldAs [] told → IsToldAs (fault_of program words) told
-  told_sound sound told is = subst (λ (b : App). IsToldAs (fault_of b words) told) same (subst (λ (kinds : Kinds). IsToldAs kinds told) (sym (sound free)) is)
+  pub told_sound : (is_simple_and_free a ≡ true → fault_of a words ≡ []) → (told : NoRequest) → AnswersFaults [] told → AnswersFaults (fault_of program words) told
+  told_sound sound told is = subst (λ (b : App). AnswersFaults (fault_of b words) told) same (subst (λ (kinds : Kinds). AnswersFaults kinds told) (sym (sound free)) is)
 
   module _ (m : ArgMatches) (sound : is_simple_and_free a ≡ true → fault_of a words ≡ []) (matches : HasMatchesOf a words m) where
     simple : is_simple a ≡ true

@@ -7,8 +7,8 @@ use Rattle.hex.specs.Hex.{encode_with}
 use Rattle.toml.specs.Data.{Members, integer, member, no_members, string}
 use Rattle.toml.specs.Parse.{parse_document}
 use Rattle.toml.proofs.OnLiterals.{toml_on_literals}
-use Rattle.oram_run.specs.declared.events.Reason.TheVariants.{Tampered}
-use Rattle.oram_edge.specs.Tables.{HasNumber, HasText}
+use Rattle.oram_semantics.specs.declared.events.Reason.TheVariants.{Tampered}
+use Rattle.oram_cli.specs.Tables.{HasNumber, HasText}
 use Rattle.oram_settings.specs.Amounts.{size_text}
 use Rattle.oram_settings.specs.Progress.{progress_text}
 use Rattle.oram_settings.specs.Settings.{HasSealing, OrDefault, first_text}

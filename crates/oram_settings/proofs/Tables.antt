@@ -2,9 +2,9 @@
 use Rattle.std.proofs.Common.{◌≡◌, ◌∙◌, ◌⊎◌, ℕ, List, Option, Some, None, true, is_some, Result, Ok, Err, codes, arith, sym, subst, inl, inr}
 use Rattle.std.specs.Prelude.{MatchOption}
 use Rattle.toml.specs.Data.{Data, Members, get_member}
-use Rattle.oram_edge.specs.Tables.{Finds, HasText, IsAddress, IsName}
-use Rattle.oram_edge.specs.declared.input.InputFault.{InputFault}
-use Rattle.oram_edge.specs.declared.input.InputFault.TheVariants.{Bad}
+use Rattle.oram_cli.specs.Tables.{Finds, HasText, IsAddress, IsName}
+use Rattle.oram_cli.specs.declared.input.InputFault.{InputFault}
+use Rattle.oram_cli.specs.declared.input.InputFault.TheVariants.{Bad}
 use Rattle.oram_settings.specs.Settings.{DiskValue, HasSealing, IsDisk, IsPlace, IsSocket, OrDefault}
 use Rattle.oram_settings.specs.declared.disk_file.Sealing.{Sealing}
 use Rattle.oram_settings.specs.declared.disk_file.Sealing.TheVariants.{Plain, ChaCha}

@@ -11,8 +11,8 @@ use Rattle.clap.specs.declared.error.kind.ErrorKind.{ErrorKind}
 use Rattle.clap.specs.declared.error.kind.ErrorKind.TheVariants as kind
 use Rattle.oram_settings.specs.declared.command_line.NoRequest.{NoRequest}
 use Rattle.oram_settings.specs.declared.command_line.NoRequest.TheVariants.{Help, Mistake, OutOfMemory}
-use Rattle.oram_settings.specs.declared.command_line.Words.{Words}
-use Rattle.oram_settings.specs.declared.command_line.Words.TheVariants.{Format, Host, New, Retry, Serve, Status}
+use Rattle.oram_settings.specs.declared.command_line.Subcommand.{Subcommand}
+use Rattle.oram_settings.specs.declared.command_line.Subcommand.TheVariants.{Format, Host, New, Retry, Serve, Status}
 
 -- what a command line asks for: a host, with a new file of buckets or not; a folder for a disk of a size; or something
 -- for a disk, by the file of its settings
@@ -25,13 +25,13 @@ pub data Request : Type 0 where
   retry : List ℕ → Request
 
 -- a request by value, without the places of texts in memory
-abbrev pub shown : Words → Request
-shown (Host name is_new) = host (string_bytes name) is_new
-shown (New name size) = folder (string_bytes name) (string_bytes size)
-shown (Format name) = format (string_bytes name)
-shown (Serve name) = serve (string_bytes name)
-shown (Status name) = status (string_bytes name)
-shown (Retry name) = retry (string_bytes name)
+abbrev pub request_for : Subcommand → Request
+request_for (Host name is_new) = host (string_bytes name) is_new
+request_for (New name size) = folder (string_bytes name) (string_bytes size)
+request_for (Format name) = format (string_bytes name)
+request_for (Serve name) = serve (string_bytes name)
+request_for (Status name) = status (string_bytes name)
+request_for (Retry name) = retry (string_bytes name)
 
 -- the word that each subcommand takes, which help shows by a name
 abbrev pub word_rule : Rule
@@ -94,14 +94,14 @@ abbrev pub request_in : List Text → Option Request
 request_in words = unless_faulty (fault_of program words) (option_and_then request_by (subcommand_of program words))
 
 -- what an error of this kind may become: help, or a mistake
-abbrev pub IsToldOf : ErrorKind → NoRequest → Type 0
-IsToldOf k (Help text) = (k ≡ kind.DisplayHelp) ⊎ (k ≡ kind.DisplayVersion)
-IsToldOf k (Mistake text) = (k ≢ kind.DisplayHelp) × (k ≢ kind.DisplayVersion) × (k ≢ kind.OutOfMemory)
-IsToldOf k OutOfMemory = ⊤
+abbrev pub AnswersFault : ErrorKind → NoRequest → Type 0
+AnswersFault k (Help text) = (k ≡ kind.DisplayHelp) ⊎ (k ≡ kind.DisplayVersion)
+AnswersFault k (Mistake text) = (k ≢ kind.DisplayHelp) × (k ≢ kind.DisplayVersion) × (k ≢ kind.OutOfMemory)
+AnswersFault k OutOfMemory = ⊤
 
 -- The outcome of words in which clap finds faults of these kinds. Help comes only if its kind is among them, and a
 -- mistake doesn't come if that kind is the only one.
-abbrev pub IsToldAs : Kinds → NoRequest → Type 0
-IsToldAs kinds (Help text) = IsAmong kind.DisplayHelp kinds ⊎ IsAmong kind.DisplayVersion kinds
-IsToldAs kinds (Mistake text) = (kinds ≢ kind.DisplayHelp ∷ []) × (kinds ≢ kind.DisplayVersion ∷ [])
-IsToldAs kinds OutOfMemory = ⊤
+abbrev pub AnswersFaults : Kinds → NoRequest → Type 0
+AnswersFaults kinds (Help text) = IsAmong kind.DisplayHelp kinds ⊎ IsAmong kind.DisplayVersion kinds
+AnswersFaults kinds (Mistake text) = (kinds ≢ kind.DisplayHelp ∷ []) × (kinds ≢ kind.DisplayVersion ∷ [])
+AnswersFaults kinds OutOfMemory = ⊤

@@ -7,7 +7,7 @@ use Rattle.toml.specs.Data.{Members, boolean, get_member}
 use Rattle.toml.specs.Parse.{parse_document}
 use Rattle.oram_geometry.specs.Sizes.{device_of}
 use Rattle.oram_geometry.specs.declared.Sizes.{Sizes}
-use Rattle.oram_edge.specs.Tables.{HasHex, HasNumber, HasOnly, HasText, IsAddress, IsCount, IsName}
+use Rattle.oram_cli.specs.Tables.{HasHex, HasNumber, HasOnly, HasText, IsAddress, IsCount, IsName}
 use Rattle.oram_settings.specs.declared.disk_file.Sealing.{Sealing}
 use Rattle.oram_settings.specs.declared.disk_file.Sealing.TheVariants.{Plain, ChaCha}
 use Rattle.oram_settings.specs.declared.disk_file.DiskSettings.{DiskSettings}
@@ -26,8 +26,8 @@ pub record DiskValue : Type 0 where
   pub sync : Bool
   pub patience : ℕ
 
-abbrev pub shown : DiskSettings → DiskValue
-shown s = record {
+abbrev pub settings_value : DiskSettings → DiskValue
+settings_value s = record {
   size = s.size;
   block = s.block;
   slots = s.slots;

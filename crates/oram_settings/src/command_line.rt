@@ -6,7 +6,7 @@ ghost use Rattle.clap.specs.Walk.{texts};
 ghost use Rattle.clap.specs.Words.{app_of, kind_of, rule_of, shape_of};
 ghost use Rattle.clap.specs.declared.builder.command.Command.TheViews.{out-Command as fields_of};
 ghost use Rattle.oram_settings.specs.CommandLine as spec;
-ghost use Rattle.oram_settings.specs.CommandLine.{IsToldAs, IsToldOf, bare, program, request_in, request_of, shown};
+ghost use Rattle.oram_settings.specs.CommandLine.{AnswersFaults, AnswersFault, bare, program, request_in, request_of, request_for};
 
 use crate::help;
 use clap::error::ErrorKind;
@@ -15,7 +15,7 @@ use std::alloc::{AllocError, Global};
 
 /// What the words of a command line ask for.
 #[derive(Debug, Drop)]
-pub enum Words {
+pub enum Subcommand {
     /// To run a bucket host, with the settings in the file of this name, and with a new file of buckets if `is_new`.
     Host { settings: String, is_new: bool },
     /// To make a folder of this name, with first settings for a disk of this size.
@@ -147,30 +147,30 @@ fn is_given(flag: Option<&str>) -> bool
 
 /// Returns what a subcommand asks for, by its word, whether the flag for a new file was given, and perhaps a size.
 /// Returns `None` if there is no such subcommand.
-fn asked(
+fn subcommand_of(
     alloc: Global,
     name: &str,
     word: &str,
     is_new: bool,
     size: Option<&str>,
-) -> Result<Option<Words>, AllocError>
-    ensures { IfOk result (λ w. request_of name.now word.now is_new (option_map (λ s. s.now) size.entry) ≡ option_map shown w) }
+) -> Result<Option<Subcommand>, AllocError>
+    ensures { IfOk result (λ w. request_of name.now word.now is_new (option_map (λ s. s.now) size.entry) ≡ option_map request_for w) }
 {
     let word = String::from_str(alloc, word)?;
     match size {
         None => match name {
-            "host" => Ok(Some(Words::Host {
+            "host" => Ok(Some(Subcommand::Host {
                 settings: word,
                 is_new,
             })),
-            "format" => Ok(Some(Words::Format(word))),
-            "serve" => Ok(Some(Words::Serve(word))),
-            "status" => Ok(Some(Words::Status(word))),
-            "retry" => Ok(Some(Words::Retry(word))),
+            "format" => Ok(Some(Subcommand::Format(word))),
+            "serve" => Ok(Some(Subcommand::Serve(word))),
+            "status" => Ok(Some(Subcommand::Status(word))),
+            "retry" => Ok(Some(Subcommand::Retry(word))),
             _ => Ok(None),
         },
         Some(size) => match name {
-            "new" => Ok(Some(Words::New {
+            "new" => Ok(Some(Subcommand::New {
                 folder: word,
                 size: String::from_str(alloc, size)?,
             })),
@@ -188,8 +188,8 @@ fn message(alloc: Global, text: &str) -> Result<String, AllocError> {
 }
 
 /// Returns what an error of clap is for the program: an answer to a request for help, or a mistake.
-fn told(alloc: Global, error: &Error) -> Result<NoRequest, AllocError>
-    ensures { IfOk result (λ why. IsToldOf (kind_of error.now) why) }
+fn no_request_for(alloc: Global, error: &Error) -> Result<NoRequest, AllocError>
+    ensures { IfOk result (λ why. AnswersFault (kind_of error.now) why) }
 {
     if error.kind() == ErrorKind::OutOfMemory {
         return Ok(NoRequest::OutOfMemory);
@@ -204,7 +204,7 @@ fn told(alloc: Global, error: &Error) -> Result<NoRequest, AllocError>
 
 /// Returns the mistake for words that clap accepts, but that ask for nothing.
 fn nothing_asked(alloc: Global) -> NoRequest
-    ensures { IsToldAs [] result }
+    ensures { AnswersFaults [] result }
 {
     match String::from_str(alloc, help::NOTHING_ASKED) {
         Ok(text) => NoRequest::Mistake(text),
@@ -213,18 +213,18 @@ fn nothing_asked(alloc: Global) -> NoRequest
 }
 
 /// Reads the words of a command line. The first word is the program's name.
-pub fn read_words(alloc: Global, words: &[&str]) -> Result<Words, NoRequest>
+pub fn read_command_line(alloc: Global, words: &[&str]) -> Result<Subcommand, NoRequest>
     // The result is what clap's matches of the words ask for.
-    ensures ok { IfOk result (λ w. request_in (texts words.now) ≡ Some (shown w)) }
+    ensures ok { IfOk result (λ w. request_in (texts words.now) ≡ Some (request_for w)) }
     // Help and mistakes come only if the words ask for nothing.
     ensures none { IfErr result (λ why. why ≢ NoRequest.OutOfMemory → request_in (texts words.now) ≡ None) }
     // Help comes only if the words ask for help or the version, and a mistake only if they don't ask for one of these
     // alone.
-    ensures told { IfErr result (IsToldAs (fault_of program (texts words.now))) }
+    ensures told { IfErr result (AnswersFaults (fault_of program (texts words.now))) }
 {
     let matches = match command(alloc)?.try_get_matches_from(words) {
         Ok(matches) => matches,
-        Err(error) => return Err(told(alloc, &error)?),
+        Err(error) => return Err(no_request_for(alloc, &error)?),
     };
     let Some((name, inner)) = matches.subcommand() else {
         return Err(nothing_asked(alloc));
@@ -233,7 +233,7 @@ pub fn read_words(alloc: Global, words: &[&str]) -> Result<Words, NoRequest>
         return Err(nothing_asked(alloc));
     };
     let is_new = is_given(inner.get_str("new"));
-    match asked(alloc, name, word, is_new, inner.get_str("size"))? {
+    match subcommand_of(alloc, name, word, is_new, inner.get_str("size"))? {
         Some(words) => Ok(words),
         None => Err(nothing_asked(alloc)),
     }

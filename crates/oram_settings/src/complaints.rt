@@ -1,7 +1,7 @@
 //! Complaints about a settings file, for whoever wrote it.
 
 use crate::disk_file::{flag_at, place_at, sealing_at};
-use oram_edge::{address_at, count_at, key_at, name_at, number_at};
+use oram_cli::{address_at, count_at, key_at, name_at, number_at};
 use std::alloc::{AllocError, Global};
 use std::fmt;
 use strsim::levenshtein;
@@ -158,7 +158,7 @@ fn place_of(alloc: Global, name: &str, text: &str, key: &str) -> Result<String, 
 }
 
 /// Returns the key of a setting that a word was meant for.
-fn meant(
+fn nearest_key(
     alloc: Global,
     word: &str,
     settings: &[Setting],
@@ -186,7 +186,7 @@ fn unknown_key<'a>(table: &'a Table, settings: &[Setting]) -> Option<&'a str> {
 }
 
 /// Returns the complaint that a key belongs to no setting, and which key may have been meant.
-fn unknown(
+fn unknown_key_complaint(
     alloc: Global,
     name: &str,
     text: &str,
@@ -195,7 +195,7 @@ fn unknown(
 ) -> Result<String, AllocError> {
     let place = place_of(alloc, name, text, key)?;
     let place = place.as_str();
-    match meant(alloc, key, settings)? {
+    match nearest_key(alloc, key, settings)? {
         Some(near) => format!(in alloc; "{place}: unknown key \"{key}\"; did you mean \"{near}\"?"),
         None => format!(in alloc; "{place}: unknown key \"{key}\""),
     }
@@ -275,7 +275,7 @@ fn complaint(
         Err(error) => return no_document(alloc, name, text, &error),
     };
     match unknown_key(&table, settings) {
-        Some(key) => unknown(alloc, name, text, key, settings),
+        Some(key) => unknown_key_complaint(alloc, name, text, key, settings),
         None => wrong_value(alloc, name, text, &table, settings),
     }
 }

@@ -3,11 +3,13 @@
 ghost use Rattle.std.specs.Prelude.{◌≡◌, ◌≢◌, ◌↔◌, is_some, IsTrue, None, option_and_then, IfOk, IfSome, IsErrOf, string_bytes};
 ghost use Rattle.toml.specs.Data.{as_bool, get_member};
 ghost use Rattle.toml.specs.View.{table_view};
-ghost use Rattle.oram_edge.specs.Tables.{Finds, HasNumber, HasText, IsCount, IsName};
-ghost use Rattle.oram_settings.specs.Settings.{HasFlag, HasSealing, IsDeviceOf, IsDisk, IsDocumentOf, IsPlace, IsSocket, OrDefault, first_text, sealing_name, shown};
+ghost use Rattle.oram_cli.specs.Tables.{Finds, HasNumber, HasText, IsCount, IsName};
+ghost use Rattle.oram_settings.specs.Settings.{HasFlag, HasSealing, IsDeviceOf, IsDisk, IsDocumentOf, IsPlace, IsSocket, OrDefault, first_text, sealing_name, settings_value};
 
 use hex::encode;
-use oram_edge::{InputFault, address_at, count_at, has_only, key_at, name_at, number_at, table_of};
+use oram_cli::{
+    InputFault, address_at, count_at, has_key, has_only, key_at, name_at, number_at, table_of,
+};
 use oram_geometry::Device;
 use std::alloc::{AllocError, Global};
 use std::fmt;
@@ -132,19 +134,12 @@ pub(crate) fn place_at<'a>(table: &'a Table, key: &str) -> Result<&'a str, Input
     }
 }
 
-/// Returns whether the table has a key.
-fn has(table: &Table, key: &str) -> bool
-    ensures { result ≡ is_some (get_member key.now (table_view table.now)) }
-{
-    table.contains_key(key)
-}
-
 /// Returns the number at a key, or the default if the table doesn't have the key. The functions below do this for
 /// values of other kinds.
 fn number_or(table: &Table, key: &str, default: u64) -> Result<u64, InputFault>
     ensures { Finds (λ n. n) (OrDefault (table_view table.now) key.now default (HasNumber (table_view table.now) key.now)) result }
 {
-    if has(table, key) {
+    if has_key(table, key) {
         number_at(table, key)
     } else {
         Ok(default)
@@ -154,7 +149,7 @@ fn number_or(table: &Table, key: &str, default: u64) -> Result<u64, InputFault>
 fn count_or(table: &Table, key: &str, default: u64) -> Result<u64, InputFault>
     ensures { Finds (λ n. n) (OrDefault (table_view table.now) key.now default (λ n. HasNumber (table_view table.now) key.now n × IsCount n)) result }
 {
-    if has(table, key) {
+    if has_key(table, key) {
         count_at(table, key)
     } else {
         Ok(default)
@@ -164,7 +159,7 @@ fn count_or(table: &Table, key: &str, default: u64) -> Result<u64, InputFault>
 fn flag_or(table: &Table, key: &str, default: bool) -> Result<bool, InputFault>
     ensures { Finds (λ b. b) (OrDefault (table_view table.now) key.now default (HasFlag (table_view table.now) key.now)) result }
 {
-    if has(table, key) {
+    if has_key(table, key) {
         flag_at(table, key)
     } else {
         Ok(default)
@@ -174,7 +169,7 @@ fn flag_or(table: &Table, key: &str, default: bool) -> Result<bool, InputFault>
 fn sealing_or(table: &Table, key: &str, default: Sealing) -> Result<Sealing, InputFault>
     ensures { Finds (λ s. s) (OrDefault (table_view table.now) key.now default (HasSealing (table_view table.now) key.now)) result }
 {
-    if has(table, key) {
+    if has_key(table, key) {
         sealing_at(table, key)
     } else {
         Ok(default)
@@ -184,7 +179,7 @@ fn sealing_or(table: &Table, key: &str, default: Sealing) -> Result<Sealing, Inp
 fn name_or<'a>(table: &'a Table, key: &str, default: &'a str) -> Result<&'a str, InputFault>
     ensures { Finds (λ s. s.now) (OrDefault (table_view table.now) key.now default.now (λ s. HasText (table_view table.now) key.now s × IsName s)) result }
 {
-    if has(table, key) {
+    if has_key(table, key) {
         name_at(table, key)
     } else {
         Ok(default)
@@ -194,7 +189,7 @@ fn name_or<'a>(table: &'a Table, key: &str, default: &'a str) -> Result<&'a str,
 fn place_or<'a>(table: &'a Table, key: &str, default: &'a str) -> Result<&'a str, InputFault>
     ensures { Finds (λ s. s.now) (OrDefault (table_view table.now) key.now default.now (λ s. HasText (table_view table.now) key.now s × IsPlace s)) result }
 {
-    if has(table, key) {
+    if has_key(table, key) {
         place_at(table, key)
     } else {
         Ok(default)
@@ -202,7 +197,7 @@ fn place_or<'a>(table: &'a Table, key: &str, default: &'a str) -> Result<&'a str
 }
 
 fn disk_in(alloc: Global, table: &Table) -> Result<DiskSettings, InputFault>
-    ensures { Finds shown (IsDisk (table_view table.now)) result }
+    ensures { Finds settings_value (IsDisk (table_view table.now)) result }
 {
     if !has_only(
         table,
@@ -242,7 +237,7 @@ fn disk_in(alloc: Global, table: &Table) -> Result<DiskSettings, InputFault>
 /// Reads a disk's settings from a TOML document.
 pub fn read_disk_settings(alloc: Global, text: &str) -> Result<DiskSettings, InputFault>
     // The text is a document whose table has these settings.
-    ensures ok { IfOk result (λ s. IsDocumentOf text.now (shown s)) }
+    ensures ok { IfOk result (λ s. IsDocumentOf text.now (settings_value s)) }
     // `Bad` comes only if the text is no such document for any settings.
     ensures bad { IsErrOf result InputFault.Bad → (s : _) → IsDocumentOf text.now s → ⊥ }
 {

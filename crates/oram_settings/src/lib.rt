@@ -4,7 +4,7 @@
 //! what is wrong with one, and [`read_size`] reads a size as people write it. [`first_difference`] finds a setting that
 //! isn't as the disk was formatted. [`status_of`] and [`report`] are for the status of a disk, [`progress_text`] and
 //! [`Meter`] for the progress of a formatting, and [`stored_bytes`] for the room that a disk takes at its host.
-//! [`made_text`] and the functions beside it return what the program says when all goes well. [`read_words`] reads the
+//! [`made_text`] and the functions beside it return what the program says when all goes well. [`read_command_line`] reads the
 //! command line, and answers a request for help.
 #![tactic(auto)]
 
@@ -23,7 +23,7 @@ mod status;
 
 pub use amounts::{amount_text, counted, size_text};
 pub use announcements::{begun_text, hosting_text, made_text, serving_text};
-pub use command_line::{NoRequest, Words, read_words};
+pub use command_line::{NoRequest, Subcommand, read_command_line};
 pub use complaints::{disk_complaint, host_complaint};
 pub use differences::{FixedKey, first_difference};
 pub use disk_file::{
@@ -31,7 +31,7 @@ pub use disk_file::{
     disk_text, read_disk_settings,
 };
 pub use footprint::stored_bytes;
-pub use names::beside;
+pub use names::relative_to;
 pub use progress::{Meter, percent, progress_text};
 pub use sizes::read_size;
 pub use status::{Status, failure_text, report, status_of};

@@ -1,7 +1,9 @@
 //! Sizes as people write them.
 
-ghost use Rattle.std.specs.Prelude.{ℕ, ◌≡◌, ◌≤◌, ◌<◌, ◌^◌, ◌↔◌, ◌≢◌, IsTrue, IfSome, None, decimal, slice_index};
+ghost use Rattle.std.specs.Prelude.{ℕ, ◌≡◌, ◌≤◌, ◌<◌, ◌^◌, ◌≢◌, IfSome, None, decimal};
 ghost use Rattle.oram_settings.specs.Sizes.{IsSize, IsSizeIn};
+
+use oram_cli::begins_number;
 
 /// The units of a size, each with its number of bytes. The last has no name.
 const UNITS: [(&str, u64); 9] = [
@@ -15,13 +17,6 @@ const UNITS: [(&str, u64); 9] = [
     ("TB", 1_000_000_000_000),
     ("", 1),
 ];
-
-/// Returns whether a text begins with a digit other than 0.
-fn begins_number(text: &str) -> bool
-    ensures { IsTrue result ↔ ((49 ≤ slice_index text.now 0) × (slice_index text.now 0 ≤ 57)) }
-{
-    matches!(text.as_bytes(), [b'1'..=b'9', ..])
-}
 
 /// Reads a number from 1 on, in decimal without leading zeros.
 fn read_number(text: &str) -> Option<u64>

@@ -5,10 +5,10 @@
 //! If a server answers messages, [`MarkedReader`] and [`MarkedWriter`] tell it whether it is in the middle of one.
 #![tactic(auto)]
 
-mod listening;
+mod listener;
 mod marked;
 mod watched;
 
-pub use listening::{Connection, Listener, Peer, listen_at_path};
+pub use listener::{Connection, Listener, Peer, listen_at_path};
 pub use marked::{MarkedReader, MarkedWriter, Marks};
 pub use watched::{Attendant, Direction, Halves, Watched, watch};

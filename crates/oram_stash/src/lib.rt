@@ -14,15 +14,15 @@ ghost use Rattle.oram_stash.specs.Blocks.{block_at, IsAt, IsGapFor};
 ghost use Rattle.oram_stash.specs.Faults.{block_of};
 ghost use Rattle.oram_stash.specs.Eviction.{IsEviction, IsGreedy, LeavesFewest, IsTight, OneOutcome, all_listed};
 
-mod lending;
 mod levels;
 mod lists;
+mod placement;
 
-pub use lending::{Placement, place};
 use levels::{chosen_levels, deepest_shared};
 use lists::{empty_lists, move_out};
 use oram_bucket::Block;
 use oram_geometry::Device;
+pub use placement::{Placement, place};
 use std::alloc::{AllocError, Global};
 use std::marker::Model;
 use std::mem;
@@ -193,7 +193,7 @@ impl Stash {
 
     /// Takes over the blocks of `other`, and keeps of all blocks only those whose addresses are in `stays`. Needs no
     /// memory, since the blocks move to `room`, which has capacity for all of them.
-    pub fn settle(&mut self, other: Stash, stays: &[u32], room: Vec<Block>)
+    pub fn keep_left_over(&mut self, other: Stash, stays: &[u32], room: Vec<Block>)
         requires apart { (c d : Cell) → Contains self.old c → Contains other d → c.address ≢ d.address }
         requires stays { AllPairs (λ a b. a < b) stays.now }
         requires empty { room.items ≡ [] }

@@ -10,11 +10,11 @@ use Rattle.oram_geometry.proofs.Measuring.{blocks_in-range}
 use Rattle.oram_bucket.specs.Bucket.{IsBlockOf}
 use Rattle.oram_bucket.specs.Cell.{Cell, IsRising}
 use Rattle.oram_tree.specs.Parts.{Parts as TreeParts, ArePartsOf}
-use Rattle.oram_run.specs.Content.{stage_tree}
-use Rattle.oram_run.specs.State.{State}
-use Rattle.oram_run.specs.declared.events.Reason.{Reason}
-use Rattle.oram_run.specs.declared.events.Submission.{Submission}
-use Rattle.oram_run.proofs.Bounds.{depth_small}
+use Rattle.oram_semantics.specs.Content.{entry_tree}
+use Rattle.oram_semantics.specs.State.{State}
+use Rattle.oram_semantics.specs.declared.events.Reason.{Reason}
+use Rattle.oram_semantics.specs.declared.events.Submission.{Submission}
+use Rattle.oram_semantics.proofs.Bounds.{depth_small}
 use Rattle.oram_core.specs.Core.{IsAtWork, IsStoreOf, AtWork}
 use Rattle.oram_core.specs.Fitting.{AreTrees, IsFitting}
 use Rattle.oram_core.specs.Parts.{Parts, AreParts, state_of, submissions_from}
@@ -71,14 +71,14 @@ store_short d o i m ranges small h =
     let long : (depth_of d i + 1) * record_len_of d o ≤ 25 * 32960 = mul-le-mul (let deep = depth_small d i in let most : depth_of d i + 1 ≤ 25 = omega (arith, deep) in most) (record_short d o ranges small) in
     rw h.stores.body (omega (arith, length-append (to_be_bytes w32 h.leaf) h.stores.records, h.stores.long, long))
 
-at_work_short : (d : Sizes) (o : ℕ) (s : State) (x : Submission) → IsDevice d → o ≤ 64 → IsAtWork d o s x → length s.last < 2 ^ 32
-at_work_short d o s x ranges small w = elim (cases_eq (s.stage % 2) 0) [
-  | inl even ↦ let e : length s.last ≡ 6 = ap length (w.fetch even) in omega (arith, e)
-  | inr odd ↦ store_short d o (stage_tree d s.stage) s.last ranges small (w.store (omega (arith, odd)))
+at_work_short : (d : Sizes) (o : ℕ) (s : State) (x : Submission) → IsDevice d → o ≤ 64 → IsAtWork d o s x → length s.message < 2 ^ 32
+at_work_short d o s x ranges small w = elim (cases_eq (s.entry_number % 2) 0) [
+  | inl even ↦ let e : length s.message ≡ 6 = ap length (w.fetch even) in omega (arith, e)
+  | inr odd ↦ store_short d o (entry_tree d s.entry_number) s.message ranges small (w.store (omega (arith, odd)))
 ]
 
-message_short : (d : Sizes) (o : ℕ) (s : State) (t : ℕ) (xs : List Pending) → IsDevice d → o ≤ 64 → AtWork d o s (submissions_from t xs) → length s.last < 2 ^ 32
-message_short d o s t [] ranges small w = let e : length s.last ≡ 0 = ap length w.last in omega (arith, e)
+message_short : (d : Sizes) (o : ℕ) (s : State) (t : ℕ) (xs : List Pending) → IsDevice d → o ≤ 64 → AtWork d o s (submissions_from t xs) → length s.message < 2 ^ 32
+message_short d o s t [] ranges small w = let e : length s.message ≡ 0 = ap length w.message in omega (arith, e)
 message_short d o s t (x ∷ xs) ranges small w = at_work_short d o s _ ranges small w
 
 counted_by : (o : ℕ) (p : Parts) (f : Option Reason) → AreParts o p → IsFitting o p f → HasCounts p
@@ -90,7 +90,7 @@ counted_by o p None are w = record {
 counted_by o p (Some e) are w = record {
   trees = stashes_few p.device 0 p.trees are.sound.ranges (trees_of_parts o p are);
   waiting = let none : length p.waiting ≡ 0 = ap length w.nothing.waiting in omega (arith, none);
-  message = let none : length p.message ≡ 0 = ap length w.rests.last in omega (arith, none);
+  message = let none : length p.message ≡ 0 = ap length w.rests.message in omega (arith, none);
 }
 
 pub counted : (o : ℕ) (p : Parts) → AreParts o p → HasCounts p

@@ -10,7 +10,7 @@ use Rattle.std.proofs.lemmas.List.{take_at, drop_at, take-append-drop, length-ap
 use Rattle.std.proofs.lemmas.List.Folds.{drop_split}
 use Rattle.sha2.specs.Sha256.{sha256}
 use Rattle.sha2.proofs.Facts256.{length-sha256}
-use Rattle.oram_run.specs.declared.events.Reason.{Reason}
+use Rattle.oram_semantics.specs.declared.events.Reason.{Reason}
 use Rattle.oram_core.specs.Parts.{Parts}
 use Rattle.oram_core.specs.declared.parts.Pending.{Pending}
 use Rattle.oram_state.specs.declared.fault.StateFault.{StateFault}

@@ -6,8 +6,8 @@ use Rattle.sha2.proofs.Facts256.{length-sha256}
 use Rattle.oram_geometry.specs.declared.Sizes.{Sizes}
 use Rattle.oram_geometry.specs.Least.{least_from}
 use Rattle.oram_geometry.specs.Sizes.{blocks_in, trees_of}
-use Rattle.oram_run.specs.declared.events.Command.TheVariants.{Read, Write}
-use Rattle.oram_run.specs.declared.events.Reason.TheVariants.{Malformed, Tampered, HostRefused}
+use Rattle.oram_semantics.specs.declared.events.Command.TheVariants.{Read, Write}
+use Rattle.oram_semantics.specs.declared.events.Reason.TheVariants.{Malformed, Tampered, HostRefused}
 use Rattle.oram_core.specs.Parts.{Parts}
 use Rattle.oram_state.specs.declared.fault.StateFault.TheVariants.{Magic, Length}
 use Rattle.oram_state.specs.declared.mode.Mode.TheVariants.{Idle, Failed, Stalled}
@@ -28,7 +28,7 @@ idle = record {
   trees = record { root = replicate 32 0; stash = [] } ∷ [];
   failure = None;
   waiting = [];
-  r = 0;
+  entry_number = 0;
   held_entry = 0;
   held_data = [];
   message = [];
@@ -40,7 +40,7 @@ abbrev fetching : Parts
 fetching = record idle { tickets = 1; waiting = record { session = 1; command = Read 5; words = 6 ∷ 3 ∷ [] } ∷ []; message = replicate 6 0 }
 
 abbrev storing : Parts
-storing = record fetching { nonce = 19; r = 1; held_data = replicate 16 0; message = replicate 646 0 }
+storing = record fetching { nonce = 19; entry_number = 1; held_data = replicate 16 0; message = replicate 646 0 }
 
 -- the host refused the fetch
 abbrev failed : Parts

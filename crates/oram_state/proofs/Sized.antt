@@ -10,15 +10,15 @@ use Rattle.oram_geometry.proofs.Measuring.{blocks_in-range}
 use Rattle.oram_bucket.specs.Bucket.{IsBlockOf}
 use Rattle.oram_bucket.specs.Cell.{Cell}
 use Rattle.oram_tree.specs.Parts.{Parts as TreeParts}
-use Rattle.oram_run.specs.Agree.{IsAllowed}
-use Rattle.oram_run.specs.Events.{address_of}
-use Rattle.oram_run.specs.Content.{stage_tree}
-use Rattle.oram_run.specs.Run.{has_bad_length}
-use Rattle.oram_run.specs.State.{State}
-use Rattle.oram_run.specs.declared.events.Command.{Command}
-use Rattle.oram_run.specs.declared.events.Command.TheVariants.{Read, Write, Discard}
-use Rattle.oram_run.specs.declared.events.Reason.{Reason}
-use Rattle.oram_run.proofs.Bounds.{depth_small}
+use Rattle.oram_semantics.specs.Agree.{IsAllowed}
+use Rattle.oram_semantics.specs.Events.{address_of}
+use Rattle.oram_semantics.specs.Content.{entry_tree}
+use Rattle.oram_semantics.specs.Run.{has_bad_length}
+use Rattle.oram_semantics.specs.State.{State}
+use Rattle.oram_semantics.specs.declared.events.Command.{Command}
+use Rattle.oram_semantics.specs.declared.events.Command.TheVariants.{Read, Write, Discard}
+use Rattle.oram_semantics.specs.declared.events.Reason.{Reason}
+use Rattle.oram_semantics.proofs.Bounds.{depth_small}
 use Rattle.oram_core.specs.Core.{AtWork, IsResting, most_named}
 use Rattle.oram_core.specs.Fitting.{AreTrees, IsFitting}
 use Rattle.oram_core.specs.Parts.{Parts, AreParts, parts_of, state_of, submission_at, submissions_from}
@@ -100,10 +100,10 @@ sized_pendings d (q ∷ qs) ranges h fits =
 
 no_work_by : (p : Parts) → p.waiting ≡ [] → IsResting (state_of p) → IsNoWork (work_of p) p.stalled
 no_work_by p none h =
-    let r : p.r ≡ 0 = h.stage in
-    let entry : p.held_entry ≡ 0 = h.named in
-    let content : p.held_data ≡ [] = h.before in
-    let message : p.message ≡ [] = h.last in
+    let r : p.entry_number ≡ 0 = h.entry_number in
+    let entry : p.held_entry ≡ 0 = h.held_entry in
+    let content : p.held_data ≡ [] = h.held_data in
+    let message : p.message ≡ [] = h.message in
     record { none = rw (none, r, entry, content, message) refl; not_stalled = h.lost }
 
 below_most : (n m : ℕ) → n ≤ m → m ≤ 2 ^ 24 → IsShort n
@@ -116,7 +116,7 @@ most_by false false deep h = pow-le-pow_right (omega arith) h
 
 named_short : (d : Sizes) (n r : ℕ) → n ≤ most_named d r → IsShort n
 named_short d n r h =
-    let tree = stage_tree d (r + r % 2) in
+    let tree = entry_tree d (r + r % 2) in
     below_most n (most_named d r) h (most_by (r == 0) (r + 1 == 2 * trees_of d) (depth_of d tree) (depth_small d tree))
 
 work_by : (o : ℕ) (p : Parts) (t : ℕ) (xs : List Pending) → p.waiting ≡ xs → length p.waiting ≤ 64 → AllByRecursion (IsSizedPending p.device) p.waiting → IsShort (length p.message)
@@ -125,9 +125,9 @@ work_by o p t [] is few commands message w = no_work_by p is w
 work_by o p t (x ∷ xs) is few commands message w = record {
   few = few;
   commands = commands;
-  step = w.stage;
-  entry = named_short p.device p.held_entry p.r w.named;
-  held = w.before;
+  step = w.entry_number;
+  entry = named_short p.device p.held_entry p.entry_number w.held_entry;
+  held = w.held_data;
   message = message;
 }
 

@@ -7,8 +7,8 @@ use Rattle.std.specs.Int.{w32}
 use Rattle.oram_geometry.specs.declared.Sizes.{Sizes}
 use Rattle.oram_bucket.specs.Cell.{Cell}
 use Rattle.oram_tree.specs.Parts.{Parts as TreeParts}
-use Rattle.oram_run.specs.declared.events.Reason.{Reason}
-use Rattle.oram_run.specs.declared.events.Reason.TheVariants.{Malformed, Tampered, HostRefused}
+use Rattle.oram_semantics.specs.declared.events.Reason.{Reason}
+use Rattle.oram_semantics.specs.declared.events.Reason.TheVariants.{Malformed, Tampered, HostRefused}
 use Rattle.oram_state.specs.declared.fault.StateFault.TheVariants.{Content}
 use Rattle.oram_state.specs.declared.mode.Mode.{Mode}
 use Rattle.oram_state.specs.declared.mode.Mode.TheVariants.{Idle, Failed, Waiting, Stalled}

@@ -7,7 +7,7 @@ use Rattle.std.proofs.lemmas.List.{nil_from_length}
 use Rattle.std.specs.Int.{w32}
 use Rattle.oram_geometry.specs.declared.Sizes.{Sizes}
 use Rattle.oram_tree.specs.Parts.{Parts as TreeParts}
-use Rattle.oram_run.specs.declared.events.Reason.{Reason}
+use Rattle.oram_semantics.specs.declared.events.Reason.{Reason}
 use Rattle.oram_core.specs.declared.parts.Pending.{Pending}
 use Rattle.oram_state.specs.declared.fault.StateFault.TheVariants.{Content}
 use Rattle.oram_state.specs.declared.mode.Mode.{Mode}

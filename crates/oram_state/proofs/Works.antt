@@ -7,8 +7,8 @@ use Rattle.std.specs.Int.{w32, w64}
 use Rattle.oram_geometry.specs.declared.Sizes.{Sizes}
 use Rattle.oram_geometry.specs.Sizes.{IsDevice, is_between, trees_of}
 use Rattle.oram_geometry.proofs.Measuring.{trees_of-few}
-use Rattle.oram_run.specs.declared.events.Command.{Command}
-use Rattle.oram_run.specs.declared.events.Command.TheVariants.{Read, Write, Discard}
+use Rattle.oram_semantics.specs.declared.events.Command.{Command}
+use Rattle.oram_semantics.specs.declared.events.Command.TheVariants.{Read, Write, Discard}
 use Rattle.oram_core.specs.declared.parts.Pending.{Pending}
 use Rattle.oram_state.specs.declared.fault.StateFault.{StateFault}
 use Rattle.oram_state.specs.declared.fault.StateFault.TheVariants.{Content}
@@ -160,12 +160,12 @@ work_again : (d : Sizes) (w : Work) (rest : List ℕ) → IsDevice d → IsAtWor
 unfolding next_work
 work_again d w rest device h =
     let s = h.sized in
-    let regrouped : work_fields w ++ rest ≡ short (length w.waiting) ++ (flat_map pending_text w.waiting ++ (short w.r ++ (short w.held_entry ++ (w.held_data ++ (short (length w.message) ++ (w.message ++ rest)))))) = simp append_assoc in
+    let regrouped : work_fields w ++ rest ≡ short (length w.waiting) ++ (flat_map pending_text w.waiting ++ (short w.entry_number ++ (short w.held_entry ++ (w.held_data ++ (short (length w.message) ++ (w.message ++ rest)))))) = simp append_assoc in
     ap (next_work d) regrouped
     ∙ goes _ _ _ _ (waiting_again d w.waiting _ (record { some = h.some; few = s.few; commands = s.commands }))
-    (goes _ _ _ _ (step_again d w.r _ s.step (omega (arith, s.step, trees_of-few d device)))
+    (goes _ _ _ _ (step_again d w.entry_number _ s.step (omega (arith, s.step, trees_of-few d device)))
     (goes _ _ _ _ (short_again w.held_entry _ s.entry)
-    (goes _ _ _ _ (bytes_again (held_len d w.r) w.held_data _ s.held)
+    (goes _ _ _ _ (bytes_again (held_len d w.entry_number) w.held_data _ s.held)
     (goes _ _ _ _ (message_again w.message rest s.message) refl))))
 
 -- the work of a core in its mode

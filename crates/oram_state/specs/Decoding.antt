@@ -1,7 +1,7 @@
 -- The core that a file belongs to, and why a text is the file of no core.
 use Rattle.std.specs.Prelude.{◌≡◌, ◌⊎◌, ℕ, List, Ok, Err}
 use Rattle.oram_geometry.specs.declared.Sizes.{Sizes}
-use Rattle.oram_run.specs.State.{State}
+use Rattle.oram_semantics.specs.State.{State}
 use Rattle.oram_core.specs.Parts.{Parts, AreParts, state_of}
 use Rattle.oram_state.specs.declared.fault.StateFault.{StateFault}
 use Rattle.oram_state.specs.declared.fault.StateFault.TheVariants.{Magic, Version, Length, Digest, Content, OutOfMemory}

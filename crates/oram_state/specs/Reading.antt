@@ -11,10 +11,10 @@ use Rattle.oram_bucket.specs.Cell.{Cell}
 use Rattle.oram_tree.specs.Parts.{Parts as TreeParts}
 use Rattle.oram_tree.specs.declared.faults.PartsFault.{PartsFault}
 use Rattle.oram_tree.specs.declared.faults.PartsFault.TheVariants as parts_fault
-use Rattle.oram_run.specs.declared.events.Command.{Command}
-use Rattle.oram_run.specs.declared.events.Command.TheVariants.{Read, Write, Discard}
-use Rattle.oram_run.specs.declared.events.Reason.{Reason}
-use Rattle.oram_run.specs.declared.events.Reason.TheVariants.{Malformed, Tampered, HostRefused}
+use Rattle.oram_semantics.specs.declared.events.Command.{Command}
+use Rattle.oram_semantics.specs.declared.events.Command.TheVariants.{Read, Write, Discard}
+use Rattle.oram_semantics.specs.declared.events.Reason.{Reason}
+use Rattle.oram_semantics.specs.declared.events.Reason.TheVariants.{Malformed, Tampered, HostRefused}
 use Rattle.oram_core.specs.declared.parts.Pending.{Pending}
 use Rattle.oram_state.specs.declared.fault.StateFault.{StateFault}
 use Rattle.oram_state.specs.declared.fault.StateFault.TheVariants.{Magic, Version, Length, Digest, Content, OutOfMemory}
@@ -192,7 +192,7 @@ next_work d text = do
   entry ← next_number w32 r.1
   held ← next_bytes (held_len d r.0) entry.1
   message ← next_message held.1
-  Ok (record { waiting = waiting.0; r = r.0; held_entry = entry.0; held_data = held.0; message = message.0 }, message.1)
+  Ok (record { waiting = waiting.0; entry_number = r.0; held_entry = entry.0; held_data = held.0; message = message.0 }, message.1)
 
 unfoldable pub next_work_in : Sizes → Mode → List ℕ → Reading Work
 next_work_in d Idle text = Ok (no_work, text)
@@ -215,7 +215,7 @@ saved_of head failure table trees work = record {
     trees = trees;
     failure = failure;
     waiting = work.waiting;
-    r = work.r;
+    entry_number = work.entry_number;
     held_entry = work.held_entry;
     held_data = work.held_data;
     message = work.message;

@@ -6,10 +6,10 @@ use Rattle.sha2.specs.Sha256.{sha256}
 use Rattle.oram_geometry.specs.declared.Sizes.{Sizes}
 use Rattle.oram_bucket.specs.Cell.{Cell}
 use Rattle.oram_tree.specs.Parts.{Parts as TreeParts}
-use Rattle.oram_run.specs.declared.events.Command.{Command}
-use Rattle.oram_run.specs.declared.events.Command.TheVariants.{Read, Write, Discard}
-use Rattle.oram_run.specs.declared.events.Reason.{Reason}
-use Rattle.oram_run.specs.declared.events.Reason.TheVariants.{Malformed, Tampered, HostRefused}
+use Rattle.oram_semantics.specs.declared.events.Command.{Command}
+use Rattle.oram_semantics.specs.declared.events.Command.TheVariants.{Read, Write, Discard}
+use Rattle.oram_semantics.specs.declared.events.Reason.{Reason}
+use Rattle.oram_semantics.specs.declared.events.Reason.TheVariants.{Malformed, Tampered, HostRefused}
 use Rattle.oram_core.specs.Parts.{Parts}
 use Rattle.oram_core.specs.declared.parts.Pending.{Pending}
 use Rattle.oram_state.specs.declared.mode.Mode.{Mode}
@@ -58,18 +58,18 @@ failure_text (Some why) = reason_text why
 -- the parts that only a core at work has
 pub record Work : Type 0 where
   pub waiting : List Pending
-  pub r : ℕ
+  pub entry_number : ℕ
   pub held_entry : ℕ
   pub held_data : List ℕ
   pub message : List ℕ
 
 abbrev pub work_of : Parts → Work
-work_of p = record { waiting = p.waiting; r = p.r; held_entry = p.held_entry; held_data = p.held_data; message = p.message }
+work_of p = record { waiting = p.waiting; entry_number = p.entry_number; held_entry = p.held_entry; held_data = p.held_data; message = p.message }
 
 -- the commands without a reply, how far the first of them is, and the message sent last
 abbrev pub work_fields : Work → List ℕ
 work_fields w =
-    short (length w.waiting) ++ flat_map pending_text w.waiting ++ short w.r ++ short w.held_entry ++ w.held_data
+    short (length w.waiting) ++ flat_map pending_text w.waiting ++ short w.entry_number ++ short w.held_entry ++ w.held_data
     ++ short (length w.message) ++ w.message
 
 -- a core for which no command waits has no work

@@ -6,9 +6,9 @@ use Rattle.oram_geometry.specs.declared.Sizes.{Sizes}
 use Rattle.oram_geometry.specs.Sizes.{IsDevice, blocks_in, trees_of}
 use Rattle.oram_bucket.specs.Cell.{Cell}
 use Rattle.oram_tree.specs.Parts.{Parts as TreeParts}
-use Rattle.oram_run.specs.declared.events.Command.{Command}
-use Rattle.oram_run.specs.declared.events.Command.TheVariants.{Read, Write, Discard}
-use Rattle.oram_run.specs.declared.events.Reason.{Reason}
+use Rattle.oram_semantics.specs.declared.events.Command.{Command}
+use Rattle.oram_semantics.specs.declared.events.Command.TheVariants.{Read, Write, Discard}
+use Rattle.oram_semantics.specs.declared.events.Reason.{Reason}
 use Rattle.oram_core.specs.Parts.{Parts}
 use Rattle.oram_core.specs.declared.parts.Pending.{Pending}
 use Rattle.oram_state.specs.Spelling.{Work, work_of, state_file}
@@ -57,14 +57,14 @@ held_len d r = if r + 1 == 2 * trees_of d then d.block_bytes else 0
 pub record IsSizedWork (d : Sizes) (w : Work) : Type 0 where
   pub few : length w.waiting ≤ 64
   pub commands : AllByRecursion (IsSizedPending d) w.waiting
-  pub step : w.r < 2 * trees_of d
+  pub step : w.entry_number < 2 * trees_of d
   pub entry : IsShort w.held_entry
-  pub held : length w.held_data ≡ held_len d w.r
+  pub held : length w.held_data ≡ held_len d w.entry_number
   pub message : IsShort (length w.message)
 
 -- no work
 abbrev pub no_work : Work
-no_work = record { waiting = []; r = 0; held_entry = 0; held_data = []; message = [] }
+no_work = record { waiting = []; entry_number = 0; held_entry = 0; held_data = []; message = [] }
 
 pub record IsNoWork (w : Work) (stalled : Bool) : Type 0 where
   pub none : w ≡ no_work

@@ -6,26 +6,26 @@
 
 ghost use Rattle.std.specs.Prelude.{◌≡◌, ◌↔◌, ◌<◌, ◌^◌, ℕ, List, All, Ok, length};
 ghost use Rattle.oram_geometry.specs.declared.Sizes.{Sizes};
-ghost use Rattle.oram_run.specs.State.{State};
+ghost use Rattle.oram_semantics.specs.State.{State};
 ghost use Rattle.oram_core.specs.Parts.{Parts};
 ghost use Rattle.oram_state.specs.Decoding.{IsSaved};
 ghost use Rattle.oram_state.specs.Reading.{state_in};
 ghost use Rattle.oram_state.specs.WellSized.{IsFileOf};
 
-mod decoding;
-mod encoding;
+mod decoder;
+mod encoder;
 mod fault;
 mod fields;
-mod framing;
+mod frame;
 mod kept;
 mod mode;
-mod reading;
+mod reader;
 mod saved;
 mod work;
-mod writing;
+mod writer;
 
-pub use decoding::decode_state;
-pub use encoding::encode_state;
+pub use decoder::decode_state;
+pub use encoder::encode_state;
 pub use fault::StateFault;
 
 /// A law: reading a text of bytes gives a core's parts and a sealer's overhead exactly if the text is their file, in one

@@ -28,7 +28,7 @@ pub(crate) struct Head {
 #[derive(Debug, Drop)]
 pub(crate) struct Work {
     pub(crate) waiting: Vec<Pending>,
-    pub(crate) r: u32,
+    pub(crate) entry_number: u32,
     pub(crate) held_entry: u32,
     pub(crate) held_data: Bytes,
     pub(crate) message: Bytes,
@@ -41,7 +41,7 @@ impl Model for Work {
 
     ghost view = { λ w. record {
       waiting = w.waiting.items;
-      r = w.r;
+      entry_number = w.entry_number;
       held_entry = w.held_entry;
       held_data = w.held_data;
       message = w.message;

@@ -152,7 +152,7 @@ fn read_work<'a>(
     Ok((
         Work {
             waiting,
-            r,
+            entry_number: r,
             held_entry,
             held_data,
             message,
@@ -196,7 +196,7 @@ fn no_work(alloc: Global) -> Work
 {
     Work {
         waiting: Vec::new(alloc),
-        r: 0,
+        entry_number: 0,
         held_entry: 0,
         held_data: Bytes::from_vec(Vec::new(alloc)),
         message: Bytes::from_vec(Vec::new(alloc)),

@@ -292,12 +292,12 @@ module _ {F : Type 0} (failures shortages : F → ℕ → Type 0) (is_honest : F
   reason_then old mid new fault.NoRoom runs same reason = λ n h. reason n (runs.after.short n h)
   reason_then old mid new fault.OutOfMemory runs same reason = reason
   reason_then old mid new fault.Busy runs same reason = reason
-  reason_then old mid new fault.NotOurs runs same reason = reason
-  reason_then old mid new fault.OldKind runs same reason = reason
+  reason_then old mid new fault.NotABucketFile runs same reason = reason
+  reason_then old mid new fault.OlderVersion runs same reason = reason
   reason_then old mid new fault.NewerKind runs same reason = reason
   reason_then old mid new fault.WithoutLog runs same reason = reason
-  reason_then old mid new fault.OthersLog runs same reason = reason
-  reason_then old mid new fault.LogAlone runs same reason = reason
+  reason_then old mid new fault.LogOfAnotherFile runs same reason = reason
+  reason_then old mid new fault.LogWithoutFile runs same reason = reason
   reason_then old mid new fault.Damaged runs same reason = reason
 
   pub calls_then : {T : Type 0} (result : Result T StoreFault) (old mid new : FileValue F) → Runs failures shortages is_honest old mid → mid.has_stopped ≡ old.has_stopped

@@ -17,7 +17,7 @@ use Rattle.oram_redo.specs.Log.{AgreesBut, put_all}
 use Rattle.oram_redo.specs.declared.file_pair.FileKind.TheVariants.{Records}
 use Rattle.oram_store.specs.Crashes.{IsCarriedOut, MayBeFound, MayHold, Serves, ServesWhole}
 use Rattle.oram_store.specs.Keeping.{Holds, IsSound, IsSoundFile, StoreValue, records_of, sure_records}
-use Rattle.oram_store.specs.Refusals.{Leads}
+use Rattle.oram_store.specs.Refusals.{ChangesTrees}
 use Rattle.oram_store.specs.RecordFile.{Commits, OnlyIf}
 use Rattle.oram_store.specs.declared.faults.StoreFault.{StoreFault}
 use Rattle.oram_wire.specs.declared.host_messages.HostAnswer.{HostAnswer}
@@ -37,7 +37,7 @@ adds_there trees number tree low all free =
       others = λ n ne. get_or-set_other trees number n (Some tree) None ne;
     }
 
-pub leads_there : (old new : Trees) (number depth record_len : ℕ) (tree : Tree) → AddsTree old number tree new → sizes_of tree.shape ≡ record { depth = depth; record_len = record_len } → Leads old (request.Shape number depth record_len) new
+pub leads_there : (old new : Trees) (number depth record_len : ℕ) (tree : Tree) → AddsTree old number tree new → sizes_of tree.shape ≡ record { depth = depth; record_len = record_len } → ChangesTrees old (request.Shape number depth record_len) new
 leads_there old new number depth record_len tree adds sizes other = go (other == number) refl
   where
     go : (b : Bool) → (other == number) ≡ b → shape_at new other ≡ (if other == number then Some (record { depth = depth; record_len = record_len }) else shape_at old other)
@@ -50,7 +50,7 @@ leads_there old new number depth record_len tree adds sizes other = go (other ==
 
 module _ {F : Type 0} (seen : F → Contents) (may_leave : F → Contents → Type 0) (moment : F → ℕ) (left_since : F → ℕ → Contents → Type 0)
     (number depth record_len : ℕ) (tree : Tree) (more : Trees) (mid new : StoreValue F) (s : IsSound seen may_leave mid) (none : mid.pending ≡ []) (still : new.pending ≡ [])
-    (adds : AddsTree mid.trees number tree more) (leads : Leads mid.trees (request.Shape number depth record_len) more) (base : tree.base ≡ next_of mid.trees) where
+    (adds : AddsTree mid.trees number tree more) (leads : ChangesTrees mid.trees (request.Shape number depth record_len) more) (base : tree.base ≡ next_of mid.trees) where
   before : sure_records seen mid ≡ records_of seen mid
   before = ap (λ (l : List ℕ). λ t n. records_in mid.trees (put_all (marks l) (seen mid.file.files Records)) t n) (sym none)
 

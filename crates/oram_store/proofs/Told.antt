@@ -13,10 +13,10 @@ use Rattle.oram_store.specs.Serving.{StandsBehind, StandsFor}
 use Rattle.oram_store.specs.Keeping.{StoreValue}
 use Rattle.oram_store.specs.Reasons.{IsReasonFor}
 use Rattle.oram_store.specs.RecordFile.{IsReason}
-use Rattle.oram_store.specs.Refusals.{IsTold, Leads, refusal_by}
+use Rattle.oram_store.specs.Refusals.{RespondsWith, ChangesTrees, refusal_by}
 use Rattle.oram_store.specs.declared.faults.StoreFault.{StoreFault}
 use Rattle.oram_layout.specs.Trees.{Trees}
-use Rattle.oram_store.specs.declared.answering.Served.TheVariants as served
+use Rattle.oram_store.specs.declared.answers.Served.TheVariants as served
 
 pub records_behind : (front : List ℕ) (message : HostRequest) (bytes : _) → StandsBehind front message (served.Records bytes) → IsBehind front FitsAnswer bytes.items
 records_behind front (request.Fetch tree leaf) bytes h = h
@@ -26,13 +26,13 @@ records_behind front (request.Shape tree depth record_len) bytes h = absurd h
 
 module _ (old new : Trees) (front : List ℕ) where
   pub told_records : (message : HostRequest) (bytes : _) (records : List ℕ) → StandsBehind front message (served.Records bytes) → refusal_by old message ≡ None
-      → Leads old message new → IsTold old message (Payload records) new
+      → ChangesTrees old message new → RespondsWith old message (Payload records) new
   told_records (request.Fetch tree leaf) bytes records h allowed leads = (allowed, leads)
   told_records (request.Store tree leaf sent) bytes records h allowed leads = absurd h
   told_records (request.Put tree node sent) bytes records h allowed leads = absurd h
   told_records (request.Shape tree depth record_len) bytes records h allowed leads = absurd h
 
-  pub told_done : (message : HostRequest) → StandsBehind front message served.Done → refusal_by old message ≡ None → Leads old message new → IsTold old message Done new
+  pub told_done : (message : HostRequest) → StandsBehind front message served.Done → refusal_by old message ≡ None → ChangesTrees old message new → RespondsWith old message Done new
   told_done (request.Fetch tree leaf) h allowed leads = absurd h
   told_done (request.Store tree leaf sent) h allowed leads = (allowed, leads)
   told_done (request.Put tree node sent) h allowed leads = (allowed, leads)

@@ -12,7 +12,7 @@ use Rattle.oram_layout.specs.Records.{AreKept, Records, records_in}
 use Rattle.oram_layout.specs.Trees.{Trees, shape_at}
 use Rattle.oram_store.specs.Answers.{Answers}
 use Rattle.oram_store.specs.Keeping.{Holds, IsSound, Puts, StoreValue, Stores, records_of, sure_records}
-use Rattle.oram_store.specs.Refusals.{Leads}
+use Rattle.oram_store.specs.Refusals.{ChangesTrees}
 use Rattle.oram_store.specs.RecordFile.{Finds, OnlyIf}
 
 -- the content is that of a bucket file after a request was carried out over these trees and records
@@ -21,7 +21,7 @@ IsCarriedOut trees old (request.Fetch tree leaf) c = Holds trees old c
 IsCarriedOut trees old (request.Store tree leaf records) c =
     IsBucketFile trees c × (s : TreeShape) × (shape_at trees tree ≡ Some s) × Stores tree s leaf records old (records_in trees c)
 IsCarriedOut trees old (request.Put tree node bytes) c = IsBucketFile trees c × Puts tree node bytes old (records_in trees c)
-IsCarriedOut trees old (request.Shape tree depth record_len) c = (new : Trees) × Leads trees (request.Shape tree depth record_len) new × Holds new old c
+IsCarriedOut trees old (request.Shape tree depth record_len) c = (new : Trees) × ChangesTrees trees (request.Shape tree depth record_len) new × Holds new old c
 
 -- the records that were sure, or all records that there were
 abbrev pub MayHold : Trees → Records → Records → Content → Type 0

@@ -28,10 +28,10 @@ refusal_by trees (request.Put tree node bytes) =
 refusal_by trees (request.Shape tree depth record_len) = unless (is_shape depth record_len) BadLength (unless (is_none (shape_at trees tree)) ShapeTaken None)
 
 -- the trees before and after a request that was carried out
-abbrev pub Leads : Trees → HostRequest → Trees → Type 0
-Leads old (request.Shape tree depth record_len) new =
+abbrev pub ChangesTrees : Trees → HostRequest → Trees → Type 0
+ChangesTrees old (request.Shape tree depth record_len) new =
     (other : ℕ) → shape_at new other ≡ (if other == tree then Some (record { depth = depth; record_len = record_len }) else shape_at old other)
-Leads old message new = new ≡ old
+ChangesTrees old message new = new ≡ old
 
 -- why a request that the trees don't refuse may not be carried out: a record is missing, or there is no room
 abbrev MayFail : HostRequest → HostRefusal → Type 0
@@ -42,9 +42,9 @@ abbrev pub IsRefused : Trees → HostRequest → HostRefusal → Type 0
 IsRefused trees message why = (refusal_by trees message ≡ Some why) ⊎ ((refusal_by trees message ≡ None) × MayFail message why)
 
 -- the answer to a request, and the trees after it
-abbrev pub IsTold : Trees → HostRequest → HostAnswer → Trees → Type 0
-IsTold old message (answer.Refused code) new = (why : HostRefusal) × (code ≡ code_of why) × IsRefused old message why × (new ≡ old)
-IsTold old (request.Fetch tree leaf) (answer.Payload bytes) new = (refusal_by old (request.Fetch tree leaf) ≡ None) × (new ≡ old)
-IsTold old (request.Fetch tree leaf) answer.Done new = ⊥
-IsTold old message answer.Done new = (refusal_by old message ≡ None) × Leads old message new
-IsTold old message (answer.Payload bytes) new = ⊥
+abbrev pub RespondsWith : Trees → HostRequest → HostAnswer → Trees → Type 0
+RespondsWith old message (answer.Refused code) new = (why : HostRefusal) × (code ≡ code_of why) × IsRefused old message why × (new ≡ old)
+RespondsWith old (request.Fetch tree leaf) (answer.Payload bytes) new = (refusal_by old (request.Fetch tree leaf) ≡ None) × (new ≡ old)
+RespondsWith old (request.Fetch tree leaf) answer.Done new = ⊥
+RespondsWith old message answer.Done new = (refusal_by old message ≡ None) × ChangesTrees old message new
+RespondsWith old message (answer.Payload bytes) new = ⊥

@@ -5,8 +5,8 @@ use Rattle.oram_wire.specs.declared.host_messages.HostAnswer.TheVariants.{Done, 
 use Rattle.oram_wire.specs.declared.host_messages.HostRequest.{HostRequest}
 use Rattle.oram_wire.specs.declared.host_messages.HostRequest.TheVariants as request
 use Rattle.oram_host.specs.Path.{FitsAnswer, IsBehind}
-use Rattle.oram_store.specs.declared.answering.Served.{Served}
-use Rattle.oram_store.specs.declared.answering.Served.TheVariants as served
+use Rattle.oram_store.specs.declared.answers.Served.{Served}
+use Rattle.oram_store.specs.declared.answers.Served.TheVariants as served
 
 -- the records that a FETCH asks for come after `front` and fit in an answer; any other request is done
 abbrev pub StandsBehind : List ℕ → HostRequest → Served → Type 0

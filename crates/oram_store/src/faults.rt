@@ -14,10 +14,10 @@ pub enum StoreFault {
     Busy,
     /// The file isn't a file of buckets.
     #[error("it isn't a file of buckets")]
-    NotOurs,
+    NotABucketFile,
     /// The file is of the kind that an earlier version wrote.
     #[error("it is of the kind that an earlier version wrote: format the disk anew over a new file")]
-    OldKind,
+    OlderVersion,
     /// The file is of a later version.
     #[error("a later version wrote it: serve it with that version")]
     NewerKind,
@@ -26,10 +26,10 @@ pub enum StoreFault {
     WithoutLog,
     /// The log beside the file belongs to another file.
     #[error("the file beside it with -log behind its name isn't its log: the two belong together, so put back the log that it was served with last")]
-    OthersLog,
+    LogOfAnotherFile,
     /// There is a log that holds records, but no file of buckets beside it.
     #[error("it isn't there, but its log is, the file beside it with -log behind its name: the two belong together, so put the file back, or move the log away for a new one")]
-    LogAlone,
+    LogWithoutFile,
     /// The file holds something that no store writes.
     #[error("it is damaged")]
     Damaged,

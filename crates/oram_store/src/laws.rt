@@ -8,13 +8,13 @@ ghost use Rattle.oram_store.specs.Crashes.{Serves};
 ghost use Rattle.oram_store.specs.Keeping.{Holds, IsSound, sure_records};
 ghost use Rattle.oram_store.specs.Laws.{HoldsPath};
 ghost use Rattle.oram_store.specs.RecordFile.{Finds, Runs};
-ghost use Rattle.oram_store.specs.Refusals.{IsTold};
+ghost use Rattle.oram_store.specs.Refusals.{RespondsWith};
 ghost use Rattle.oram_wire.specs.HostReading.{HasNumbers};
 ghost use Rattle.oram_wire.specs.declared.host_messages.HostAnswer.{HostAnswer};
 
+use crate::creation::create;
 use crate::faults::StoreFault;
-use crate::making::create;
-use crate::storing::Store;
+use crate::store::FileStore;
 use oram_bytes::Bytes;
 use oram_layout::{Identity, Shape};
 use oram_redo::FilePair;
@@ -22,7 +22,7 @@ use oram_wire::{HostAnswer, HostRequest};
 use std::alloc::{AllocError, Global};
 
 /// A crash between two calls leaves files in which the sure records are found.
-pub fn found_again<F: FilePair>(store: &Store<F>)
+pub fn found_again<F: FilePair>(store: &FileStore<F>)
     ensures { IsSound F.seen F.may_leave store.now → (c : Contents) → F.may_leave store.now.file.files c
         → Finds (F.seen store.now.file.files) (Holds store.now.trees (sure_records F.seen store.now)) c }
 {}
@@ -37,13 +37,13 @@ pub fn first_life<F: FilePair + Drop>(
     shape: Shape,
     leaf: u32,
     records: Bytes,
-) -> Result<Option<Store<F>>, StoreFault>
+) -> Result<Option<FileStore<F>>, StoreFault>
     requires { (file : _) (i : ℕ) → F.seen files file i ≡ 0 }
     ensures { IfOk result (λ stored. IfSome stored (λ store. F.is_honest store.file.files → (c : Contents) → F.may_leave store.file.files c
         → Finds (F.seen store.file.files) (HoldsPath store.trees tree (sizes_of shape) leaf records) c)) }
 {
     create(&mut files, identity)?;
-    let mut store = Store::over(alloc, files)?;
+    let mut store = FileStore::over(alloc, files)?;
     let shaping = HostRequest::Shape {
         tree,
         depth: shape.depth,
@@ -66,11 +66,11 @@ pub fn first_life<F: FilePair + Drop>(
 /// Sends a request to a store, and returns whether it was done.
 fn is_done<F: FilePair>(
     alloc: Global,
-    store: &mut Store<F>,
+    store: &mut FileStore<F>,
     request: &HostRequest,
 ) -> Result<bool, AllocError>
     requires { HasNumbers request.now }
-    ensures told { IfOk result (λ done. done ≡ true → IsTold store.old.trees request.now HostAnswer.Done store.new.trees) }
+    ensures told { IfOk result (λ done. done ≡ true → RespondsWith store.old.trees request.now HostAnswer.Done store.new.trees) }
     ensures goes_on { IfOk result (λ done. done ≡ true → store.new.file.has_stopped ≡ false) }
     ensures committed { IfOk result (λ done. done ≡ true → IsKeptAtOnce request.now → store.new.pending ≡ []) }
     ensures serves { IfOk result (λ done. done ≡ true → F.is_honest store.new.file.files → IsSound F.seen F.may_leave store.old

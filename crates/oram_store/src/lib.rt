@@ -6,19 +6,19 @@
 //! formatting become durable in groups.
 #![tactic(auto)]
 
-mod answering;
+mod answers;
 mod batches;
 mod cells;
+mod creation;
 mod faults;
+mod files;
 mod laws;
-mod making;
-mod opening;
 mod record_file;
 mod sinks;
-mod storing;
+mod store;
 
+pub use creation::create;
 pub use faults::StoreFault;
+pub use files::{BucketFile, open_store};
 pub use laws::{first_life, found_again};
-pub use making::create;
-pub use opening::{BucketFile, open_store};
-pub use storing::Store;
+pub use store::FileStore;

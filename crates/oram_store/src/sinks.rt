@@ -1,12 +1,12 @@
 //! A store as the sink that takes the messages of a formatting.
 
-use crate::storing::Store;
+use crate::store::FileStore;
 use oram_host::HostRefusal;
 use oram_redo::FilePair;
 use oram_wire::{HostAnswer, Sink, SinkFault};
 
 // The sink hands each body to the store. Its contract doesn't say what the store keeps then.
-impl<F: FilePair> Sink for Store<F> {
+impl<F: FilePair> Sink for FileStore<F> {
     ghost use Rattle.std.specs.Prelude.{⊤};
 
     ghost putting = { λ _ _ _. ⊤ };

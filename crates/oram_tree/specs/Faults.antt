@@ -1,6 +1,6 @@
 -- The fault of a tree that a fault of a layer below becomes.
-use Rattle.oram_bucket.specs.declared.sealing.OpenFault.{OpenFault}
-use Rattle.oram_bucket.specs.declared.sealing.OpenFault.TheVariants as opening
+use Rattle.oram_bucket.specs.declared.sealer.OpenFault.{OpenFault}
+use Rattle.oram_bucket.specs.declared.sealer.OpenFault.TheVariants as opening
 use Rattle.oram_wire.specs.declared.sinks.SinkFault.{SinkFault}
 use Rattle.oram_wire.specs.declared.sinks.SinkFault.TheVariants as putting
 use Rattle.oram_tree.specs.declared.faults.FormatFault.{FormatFault}

@@ -20,24 +20,24 @@ ghost use Rattle.oram_tree.specs.Format.{PutsAll, IsFormat, IsBegun, IsBrokenOff
 
 mod edits;
 mod faults;
-mod formatting;
-mod gathering;
 mod parts;
-mod rewriting;
+mod path_blocks;
+mod path_rewrite;
+mod tree_format;
 
 pub use edits::Edit;
 pub use faults::{FormatFault, PartsFault, TreeFault};
-use formatting::format_tree;
 use oram_bucket::Sealer;
 use oram_geometry::Device;
 use oram_hash::{DIGEST_LEN, HashFault, PathView, check_path};
 use oram_stash::Stash;
 use oram_wire::{Sink, SinkFault};
 pub use parts::{TreeParts, parts_make_their_tree};
-use rewriting::rewrite;
-pub use rewriting::{Access, Lookup};
+use path_rewrite::rewrite;
+pub use path_rewrite::{Access, Lookup};
 use std::alloc::Global;
 use std::marker::Model;
+use tree_format::format_tree;
 
 /// A tree as its client knows it: its number, the digest of its root's record, and its stash.
 #[derive(Debug, Drop)]

@@ -1,20 +1,20 @@
 -- What a kept core with its link holds, after a command and after what waited.
 use Rattle.std.proofs.Common.{◌≡◌, ◌≢◌, ◌⊎◌, ℕ, Bool, true, false, List, [], ◌∷◌, length, Option, Some, None, is_some, Result, Ok, Err, IfOk, IsErrOf, OnOk, refl, sym, ◌∙◌, subst, inl, inr}
 use Rattle.oram_host.specs.Host.{Host}
-use Rattle.oram_run.specs.Blocks.{body_from}
-use Rattle.oram_run.specs.Events.{address_of}
-use Rattle.oram_run.specs.Serving.{array_after}
-use Rattle.oram_run.specs.Shape.{Shape}
-use Rattle.oram_run.specs.State.{State, status_in}
-use Rattle.oram_run.specs.declared.events.Command.{Command}
-use Rattle.oram_run.specs.declared.events.Command.TheVariants.{Discard, Read, Write}
-use Rattle.oram_run.specs.declared.events.Event.TheVariants.{Reopen}
-use Rattle.oram_run.specs.declared.events.Reason.{Reason}
-use Rattle.oram_run.specs.declared.events.Reply.{Reply}
-use Rattle.oram_run.specs.declared.events.ReplyBody.{ReplyBody}
-use Rattle.oram_run.specs.declared.events.ReplyBody.TheVariants.{Failed}
-use Rattle.oram_run.specs.declared.events.Refusal.{Refusal}
-use Rattle.oram_core.specs.Core.{CoreValue, IsSameDevice, shape_of}
+use Rattle.oram_semantics.specs.Blocks.{body_from}
+use Rattle.oram_semantics.specs.Events.{address_of}
+use Rattle.oram_semantics.specs.Serving.{array_after}
+use Rattle.oram_semantics.specs.Scheme.{Scheme}
+use Rattle.oram_semantics.specs.State.{State, status_in}
+use Rattle.oram_semantics.specs.declared.events.Command.{Command}
+use Rattle.oram_semantics.specs.declared.events.Command.TheVariants.{Discard, Read, Write}
+use Rattle.oram_semantics.specs.declared.events.Event.TheVariants.{Reopen}
+use Rattle.oram_semantics.specs.declared.events.Reason.{Reason}
+use Rattle.oram_semantics.specs.declared.events.Reply.{Reply}
+use Rattle.oram_semantics.specs.declared.events.ReplyBody.{ReplyBody}
+use Rattle.oram_semantics.specs.declared.events.ReplyBody.TheVariants.{Failed}
+use Rattle.oram_semantics.specs.declared.events.Refusal.{Refusal}
+use Rattle.oram_core.specs.Core.{CoreValue, IsSameDevice, scheme_of}
 use Rattle.oram_session.specs.Exchanges.{Runs}
 use Rattle.oram_session.specs.Honesty.{IsHeld}
 use Rattle.oram_session.specs.Outcome.{Outcome}
@@ -50,13 +50,13 @@ settled_or s = by (is_settled_by (status_in s)) refl
     by false e = inr (λ settled. let both = sym settled ∙ e in cc)
 
 -- where nothing waits the device holds the array now, or has failed
-holds_now : (may_lie : Bool) (v : Shape) {L : Type 0} (host_of : L → Host) (s : State) (l : L) (array : ℕ → List ℕ) → IsSettled s
+holds_now : (may_lie : Bool) (v : Scheme) {L : Type 0} (host_of : L → Host) (s : State) (l : L) (array : ℕ → List ℕ) → IsSettled s
     → Recovers may_lie v host_of s l array → Holds may_lie v host_of s l array
 holds_now may_lie v host_of s l array settled (inl rests) = rests
 holds_now may_lie v host_of s l array settled (inr r) = absurd (let both = sym (resting s settled r.2.alive) ∙ r.2.queue in cc)
 
 -- over an honest host it has not
-pub alive : (v : Shape) {L : Type 0} (calls : L → List ℕ → Outcome → L → Type 0) (s : State) (l : L) (array : ℕ → List ℕ) → IsSettled s
+pub alive : (v : Scheme) {L : Type 0} (calls : L → List ℕ → Outcome → L → Type 0) (s : State) (l : L) (array : ℕ → List ℕ) → IsSettled s
     → HoldsArray false v calls s l array → s.failure ≡ None
 alive v calls s l array settled h = elim (holds_now false v h.host_of s l array settled h.recovers) [
   | inl held ↦ held.alive
@@ -64,14 +64,14 @@ alive v calls s l array settled h = elim (holds_now false v h.host_of s l array 
 ]
 
 -- also where a command is at work
-pub unfailed : (v : Shape) {L : Type 0} (calls : L → List ℕ → Outcome → L → Type 0) (s : State) (l : L) (array : ℕ → List ℕ)
+pub unfailed : (v : Scheme) {L : Type 0} (calls : L → List ℕ → Outcome → L → Type 0) (s : State) (l : L) (array : ℕ → List ℕ)
     → HoldsArray false v calls s l array → s.failure ≡ None
 unfailed v calls s l array h = elim h.recovers [
   | inl rests ↦ elim rests [ inl held ↦ held.alive | inr lost ↦ absurd (let lies = lost.0 in cc) ]
   | inr busy ↦ busy.2.alive
 ]
 
-module _ (may_lie : Bool) (v : Shape) {L : Type 0} (calls : L → List ℕ → Outcome → L → Type 0) where
+module _ (may_lie : Bool) (v : Scheme) {L : Type 0} (calls : L → List ℕ → Outcome → L → Type 0) where
   pub still_holds : (s t : State) (l m : L) (array : ℕ → List ℕ) → t ≡ s → m ≡ l → HoldsArray may_lie v calls s l array → HoldsArray may_lie v calls t m array
   still_holds s t l m array core link h =
       subst (λ (u : State). HoldsArray may_lie v calls u m array) (sym core) (subst (λ (k : L). HoldsArray may_lie v calls s k array) (sym link) h)
@@ -183,11 +183,11 @@ module _ (may_lie : Bool) (v : Shape) {L : Type 0} (calls : L → List ℕ → O
 
 -- what waited is settled, and then a command carried out
 module _ {S : Type 0} (overhead : S → ℕ) (sealing : S → ℕ → List ℕ → List ℕ) (opening : S → List ℕ → Option (List ℕ)) (first mid : CoreValue S) (kept : IsSameDevice first mid) {L K : Type 0} (calls : L → List ℕ → Outcome → L → Type 0) (keeps : K → List ℕ → Bool → K → Type 0) (first_link link : L) (keeper : K) (t : State) (m : L) (j : K) (words : ℕ → ℕ → List ℕ) (c : Command) (settled : IsSettled mid.state) where
-  abbrev v : Shape
-  v = shape_of overhead sealing opening first
+  abbrev v : Scheme
+  v = scheme_of overhead sealing opening first
 
-  abbrev w : Shape
-  w = shape_of overhead sealing opening mid
+  abbrev w : Scheme
+  w = scheme_of overhead sealing opening mid
 
   same : w ≡ v
   same = same_shape overhead sealing opening first mid kept
@@ -196,7 +196,7 @@ module _ {S : Type 0} (overhead : S → ℕ) (sealing : S → ℕ → List ℕ �
   StillHolds = (may_lie : Bool) (array : ℕ → List ℕ) → HoldsArray may_lie v calls first.state first_link array → HoldsArray may_lie v calls mid.state link array
 
   begun_by : StillHolds → (may_lie : Bool) (array : ℕ → List ℕ) → HoldsArray may_lie v calls first.state first_link array → HoldsArray may_lie w calls mid.state link array
-  begun_by holds may_lie array h = subst (λ (u : Shape). HoldsArray may_lie u calls mid.state link array) (sym same) (holds may_lie array h)
+  begun_by holds may_lie array h = subst (λ (u : Scheme). HoldsArray may_lie u calls mid.state link array) (sym same) (holds may_lie array h)
 
   -- the reply is right, or a lie failed the device
   pub told_right : is_some mid.state.failure ≡ false → StillHolds → (asked : Asked) (body : ReplyBody) → asked ≡ Replied body
@@ -206,7 +206,7 @@ module _ {S : Type 0} (overhead : S → ℕ) (sealing : S → ℕ → List ℕ �
   told_right well holds asked body is done may_lie array h =
       let d : IsCarriedOut w calls keeps words c mid.state link keeper (Replied body) t m j = subst (λ (a : Asked). IsCarriedOut w calls keeps words c mid.state link keeper a t m j) is done in
       let r = replied may_lie w calls keeps mid.state link keeper t m j array (begun_by holds may_lie array h) words c settled (none_by mid.state.failure well) body d in
-      (r.0, subst (λ (u : Shape). HoldsArray may_lie u calls t m (array_after u.device c array)) same r.1)
+      (r.0, subst (λ (u : Scheme). HoldsArray may_lie u calls t m (array_after u.device c array)) same r.1)
 
   pub told_fault : is_some mid.state.failure ≡ false → StillHolds → (e : KeepFault)
       → (e ≡ Stalled → (kept : State) → HasStalledAt w calls keeps (λ a b. IsAccepted w words a c b) mid.state link keeper t m j kept)
@@ -215,7 +215,7 @@ module _ {S : Type 0} (overhead : S → ℕ) (sealing : S → ℕ → List ℕ �
       → (may_lie : Bool) (array : ℕ → List ℕ) → HoldsArray may_lie v calls first.state first_link array
       → HoldsArray may_lie v calls t m array ⊎ HoldsArray may_lie v calls t m (array_after v.device c array)
   told_fault well holds e stalled unkept memory may_lie array h =
-      subst (λ (u : Shape). HoldsArray may_lie u calls t m array ⊎ HoldsArray may_lie u calls t m (array_after u.device c array)) same
+      subst (λ (u : Scheme). HoldsArray may_lie u calls t m array ⊎ HoldsArray may_lie u calls t m (array_after u.device c array)) same
       (faulted may_lie w calls keeps mid.state link keeper t m j array (begun_by holds may_lie array h) words c settled (none_by mid.state.failure well) e stalled unkept memory)
 
   -- the command is left or refused, behind what waited
@@ -229,7 +229,7 @@ module _ {S : Type 0} (overhead : S → ℕ) (sealing : S → ℕ → List ℕ �
       keeper = keeper;
       through = through;
       settled = settled;
-      held = subst (λ (u : Shape). IsLeftUndone u calls keeps (λ a b. IsAccepted u words a c b) mid.state link keeper t m j
+      held = subst (λ (u : Scheme). IsLeftUndone u calls keeps (λ a b. IsAccepted u words a c b) mid.state link keeper t m j
           ⊎ ((why : Refusal) × IsRefused u words mid.state c why t × (t ≡ mid.state) × (m ≡ link) × (j ≡ keeper))) same held;
     }))
 

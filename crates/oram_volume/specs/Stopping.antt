@@ -1,16 +1,16 @@
 -- Why a volume stops.
 use Rattle.std.specs.Prelude.{◌≡◌, ◌⊎◌, ℕ, Bool, List}
-use Rattle.oram_run.specs.Shape.{Shape}
-use Rattle.oram_run.specs.State.{State}
-use Rattle.oram_run.specs.declared.events.Command.{Command}
-use Rattle.oram_run.specs.declared.events.Refusal.{Refusal}
-use Rattle.oram_run.specs.declared.events.Reply.{Reply}
+use Rattle.oram_semantics.specs.Scheme.{Scheme}
+use Rattle.oram_semantics.specs.State.{State}
+use Rattle.oram_semantics.specs.declared.events.Command.{Command}
+use Rattle.oram_semantics.specs.declared.events.Refusal.{Refusal}
+use Rattle.oram_semantics.specs.declared.events.Reply.{Reply}
 use Rattle.oram_session.specs.Outcome.{Outcome}
 use Rattle.oram_session.specs.Settled.{IsSettled}
 use Rattle.oram_keep.specs.Asking.{HasGivenAll, HasStalledAt, IsAccepted, IsRefused, IsReopened, IsUnkeptAt}
 
 -- of a core with its link and keeper, before and after
-module _ (v : Shape) {L K : Type 0} (calls : L → List ℕ → Outcome → L → Type 0) (keeps : K → List ℕ → Bool → K → Type 0) where
+module _ (v : Scheme) {L K : Type 0} (calls : L → List ℕ → Outcome → L → Type 0) (keeps : K → List ℕ → Bool → K → Type 0) where
   -- work that begins so was left: a message stalled four times, or the keeper failed
   abbrev pub IsLeftUndone : (State → State → Type 0) → State → L → K → State → L → K → Type 0
   IsLeftUndone begins s l k t m j =

@@ -7,13 +7,13 @@ use oram_bucket::Sealer;
 use oram_bytes::Bytes;
 use oram_core::{Command, ReplyBody};
 use oram_keep::Keeper;
-use oram_nbd::{Disk, DiskFault};
+use oram_nbd::{BlockDevice, DiskFault};
 use oram_session::{Link, Tape};
 use std::alloc::Global;
 
-impl<S: Sealer, L: Link, K: Keeper, T: Tape> Disk for Volume<S, L, K, T> {
-    ghost use Rattle.oram_core.specs.Core.{shape_of};
-    ghost use Rattle.oram_run.specs.declared.events.Command.{Command};
+impl<S: Sealer, L: Link, K: Keeper, T: Tape> BlockDevice for Volume<S, L, K, T> {
+    ghost use Rattle.oram_core.specs.Core.{scheme_of};
+    ghost use Rattle.oram_semantics.specs.declared.events.Command.{Command};
     ghost use Rattle.oram_session.specs.Honesty.{HasFailed};
     ghost use Rattle.oram_volume.specs.Holding.{IsSound, Keeps};
     ghost use Rattle.oram_volume.specs.Stopping.{StopsAt};
@@ -22,13 +22,13 @@ impl<S: Sealer, L: Link, K: Keeper, T: Tape> Disk for Volume<S, L, K, T> {
 
     ghost size = { λ d. d.core.device.block_bytes * d.core.device.blocks };
 
-    ghost holds = { λ d bytes. Keeps (shape_of S.overhead S.sealing S.opening d.core) L.calls d.core.state d.link bytes };
+    ghost holds = { λ d bytes. Keeps (scheme_of S.overhead S.sealing S.opening d.core) L.calls d.core.state d.link bytes };
 
-    ghost is_sound = { λ d. IsSound (shape_of S.overhead S.sealing S.opening d.core) L.calls d.core.state d.link };
+    ghost is_sound = { λ d. IsSound (scheme_of S.overhead S.sealing S.opening d.core) L.calls d.core.state d.link };
 
     ghost failed = { λ d. HasFailed d.core.state };
 
-    ghost stops = { λ d e. (command : Command) × StopsAt (shape_of S.overhead S.sealing S.opening d.core) L.calls K.keeps (T.words d.tape) command
+    ghost stops = { λ d e. (command : Command) × StopsAt (scheme_of S.overhead S.sealing S.opening d.core) L.calls K.keeps (T.words d.tape) command
         d.core.state d.link d.keeper e.core.state e.link e.keeper };
 
     fn has_failed(&self) -> bool {

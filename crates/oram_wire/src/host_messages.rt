@@ -1,6 +1,6 @@
 //! The messages that go to the bucket host, and the host's answers.
 
-ghost use Rattle.std.specs.Prelude.{◌≡◌, ◌≢◌, ◌↔◌, ◌⊎◌, ◌<◌, ◌^◌, ◌∷◌, [], ◌++◌, true, false, ℕ, List, length, IfOk, IfErr, IsErrOf, IsOkAnd, MatchResult};
+ghost use Rattle.std.specs.Prelude.{◌≡◌, ◌≢◌, ◌↔◌, ◌⊎◌, ◌<◌, ◌^◌, ◌∷◌, [], ◌++◌, IsTrue, true, false, ℕ, List, length, IfOk, IfErr, IsErrOf, IsOkAnd, MatchResult};
 ghost use Rattle.std.specs.Int.{w32, to_be_bytes};
 ghost use Rattle.oram_wire.specs.HostMessages.{request_body, answer_body, fetch_body, store_body, shape_body};
 ghost use Rattle.oram_wire.specs.HostReading.{request_of, names_request, names_answer, IsMisfit, IsOverlong, HasNoCode, HasNumbers, IsAnswer};
@@ -23,6 +23,13 @@ pub const GOOD: u8 = 0x80;
 
 /// The first byte of a refusal.
 pub const REFUSED: u8 = 0x81;
+
+/// Returns whether an answer is the one byte that says that the host is done.
+pub fn is_done(answer: &[u8]) -> bool
+    ensures { IsTrue result ↔ (answer.now ≡ 128 ∷ []) }
+{
+    answer == [GOOD].as_slice()
+}
 
 /// A message to the bucket host. The records of a STORE are those of the path from the root to a leaf, root first.
 #[derive(Debug, Drop, PartialEq, Eq)]

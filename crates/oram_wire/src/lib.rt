@@ -17,7 +17,8 @@ mod streaming;
 pub use faults::WireFault;
 pub use framing::{Fed, Frames};
 pub use host_messages::{
-    GOOD, HEADER_LEN, HostAnswer, HostRequest, HostView, REFUSED, fetch_header, store_header,
+    GOOD, HEADER_LEN, HostAnswer, HostRequest, HostView, REFUSED, fetch_header, is_done,
+    store_header,
 };
 pub use session_messages::{BAD_REQUEST, DEVICE_FAILED, SessionReply, SessionRequest};
 pub use sinks::{ListSink, Sink, SinkFault};

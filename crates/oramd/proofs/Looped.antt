@@ -5,21 +5,21 @@ use Rattle.std.specs.Io.KnownBytes.{IsAtEnd}
 use Rattle.oram_geometry.specs.declared.Sizes.{Sizes}
 use Rattle.oram_geometry.specs.Sizes.{trees_of}
 use Rattle.oram_wire.specs.FrameStream.{IsBroken, IsUnfinished}
-use Rattle.oram_run.specs.Shape.{Shape}
-use Rattle.oram_run.specs.State.{State}
+use Rattle.oram_semantics.specs.Scheme.{Scheme}
+use Rattle.oram_semantics.specs.State.{State}
 use Rattle.oram_session.specs.Outcome.{Outcome}
 use Rattle.oram_session.specs.Sessions.{HasServed}
 use Rattle.oram_session.specs.Tapes.{chacha_words}
 use Rattle.oram_session.specs.Turns.{Turn}
-use Rattle.oram_answering.specs.declared.faults.ServeFault.{ServeFault}
-use Rattle.oram_answering.specs.declared.faults.ServeFault.TheVariants as serve
+use Rattle.oram_host.specs.declared.serve_fault.ServeFault.{ServeFault}
+use Rattle.oram_host.specs.declared.serve_fault.ServeFault.TheVariants as serve
 use Rattle.oramd.specs.Formatting.{IsFormatted}
 use Rattle.oramd.specs.Looping.{HasAnswered, after_frames, loop_shape, loop_sizes, loop_words}
 use Rattle.oramd.specs.declared.faults.Fault.{Fault}
 use Rattle.oramd.specs.declared.faults.Fault.TheVariants.{Hex, OutOfMemory, Stalled}
 
 -- a device of these sizes, unsealed
-abbrev pub shape_at : Sizes → Shape
+abbrev pub shape_at : Sizes → Scheme
 shape_at d = record { device = d; overhead = 0; sealing = λ nonce plain. plain; opening = λ bytes. Some bytes }
 
 -- One end isn't another.
@@ -43,13 +43,13 @@ module _ {L : Type 0} (calls : L → List ℕ → Outcome → L → Type 0) (d :
   module _ (sized : d ≡ loop_sizes) (zero_key : key ≡ replicate 32 0) (count : trees ≡ trees_of d) (formatted : IsFormatted (shape_at d) calls from new mid) where
     pub answered : (turns : List Turn) (part : List ℕ) → Served turns part → Answered part
     answered turns part served =
-        let P : Shape → Type 0 = λ v. HasServed v calls (chacha_words key trees) 0 (new, mid) turns (after, to) part (Some frames) (Some unread) [] (Some replies) (Some replies') in
+        let P : Scheme → Type 0 = λ v. HasServed v calls (chacha_words key trees) 0 (new, mid) turns (after, to) part (Some frames) (Some unread) [] (Some replies) (Some replies') in
         let Q : (ℕ → ℕ → List ℕ) → Type 0 = λ words. HasServed loop_shape calls words 0 (new, mid) turns (after, to) part (Some frames) (Some unread) [] (Some replies) (Some replies') in
         let words : chacha_words key trees ≡ loop_words = ap₂ chacha_words zero_key (count ∙ ap trees_of sized) in
         record {
           new = new;
           mid = mid;
-          formatted = subst (λ (v : Shape). IsFormatted v calls from new mid) (ap shape_at sized) formatted;
+          formatted = subst (λ (v : Scheme). IsFormatted v calls from new mid) (ap shape_at sized) formatted;
           turns = turns;
           after = after;
           served = subst Q words (subst P (ap shape_at sized) served);

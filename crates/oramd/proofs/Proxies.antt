@@ -1,9 +1,9 @@
 -- Tables that are no proxy's.
 use Rattle.std.proofs.Common.{◌≡◌, ℕ, List, codes}
 use Rattle.toml.specs.Data.{Members}
-use Rattle.oram_edge.specs.Tables.{HasHex}
-use Rattle.oram_edge.specs.declared.input.InputFault.{InputFault}
-use Rattle.oram_edge.specs.declared.input.InputFault.TheVariants.{Bad}
+use Rattle.oram_cli.specs.Tables.{HasHex}
+use Rattle.oram_cli.specs.declared.input.InputFault.{InputFault}
+use Rattle.oram_cli.specs.declared.input.InputFault.TheVariants.{Bad}
 use Rattle.oramd.specs.Settings.{IsSettings, SettingsValue, host, format, proxy}
 use Rattle.oramd.specs.declared.command_line.Role.TheVariants as role
 

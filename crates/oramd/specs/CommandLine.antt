@@ -3,11 +3,11 @@ use Rattle.std.specs.Prelude.{ℕ, List, [], ◌∷◌, map, true, false, Option
 use Rattle.std.specs.Str.{bytes_eq}
 use Rattle.clap.specs.Walk.{Text}
 use Rattle.clap.specs.Simple.{App, new_shape}
-use Rattle.oram_edge.specs.Words.{named_in, word_taker}
+use Rattle.oram_cli.specs.CommandLine.{named_in, word_taker}
 use Rattle.oramd.specs.declared.command_line.Role.{Role}
 use Rattle.oramd.specs.declared.command_line.Role.TheVariants.{Host, Format, Proxy}
-use Rattle.oramd.specs.declared.command_line.Words.{Words}
-use Rattle.oramd.specs.declared.command_line.Words.TheVariants as words
+use Rattle.oramd.specs.declared.command_line.Subcommand.{Subcommand}
+use Rattle.oramd.specs.declared.command_line.Subcommand.TheVariants as words
 
 -- what a command line asks for: to take a role with its settings file, or to answer the frames in
 -- hexadecimal digits
@@ -16,9 +16,9 @@ pub data Request : Type 0 where
   loop : List ℕ → Request
 
 -- the words of a command line as a request, without where the texts lie in memory
-abbrev pub shown : Words → Request
-shown (words.Run role file) = run role (string_bytes file)
-shown (words.Loop digits) = loop (string_bytes digits)
+abbrev pub request_for : Subcommand → Request
+request_for (words.Run role file) = run role (string_bytes file)
+request_for (words.Loop digits) = loop (string_bytes digits)
 
 -- the program's description for clap: one of four subcommands, with its word
 abbrev pub program : App

@@ -1,8 +1,8 @@
 -- What the end of a connection means to the program, and how the program ends.
 use Rattle.std.specs.Prelude.{ℕ, Option, Some, None, Result, Ok, Err}
-use Rattle.oram_run.specs.declared.events.Reason.{Reason}
-use Rattle.oram_answering.specs.declared.faults.ServeFault.{ServeFault}
-use Rattle.oram_answering.specs.declared.faults.ServeFault.TheVariants as serve
+use Rattle.oram_semantics.specs.declared.events.Reason.{Reason}
+use Rattle.oram_host.specs.declared.serve_fault.ServeFault.{ServeFault}
+use Rattle.oram_host.specs.declared.serve_fault.ServeFault.TheVariants as serve
 use Rattle.oramd.specs.declared.faults.Fault.{Fault}
 use Rattle.oramd.specs.declared.faults.Fault.TheVariants.{Failed, Stalled, OutOfMemory}
 

@@ -2,9 +2,9 @@
 use Rattle.std.specs.Prelude.{◌≡◌, ◌⊎◌, ℕ, List}
 use Rattle.oram_tree.specs.Format.{IsBrokenOff}
 use Rattle.oram_tree.specs.declared.faults.FormatFault.{FormatFault}
-use Rattle.oram_run.specs.Formatting.{IsFormatBegun}
-use Rattle.oram_run.specs.Shape.{Shape}
-use Rattle.oram_run.specs.State.{State}
+use Rattle.oram_semantics.specs.Formatting.{IsFormatBegun}
+use Rattle.oram_semantics.specs.Scheme.{Scheme}
+use Rattle.oram_semantics.specs.State.{State}
 use Rattle.oram_core.specs.Formatting.{IsNew}
 use Rattle.oram_session.specs.Formatting.{TakesMessage, RefusesMessage}
 use Rattle.oram_session.specs.Outcome.{Outcome}
@@ -13,7 +13,7 @@ use Rattle.oramd.specs.declared.faults.Fault.TheVariants.{OutOfMemory}
 use Rattle.oramd.specs.Telling.{format_fault}
 
 -- for a link with these calls
-module _ (v : Shape) {L : Type 0} (calls : L → List ℕ → Outcome → L → Type 0) where
+module _ (v : Scheme) {L : Type 0} (calls : L → List ℕ → Outcome → L → Type 0) where
   -- The messages that make the device's trees went over the link, the host took each, and the core is new.
   abbrev pub IsFormatted : L → State → L → Type 0
   IsFormatted from s to = IsNew v (TakesMessage calls) from s to

@@ -2,14 +2,14 @@
 use Rattle.std.specs.Prelude.{◌≡◌, ◌⊎◌, ℕ, List, [], Some, Result, Ok, Err, replicate}
 use Rattle.oram_geometry.specs.declared.Sizes.{Sizes}
 use Rattle.oram_geometry.specs.Sizes.{trees_of}
-use Rattle.oram_run.specs.Shape.{Shape}
-use Rattle.oram_run.specs.State.{State}
+use Rattle.oram_semantics.specs.Scheme.{Scheme}
+use Rattle.oram_semantics.specs.State.{State}
 use Rattle.oram_session.specs.Outcome.{Outcome}
 use Rattle.oram_session.specs.Sessions.{HasServed}
 use Rattle.oram_session.specs.Tapes.{chacha_words}
 use Rattle.oram_session.specs.Turns.{Turn}
-use Rattle.oram_answering.specs.declared.faults.ServeFault.{ServeFault}
-use Rattle.oram_answering.specs.declared.faults.ServeFault.TheVariants as serve
+use Rattle.oram_host.specs.declared.serve_fault.ServeFault.{ServeFault}
+use Rattle.oram_host.specs.declared.serve_fault.ServeFault.TheVariants as serve
 use Rattle.oram_tree.specs.declared.faults.FormatFault.{FormatFault}
 use Rattle.oramd.specs.Formatting.{IsFormatted}
 use Rattle.oramd.specs.Telling.{format_fault}
@@ -21,7 +21,7 @@ abbrev pub loop_sizes : Sizes
 loop_sizes = record { blocks = 64; block_bytes = 16; slots = 4; top = 64; lifetime = 100 }
 
 -- unsealed
-abbrev pub loop_shape : Shape
+abbrev pub loop_shape : Scheme
 loop_shape = record { device = loop_sizes; overhead = 0; sealing = λ nonce plain. plain; opening = λ bytes. Some bytes }
 
 -- the words of the tape with the zero key

@@ -2,7 +2,7 @@
 use Rattle.std.specs.Prelude.{◌≡◌, ◌∷◌, ℕ, List, [], codes, string_bytes, Option, Some}
 use Rattle.toml.specs.Data.{Members}
 use Rattle.toml.specs.Parse.{parse_document}
-use Rattle.oram_edge.specs.Tables.{HasHex, HasNumber, HasOnly, HasSealer, HasText, IsAddress, IsCount, IsName}
+use Rattle.oram_cli.specs.Tables.{HasHex, HasNumber, HasOnly, HasSealer, HasText, IsAddress, IsCount, IsName}
 use Rattle.oramd.specs.declared.command_line.Role.{Role}
 use Rattle.oramd.specs.declared.command_line.Role.TheVariants as role
 use Rattle.oramd.specs.declared.settings_file.Settings.{Settings}
@@ -37,9 +37,9 @@ pub data SettingsValue : Type 0 where
   format : FormatSettings → SettingsValue
   proxy : ProxySettings → SettingsValue
 
-abbrev pub shown : Settings → SettingsValue
-shown (settings.Host listen connections image) = host (record { listen = string_bytes listen; connections = connections; image = string_bytes image })
-shown (settings.Format server state key blocks block_bytes slots top lifetime) = format (record {
+abbrev pub settings_value : Settings → SettingsValue
+settings_value (settings.Host listen connections image) = host (record { listen = string_bytes listen; connections = connections; image = string_bytes image })
+settings_value (settings.Format server state key blocks block_bytes slots top lifetime) = format (record {
   host = string_bytes server;
   state = string_bytes state;
   key = key;
@@ -49,7 +49,7 @@ shown (settings.Format server state key blocks block_bytes slots top lifetime) =
   top = top;
   lifetime = lifetime;
 })
-shown (settings.Proxy listen connections server state key tape_key) = proxy (record {
+settings_value (settings.Proxy listen connections server state key tape_key) = proxy (record {
   listen = string_bytes listen;
   connections = connections;
   host = string_bytes server;

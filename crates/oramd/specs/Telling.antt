@@ -1,10 +1,10 @@
 -- The program's faults for the faults of its libraries.
 use Rattle.std.specs.Prelude.{Result, Ok, Err}
 use Rattle.std.specs.Option.{option_map_or}
-use Rattle.oram_edge.specs.declared.files.FileFault.{FileFault}
-use Rattle.oram_edge.specs.declared.files.FileFault.TheVariants as file
-use Rattle.oram_edge.specs.declared.sockets.SocketFault.{SocketFault}
-use Rattle.oram_edge.specs.declared.sockets.SocketFault.TheVariants as socket
+use Rattle.oram_cli.specs.declared.files.FileFault.{FileFault}
+use Rattle.oram_cli.specs.declared.files.FileFault.TheVariants as file
+use Rattle.oram_cli.specs.declared.sockets.SocketFault.{SocketFault}
+use Rattle.oram_cli.specs.declared.sockets.SocketFault.TheVariants as socket
 use Rattle.oram_geometry.specs.declared.Sizes.{Sizes}
 use Rattle.oram_geometry.specs.declared.ShapeFault.{ShapeFault}
 use Rattle.oram_geometry.specs.Sizes as sizes

@@ -3,10 +3,10 @@
 ghost use Rattle.std.specs.Prelude.{◌≡◌, None, Some, IfOk, IsErrOf};
 ghost use Rattle.clap.specs.Walk.{texts};
 ghost use Rattle.clap.specs.Words.{app_of};
-ghost use Rattle.oramd.specs.CommandLine.{program, request_in, request_of, shown};
+ghost use Rattle.oramd.specs.CommandLine.{program, request_in, request_of, request_for};
 
 use clap::Command;
-use oram_edge::{InputFault, read_named, word_taker};
+use oram_cli::{InputFault, read_named, word_taker};
 use std::alloc::{AllocError, Global};
 
 /// What the program does with its settings.
@@ -22,7 +22,7 @@ pub enum Role {
 
 /// What a command line asks for.
 #[derive(Debug, Drop)]
-pub enum Words {
+pub enum Subcommand {
     /// To take a role, with the name of its settings file.
     Run(Role, String),
     /// To answer the session frames in these hexadecimal digits.
@@ -42,28 +42,28 @@ fn command<'a>(alloc: Global) -> Result<Command<'a>, AllocError>
 }
 
 /// Returns what the subcommand `name` asks for with its word. Fails with `Bad` if there is no such subcommand.
-fn asked(alloc: Global, name: &str, word: &str) -> Result<Words, InputFault>
-    ensures ok { IfOk result (λ w. request_of name.now word.now ≡ Some (shown w)) }
+fn subcommand_of(alloc: Global, name: &str, word: &str) -> Result<Subcommand, InputFault>
+    ensures ok { IfOk result (λ w. request_of name.now word.now ≡ Some (request_for w)) }
     ensures bad { IsErrOf result InputFault.Bad → request_of name.now word.now ≡ None }
 {
     let word = String::from_str(alloc, word)?;
     match name {
-        "host" => Ok(Words::Run(Role::Host, word)),
-        "format" => Ok(Words::Run(Role::Format, word)),
-        "proxy" => Ok(Words::Run(Role::Proxy, word)),
-        "loop" => Ok(Words::Loop(word)),
+        "host" => Ok(Subcommand::Run(Role::Host, word)),
+        "format" => Ok(Subcommand::Run(Role::Format, word)),
+        "proxy" => Ok(Subcommand::Run(Role::Proxy, word)),
+        "loop" => Ok(Subcommand::Loop(word)),
         _ => Err(InputFault::Bad),
     }
 }
 
 /// Reads the words of a command line, beginning with the program's name. Fails with `Bad` if they ask for nothing; help
 /// can't be asked for.
-pub fn read_words(alloc: Global, words: &[&str]) -> Result<Words, InputFault>
+pub fn read_command_line(alloc: Global, words: &[&str]) -> Result<Subcommand, InputFault>
     // It is what clap's matches of the words ask for.
-    ensures ok { IfOk result (λ w. request_in (texts words.now) ≡ Some (shown w)) }
+    ensures ok { IfOk result (λ w. request_in (texts words.now) ≡ Some (request_for w)) }
     // `Bad` comes only if the words ask for nothing.
     ensures bad { IsErrOf result InputFault.Bad → request_in (texts words.now) ≡ None }
 {
     let (name, word) = read_named(command(alloc)?, words)?;
-    asked(alloc, name, word)
+    subcommand_of(alloc, name, word)
 }

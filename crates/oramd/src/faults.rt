@@ -6,7 +6,7 @@ ghost use Rattle.oram_host.specs.Transfers.{Begins};
 ghost use Rattle.oramd.specs.Faults.{IsFileFault, line_of, message_of, status_of};
 ghost use Rattle.oramd.specs.declared.faults.Fault.TheVariants.{OutOfMemory};
 
-use oram_edge::{FileFault, LockFault, SocketFault, put, put_both, put_number};
+use oram_cli::{FileFault, LockFault, SocketFault, put, put_both, put_number};
 use oram_geometry::ShapeFault;
 use oram_state::StateFault;
 use oram_tree::FormatFault;

@@ -1,8 +1,8 @@
 //! Loads and saves a host's image file.
 
 use crate::faults::Fault;
-use crate::loading::load_host;
-use oram_edge::KeptFile;
+use crate::loaders::load_host;
+use oram_cli::AtomicFile;
 use oram_host::Server;
 use std::alloc::Global;
 use std::io::{BufReader, BufWriter, ErrorKind, Write};
@@ -10,7 +10,10 @@ use std::rt::Files;
 use std::{fs, io};
 
 /// Loads the server from its image file. If there is no file, it makes a server without trees.
-pub(crate) fn load_image<R: Files + AllocGlobal>(rt: &R, kept: &KeptFile) -> Result<Server, Fault> {
+pub(crate) fn load_image<R: Files + AllocGlobal>(
+    rt: &R,
+    kept: &AtomicFile,
+) -> Result<Server, Fault> {
     let file = match fs::open(rt, kept.name()) {
         Ok(file) => file,
         Err(error) => {
@@ -27,16 +30,20 @@ pub(crate) fn load_image<R: Files + AllocGlobal>(rt: &R, kept: &KeptFile) -> Res
     }
 }
 
-fn write_image<R: Files + AllocGlobal>(rt: &R, kept: &KeptFile, server: &Server) -> io::Result<()> {
+fn write_image<R: Files + AllocGlobal>(
+    rt: &R,
+    kept: &AtomicFile,
+    server: &Server,
+) -> io::Result<()> {
     let mut file = kept.begin(rt)?;
     put_image(rt.alloc(), &mut file, server)?;
-    kept.settle(rt, &file)
+    kept.finish(rt, &file)
 }
 
 /// Replaces the image file by the image of `server`.
 pub(crate) fn save_image<R: Files + AllocGlobal>(
     rt: &R,
-    kept: &KeptFile,
+    kept: &AtomicFile,
     server: &Server,
 ) -> Result<(), Fault> {
     match write_image(rt, kept, server) {

@@ -5,37 +5,37 @@ mod command_line;
 mod endings;
 mod faults;
 mod files;
-mod formatting;
-mod loading;
-mod looping;
+mod formatted_state;
+mod frame_loop;
+mod loaders;
 mod roles;
 mod room;
 mod settings_file;
 
-pub use command_line::{Role, Words, read_words};
+pub use command_line::{Role, Subcommand, read_command_line};
 pub use endings::{after_serving, ending};
 pub use faults::{Fault, report};
-pub use formatting::{format_state, made_device};
-pub use loading::{load_core, load_host};
-pub use looping::{answer_frames, bytes_of};
-pub use oram_edge::InputFault;
-use oram_edge::{arguments, texts_of};
+pub use formatted_state::{format_state, made_device};
+pub use frame_loop::{answer_frames, bytes_of};
+pub use loaders::{load_core, load_host};
+pub use oram_cli::InputFault;
+use oram_cli::{arguments, texts_of};
 pub use settings_file::{Settings, read_settings};
 use std::process::ExitCode;
 use std::rt::Env;
 
 /// Reads what the command line asks for.
-fn asked<R: Env + AllocGlobal>(rt: &R) -> Result<Words, InputFault> {
+fn read_arguments<R: Env + AllocGlobal>(rt: &R) -> Result<Subcommand, InputFault> {
     let words = arguments(rt)?;
     let texts = texts_of(rt.alloc(), &words)?;
-    read_words(rt.alloc(), &texts)
+    read_command_line(rt.alloc(), &texts)
 }
 
 /// Does what the command line asks for.
 fn run(rt: &HostRuntime) -> Result<(), Fault> {
-    match asked(rt) {
-        Ok(Words::Run(role, name)) => roles::run(rt, role, name.as_str()),
-        Ok(Words::Loop(digits)) => roles::loop_frames(rt, digits.as_str()),
+    match read_arguments(rt) {
+        Ok(Subcommand::Run(role, name)) => roles::run(rt, role, name.as_str()),
+        Ok(Subcommand::Loop(digits)) => roles::loop_frames(rt, digits.as_str()),
         Err(InputFault::Bad) => Err(Fault::CommandLine),
         Err(InputFault::OutOfMemory) => Err(Fault::OutOfMemory),
     }

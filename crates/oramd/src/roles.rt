@@ -6,17 +6,17 @@ use crate::command_line::Role;
 use crate::endings::{after_serving, ending};
 use crate::faults::{Fault, lock_fault};
 use crate::files::{load_image, save_image};
-use crate::formatting::{format_state, made_device};
-use crate::loading::load_core;
-use crate::looping::{answer_frames, bytes_of};
+use crate::formatted_state::{format_state, made_device};
+use crate::frame_loop::{answer_frames, bytes_of};
+use crate::loaders::load_core;
 use crate::room::RoomyTape;
 use crate::settings_file::{Settings, read_settings};
 use oram_bucket::{ChaChaSeal, PlainSeal, Sealer};
-use oram_core::Core;
-use oram_edge::{
-    InputFault, KeptFile, SocketFault, StateLock, buffered, bytes_in, call_fault, connect, listen,
-    lock_state,
+use oram_cli::{
+    AtomicFile, InputFault, SocketFault, StateLock, buffered, bytes_in, call_fault, connect,
+    listen, lock_state,
 };
+use oram_core::Core;
 use oram_geometry::Device;
 use oram_host::Server;
 use oram_session::{
@@ -65,7 +65,7 @@ fn host<R: Files + Net + AllocGlobal>(
     connections: u64,
     image: String,
 ) -> Result<(), Fault> {
-    let file = KeptFile::new(rt.alloc(), image)?;
+    let file = AtomicFile::new(rt.alloc(), image)?;
     let mut server = load_image(rt, &file)?;
     let listener = listen(rt, address)?;
     let served = host_connections(rt.alloc(), &listener, connections, &mut server);
@@ -81,7 +81,7 @@ fn format<R: Files + Net + AllocGlobal, S: Sealer>(
     device: Device,
     sealer: S,
 ) -> Result<(), Fault> {
-    let file = KeptFile::new(rt.alloc(), state)?;
+    let file = AtomicFile::new(rt.alloc(), state)?;
     file.check_absent(rt)?;
     let (reader, writer) = connect(rt, host)?;
     let mut link = StreamLink::new(rt.alloc(), reader, writer);
@@ -153,7 +153,7 @@ fn proxy<S: Sealer>(rt: &HostRuntime, serving: Serving, sealer: S) -> Result<(),
         state,
         tape_key,
     } = serving;
-    let file = KeptFile::new(rt.alloc(), state)?;
+    let file = AtomicFile::new(rt.alloc(), state)?;
     file.check_present(rt)?;
     let _lock = take_lock(rt, file.name())?;
     let bytes = bytes_in(rt, file.name())?;

@@ -2,11 +2,11 @@
 
 ghost use Rattle.std.specs.Prelude.{◌≡◌, IfOk, IsErrOf};
 ghost use Rattle.toml.specs.View.{table_view};
-ghost use Rattle.oram_edge.specs.Tables.{Finds};
-ghost use Rattle.oramd.specs.Settings.{IsDocumentOf, IsSettings, shown};
+ghost use Rattle.oram_cli.specs.Tables.{Finds};
+ghost use Rattle.oramd.specs.Settings.{IsDocumentOf, IsSettings, settings_value};
 
 use crate::command_line::Role;
-use oram_edge::{
+use oram_cli::{
     InputFault, address_at, count_at, has_only, key_at, name_at, number_at, sealer_in, table_of,
 };
 use std::alloc::Global;
@@ -58,7 +58,7 @@ impl fmt::Debug for Settings {
 }
 
 fn host_in(alloc: Global, table: &Table) -> Result<Settings, InputFault>
-    ensures { Finds shown (IsSettings Role.Host (table_view table.now)) result }
+    ensures { Finds settings_value (IsSettings Role.Host (table_view table.now)) result }
 {
     if !has_only(table, &["listen", "connections", "image"]) {
         return Err(InputFault::Bad);
@@ -74,7 +74,7 @@ fn host_in(alloc: Global, table: &Table) -> Result<Settings, InputFault>
 }
 
 fn format_in(alloc: Global, table: &Table) -> Result<Settings, InputFault>
-    ensures { Finds shown (IsSettings Role.Format (table_view table.now)) result }
+    ensures { Finds settings_value (IsSettings Role.Format (table_view table.now)) result }
 {
     if !has_only(
         table,
@@ -113,7 +113,7 @@ fn format_in(alloc: Global, table: &Table) -> Result<Settings, InputFault>
 }
 
 fn proxy_in(alloc: Global, table: &Table) -> Result<Settings, InputFault>
-    ensures { Finds shown (IsSettings Role.Proxy (table_view table.now)) result }
+    ensures { Finds settings_value (IsSettings Role.Proxy (table_view table.now)) result }
 {
     if !has_only(
         table,
@@ -148,7 +148,7 @@ fn proxy_in(alloc: Global, table: &Table) -> Result<Settings, InputFault>
 /// Reads the settings of a role from a TOML document. Fails with `Bad` if the text is no such document.
 pub fn read_settings(alloc: Global, role: Role, text: &str) -> Result<Settings, InputFault>
     // The text is a document whose table has these settings.
-    ensures ok { IfOk result (λ s. IsDocumentOf role text.now (shown s)) }
+    ensures ok { IfOk result (λ s. IsDocumentOf role text.now (settings_value s)) }
     // `Bad` comes only if the text is no document of any settings of the role.
     ensures bad { IsErrOf result InputFault.Bad → (s : _) → IsDocumentOf role text.now s → ⊥ }
 {

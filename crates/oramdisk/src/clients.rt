@@ -18,16 +18,16 @@ const LONGEST_UNREAD: u64 = 60;
 
 /// Why the disk parted with a client.
 #[derive(Clone, Copy, Debug, PartialEq, Eq)]
-pub(crate) enum Parting {
+pub(crate) enum Dismissal {
     NoHandshake,
     Unread,
 }
 
-impl fmt::Display for Parting {
+impl fmt::Display for Dismissal {
     fn fmt<W: fmt::Write>(&self, f: &mut fmt::Formatter<W>) -> fmt::Result {
         f.write_str(match self {
-            Parting::NoHandshake => "it made no handshake within ten seconds",
-            Parting::Unread => "it left a reply unread for a minute",
+            Dismissal::NoHandshake => "it made no handshake within ten seconds",
+            Dismissal::Unread => "it left a reply unread for a minute",
         })
     }
 }
@@ -40,7 +40,7 @@ pub(crate) struct ClientAttendant<'r, 'l, R> {
     rt: &'r R,
     listener: &'l Listener,
     handshake_until: Cell<Option<Instant>>,
-    parting: Cell<Option<Parting>>,
+    dismissal: Cell<Option<Dismissal>>,
 }
 
 impl<'r, 'l, R: Clock> ClientAttendant<'r, 'l, R> {
@@ -51,13 +51,13 @@ impl<'r, 'l, R: Clock> ClientAttendant<'r, 'l, R> {
             rt,
             listener,
             handshake_until: Cell::new(until),
-            parting: Cell::new(None),
+            dismissal: Cell::new(None),
         })
     }
 
     /// Returns why the disk parted with the client, if it did.
-    pub(crate) fn parting(&self) -> Option<Parting> {
-        self.parting.get()
+    pub(crate) fn dismissal(&self) -> Option<Dismissal> {
+        self.dismissal.get()
     }
 }
 
@@ -84,11 +84,11 @@ impl<'r, 'l, R: Clock + Eprint + AllocGlobal> Attendant for ClientAttendant<'r, 
     }
 
     fn waited_out(&self) -> Error {
-        let parting = match self.handshake_until.get() {
-            Some(_) => Parting::NoHandshake,
-            None => Parting::Unread,
+        let dismissal = match self.handshake_until.get() {
+            Some(_) => Dismissal::NoHandshake,
+            None => Dismissal::Unread,
         };
-        self.parting.set(Some(parting));
+        self.dismissal.set(Some(dismissal));
         Error::from(ErrorKind::TimedOut)
     }
 

@@ -1,16 +1,16 @@
 //! The files of a disk at its client.
 
 use oram_bucket::Sealer;
+use oram_cli::{FileFault, InputFault, LockFault, StateLock, lock_state};
 use oram_client::{
     DiskKey, Head, KeptFault, KeptFile, Keys, SealerKind, WrongKey, kept_bytes, kept_name,
     keys_for, read_kept_file,
 };
 use oram_core::Core;
 use oram_disk_host::{Fault, FaultKind, FileReason, settings_bytes, text_of};
-use oram_edge::{FileFault, InputFault, LockFault, StateLock, lock_state};
 use oram_geometry::Device;
 use oram_settings::{
-    DiskSettings, Sealing, beside, disk_complaint, first_difference, read_disk_settings,
+    DiskSettings, Sealing, disk_complaint, first_difference, read_disk_settings, relative_to,
 };
 use oram_state::{StateFault, decode_state};
 use std::alloc::Global;
@@ -27,12 +27,12 @@ pub(crate) fn disk_settings_in<R: Files + AllocGlobal>(
     let text = text_of(alloc, bytes.as_slice(), name.as_str())?;
     match read_disk_settings(alloc, text) {
         Ok(mut settings) => {
-            settings.state = beside(alloc, name.as_str(), settings.state.as_str())?;
+            settings.state = relative_to(alloc, name.as_str(), settings.state.as_str())?;
             Ok(settings)
         }
         Err(InputFault::Bad) => {
             let complaint = disk_complaint(alloc, name.as_str(), text)?;
-            Err(Fault::Of(FaultKind::Settings, complaint))
+            Err(Fault::About(FaultKind::Settings, complaint))
         }
         Err(InputFault::OutOfMemory) => Err(Fault::OutOfMemory),
     }
@@ -49,7 +49,7 @@ pub(crate) fn state_bytes<R: Files + AllocGlobal>(
     match kept_bytes(rt, state) {
         Ok(bytes) => Ok(bytes),
         Err(FileFault::File(name)) => match kept_name(rt, alloc, state)? {
-            Some(_) => Err(Fault::Of(FaultKind::File(FileReason::Other), name)),
+            Some(_) => Err(Fault::About(FaultKind::File(FileReason::Other), name)),
             None => Err(named(alloc, FaultKind::Unformatted, settings)),
         },
         Err(FileFault::OutOfMemory) => Err(Fault::OutOfMemory),
@@ -68,7 +68,7 @@ pub(crate) fn take_lock(rt: &HostRuntime, state: &str) -> Result<StateLock, Faul
 /// Makes a fault of this kind about `name`.
 fn named(alloc: Global, kind: FaultKind, name: &str) -> Fault {
     match String::from_str(alloc, name) {
-        Ok(name) => Fault::Of(kind, name),
+        Ok(name) => Fault::About(kind, name),
         Err(_) => Fault::OutOfMemory,
     }
 }
@@ -138,6 +138,6 @@ pub(crate) fn check_settings(
 ) -> Result<(), Fault> {
     match first_difference(settings, device, sealing_of(sealer)) {
         None => Ok(()),
-        Some(key) => Err(Fault::Of(FaultKind::Changed(key), name)),
+        Some(key) => Err(Fault::About(FaultKind::Changed(key), name)),
     }
 }

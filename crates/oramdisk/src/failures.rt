@@ -1,9 +1,9 @@
 //! Keeps why a disk failed, in a file beside its state. The state itself stays as it was kept, so that the disk can be
 //! tried again.
 
+use oram_cli::{AtomicFile, FileFault, bytes_in};
 use oram_core::Reason;
 use oram_disk_host::{Fault, file_fault, time};
-use oram_edge::{FileFault, KeptFile, bytes_in};
 use oram_settings::failure_text;
 use std::alloc::{AllocError, Global};
 use std::fs;
@@ -25,7 +25,7 @@ pub(crate) fn keep_failure<R: Files + Clock + AllocGlobal>(
     let why = failure_text(alloc, Some(reason))?;
     let when = time(rt)?;
     let text = format!(in alloc; "{why}, at {when}\n")?;
-    KeptFile::new(alloc, failure_name(alloc, state)?)?.save_bytes(rt, text.as_bytes())
+    AtomicFile::new(alloc, failure_name(alloc, state)?)?.save_bytes(rt, text.as_bytes())
 }
 
 /// Returns the line that says why and when the disk of a state failed; `None` if it hasn't.

@@ -2,17 +2,17 @@
 #![tactic(auto)]
 
 mod clients;
-mod creating;
 mod disk_files;
 mod failures;
-mod formatting;
-mod serving;
-mod standing;
+mod format_command;
+mod new_disk;
+mod serve_command;
+mod status_command;
 mod watched_disk;
 
+use oram_cli::{InputFault, arguments, texts_of};
 use oram_disk_host::{Fault, FaultKind, host, report};
-use oram_edge::{InputFault, arguments, texts_of};
-use oram_settings::{NoRequest, Words, read_words};
+use oram_settings::{NoRequest, Subcommand, read_command_line};
 use std::process::ExitCode;
 use std::rt::Env;
 
@@ -20,7 +20,7 @@ use std::rt::Env;
 const NO_TEXT: &str = "a word of the command line isn't text in UTF-8";
 
 /// Reads what the command line asks for.
-fn asked<R: Env + AllocGlobal>(rt: &R) -> Result<Words, NoRequest> {
+fn read_arguments<R: Env + AllocGlobal>(rt: &R) -> Result<Subcommand, NoRequest> {
     let alloc = rt.alloc();
     let words = match arguments(rt) {
         Ok(words) => words,
@@ -28,23 +28,23 @@ fn asked<R: Env + AllocGlobal>(rt: &R) -> Result<Words, NoRequest> {
         Err(InputFault::OutOfMemory) => return Err(NoRequest::OutOfMemory),
     };
     let texts = texts_of(alloc, &words)?;
-    read_words(alloc, &texts)
+    read_command_line(alloc, &texts)
 }
 
 /// Does what the command line asks for.
 fn run(rt: &HostRuntime) -> Result<(), Fault> {
-    match asked(rt) {
-        Ok(Words::Host { settings, is_new }) => host(rt, settings, is_new),
-        Ok(Words::New { folder, size }) => creating::make_folder(rt, folder, size.as_str()),
-        Ok(Words::Format(name)) => formatting::format_disk(rt, name),
-        Ok(Words::Serve(name)) => serving::serve_disk(rt, name),
-        Ok(Words::Status(name)) => standing::tell(rt, name),
-        Ok(Words::Retry(name)) => standing::retry(rt, name),
+    match read_arguments(rt) {
+        Ok(Subcommand::Host { settings, is_new }) => host(rt, settings, is_new),
+        Ok(Subcommand::New { folder, size }) => new_disk::make_folder(rt, folder, size.as_str()),
+        Ok(Subcommand::Format(name)) => format_command::format_disk(rt, name),
+        Ok(Subcommand::Serve(name)) => serve_command::serve_disk(rt, name),
+        Ok(Subcommand::Status(name)) => status_command::print_status(rt, name),
+        Ok(Subcommand::Retry(name)) => status_command::retry(rt, name),
         Err(NoRequest::Help(text)) => {
             let _passed_over = rt.print(text.as_str());
             Ok(())
         }
-        Err(NoRequest::Mistake(text)) => Err(Fault::Of(FaultKind::CommandLine, text)),
+        Err(NoRequest::Mistake(text)) => Err(Fault::About(FaultKind::CommandLine, text)),
         Err(NoRequest::OutOfMemory) => Err(Fault::OutOfMemory),
     }
 }

@@ -2,7 +2,7 @@
 
 ghost use Rattle.std.specs.Prelude.{◌≡◌};
 
-use oram_nbd::{Disk, DiskFault};
+use oram_nbd::{BlockDevice, DiskFault};
 use std::alloc::Global;
 
 /// Keeps that a disk has failed.
@@ -13,13 +13,13 @@ pub(crate) trait FailureKeeper<D> {
 
 /// A disk that hands its failure to a keeper before it reports it to anybody.
 #[derive(Drop)]
-pub(crate) struct WatchedDisk<D: Disk, F: FailureKeeper<D>> {
+pub(crate) struct WatchedDisk<D: BlockDevice, F: FailureKeeper<D>> {
     pub(crate) disk: D,
     pub(crate) keeper: F,
     pub(crate) is_kept: bool,
 }
 
-impl<D: Disk, F: FailureKeeper<D>> WatchedDisk<D, F> {
+impl<D: BlockDevice, F: FailureKeeper<D>> WatchedDisk<D, F> {
     /// Hands a failure to the keeper, if it hasn't done so yet.
     pub(crate) fn watch(&mut self)
         ensures { self.new.disk ≡ self.old.disk }
@@ -31,7 +31,7 @@ impl<D: Disk, F: FailureKeeper<D>> WatchedDisk<D, F> {
     }
 }
 
-impl<D: Disk, F: FailureKeeper<D>> Disk for WatchedDisk<D, F> {
+impl<D: BlockDevice, F: FailureKeeper<D>> BlockDevice for WatchedDisk<D, F> {
     ghost block_len = { λ d. D.block_len d.disk };
 
     ghost size = { λ d. D.size d.disk };

@@ -2,12 +2,12 @@
 use Rattle.std.proofs.Common.{◌≡◌, ◌<◌, true, ℕ, List, Option, refl, ap, ◌∙◌, subst}
 use Rattle.std.specs.Prelude.{is_some}
 use Rattle.oram_host.specs.Host.{Host}
-use Rattle.oram_run.specs.Run.{Shown}
-use Rattle.oram_run.specs.State.{status_in}
-use Rattle.oram_run.specs.declared.events.Event.TheVariants.{Answer, Lost}
-use Rattle.oram_honest.specs.Honest.{IsHonest}
+use Rattle.oram_semantics.specs.Run.{Shown}
+use Rattle.oram_semantics.specs.State.{status_in}
+use Rattle.oram_semantics.specs.declared.events.Event.TheVariants.{Answer, Lost}
+use Rattle.oram_host_laws.specs.Honest.{IsHonest}
 use Rattle.oramsim.specs.Script.{IsAnswered, Obeys, HostAnswers, Running, after_turn, with_host}
-use Rattle.oramsim.specs.Standing.{RunsOn, IsFaithful, IsWholeMachine, IsAtRun, StaysFaithful, answers_left}
+use Rattle.oramsim.specs.Correspondence.{RunsOn, IsFaithful, IsWholeMachine, IsAtRun, StaysFaithful, answers_left}
 use Rattle.oramsim.specs.declared.line.Line.TheVariants.{Late}
 use Rattle.oramsim.specs.declared.machine.Machine.{Machine}
 use Rattle.oramsim.proofs.Faithful.{late_honest, reply_honest}
@@ -32,10 +32,10 @@ heard_stands r m n bytes f h = record {
   copy = h.snapshot ∙ f.copy;
 }
 
-pub honest_at : (r : Running) (m n : Machine) (bytes : List ℕ) → IsWholeMachine m → IsAtRun r m → IsHeard m n bytes → IsHonest (status_in n.core.state) n.core.state.last (Answer bytes) r.host n.server
+pub honest_at : (r : Running) (m n : Machine) (bytes : List ℕ) → IsWholeMachine m → IsAtRun r m → IsHeard m n bytes → IsHonest (status_in n.core.state) n.core.state.message (Answer bytes) r.host n.server
 honest_at r m n bytes w f h = rw h.core (reply_honest m.core.state m.outstanding bytes r.host n.server w.waits w.latest (subst (λ (k : Host). HostAnswers k m.outstanding bytes n.server) f.host h.replies))
 
-pub late_at : (r : Running) (m n : Machine) (bytes : List ℕ) → IsWholeMachine m → IsAtRun r m → IsHeard m n bytes → IsHonest (status_in n.core.state) n.core.state.last Lost r.host n.server
+pub late_at : (r : Running) (m n : Machine) (bytes : List ℕ) → IsWholeMachine m → IsAtRun r m → IsHeard m n bytes → IsHonest (status_in n.core.state) n.core.state.message Lost r.host n.server
 late_at r m n bytes w f h = rw h.core (late_honest m.core.state m.outstanding bytes r.host n.server w.waits w.latest (subst (λ (k : Host). HostAnswers k m.outstanding bytes n.server) f.host h.replies))
 
 pub answered : (r : Running) (m n k : Machine) (bytes : List ℕ) (old new : Option (List ℕ)) → IsWholeMachine m → IsAtRun r m → IsHeard m n bytes

@@ -9,14 +9,14 @@ use Rattle.byteorder.specs.Endian.{big_number}
 use Rattle.hex.specs.Hex.{encode_with, encode_lower, lower_digits}
 use Rattle.oram_geometry.specs.declared.ShapeFault.{ShapeFault}
 use Rattle.oram_geometry.specs.Sizes.{fault_number}
-use Rattle.oram_run.specs.Run.{Shown, fails_now}
-use Rattle.oram_run.specs.declared.events.Note.{Note}
-use Rattle.oram_run.specs.declared.events.Note.TheVariants.{Accepted, Refused, Taken, Stalled, FailedNow, Resent, Unexpected}
-use Rattle.oram_run.specs.declared.events.Refusal.{Refusal}
-use Rattle.oram_run.specs.declared.events.Refusal.TheVariants as refusal
-use Rattle.oram_run.specs.declared.events.Reply.{Reply}
-use Rattle.oram_run.specs.declared.events.ReplyBody.{ReplyBody}
-use Rattle.oram_run.specs.declared.events.ReplyBody.TheVariants as body
+use Rattle.oram_semantics.specs.Run.{Shown, fails_now}
+use Rattle.oram_semantics.specs.declared.events.Note.{Note}
+use Rattle.oram_semantics.specs.declared.events.Note.TheVariants.{Accepted, Refused, Taken, Stalled, FailedNow, Resent, Unexpected}
+use Rattle.oram_semantics.specs.declared.events.Refusal.{Refusal}
+use Rattle.oram_semantics.specs.declared.events.Refusal.TheVariants as refusal
+use Rattle.oram_semantics.specs.declared.events.Reply.{Reply}
+use Rattle.oram_semantics.specs.declared.events.ReplyBody.{ReplyBody}
+use Rattle.oram_semantics.specs.declared.events.ReplyBody.TheVariants as body
 use Rattle.oramsim.specs.Printing.{newline, space, refusal_text, note_text, body_text, reply_text, send_text, reaction_text, ready_text, shape_text, error_text, memory_text}
 use Rattle.oramsim.specs.Reading.{lines_of, onto_line}
 use Rattle.oramsim.specs.Script.{HasNoFailure, IsBeginning, Turn}

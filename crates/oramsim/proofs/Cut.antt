@@ -13,7 +13,7 @@ use Rattle.oram_geometry.specs.Sizes.{device_of, trees_of}
 use Rattle.oramsim.specs.Printing.{error_text, memory_text, ready_text, shape_text}
 use Rattle.oramsim.specs.Reading.{lines_of, line_of}
 use Rattle.oramsim.specs.Script.{HasNoFailure, HasPassed, HasRun, IsBad, IsBeginning, IsCutText, IsDue, IsHarmless, IsHarmlessScript, IsNewRun, IsPassed, IsScriptText, IsWithin, Point, GetsTo, Running, Stage, Starts, start, text_at}
-use Rattle.oramsim.specs.Standing.{GivesUp, GivesUpAt, HasEnded, HasGivenUp, IsCalmAt, IsFaithful, IsFaithfulAt, IsGivingUp, IsCutAt, IsUnder, IsUntold, IsAtRun, StandsAt, told_at}
+use Rattle.oramsim.specs.Correspondence.{GivesUp, GivesUpAt, HasEnded, HasGivenUp, IsCalmAt, IsFaithful, IsFaithfulAt, IsGivingUp, IsCutAt, IsUnder, IsUntold, IsAtRun, StandsAt, told_at}
 use Rattle.oramsim.specs.declared.line.Line.{Line}
 use Rattle.oramsim.specs.declared.line.Line.TheVariants.{Device}
 use Rattle.oramsim.specs.declared.machine.Machine.{Machine}
@@ -63,8 +63,8 @@ faulted_cut head made fault e old new is wrote write =
     subst (λ (f : SimFault). GivesUpAt (behind head) ⊤ (λ u. (u ≡ behind head) ⊎ Starts head made u) f old new) (sym write) cut
 
 -- the points within a line and after it
-abbrev pub Leads : Point → List ℕ → Point → Type 0
-Leads p bytes q = IsPassed p bytes q ⊎ IsWithin p (bytes ∷ []) q
+abbrev pub Advances : Point → List ℕ → Point → Type 0
+Advances p bytes q = IsPassed p bytes q ⊎ IsWithin p (bytes ∷ []) q
 
 -- Nothing meddled before the line, and the line doesn't either.
 abbrev pub IsUnmeddledAt : Point → Option Machine → List ℕ → Type 0
@@ -74,14 +74,14 @@ IsUnmeddledAt p from bytes = IsHarmless (line_of bytes) × IsFaithfulAt p.stage 
 obeyed_at : (stage : Stage) (head : List ℕ) (m : Machine) (bytes : List ℕ) (line : Line) (result : Result Bool SimFault) (old new : Option (List ℕ)) →
     ((r : Running) → IsAtRun r m → IfErr result (λ e. GivesUp r (IsUnmeddled r m.core.state line) (IsUnder r line) e old new))
     → (length bytes == 0) ≡ false → line_of bytes ≡ Some line → StandsAt stage (Some m)
-    → IfErr result (λ e. GivesUpAt (record { stage = stage; head = head }) (IsUnmeddledAt (record { stage = stage; head = head }) (Some m) bytes) (Leads (record { stage = stage; head = head }) bytes) e old new)
+    → IfErr result (λ e. GivesUpAt (record { stage = stage; head = head }) (IsUnmeddledAt (record { stage = stage; head = head }) (Some m) bytes) (Advances (record { stage = stage; head = head }) bytes) e old new)
 obeyed_at None head m bytes line result old new cut some e f = absurd f
 obeyed_at (Some r) head m bytes line (Ok b) old new cut some e f = tt
 obeyed_at (Some r) head m bytes line (Err fault) old new cut some e f =
     let p : Point = record { stage = Some r; head = head } in
     let c = cut r f in
     let q : Point = record { stage = Some c.0; head = head } in
-    let leads : Leads p bytes q = elim c.1 [
+    let leads : Advances p bytes q = elim c.1 [
       | inl same ↦ inr (inl (ap (λ (k : Running). record { stage = Some k; head = head }) same))
       | inr more ↦ elim more [
         | inl obeys ↦ inl (passes_line p q bytes line some e (c.0, obeys, refl))
@@ -92,9 +92,9 @@ obeyed_at (Some r) head m bytes line (Err fault) old new cut some e f =
 
 pub obeyed_cut : (p : Point) (from : Option Machine) (m : Machine) (bytes : List ℕ) (line : Line) (result : Result Bool SimFault) (old new : Option (List ℕ)) →
     ((r : Running) → IsAtRun r m → IfErr result (λ e. GivesUp r (IsUnmeddled r m.core.state line) (IsUnder r line) e old new))
-    → (length bytes == 0) ≡ false → line_of bytes ≡ Some line → from ≡ Some m → StandsAt p.stage from → IfErr result (λ e. GivesUpAt p (IsUnmeddledAt p from bytes) (Leads p bytes) e old new)
+    → (length bytes == 0) ≡ false → line_of bytes ≡ Some line → from ≡ Some m → StandsAt p.stage from → IfErr result (λ e. GivesUpAt p (IsUnmeddledAt p from bytes) (Advances p bytes) e old new)
 obeyed_cut p from m bytes line result old new cut some e is f =
-    subst (λ (o : Option Machine). IfErr result (λ u. GivesUpAt p (IsUnmeddledAt p o bytes) (Leads p bytes) u old new)) (sym is)
+    subst (λ (o : Option Machine). IfErr result (λ u. GivesUpAt p (IsUnmeddledAt p o bytes) (Advances p bytes) u old new)) (sym is)
     (obeyed_at p.stage p.head m bytes line result old new cut some e (subst (StandsAt p.stage) is f))
 
 -- A line made no device.
@@ -102,11 +102,11 @@ started_at : (stage : Stage) (head : List ℕ) (from : Option Machine) (bytes : 
     made ≡ device_of (record { blocks = blocks; block_bytes = block_bytes; slots = slots; top = top; lifetime = lifetime })
     → ((h : List ℕ) → GivesUpAt (behind h) ⊤ (λ q. (q ≡ behind h) ⊎ Starts h made q) fault old new)
     → (length bytes == 0) ≡ false → line_of bytes ≡ Some (Device blocks block_bytes slots top lifetime) → StandsAt stage None
-    → GivesUpAt (record { stage = stage; head = head }) (IsUnmeddledAt (record { stage = stage; head = head }) from bytes) (Leads (record { stage = stage; head = head }) bytes) fault old new
+    → GivesUpAt (record { stage = stage; head = head }) (IsUnmeddledAt (record { stage = stage; head = head }) from bytes) (Advances (record { stage = stage; head = head }) bytes) fault old new
 started_at (Some r) head from bytes blocks block_bytes slots top lifetime made fault old new is cut some e f = absurd f
 started_at None head from bytes blocks block_bytes slots top lifetime made fault old new is cut some e f =
     let c = cut head in
-    let leads : Leads (behind head) bytes c.0 = elim c.1 [
+    let leads : Advances (behind head) bytes c.0 = elim c.1 [
       | inl same ↦ inr (inl same)
       | inr starts ↦ inl (passes_line (behind head) c.0 bytes (Device blocks block_bytes slots top lifetime) some e (subst (λ (o : Result Sizes ShapeFault). Starts head o c.0) is starts))
     ] in
@@ -116,7 +116,7 @@ pub started_cut : (p : Point) (from : Option Machine) (bytes : List ℕ) (blocks
     made ≡ device_of (record { blocks = blocks; block_bytes = block_bytes; slots = slots; top = top; lifetime = lifetime })
     → ((h : List ℕ) → GivesUpAt (behind h) ⊤ (λ q. (q ≡ behind h) ⊎ Starts h made q) fault old new)
     → (length bytes == 0) ≡ false → line_of bytes ≡ Some (Device blocks block_bytes slots top lifetime) → StandsAt p.stage None
-    → GivesUpAt p (IsUnmeddledAt p from bytes) (Leads p bytes) fault old new
+    → GivesUpAt p (IsUnmeddledAt p from bytes) (Advances p bytes) fault old new
 started_cut p from bytes blocks block_bytes slots top lifetime made fault old new is cut some e f = started_at p.stage p.head from bytes blocks block_bytes slots top lifetime made fault old new is cut some e f
 
 within_self : (p : Point) (ls : List (List ℕ)) → IsWithin p ls p
@@ -192,7 +192,7 @@ clean_part p q Write out part clean eq left =
     beginning_unfailed (text_at p ++ part) (text_at q) (beginning_behind (text_at p) (text_at q) part out eq left) (clean_text (text_at q) clean)
 
 -- What was printed before the device's turns is clean wherever a line leads.
-head_leads : (p q : Point) (bytes : List ℕ) → Leads p bytes q → Clean p.head → Clean q.head
+head_leads : (p q : Point) (bytes : List ℕ) → Advances p bytes q → Clean p.head → Clean q.head
 head_leads p q bytes (inl passes) clean = head_passed p q bytes passes clean
 head_leads p q bytes (inr (inl same)) clean = subst (λ (u : Point). Clean u.head) (sym same) clean
 head_leads p q bytes (inr (inr within)) clean = subst (λ (u : Point). Clean u.head) (sym within.6) clean
@@ -201,7 +201,7 @@ head_leads p q bytes (inr (inr within)) clean = subst (λ (u : Point). Clean u.h
 abbrev Split : List ℕ → List (List ℕ) → List ℕ → List ℕ → Type 0
 Split input lines bytes rest = lines_of input ≡ lines ++ bytes ∷ lines_of rest
 
-reaches_by : (input : List ℕ) (lines : List (List ℕ)) (p q : Point) (bytes rest : List ℕ) → Split input lines bytes rest → FoldsTo IsPassed start lines p → HasRun p.stage → Leads p bytes q
+reaches_by : (input : List ℕ) (lines : List (List ℕ)) (p q : Point) (bytes rest : List ℕ) → Split input lines bytes rest → FoldsTo IsPassed start lines p → HasRun p.stage → Advances p bytes q
     → HasRun q.stage → GetsTo input q
 reaches_by input lines p q bytes rest split passed right leads at = elim leads [
   | inl passes ↦
@@ -218,7 +218,7 @@ split_at input left later old mid number m line bytes came e drops some cut =
 -- The run was given up within a line.
 pub cut_within : (all left later old mid new : Option (List ℕ)) (number : ℕ) (m : Option Machine) (line bytes : List ℕ) (e : SimFault) →
     IfSome all (λ input. Came input left old mid number m) → IfSome left (λ xs. line ≡ take_through 10 xs) → DropsThrough left later 10 → 0 < length line → bytes ≡ strip_last 10 line
-    → ((p : Point) → StandsAt p.stage m → GivesUpAt p (IsUnmeddledAt p m bytes) (Leads p bytes) e mid new)
+    → ((p : Point) → StandsAt p.stage m → GivesUpAt p (IsUnmeddledAt p m bytes) (Advances p bytes) e mid new)
     → IsGivingUp all old new e
 cut_within None left later old mid new number m line bytes e came has drops some cut gives = tt
 cut_within (Some input) left later old mid new number m line bytes e came has drops some cut gives =

@@ -3,10 +3,10 @@ use Rattle.std.proofs.Common.{◌≡◌, ◌≢◌, ℕ, true, false, List, [], 
 use Rattle.std.specs.Prelude.{is_some}
 use Rattle.std.specs.List.{FoldsTo}
 use Rattle.std.proofs.lemmas.Fn.{FoldsTo-push}
-use Rattle.oram_run.specs.Run.{Shown}
-use Rattle.oram_run.specs.State.{State}
+use Rattle.oram_semantics.specs.Run.{Shown}
+use Rattle.oram_semantics.specs.State.{State}
 use Rattle.oramsim.specs.Script.{IsAnswered, IsDrained, Running}
-use Rattle.oramsim.specs.Standing.{RunsOn, IsFaithful}
+use Rattle.oramsim.specs.Correspondence.{RunsOn, IsFaithful}
 use Rattle.oramsim.specs.declared.machine.Machine.{Machine}
 use Rattle.oramsim.proofs.Turning.{tells_more}
 

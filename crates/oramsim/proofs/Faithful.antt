@@ -5,27 +5,27 @@ use Rattle.std.specs.List.{AllByRecursion, FoldsTo}
 use Rattle.oram_geometry.specs.Sizes.{IsDevice}
 use Rattle.oram_host.specs.Host.{Host}
 use Rattle.oram_host.specs.Serving.{Serves}
-use Rattle.oram_run.specs.Law.{StepsByRule, StepsAlong, new_state}
-use Rattle.oram_run.specs.Progress.{Setting, Status}
-use Rattle.oram_run.specs.Progress.Status.{Idle, Waiting, Stalling, Over}
-use Rattle.oram_run.specs.Moves.{moved, world_after}
-use Rattle.oram_run.specs.Run.{AllRight, Shown, fails_now, is_waiting}
-use Rattle.oram_run.specs.Serving.{HasServed, ServesArray, array_after}
-use Rattle.oram_run.specs.Shape.{Shape}
-use Rattle.oram_run.specs.State.{State, World, status_in}
-use Rattle.oram_run.specs.declared.events.Event.{Event}
-use Rattle.oram_run.specs.declared.events.Event.TheVariants.{Submit, Answer, Lost, Reopen, Retry}
-use Rattle.oram_run.specs.declared.events.Reply.{Reply}
-use Rattle.oram_run.proofs.Going.{steps_are_right}
-use Rattle.oram_honest.specs.Honest.{IsHonest}
-use Rattle.oram_honest.proofs.Honest.{honest_hosts_serve}
+use Rattle.oram_semantics.specs.Law.{StepsByRule, StepsAlong, new_state}
+use Rattle.oram_semantics.specs.Progress.{Setting, Status}
+use Rattle.oram_semantics.specs.Progress.Status.{Idle, Waiting, Stalling, Over}
+use Rattle.oram_semantics.specs.Moves.{moved, world_after}
+use Rattle.oram_semantics.specs.Run.{AllRight, Shown, fails_now, is_waiting}
+use Rattle.oram_semantics.specs.Serving.{HasServed, ServesArray, array_after}
+use Rattle.oram_semantics.specs.Scheme.{Scheme}
+use Rattle.oram_semantics.specs.State.{State, World, status_in}
+use Rattle.oram_semantics.specs.declared.events.Event.{Event}
+use Rattle.oram_semantics.specs.declared.events.Event.TheVariants.{Submit, Answer, Lost, Reopen, Retry}
+use Rattle.oram_semantics.specs.declared.events.Reply.{Reply}
+use Rattle.oram_semantics.proofs.Going.{steps_are_right}
+use Rattle.oram_host_laws.specs.Honest.{IsHonest}
+use Rattle.oram_host_laws.proofs.Honest.{honest_hosts_serve}
 use Rattle.oramsim.specs.Script.{HostAnswers, Running, Turn, all_shown, events, is_answer, plain_shape}
-use Rattle.oramsim.specs.Standing.{IsPlayed, IsAtRun, StaysFaithful}
+use Rattle.oramsim.specs.Correspondence.{IsPlayed, IsAtRun, StaysFaithful}
 use Rattle.oramsim.specs.declared.machine.Machine.{Machine}
 use Rattle.oramsim.proofs.Turning.{moving}
 
 -- the array that is served after an event
-served_now : (v : Shape) (s t : State) (w : World) (array : ℕ → List ℕ) (replies : List Reply) → HasServed v s t w array replies → (now : ℕ → List ℕ) × ServesArray v t w now
+served_now : (v : Scheme) (s t : State) (w : World) (array : ℕ → List ℕ) (replies : List Reply) → HasServed v s t w array replies → (now : ℕ → List ℕ) × ServesArray v t w now
 served_now v s t w array replies (inl quiet) = (array, quiet.1)
 served_now v s t w array replies (inr replied) = (array_after v.device replied.0.command array, replied.4)
 
@@ -35,9 +35,9 @@ calm_more (u ∷ turns) t a e = (a.0, calm_more turns t a.1 e)
 
 pub stays_faithful : (r : Running) (m : Machine) (e : Event) (x : Shown) (sent : Option (List ℕ)) (t : State) → IsAtRun r m → IsPlayed m.core.device m.core.state e x sent t → StaysFaithful r m.core.state e x t
 stays_faithful r m e x sent t f played before honest h =
-    let v : Shape = r.setting.shape in
+    let v : Scheme = r.setting.scheme in
     let s : State = m.core.state in
-    let k = honest_hosts_serve v s t h.world h.array e x before r.host (subst (λ (u : Shape). IsDevice u.device) (sym f.shape) f.ranges) h.alive h.serving h.hosts
+    let k = honest_hosts_serve v s t h.world h.array e x before r.host (subst (λ (u : Scheme). IsDevice u.device) (sym f.shape) f.ranges) h.alive h.serving h.hosts
     (moving (plain_shape m.core.device) v s t e x f.shape played.steps) honest in
     let now : World = world_after v h.world (moved v s h.world e) x.sends in
     let served = served_now v s t now h.array x.replies k.goes_on.served in
@@ -79,23 +79,23 @@ late_waiting Idle last bytes m host after w same r = cc
 late_waiting Stalling last bytes m host after w same r = cc
 late_waiting Over last bytes m host after w same r = cc
 
-pub reply_honest : (s : State) (message : Option (List ℕ)) (bytes : List ℕ) (host after : Host) → is_some message ≡ is_waiting (status_in s) → IfSome message (λ m. m ≡ s.last) → HostAnswers host message bytes after
-    → IsHonest (status_in s) s.last (Answer bytes) host after
-reply_honest s None bytes host after w same r = idle_host (status_in s) s.last (Answer bytes) host after (sym w) r.1
-reply_honest s (Some m) bytes host after w same r = reply_waiting (status_in s) s.last bytes m host after (sym w) same r
+pub reply_honest : (s : State) (message : Option (List ℕ)) (bytes : List ℕ) (host after : Host) → is_some message ≡ is_waiting (status_in s) → IfSome message (λ m. m ≡ s.message) → HostAnswers host message bytes after
+    → IsHonest (status_in s) s.message (Answer bytes) host after
+reply_honest s None bytes host after w same r = idle_host (status_in s) s.message (Answer bytes) host after (sym w) r.1
+reply_honest s (Some m) bytes host after w same r = reply_waiting (status_in s) s.message bytes m host after (sym w) same r
 
-pub late_honest : (s : State) (message : Option (List ℕ)) (bytes : List ℕ) (host after : Host) → is_some message ≡ is_waiting (status_in s) → IfSome message (λ m. m ≡ s.last) → HostAnswers host message bytes after
-    → IsHonest (status_in s) s.last Lost host after
-late_honest s None bytes host after w same r = idle_host (status_in s) s.last Lost host after (sym w) r.1
-late_honest s (Some m) bytes host after w same r = late_waiting (status_in s) s.last bytes m host after (sym w) same r
+pub late_honest : (s : State) (message : Option (List ℕ)) (bytes : List ℕ) (host after : Host) → is_some message ≡ is_waiting (status_in s) → IfSome message (λ m. m ≡ s.message) → HostAnswers host message bytes after
+    → IsHonest (status_in s) s.message Lost host after
+late_honest s None bytes host after w same r = idle_host (status_in s) s.message Lost host after (sym w) r.1
+late_honest s (Some m) bytes host after w same r = late_waiting (status_in s) s.message bytes m host after (sym w) same r
 
 -- What was shown is right.
-along : (v : Setting) (s t : State) (turns : List Turn) → FoldsTo (λ a (u : Turn) b. StepsByRule v.shape a u.event u.shown b) s turns t
-    → StepsAlong v.shape s (map (λ (u : Turn). u.event) turns) (map (λ (u : Turn). u.shown) turns)
+along : (v : Setting) (s t : State) (turns : List Turn) → FoldsTo (λ a (u : Turn) b. StepsByRule v.scheme a u.event u.shown b) s turns t
+    → StepsAlong v.scheme s (map (λ (u : Turn). u.event) turns) (map (λ (u : Turn). u.shown) turns)
 along v s t [] run = tt
 along v s t (u ∷ turns) run = (run.0, run.1, along v run.0 t turns run.2)
 
 pub run_right : (r : Running) (m : Machine) → IsAtRun r m → AllRight r.setting [] (events r) (all_shown r)
 run_right r m f =
-    steps_are_right r.setting f.leads.0 (events r) (all_shown r) (subst (λ (v : Shape). IsDevice v.device) (sym f.shape) f.ranges) f.leads.1
+    steps_are_right r.setting f.leads.0 (events r) (all_shown r) (subst (λ (v : Scheme). IsDevice v.device) (sym f.shape) f.ranges) f.leads.1
     (along r.setting (new_state r.setting f.leads.0) m.core.state r.turns f.leads.2)

@@ -5,18 +5,18 @@ use Rattle.oram_geometry.specs.Sizes.{IsDevice, trees_of}
 use Rattle.oram_host.specs.Host.{Host}
 use Rattle.oram_tree.specs.declared.faults.FormatFault.{FormatFault}
 use Rattle.oram_tree.specs.declared.faults.FormatFault.TheVariants as formatting
-use Rattle.oram_run.specs.Formatting.{IsFormatBegun}
+use Rattle.oram_semantics.specs.Formatting.{IsFormatBegun}
 use Rattle.oram_tree.specs.Format.{IsBrokenOff, PutsAll}
-use Rattle.oram_run.specs.Law.{world_of}
-use Rattle.oram_run.specs.Progress.{Setting}
-use Rattle.oram_run.specs.State.{State}
-use Rattle.oram_run.proofs.Bounds.{some_trees}
+use Rattle.oram_semantics.specs.Law.{world_of}
+use Rattle.oram_semantics.specs.Progress.{Setting}
+use Rattle.oram_semantics.specs.State.{State}
+use Rattle.oram_semantics.proofs.Bounds.{some_trees}
 use Rattle.oram_core.specs.Formatting as core
-use Rattle.oram_honest.specs.Honest.{Refusing, Takes}
-use Rattle.oram_honest.proofs.FormattedHosts.{broken_off_for_room}
-use Rattle.oram_honest.proofs.Honest.{new_hosts_serve}
+use Rattle.oram_host_laws.specs.Honest.{Refusing, Takes}
+use Rattle.oram_host_laws.proofs.FormattedHosts.{broken_off_for_room}
+use Rattle.oram_host_laws.proofs.Honest.{new_hosts_serve}
 use Rattle.oramsim.specs.Script.{IsNewRun, Running, plain_shape}
-use Rattle.oramsim.specs.Standing.{IsFaithful, IsWhole, IsAtRun}
+use Rattle.oramsim.specs.Correspondence.{IsFaithful, IsWhole, IsAtRun}
 use Rattle.oramsim.specs.declared.machine.Machine.{Machine}
 
 some_stages : (d : Sizes) → 0 < 2 * trees_of d
@@ -28,7 +28,7 @@ new_whole d s from to k = rw k.state (record { waits = refl; latest = tt; rests 
 pub new_run : (d : Sizes) (m : Machine) (from : Host) → IsDevice d → m.core.device ≡ d → from ≡ [] → core.IsNew (plain_shape d) Takes from m.core.state m.server → m.outstanding ≡ None → m.snapshot ≡ None
     → (r : Running) × IsNewRun d r × IsAtRun r m × IsFaithful r m.core.state
 new_run d m from is device empty k out copy =
-    let v : Setting = record { shape = plain_shape d; format = k.format } in
+    let v : Setting = record { scheme = plain_shape d; format = k.format } in
     let r : Running = record { setting = v; turns = []; message = None; host = m.server; copy = None } in
     let puts = subst (λ (h : Host). PutsAll Takes h k.format m.server) empty k.puts in
     let new = new_hosts_serve v k.trees m.server is (omega arith) k.formatted puts in (

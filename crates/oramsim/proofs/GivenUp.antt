@@ -6,13 +6,13 @@ use Rattle.std.specs.List.{FoldsTo}
 use Rattle.std.proofs.KnownBytes.{Appends-trans, Appends-nil}
 use Rattle.std.proofs.Math.Seq.{take-append-add}
 use Rattle.std.proofs.lemmas.Fn.{FoldsTo-push}
-use Rattle.oram_run.specs.Run.{Shown}
-use Rattle.oram_run.specs.State.{State, status_in}
-use Rattle.oram_run.specs.declared.events.Event.{Event}
-use Rattle.oram_run.specs.declared.events.Event.TheVariants as event
+use Rattle.oram_semantics.specs.Run.{Shown}
+use Rattle.oram_semantics.specs.State.{State, status_in}
+use Rattle.oram_semantics.specs.declared.events.Event.{Event}
+use Rattle.oram_semantics.specs.declared.events.Event.TheVariants as event
 use Rattle.oramsim.specs.Printing.{reaction_text}
 use Rattle.oramsim.specs.Script.{AtEvent, IsAnswered, IsDrained, Obeys, Running, after_turn, is_answer, is_meddling, left_at, newest_of, stage_text, with_host}
-use Rattle.oramsim.specs.Standing.{GivesUp, RunsOn, IsCalm, IsFaithful, IsHalted, IsHonestAt, IsCutAt, IsUnder, IsAtRun, IsWholeMachine, Prints, TellsPart}
+use Rattle.oramsim.specs.Correspondence.{GivesUp, RunsOn, IsCalm, IsFaithful, IsHalted, IsHonestAt, IsCutAt, IsUnder, IsAtRun, IsWholeMachine, Prints, TellsPart}
 use Rattle.oramsim.specs.declared.line.Line.{Line}
 use Rattle.oramsim.specs.declared.line.Line.TheVariants as line
 use Rattle.oramsim.specs.declared.machine.Machine.{Machine}
@@ -56,7 +56,7 @@ stays r m Unmeddled To old new f calm to same = (r, to, run_right r m f, calm, n
 
 -- An event that doesn't reach the host.
 pub honest_unheard : (r : Running) (s : State) (ev : Event) → is_answer ev ≡ false → IsFaithful r s → IsHonestAt r s ev
-honest_unheard r s ev off h = (r.host, unheard (status_in s) s.last ev r.host off, h)
+honest_unheard r s ev off h = (r.host, unheard (status_in s) s.message ev r.host off, h)
 
 pub told_cut : (r : Running) (m : Machine) (e : SimFault) (ev : Event) (t : State) (old new : Option (List ℕ)) → IsAtRun r m → IsHalted e m.core.device m.core.state ev t old new
     → GivesUp r (IsHonestAt r m.core.state ev) (λ later. (later ≡ r) ⊎ AtEvent r ev later) e old new
@@ -110,11 +110,11 @@ pub line_cut : (r : Running) (s : State) (l told : Line) (e : SimFault) (old new
     → GivesUp r (IsUnmeddled r s l) (IsUnder r l) e old new
 line_cut r s l told e old new is q = (q.0, under_as r l told q.0 is (elim q.1 [ inl same ↦ inl same | inr obeys ↦ inr (inl obeys) ]), q.2, (λ h. q.3 h.1), q.4)
 
-pub line_told : (r : Running) (s : State) (l : Line) (ev : Event) (e : SimFault) (old new : Option (List ℕ)) → l ≡ line.Told ev
+pub line_told : (r : Running) (s : State) (l : Line) (ev : Event) (e : SimFault) (old new : Option (List ℕ)) → l ≡ line.CoreEvent ev
     → GivesUp r (IsHonestAt r s ev) (λ later. (later ≡ r) ⊎ AtEvent r ev later) e old new → GivesUp r (IsUnmeddled r s l) (IsUnder r l) e old new
 line_told r s l ev e old new is q = (
   q.0,
-  under_as r l (line.Told ev) q.0 is (elim q.1 [ inl same ↦ inl same | inr at ↦ inr (inl at) ]),
+  under_as r l (line.CoreEvent ev) q.0 is (elim q.1 [ inl same ↦ inl same | inr at ↦ inr (inl at) ]),
   q.2,
   (λ h. q.3 (honest_unheard r s ev (subst (λ (k : Line). is_meddling k ≡ false) is h.0) h.1)),
   q.4,

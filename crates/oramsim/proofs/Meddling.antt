@@ -5,7 +5,7 @@ use Rattle.oram_host.specs.Host.{Host}
 use Rattle.oram_host.specs.Flips.{IsByteless, IsFlipped}
 use Rattle.oram_host.specs.Swaps.{IsSwapped, LacksPair}
 use Rattle.oramsim.specs.Script.{Obeys, Running, with_host}
-use Rattle.oramsim.specs.Standing.{IsFaithful, IsAtRun}
+use Rattle.oramsim.specs.Correspondence.{IsFaithful, IsAtRun}
 use Rattle.oramsim.specs.declared.line.Line.TheVariants.{Restore, Snapshot, Swap, Tamper}
 use Rattle.oramsim.specs.declared.machine.Machine.{Machine}
 

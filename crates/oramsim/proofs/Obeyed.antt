@@ -4,13 +4,13 @@ use Rattle.std.specs.Prelude.{MatchBool}
 use Rattle.std.specs.List.{FoldsTo}
 use Rattle.oram_host.specs.Flips.{IsByteless}
 use Rattle.oram_host.specs.Swaps.{LacksPair}
-use Rattle.oram_run.specs.Run.{Shown}
-use Rattle.oram_run.specs.State.{State, status_in}
-use Rattle.oram_run.specs.declared.events.Event.{Event}
+use Rattle.oram_semantics.specs.Run.{Shown}
+use Rattle.oram_semantics.specs.State.{State, status_in}
+use Rattle.oram_semantics.specs.declared.events.Event.{Event}
 use Rattle.oramsim.specs.Script.{IsAnswered, IsDrained, IsUnfit, Obeys, Running, after_turn, is_meddling, stage_text}
-use Rattle.oramsim.specs.Standing.{RunsOn, IsFaithful, IsAtRun, StaysFaithful}
+use Rattle.oramsim.specs.Correspondence.{RunsOn, IsFaithful, IsAtRun, StaysFaithful}
 use Rattle.oramsim.specs.declared.line.Line.{Line}
-use Rattle.oramsim.specs.declared.line.Line.TheVariants.{Told, Answer, Drain, Restore, Snapshot, Swap, Tamper}
+use Rattle.oramsim.specs.declared.line.Line.TheVariants.{CoreEvent, Answer, Drain, Restore, Snapshot, Swap, Tamper}
 use Rattle.oramsim.specs.declared.machine.Machine.{Machine}
 use Rattle.oramsim.specs.declared.script.SimFault.{SimFault}
 use Rattle.oramsim.proofs.Faithful.{unheard}
@@ -23,10 +23,10 @@ Obeyed r s line m old new = (later : Running) × Obeys r line later × RunsOn r 
 as_line : (r : Running) (s : State) (line told : Line) (m : Machine) (old new : Option (List ℕ)) → line ≡ told → Obeyed r s told m old new → Obeyed r s line m old new
 as_line r s line told m old new e q = subst (λ (l : Line). Obeyed r s l m old new) (sym e) q
 
-pub told_obeyed : (r : Running) (s : State) (line : Line) (e : Event) (m : Machine) (old new : Option (List ℕ)) → line ≡ Told e
+pub told_obeyed : (r : Running) (s : State) (line : Line) (e : Event) (m : Machine) (old new : Option (List ℕ)) → line ≡ CoreEvent e
     → (x : Shown) × RunsOn r (after_turn r e x) m old new × StaysFaithful r s e x m.core.state → Obeyed r s line m old new
 told_obeyed r s line e m old new is q =
-    as_line r s line (Told e) m old new is (after_turn r e q.0, (q.0, refl), q.1, λ calm h. q.2 r.host (unheard (status_in s) s.last e r.host calm) h)
+    as_line r s line (CoreEvent e) m old new is (after_turn r e q.0, (q.0, refl), q.1, λ calm h. q.2 r.host (unheard (status_in s) s.message e r.host calm) h)
 
 pub answer_obeyed : (r : Running) (s : State) (line : Line) (m : Machine) (old new : Option (List ℕ)) → line ≡ Answer
     → (x : Shown) × (later : Running) × IsAnswered r x later × RunsOn r later m old new × (IsFaithful r s → IsFaithful later m.core.state) → Obeyed r s line m old new

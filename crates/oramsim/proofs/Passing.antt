@@ -17,9 +17,9 @@ use Rattle.oramsim.proofs.Clean.{Clean, clean_append, clean_nil, clean_text, err
 use Rattle.oramsim.specs.Printing.{error_text, ready_text, shape_text}
 use Rattle.oramsim.specs.Reading.{lines_of, line_of}
 use Rattle.oramsim.specs.Script.{HasNoFailure, HasRun, IsBad, IsDone, IsHarmless, IsHarmlessScript, IsPassed, IsRefusedLine, IsScriptText, IsUnfit, Point, Running, Stage, Starts, stage_text, start, text_at}
-use Rattle.oramsim.specs.Standing.{RunsOnAt, IsCalmAt, IsFaithfulAt, IsAtRun, StandsAt, Prints}
+use Rattle.oramsim.specs.Correspondence.{RunsOnAt, IsCalmAt, IsFaithfulAt, IsAtRun, StandsAt, Prints}
 use Rattle.oramsim.specs.declared.line.Line.{Line}
-use Rattle.oramsim.specs.declared.line.Line.TheVariants.{Device, Told, Answer, Drain, Late, Reopen, Tamper, Swap, Snapshot, Restore}
+use Rattle.oramsim.specs.declared.line.Line.TheVariants.{Device, CoreEvent, Answer, Drain, Late, Reopen, Tamper, Swap, Snapshot, Restore}
 use Rattle.oramsim.specs.declared.machine.Machine.{Machine}
 use Rattle.oramsim.specs.declared.script.Ending.TheVariants.{End, BadLine}
 use Rattle.oramsim.specs.declared.script.SimFault.{SimFault}
@@ -100,7 +100,7 @@ head_made head (Err fault) q k clean = subst (λ (u : Point). Clean u.head) (sym
 head_done : (stage : Stage) (p q : Point) (line : Line) → IsDone p stage line q → Clean p.head → Clean q.head
 head_done (Some r) p q line k clean = subst (λ (u : Point). Clean u.head) (sym k.2) clean
 head_done None p q (Device blocks block_bytes slots top lifetime) k clean = head_made p.head (device_of (record { blocks = blocks; block_bytes = block_bytes; slots = slots; top = top; lifetime = lifetime })) q k clean
-head_done None p q (Told e) k clean = absurd k
+head_done None p q (CoreEvent e) k clean = absurd k
 head_done None p q Answer k clean = absurd k
 head_done None p q Drain k clean = absurd k
 head_done None p q Late k clean = absurd k

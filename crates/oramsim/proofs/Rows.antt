@@ -4,15 +4,15 @@ use Rattle.std.specs.Prelude.{codes}
 use Rattle.std.specs.Fmt.{digits}
 use Rattle.hex.proofs.OnLiterals.{hex_on_literals}
 use Rattle.hex.specs.Hex.{encode_with}
-use Rattle.oram_run.specs.declared.events.Command.TheVariants.{Read, Write, Discard}
-use Rattle.oram_run.specs.declared.events.Event.TheVariants as event
-use Rattle.oram_run.specs.declared.events.Note.TheVariants.{Accepted, Refused, FailedNow, Resent}
-use Rattle.oram_run.specs.declared.events.Reason.TheVariants.{Malformed, Tampered}
-use Rattle.oram_run.specs.declared.events.Refusal.TheVariants.{Exhausted}
-use Rattle.oram_run.specs.declared.events.ReplyBody.TheVariants.{Data}
+use Rattle.oram_semantics.specs.declared.events.Command.TheVariants.{Read, Write, Discard}
+use Rattle.oram_semantics.specs.declared.events.Event.TheVariants as event
+use Rattle.oram_semantics.specs.declared.events.Note.TheVariants.{Accepted, Refused, FailedNow, Resent}
+use Rattle.oram_semantics.specs.declared.events.Reason.TheVariants.{Malformed, Tampered}
+use Rattle.oram_semantics.specs.declared.events.Refusal.TheVariants.{Exhausted}
+use Rattle.oram_semantics.specs.declared.events.ReplyBody.TheVariants.{Data}
 use Rattle.oramsim.specs.Printing.{note_text, reply_text, send_text, error_text}
 use Rattle.oramsim.specs.Reading.{lines_of, line_of, line_from, device_from, addressed, read_from, discard_from, write_from, raw_from, tamper_from, swap_from, named_line, number_below, numbers_below, hex_bytes}
-use Rattle.oramsim.specs.declared.line.Line.TheVariants.{Device, Told, Drain, Reopen, Tamper, Swap, Restore}
+use Rattle.oramsim.specs.declared.line.Line.TheVariants.{Device, CoreEvent, Drain, Reopen, Tamper, Swap, Restore}
 
 lines_ended : lines_of (97 ∷ 10 ∷ 10 ∷ 98 ∷ 10 ∷ []) ≡ (97 ∷ []) ∷ [] ∷ (98 ∷ []) ∷ []
 lines_ended = refl
@@ -24,7 +24,7 @@ device_line : line_of (codes "device 8 16 4 8 100") ≡ Some (Device 8 16 4 8 10
 unfolding line_from device_from number_below
 device_line = refl
 
-read_line : line_of (codes "read 1 0 18446744073709551615 0") ≡ Some (Told (event.Submit 1 (Read 0) (18446744073709551615 ∷ 0 ∷ [])))
+read_line : line_of (codes "read 1 0 18446744073709551615 0") ≡ Some (CoreEvent (event.Submit 1 (Read 0) (18446744073709551615 ∷ 0 ∷ [])))
 unfolding line_from read_from addressed number_below numbers_below
 read_line = refl
 
@@ -36,7 +36,7 @@ address_too_large : line_of (codes "read 1 4294967296") ≡ None
 unfolding line_from read_from addressed number_below numbers_below
 address_too_large = refl
 
-no_words : line_of (codes "read 1 5") ≡ Some (Told (event.Submit 1 (Read 5) []))
+no_words : line_of (codes "read 1 5") ≡ Some (CoreEvent (event.Submit 1 (Read 5) []))
 unfolding line_from read_from addressed number_below numbers_below
 no_words = refl
 
@@ -60,7 +60,7 @@ drain_line : line_of (codes "drain") ≡ Some Drain
 unfolding line_from named_line
 drain_line = refl
 
-discard_line : line_of (codes "discard 3 5 2 4") ≡ Some (Told (event.Submit 3 (Discard 5) (2 ∷ 4 ∷ [])))
+discard_line : line_of (codes "discard 3 5 2 4") ≡ Some (CoreEvent (event.Submit 3 (Discard 5) (2 ∷ 4 ∷ [])))
 unfolding line_from discard_from addressed number_below numbers_below
 discard_line = refl
 
@@ -68,7 +68,7 @@ discard_of_nothing : line_of (codes "discard 3") ≡ None
 unfolding line_from discard_from addressed
 discard_of_nothing = refl
 
-write_line : line_of (codes "write 2 3 0aFf 7") ≡ Some (Told (event.Submit 2 (Write 3 (10 ∷ 255 ∷ [])) (7 ∷ [])))
+write_line : line_of (codes "write 2 3 0aFf 7") ≡ Some (CoreEvent (event.Submit 2 (Write 3 (10 ∷ 255 ∷ [])) (7 ∷ [])))
 unfolding line_from write_from number_below numbers_below hex_bytes hex_on_literals
 write_line = refl
 
@@ -76,7 +76,7 @@ odd_digits : line_of (codes "write 2 3 0aF 7") ≡ None
 unfolding line_from write_from number_below numbers_below hex_bytes hex_on_literals
 odd_digits = refl
 
-raw_line : line_of (codes "raw 8106") ≡ Some (Told (event.Answer (129 ∷ 6 ∷ [])))
+raw_line : line_of (codes "raw 8106") ≡ Some (CoreEvent (event.Answer (129 ∷ 6 ∷ [])))
 unfolding line_from raw_from hex_bytes hex_on_literals
 raw_line = refl
 
@@ -100,7 +100,7 @@ swap_of_more : line_of (codes "swap 2 0 1 0 0") ≡ None
 unfolding line_from swap_from
 swap_of_more = refl
 
-lost_line : line_of (codes "lost") ≡ Some (Told event.Lost)
+lost_line : line_of (codes "lost") ≡ Some (CoreEvent event.Lost)
 unfolding line_from named_line
 lost_line = refl
 

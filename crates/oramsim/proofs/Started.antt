@@ -6,7 +6,7 @@ use Rattle.oram_geometry.specs.declared.ShapeFault.{ShapeFault}
 use Rattle.oram_geometry.specs.Sizes.{trees_of}
 use Rattle.oramsim.specs.Printing.{ready_text, shape_text}
 use Rattle.oramsim.specs.Script.{IsNewRun, Point, Running, Starts, stage_text}
-use Rattle.oramsim.specs.Standing.{RunsOnAt, IsFaithful, IsFaithfulAt, IsAtRun}
+use Rattle.oramsim.specs.Correspondence.{RunsOnAt, IsFaithful, IsFaithfulAt, IsAtRun}
 use Rattle.oramsim.specs.declared.machine.Machine.{Machine}
 
 pub nothing_shown : (r : Running) → r.turns ≡ [] → stage_text (Some r) ≡ []

@@ -7,15 +7,15 @@ use Rattle.std.proofs.KnownBytes.{Appends-trans, Appends-nil}
 use Rattle.std.proofs.lemmas.Fn.{FoldsTo-push}
 use Rattle.std.proofs.lemmas.Grind.{flat_map-append}
 use Rattle.std.proofs.lemmas.List.{map-append}
-use Rattle.oram_run.specs.Law.{StepsByRule, new_state}
-use Rattle.oram_run.specs.Run.{Shown}
-use Rattle.oram_run.specs.Shape.{Shape}
-use Rattle.oram_run.specs.State.{State}
-use Rattle.oram_run.specs.declared.events.Event.{Event}
+use Rattle.oram_semantics.specs.Law.{StepsByRule, new_state}
+use Rattle.oram_semantics.specs.Run.{Shown}
+use Rattle.oram_semantics.specs.Scheme.{Scheme}
+use Rattle.oram_semantics.specs.State.{State}
+use Rattle.oram_semantics.specs.declared.events.Event.{Event}
 use Rattle.oram_core.specs.Steps.{Steps}
 use Rattle.oramsim.specs.Printing.{reaction_text}
 use Rattle.oramsim.specs.Script.{Running, Turn, after_turn, all_shown, left_at, newest_of, plain_shape, stage_text}
-use Rattle.oramsim.specs.Standing.{RunsOn, IsPlayed, IsAtRun, Prints}
+use Rattle.oramsim.specs.Correspondence.{RunsOn, IsPlayed, IsAtRun, Prints}
 use Rattle.oramsim.specs.declared.machine.Machine.{Machine}
 use Rattle.oramsim.proofs.Whole.{newest_or}
 
@@ -28,8 +28,8 @@ turn_text r e x =
     let turn : Turn = record { event = e; shown = x } in
     ap (flat_map reaction_text) (map-append (λ (t : Turn). t.shown) r.turns (turn ∷ [])) ∙ (flat_map-append reaction_text (all_shown r) (x ∷ []) ∙ ap (λ l. stage_text (Some r) ++ l) (append-nil (reaction_text x)))
 
-pub moving : (v w : Shape) (s t : State) (e : Event) (x : Shown) → w ≡ v → Steps v s e x t → StepsByRule w s e x t
-moving v w s t e x same step = subst (λ (u : Shape). StepsByRule u s e x t) (sym same) step.moves
+pub moving : (v w : Scheme) (s t : State) (e : Event) (x : Shown) → w ≡ v → Steps v s e x t → StepsByRule w s e x t
+moving v w s t e x same step = subst (λ (u : Scheme). StepsByRule u s e x t) (sym same) step.moves
 
 pub goes_on : (r : Running) (m n : Machine) (e : Event) (x : Shown) (sent old new : Option (List ℕ)) → IsAtRun r m → IsPlayed m.core.device m.core.state e x sent n.core.state
     → n.core.device ≡ m.core.device → n.outstanding ≡ newest_of x.sends (left_at e m.outstanding) → n.server ≡ m.server → n.snapshot ≡ m.snapshot
@@ -41,8 +41,8 @@ goes_on r m n e x sent old new f played device out server snapshot wrote = (
     leads = (
       f.leads.0,
       f.leads.1,
-      FoldsTo-push (λ a (t : Turn) b. StepsByRule r.setting.shape a t.event t.shown b) (new_state r.setting f.leads.0) r.turns m.core.state (record { event = e; shown = x }) n.core.state f.leads.2
-          (moving (plain_shape m.core.device) r.setting.shape m.core.state n.core.state e x f.shape played.steps),
+      FoldsTo-push (λ a (t : Turn) b. StepsByRule r.setting.scheme a t.event t.shown b) (new_state r.setting f.leads.0) r.turns m.core.state (record { event = e; shown = x }) n.core.state f.leads.2
+          (moving (plain_shape m.core.device) r.setting.scheme m.core.state n.core.state e x f.shape played.steps),
     );
     message = out ∙ ap (λ o. newest_of x.sends (left_at e o)) f.message;
     host = server ∙ f.host;

@@ -5,23 +5,23 @@ use Rattle.std.specs.Option.{option_or}
 use Rattle.std.specs.Str.{bytes_eq}
 use Rattle.oram_geometry.specs.declared.Sizes.{Sizes}
 use Rattle.oram_geometry.specs.Sizes.{trees_of}
-use Rattle.oram_run.specs.Moves.{latest}
-use Rattle.oram_run.specs.Progress.{Status}
-use Rattle.oram_run.specs.Progress.Status.{Idle, Waiting, Stalling, Over}
-use Rattle.oram_run.specs.Run.{Shown, is_over, is_waiting, refusal_of}
-use Rattle.oram_run.specs.State.{State, status_by, status_in}
-use Rattle.oram_run.specs.declared.events.Event.{Event}
-use Rattle.oram_run.specs.declared.events.Event.TheVariants.{Submit, Answer, Lost, Reopen, Retry}
-use Rattle.oram_run.specs.declared.events.Command.{Command}
-use Rattle.oram_run.specs.declared.events.Note.TheVariants.{Unexpected}
-use Rattle.oram_run.specs.declared.events.Reason.{Reason}
-use Rattle.oram_run.specs.declared.events.Refusal.{Refusal}
-use Rattle.oram_run.specs.declared.events.Submission.{Submission}
-use Rattle.oram_run.proofs.Judged.{bytes_same}
+use Rattle.oram_semantics.specs.Moves.{latest}
+use Rattle.oram_semantics.specs.Progress.{Status}
+use Rattle.oram_semantics.specs.Progress.Status.{Idle, Waiting, Stalling, Over}
+use Rattle.oram_semantics.specs.Run.{Shown, is_over, is_waiting, refusal_of}
+use Rattle.oram_semantics.specs.State.{State, status_by, status_in}
+use Rattle.oram_semantics.specs.declared.events.Event.{Event}
+use Rattle.oram_semantics.specs.declared.events.Event.TheVariants.{Submit, Answer, Lost, Reopen, Retry}
+use Rattle.oram_semantics.specs.declared.events.Command.{Command}
+use Rattle.oram_semantics.specs.declared.events.Note.TheVariants.{Unexpected}
+use Rattle.oram_semantics.specs.declared.events.Reason.{Reason}
+use Rattle.oram_semantics.specs.declared.events.Refusal.{Refusal}
+use Rattle.oram_semantics.specs.declared.events.Submission.{Submission}
+use Rattle.oram_semantics.proofs.Judged.{bytes_same}
 use Rattle.oram_core.specs.Doing.{Done, noted, stalled_by, finished_by, first_message, first_messages, sent_if_idle, submitted_by, lost_by, retried_by}
 use Rattle.oram_core.specs.Steps.{Steps, Heard, did}
 use Rattle.oramsim.specs.Script.{is_answer, left_at, newest_of, plain_shape}
-use Rattle.oramsim.specs.Standing.{IsWhole, answers_left}
+use Rattle.oramsim.specs.Correspondence.{IsWhole, answers_left}
 
 newest_some : (xs : List (List ℕ)) (x : List ℕ) (m : Option (List ℕ)) → option_or (newest_of xs (Some x)) m ≡ newest_of xs (Some x)
 newest_some [] x m = refl
@@ -70,7 +70,7 @@ submitted : (d : Sizes) (s : State) (x : Submission) (o : Option Refusal) (messa
 submitted d s x (Some e) message alive w = w
 submitted d s x None message alive w = record {
   waits = accepted_waits s.failure s.queue s.lost x (first_message d s x) message (alive refl) w.rests w.waits;
-  latest = accepted_latest s.queue (first_message d s x) s.last message w.latest;
+  latest = accepted_latest s.queue (first_message d s x) s.message message w.latest;
   rests = λ none e. long s.queue x e;
   stage = w.stage;
 }
@@ -159,7 +159,7 @@ heard d s t x message e w (inr (inr h)) = by_plain d None x t (finished_by (plai
   waits = finished_waits s.failure s.queue s.lost d s h.rest e;
   latest = finished_latest d s h.rest [];
   rests = λ none empty. not_lost s.failure s.queue s.lost e;
-  stage = λ none. some_trees d s.stage (w.stage none);
+  stage = λ none. some_trees d s.entry_number (w.stage none);
 })
 
 answered : (d : Sizes) (s t : State) (x : Shown) (bytes : List ℕ) (message : Option (List ℕ)) (now : Status) (b : Bool) → status_in s ≡ now → bytes_eq bytes (129 ∷ 8 ∷ []) ≡ b → IsWhole d s message → Steps (plain_shape d) s (Answer bytes) x t
@@ -186,8 +186,8 @@ whole_after d s t Retry x message w step = by_plain d message x t (retried_by s 
 none_wanted : (d : Sizes) (t : State) (xs : List (List ℕ)) (n : ℕ) → xs ≡ [] → answers_left d t (newest_of xs None) < n + 1
 none_wanted d t xs n e = rw e (omega arith)
 
-next_wanted : (d : Sizes) (s t : State) (m : List ℕ) (k : ℕ) → length s.queue ≡ suc k → t.queue ≡ s.queue → t.stage ≡ s.stage + 1 → t.stage < 2 * trees_of d
-    → 2 * trees_of d * length t.queue - t.stage + 1 < 2 * trees_of d * length s.queue - s.stage + 1
+next_wanted : (d : Sizes) (s t : State) (m : List ℕ) (k : ℕ) → length s.queue ≡ suc k → t.queue ≡ s.queue → t.entry_number ≡ s.entry_number + 1 → t.entry_number < 2 * trees_of d
+    → 2 * trees_of d * length t.queue - t.entry_number + 1 < 2 * trees_of d * length s.queue - s.entry_number + 1
 next_wanted d s t m k long same stage within = rw (same, stage, long) (omega (arith, within, stage))
 
 some_queue : (f : Option Reason) (q : List Submission) (l : Bool) → status_by f q l ≡ Waiting → (k : ℕ) × (length q ≡ suc k)
@@ -201,29 +201,29 @@ is_waiting_at Idle w = cc
 is_waiting_at Stalling w = cc
 is_waiting_at Over w = cc
 
-finished_wanted : (d : Sizes) (s : State) (x : Submission) (rest : List Submission) → s.queue ≡ x ∷ rest → s.stage < 2 * trees_of d
-    → answers_left d (finished_by (plain_shape d) s x rest).state (newest_of (first_messages d s rest) None) < 2 * trees_of d * length s.queue - s.stage + 1
+finished_wanted : (d : Sizes) (s : State) (x : Submission) (rest : List Submission) → s.queue ≡ x ∷ rest → s.entry_number < 2 * trees_of d
+    → answers_left d (finished_by (plain_shape d) s x rest).state (newest_of (first_messages d s rest) None) < 2 * trees_of d * length s.queue - s.entry_number + 1
 finished_wanted d s x [] q within = omega arith
 finished_wanted d s x (y ∷ rest) q within = rw q (omega (arith, within))
 
 heard_wanted : (d : Sizes) (s t : State) (x : Shown) (message : Option (List ℕ)) → status_in s ≡ Waiting → IsWhole d s message → Heard (plain_shape d) s (did x t)
-    → answers_left d t (newest_of x.sends None) < 2 * trees_of d * length s.queue - s.stage + 1
+    → answers_left d t (newest_of x.sends None) < 2 * trees_of d * length s.queue - s.entry_number + 1
 heard_wanted d s t x message e w (inl h) = none_wanted d t x.sends _ h.sends
 heard_wanted d s t x message e w (inr (inl h)) =
     let q = some_queue s.failure s.queue s.lost e in
-    rw h.sends (next_wanted d s t [] q.0 q.1 h.queue h.stage h.within)
+    rw h.sends (next_wanted d s t [] q.0 q.1 h.queue h.entry_number h.within)
 heard_wanted d s t x message e w (inr (inr h)) =
-    subst (λ (y : Done). answers_left d y.state (newest_of y.sends None) < 2 * trees_of d * length s.queue - s.stage + 1) (sym h.does)
+    subst (λ (y : Done). answers_left d y.state (newest_of y.sends None) < 2 * trees_of d * length s.queue - s.entry_number + 1) (sym h.does)
     (finished_wanted d s h.oldest h.rest h.queue (w.stage (no_failure s.failure s.queue s.lost e)))
 
 answer_wanted : (d : Sizes) (s t : State) (x : Shown) (bytes : List ℕ) (message : Option (List ℕ)) (b : Bool) → status_in s ≡ Waiting → bytes_eq bytes (129 ∷ 8 ∷ []) ≡ b → IsWhole d s message → Steps (plain_shape d) s (Answer bytes) x t
-    → answers_left d t (newest_of x.sends None) < 2 * trees_of d * length s.queue - s.stage + 1
+    → answers_left d t (newest_of x.sends None) < 2 * trees_of d * length s.queue - s.entry_number + 1
 answer_wanted d s t x bytes message true e b w step =
-    subst (λ (y : Done). answers_left d y.state (newest_of y.sends None) < 2 * trees_of d * length s.queue - s.stage + 1) (sym (step.plain (stalled_by s) (rw (e, b) refl))) (none_wanted d (stalled_by s).state [] _ refl)
+    subst (λ (y : Done). answers_left d y.state (newest_of y.sends None) < 2 * trees_of d * length s.queue - s.entry_number + 1) (sym (step.plain (stalled_by s) (rw (e, b) refl))) (none_wanted d (stalled_by s).state [] _ refl)
 answer_wanted d s t x bytes message false e b w step =
     heard_wanted d s t x message e w (step.heard bytes refl e (λ same. absurd (let both : true ≡ false = sym (bytes_same bytes (129 ∷ 8 ∷ []) same) ∙ b in cc)))
 
-wanted_before : (d : Sizes) (s : State) (message : Option (List ℕ)) → is_some message ≡ true → answers_left d s message ≡ 2 * trees_of d * length s.queue - s.stage + 1
+wanted_before : (d : Sizes) (s : State) (message : Option (List ℕ)) → is_some message ≡ true → answers_left d s message ≡ 2 * trees_of d * length s.queue - s.entry_number + 1
 wanted_before d s message some = rw some refl
 
 pub fewer : (d : Sizes) (s t : State) (event : Event) (x : Shown) (message : Option (List ℕ)) → IsWhole d s message → Steps (plain_shape d) s event x t → is_answer event ≡ true → is_some message ≡ true

@@ -1,4 +1,4 @@
 pub mod Reading
 pub mod Printing
 pub mod Script
-pub mod Standing
+pub mod Correspondence

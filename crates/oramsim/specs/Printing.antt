@@ -6,16 +6,16 @@ use Rattle.byteorder.specs.Endian.{big_number}
 use Rattle.hex.specs.Hex.{encode_lower}
 use Rattle.oram_geometry.specs.declared.ShapeFault.{ShapeFault}
 use Rattle.oram_geometry.specs.Sizes.{fault_number}
-use Rattle.oram_run.specs.Run.{Shown}
-use Rattle.oram_run.specs.declared.events.Note.{Note}
-use Rattle.oram_run.specs.declared.events.Note.TheVariants.{Accepted, Refused, Taken, Stalled, FailedNow, Resent, Unexpected}
-use Rattle.oram_run.specs.declared.events.Reason.{Reason}
-use Rattle.oram_run.specs.declared.events.Reason.TheVariants.{Malformed, Tampered, HostRefused}
-use Rattle.oram_run.specs.declared.events.Refusal.{Refusal}
-use Rattle.oram_run.specs.declared.events.Refusal.TheVariants as refusal
-use Rattle.oram_run.specs.declared.events.Reply.{Reply}
-use Rattle.oram_run.specs.declared.events.ReplyBody.{ReplyBody}
-use Rattle.oram_run.specs.declared.events.ReplyBody.TheVariants as body
+use Rattle.oram_semantics.specs.Run.{Shown}
+use Rattle.oram_semantics.specs.declared.events.Note.{Note}
+use Rattle.oram_semantics.specs.declared.events.Note.TheVariants.{Accepted, Refused, Taken, Stalled, FailedNow, Resent, Unexpected}
+use Rattle.oram_semantics.specs.declared.events.Reason.{Reason}
+use Rattle.oram_semantics.specs.declared.events.Reason.TheVariants.{Malformed, Tampered, HostRefused}
+use Rattle.oram_semantics.specs.declared.events.Refusal.{Refusal}
+use Rattle.oram_semantics.specs.declared.events.Refusal.TheVariants as refusal
+use Rattle.oram_semantics.specs.declared.events.Reply.{Reply}
+use Rattle.oram_semantics.specs.declared.events.ReplyBody.{ReplyBody}
+use Rattle.oram_semantics.specs.declared.events.ReplyBody.TheVariants as body
 
 abbrev pub newline : List ℕ
 newline = 10 ∷ []

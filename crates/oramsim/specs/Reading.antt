@@ -6,10 +6,10 @@ use Rattle.std.specs.Result.{result_ok}
 use Rattle.std.specs.Str.{bytes_eq}
 use Rattle.std.specs.Str.Parse.{digits_value}
 use Rattle.hex.specs.Hex.{decode_of}
-use Rattle.oram_run.specs.declared.events.Command.TheVariants.{Read, Write, Discard}
-use Rattle.oram_run.specs.declared.events.Event.TheVariants as event
+use Rattle.oram_semantics.specs.declared.events.Command.TheVariants.{Read, Write, Discard}
+use Rattle.oram_semantics.specs.declared.events.Event.TheVariants as event
 use Rattle.oramsim.specs.declared.line.Line.{Line}
-use Rattle.oramsim.specs.declared.line.Line.TheVariants.{Device, Told, Answer, Drain, Late, Reopen, Tamper, Swap, Snapshot, Restore}
+use Rattle.oramsim.specs.declared.line.Line.TheVariants.{Device, CoreEvent, Answer, Drain, Late, Reopen, Tamper, Swap, Snapshot, Restore}
 
 infixl 10 ◌>>=◌
 abbrev pub ◌>>=◌ : {A B : Type 0} → Option A → (A → Option B) → Option B
@@ -79,12 +79,12 @@ addressed _ = None
 unfoldable pub read_from : List (List ℕ) → Option Line
 read_from fields = do
   asked ← addressed fields
-  Some (Told (event.Submit asked.0 (Read asked.1) asked.2))
+  Some (CoreEvent (event.Submit asked.0 (Read asked.1) asked.2))
 
 unfoldable pub discard_from : List (List ℕ) → Option Line
 discard_from fields = do
   asked ← addressed fields
-  Some (Told (event.Submit asked.0 (Discard asked.1) asked.2))
+  Some (CoreEvent (event.Submit asked.0 (Discard asked.1) asked.2))
 
 unfoldable pub write_from : List (List ℕ) → Option Line
 write_from (s ∷ a ∷ h ∷ w) = do
@@ -92,13 +92,13 @@ write_from (s ∷ a ∷ h ∷ w) = do
   address ← number_below (2 ^ 32) a
   bytes ← hex_bytes h
   words ← numbers_below (2 ^ 64) w
-  Some (Told (event.Submit session (Write address bytes) words))
+  Some (CoreEvent (event.Submit session (Write address bytes) words))
 write_from _ = None
 
 unfoldable pub raw_from : List (List ℕ) → Option Line
 raw_from (h ∷ []) = do
   bytes ← hex_bytes h
-  Some (Told (event.Answer bytes))
+  Some (CoreEvent (event.Answer bytes))
 raw_from _ = None
 
 unfoldable pub tamper_from : List (List ℕ) → Option Line
@@ -123,9 +123,9 @@ unfoldable pub named_line : List ℕ → Option Line
 named_line word =
     if bytes_eq word (codes "answer") then Some Answer
     else if bytes_eq word (codes "drain") then Some Drain
-    else if bytes_eq word (codes "lost") then Some (Told event.Lost)
+    else if bytes_eq word (codes "lost") then Some (CoreEvent event.Lost)
     else if bytes_eq word (codes "late") then Some Late
-    else if bytes_eq word (codes "retry") then Some (Told event.Retry)
+    else if bytes_eq word (codes "retry") then Some (CoreEvent event.Retry)
     else if bytes_eq word (codes "reopen") then Some Reopen
     else if bytes_eq word (codes "snapshot") then Some Snapshot
     else if bytes_eq word (codes "restore") then Some Restore

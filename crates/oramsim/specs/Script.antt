@@ -12,17 +12,17 @@ use Rattle.oram_host.specs.Swaps.{IsSwapped, LacksPair}
 use Rattle.oram_host.specs.Serving.{Serves}
 use Rattle.oram_tree.specs.Format.{PutsAll}
 use Rattle.oram_tree.specs.State.{State as Tree}
-use Rattle.oram_run.specs.Shape.{Shape}
-use Rattle.oram_run.specs.Progress.{Setting}
-use Rattle.oram_run.specs.Formatting.{IsFormatted}
-use Rattle.oram_run.specs.Run.{Shown, AllRight}
-use Rattle.oram_run.specs.declared.events.Event.{Event}
-use Rattle.oram_run.specs.declared.events.Event.TheVariants as event
-use Rattle.oram_honest.specs.Honest.{Takes}
+use Rattle.oram_semantics.specs.Scheme.{Scheme}
+use Rattle.oram_semantics.specs.Progress.{Setting}
+use Rattle.oram_semantics.specs.Formatting.{IsFormatted}
+use Rattle.oram_semantics.specs.Run.{Shown, AllRight}
+use Rattle.oram_semantics.specs.declared.events.Event.{Event}
+use Rattle.oram_semantics.specs.declared.events.Event.TheVariants as event
+use Rattle.oram_host_laws.specs.Honest.{Takes}
 use Rattle.oramsim.specs.Printing.{reaction_text, ready_text, shape_text, error_text, memory_text}
 use Rattle.oramsim.specs.Reading.{lines_of, line_of}
 use Rattle.oramsim.specs.declared.line.Line.{Line}
-use Rattle.oramsim.specs.declared.line.Line.TheVariants.{Device, Told, Answer, Drain, Late, Reopen, Tamper, Swap, Snapshot, Restore}
+use Rattle.oramsim.specs.declared.line.Line.TheVariants.{Device, CoreEvent, Answer, Drain, Late, Reopen, Tamper, Swap, Snapshot, Restore}
 use Rattle.oramsim.specs.declared.script.Ending.{Ending}
 use Rattle.oramsim.specs.declared.script.Ending.TheVariants.{End, BadLine}
 use Rattle.oramsim.specs.declared.script.SimFault.{SimFault}
@@ -35,7 +35,7 @@ pub record Turn : Type 0 where
 
 -- a device at work, and its host
 pub record Running : Type 0 where
-  pub setting : Setting  -- the device's shape, and the messages that formatted it
+  pub setting : Setting  -- the device under its sealer, and the messages that formatted it
   pub turns : List Turn  -- so far, the oldest first
   pub message : Option (List ℕ)  -- the one that is outstanding
   pub host : Host
@@ -85,7 +85,7 @@ AtEvent r e after = (x : Shown) × (after ≡ after_turn r e x)
 -- the effect of a line on a device and its host
 abbrev pub Obeys : Running → Line → Running → Type 0
 Obeys r (Device blocks block_bytes slots top lifetime) after = ⊥
-Obeys r (Told e) after = AtEvent r e after
+Obeys r (CoreEvent e) after = AtEvent r e after
 Obeys r Answer after = (x : Shown) × IsAnswered r x after
 Obeys r Drain after = (xs : List Shown) × FoldsTo IsDrained r xs after × (after.message ≡ None)
 Obeys r Late after = (bytes : List ℕ) × (host : Host) × HostAnswers r.host r.message bytes host × AtEvent (with_host r host) event.Lost after
@@ -96,12 +96,12 @@ Obeys r Snapshot after = after ≡ record r { copy = Some r.host }
 Obeys r Restore after = (host : Host) × (r.copy ≡ Some host) × (after ≡ with_host r host)
 
 -- a device with the sealer that changes nothing
-abbrev pub plain_shape : Sizes → Shape
+abbrev pub plain_shape : Sizes → Scheme
 plain_shape d = record { device = d; overhead = 0; sealing = λ nonce plain. plain; opening = λ bytes. Some bytes }
 
 -- a device that has just been formatted, on a host that kept nothing before
 pub record IsNewRun (d : Sizes) (r : Running) : Type 0 where
-  pub shape : r.setting.shape ≡ plain_shape d
+  pub shape : r.setting.scheme ≡ plain_shape d
   pub trees : List Tree
   pub formatted : IsFormatted r.setting trees
   pub taken : PutsAll Takes [] r.setting.format r.host
@@ -138,7 +138,7 @@ abbrev pub IsDone : Point → Stage → Line → Point → Type 0
 IsDone p (Some r) line q = (later : Running) × Obeys r line later × (q ≡ record { stage = Some later; head = p.head })
 IsDone p None (Device blocks block_bytes slots top lifetime) q =
     Starts p.head (device_of (record { blocks = blocks; block_bytes = block_bytes; slots = slots; top = top; lifetime = lifetime })) q
-IsDone p None (Told e) q = ⊥
+IsDone p None (CoreEvent e) q = ⊥
 IsDone p None Answer q = ⊥
 IsDone p None Drain q = ⊥
 IsDone p None Late q = ⊥
@@ -160,7 +160,7 @@ IsUnfit r (Device blocks block_bytes slots top lifetime) = ⊤
 IsUnfit r (Tamper tree node offset) = IsByteless r.host tree node offset
 IsUnfit r (Swap tree_a node_a tree_b node_b) = LacksPair r.host tree_a node_a tree_b node_b
 IsUnfit r Restore = r.copy ≡ None
-IsUnfit r (Told e) = ⊥
+IsUnfit r (CoreEvent e) = ⊥
 IsUnfit r Answer = ⊥
 IsUnfit r Drain = ⊥
 IsUnfit r Late = ⊥
@@ -169,7 +169,7 @@ IsUnfit r Snapshot = ⊥
 
 abbrev pub is_device : Line → Bool
 is_device (Device blocks block_bytes slots top lifetime) = true
-is_device (Told e) = false
+is_device (CoreEvent e) = false
 is_device Answer = false
 is_device Drain = false
 is_device Late = false
@@ -246,7 +246,7 @@ is_answer event.Retry = false
 
 -- whether a line forges an answer, or changes what the host keeps
 abbrev pub is_meddling : Line → Bool
-is_meddling (Told e) = is_answer e
+is_meddling (CoreEvent e) = is_answer e
 is_meddling (Tamper tree node offset) = true
 is_meddling (Swap tree_a node_a tree_b node_b) = true
 is_meddling Restore = true

@@ -8,7 +8,7 @@ ghost use Rattle.oramsim.specs.Reading as spec;
 use crate::fields::Fields;
 use hex::FromHexError;
 use oram_bytes::{Bytes, Words};
-use oram_run::{Command, Event};
+use oram_semantics::{Command, Event};
 use std::alloc::{AllocError, Global};
 use std::str;
 
@@ -24,7 +24,7 @@ pub enum Line {
         lifetime: u64,
     },
     /// Gives the device this event. The server takes no part in it.
-    Told(Event),
+    CoreEvent(Event),
     /// Lets the server answer the outstanding message.
     Answer,
     /// Lets the server answer until no message is outstanding.
@@ -171,7 +171,7 @@ fn read_in(alloc: Global, fields: Fields) -> Result<Option<Line>, AllocError>
     let Some((session, address, words)) = addressed_in(alloc, fields)? else {
         return Ok(None);
     };
-    Ok(Some(Line::Told(Event::Submit {
+    Ok(Some(Line::CoreEvent(Event::Submit {
         session,
         command: Command::Read(address),
         words,
@@ -185,7 +185,7 @@ fn discard_in(alloc: Global, fields: Fields) -> Result<Option<Line>, AllocError>
     let Some((session, address, words)) = addressed_in(alloc, fields)? else {
         return Ok(None);
     };
-    Ok(Some(Line::Told(Event::Submit {
+    Ok(Some(Line::CoreEvent(Event::Submit {
         session,
         command: Command::Discard(address),
         words,
@@ -214,7 +214,7 @@ fn write_in(alloc: Global, fields: Fields) -> Result<Option<Line>, AllocError>
     let Some(words) = words_in(alloc, words)? else {
         return Ok(None);
     };
-    Ok(Some(Line::Told(Event::Submit {
+    Ok(Some(Line::CoreEvent(Event::Submit {
         session,
         command: Command::Write(address, bytes),
         words,
@@ -234,7 +234,7 @@ fn raw_in(alloc: Global, fields: Fields) -> Result<Option<Line>, AllocError>
     let Some(bytes) = bytes_in(alloc, bytes)? else {
         return Ok(None);
     };
-    Ok(Some(Line::Told(Event::Answer(bytes))))
+    Ok(Some(Line::CoreEvent(Event::Answer(bytes))))
 }
 
 #[tactic(auto, unfolding(crate::specs::Reading::tamper_from))]
@@ -283,11 +283,11 @@ fn word_line(word: &[u8]) -> Option<Line>
     } else if word == b"drain".as_slice() {
         Some(Line::Drain)
     } else if word == b"lost".as_slice() {
-        Some(Line::Told(Event::Lost))
+        Some(Line::CoreEvent(Event::Lost))
     } else if word == b"late".as_slice() {
         Some(Line::Late)
     } else if word == b"retry".as_slice() {
-        Some(Line::Told(Event::Retry))
+        Some(Line::CoreEvent(Event::Retry))
     } else if word == b"reopen".as_slice() {
         Some(Line::Reopen)
     } else if word == b"snapshot".as_slice() {

@@ -5,14 +5,14 @@ ghost use Rattle.std.specs.List.{FoldsTo};
 ghost use Rattle.oram_geometry.specs.Sizes.{IsDevice};
 ghost use Rattle.oram_host.specs.Flips.{IsByteless};
 ghost use Rattle.oram_host.specs.Swaps.{LacksPair};
-ghost use Rattle.oram_run.specs.Run.{Shown};
+ghost use Rattle.oram_semantics.specs.Run.{Shown};
 ghost use Rattle.oramsim.specs.Printing as printing;
 ghost use Rattle.oramsim.specs.Script.{Point, Running, IsAnswered, IsDrained, IsNewRun, IsUnfit, Obeys, HostAnswers, Starts, after_turn};
 ghost use Rattle.oramsim.specs.Script as spec;
-ghost use Rattle.oramsim.specs.Standing.{AreWhole, GivesUp, GivesUpAt, RunsOn, RunsOnAt, IsFaithful, IsFaithfulAt, IsHalted, IsHonestAt, IsPlayed, IsUnder, IsWholeMachine, IsAtRun, StaysFaithful, still_wanted};
+ghost use Rattle.oramsim.specs.Correspondence.{AreWhole, GivesUp, GivesUpAt, RunsOn, RunsOnAt, IsFaithful, IsFaithfulAt, IsHalted, IsHonestAt, IsPlayed, IsUnder, IsWholeMachine, IsAtRun, StaysFaithful, still_wanted};
 
 use crate::line::Line;
-use crate::printing::{FaultText, ReadyText, reaction_text};
+use crate::printer::{FaultText, ReadyText, reaction_text};
 use crate::script::SimFault;
 use oram_bucket::PlainSeal;
 use oram_bytes::Bytes;
@@ -256,7 +256,7 @@ impl Machine {
             (W.contents writer.old) (W.contents writer.new)) }
     {
         match line {
-            Line::Told(event) => {
+            Line::CoreEvent(event) => {
                 self.tell(alloc, writer, &event)?;
                 Ok(true)
             }

@@ -12,7 +12,7 @@ mod fields;
 mod line;
 mod lines;
 mod machine;
-mod printing;
+mod printer;
 mod script;
 
 pub use script::{Ending, SimFault, run_script};

@@ -6,12 +6,12 @@ ghost use Rattle.oramsim.specs.declared.script.SimFault.TheVariants.{OutOfMemory
 ghost use Rattle.oramsim.specs.Printing.{error_text};
 ghost use Rattle.oramsim.specs.Reading.{line_of};
 ghost use Rattle.oramsim.specs.Script.{Point, IsBad, IsHarmless, IsPassed, IsWithin};
-ghost use Rattle.oramsim.specs.Standing.{AreWhole, GivesUpAt, HasEnded, HasGivenUp, IsGivingUp, RunsOnAt, IsFaithfulAt, IsUntold, StandsAt};
+ghost use Rattle.oramsim.specs.Correspondence.{AreWhole, GivesUpAt, HasEnded, HasGivenUp, IsGivingUp, RunsOnAt, IsFaithfulAt, IsUntold, StandsAt};
 
 use crate::line::Line;
 use crate::lines::{flush, next_line};
 use crate::machine::{Machine, begin, put};
-use crate::printing::ErrorText;
+use crate::printer::ErrorText;
 use oram_geometry::Device;
 use std::alloc::{AllocError, AllocFailed, Global};
 use std::io::{BufRead, Write};

@@ -1,7 +1,7 @@
 //! Readers and writers that give or take only a few bytes per call, are interrupted, and end or fail.
 
 use crate::reading::RowFault;
-use crate::words::Words;
+use crate::words::RowWords;
 use std::alloc::{AllocError, Global};
 use std::io;
 use std::io::{ErrorKind, Read, Write};
@@ -20,7 +20,7 @@ pub struct Pace {
 }
 
 /// Reads the pace from the words `MOST smooth|interrupted ends|fails`.
-pub fn pace_in(words: &mut Words) -> Result<Pace, RowFault> {
+pub fn pace_in(words: &mut RowWords) -> Result<Pace, RowFault> {
     let most = words.size();
     let interrupts = match words.text() {
         "smooth" => false,

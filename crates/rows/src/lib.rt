@@ -16,4 +16,4 @@ pub use fakes::{Pace, Source, Target, pace_in};
 pub use groups::Groups;
 pub use page::Page;
 pub use reading::{RowFault, Table, run_table};
-pub use words::Words;
+pub use words::RowWords;

@@ -1,7 +1,7 @@
 //! Reads rows in turn, and writes each with its answer.
 
 use crate::page::Page;
-use crate::words::Words;
+use crate::words::RowWords;
 use hex::FromHexError;
 use std::alloc::{AllocError, AllocFailed, Global};
 use std::io;
@@ -58,7 +58,7 @@ pub trait Table {
         &mut self,
         alloc: Global,
         call: &str,
-        words: &mut Words,
+        words: &mut RowWords,
         page: &mut Page,
     ) -> Result<(), RowFault>;
 }
@@ -70,7 +70,7 @@ fn answer_row<T: Table>(
     row: &str,
     page: &mut Page,
 ) -> Result<(), AllocError> {
-    let mut words = Words::of(row);
+    let mut words = RowWords::of(row);
     let call = words.text();
     let made = table.answer(alloc, call, &mut words, page);
     match words.check().and(made) {

@@ -7,15 +7,15 @@ use std::alloc::Global;
 /// as a fault, and a zero or an empty value is returned instead. So code that reads words has no faults to handle; in
 /// the end the row's answer isn't written.
 #[derive(Drop)]
-pub struct Words<'a> {
+pub struct RowWords<'a> {
     rest: &'a str,
     fault: Option<RowFault>,
 }
 
-impl<'a> Words<'a> {
+impl<'a> RowWords<'a> {
     /// Splits a line into words, which single spaces separate.
-    pub fn of(line: &'a str) -> Words<'a> {
-        Words {
+    pub fn of(line: &'a str) -> RowWords<'a> {
+        RowWords {
             rest: line.trim(),
             fault: None,
         }

@@ -1,12 +1,12 @@
 //! Reads commands and events from words.
 
 use oram_bytes::{Bytes, Words as Tape};
-use oram_run::{Command, Event};
-use rows::{Page, RowFault, Words};
+use oram_semantics::{Command, Event};
+use rows::{Page, RowFault, RowWords};
 use std::alloc::Global;
 
 /// Reads a command of this kind: `read ADDRESS`, `write ADDRESS DATA` or `discard ADDRESS`.
-pub fn command_of(alloc: Global, kind: &str, words: &mut Words) -> Result<Command, RowFault> {
+pub fn command_of(alloc: Global, kind: &str, words: &mut RowWords) -> Result<Command, RowFault> {
     let address = words.short();
     match kind {
         "read" => Ok(Command::Read(address)),
@@ -18,7 +18,7 @@ pub fn command_of(alloc: Global, kind: &str, words: &mut Words) -> Result<Comman
 
 /// Reads an event of this kind: `KIND SESSION ADDRESS [DATA] TAPE` for a command, `hear BYTES` for an answer, `lost`,
 /// `reopened` or `retry`.
-pub fn event_of(alloc: Global, kind: &str, words: &mut Words) -> Result<Event, RowFault> {
+pub fn event_of(alloc: Global, kind: &str, words: &mut RowWords) -> Result<Event, RowFault> {
     match kind {
         "hear" => Ok(Event::Answer(Bytes::from_vec(words.bytes(alloc)))),
         "lost" => Ok(Event::Lost),

@@ -13,7 +13,7 @@ use crate::cores::machine::Machine;
 use crate::cores::seen::{Seen, show_alike};
 use oram_bucket::{ChaChaSeal, PlainSeal, Sealer};
 use oram_geometry::Device;
-use rows::{Page, RowFault, Words};
+use rows::{Page, RowFault, RowWords};
 use std::alloc::Global;
 
 /// The core of the rows, with the one sealer or the other, and what was seen of the core before it.
@@ -43,7 +43,7 @@ impl Cores {
         &mut self,
         alloc: Global,
         device: &Device,
-        words: &mut Words,
+        words: &mut RowWords,
         page: &mut Page,
     ) -> Result<(), RowFault> {
         let chacha = seen_of(self.chacha.take());
@@ -90,7 +90,7 @@ impl Cores {
         &mut self,
         alloc: Global,
         device: &Device,
-        words: &mut Words,
+        words: &mut RowWords,
         page: &mut Page,
     ) -> Result<(), RowFault> {
         let call = words.text();

@@ -12,7 +12,7 @@ mod said;
 
 use crate::cores::Cores;
 use oram_geometry::Device;
-use rows::{Page, RowFault, Table, Words, run_table};
+use rows::{Page, RowFault, RowWords, Table, run_table};
 use std::alloc::Global;
 use std::process::ExitCode;
 
@@ -25,7 +25,7 @@ struct Calls {
 
 impl Calls {
     /// `device SIZES`: writes how many trees the device has, or the number of the fault.
-    fn begin(&mut self, words: &mut Words, page: &mut Page) -> Result<(), RowFault> {
+    fn begin(&mut self, words: &mut RowWords, page: &mut Page) -> Result<(), RowFault> {
         let [blocks, block_bytes, slots, top, lifetime] = words.five_numbers();
         self.cores = Cores::new();
         self.device = match Device::new(blocks, block_bytes, slots, top, lifetime) {
@@ -49,7 +49,7 @@ impl Table for Calls {
         &mut self,
         alloc: Global,
         call: &str,
-        words: &mut Words,
+        words: &mut RowWords,
         page: &mut Page,
     ) -> Result<(), RowFault> {
         if call == "device" {

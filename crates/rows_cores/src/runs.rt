@@ -2,12 +2,12 @@
 
 use crate::commands::{command_of, event_of, show_command};
 use crate::said::{reason_of, refusal_name, show_reaction};
-use oram_run::{Note, Reaction, Refusal};
-use rows::{Page, RowFault, Words};
+use oram_semantics::{Note, Reaction, Refusal};
+use rows::{Page, RowFault, RowWords};
 use std::alloc::Global;
 
 /// `run copy COMMAND`: writes the copy of a command, and whether it equals the command.
-fn copy(alloc: Global, words: &mut Words, page: &mut Page) -> Result<(), RowFault> {
+fn copy(alloc: Global, words: &mut RowWords, page: &mut Page) -> Result<(), RowFault> {
     let command = command_of(alloc, words.text(), words)?;
     let copy = command.copy(alloc)?;
     show_command(&copy, page);
@@ -17,7 +17,7 @@ fn copy(alloc: Global, words: &mut Words, page: &mut Page) -> Result<(), RowFaul
 }
 
 /// `run equal COMMAND COMMAND`: writes whether the two are equal.
-fn equal(alloc: Global, words: &mut Words, page: &mut Page) -> Result<(), RowFault> {
+fn equal(alloc: Global, words: &mut RowWords, page: &mut Page) -> Result<(), RowFault> {
     let first = command_of(alloc, words.text(), words)?;
     let second = command_of(alloc, words.text(), words)?;
     page.flag(first == second);
@@ -25,7 +25,7 @@ fn equal(alloc: Global, words: &mut Words, page: &mut Page) -> Result<(), RowFau
 }
 
 /// `run same EVENT EVENT`: writes whether the two are equal.
-fn same(alloc: Global, words: &mut Words, page: &mut Page) -> Result<(), RowFault> {
+fn same(alloc: Global, words: &mut RowWords, page: &mut Page) -> Result<(), RowFault> {
     let first = event_of(alloc, words.text(), words)?;
     let second = event_of(alloc, words.text(), words)?;
     page.flag(first == second);
@@ -33,7 +33,7 @@ fn same(alloc: Global, words: &mut Words, page: &mut Page) -> Result<(), RowFaul
 }
 
 /// `run only REASON`: writes a reaction that is a failure and nothing else.
-fn only(alloc: Global, words: &mut Words, page: &mut Page) -> Result<(), RowFault> {
+fn only(alloc: Global, words: &mut RowWords, page: &mut Page) -> Result<(), RowFault> {
     let reaction = Reaction::only(alloc, Note::FailedNow(reason_of(words)?));
     show_reaction(&reaction, page);
     Ok(())
@@ -57,7 +57,7 @@ fn refusals(page: &mut Page) -> Result<(), RowFault> {
 }
 
 /// Makes a call.
-pub fn answer(alloc: Global, words: &mut Words, page: &mut Page) -> Result<(), RowFault> {
+pub fn answer(alloc: Global, words: &mut RowWords, page: &mut Page) -> Result<(), RowFault> {
     match words.text() {
         "copy" => copy(alloc, words, page),
         "equal" => equal(alloc, words, page),

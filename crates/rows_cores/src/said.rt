@@ -1,7 +1,7 @@
 //! Writes what a core says, in words.
 
-use oram_run::{Note, Reaction, Reason, Refusal, Reply, ReplyBody};
-use rows::{Page, RowFault, Words};
+use oram_semantics::{Note, Reaction, Reason, Refusal, Reply, ReplyBody};
+use rows::{Page, RowFault, RowWords};
 
 /// Returns the name of a refusal.
 pub fn refusal_name(refusal: Refusal) -> &'static str {
@@ -112,7 +112,7 @@ pub fn show_answered(reaction: &Reaction, page: &mut Page) {
 }
 
 /// Reads a reason from words.
-pub fn reason_of(words: &mut Words) -> Result<Reason, RowFault> {
+pub fn reason_of(words: &mut RowWords) -> Result<Reason, RowFault> {
     match words.text() {
         "malformed" => Ok(Reason::Malformed),
         "tampered" => Ok(Reason::Tampered(words.byte(), words.byte())),

@@ -3,7 +3,7 @@
 use crate::endings::{with_memory, write_ended};
 use crate::stopping;
 use oram_nbd::{HandshakeWatch, MemDisk, NbdFault, serve, transmit};
-use rows::{Pace, Page, RowFault, Source, Target, Words};
+use rows::{Pace, Page, RowFault, RowWords, Source, Target};
 use std::alloc::Global;
 use std::io;
 use std::io::{BufReader, Read};
@@ -42,7 +42,7 @@ fn talked<R: Read>(
 }
 
 /// Reads the pace of a stream, which `ends` or `fails` when it can't go on.
-fn pace_of(words: &mut Words) -> Result<Pace, RowFault> {
+fn pace_of(words: &mut RowWords) -> Result<Pace, RowFault> {
     match words.text() {
         "ends" => Ok(Pace::smooth(false)),
         "fails" => Ok(Pace::smooth(true)),
@@ -58,7 +58,7 @@ fn write_talk(page: &mut Page, talk: &Talk) -> Result<(), RowFault> {
 
 /// `nbd options COUNT HEAD`: a client sends the option `HEAD` `COUNT` times. Writes how its connection ends, and how
 /// many bytes it receives.
-fn options(alloc: Global, words: &mut Words, page: &mut Page) -> Result<(), RowFault> {
+fn options(alloc: Global, words: &mut RowWords, page: &mut Page) -> Result<(), RowFault> {
     let count = words.short();
     let head = words.bytes(alloc);
     let mut said = vec![in alloc; 0, 0, 0, 3]?;
@@ -74,7 +74,7 @@ fn options(alloc: Global, words: &mut Words, page: &mut Page) -> Result<(), RowF
 
 /// `nbd passes HEAD COUNT REST`: a client sends the requests `HEAD`, then `COUNT` bytes, then `REST`. Writes how its
 /// connection ends, and what it receives.
-fn passes(alloc: Global, words: &mut Words, page: &mut Page) -> Result<(), RowFault> {
+fn passes(alloc: Global, words: &mut RowWords, page: &mut Page) -> Result<(), RowFault> {
     let head = words.bytes(alloc);
     let count = words.number();
     let rest = words.bytes(alloc);
@@ -99,7 +99,12 @@ impl Connections {
     }
 
     /// `nbd talk SAID`: a client sends `SAID` and no more. Writes how its connection ends, and what it receives.
-    fn talk(&mut self, alloc: Global, words: &mut Words, page: &mut Page) -> Result<(), RowFault> {
+    fn talk(
+        &mut self,
+        alloc: Global,
+        words: &mut RowWords,
+        page: &mut Page,
+    ) -> Result<(), RowFault> {
         self.said = words.bytes(alloc);
         let mut source = Source::new(&self.said, Pace::smooth(false));
         let talk = talked(alloc, &mut source, ROOM, Pace::smooth(true))?;
@@ -142,7 +147,7 @@ impl Connections {
         &self,
         alloc: Global,
         fails: bool,
-        words: &mut Words,
+        words: &mut RowWords,
         page: &mut Page,
     ) -> Result<(), RowFault> {
         let from = words.size();
@@ -168,12 +173,12 @@ impl Connections {
 
     /// `nbd rooms FROM TO ends|fails`: writes whether this holds for every amount of room from `FROM` up to but not
     /// including `TO`: the client receives so many bytes, and the connection ends because there is no more room.
-    fn rooms(&self, alloc: Global, words: &mut Words, page: &mut Page) -> Result<(), RowFault> {
+    fn rooms(&self, alloc: Global, words: &mut RowWords, page: &mut Page) -> Result<(), RowFault> {
         let from = words.size();
         let to = words.size();
         let ending = words.text();
         for room in from..to {
-            let pace = pace_of(&mut Words::of(ending))?;
+            let pace = pace_of(&mut RowWords::of(ending))?;
             if !self.is_full(alloc, room, pace)? {
                 page.word("no");
                 return Ok(());
@@ -188,7 +193,7 @@ impl Connections {
         &mut self,
         alloc: Global,
         name: &str,
-        words: &mut Words,
+        words: &mut RowWords,
         page: &mut Page,
     ) -> Result<(), RowFault> {
         match name {

@@ -15,7 +15,7 @@ const IDENTITY_ANSWER_LEN: usize = 33;
 
 /// How a host answers, honestly or not.
 #[derive(Clone, Copy, Debug)]
-pub enum Conduct {
+pub enum HostBehaviour {
     Honest,
     /// Changes a byte of each path.
     AltersPaths,
@@ -39,12 +39,12 @@ pub struct FarEnd {
     /// How many messages the host has answered. After `most` answers the connection ends.
     answered: u64,
     most: u64,
-    conduct: Conduct,
+    conduct: HostBehaviour,
     lacks_memory: bool,
 }
 
 impl FarEnd {
-    pub fn new(alloc: Global, most: u64, conduct: Conduct) -> FarEnd {
+    pub fn new(alloc: Global, most: u64, conduct: HostBehaviour) -> FarEnd {
         FarEnd {
             alloc,
             server: Server::new(alloc),
@@ -85,16 +85,16 @@ impl FarEnd {
 
     /// Returns the answer to a message by this host's conduct.
     fn answer_to(&mut self, body: &[u8]) -> io::Result<Vec<u8>> {
-        if let Conduct::Refuses { behind, code } = self.conduct
+        if let HostBehaviour::Refuses { behind, code } = self.conduct
             && behind == self.answered
         {
             return Ok([0x81, code].to_vec(self.alloc)?);
         }
         let mut answer = self.honest_answer(body)?;
         let alters = match self.conduct {
-            Conduct::AltersPaths => answer.len() > IDENTITY_ANSWER_LEN,
-            Conduct::AltersIdentity => answer.len() == IDENTITY_ANSWER_LEN,
-            Conduct::Honest | Conduct::Refuses { .. } => false,
+            HostBehaviour::AltersPaths => answer.len() > IDENTITY_ANSWER_LEN,
+            HostBehaviour::AltersIdentity => answer.len() == IDENTITY_ANSWER_LEN,
+            HostBehaviour::Honest | HostBehaviour::Refuses { .. } => false,
         };
         if let Some(byte) = answer.get_mut(9)
             && alters

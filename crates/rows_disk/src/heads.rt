@@ -1,11 +1,11 @@
 //! The heads of options and of requests.
 
 use oram_nbd::{Command, HandshakeOption, OptionHead, Request};
-use rows::{Page, RowFault, Words};
+use rows::{Page, RowFault, RowWords};
 use std::alloc::Global;
 
 /// `head option CODE LENGTH`: writes the head of an option that carries `LENGTH` bytes.
-fn option(alloc: Global, words: &mut Words, page: &mut Page) -> Result<(), RowFault> {
+fn option(alloc: Global, words: &mut RowWords, page: &mut Page) -> Result<(), RowFault> {
     let head = OptionHead {
         option: HandshakeOption::of(words.short()),
         length: words.short(),
@@ -15,7 +15,7 @@ fn option(alloc: Global, words: &mut Words, page: &mut Page) -> Result<(), RowFa
 }
 
 /// `head read_option BYTES`: writes the option of a head, and how many bytes it carries.
-fn read_option(alloc: Global, words: &mut Words, page: &mut Page) -> Result<(), RowFault> {
+fn read_option(alloc: Global, words: &mut RowWords, page: &mut Page) -> Result<(), RowFault> {
     let bytes = words.bytes(alloc);
     let Some(head) = OptionHead::decode(&bytes) else {
         page.word("none");
@@ -27,12 +27,12 @@ fn read_option(alloc: Global, words: &mut Words, page: &mut Page) -> Result<(), 
 }
 
 /// Reads the next word as a decimal number below 2^16.
-fn code_in(words: &mut Words) -> Result<u16, RowFault> {
+fn code_in(words: &mut RowWords) -> Result<u16, RowFault> {
     Ok(u16::try_from(words.number())?)
 }
 
 /// `head request CODE FLAGS COOKIE OFFSET LENGTH`: writes the head of a request.
-fn request(alloc: Global, words: &mut Words, page: &mut Page) -> Result<(), RowFault> {
+fn request(alloc: Global, words: &mut RowWords, page: &mut Page) -> Result<(), RowFault> {
     let request = Request {
         command: Command::of(code_in(words)?),
         flags: code_in(words)?,
@@ -46,7 +46,7 @@ fn request(alloc: Global, words: &mut Words, page: &mut Page) -> Result<(), RowF
 
 /// `head read_request BYTES`: writes the command of a request, its flags, its cookie, and the range of bytes
 /// that it is about.
-fn read_request(alloc: Global, words: &mut Words, page: &mut Page) -> Result<(), RowFault> {
+fn read_request(alloc: Global, words: &mut RowWords, page: &mut Page) -> Result<(), RowFault> {
     let bytes = words.bytes(alloc);
     let Some(request) = Request::decode(&bytes) else {
         page.word("none");
@@ -64,7 +64,7 @@ fn read_request(alloc: Global, words: &mut Words, page: &mut Page) -> Result<(),
 pub fn answer(
     alloc: Global,
     name: &str,
-    words: &mut Words,
+    words: &mut RowWords,
     page: &mut Page,
 ) -> Result<(), RowFault> {
     match name {

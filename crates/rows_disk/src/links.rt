@@ -1,10 +1,10 @@
 //! A link that tries until its host answers.
 
-use oram_client::{Dial, Limits, PatientLink, Trouble, Watch};
+use oram_client::{Dial, HostWatch, Limits, PatientLink, Trouble};
 use oram_host::HostRefusal;
 use oram_session::{Link, LinkFault};
 use oram_wire::REFUSED;
-use rows::{Page, RowFault, Words};
+use rows::{Page, RowFault, RowWords};
 use std::alloc::Global;
 use std::cell::Cell;
 
@@ -174,7 +174,7 @@ impl<'a> Dial for Script<'a> {
 #[derive(Drop)]
 struct News<'a>(&'a Play<'a>);
 
-impl<'a> Watch for News<'a> {
+impl<'a> HostWatch for News<'a> {
     fn lost(&mut self) {
         add(&self.0.lost, 1);
     }
@@ -224,7 +224,7 @@ fn perform(
     alloc: Global,
     play: &Play,
     seconds: u64,
-    words: &mut Words,
+    words: &mut RowWords,
     page: &mut Page,
 ) -> Result<(), RowFault> {
     let mut link = PatientLink::new(alloc, Script(play), News(play), seconds);
@@ -248,7 +248,7 @@ fn perform(
 /// faults the link had, and why it gave up, or that it is `patient`; how many connections it tried to open and how many
 /// calls went over them; how many milliseconds it paused and how many passed; and how many times the host was lost, had
 /// no room, and was back.
-fn plays(alloc: Global, words: &mut Words, page: &mut Page) -> Result<(), RowFault> {
+fn plays(alloc: Global, words: &mut RowWords, page: &mut Page) -> Result<(), RowFault> {
     let seconds = words.number();
     let has_clock = match words.text() {
         "ticks" => true,
@@ -271,7 +271,7 @@ fn plays(alloc: Global, words: &mut Words, page: &mut Page) -> Result<(), RowFau
 pub fn answer(
     alloc: Global,
     name: &str,
-    words: &mut Words,
+    words: &mut RowWords,
     page: &mut Page,
 ) -> Result<(), RowFault> {
     match name {

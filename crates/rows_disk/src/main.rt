@@ -4,17 +4,17 @@
 #![tactic(auto)]
 
 mod connections;
+mod disk_formats;
 mod endings;
 mod far_end;
-mod formatting;
 mod heads;
-mod keeping;
+mod keepers;
 mod links;
 mod stopping;
 mod volumes;
 
 use connections::Connections;
-use rows::{Page, RowFault, Table, Words, run_table};
+use rows::{Page, RowFault, RowWords, Table, run_table};
 use std::alloc::Global;
 use std::process::ExitCode;
 use volumes::Volumes;
@@ -31,7 +31,7 @@ impl Table for Calls {
         &mut self,
         alloc: Global,
         call: &str,
-        words: &mut Words,
+        words: &mut RowWords,
         page: &mut Page,
     ) -> Result<(), RowFault> {
         let name = words.text();
@@ -39,9 +39,9 @@ impl Table for Calls {
             "head" => heads::answer(alloc, name, words, page),
             "nbd" => self.connections.answer(alloc, name, words, page),
             "volume" => self.volumes.answer(alloc, name, words, page),
-            "disk" => keeping::answer(alloc, name, words, page),
+            "disk" => keepers::answer(alloc, name, words, page),
             "link" => links::answer(alloc, name, words, page),
-            "format" => formatting::answer(alloc, name, words, page),
+            "format" => disk_formats::answer(alloc, name, words, page),
             _ => Err(RowFault::NoRow),
         }
     }

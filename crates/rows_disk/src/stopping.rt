@@ -1,8 +1,8 @@
 //! A device in memory that stops after a number of calls.
 
 use crate::endings::{with_memory, write_ended};
-use oram_nbd::{Disk, DiskFault, MemDisk, transmit};
-use rows::{Pace, Page, RowFault, Source, Target, Words};
+use oram_nbd::{BlockDevice, DiskFault, MemDisk, transmit};
+use rows::{Pace, Page, RowFault, RowWords, Source, Target};
 use std::alloc::Global;
 
 #[derive(Drop)]
@@ -27,16 +27,16 @@ impl StoppingDisk {
     }
 }
 
-impl Disk for StoppingDisk {
+impl BlockDevice for StoppingDisk {
     ghost use Rattle.std.specs.Prelude.{◌≡◌};
 
-    ghost block_len = { λ d. ⟦<MemDisk as Disk>⟧.block_len d.disk };
+    ghost block_len = { λ d. ⟦<MemDisk as BlockDevice>⟧.block_len d.disk };
 
-    ghost size = { λ d. ⟦<MemDisk as Disk>⟧.size d.disk };
+    ghost size = { λ d. ⟦<MemDisk as BlockDevice>⟧.size d.disk };
 
-    ghost holds = { λ d. ⟦<MemDisk as Disk>⟧.holds d.disk };
+    ghost holds = { λ d. ⟦<MemDisk as BlockDevice>⟧.holds d.disk };
 
-    ghost is_sound = { λ d. ⟦<MemDisk as Disk>⟧.is_sound d.disk };
+    ghost is_sound = { λ d. ⟦<MemDisk as BlockDevice>⟧.is_sound d.disk };
 
     ghost failed = { λ _. ⊥ };
 
@@ -72,7 +72,7 @@ impl Disk for StoppingDisk {
 
 /// `nbd stops CALLS SAID`: a client sends the requests `SAID` to a device that stops after `CALLS` calls. Writes
 /// how its connection ends, and what it receives.
-pub fn stops(alloc: Global, words: &mut Words, page: &mut Page) -> Result<(), RowFault> {
+pub fn stops(alloc: Global, words: &mut RowWords, page: &mut Page) -> Result<(), RowFault> {
     let mut disk = StoppingDisk {
         disk: MemDisk::new(alloc, 4, 4)?,
         calls_left: words.number(),

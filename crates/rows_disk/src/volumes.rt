@@ -9,14 +9,14 @@ use oram_keep::{Keeper, Unkept};
 use oram_nbd::transmit;
 use oram_session::{ChaChaTape, Direct, FaultLink};
 use oram_volume::Volume;
-use rows::{Pace, Page, RowFault, Source, Target, Words};
+use rows::{Pace, Page, RowFault, RowWords, Source, Target};
 use std::alloc::Global;
 
 /// A keeper that accepts this many states, and keeps none of them.
 #[derive(Drop)]
-struct Room(u64);
+struct CountingKeeper(u64);
 
-impl Keeper for Room {
+impl Keeper for CountingKeeper {
     ghost use Rattle.std.specs.Prelude.{⊤};
 
     ghost keeps = { λ _ _ _ _. ⊤ };
@@ -33,7 +33,7 @@ impl Keeper for Room {
 /// The volume of the next rows.
 #[derive(Drop)]
 pub struct Volumes {
-    volume: Option<Volume<PlainSeal, FaultLink<Direct>, Room, ChaChaTape>>,
+    volume: Option<Volume<PlainSeal, FaultLink<Direct>, CountingKeeper, ChaChaTape>>,
 }
 
 /// Formats a new device of 64 blocks of 16 bytes in three trees, and returns its core. The host takes the records.
@@ -54,7 +54,7 @@ impl Volumes {
 
     /// `volume new ROOM AT TIMES`: makes a new volume. Its keeper keeps `ROOM` states, and its link fails `TIMES` times
     /// from call `AT` on.
-    fn begin(&mut self, alloc: Global, words: &mut Words) -> Result<(), RowFault> {
+    fn begin(&mut self, alloc: Global, words: &mut RowWords) -> Result<(), RowFault> {
         let room = words.number();
         let at = words.number();
         let times = words.number();
@@ -63,7 +63,7 @@ impl Volumes {
         self.volume = Some(Volume {
             core,
             link: FaultLink::new(Direct::new(alloc, server), at, times, false),
-            keeper: Room(room),
+            keeper: CountingKeeper(room),
             tape: ChaChaTape {
                 key: [0; 32],
                 trees: 3,
@@ -73,11 +73,11 @@ impl Volumes {
     }
 
     /// `volume keeps ROOM`: from now on the keeper keeps `ROOM` states.
-    fn give_room(&mut self, words: &mut Words) -> Result<(), RowFault> {
+    fn give_room(&mut self, words: &mut RowWords) -> Result<(), RowFault> {
         let Some(volume) = &mut self.volume else {
             return Err(RowFault::NoRow);
         };
-        volume.keeper = Room(words.number());
+        volume.keeper = CountingKeeper(words.number());
         Ok(())
     }
 
@@ -92,7 +92,12 @@ impl Volumes {
     }
 
     /// `volume asks SAID`: a client sends the requests `SAID`. Writes how its connection ends, and what it receives.
-    fn asks(&mut self, alloc: Global, words: &mut Words, page: &mut Page) -> Result<(), RowFault> {
+    fn asks(
+        &mut self,
+        alloc: Global,
+        words: &mut RowWords,
+        page: &mut Page,
+    ) -> Result<(), RowFault> {
         let said = words.bytes(alloc);
         let Some(volume) = &mut self.volume else {
             return Err(RowFault::NoRow);
@@ -110,7 +115,7 @@ impl Volumes {
         &mut self,
         alloc: Global,
         name: &str,
-        words: &mut Words,
+        words: &mut RowWords,
         page: &mut Page,
     ) -> Result<(), RowFault> {
         match name {

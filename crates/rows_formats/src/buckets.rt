@@ -1,13 +1,13 @@
 //! The bytes of buckets.
 
 use crate::devices::device_in;
+use crate::fault_text::show_fault;
 use crate::sealers::{Sealing, sealing_in};
-use crate::shown::show_fault;
 use oram_bucket::{
     Block, BucketFault, OpenFault, Sealer, decode_bucket, encode_bucket, open_bucket, seal_bucket,
 };
 use oram_geometry::Device;
-use rows::{Page, RowFault, Words};
+use rows::{Page, RowFault, RowWords};
 use std::alloc::Global;
 
 /// The device of the next rows, in whose first tree the buckets are.
@@ -36,7 +36,7 @@ fn write_blocks(page: &mut Page, blocks: &[Block]) {
 fn decode(
     alloc: Global,
     device: &Device,
-    words: &mut Words,
+    words: &mut RowWords,
     page: &mut Page,
 ) -> Result<(), RowFault> {
     let bytes = words.bytes(alloc);
@@ -55,7 +55,7 @@ fn decode(
 fn again(
     alloc: Global,
     device: &Device,
-    words: &mut Words,
+    words: &mut RowWords,
     page: &mut Page,
 ) -> Result<(), RowFault> {
     let bytes = words.bytes(alloc);
@@ -96,7 +96,7 @@ fn write_sealed<S: Sealer>(
 fn seal(
     alloc: Global,
     device: &Device,
-    words: &mut Words,
+    words: &mut RowWords,
     page: &mut Page,
 ) -> Result<(), RowFault> {
     let sealing = sealing_in(alloc, words)?;
@@ -130,7 +130,7 @@ fn write_opened<S: Sealer>(
 fn open(
     alloc: Global,
     device: &Device,
-    words: &mut Words,
+    words: &mut RowWords,
     page: &mut Page,
 ) -> Result<(), RowFault> {
     let sealing = sealing_in(alloc, words)?;
@@ -142,7 +142,7 @@ fn open(
 }
 
 /// `bucket copy ADDRESS LEAF BYTES`: writes the copy of a block.
-fn copy(alloc: Global, words: &mut Words, page: &mut Page) -> Result<(), RowFault> {
+fn copy(alloc: Global, words: &mut RowWords, page: &mut Page) -> Result<(), RowFault> {
     let block = Block {
         address: words.short(),
         leaf: words.short(),
@@ -164,7 +164,7 @@ impl Buckets {
         &mut self,
         alloc: Global,
         name: &str,
-        words: &mut Words,
+        words: &mut RowWords,
         page: &mut Page,
     ) -> Result<(), RowFault> {
         if name == "device" {

@@ -1,8 +1,8 @@
 //! The sizes of a device, and the leaves and nodes of its trees.
 
-use crate::shown::show_fault;
+use crate::fault_text::show_fault;
 use oram_geometry::{Device, ShapeFault};
-use rows::{Page, RowFault, Words};
+use rows::{Page, RowFault, RowWords};
 use std::alloc::Global;
 
 /// The device that the next rows are about.
@@ -12,13 +12,13 @@ pub struct Devices {
 }
 
 /// Makes the device of the next five numbers, or returns why there is none.
-pub fn device_in(words: &mut Words) -> Result<Device, ShapeFault> {
+pub fn device_in(words: &mut RowWords) -> Result<Device, ShapeFault> {
     let [blocks, block_bytes, slots, top, lifetime] = words.five_numbers();
     Device::new(blocks, block_bytes, slots, top, lifetime)
 }
 
 /// `device record OVERHEAD`: writes the length of a record.
-fn record(device: &Device, words: &mut Words, page: &mut Page) -> Result<(), RowFault> {
+fn record(device: &Device, words: &mut RowWords, page: &mut Page) -> Result<(), RowFault> {
     let overhead = words.size();
     if overhead > 64 {
         return Err(RowFault::NoRow);
@@ -28,7 +28,7 @@ fn record(device: &Device, words: &mut Words, page: &mut Page) -> Result<(), Row
 }
 
 /// `device tree TREE`: writes how many blocks the tree has, and its depth.
-fn tree(device: &Device, words: &mut Words, page: &mut Page) -> Result<(), RowFault> {
+fn tree(device: &Device, words: &mut RowWords, page: &mut Page) -> Result<(), RowFault> {
     let tree = words.byte();
     if tree >= device.trees() {
         return Err(RowFault::NoRow);
@@ -39,7 +39,7 @@ fn tree(device: &Device, words: &mut Words, page: &mut Page) -> Result<(), RowFa
 }
 
 /// `device address TREE ADDRESS`: writes the address in the tree of the block that leads to this block of the device.
-fn address(device: &Device, words: &mut Words, page: &mut Page) -> Result<(), RowFault> {
+fn address(device: &Device, words: &mut RowWords, page: &mut Page) -> Result<(), RowFault> {
     let tree = words.byte();
     let address = words.short();
     if tree >= device.trees() || address >= device.blocks_in(0) {
@@ -50,7 +50,7 @@ fn address(device: &Device, words: &mut Words, page: &mut Page) -> Result<(), Ro
 }
 
 /// `device leaf TREE WORD`: writes the leaf that a word names.
-fn leaf(device: &Device, words: &mut Words, page: &mut Page) -> Result<(), RowFault> {
+fn leaf(device: &Device, words: &mut RowWords, page: &mut Page) -> Result<(), RowFault> {
     let tree = words.byte();
     let word = words.number();
     if tree >= device.trees() {
@@ -61,7 +61,7 @@ fn leaf(device: &Device, words: &mut Words, page: &mut Page) -> Result<(), RowFa
 }
 
 /// `device node TREE LEAF LEVEL`: writes the node at a level of a leaf's path.
-fn node(device: &Device, words: &mut Words, page: &mut Page) -> Result<(), RowFault> {
+fn node(device: &Device, words: &mut RowWords, page: &mut Page) -> Result<(), RowFault> {
     let tree = words.byte();
     let leaf = words.short();
     let level = words.byte();
@@ -73,7 +73,7 @@ fn node(device: &Device, words: &mut Words, page: &mut Page) -> Result<(), RowFa
 }
 
 /// `device shared TREE LEAF LEAF`: writes the greatest level at which the paths of two leaves share a node.
-fn shared(device: &Device, words: &mut Words, page: &mut Page) -> Result<(), RowFault> {
+fn shared(device: &Device, words: &mut RowWords, page: &mut Page) -> Result<(), RowFault> {
     let tree = words.byte();
     let x = words.short();
     let y = words.short();
@@ -102,7 +102,7 @@ impl Devices {
 
     /// `device new BLOCKS BLOCK_BYTES SLOTS TOP LIFETIME`: makes the device. Writes how many trees it has, or the
     /// first fault.
-    fn begin(&mut self, words: &mut Words, page: &mut Page) -> Result<(), RowFault> {
+    fn begin(&mut self, words: &mut RowWords, page: &mut Page) -> Result<(), RowFault> {
         match device_in(words) {
             Ok(device) => {
                 page.number(device.trees());
@@ -118,7 +118,7 @@ impl Devices {
     pub fn answer(
         &mut self,
         name: &str,
-        words: &mut Words,
+        words: &mut RowWords,
         page: &mut Page,
     ) -> Result<(), RowFault> {
         if name == "new" {

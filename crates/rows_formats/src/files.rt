@@ -1,10 +1,10 @@
 //! State files that are read, written again, and changed.
 
 use crate::cores::AnyCore;
+use crate::fault_text::show_fault;
 use crate::sealers::{Sealing, sealing_in};
-use crate::shown::show_fault;
 use oram_state::StateFault;
-use rows::{Page, RowFault, Words};
+use rows::{Page, RowFault, RowWords};
 use sha2::{Digest, Sha256};
 use std::alloc::Global;
 
@@ -53,7 +53,7 @@ fn flip(file: &mut [u8], place: usize) -> Result<(), RowFault> {
 }
 
 /// `file again SEALER FILE`: reads the core of a file, and writes the core's file.
-fn again(alloc: Global, words: &mut Words, page: &mut Page) -> Result<(), RowFault> {
+fn again(alloc: Global, words: &mut RowWords, page: &mut Page) -> Result<(), RowFault> {
     let sealing = sealing_in(alloc, words)?;
     let file = words.bytes(alloc);
     match core_in(alloc, sealing, &file)? {
@@ -72,7 +72,12 @@ impl Files {
     }
 
     /// `file kept SEALER FILE`: sets the file that the next rows change. Writes what is wrong with it.
-    fn keep(&mut self, alloc: Global, words: &mut Words, page: &mut Page) -> Result<(), RowFault> {
+    fn keep(
+        &mut self,
+        alloc: Global,
+        words: &mut RowWords,
+        page: &mut Page,
+    ) -> Result<(), RowFault> {
         self.sealing = sealing_in(alloc, words)?;
         self.file = words.bytes(alloc);
         write_fault(page, fault_of(alloc, self.sealing, &self.file)?);
@@ -93,7 +98,12 @@ impl Files {
 
     /// `file flips FROM TO`: flips the lowest bit of one byte at a time. Writes what is wrong with the file then, or
     /// `not alike` if that isn't the same for each byte from `FROM` up to but not including `TO`.
-    fn flips(&mut self, alloc: Global, words: &mut Words, page: &mut Page) -> Result<(), RowFault> {
+    fn flips(
+        &mut self,
+        alloc: Global,
+        words: &mut RowWords,
+        page: &mut Page,
+    ) -> Result<(), RowFault> {
         let from = words.size();
         let wanted = self.fault_beside(alloc, from)?;
         for place in from..words.size() {
@@ -116,7 +126,7 @@ impl Files {
 
     /// `file cuts FROM TO`: writes what is wrong with the file's first bytes, or `not alike` if that isn't the same for
     /// each number of bytes from `FROM` up to but not including `TO`.
-    fn cuts(&self, alloc: Global, words: &mut Words, page: &mut Page) -> Result<(), RowFault> {
+    fn cuts(&self, alloc: Global, words: &mut RowWords, page: &mut Page) -> Result<(), RowFault> {
         let from = words.size();
         let wanted = self.fault_before(alloc, from)?;
         for len in from..words.size() {
@@ -131,7 +141,12 @@ impl Files {
 
     /// `file flip PLACE`: flips the lowest bit of a byte for the next rows too. Writes what is wrong with the file
     /// then.
-    fn flip(&mut self, alloc: Global, words: &mut Words, page: &mut Page) -> Result<(), RowFault> {
+    fn flip(
+        &mut self,
+        alloc: Global,
+        words: &mut RowWords,
+        page: &mut Page,
+    ) -> Result<(), RowFault> {
         flip(&mut self.file, words.size())?;
         write_fault(page, fault_of(alloc, self.sealing, &self.file)?);
         Ok(())
@@ -151,7 +166,7 @@ impl Files {
     }
 
     /// `file edit PLACE BYTE`: writes what is wrong with the file if it has this byte there and the right digest.
-    fn edit(&self, alloc: Global, words: &mut Words, page: &mut Page) -> Result<(), RowFault> {
+    fn edit(&self, alloc: Global, words: &mut RowWords, page: &mut Page) -> Result<(), RowFault> {
         let place = words.size();
         let byte = words.byte();
         let file = self.edited(alloc, place, byte)?;
@@ -164,7 +179,7 @@ impl Files {
         &mut self,
         alloc: Global,
         name: &str,
-        words: &mut Words,
+        words: &mut RowWords,
         page: &mut Page,
     ) -> Result<(), RowFault> {
         match name {

@@ -1,16 +1,16 @@
 //! The images of bucket hosts.
 
+use crate::fault_text::show_fault;
 use crate::servers::Servers;
-use crate::shown::show_fault;
 use oram_host::{ImageFault, Server};
-use rows::{Page, RowFault, Source, Target, Words, pace_in};
+use rows::{Page, RowFault, RowWords, Source, Target, pace_in};
 use std::alloc::Global;
 
 /// `image save ROOM PACE`: writes how saving the host's image ends, and the bytes that were written.
 fn save(
     alloc: Global,
     server: &Server,
-    words: &mut Words,
+    words: &mut RowWords,
     page: &mut Page,
 ) -> Result<(), RowFault> {
     let room = words.size();
@@ -28,7 +28,7 @@ fn save(
 fn load(
     alloc: Global,
     servers: &mut Servers,
-    words: &mut Words,
+    words: &mut RowWords,
     page: &mut Page,
 ) -> Result<(), RowFault> {
     let pace = pace_in(words)?;
@@ -49,7 +49,7 @@ pub fn answer(
     alloc: Global,
     servers: &mut Servers,
     name: &str,
-    words: &mut Words,
+    words: &mut RowWords,
     page: &mut Page,
 ) -> Result<(), RowFault> {
     let want = ImageFault::OutOfMemory;

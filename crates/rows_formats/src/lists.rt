@@ -1,11 +1,11 @@
 //! Lists of bytes and of words on the heap.
 
 use oram_bytes::{Bytes, Words as WordList};
-use rows::{Page, RowFault, Words};
+use rows::{Page, RowFault, RowWords};
 use std::alloc::Global;
 
 /// `list bytes BYTES`: writes how many bytes there are, whether there are none, the bytes, and how many the vector has.
-fn bytes(alloc: Global, words: &mut Words, page: &mut Page) -> Result<(), RowFault> {
+fn bytes(alloc: Global, words: &mut RowWords, page: &mut Page) -> Result<(), RowFault> {
     let list = Bytes::from_vec(words.bytes(alloc));
     page.number(list.len());
     page.flag(list.is_empty());
@@ -15,7 +15,7 @@ fn bytes(alloc: Global, words: &mut Words, page: &mut Page) -> Result<(), RowFau
 }
 
 /// `list same BYTES BYTES`: writes whether a list is equal to a copy of another.
-fn same(alloc: Global, words: &mut Words, page: &mut Page) -> Result<(), RowFault> {
+fn same(alloc: Global, words: &mut RowWords, page: &mut Page) -> Result<(), RowFault> {
     let list = Bytes::from_vec(words.bytes(alloc));
     let other = words.bytes(alloc);
     page.flag(Bytes::copy(alloc, &other)? == list);
@@ -31,7 +31,7 @@ fn write_numbers(page: &mut Page, numbers: &[u64]) {
 
 /// `list words NUMBERS`: writes how many numbers there are, whether there are none, the numbers, and how many the
 /// vector has.
-fn numbers(alloc: Global, words: &mut Words, page: &mut Page) -> Result<(), RowFault> {
+fn numbers(alloc: Global, words: &mut RowWords, page: &mut Page) -> Result<(), RowFault> {
     let list = WordList::from_vec(words.numbers(alloc));
     page.number(list.len());
     page.flag(list.is_empty());
@@ -41,7 +41,7 @@ fn numbers(alloc: Global, words: &mut Words, page: &mut Page) -> Result<(), RowF
 }
 
 /// `list alike COUNT NUMBERS`: writes whether the first `COUNT` numbers are equal to a copy of the others.
-fn alike(alloc: Global, words: &mut Words, page: &mut Page) -> Result<(), RowFault> {
+fn alike(alloc: Global, words: &mut RowWords, page: &mut Page) -> Result<(), RowFault> {
     let count = words.size();
     let numbers = words.numbers(alloc);
     if count > numbers.len() {
@@ -57,7 +57,7 @@ fn alike(alloc: Global, words: &mut Words, page: &mut Page) -> Result<(), RowFau
 pub fn answer(
     alloc: Global,
     name: &str,
-    words: &mut Words,
+    words: &mut RowWords,
     page: &mut Page,
 ) -> Result<(), RowFault> {
     match name {

@@ -6,6 +6,7 @@
 mod buckets;
 mod cores;
 mod devices;
+mod fault_text;
 mod files;
 mod images;
 mod lists;
@@ -13,14 +14,13 @@ mod messages;
 mod sealers;
 mod servers;
 mod sessions;
-mod shown;
 mod states;
 mod streams;
 
 use buckets::Buckets;
 use devices::Devices;
 use files::Files;
-use rows::{Page, RowFault, Table, Words, run_table};
+use rows::{Page, RowFault, RowWords, Table, run_table};
 use servers::Servers;
 use states::States;
 use std::alloc::Global;
@@ -43,7 +43,7 @@ impl Table for Calls {
         &mut self,
         alloc: Global,
         call: &str,
-        words: &mut Words,
+        words: &mut RowWords,
         page: &mut Page,
     ) -> Result<(), RowFault> {
         let name = words.text();

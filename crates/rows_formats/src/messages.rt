@@ -5,7 +5,7 @@ use oram_wire::{
     HostAnswer, HostRequest, HostView, ListSink, Sink, SinkFault, WireFault, fetch_header,
     store_header,
 };
-use rows::{Page, RowFault, Words};
+use rows::{Page, RowFault, RowWords};
 use std::alloc::Global;
 
 /// Writes a fault of a body.
@@ -18,7 +18,7 @@ pub fn write_fault(page: &mut Page, fault: WireFault) -> Result<(), RowFault> {
 }
 
 /// Reads a request from words, in the form in which `write_view` writes it.
-fn request_in(alloc: Global, words: &mut Words) -> Result<HostRequest, RowFault> {
+fn request_in(alloc: Global, words: &mut RowWords) -> Result<HostRequest, RowFault> {
     match words.text() {
         "fetch" => Ok(HostRequest::Fetch {
             tree: words.byte(),
@@ -111,14 +111,14 @@ fn write_view(page: &mut Page, view: HostView<'_>) {
 }
 
 /// `host write REQUEST`: writes the body of a request.
-fn write(alloc: Global, words: &mut Words, page: &mut Page) -> Result<(), RowFault> {
+fn write(alloc: Global, words: &mut RowWords, page: &mut Page) -> Result<(), RowFault> {
     let request = request_in(alloc, words)?;
     page.bytes(&request.encode(alloc)?);
     Ok(())
 }
 
 /// `host read BODY`: reads a body as a request, and writes it.
-fn read(alloc: Global, words: &mut Words, page: &mut Page) -> Result<(), RowFault> {
+fn read(alloc: Global, words: &mut RowWords, page: &mut Page) -> Result<(), RowFault> {
     let body = words.bytes(alloc);
     match HostRequest::decode(alloc, &body) {
         Ok(request) => {
@@ -130,7 +130,7 @@ fn read(alloc: Global, words: &mut Words, page: &mut Page) -> Result<(), RowFaul
 }
 
 /// `host view BODY`: reads a body as a view, which has the body's own bytes, and writes the request.
-fn view(alloc: Global, words: &mut Words, page: &mut Page) -> Result<(), RowFault> {
+fn view(alloc: Global, words: &mut RowWords, page: &mut Page) -> Result<(), RowFault> {
     let body = words.bytes(alloc);
     match HostView::read(&body) {
         Ok(view) => {
@@ -142,7 +142,7 @@ fn view(alloc: Global, words: &mut Words, page: &mut Page) -> Result<(), RowFaul
 }
 
 /// `host heads TREE LEAF`: writes the body of a fetch of this path, and the beginning of a store to it.
-fn heads(words: &mut Words, page: &mut Page) -> Result<(), RowFault> {
+fn heads(words: &mut RowWords, page: &mut Page) -> Result<(), RowFault> {
     let tree = words.byte();
     let leaf = words.short();
     page.bytes(&fetch_header(tree, leaf));
@@ -166,7 +166,7 @@ pub fn write_answer(page: &mut Page, answer: &HostAnswer) {
 }
 
 /// `host answered BODY`: reads a body as an answer, and writes it.
-fn answered(alloc: Global, words: &mut Words, page: &mut Page) -> Result<(), RowFault> {
+fn answered(alloc: Global, words: &mut RowWords, page: &mut Page) -> Result<(), RowFault> {
     let body = words.bytes(alloc);
     match HostAnswer::decode(alloc, &body) {
         Ok(answer) => {
@@ -184,7 +184,7 @@ fn done(alloc: Global, page: &mut Page) -> Result<(), RowFault> {
 }
 
 /// `host refused CODE`: writes the body of a refusal.
-fn refused(alloc: Global, words: &mut Words, page: &mut Page) -> Result<(), RowFault> {
+fn refused(alloc: Global, words: &mut RowWords, page: &mut Page) -> Result<(), RowFault> {
     let code = words.byte();
     if code == 0 || code > 8 {
         return Err(RowFault::NoRow);
@@ -194,7 +194,7 @@ fn refused(alloc: Global, words: &mut Words, page: &mut Page) -> Result<(), RowF
 }
 
 /// `host records BYTES`: writes the body of an answer with these records.
-fn records(alloc: Global, words: &mut Words, page: &mut Page) -> Result<(), RowFault> {
+fn records(alloc: Global, words: &mut RowWords, page: &mut Page) -> Result<(), RowFault> {
     let bytes = Bytes::from_vec(words.bytes(alloc));
     if bytes.is_empty() {
         return Err(RowFault::NoRow);
@@ -213,7 +213,7 @@ fn put<S: Sink>(sink: &mut S, body: &[u8]) -> Result<(), RowFault> {
 }
 
 /// Puts the bodies in the words into a sink, and returns it.
-fn filled(alloc: Global, words: &mut Words) -> Result<ListSink, RowFault> {
+fn filled(alloc: Global, words: &mut RowWords) -> Result<ListSink, RowFault> {
     let mut sink = ListSink::new(alloc);
     for body in &words.bodies(alloc) {
         put(&mut sink, body)?;
@@ -222,7 +222,7 @@ fn filled(alloc: Global, words: &mut Words) -> Result<ListSink, RowFault> {
 }
 
 /// `host kept BODIES`: puts the bodies into a list. Writes how many it keeps, and which.
-fn kept(alloc: Global, words: &mut Words, page: &mut Page) -> Result<(), RowFault> {
+fn kept(alloc: Global, words: &mut RowWords, page: &mut Page) -> Result<(), RowFault> {
     let sink = filled(alloc, words)?;
     page.number(sink.bodies().len());
     for body in sink.bodies() {
@@ -235,7 +235,7 @@ fn kept(alloc: Global, words: &mut Words, page: &mut Page) -> Result<(), RowFaul
 pub fn answer(
     alloc: Global,
     name: &str,
-    words: &mut Words,
+    words: &mut RowWords,
     page: &mut Page,
 ) -> Result<(), RowFault> {
     match name {

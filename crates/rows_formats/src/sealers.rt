@@ -1,7 +1,7 @@
 //! Sealers, which hide bytes from the host.
 
 use oram_bucket::{ChaChaSeal, OpenFault, PlainSeal, Sealer};
-use rows::{Page, RowFault, Words};
+use rows::{Page, RowFault, RowWords};
 use std::alloc::{AllocError, Global};
 
 /// One of the sealers that rows name.
@@ -12,12 +12,12 @@ pub enum Sealing {
 }
 
 /// Reads a sealer: `plain`, or a key of 32 bytes for ChaCha20.
-pub fn sealing_in(alloc: Global, words: &mut Words) -> Result<Sealing, RowFault> {
+pub fn sealing_in(alloc: Global, words: &mut RowWords) -> Result<Sealing, RowFault> {
     let word = words.text();
     if word == "plain" {
         return Ok(Sealing::Plain(PlainSeal));
     }
-    let mut part = Words::of(word);
+    let mut part = RowWords::of(word);
     let key = part.array(alloc);
     part.check()?;
     Ok(Sealing::ChaCha(ChaChaSeal { key }))
@@ -39,7 +39,7 @@ pub fn write_opened<S: Sealer>(
 }
 
 /// `seal close SEALER NONCE BYTES`: writes the bytes sealed with a nonce.
-fn close(alloc: Global, words: &mut Words, page: &mut Page) -> Result<(), RowFault> {
+fn close(alloc: Global, words: &mut RowWords, page: &mut Page) -> Result<(), RowFault> {
     let sealing = sealing_in(alloc, words)?;
     let nonce = words.number();
     let plain = words.bytes(alloc);
@@ -52,7 +52,7 @@ fn close(alloc: Global, words: &mut Words, page: &mut Page) -> Result<(), RowFau
 }
 
 /// `seal open SEALER BYTES`: opens sealed bytes, and writes the result.
-fn open(alloc: Global, words: &mut Words, page: &mut Page) -> Result<(), RowFault> {
+fn open(alloc: Global, words: &mut RowWords, page: &mut Page) -> Result<(), RowFault> {
     let sealing = sealing_in(alloc, words)?;
     let sealed = words.bytes(alloc);
     match &sealing {
@@ -90,7 +90,7 @@ fn write_law<S: Sealer>(
 
 /// `seal again SEALER LENGTH`: seals `LENGTH` bytes after another byte, and opens them. Writes whether they are the
 /// same, how many bytes the sealer adds, and how many bytes there are then.
-fn again(alloc: Global, words: &mut Words, page: &mut Page) -> Result<(), RowFault> {
+fn again(alloc: Global, words: &mut RowWords, page: &mut Page) -> Result<(), RowFault> {
     let sealing = sealing_in(alloc, words)?;
     let plain = counted(alloc, words.size())?;
     match &sealing {
@@ -103,7 +103,7 @@ fn again(alloc: Global, words: &mut Words, page: &mut Page) -> Result<(), RowFau
 pub fn answer(
     alloc: Global,
     name: &str,
-    words: &mut Words,
+    words: &mut RowWords,
     page: &mut Page,
 ) -> Result<(), RowFault> {
     match name {

@@ -3,7 +3,7 @@
 use crate::messages::write_answer;
 use oram_host::Server;
 use oram_wire::{HostAnswer, Sink, SinkFault};
-use rows::{Page, RowFault, Words};
+use rows::{Page, RowFault, RowWords};
 use std::alloc::Global;
 
 /// The host of the next rows, and the copy of it that was kept.
@@ -20,7 +20,7 @@ const NO_ROOM: u8 = 8;
 fn asks(
     alloc: Global,
     server: &mut Server,
-    words: &mut Words,
+    words: &mut RowWords,
     page: &mut Page,
 ) -> Result<(), RowFault> {
     let body = words.bytes(alloc);
@@ -44,7 +44,7 @@ pub fn answer_to(alloc: Global, server: &mut Server, body: &[u8]) -> Result<Vec<
 fn bytes(
     alloc: Global,
     server: &mut Server,
-    words: &mut Words,
+    words: &mut RowWords,
     page: &mut Page,
 ) -> Result<(), RowFault> {
     let body = words.bytes(alloc);
@@ -56,7 +56,7 @@ fn bytes(
 fn put(
     alloc: Global,
     server: &mut Server,
-    words: &mut Words,
+    words: &mut RowWords,
     page: &mut Page,
 ) -> Result<(), RowFault> {
     let body = words.bytes(alloc);
@@ -70,7 +70,7 @@ fn put(
 
 /// `server flip TREE NODE PLACE`: flips a bit of a byte in a record. Writes whether there is such a
 /// byte.
-fn flip(server: &mut Server, words: &mut Words, page: &mut Page) -> Result<(), RowFault> {
+fn flip(server: &mut Server, words: &mut RowWords, page: &mut Page) -> Result<(), RowFault> {
     let tree = words.number();
     let node = words.number();
     let place = words.number();
@@ -80,7 +80,7 @@ fn flip(server: &mut Server, words: &mut Words, page: &mut Page) -> Result<(), R
 
 /// `server swap TREE NODE TREE NODE`: swaps two records. Writes whether there are two that can be
 /// swapped.
-fn swap(server: &mut Server, words: &mut Words, page: &mut Page) -> Result<(), RowFault> {
+fn swap(server: &mut Server, words: &mut RowWords, page: &mut Page) -> Result<(), RowFault> {
     let tree_a = words.number();
     let node_a = words.number();
     let tree_b = words.number();
@@ -94,7 +94,7 @@ fn answer_of(
     alloc: Global,
     server: &mut Server,
     name: &str,
-    words: &mut Words,
+    words: &mut RowWords,
     page: &mut Page,
 ) -> Result<(), RowFault> {
     match name {
@@ -138,7 +138,7 @@ impl Servers {
         &mut self,
         alloc: Global,
         name: &str,
-        words: &mut Words,
+        words: &mut RowWords,
         page: &mut Page,
     ) -> Result<(), RowFault> {
         match name {

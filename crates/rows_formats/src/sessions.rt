@@ -3,11 +3,11 @@
 use crate::messages::write_fault;
 use oram_bytes::Bytes;
 use oram_wire::{BAD_REQUEST, DEVICE_FAILED, SessionReply, SessionRequest};
-use rows::{Page, RowFault, Words};
+use rows::{Page, RowFault, RowWords};
 use std::alloc::Global;
 
 /// Reads a request from words, in the form in which `write_request` writes it.
-fn request_in(alloc: Global, words: &mut Words) -> Result<SessionRequest, RowFault> {
+fn request_in(alloc: Global, words: &mut RowWords) -> Result<SessionRequest, RowFault> {
     match words.text() {
         "read" => Ok(SessionRequest::Read {
             address: words.short(),
@@ -43,14 +43,14 @@ fn write_request(page: &mut Page, request: &SessionRequest) {
 }
 
 /// `session write REQUEST`: writes the body of a request.
-fn write(alloc: Global, words: &mut Words, page: &mut Page) -> Result<(), RowFault> {
+fn write(alloc: Global, words: &mut RowWords, page: &mut Page) -> Result<(), RowFault> {
     let request = request_in(alloc, words)?;
     page.bytes(&request.encode(alloc)?);
     Ok(())
 }
 
 /// `session read BODY`: reads a body as a request, and writes it.
-fn read(alloc: Global, words: &mut Words, page: &mut Page) -> Result<(), RowFault> {
+fn read(alloc: Global, words: &mut RowWords, page: &mut Page) -> Result<(), RowFault> {
     let body = words.bytes(alloc);
     match SessionRequest::decode(alloc, &body) {
         Ok(request) => {
@@ -62,7 +62,7 @@ fn read(alloc: Global, words: &mut Words, page: &mut Page) -> Result<(), RowFaul
 }
 
 /// `session data BYTES`: writes the body of the reply with this data.
-fn data(alloc: Global, words: &mut Words, page: &mut Page) -> Result<(), RowFault> {
+fn data(alloc: Global, words: &mut RowWords, page: &mut Page) -> Result<(), RowFault> {
     let bytes = Bytes::from_vec(words.bytes(alloc));
     page.bytes(&SessionReply::Data(bytes).encode(alloc)?);
     Ok(())
@@ -75,7 +75,7 @@ fn done(alloc: Global, page: &mut Page) -> Result<(), RowFault> {
 }
 
 /// `session refused CODE`: writes the body of a refusal.
-fn refused(alloc: Global, words: &mut Words, page: &mut Page) -> Result<(), RowFault> {
+fn refused(alloc: Global, words: &mut RowWords, page: &mut Page) -> Result<(), RowFault> {
     let code = words.byte();
     if code == 0 || code > 7 {
         return Err(RowFault::NoRow);
@@ -106,7 +106,7 @@ fn write_reply(page: &mut Page, reply: &SessionReply) {
 }
 
 /// `session replied BODY`: reads a body as a reply, and writes it.
-fn replied(alloc: Global, words: &mut Words, page: &mut Page) -> Result<(), RowFault> {
+fn replied(alloc: Global, words: &mut RowWords, page: &mut Page) -> Result<(), RowFault> {
     let body = words.bytes(alloc);
     match SessionReply::decode(alloc, &body) {
         Ok(reply) => {
@@ -121,7 +121,7 @@ fn replied(alloc: Global, words: &mut Words, page: &mut Page) -> Result<(), RowF
 pub fn answer(
     alloc: Global,
     name: &str,
-    words: &mut Words,
+    words: &mut RowWords,
     page: &mut Page,
 ) -> Result<(), RowFault> {
     match name {

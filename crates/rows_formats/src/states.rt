@@ -2,14 +2,14 @@
 
 use crate::cores::AnyCore;
 use crate::devices::device_in;
+use crate::fault_text::show_fault;
 use crate::files::{core_in, write_fault};
 use crate::sealers::sealing_in;
 use crate::servers::answer_to;
-use crate::shown::show_fault;
 use oram_bytes::{Bytes, Words as WordList};
 use oram_core::{Command, Event, Parts, Pending, Reaction, Reply, ReplyBody};
 use oram_host::Server;
-use rows::{Page, RowFault, Words};
+use rows::{Page, RowFault, RowWords};
 use std::alloc::Global;
 
 /// The core of the next rows, its host, and the message that has no answer yet.
@@ -30,7 +30,7 @@ fn are_alike(one: &Reaction, other: &Reaction) -> bool {
 }
 
 /// Makes the event in which a session submits a command, with the words that are left.
-fn submission(alloc: Global, session: u32, command: Command, words: &mut Words) -> Event {
+fn submission(alloc: Global, session: u32, command: Command, words: &mut RowWords) -> Event {
     let words = WordList::from_vec(words.numbers(alloc));
     Event::Submit {
         session,
@@ -41,7 +41,7 @@ fn submission(alloc: Global, session: u32, command: Command, words: &mut Words) 
 
 /// `core read SESSION ADDRESS WORDS`, `core write SESSION ADDRESS BYTES WORDS` and
 /// `core discard SESSION ADDRESS WORDS`: returns the event of this command.
-fn command_in(alloc: Global, name: &str, words: &mut Words) -> Result<Event, RowFault> {
+fn command_in(alloc: Global, name: &str, words: &mut RowWords) -> Result<Event, RowFault> {
     let session = words.short();
     let address = words.short();
     let command = match name {
@@ -105,7 +105,7 @@ fn write_stashes(page: &mut Page, parts: &Parts) {
 /// `core work`: writes the entry that is outstanding, whether its message counts as lost, and how many bytes of data
 /// are held.
 fn write_work(page: &mut Page, parts: &Parts) {
-    page.number(parts.r);
+    page.number(parts.entry_number);
     page.word(if parts.stalled { "stalled" } else { "sent" });
     page.number(parts.held_data.len());
 }
@@ -145,7 +145,7 @@ impl States {
     fn format(
         &mut self,
         alloc: Global,
-        words: &mut Words,
+        words: &mut RowWords,
         page: &mut Page,
     ) -> Result<(), RowFault> {
         let sealing = sealing_in(alloc, words)?;
@@ -165,7 +165,12 @@ impl States {
     }
 
     /// `core open SEALER FILE`: goes on with the core of a file.
-    fn open(&mut self, alloc: Global, words: &mut Words, page: &mut Page) -> Result<(), RowFault> {
+    fn open(
+        &mut self,
+        alloc: Global,
+        words: &mut RowWords,
+        page: &mut Page,
+    ) -> Result<(), RowFault> {
         let sealing = sealing_in(alloc, words)?;
         let file = words.bytes(alloc);
         match core_in(alloc, sealing, &file)? {
@@ -181,7 +186,12 @@ impl States {
 
     /// `core again SEALER`: saves the core, and goes on with the one that is read back. The message on its way stays
     /// outstanding. The core that was never saved gets the same events from then on, and has to do the same.
-    fn again(&mut self, alloc: Global, words: &mut Words, page: &mut Page) -> Result<(), RowFault> {
+    fn again(
+        &mut self,
+        alloc: Global,
+        words: &mut RowWords,
+        page: &mut Page,
+    ) -> Result<(), RowFault> {
         let sealing = sealing_in(alloc, words)?;
         let file = self.core()?.file(alloc)?;
         match core_in(alloc, sealing, &file)? {
@@ -248,7 +258,7 @@ impl States {
     }
 
     /// `core tamper TREE NODE PLACE`: flips a bit of a byte in a record. Writes whether there is such a byte.
-    fn tamper(&mut self, words: &mut Words, page: &mut Page) -> Result<(), RowFault> {
+    fn tamper(&mut self, words: &mut RowWords, page: &mut Page) -> Result<(), RowFault> {
         let tree = words.number();
         let node = words.number();
         let place = words.number();
@@ -257,7 +267,7 @@ impl States {
     }
 
     /// `core swap TREE NODE TREE NODE`: swaps two records. Writes whether there are two that can be swapped.
-    fn swap(&mut self, words: &mut Words, page: &mut Page) -> Result<(), RowFault> {
+    fn swap(&mut self, words: &mut RowWords, page: &mut Page) -> Result<(), RowFault> {
         let tree_a = words.number();
         let node_a = words.number();
         let tree_b = words.number();
@@ -293,7 +303,7 @@ impl States {
         &mut self,
         alloc: Global,
         name: &str,
-        words: &mut Words,
+        words: &mut RowWords,
         page: &mut Page,
     ) -> Result<(), RowFault> {
         let event = match name {
@@ -317,7 +327,7 @@ impl States {
         &mut self,
         alloc: Global,
         name: &str,
-        words: &mut Words,
+        words: &mut RowWords,
         page: &mut Page,
     ) -> Result<(), RowFault> {
         match name {

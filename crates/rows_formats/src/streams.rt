@@ -1,7 +1,7 @@
 //! Frames in a stream: taken out of pieces, read from a reader, and written to a writer.
 
 use oram_wire::{FrameFault, Frames, LONGEST_BODY, next_frame, put_frame};
-use rows::{Page, RowFault, Source, Target, Words, pace_in};
+use rows::{Page, RowFault, RowWords, Source, Target, pace_in};
 use std::alloc::Global;
 
 /// The stream whose pieces come row by row.
@@ -35,7 +35,7 @@ fn write_held(page: &mut Page, frames: &Frames) {
 
 /// `frame pieces SIZE BYTES`: writes the bodies in a stream that comes in pieces of `SIZE` bytes, and how many bytes
 /// are held in the end.
-fn pieces(alloc: Global, words: &mut Words, page: &mut Page) -> Result<(), RowFault> {
+fn pieces(alloc: Global, words: &mut RowWords, page: &mut Page) -> Result<(), RowFault> {
     let size = words.size();
     let stream = words.bytes(alloc);
     if size == 0 {
@@ -51,7 +51,7 @@ fn pieces(alloc: Global, words: &mut Words, page: &mut Page) -> Result<(), RowFa
 
 /// `frame read PACE BYTES`: writes the next body that a reader gives, the bytes that are left, and how many times the
 /// reader was called.
-fn read(alloc: Global, words: &mut Words, page: &mut Page) -> Result<(), RowFault> {
+fn read(alloc: Global, words: &mut RowWords, page: &mut Page) -> Result<(), RowFault> {
     let pace = pace_in(words)?;
     let bytes = words.bytes(alloc);
     let mut source = Source::new(&bytes, pace);
@@ -70,7 +70,7 @@ fn read(alloc: Global, words: &mut Words, page: &mut Page) -> Result<(), RowFaul
 
 /// `frame write ROOM PACE BODY`: writes how writing a frame ends, the bytes that were taken, and how many times the
 /// writer was called.
-fn write(alloc: Global, words: &mut Words, page: &mut Page) -> Result<(), RowFault> {
+fn write(alloc: Global, words: &mut RowWords, page: &mut Page) -> Result<(), RowFault> {
     let room = words.size();
     let pace = pace_in(words)?;
     let body = words.bytes(alloc);
@@ -93,7 +93,12 @@ impl Streams {
 
     /// `frame feed PIECE`: writes the bodies that the next piece of the stream completes, and how many bytes are held
     /// then.
-    fn feed(&mut self, alloc: Global, words: &mut Words, page: &mut Page) -> Result<(), RowFault> {
+    fn feed(
+        &mut self,
+        alloc: Global,
+        words: &mut RowWords,
+        page: &mut Page,
+    ) -> Result<(), RowFault> {
         let piece = words.bytes(alloc);
         let Some(frames) = &mut self.frames else {
             return Err(RowFault::NoRow);
@@ -108,7 +113,7 @@ impl Streams {
         &mut self,
         alloc: Global,
         name: &str,
-        words: &mut Words,
+        words: &mut RowWords,
         page: &mut Page,
     ) -> Result<(), RowFault> {
         match name {

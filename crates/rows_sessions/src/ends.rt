@@ -1,13 +1,13 @@
 //! Readers and writers that end or fail where a row says.
 
-use rows::{RowFault, Words};
+use rows::{RowFault, RowWords};
 use std::alloc::Global;
 use std::io;
 use std::io::{ErrorKind, Read, Write};
 
 /// A reader of the bytes in a row.
 #[derive(Drop)]
-pub(crate) struct Given {
+pub(crate) struct RowReader {
     bytes: Vec<u8>,
     /// How many bytes were read.
     at: usize,
@@ -16,10 +16,10 @@ pub(crate) struct Given {
     fails: bool,
 }
 
-impl Given {
+impl RowReader {
     /// Makes a reader from the next words: `whole BYTES`, `ends LEN BYTES` or `fails LEN BYTES`. The last two give the
     /// first `LEN` bytes, one at a time, and then end or fail.
-    pub(crate) fn read(alloc: Global, words: &mut Words) -> Result<Given, RowFault> {
+    pub(crate) fn read(alloc: Global, words: &mut RowWords) -> Result<RowReader, RowFault> {
         let (len, fails) = match words.text() {
             "whole" => (None, false),
             "ends" => (Some(words.size()), false),
@@ -30,7 +30,7 @@ impl Given {
         if let Some(len) = len {
             bytes.truncate(len);
         }
-        Ok(Given {
+        Ok(RowReader {
             bytes,
             at: 0,
             step: if len.is_some() { 1 } else { usize::MAX },
@@ -39,8 +39,8 @@ impl Given {
     }
 
     /// Makes a reader of all these bytes.
-    pub(crate) fn of(bytes: Vec<u8>) -> Given {
-        Given {
+    pub(crate) fn of(bytes: Vec<u8>) -> RowReader {
+        RowReader {
             bytes,
             at: 0,
             step: usize::MAX,
@@ -54,7 +54,7 @@ impl Given {
     }
 }
 
-impl Read for Given {
+impl Read for RowReader {
     fn read(&mut self, buf: &mut [u8]) -> io::Result<usize> {
         let mut rest = self.bytes.get(self.at..).unwrap_or(&[]);
         if rest.is_empty() && self.fails {
@@ -69,7 +69,7 @@ impl Read for Given {
 
 /// A writer that keeps what was written.
 #[derive(Drop)]
-pub(crate) struct Sheet {
+pub(crate) struct LimitedWriter {
     bytes: Vec<u8>,
     room: usize,
     /// How many bytes it takes at most at once.
@@ -80,10 +80,10 @@ pub(crate) struct Sheet {
     lacks_memory: bool,
 }
 
-impl Sheet {
+impl LimitedWriter {
     /// Makes a writer that takes everything.
-    pub(crate) fn ample(alloc: Global) -> Sheet {
-        Sheet {
+    pub(crate) fn ample(alloc: Global) -> LimitedWriter {
+        LimitedWriter {
             bytes: Vec::new(alloc),
             room: usize::MAX,
             step: usize::MAX,
@@ -96,8 +96,8 @@ impl Sheet {
 
     /// Makes a writer from the next words: `ample`; `room LEN`, which takes a byte at a time and fails after `LEN`
     /// bytes; or `unflushed`, whose flush fails.
-    pub(crate) fn read(alloc: Global, words: &mut Words) -> Result<Sheet, RowFault> {
-        let mut sheet = Sheet::ample(alloc);
+    pub(crate) fn read(alloc: Global, words: &mut RowWords) -> Result<LimitedWriter, RowFault> {
+        let mut sheet = LimitedWriter::ample(alloc);
         match words.text() {
             "ample" => {}
             "room" => {
@@ -127,7 +127,7 @@ impl Sheet {
     }
 }
 
-impl Write for Sheet {
+impl Write for LimitedWriter {
     fn write(&mut self, buf: &[u8]) -> io::Result<usize> {
         self.writes = self.writes.saturating_add(1);
         if self.bytes.len() >= self.room {

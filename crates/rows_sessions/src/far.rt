@@ -1,11 +1,11 @@
 //! Rows of sessions whose host is at the other end of a reader and a writer.
 
-use crate::answering::WatchedServer;
-use crate::ends::{Given, Sheet};
+use crate::answers::WatchedServer;
+use crate::ends::{LimitedWriter, RowReader};
+use crate::faults::tell_end;
 use crate::sessions::{formatted, served};
-use crate::telling::tell_end;
 use oram_session::{ListTape, ServeFault, StreamLink, host_serve};
-use rows::{Page, RowFault, Words};
+use rows::{Page, RowFault, RowWords};
 use std::alloc::Global;
 
 /// The most answers that a session may need.
@@ -13,22 +13,22 @@ const MOST_ANSWERS: u64 = 100;
 
 /// A session, and how far it has come.
 #[derive(Drop)]
-struct Far {
+struct RemoteSession {
     numbers: [u64; 5],
-    given: Given,
+    given: RowReader,
     /// The host's answers so far.
     answers: Vec<u8>,
-    replies: Sheet,
-    asked: Sheet,
+    replies: LimitedWriter,
+    asked: LimitedWriter,
 }
 
-impl Far {
+impl RemoteSession {
     /// Serves the session from its beginning, with these answers.
     fn serve(&mut self, alloc: Global) -> Result<Result<u64, ServeFault>, RowFault> {
         let (mut core, _host) = formatted(alloc, self.numbers)?;
         self.given.rewind();
-        self.replies = Sheet::ample(alloc);
-        self.asked = Sheet::ample(alloc);
+        self.replies = LimitedWriter::ample(alloc);
+        self.asked = LimitedWriter::ample(alloc);
         let mut link = StreamLink::new(alloc, self.answers.as_slice(), &mut self.asked);
         let mut tape = ListTape {
             words: Vec::new(alloc),
@@ -47,7 +47,7 @@ impl Far {
     fn answer(&mut self, alloc: Global) -> Result<(), RowFault> {
         let (_core, server) = formatted(alloc, self.numbers)?;
         let mut host = WatchedServer::over(server);
-        let mut answers = Sheet::ample(alloc);
+        let mut answers = LimitedWriter::ample(alloc);
         let mut asked = self.asked.text()?;
         let _ended = host_serve(alloc, &mut asked, &mut answers, &mut host);
         host.check_memory()?;
@@ -74,15 +74,15 @@ impl Far {
 /// needed.
 pub(crate) fn far_session(
     alloc: Global,
-    words: &mut Words,
+    words: &mut RowWords,
     page: &mut Page,
 ) -> Result<(), RowFault> {
-    let mut far = Far {
+    let mut far = RemoteSession {
         numbers: words.five_numbers(),
-        given: Given::read(alloc, words)?,
+        given: RowReader::read(alloc, words)?,
         answers: Vec::new(alloc),
-        replies: Sheet::ample(alloc),
-        asked: Sheet::ample(alloc),
+        replies: LimitedWriter::ample(alloc),
+        asked: LimitedWriter::ample(alloc),
     };
     let (wanted, ended) = far.go_on(alloc)?;
     page.bytes(far.replies.text()?);

@@ -1,7 +1,7 @@
 //! Rows of a link and of a core over it, which are kept from row to row.
 
-use crate::network::Cutter;
-use crate::telling::{device_of, standing, tell_end, tell_note, tell_outcome};
+use crate::faults::{device_of, standing, tell_end, tell_note, tell_outcome};
+use crate::network::CuttableNet;
 use crate::ways::AnyLink;
 use oram_bucket::PlainSeal;
 use oram_bytes::{Bytes, Words as WordList};
@@ -11,20 +11,20 @@ use oram_host::Server;
 use oram_session::{Link, format_device, resume};
 use oram_tree::FormatFault;
 use oram_wire::SinkFault;
-use rows::{Page, RowFault, Words};
+use rows::{Page, RowFault, RowWords};
 use std::alloc::Global;
 use std::net::Net;
 
 /// The link and the core.
 #[derive(Drop)]
 pub(crate) struct Kept<'a, R: Net> {
-    pub(crate) net: &'a Cutter<R>,
+    pub(crate) net: &'a CuttableNet<R>,
     link: Option<AnyLink<'a, R>>,
     core: Option<Core<PlainSeal>>,
 }
 
 impl<'a, R: Net> Kept<'a, R> {
-    pub(crate) fn new(net: &'a Cutter<R>) -> Kept<'a, R> {
+    pub(crate) fn new(net: &'a CuttableNet<R>) -> Kept<'a, R> {
         Kept {
             net,
             link: None,
@@ -37,7 +37,7 @@ impl<'a, R: Net> Kept<'a, R> {
         &mut self,
         alloc: Global,
         call: &str,
-        words: &mut Words,
+        words: &mut RowWords,
         page: &mut Page,
     ) -> Result<(), RowFault> {
         match call {
@@ -54,7 +54,12 @@ impl<'a, R: Net> Kept<'a, R> {
     }
 
     /// `link LINK`: makes a link to a new server, without a core.
-    fn begin(&mut self, alloc: Global, words: &mut Words, page: &mut Page) -> Result<(), RowFault> {
+    fn begin(
+        &mut self,
+        alloc: Global,
+        words: &mut RowWords,
+        page: &mut Page,
+    ) -> Result<(), RowFault> {
         self.core = None;
         self.link = Some(AnyLink::read(alloc, words, self.net, Server::new(alloc))?);
         page.word("new");
@@ -65,7 +70,7 @@ impl<'a, R: Net> Kept<'a, R> {
     fn relink(
         &mut self,
         alloc: Global,
-        words: &mut Words,
+        words: &mut RowWords,
         page: &mut Page,
     ) -> Result<(), RowFault> {
         let server = self.take_server()?;
@@ -83,7 +88,12 @@ impl<'a, R: Net> Kept<'a, R> {
     }
 
     /// `call BODY`: sends a message over the link, and writes the answer.
-    fn call(&mut self, alloc: Global, words: &mut Words, page: &mut Page) -> Result<(), RowFault> {
+    fn call(
+        &mut self,
+        alloc: Global,
+        words: &mut RowWords,
+        page: &mut Page,
+    ) -> Result<(), RowFault> {
         let body = words.bytes(alloc);
         let Some(link) = &mut self.link else {
             return Err(RowFault::NoRow);
@@ -111,7 +121,12 @@ impl<'a, R: Net> Kept<'a, R> {
     }
 
     /// `flip TREE NODE OFFSET`: flips a bit of a byte that the server of the `direct` link keeps.
-    fn flip(&mut self, alloc: Global, words: &mut Words, page: &mut Page) -> Result<(), RowFault> {
+    fn flip(
+        &mut self,
+        alloc: Global,
+        words: &mut RowWords,
+        page: &mut Page,
+    ) -> Result<(), RowFault> {
         let mut server = self.take_server()?;
         let flipped = server.flip(words.number(), words.number(), words.number());
         self.link = Some(AnyLink::direct(alloc, server));
@@ -123,7 +138,7 @@ impl<'a, R: Net> Kept<'a, R> {
     fn format(
         &mut self,
         alloc: Global,
-        words: &mut Words,
+        words: &mut RowWords,
         page: &mut Page,
     ) -> Result<(), RowFault> {
         let device = device_of(words.five_numbers())?;
@@ -194,7 +209,7 @@ fn formatted<R: Net>(
 }
 
 /// Reads the event of a call.
-fn event_in(alloc: Global, call: &str, words: &mut Words) -> Result<Event, RowFault> {
+fn event_in(alloc: Global, call: &str, words: &mut RowWords) -> Result<Event, RowFault> {
     match call {
         "read" => Ok(Event::Submit {
             session: 1,

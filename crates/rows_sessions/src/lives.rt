@@ -1,7 +1,7 @@
 //! Rows of whole lives of a device: its process ends, and another one goes on from what was kept.
 ghost use Rattle.std.specs.Prelude.{⊤};
 
-use crate::network::Cutter;
+use crate::network::CuttableNet;
 use crate::sessions::formatted;
 use crate::ways::AnyLink;
 use oram_bucket::PlainSeal;
@@ -10,7 +10,7 @@ use oram_core::{Command, Core, ReplyBody};
 use oram_keep::{Asked, KeepFault, Keeper, Unkept, ask, resume};
 use oram_session::{ChaChaTape, is_settled};
 use oram_state::{StateFault, decode_state};
-use rows::{Page, RowFault, Words};
+use rows::{Page, RowFault, RowWords};
 use std::alloc::Global;
 use std::net::Net;
 
@@ -19,7 +19,7 @@ const WRITES: u8 = 3;
 
 /// A keeper that keeps the newest file in memory, and fails once it has kept `room` files.
 #[derive(Drop)]
-struct Shelf {
+struct MemoryKeeper {
     alloc: Global,
     newest: Vec<u8>,
     room: u64,
@@ -29,17 +29,17 @@ struct Shelf {
     lacks_memory: bool,
 }
 
-impl Shelf {
+impl MemoryKeeper {
     /// Makes a keeper from the next words: `keeps_all`, `keeps COUNT` files, or `keeps_late COUNT`, which also keeps
     /// the file after these although it reports that it failed.
-    fn read(alloc: Global, words: &mut Words) -> Result<Shelf, RowFault> {
+    fn read(alloc: Global, words: &mut RowWords) -> Result<MemoryKeeper, RowFault> {
         let (late, room) = match words.text() {
             "keeps_all" => (false, u64::MAX),
             "keeps" => (false, words.number()),
             "keeps_late" => (true, words.number()),
             _ => return Err(RowFault::NoRow),
         };
-        Ok(Shelf {
+        Ok(MemoryKeeper {
             alloc,
             newest: Vec::new(alloc),
             room,
@@ -60,7 +60,7 @@ impl Shelf {
     }
 }
 
-impl Keeper for Shelf {
+impl Keeper for MemoryKeeper {
     ghost keeps = { λ _ _ _ _. ⊤ };
 
     fn keep(&mut self, file: &[u8]) -> Result<(), Unkept> {
@@ -80,7 +80,7 @@ impl Keeper for Shelf {
 struct Life<'a, R: Net> {
     core: Core<PlainSeal>,
     link: AnyLink<'a, R>,
-    shelf: Shelf,
+    shelf: MemoryKeeper,
 }
 
 impl<R: Net> Life<'_, R> {
@@ -215,12 +215,12 @@ fn byte_of(bytes: &[u8]) -> Result<u8, RowFault> {
 /// from what was kept. Writes how the first life went, and how many of the blocks the next life finds written.
 pub(crate) fn lives<R: Net>(
     alloc: Global,
-    net: &Cutter<R>,
-    words: &mut Words,
+    net: &CuttableNet<R>,
+    words: &mut RowWords,
     page: &mut Page,
 ) -> Result<(), RowFault> {
     let (core, server) = formatted(alloc, words.five_numbers())?;
-    let shelf = Shelf::read(alloc, words)?;
+    let shelf = MemoryKeeper::read(alloc, words)?;
     let link = AnyLink::read(alloc, words, net, server)?;
     let mut life = Life { core, link, shelf };
     life.tell_first(alloc, page)?;

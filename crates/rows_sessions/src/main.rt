@@ -1,21 +1,21 @@
 //! Rows of sessions: links and tapes, and devices that are formatted, served, resumed, and kept through whole lives.
 #![tactic(auto)]
 
-mod answering;
+mod answers;
 mod ends;
 mod far;
+mod faults;
 mod kept;
 mod lives;
 mod network;
 mod sessions;
 mod streams;
 mod tapes;
-mod telling;
 mod ways;
 
 use crate::kept::Kept;
-use crate::network::Cutter;
-use rows::{Page, RowFault, Table, Words, run_table};
+use crate::network::CuttableNet;
+use rows::{Page, RowFault, RowWords, Table, run_table};
 use std::alloc::Global;
 use std::net::Net;
 use std::process::ExitCode;
@@ -25,14 +25,14 @@ impl<R: Net> Table for Kept<'_, R> {
         &mut self,
         alloc: Global,
         call: &str,
-        words: &mut Words,
+        words: &mut RowWords,
         page: &mut Page,
     ) -> Result<(), RowFault> {
         match call {
-            "names" => telling::names(words, page),
+            "names" => faults::names(words, page),
             "list_words" => tapes::list_words(alloc, words, page),
             "chacha_words" => tapes::chacha_words(alloc, words, page),
-            "hosted" => answering::hosted(alloc, words, page),
+            "hosted" => answers::hosted(alloc, words, page),
             "stream" => streams::stream(alloc, words, page),
             "session" => sessions::session(alloc, self.net, words, page),
             "far_session" => far::far_session(alloc, words, page),
@@ -43,16 +43,16 @@ impl<R: Net> Table for Kept<'_, R> {
 }
 
 /// Answers the rows of standard input, with links over a network.
-fn answer_rows<R: Input + Print + AllocGlobal, N: Net>(rt: &R, net: &Cutter<N>) -> ExitCode {
+fn answer_rows<R: Input + Print + AllocGlobal, N: Net>(rt: &R, net: &CuttableNet<N>) -> ExitCode {
     let mut kept = Kept::new(net);
     run_table(rt, &mut kept)
 }
 
 /// Answers the rows over the network `net`, which it takes over.
-fn run<R: Input + Print + AllocGlobal, N: Net + Drop>(rt: &R, net: Cutter<N>) -> ExitCode {
+fn run<R: Input + Print + AllocGlobal, N: Net + Drop>(rt: &R, net: CuttableNet<N>) -> ExitCode {
     answer_rows(rt, &net)
 }
 
 fn main(rt: HostRuntime) -> ExitCode {
-    run(&rt, Cutter::new(&rt))
+    run(&rt, CuttableNet::new(&rt))
 }

@@ -7,14 +7,14 @@ use std::net::{Net, OpenStream, Shutdown, SocketAddr};
 
 /// A network that goes through another one, with a second handle of the newest connection.
 #[derive(Drop)]
-pub(crate) struct Cutter<R: Net> {
+pub(crate) struct CuttableNet<R: Net> {
     rt: R,
     newest: Cell<Option<R::Stream>>,
 }
 
-impl<R: Net> Cutter<R> {
-    pub(crate) fn new(rt: R) -> Cutter<R> {
-        Cutter {
+impl<R: Net> CuttableNet<R> {
+    pub(crate) fn new(rt: R) -> CuttableNet<R> {
+        CuttableNet {
             rt,
             newest: Cell::new(None),
         }
@@ -29,7 +29,7 @@ impl<R: Net> Cutter<R> {
     }
 }
 
-impl<R: Net> Net for Cutter<R> {
+impl<R: Net> Net for CuttableNet<R> {
     type Stream = R::Stream;
 
     type Listener = R::Listener;

@@ -1,8 +1,8 @@
 //! Rows of whole sessions.
 
-use crate::ends::{Given, Sheet};
-use crate::network::Cutter;
-use crate::telling::{device_of, standing, tell_end};
+use crate::ends::{LimitedWriter, RowReader};
+use crate::faults::{device_of, standing, tell_end};
+use crate::network::CuttableNet;
 use crate::ways::AnyLink;
 use oram_bucket::PlainSeal;
 use oram_core::Core;
@@ -10,7 +10,7 @@ use oram_host::Server;
 use oram_session::{
     ChaChaTape, Direct, Link, ListTape, ServeFault, Tape, format_device, is_settled, serve,
 };
-use rows::{Page, RowFault, Words};
+use rows::{Page, RowFault, RowWords};
 use std::alloc::Global;
 use std::net::Net;
 
@@ -32,8 +32,8 @@ pub(crate) fn served<L: Link, T: Tape>(
     core: &mut Core<PlainSeal>,
     link: &mut L,
     tape: &mut T,
-    given: &mut Given,
-    sheet: &mut Sheet,
+    given: &mut RowReader,
+    sheet: &mut LimitedWriter,
 ) -> Result<Result<u64, ServeFault>, RowFault> {
     if !is_settled(core) {
         return Err(RowFault::NoRow);
@@ -46,8 +46,8 @@ pub(crate) fn served<L: Link, T: Tape>(
 /// the link. The tape is `zeros`, or `chacha` with a key of zeros.
 pub(crate) fn session<R: Net>(
     alloc: Global,
-    net: &Cutter<R>,
-    words: &mut Words,
+    net: &CuttableNet<R>,
+    words: &mut RowWords,
     page: &mut Page,
 ) -> Result<(), RowFault> {
     let numbers = words.five_numbers();
@@ -71,16 +71,16 @@ pub(crate) fn session<R: Net>(
 /// Does the same, reading from the words of the link on.
 fn session_with<R: Net, T: Tape>(
     alloc: Global,
-    net: &Cutter<R>,
+    net: &CuttableNet<R>,
     numbers: [u64; 5],
     tape: &mut T,
-    words: &mut Words,
+    words: &mut RowWords,
     page: &mut Page,
 ) -> Result<(), RowFault> {
     let (mut core, server) = formatted(alloc, numbers)?;
     let mut link = AnyLink::read(alloc, words, net, server)?;
-    let mut given = Given::read(alloc, words)?;
-    let mut sheet = Sheet::read(alloc, words)?;
+    let mut given = RowReader::read(alloc, words)?;
+    let mut sheet = LimitedWriter::read(alloc, words)?;
     let ended = served(alloc, &mut core, &mut link, tape, &mut given, &mut sheet)?;
     link.check_memory()?;
     page.bytes(sheet.text()?);

@@ -1,16 +1,16 @@
 //! Rows of links over a reader and a writer.
 
-use crate::ends::{Given, Sheet};
-use crate::telling::tell_outcome;
+use crate::ends::{LimitedWriter, RowReader};
+use crate::faults::tell_outcome;
 use oram_session::{Link, StreamLink};
-use rows::{Page, RowFault, Words};
+use rows::{Page, RowFault, RowWords};
 use std::alloc::Global;
 
 /// `stream READER WRITER BODIES`: calls a link with each of the bodies. Writes the outcome of each call, how many calls
 /// had a fault, what was sent, and with how many writes and flushes.
-pub(crate) fn stream(alloc: Global, words: &mut Words, page: &mut Page) -> Result<(), RowFault> {
-    let given = Given::read(alloc, words)?;
-    let mut sheet = Sheet::read(alloc, words)?;
+pub(crate) fn stream(alloc: Global, words: &mut RowWords, page: &mut Page) -> Result<(), RowFault> {
+    let given = RowReader::read(alloc, words)?;
+    let mut sheet = LimitedWriter::read(alloc, words)?;
     call_all(alloc, given, &mut sheet, words, page)?;
     tell_sent(&sheet, page)
 }
@@ -18,9 +18,9 @@ pub(crate) fn stream(alloc: Global, words: &mut Words, page: &mut Page) -> Resul
 /// Calls a link over a reader and a writer with one body after the other.
 fn call_all(
     alloc: Global,
-    given: Given,
-    sheet: &mut Sheet,
-    words: &mut Words,
+    given: RowReader,
+    sheet: &mut LimitedWriter,
+    words: &mut RowWords,
     page: &mut Page,
 ) -> Result<(), RowFault> {
     let mut link = StreamLink::new(alloc, given, sheet);
@@ -38,7 +38,7 @@ fn call_all(
 }
 
 /// Writes what was written on a sheet, and how.
-fn tell_sent(sheet: &Sheet, page: &mut Page) -> Result<(), RowFault> {
+fn tell_sent(sheet: &LimitedWriter, page: &mut Page) -> Result<(), RowFault> {
     page.word("sent");
     page.bytes(sheet.text()?);
     page.word("writes");

@@ -1,7 +1,7 @@
 //! Rows of tapes.
 
 use oram_session::{ChaChaTape, ListTape, Tape};
-use rows::{Page, RowFault, Words};
+use rows::{Page, RowFault, RowWords};
 use std::alloc::Global;
 
 /// Draws the words of a ticket from any tape.
@@ -17,7 +17,7 @@ fn drawn<T: Tape>(
 /// `list_words TICKET COUNT WORDS`: writes `COUNT` words for a ticket from the tape of a list.
 pub(crate) fn list_words(
     alloc: Global,
-    words: &mut Words,
+    words: &mut RowWords,
     page: &mut Page,
 ) -> Result<(), RowFault> {
     let (ticket, count) = (words.number(), words.size());
@@ -34,7 +34,7 @@ pub(crate) fn list_words(
 /// hexadecimal.
 pub(crate) fn chacha_words(
     alloc: Global,
-    words: &mut Words,
+    words: &mut RowWords,
     page: &mut Page,
 ) -> Result<(), RowFault> {
     let mut tape = ChaChaTape {

@@ -2,11 +2,11 @@
 ghost use Rattle.std.specs.Prelude.{◌≡◌};
 ghost use Rattle.oram_session.specs.Outcome.{faults_after};
 
-use crate::ends::{Given, Sheet};
-use crate::network::Cutter;
+use crate::ends::{LimitedWriter, RowReader};
+use crate::network::CuttableNet;
 use oram_host::Server;
 use oram_session::{Direct, FaultLink, Link, LinkFault, LoopLink, StreamLink};
-use rows::{Page, RowFault, Words};
+use rows::{Page, RowFault, RowWords};
 use std::alloc::Global;
 use std::net::Net;
 
@@ -15,8 +15,8 @@ use std::net::Net;
 enum Way<'a, R: Net> {
     Direct(Direct),
     Faults(FaultLink<Direct>),
-    Loop(LoopLink<&'a Cutter<R>>),
-    Stream(StreamLink<Given, Sheet>),
+    Loop(LoopLink<&'a CuttableNet<R>>),
+    Stream(StreamLink<RowReader, LimitedWriter>),
 }
 
 impl<R: Net> Way<'_, R> {
@@ -70,8 +70,8 @@ impl<'a, R: Net> AnyLink<'a, R> {
     /// - `stream READER`: what is sent goes nowhere, and the reader gives the answers.
     pub(crate) fn read(
         alloc: Global,
-        words: &mut Words,
-        net: &'a Cutter<R>,
+        words: &mut RowWords,
+        net: &'a CuttableNet<R>,
         server: Server,
     ) -> Result<AnyLink<'a, R>, RowFault> {
         let way = match words.text() {
@@ -83,8 +83,8 @@ impl<'a, R: Net> AnyLink<'a, R> {
                 Err(_) => return Err(RowFault::NoRow),
             },
             "stream" => {
-                let answers = Given::read(alloc, words)?;
-                Way::Stream(StreamLink::new(alloc, answers, Sheet::ample(alloc)))
+                let answers = RowReader::read(alloc, words)?;
+                Way::Stream(StreamLink::new(alloc, answers, LimitedWriter::ample(alloc)))
             }
             _ => return Err(RowFault::NoRow),
         };
@@ -141,7 +141,11 @@ impl<'a, R: Net> AnyLink<'a, R> {
 }
 
 /// Makes a link from the words `AT TIMES before|after`.
-fn faulty(alloc: Global, words: &mut Words, server: Server) -> Result<FaultLink<Direct>, RowFault> {
+fn faulty(
+    alloc: Global,
+    words: &mut RowWords,
+    server: Server,
+) -> Result<FaultLink<Direct>, RowFault> {
     let (at, times) = (words.number(), words.number());
     let after = match words.text() {
         "before" => false,

@@ -4,13 +4,13 @@ use oram_settings::{
     Sealing, amount_text, begun_text, counted, device_of, disk_complaint, host_complaint,
     hosting_text, made_text, serving_text, size_text, stored_bytes,
 };
-use rows::{Page, RowFault, Words};
+use rows::{Page, RowFault, RowWords};
 use std::alloc::Global;
 
 /// `says amount BYTES`, `says size BYTES`, `says counted COUNT NAME`, `says stored SIZE BLOCK SLOTS TABLE SEALER`,
 /// `says made FOLDER SIZE STORED`, `says begun STORED HOST`, `says hosting FILE LISTEN`, `says serving SIZE URI`, and,
 /// about the text of a file, `says bad-disk NAME TEXT` and `says bad-host NAME TEXT`: writes what `oramdisk` prints.
-pub fn says(alloc: Global, words: &mut Words, page: &mut Page) -> Result<(), RowFault> {
+pub fn says(alloc: Global, words: &mut RowWords, page: &mut Page) -> Result<(), RowFault> {
     let kind = words.text();
     let text = match kind {
         "amount" => amount_text(alloc, words.number())?,
@@ -30,7 +30,7 @@ pub fn says(alloc: Global, words: &mut Words, page: &mut Page) -> Result<(), Row
 }
 
 /// Returns how many bytes a disk with these settings takes at its host.
-fn stored(words: &mut Words) -> Result<u64, RowFault> {
+fn stored(words: &mut RowWords) -> Result<u64, RowFault> {
     let size = words.number();
     let block = words.number();
     let slots = words.number();

@@ -4,12 +4,12 @@ use crate::tables::read_or_bad;
 use oram_settings::{
     DiskSettings, Sealing, device_of, disk_text, first_difference, read_disk_settings,
 };
-use rows::{Page, RowFault, Words};
+use rows::{Page, RowFault, RowWords};
 use std::alloc::Global;
 
 /// `disk TEXT`: writes the settings in a document: size, block, slots, table, sealer, key, host, listen, state, sync
 /// and patience.
-pub fn disk(alloc: Global, words: &mut Words, page: &mut Page) -> Result<(), RowFault> {
+pub fn disk(alloc: Global, words: &mut RowWords, page: &mut Page) -> Result<(), RowFault> {
     let text = words.lines(alloc);
     put_settings(alloc, text.as_str(), page)
 }
@@ -45,7 +45,7 @@ fn put_names(settings: &DiskSettings, page: &mut Page) {
 }
 
 /// `device SIZE BLOCK SLOTS TABLE`: writes how many trees and blocks the device of such a disk has.
-pub fn device(words: &mut Words, page: &mut Page) -> Result<(), RowFault> {
+pub fn device(words: &mut RowWords, page: &mut Page) -> Result<(), RowFault> {
     let size = words.number();
     let block = words.number();
     let slots = words.number();
@@ -63,7 +63,11 @@ pub fn device(words: &mut Words, page: &mut Page) -> Result<(), RowFault> {
 }
 
 /// `first-settings SIZE KEY`: reads the text of a new disk's settings, and writes the settings in it.
-pub fn first_settings(alloc: Global, words: &mut Words, page: &mut Page) -> Result<(), RowFault> {
+pub fn first_settings(
+    alloc: Global,
+    words: &mut RowWords,
+    page: &mut Page,
+) -> Result<(), RowFault> {
     let size = words.number();
     let key = words.array(alloc);
     let text = disk_text(alloc, size, &key)?;
@@ -87,7 +91,7 @@ fn all_set(alloc: Global, text: &str) -> Result<String, RowFault> {
 /// `first-settings-set SIZE KEY`: the same, but with those settings set that the text has only as comments.
 pub fn first_settings_set(
     alloc: Global,
-    words: &mut Words,
+    words: &mut RowWords,
     page: &mut Page,
 ) -> Result<(), RowFault> {
     let size = words.number();
@@ -97,7 +101,7 @@ pub fn first_settings_set(
     put_settings(alloc, text.as_str(), page)
 }
 
-fn sealing_in(words: &mut Words) -> Result<Sealing, RowFault> {
+fn sealing_in(words: &mut RowWords) -> Result<Sealing, RowFault> {
     match words.text() {
         "plain" => Ok(Sealing::Plain),
         "chacha" => Ok(Sealing::ChaCha),
@@ -107,7 +111,7 @@ fn sealing_in(words: &mut Words) -> Result<Sealing, RowFault> {
 
 /// `differs SIZE BLOCK SLOTS TABLE SEALER SIZE BLOCK SLOTS TABLE SEALER`: writes the first key at which the first
 /// settings differ from the second ones, with which a disk was formatted.
-pub fn differs(alloc: Global, words: &mut Words, page: &mut Page) -> Result<(), RowFault> {
+pub fn differs(alloc: Global, words: &mut RowWords, page: &mut Page) -> Result<(), RowFault> {
     let settings = DiskSettings {
         size: words.number(),
         block: words.number(),

@@ -2,11 +2,11 @@
 
 use oram_core::Reason;
 use oram_settings::{Meter, Status, progress_text, report};
-use rows::{Page, RowFault, Words};
+use rows::{Page, RowFault, RowWords};
 use std::alloc::Global;
 
 /// `progress DONE OF MILLISECONDS`: writes the line of a formatting that has come this far.
-pub fn progress(alloc: Global, words: &mut Words, page: &mut Page) -> Result<(), RowFault> {
+pub fn progress(alloc: Global, words: &mut RowWords, page: &mut Page) -> Result<(), RowFault> {
     let done = words.number();
     let of = words.number();
     let milliseconds = words.number();
@@ -18,7 +18,7 @@ pub fn progress(alloc: Global, words: &mut Words, page: &mut Page) -> Result<(),
 /// `meter STEP`: begins a meter that is due at each such step in a hundred.
 pub fn meter(
     meter: &mut Option<Meter>,
-    words: &mut Words,
+    words: &mut RowWords,
     page: &mut Page,
 ) -> Result<(), RowFault> {
     *meter = Some(Meter::new(words.number()));
@@ -27,7 +27,11 @@ pub fn meter(
 }
 
 /// `due PERCENT`: writes whether the meter is due.
-pub fn due(meter: Option<&mut Meter>, words: &mut Words, page: &mut Page) -> Result<(), RowFault> {
+pub fn due(
+    meter: Option<&mut Meter>,
+    words: &mut RowWords,
+    page: &mut Page,
+) -> Result<(), RowFault> {
     let Some(meter) = meter else {
         return Err(RowFault::NoRow);
     };
@@ -37,7 +41,7 @@ pub fn due(meter: Option<&mut Meter>, words: &mut Words, page: &mut Page) -> Res
 
 /// `report BLOCKS BLOCK_BYTES TREES ACCESSES LIFETIME WAITING FAILURE ..`: writes the report of a disk. The disk is
 /// `sound`, or has failed with `malformed`, `tampered TREE LEVEL` or `refused CODE`.
-pub fn disk_report(alloc: Global, words: &mut Words, page: &mut Page) -> Result<(), RowFault> {
+pub fn disk_report(alloc: Global, words: &mut RowWords, page: &mut Page) -> Result<(), RowFault> {
     let status = Status {
         blocks: words.number(),
         block_bytes: words.number(),
@@ -52,7 +56,7 @@ pub fn disk_report(alloc: Global, words: &mut Words, page: &mut Page) -> Result<
     Ok(())
 }
 
-fn failure(words: &mut Words) -> Result<Option<Reason>, RowFault> {
+fn failure(words: &mut RowWords) -> Result<Option<Reason>, RowFault> {
     match words.text() {
         "sound" => Ok(None),
         "malformed" => Ok(Some(Reason::Malformed)),

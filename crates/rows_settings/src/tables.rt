@@ -1,9 +1,9 @@
 //! The values at the keys of a TOML document.
 
-use oram_edge::{
+use oram_cli::{
     InputFault, address_at, count_at, has_only, key_at, name_at, number_at, sealer_in, table_of,
 };
-use rows::{Page, RowFault, Words};
+use rows::{Page, RowFault, RowWords};
 use std::alloc::Global;
 use toml::Table;
 
@@ -26,7 +26,7 @@ pub fn read_or_bad<T: Drop>(
 pub fn document(
     alloc: Global,
     document: &mut Option<Table>,
-    words: &mut Words,
+    words: &mut RowWords,
     page: &mut Page,
 ) -> Result<(), RowFault> {
     let text = words.lines(alloc);
@@ -40,7 +40,7 @@ pub fn document(
 
 /// `at KIND KEY`: writes the value at the key, if it is of that kind. A `sealer` is read from its two keys
 /// together.
-pub fn at(document: Option<&Table>, words: &mut Words, page: &mut Page) -> Result<(), RowFault> {
+pub fn at(document: Option<&Table>, words: &mut RowWords, page: &mut Page) -> Result<(), RowFault> {
     let Some(table) = document else {
         return Err(RowFault::NoRow);
     };
@@ -89,7 +89,7 @@ fn put_sealer(read: Result<Option<[u8; 32]>, InputFault>, page: &mut Page) -> Re
 pub fn only(
     alloc: Global,
     document: Option<&Table>,
-    words: &mut Words,
+    words: &mut RowWords,
     page: &mut Page,
 ) -> Result<(), RowFault> {
     let Some(table) = document else {

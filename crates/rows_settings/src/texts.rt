@@ -1,12 +1,12 @@
 //! Sizes, names, command lines, and texts that are written.
 
-use oram_edge::{put_between, put_number};
-use oram_settings::{NoRequest, Words as CommandWords, beside, read_size, read_words};
-use rows::{Page, RowFault, Words};
+use oram_cli::{put_between, put_number};
+use oram_settings::{NoRequest, Subcommand, read_command_line, read_size, relative_to};
+use rows::{Page, RowFault, RowWords};
 use std::alloc::Global;
 
 /// `size TEXT`: writes how many bytes a size means.
-pub fn size(words: &mut Words, page: &mut Page) -> Result<(), RowFault> {
+pub fn size(words: &mut RowWords, page: &mut Page) -> Result<(), RowFault> {
     match read_size(words.all()) {
         Some(bytes) => page.number(bytes),
         None => page.word("none"),
@@ -14,17 +14,17 @@ pub fn size(words: &mut Words, page: &mut Page) -> Result<(), RowFault> {
     Ok(())
 }
 
-/// `beside FILE NAME`: writes the path of the file that is called `NAME` in the folder of `FILE`.
-pub fn beside_file(alloc: Global, words: &mut Words, page: &mut Page) -> Result<(), RowFault> {
+/// `relative_to FILE NAME`: writes the path of the file that is called `NAME` in the folder of `FILE`.
+pub fn beside_file(alloc: Global, words: &mut RowWords, page: &mut Page) -> Result<(), RowFault> {
     let file = words.text();
     let name = words.text();
-    let found = beside(alloc, file, name)?;
+    let found = relative_to(alloc, file, name)?;
     page.word(found.as_str());
     Ok(())
 }
 
 /// `words WORD ..`: writes what a command line asks `oramdisk` for.
-pub fn command_line(alloc: Global, words: &mut Words, page: &mut Page) -> Result<(), RowFault> {
+pub fn command_line(alloc: Global, words: &mut RowWords, page: &mut Page) -> Result<(), RowFault> {
     let mut texts = Vec::new(alloc);
     for _ in 0..64 {
         if words.is_empty() {
@@ -32,12 +32,12 @@ pub fn command_line(alloc: Global, words: &mut Words, page: &mut Page) -> Result
         }
         texts.push(words.text())?;
     }
-    put_told(&read_words(alloc, &texts), page)
+    put_told(&read_command_line(alloc, &texts), page)
 }
 
-fn put_told(told: &Result<CommandWords, NoRequest>, page: &mut Page) -> Result<(), RowFault> {
+fn put_told(told: &Result<Subcommand, NoRequest>, page: &mut Page) -> Result<(), RowFault> {
     match told {
-        Ok(asked) => put_asked(asked, page),
+        Ok(subcommand) => put_subcommand(subcommand, page),
         Err(NoRequest::Help(_)) => page.word("help"),
         Err(NoRequest::Mistake(_)) => page.word("bad"),
         Err(NoRequest::OutOfMemory) => return Err(RowFault::OutOfMemory),
@@ -45,17 +45,17 @@ fn put_told(told: &Result<CommandWords, NoRequest>, page: &mut Page) -> Result<(
     Ok(())
 }
 
-fn put_asked(asked: &CommandWords, page: &mut Page) {
-    match asked {
-        CommandWords::Host { settings, is_new } => {
+fn put_subcommand(subcommand: &Subcommand, page: &mut Page) {
+    match subcommand {
+        Subcommand::Host { settings, is_new } => {
             put_both(page, "host", settings);
             page.word(if *is_new { "new" } else { "old" });
         }
-        CommandWords::Format(name) => put_both(page, "format", name),
-        CommandWords::Serve(name) => put_both(page, "serve", name),
-        CommandWords::Status(name) => put_both(page, "status", name),
-        CommandWords::Retry(name) => put_both(page, "retry", name),
-        CommandWords::New { folder, size } => {
+        Subcommand::Format(name) => put_both(page, "format", name),
+        Subcommand::Serve(name) => put_both(page, "serve", name),
+        Subcommand::Status(name) => put_both(page, "status", name),
+        Subcommand::Retry(name) => put_both(page, "retry", name),
+        Subcommand::New { folder, size } => {
             put_both(page, "new", folder);
             page.word(size.as_str());
         }
@@ -76,7 +76,7 @@ fn show_held(held: &[u8], left: usize, is_whole: bool, page: &mut Page) {
 
 /// `write ROOM FRONT TEXT REST`: writes the three texts to a writer with `ROOM` bytes. Writes the bytes that the writer
 /// then holds, and whether these are all.
-pub fn write(alloc: Global, words: &mut Words, page: &mut Page) -> Result<(), RowFault> {
+pub fn write(alloc: Global, words: &mut RowWords, page: &mut Page) -> Result<(), RowFault> {
     let room = words.size();
     let front = words.bytes(alloc);
     let text = words.bytes(alloc);
@@ -90,7 +90,7 @@ pub fn write(alloc: Global, words: &mut Words, page: &mut Page) -> Result<(), Ro
 }
 
 /// `write-number ROOM FRONT NUMBER`: the same for a text and a number after it.
-pub fn write_number(alloc: Global, words: &mut Words, page: &mut Page) -> Result<(), RowFault> {
+pub fn write_number(alloc: Global, words: &mut RowWords, page: &mut Page) -> Result<(), RowFault> {
     let room = words.size();
     let front = words.bytes(alloc);
     let number = words.byte();

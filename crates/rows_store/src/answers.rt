@@ -2,7 +2,7 @@
 
 use oram_host::Server;
 use oram_redo::MemoryPair;
-use oram_store::Store;
+use oram_store::FileStore;
 use oram_wire::HostAnswer;
 use rows::{Page, RowFault};
 use std::alloc::Global;
@@ -50,7 +50,7 @@ fn write_both(page: &mut Page, store: &Page, server: &Page) {
 /// Asks both, and writes their answers.
 pub fn ask(
     alloc: Global,
-    store: &mut Store<MemoryPair>,
+    store: &mut FileStore<MemoryPair>,
     server: &mut Server,
     body: &[u8],
     page: &mut Page,
@@ -75,7 +75,7 @@ fn spelled(alloc: Global, answer: &[u8]) -> Result<Page, RowFault> {
 /// Asks both, and writes the bytes of their answers.
 pub fn ask_bytes(
     alloc: Global,
-    store: &mut Store<MemoryPair>,
+    store: &mut FileStore<MemoryPair>,
     server: &mut Server,
     body: &[u8],
     page: &mut Page,

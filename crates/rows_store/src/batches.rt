@@ -6,7 +6,7 @@ ghost use Rattle.rows_store.specs.Bounds.{bounds};
 
 use crate::redos::BOUNDS;
 use oram_redo::Patch;
-use rows::{RowFault, Words};
+use rows::{RowFault, RowWords};
 use std::alloc::Global;
 
 /// A patch with its bytes.
@@ -17,7 +17,7 @@ pub struct OwnedPatch {
 }
 
 /// Reads the words that are left as patches, `AT BYTES AT BYTES ..`.
-pub fn patches_in(alloc: Global, words: &mut Words) -> Result<Vec<OwnedPatch>, RowFault> {
+pub fn patches_in(alloc: Global, words: &mut RowWords) -> Result<Vec<OwnedPatch>, RowFault> {
     let mut patches = Vec::new(alloc);
     for _ in 0..u64::MAX {
         if words.is_empty() {

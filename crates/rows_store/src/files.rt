@@ -3,7 +3,7 @@
 use oram_layout::Identity;
 use oram_redo::{FileKind, FilePair, MemoryPair};
 use oram_store::create;
-use rows::{Page, RowFault, Words};
+use rows::{Page, RowFault, RowWords};
 use std::alloc::Global;
 
 /// The identity of new files. No answer shows it.
@@ -19,7 +19,7 @@ pub fn created(alloc: Global) -> Result<MemoryPair, RowFault> {
 }
 
 /// Reads the next word as one of the two files.
-pub fn file_in(words: &mut Words) -> Result<FileKind, RowFault> {
+pub fn file_in(words: &mut RowWords) -> Result<FileKind, RowFault> {
     match words.text() {
         "records" => Ok(FileKind::Records),
         "log" => Ok(FileKind::Log),
@@ -31,7 +31,7 @@ pub fn file_in(words: &mut Words) -> Result<FileKind, RowFault> {
 pub fn write_bytes(
     alloc: Global,
     files: &mut MemoryPair,
-    words: &mut Words,
+    words: &mut RowWords,
     page: &mut Page,
 ) -> Result<(), RowFault> {
     let file = file_in(words)?;

@@ -1,11 +1,11 @@
 //! The first bytes of a bucket file and of its log.
 
 use oram_layout::{Front, Identity, front_of, log_front_of, read_front, read_log_front};
-use rows::{Page, RowFault, Words};
+use rows::{Page, RowFault, RowWords};
 use std::alloc::Global;
 
 /// Reads the next word as an identity. Fails if it doesn't have 16 bytes.
-fn identity_in(alloc: Global, words: &mut Words) -> Result<Identity, RowFault> {
+fn identity_in(alloc: Global, words: &mut RowWords) -> Result<Identity, RowFault> {
     let bytes = words.bytes(alloc);
     let mut identity = [0; 16];
     if bytes.len() != identity.len() {
@@ -21,7 +21,7 @@ fn write_ours(page: &mut Page, identity: &Identity) {
 }
 
 /// `front read BYTES`: writes what kind of file begins with these bytes.
-fn read(alloc: Global, words: &mut Words, page: &mut Page) -> Result<(), RowFault> {
+fn read(alloc: Global, words: &mut RowWords, page: &mut Page) -> Result<(), RowFault> {
     let bytes = words.bytes(alloc);
     match read_front(&bytes) {
         Front::Ours(identity) => write_ours(page, &identity),
@@ -31,7 +31,7 @@ fn read(alloc: Global, words: &mut Words, page: &mut Page) -> Result<(), RowFaul
 }
 
 /// `front read_log BYTES`: writes whether a log begins with these bytes.
-fn read_log(alloc: Global, words: &mut Words, page: &mut Page) -> Result<(), RowFault> {
+fn read_log(alloc: Global, words: &mut RowWords, page: &mut Page) -> Result<(), RowFault> {
     let bytes = words.bytes(alloc);
     match read_log_front(&bytes) {
         Some(identity) => write_ours(page, &identity),
@@ -45,7 +45,7 @@ fn read_log(alloc: Global, words: &mut Words, page: &mut Page) -> Result<(), Row
 pub fn answer(
     alloc: Global,
     name: &str,
-    words: &mut Words,
+    words: &mut RowWords,
     page: &mut Page,
 ) -> Result<(), RowFault> {
     match name {

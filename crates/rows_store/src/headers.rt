@@ -1,14 +1,14 @@
 //! The entries of a header, read as trees.
 
 use oram_layout::{ENTRY_LEN, LayoutFault, TREES, Tree, next_base, read_trees};
-use rows::{Page, RowFault, Words};
+use rows::{Page, RowFault, RowWords};
 use std::alloc::Global;
 
 /// Reads the next word, the 4096 bytes of a header's entries, as trees. Returns the fault if they are no
 /// trees.
 fn trees_in(
     alloc: Global,
-    words: &mut Words,
+    words: &mut RowWords,
 ) -> Result<Result<Vec<Option<Tree>>, LayoutFault>, RowFault> {
     let entries = words.bytes(alloc);
     if entries.len() != ENTRY_LEN * TREES {
@@ -42,7 +42,7 @@ fn write_trees(page: &mut Page, trees: &[Option<Tree>]) {
 }
 
 /// `header trees ENTRIES`: writes the trees.
-fn trees(alloc: Global, words: &mut Words, page: &mut Page) -> Result<(), RowFault> {
+fn trees(alloc: Global, words: &mut RowWords, page: &mut Page) -> Result<(), RowFault> {
     match trees_in(alloc, words)? {
         Ok(trees) => write_trees(page, &trees),
         Err(fault) => page.show(&fault),
@@ -51,7 +51,7 @@ fn trees(alloc: Global, words: &mut Words, page: &mut Page) -> Result<(), RowFau
 }
 
 /// `header next ENTRIES`: writes the place where the cells of the next tree will begin.
-fn next(alloc: Global, words: &mut Words, page: &mut Page) -> Result<(), RowFault> {
+fn next(alloc: Global, words: &mut RowWords, page: &mut Page) -> Result<(), RowFault> {
     match trees_in(alloc, words)? {
         Ok(trees) => page.number(next_base(&trees)),
         Err(fault) => page.show(&fault),
@@ -63,7 +63,7 @@ fn next(alloc: Global, words: &mut Words, page: &mut Page) -> Result<(), RowFaul
 pub fn answer(
     alloc: Global,
     name: &str,
-    words: &mut Words,
+    words: &mut RowWords,
     page: &mut Page,
 ) -> Result<(), RowFault> {
     match name {

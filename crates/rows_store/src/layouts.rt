@@ -1,28 +1,28 @@
 //! The shape of a tree, and the places of its cells.
 
 use oram_layout::{Shape, Tree, entry_place};
-use rows::{Page, RowFault, Words};
+use rows::{Page, RowFault, RowWords};
 use std::alloc::Global;
 
 /// Reads the shape from the words `DEPTH RECORD_LEN`; `None` if no tree may have it.
-fn shape_in(words: &mut Words) -> Option<Shape> {
+fn shape_in(words: &mut RowWords) -> Option<Shape> {
     Shape::new(words.byte(), words.short())
 }
 
 /// Reads the tree from the words `DEPTH RECORD_LEN BASE`; `None` if it ends beyond the last place for cells.
-fn placed_in(words: &mut Words) -> Result<Option<Tree>, RowFault> {
+fn placed_in(words: &mut RowWords) -> Result<Option<Tree>, RowFault> {
     let shape = shape_in(words).ok_or(RowFault::NoRow)?;
     Ok(Tree::place(shape, words.number()))
 }
 
 /// Reads the tree from the words `DEPTH RECORD_LEN BASE`.
-fn tree_in(words: &mut Words) -> Result<Tree, RowFault> {
+fn tree_in(words: &mut RowWords) -> Result<Tree, RowFault> {
     placed_in(words)?.ok_or(RowFault::NoRow)
 }
 
 /// `layout shape DEPTH RECORD_LEN`: writes how many leaves and nodes a tree of this shape has, and how many bytes the
 /// records of a path have.
-fn shape(words: &mut Words, page: &mut Page) -> Result<(), RowFault> {
+fn shape(words: &mut RowWords, page: &mut Page) -> Result<(), RowFault> {
     let Some(shape) = shape_in(words) else {
         page.word("none");
         return Ok(());
@@ -34,7 +34,7 @@ fn shape(words: &mut Words, page: &mut Page) -> Result<(), RowFault> {
 }
 
 /// `layout node DEPTH RECORD_LEN LEAF LEVEL`: writes the node at a level of a leaf's path.
-fn node(words: &mut Words, page: &mut Page) -> Result<(), RowFault> {
+fn node(words: &mut RowWords, page: &mut Page) -> Result<(), RowFault> {
     let shape = shape_in(words).ok_or(RowFault::NoRow)?;
     let leaf = words.short();
     let level = words.byte();
@@ -46,7 +46,7 @@ fn node(words: &mut Words, page: &mut Page) -> Result<(), RowFault> {
 }
 
 /// `layout place DEPTH RECORD_LEN BASE`: writes where the cells of a tree end if they begin at `BASE`.
-fn place(words: &mut Words, page: &mut Page) -> Result<(), RowFault> {
+fn place(words: &mut RowWords, page: &mut Page) -> Result<(), RowFault> {
     match placed_in(words)? {
         Some(tree) => page.number(tree.end()),
         None => page.word("none"),
@@ -55,7 +55,7 @@ fn place(words: &mut Words, page: &mut Page) -> Result<(), RowFault> {
 }
 
 /// `layout cell DEPTH RECORD_LEN BASE NODE`: writes the place of a node's cell.
-fn cell(words: &mut Words, page: &mut Page) -> Result<(), RowFault> {
+fn cell(words: &mut RowWords, page: &mut Page) -> Result<(), RowFault> {
     let tree = tree_in(words)?;
     let node = words.short();
     if node >= tree.shape.nodes() {
@@ -67,7 +67,7 @@ fn cell(words: &mut Words, page: &mut Page) -> Result<(), RowFault> {
 
 /// Answers a row about places. `layout entry DEPTH RECORD_LEN BASE` writes a tree's entry in the header, and
 /// `layout entry_at TREE` writes the place of the entry of tree `TREE`.
-pub fn answer(name: &str, words: &mut Words, page: &mut Page) -> Result<(), RowFault> {
+pub fn answer(name: &str, words: &mut RowWords, page: &mut Page) -> Result<(), RowFault> {
     match name {
         "shape" => shape(words, page),
         "node" => node(words, page),

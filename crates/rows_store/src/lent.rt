@@ -5,13 +5,13 @@ use oram_redo::{FileKind, FilePair, RedoError};
 
 /// Files that are lent to a store.
 #[derive(Drop)]
-pub struct Lent<'a, F: FilePair> {
+pub struct FailingFiles<'a, F: FilePair> {
     pub files: &'a mut F,
     /// How many more calls the files answer. After that, each call fails.
     pub calls: u64,
 }
 
-impl<F: FilePair> FilePair for Lent<'_, F> {
+impl<F: FilePair> FilePair for FailingFiles<'_, F> {
     ghost seen = { λ l. F.seen l.files.now };
 
     ghost may_leave = { λ l. F.may_leave l.files.now };

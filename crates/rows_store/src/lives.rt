@@ -2,11 +2,11 @@
 
 use crate::answers::NO_ROOM;
 use crate::files::{created, write_bytes};
-use crate::lent::Lent;
+use crate::lent::FailingFiles;
 use oram_redo::MemoryPair;
-use oram_store::{Store, StoreFault};
+use oram_store::{FileStore, StoreFault};
 use oram_wire::HostAnswer;
-use rows::{Page, RowFault, Words};
+use rows::{Page, RowFault, RowWords};
 use std::alloc::Global;
 
 /// The files that the next stores are opened over.
@@ -50,7 +50,10 @@ fn write_fault(page: &mut Page, fault: StoreFault) -> Result<(), RowFault> {
 }
 
 /// Writes why a store had no room.
-fn write_failure(store: &Store<Lent<'_, MemoryPair>>, page: &mut Page) -> Result<(), RowFault> {
+fn write_failure(
+    store: &FileStore<FailingFiles<'_, MemoryPair>>,
+    page: &mut Page,
+) -> Result<(), RowFault> {
     match store.failure() {
         Some(fault) => write_fault(page, fault),
         None => {
@@ -62,7 +65,7 @@ fn write_failure(store: &Store<Lent<'_, MemoryPair>>, page: &mut Page) -> Result
 
 /// Asks a store, and writes its answer. If the store has no room, the reason follows.
 fn ask(
-    store: &mut Store<Lent<'_, MemoryPair>>,
+    store: &mut FileStore<FailingFiles<'_, MemoryPair>>,
     body: &[u8],
     page: &mut Page,
 ) -> Result<(), RowFault> {
@@ -84,7 +87,7 @@ fn ask(
 }
 
 /// Closes a store, and writes how that ends.
-fn close(store: Store<Lent<'_, MemoryPair>>, page: &mut Page) -> Result<(), RowFault> {
+fn close(store: FileStore<FailingFiles<'_, MemoryPair>>, page: &mut Page) -> Result<(), RowFault> {
     page.part();
     match store.close() {
         Ok(()) => {
@@ -97,7 +100,7 @@ fn close(store: Store<Lent<'_, MemoryPair>>, page: &mut Page) -> Result<(), RowF
 
 /// Asks a store these bodies, and closes it if `is_closed` is set.
 fn ask_each(
-    mut store: Store<Lent<'_, MemoryPair>>,
+    mut store: FileStore<FailingFiles<'_, MemoryPair>>,
     bodies: &[Vec<u8>],
     is_closed: bool,
     page: &mut Page,
@@ -121,11 +124,11 @@ fn live(
     bodies: &[Vec<u8>],
     page: &mut Page,
 ) -> Result<(), RowFault> {
-    let lent = Lent {
+    let lent = FailingFiles {
         files,
         calls: life.calls,
     };
-    match Store::over(alloc, lent) {
+    match FileStore::over(alloc, lent) {
         Ok(store) => ask_each(store, bodies, life.is_closed, page),
         Err(fault) => write_fault(page, fault),
     }
@@ -163,7 +166,7 @@ fn case(alloc: Global, bodies: &[Vec<u8>], calls: u64) -> Result<Page, RowFault>
 /// the one after that is asked `FETCH` again. The files of the second store fail after no call, after one, and so on,
 /// until they don't cut it off any more. Writes what the last two stores answer; equal answers in a row are written
 /// once.
-fn cuts(alloc: Global, words: &mut Words, page: &mut Page) -> Result<(), RowFault> {
+fn cuts(alloc: Global, words: &mut RowWords, page: &mut Page) -> Result<(), RowFault> {
     let bodies = words.bodies(alloc);
     if bodies.len() < 2 {
         return Err(RowFault::NoRow);
@@ -197,7 +200,7 @@ impl Lives {
         &mut self,
         alloc: Global,
         name: &str,
-        words: &mut Words,
+        words: &mut RowWords,
         page: &mut Page,
     ) -> Result<(), RowFault> {
         if name == "cuts" {

@@ -16,7 +16,7 @@ mod stores;
 
 use lives::Lives;
 use redos::Redos;
-use rows::{Page, RowFault, Table, Words, run_table};
+use rows::{Page, RowFault, RowWords, Table, run_table};
 use std::alloc::Global;
 use std::process::ExitCode;
 use stores::Stores;
@@ -34,7 +34,7 @@ impl Table for Calls {
         &mut self,
         alloc: Global,
         call: &str,
-        words: &mut Words,
+        words: &mut RowWords,
         page: &mut Page,
     ) -> Result<(), RowFault> {
         let name = words.text();

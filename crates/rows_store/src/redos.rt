@@ -6,7 +6,7 @@ ghost use Rattle.rows_store.specs.Bounds.{bounds};
 use crate::batches::{batch_of, patches_in};
 use crate::files::{file_in, write_bytes};
 use oram_redo::{Bounds, FilePair, MemoryPair, Redo, RedoError, recover};
-use rows::{Page, RowFault, Words};
+use rows::{Page, RowFault, RowWords};
 use std::alloc::Global;
 
 /// The bounds of the files of these rows: a log with room for a few entries, and 32 bytes of records.
@@ -57,7 +57,7 @@ fn write_end(page: &mut Page, ended: Result<(), RedoError>) -> Result<(), RowFau
 fn write(
     alloc: Global,
     files: &mut MemoryPair,
-    words: &mut Words,
+    words: &mut RowWords,
     page: &mut Page,
 ) -> Result<(), RowFault> {
     let file = file_in(words)?;
@@ -70,7 +70,7 @@ fn write(
 fn commit(
     alloc: Global,
     opened: &mut Opened,
-    words: &mut Words,
+    words: &mut RowWords,
     page: &mut Page,
 ) -> Result<(), RowFault> {
     let patches = patches_in(alloc, words)?;
@@ -83,7 +83,7 @@ fn commit(
 fn loose(
     alloc: Global,
     opened: &mut Opened,
-    words: &mut Words,
+    words: &mut RowWords,
     page: &mut Page,
 ) -> Result<(), RowFault> {
     let at = words.number();
@@ -102,7 +102,7 @@ fn restart(opened: &mut Opened, page: &mut Page) -> Result<(), RowFault> {
 fn read(
     alloc: Global,
     opened: &mut Opened,
-    words: &mut Words,
+    words: &mut RowWords,
     page: &mut Page,
 ) -> Result<(), RowFault> {
     let at = words.number();
@@ -120,7 +120,7 @@ fn answer_opened(
     alloc: Global,
     opened: &mut Opened,
     name: &str,
-    words: &mut Words,
+    words: &mut RowWords,
     page: &mut Page,
 ) -> Result<(), RowFault> {
     match name {
@@ -167,7 +167,7 @@ impl Redos {
         &mut self,
         alloc: Global,
         name: &str,
-        words: &mut Words,
+        words: &mut RowWords,
         page: &mut Page,
     ) -> Result<(), RowFault> {
         if name == "new" {

@@ -4,15 +4,15 @@ use crate::answers::{NO_ROOM, ask, ask_bytes, write_answer};
 use crate::files::created;
 use oram_host::Server;
 use oram_redo::{FileKind, FilePair, MemoryPair};
-use oram_store::{Store, StoreFault};
+use oram_store::{FileStore, StoreFault};
 use oram_wire::{HostAnswer, Sink, SinkFault};
-use rows::{Page, RowFault, Words};
+use rows::{Page, RowFault, RowWords};
 use std::alloc::Global;
 
 /// The store that the next rows ask, and the server that gets the same bodies.
 #[derive(Drop)]
 pub struct Stores {
-    store: Option<Store<MemoryPair>>,
+    store: Option<FileStore<MemoryPair>>,
     server: Option<Server>,
 }
 
@@ -46,8 +46,8 @@ fn fill(files: &mut MemoryPair, file: FileKind, bytes: &[u8]) -> Result<(), RowF
 /// `store full BODY`: writes that the store has no room for a body, and why.
 fn full(
     alloc: Global,
-    store: &mut Store<MemoryPair>,
-    words: &mut Words,
+    store: &mut FileStore<MemoryPair>,
+    words: &mut RowWords,
     page: &mut Page,
 ) -> Result<(), RowFault> {
     let body = words.bytes(alloc);
@@ -60,7 +60,7 @@ fn full(
 }
 
 /// `store failure`: writes why there was no room, the last time that there was none.
-fn write_failure(store: &Store<MemoryPair>, page: &mut Page) {
+fn write_failure(store: &FileStore<MemoryPair>, page: &mut Page) {
     match store.failure() {
         Some(fault) => page.show(&fault),
         None => page.word("none"),
@@ -70,8 +70,8 @@ fn write_failure(store: &Store<MemoryPair>, page: &mut Page) {
 /// `store put BODY`: writes whether the store takes a body of a formatting.
 fn put(
     alloc: Global,
-    store: &mut Store<MemoryPair>,
-    words: &mut Words,
+    store: &mut FileStore<MemoryPair>,
+    words: &mut RowWords,
     page: &mut Page,
 ) -> Result<(), RowFault> {
     let body = words.bytes(alloc);
@@ -86,8 +86,8 @@ fn put(
 /// `store alone BODY`: asks the store alone, and writes its answer.
 fn alone(
     alloc: Global,
-    store: &mut Store<MemoryPair>,
-    words: &mut Words,
+    store: &mut FileStore<MemoryPair>,
+    words: &mut RowWords,
     page: &mut Page,
 ) -> Result<(), RowFault> {
     let body = words.bytes(alloc);
@@ -97,16 +97,16 @@ fn alone(
 /// Answers a row about the store alone.
 fn answer_of(
     alloc: Global,
-    store: &mut Store<MemoryPair>,
+    store: &mut FileStore<MemoryPair>,
     name: &str,
-    words: &mut Words,
+    words: &mut RowWords,
     page: &mut Page,
 ) -> Result<(), RowFault> {
     match name {
         "alone" => alone(alloc, store, words, page),
         "full" => full(alloc, store, words, page),
         "put" => put(alloc, store, words, page),
-        "settle" => write_end(page, store.settle()),
+        "settle" => write_end(page, store.commit_puts()),
         "failure" => {
             write_failure(store, page);
             Ok(())
@@ -126,7 +126,7 @@ impl Stores {
     /// Opens a store over these files, and makes a server without trees.
     fn open(&mut self, alloc: Global, files: MemoryPair, page: &mut Page) -> Result<(), RowFault> {
         self.server = Some(Server::new(alloc));
-        match Store::over(alloc, files) {
+        match FileStore::over(alloc, files) {
             Ok(store) => {
                 self.store = Some(store);
                 page.word("done");
@@ -146,7 +146,12 @@ impl Stores {
     }
 
     /// `store over RECORDS LOG`: opens a store over files with these bytes.
-    fn over(&mut self, alloc: Global, words: &mut Words, page: &mut Page) -> Result<(), RowFault> {
+    fn over(
+        &mut self,
+        alloc: Global,
+        words: &mut RowWords,
+        page: &mut Page,
+    ) -> Result<(), RowFault> {
         let mut files = MemoryPair::new(alloc);
         fill(&mut files, FileKind::Records, &words.bytes(alloc))?;
         fill(&mut files, FileKind::Log, &words.bytes(alloc))?;
@@ -167,7 +172,7 @@ impl Stores {
         &mut self,
         alloc: Global,
         name: &str,
-        words: &mut Words,
+        words: &mut RowWords,
         page: &mut Page,
     ) -> Result<(), RowFault> {
         let (Some(store), Some(server)) = (&mut self.store, &mut self.server) else {
@@ -186,7 +191,7 @@ impl Stores {
         &mut self,
         alloc: Global,
         name: &str,
-        words: &mut Words,
+        words: &mut RowWords,
         page: &mut Page,
     ) -> Result<(), RowFault> {
         match name {

@@ -7,7 +7,7 @@ use crate::lists;
 use crate::paths::{MadePath, made_path};
 use oram_geometry::Device;
 use oram_hash::{HashFault, PathView, check_path, node_digest, rebuild};
-use rows::{Groups, Page, RowFault, Words};
+use rows::{Groups, Page, RowFault, RowWords};
 use std::alloc::{AllocError, Global};
 
 /// The leaf and the bytes of a path, which are kept from row to row.
@@ -71,7 +71,7 @@ fn show(checked: Result<PathView<'_>, HashFault>, page: &mut Page) {
 }
 
 /// `hash digest BYTES`: writes the digest of a record.
-fn digest(alloc: Global, words: &mut Words, page: &mut Page) -> Result<(), RowFault> {
+fn digest(alloc: Global, words: &mut RowWords, page: &mut Page) -> Result<(), RowFault> {
     let record = words.bytes(alloc);
     page.bytes(&node_digest(&record));
     Ok(())
@@ -110,7 +110,7 @@ impl Hashes {
         &mut self,
         alloc: Global,
         device: &Device,
-        words: &mut Words,
+        words: &mut RowWords,
         page: &mut Page,
     ) -> Result<(), RowFault> {
         self.leaf = words.short();
@@ -138,7 +138,7 @@ impl Hashes {
         &self,
         alloc: Global,
         device: &Device,
-        words: &mut Words,
+        words: &mut RowWords,
         page: &mut Page,
     ) -> Result<(), RowFault> {
         let len = words.size();
@@ -154,7 +154,7 @@ impl Hashes {
         &self,
         alloc: Global,
         device: &Device,
-        words: &mut Words,
+        words: &mut RowWords,
         page: &mut Page,
     ) -> Result<(), RowFault> {
         let root = words.array(alloc);
@@ -178,7 +178,7 @@ impl Hashes {
         alloc: Global,
         device: &Device,
         part: &str,
-        words: &mut Words,
+        words: &mut RowWords,
         page: &mut Page,
     ) -> Result<(), RowFault> {
         prove!(device.trees() > 0);
@@ -202,7 +202,7 @@ impl Hashes {
         &mut self,
         alloc: Global,
         device: &Device,
-        words: &mut Words,
+        words: &mut RowWords,
         page: &mut Page,
     ) -> Result<(), RowFault> {
         prove!(device.trees() > 0);
@@ -237,7 +237,7 @@ impl Hashes {
         &mut self,
         alloc: Global,
         device: &Device,
-        words: &mut Words,
+        words: &mut RowWords,
         page: &mut Page,
     ) -> Result<(), RowFault> {
         match words.text() {

@@ -1,7 +1,7 @@
 //! Lists in one word: `5,2,5`, with `7*20` for 20 times 7, and `-` for an empty list. Blocks are written
 //! `ADDRESS:LEAF`.
 
-use rows::{Page, RowFault, Words};
+use rows::{Page, RowFault, RowWords};
 use std::alloc::Global;
 
 /// Adds one part of a list: a number, or a number and how many times it occurs.
@@ -15,7 +15,7 @@ fn push_part(numbers: &mut Vec<u64>, part: &str) -> Result<(), RowFault> {
 }
 
 /// Reads the next word as numbers.
-pub fn numbers(alloc: Global, words: &mut Words) -> Result<Vec<u64>, RowFault> {
+pub fn numbers(alloc: Global, words: &mut RowWords) -> Result<Vec<u64>, RowFault> {
     let mut numbers = Vec::new(alloc);
     let mut rest = words.text();
     if rest == "-" {
@@ -33,7 +33,7 @@ pub fn numbers(alloc: Global, words: &mut Words) -> Result<Vec<u64>, RowFault> {
 }
 
 /// Reads the next word as numbers below 2^32.
-pub fn shorts(alloc: Global, words: &mut Words) -> Result<Vec<u32>, RowFault> {
+pub fn shorts(alloc: Global, words: &mut RowWords) -> Result<Vec<u32>, RowFault> {
     let mut shorts = Vec::new(alloc);
     for number in &numbers(alloc, words)? {
         shorts.push(u32::try_from(*number)?)?;
@@ -42,7 +42,7 @@ pub fn shorts(alloc: Global, words: &mut Words) -> Result<Vec<u32>, RowFault> {
 }
 
 /// Reads the next word as numbers below 2^8.
-pub fn fills(alloc: Global, words: &mut Words) -> Result<Vec<u8>, RowFault> {
+pub fn fills(alloc: Global, words: &mut RowWords) -> Result<Vec<u8>, RowFault> {
     let mut fills = Vec::new(alloc);
     for number in &numbers(alloc, words)? {
         fills.push(u8::try_from(*number)?)?;

@@ -15,7 +15,7 @@ use crate::hashes::Hashes;
 use crate::stashes::Stashes;
 use crate::trees::Trees;
 use oram_geometry::Device;
-use rows::{Page, RowFault, Table, Words, run_table};
+use rows::{Page, RowFault, RowWords, Table, run_table};
 use std::alloc::Global;
 use std::process::ExitCode;
 
@@ -42,7 +42,7 @@ impl Layers {
         alloc: Global,
         device: &Device,
         layer: &str,
-        words: &mut Words,
+        words: &mut RowWords,
         page: &mut Page,
     ) -> Result<(), RowFault> {
         match layer {
@@ -64,7 +64,12 @@ struct Calls {
 
 impl Calls {
     /// `device SIZES`: writes how many trees the device has, or the number of the fault.
-    fn begin(&mut self, alloc: Global, words: &mut Words, page: &mut Page) -> Result<(), RowFault> {
+    fn begin(
+        &mut self,
+        alloc: Global,
+        words: &mut RowWords,
+        page: &mut Page,
+    ) -> Result<(), RowFault> {
         let [blocks, block_bytes, slots, top, lifetime] = words.five_numbers();
         self.layers = Layers::new(alloc);
         self.device = match Device::new(blocks, block_bytes, slots, top, lifetime) {
@@ -88,7 +93,7 @@ impl Table for Calls {
         &mut self,
         alloc: Global,
         call: &str,
-        words: &mut Words,
+        words: &mut RowWords,
         page: &mut Page,
     ) -> Result<(), RowFault> {
         if call == "device" {

@@ -8,7 +8,7 @@ use oram_bucket::Block;
 use oram_geometry::Device;
 use oram_stash::{Placement, Stash, StashFault, place};
 pub use random::next;
-use rows::{Page, RowFault, Words};
+use rows::{Page, RowFault, RowWords};
 use std::alloc::{AllocError, Global};
 
 /// Makes a block without data.
@@ -29,7 +29,7 @@ fn block_of(alloc: Global, word: &str) -> Result<Block, RowFault> {
 }
 
 /// Reads the blocks in all words that are left.
-fn blocks_of(alloc: Global, words: &mut Words) -> Result<Vec<Block>, RowFault> {
+fn blocks_of(alloc: Global, words: &mut RowWords) -> Result<Vec<Block>, RowFault> {
     let mut blocks = Vec::new(alloc);
     for _ in 0..u64::MAX {
         if words.is_empty() {
@@ -152,7 +152,7 @@ impl Stashes {
     }
 
     /// `stash of BLOCKS`: makes a stash that absorbs these blocks, and writes how many it has.
-    fn of(&mut self, alloc: Global, words: &mut Words, page: &mut Page) -> Result<(), RowFault> {
+    fn of(&mut self, alloc: Global, words: &mut RowWords, page: &mut Page) -> Result<(), RowFault> {
         self.stash = stash_of(alloc, blocks_of(alloc, words)?)?;
         page.number(self.stash.len());
         Ok(())
@@ -160,7 +160,12 @@ impl Stashes {
 
     /// `stash made BLOCKS`: makes a stash of these blocks, in this order. Writes how many it has, or `none` if there is
     /// no such stash.
-    fn made(&mut self, alloc: Global, words: &mut Words, page: &mut Page) -> Result<(), RowFault> {
+    fn made(
+        &mut self,
+        alloc: Global,
+        words: &mut RowWords,
+        page: &mut Page,
+    ) -> Result<(), RowFault> {
         match Stash::from_blocks(blocks_of(alloc, words)?) {
             Some(stash) => {
                 page.number(stash.len());
@@ -175,7 +180,7 @@ impl Stashes {
     fn absorb(
         &mut self,
         alloc: Global,
-        words: &mut Words,
+        words: &mut RowWords,
         page: &mut Page,
     ) -> Result<(), RowFault> {
         match self.stash.absorb(block_of(alloc, words.text())?) {
@@ -190,20 +195,25 @@ impl Stashes {
     }
 
     /// `stash get ADDRESS`: writes the block, or `none`.
-    fn get(&self, alloc: Global, words: &mut Words, page: &mut Page) -> Result<(), RowFault> {
+    fn get(&self, alloc: Global, words: &mut RowWords, page: &mut Page) -> Result<(), RowFault> {
         show_found(alloc, self.stash.get(words.short()), page);
         Ok(())
     }
 
     /// `stash take ADDRESS`: takes the block out of the stash. Writes the block, or `none`.
-    fn take(&mut self, alloc: Global, words: &mut Words, page: &mut Page) -> Result<(), RowFault> {
+    fn take(
+        &mut self,
+        alloc: Global,
+        words: &mut RowWords,
+        page: &mut Page,
+    ) -> Result<(), RowFault> {
         let taken = self.stash.take(words.short());
         show_found(alloc, taken.as_ref(), page);
         Ok(())
     }
 
     /// `stash found COUNT`: writes the blocks that the stash has at the addresses below `COUNT`.
-    fn found(&self, alloc: Global, words: &mut Words, page: &mut Page) -> Result<(), RowFault> {
+    fn found(&self, alloc: Global, words: &mut RowWords, page: &mut Page) -> Result<(), RowFault> {
         for address in 0..words.short() {
             if let Some(block) = self.stash.get(address) {
                 show_block(alloc, block, page);
@@ -216,7 +226,7 @@ impl Stashes {
     }
 
     /// `stash contains ADDRESS`: writes whether the stash has the block.
-    fn contains(&self, words: &mut Words, page: &mut Page) -> Result<(), RowFault> {
+    fn contains(&self, words: &mut RowWords, page: &mut Page) -> Result<(), RowFault> {
         page.flag(self.stash.contains(words.short()));
         Ok(())
     }
@@ -246,7 +256,7 @@ impl Stashes {
         &mut self,
         alloc: Global,
         device: &Device,
-        words: &mut Words,
+        words: &mut RowWords,
         page: &mut Page,
     ) -> Result<(), RowFault> {
         let (lists, tight) = evicted(alloc, device, words.short(), &mut self.stash)?;
@@ -292,7 +302,7 @@ impl Stashes {
         &self,
         alloc: Global,
         device: &Device,
-        words: &mut Words,
+        words: &mut RowWords,
         page: &mut Page,
     ) -> Result<(), RowFault> {
         let (leaf, stays) = (words.short(), words.short());
@@ -308,16 +318,16 @@ impl Stashes {
     }
 
     /// `stash settle ADDRESS`: removes all blocks but the one at `ADDRESS`, and writes what is left.
-    fn settle(
+    fn keep_left_over(
         &mut self,
         alloc: Global,
-        words: &mut Words,
+        words: &mut RowWords,
         page: &mut Page,
     ) -> Result<(), RowFault> {
         let stays = [words.short()];
         let other = Stash::new(alloc);
         let room = self.stash.room_with(alloc, &other)?;
-        self.stash.settle(other, &stays, room);
+        self.stash.keep_left_over(other, &stays, room);
         self.list(alloc, page)
     }
 
@@ -339,7 +349,7 @@ impl Stashes {
         &mut self,
         alloc: Global,
         device: &Device,
-        words: &mut Words,
+        words: &mut RowWords,
         page: &mut Page,
     ) -> Result<(), RowFault> {
         match words.text() {
@@ -352,7 +362,7 @@ impl Stashes {
             "contains" => self.contains(words, page),
             "evict" => self.evict(alloc, device, words, page),
             "place" => self.place(alloc, device, words, page),
-            "settle" => self.settle(alloc, words, page),
+            "settle" => self.keep_left_over(alloc, words, page),
             "random" => random::evictions(alloc, words, page),
             call => self.answer_whole(alloc, call, page),
         }

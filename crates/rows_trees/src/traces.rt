@@ -5,7 +5,7 @@ ghost use Rattle.oram_geometry.specs.Sizes.{blocks_in};
 use crate::lists;
 use oram_geometry::Device;
 use oram_trace::{Entry, MOST_ADDRESSES, RearrangeFault, entry, place, rearrange};
-use rows::{Page, RowFault, Words};
+use rows::{Page, RowFault, RowWords};
 use std::alloc::Global;
 
 /// Returns whether these are addresses of the device, and not too many.
@@ -22,7 +22,7 @@ fn are_addresses(device: &Device, addresses: &[u32]) -> bool
 fn places(
     alloc: Global,
     device: &Device,
-    words: &mut Words,
+    words: &mut RowWords,
     page: &mut Page,
 ) -> Result<(), RowFault> {
     let tree = words.byte();
@@ -48,7 +48,7 @@ fn show_entry(entry: Entry, page: &mut Page) {
 fn entries(
     alloc: Global,
     device: &Device,
-    words: &mut Words,
+    words: &mut RowWords,
     page: &mut Page,
 ) -> Result<(), RowFault> {
     let addresses = lists::shorts(alloc, words)?;
@@ -77,7 +77,7 @@ fn fault_name(fault: RearrangeFault) -> &'static str {
 }
 
 /// `trace fault NAME`: writes the number of a fault.
-fn fault(words: &mut Words, page: &mut Page) -> Result<(), RowFault> {
+fn fault(words: &mut RowWords, page: &mut Page) -> Result<(), RowFault> {
     let name = words.text();
     let faults = [
         RearrangeFault::Lengths,
@@ -100,7 +100,7 @@ fn fault(words: &mut Words, page: &mut Page) -> Result<(), RowFault> {
 fn order(
     alloc: Global,
     device: &Device,
-    words: &mut Words,
+    words: &mut RowWords,
 ) -> Result<Result<Vec<u64>, RearrangeFault>, RowFault> {
     let first = lists::shorts(alloc, words)?;
     let second = lists::shorts(alloc, words)?;
@@ -114,7 +114,7 @@ fn order(
 fn rearranged(
     alloc: Global,
     device: &Device,
-    words: &mut Words,
+    words: &mut RowWords,
     page: &mut Page,
 ) -> Result<(), RowFault> {
     match order(alloc, device, words)? {
@@ -131,7 +131,7 @@ fn rearranged(
 fn tape(
     alloc: Global,
     device: &Device,
-    words: &mut Words,
+    words: &mut RowWords,
     page: &mut Page,
 ) -> Result<(), RowFault> {
     let Ok(order) = order(alloc, device, words)? else {
@@ -157,7 +157,7 @@ fn most(page: &mut Page) -> Result<(), RowFault> {
 pub fn answer(
     alloc: Global,
     device: &Device,
-    words: &mut Words,
+    words: &mut RowWords,
     page: &mut Page,
 ) -> Result<(), RowFault> {
     match words.text() {

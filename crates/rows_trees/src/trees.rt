@@ -13,7 +13,7 @@ use oram_geometry::Device;
 use oram_host::Server;
 use oram_tree::{Edit, FormatFault, Lookup, PartsFault, Tree, TreeParts};
 use oram_wire::{HostRequest, ListSink, Sink, SinkFault, store_header};
-use rows::{Page, RowFault, Words};
+use rows::{Page, RowFault, RowWords};
 use std::alloc::{AllocError, Global};
 
 /// The parts of a tree, its host, and the messages that formatted it, which are kept from row to row.
@@ -82,7 +82,7 @@ fn block_of(alloc: Global, word: &str) -> Result<Block, RowFault> {
     let Some((leaf, bytes)) = rest.split_once(':') else {
         return Err(RowFault::NoRow);
     };
-    let mut part = Words::of(bytes);
+    let mut part = RowWords::of(bytes);
     let content = part.bytes(alloc);
     part.check()?;
     Ok(Block {
@@ -93,7 +93,7 @@ fn block_of(alloc: Global, word: &str) -> Result<Block, RowFault> {
 }
 
 /// Makes the parts of a tree with this root digest, and with the blocks in all words that are left.
-fn parts_of(alloc: Global, root: [u8; 32], words: &mut Words) -> Result<TreeParts, RowFault> {
+fn parts_of(alloc: Global, root: [u8; 32], words: &mut RowWords) -> Result<TreeParts, RowFault> {
     let mut stash = Vec::new(alloc);
     for _ in 0..u64::MAX {
         if words.is_empty() {
@@ -128,7 +128,7 @@ enum OwnedEdit {
 
 impl OwnedEdit {
     /// Reads an edit from the words `keep`, `replace DATA` or `entry INDEX VALUE`.
-    fn read(alloc: Global, words: &mut Words) -> Result<OwnedEdit, RowFault> {
+    fn read(alloc: Global, words: &mut RowWords) -> Result<OwnedEdit, RowFault> {
         match words.text() {
             "keep" => Ok(OwnedEdit::Keep),
             "replace" => Ok(OwnedEdit::Replace(words.bytes(alloc))),
@@ -229,7 +229,7 @@ impl Trees {
         &mut self,
         alloc: Global,
         device: &Device,
-        words: &mut Words,
+        words: &mut RowWords,
         page: &mut Page,
     ) -> Result<(), RowFault> {
         self.number = words.byte();
@@ -243,7 +243,7 @@ impl Trees {
     }
 
     /// `tree message NUMBER`: writes the bytes of a message of the formatting.
-    fn message(&self, words: &mut Words, page: &mut Page) -> Result<(), RowFault> {
+    fn message(&self, words: &mut RowWords, page: &mut Page) -> Result<(), RowFault> {
         match self.messages.get(words.size()) {
             Some(message) => page.bytes(message),
             None => return Err(RowFault::NoRow),
@@ -304,7 +304,7 @@ impl Trees {
         &mut self,
         alloc: Global,
         device: &Device,
-        words: &mut Words,
+        words: &mut RowWords,
         page: &mut Page,
     ) -> Result<(), RowFault> {
         self.number = words.byte();
@@ -325,7 +325,7 @@ impl Trees {
         &mut self,
         alloc: Global,
         device: &Device,
-        words: &mut Words,
+        words: &mut RowWords,
         page: &mut Page,
     ) -> Result<(), RowFault> {
         self.number = words.byte();
@@ -343,7 +343,7 @@ impl Trees {
         alloc: Global,
         device: &Device,
         front: Option<Vec<u8>>,
-        words: &mut Words,
+        words: &mut RowWords,
         page: &mut Page,
     ) -> Result<Vec<u8>, RowFault> {
         let asked = Asked::read(words);
@@ -366,7 +366,7 @@ impl Trees {
         &mut self,
         alloc: Global,
         device: &Device,
-        words: &mut Words,
+        words: &mut RowWords,
         page: &mut Page,
     ) -> Result<(), RowFault> {
         let _records = self.reach(alloc, device, None, words, page)?;
@@ -378,7 +378,7 @@ impl Trees {
         &mut self,
         alloc: Global,
         device: &Device,
-        words: &mut Words,
+        words: &mut RowWords,
         page: &mut Page,
     ) -> Result<(), RowFault> {
         let front = words.bytes(alloc);
@@ -392,7 +392,7 @@ impl Trees {
         &mut self,
         alloc: Global,
         device: &Device,
-        words: &mut Words,
+        words: &mut RowWords,
         page: &mut Page,
     ) -> Result<(), RowFault> {
         match words.text() {

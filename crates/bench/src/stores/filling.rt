@@ -3,7 +3,7 @@
 use super::system::{close, new_store, opened, report_memory};
 use super::{Shape, bodies, first_shape, format, shape_body};
 use oram_redo::FilePair;
-use oram_store::Store;
+use oram_store::FileStore;
 use oram_wire::{GOOD, fetch_header};
 use rand_chacha::ChaCha20Rng;
 use rand_core::SeedableRng;
@@ -47,7 +47,7 @@ pub(crate) fn fill(rt: &HostRuntime, file: &str, depth: &str) -> io::Result<()> 
 /// Makes STOREs to leaves drawn at random, and returns how many are done.
 fn store_paths<F: FilePair>(
     alloc: Global,
-    store: &mut Store<F>,
+    store: &mut FileStore<F>,
     shape: Shape,
     stores: u32,
 ) -> Result<u32, AllocError> {
@@ -78,7 +78,7 @@ pub(crate) fn scatter(rt: &HostRuntime, file: &str, depth: &str, stores: &str) -
 }
 
 /// Fetches the paths of the first leaves, and returns how many are answered with records.
-fn fetch_paths<F: FilePair>(alloc: Global, store: &mut Store<F>) -> Result<u32, AllocError> {
+fn fetch_paths<F: FilePair>(alloc: Global, store: &mut FileStore<F>) -> Result<u32, AllocError> {
     let mut found = 0u32;
     for leaf in 0..FETCHES {
         if store.answer(alloc, &fetch_header(0, leaf))?.len() > 2 {
@@ -91,7 +91,7 @@ fn fetch_paths<F: FilePair>(alloc: Global, store: &mut Store<F>) -> Result<u32, 
 /// Prints how long the opening and the fetching took.
 fn fetch_first<F: FilePair>(
     rt: &HostRuntime,
-    store: &mut Store<F>,
+    store: &mut FileStore<F>,
     opening: Duration,
 ) -> io::Result<()> {
     println!(rt; "opened in {} ms", opening.as_millis())?;

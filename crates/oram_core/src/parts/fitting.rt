@@ -2,19 +2,19 @@
 ghost use Rattle.std.specs.Prelude.{◌≡◌, ◌↔◌, ◌+◌, ◌-◌, ◌*◌, ◌<◌, ◌≤◌, ◌^◌, ◌==◌, ℕ, if◌then◌else◌, List, [], Some, length, slice_index, All, IsTrue};
 ghost use Rattle.oram_geometry.specs.Sizes.{trees_of, depth_of, blocks_in, leaf_of};
 ghost use Rattle.oram_wire.specs.HostMessages.{fetch_body};
-ghost use Rattle.oram_run.specs.Agree.{IsAllowed};
-ghost use Rattle.oram_run.specs.Content.{stage_tree};
-ghost use Rattle.oram_run.specs.Nonces.{formatted, buckets_below, next_nonce};
-ghost use Rattle.oram_run.specs.State.{named_now};
+ghost use Rattle.oram_semantics.specs.Agree.{IsAllowed};
+ghost use Rattle.oram_semantics.specs.Content.{entry_tree};
+ghost use Rattle.oram_semantics.specs.Nonces.{formatted, buckets_below, next_nonce};
+ghost use Rattle.oram_semantics.specs.State.{named_now};
 ghost use Rattle.oram_core.specs.Core.{IsAtWork, IsReasonOf, IsResting, IsStoreOf, most_named};
 ghost use Rattle.oram_core.specs.Fitting.{AreWaiting, HasMessage, HasTable, HoldsNothing, IsEnded, IsFitting, IsWorking};
 ghost use Rattle.oram_core.specs.Parts.{state_of, submission_at};
 
 use super::{Parts, Pending};
-use crate::errands::leaf_for;
 use crate::machine::MOST_WAITING;
+use crate::path_access::leaf_for;
 use oram_geometry::Device;
-use oram_run::{Command, Reason};
+use oram_semantics::{Command, Reason};
 use oram_wire::HostView;
 
 /// Returns whether a reason names a tree of the device and a level of that tree, or a code of the host.
@@ -32,7 +32,7 @@ fn is_reason(device: &Device, reason: Reason) -> bool
 fn is_resting(parts: &Parts) -> bool
     ensures { IsTrue result ↔ IsResting (state_of parts.now) }
 {
-    parts.r == 0
+    parts.entry_number == 0
         && parts.held_entry == 0
         && parts.held_data.is_empty()
         && parts.message.is_empty()
@@ -92,15 +92,15 @@ fn are_waiting(parts: &Parts) -> bool
 }
 
 /// Returns the greatest map entry that can be held at this stage of a command.
-fn most_named(device: &Device, stage: u32) -> u32
-    requires { stage < 2 * trees_of device.now }
-    ensures { result ≡ most_named device.now stage }
+fn most_named(device: &Device, entry_number: u32) -> u32
+    requires { entry_number < 2 * trees_of device.now }
+    ensures { result ≡ most_named device.now entry_number }
 {
     let trees = u32::from(device.trees());
-    if stage == 0 || stage + 1 == 2 * trees {
+    if entry_number == 0 || entry_number + 1 == 2 * trees {
         return 0;
     }
-    1 << device.depth((trees - 1 - (stage + stage % 2) / 2) as u8)
+    1 << device.depth((trees - 1 - (entry_number + entry_number % 2) / 2) as u8)
 }
 
 /// Returns whether `message` is the FETCH of this path.
@@ -142,18 +142,18 @@ fn is_store(message: &[u8], device: &Device, overhead: usize, tree: u8) -> bool
 
 /// Returns whether the outstanding message is the one that the oldest command has at this stage.
 fn is_message(parts: &Parts, oldest: &Pending, overhead: usize) -> bool
-    requires stage { parts.now.r < 2 * trees_of parts.now.device }
+    requires entry_number { parts.now.entry_number < 2 * trees_of parts.now.device }
     requires table { HasTable parts.now.device parts.now.table }
-    requires named { parts.now.held_entry ≤ most_named parts.now.device parts.now.r }
+    requires named { parts.now.held_entry ≤ most_named parts.now.device parts.now.entry_number }
     requires allowed { IsAllowed parts.now.device (submission_at 0 oldest.now) }
     requires overhead { overhead ≤ 64 }
     ensures { IsTrue result ↔ HasMessage parts.now.device overhead (state_of parts.now) (submission_at 0 oldest.now) }
 {
-    let tree = parts.device.trees() - 1 - (parts.r / 2) as u8;
-    if parts.r % 2 == 1 {
+    let tree = parts.device.trees() - 1 - (parts.entry_number / 2) as u8;
+    if parts.entry_number % 2 == 1 {
         return is_store(parts.message.as_slice(), &parts.device, overhead, tree);
     }
-    let named = match parts.r {
+    let named = match parts.entry_number {
         0 => parts.table[parts.device.address_in(tree, oldest.command.address()) as usize],
         _ => parts.held_entry,
     };
@@ -169,10 +169,12 @@ fn is_at_work(parts: &Parts, oldest: &Pending, overhead: usize) -> bool
     ensures { IsTrue result ↔ IsAtWork parts.now.device overhead (state_of parts.now) (submission_at 0 oldest.now) }
 {
     let trees = u32::from(parts.device.trees());
-    if parts.r >= 2 * trees || parts.held_entry > most_named(&parts.device, parts.r) {
+    if parts.entry_number >= 2 * trees
+        || parts.held_entry > most_named(&parts.device, parts.entry_number)
+    {
         return false;
     }
-    let held_len = match parts.r + 1 == 2 * trees {
+    let held_len = match parts.entry_number + 1 == 2 * trees {
         true => parts.device.block_bytes(),
         false => 0,
     };
@@ -203,12 +205,12 @@ fn path_buckets(device: &Device, first: u8) -> u64
 }
 
 /// Returns the nonce for the next bucket, if `answered` commands have their replies and the next one is at `stage`.
-fn next_nonce(device: &Device, answered: u64, stage: u32) -> u64
+fn next_nonce(device: &Device, answered: u64, entry_number: u32) -> u64
     requires answered { answered ≤ 2 ^ 40 }
-    requires stage { stage < 2 * trees_of device.now }
-    ensures { result ≡ next_nonce device.now answered stage }
+    requires entry_number { entry_number < 2 * trees_of device.now }
+    ensures { result ≡ next_nonce device.now answered entry_number }
 {
-    let unstored = device.trees() - ((stage + 1) / 2) as u8;
+    let unstored = device.trees() - ((entry_number + 1) / 2) as u8;
     formatted(device) + answered * path_buckets(device, 0) + path_buckets(device, unstored)
 }
 
@@ -230,7 +232,7 @@ fn is_working(parts: &Parts, overhead: usize) -> bool
         Some(oldest) => is_at_work(parts, oldest, overhead),
     };
     let answered = parts.tickets - parts.waiting.len() as u64;
-    is_right && parts.nonce == next_nonce(device, answered, parts.r)
+    is_right && parts.nonce == next_nonce(device, answered, parts.entry_number)
 }
 
 /// Returns whether these can be the parts of a core, without looking at the blocks of the stashes.

@@ -9,7 +9,7 @@ use super::{Parts, Pending};
 use crate::machine::Core;
 use oram_bucket::Sealer;
 use oram_geometry::Device;
-use oram_run::Submission;
+use oram_semantics::Submission;
 use oram_tree::{PartsFault, Tree, TreeParts};
 use std::alloc::{AllocError, Global};
 use std::collections::VecDeque;
@@ -82,7 +82,7 @@ impl<S: Sealer> Core<S> {
             trees,
             failure,
             waiting,
-            r,
+            entry_number: r,
             held_entry,
             held_data,
             message,
@@ -97,10 +97,10 @@ impl<S: Sealer> Core<S> {
             next: tickets,
             nonce,
             queue: queue_of(alloc, tickets, waiting)?,
-            stage: r as u8,
-            named: held_entry,
-            before: held_data,
-            last: message,
+            entry_number: r as u8,
+            held_entry,
+            held_data,
+            message,
             lost: stalled,
             failure,
         })

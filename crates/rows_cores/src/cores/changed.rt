@@ -6,7 +6,7 @@ use oram_bucket::{Block, Sealer};
 use oram_bytes::Bytes;
 use oram_core::Parts;
 use oram_tree::TreeParts;
-use rows::{Page, RowFault, Words};
+use rows::{Page, RowFault, RowWords};
 use std::alloc::Global;
 
 /// Changes one of the parts of a core.
@@ -14,7 +14,7 @@ fn change(
     alloc: Global,
     parts: &mut Parts,
     field: &str,
-    words: &mut Words,
+    words: &mut RowWords,
 ) -> Result<(), RowFault> {
     match field {
         "tickets" => parts.tickets = words.number(),
@@ -23,7 +23,7 @@ fn change(
         "trees" => parts.trees.truncate(words.size()),
         "failure" => parts.failure = Some(reason_of(words)?),
         "waiting" => parts.waiting.truncate(words.size()),
-        "entry" => parts.r = words.short(),
+        "entry" => parts.entry_number = words.short(),
         "held_entry" => parts.held_entry = words.short(),
         "held_data" => parts.held_data = Bytes::from_vec(words.bytes(alloc)),
         "message" => parts.message = Bytes::from_vec(words.bytes(alloc)),
@@ -34,7 +34,7 @@ fn change(
 }
 
 /// Reads a block from the words `ADDRESS LEAF DATA`.
-fn block_in(alloc: Global, words: &mut Words) -> Block {
+fn block_in(alloc: Global, words: &mut RowWords) -> Block {
     Block {
         address: words.short(),
         leaf: words.short(),
@@ -57,7 +57,7 @@ impl<S: Sealer + Copy> Machine<S> {
     pub fn parts(
         &mut self,
         alloc: Global,
-        words: &mut Words,
+        words: &mut RowWords,
         page: &mut Page,
     ) -> Result<(), RowFault> {
         let mut parts = self.core.parts(alloc)?;
@@ -73,7 +73,7 @@ impl<S: Sealer + Copy> Machine<S> {
     pub fn put(
         &mut self,
         alloc: Global,
-        words: &mut Words,
+        words: &mut RowWords,
         page: &mut Page,
     ) -> Result<(), RowFault> {
         let number = words.size();

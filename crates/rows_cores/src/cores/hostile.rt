@@ -5,8 +5,8 @@ use crate::said::show_reaction;
 use oram_bucket::Sealer;
 use oram_bytes::{Bytes, Words as Tape};
 use oram_core::Core;
-use oram_run::{Command, Event};
-use rows::{Groups, Page, RowFault, Words};
+use oram_semantics::{Command, Event};
+use rows::{Groups, Page, RowFault, RowWords};
 use std::alloc::Global;
 
 /// Makes a read with words that are all 0.
@@ -84,7 +84,7 @@ impl<S: Sealer + Copy> Machine<S> {
     pub fn flips(
         &mut self,
         alloc: Global,
-        words: &mut Words,
+        words: &mut RowWords,
         page: &mut Page,
     ) -> Result<(), RowFault> {
         let (first, last) = (words.size(), words.size());
@@ -106,7 +106,7 @@ impl<S: Sealer + Copy> Machine<S> {
     pub fn lengths(
         &mut self,
         alloc: Global,
-        words: &mut Words,
+        words: &mut RowWords,
         page: &mut Page,
     ) -> Result<(), RowFault> {
         let (first, last) = (words.short(), words.short());

@@ -9,9 +9,9 @@ use oram_bytes::Bytes;
 use oram_core::{Core, Parts, PartsFault};
 use oram_geometry::Device;
 use oram_host::Server;
-use oram_run::{Event, Reaction};
+use oram_semantics::{Event, Reaction};
 use oram_wire::ListSink;
-use rows::{Page, RowFault, Words};
+use rows::{Page, RowFault, RowWords};
 use std::alloc::Global;
 
 /// The most answers that one `drain` gives: more than any row needs.
@@ -185,13 +185,18 @@ impl<S: Sealer + Copy> Machine<S> {
     }
 
     /// `core times COUNT EVENT`: gives the core an event `COUNT` times, and writes the last reaction.
-    fn times(&mut self, alloc: Global, words: &mut Words, page: &mut Page) -> Result<(), RowFault> {
+    fn times(
+        &mut self,
+        alloc: Global,
+        words: &mut RowWords,
+        page: &mut Page,
+    ) -> Result<(), RowFault> {
         let count = words.short();
         let kind = words.text();
         let rest = words.all();
         for _ in 0..count {
             page.clear();
-            let mut part = Words::of(rest);
+            let mut part = RowWords::of(rest);
             let event = event_of(alloc, kind, &mut part)?;
             part.check()?;
             self.tell(alloc, event, page)?;
@@ -253,7 +258,7 @@ impl<S: Sealer + Copy> Machine<S> {
         &mut self,
         alloc: Global,
         call: &str,
-        words: &mut Words,
+        words: &mut RowWords,
         page: &mut Page,
     ) -> Result<(), RowFault> {
         let event = event_of(alloc, call, words)?;
@@ -273,7 +278,7 @@ impl<S: Sealer + Copy> Machine<S> {
         &mut self,
         alloc: Global,
         call: &str,
-        words: &mut Words,
+        words: &mut RowWords,
         page: &mut Page,
     ) -> Result<(), RowFault> {
         match call {

@@ -3,8 +3,8 @@
 use super::machine::Machine;
 use oram_bucket::Sealer;
 use oram_bytes::Bytes;
-use oram_run::Event;
-use rows::{Page, RowFault, Words};
+use oram_semantics::Event;
+use rows::{Page, RowFault, RowWords};
 use std::alloc::Global;
 
 impl<S: Sealer + Copy> Machine<S> {
@@ -45,13 +45,13 @@ impl<S: Sealer + Copy> Machine<S> {
     }
 
     /// `core tamper TREE NODE OFFSET`: flips the lowest bit of a byte of a record.
-    fn tamper(&mut self, words: &mut Words) -> bool {
+    fn tamper(&mut self, words: &mut RowWords) -> bool {
         let (tree, node) = (words.number(), words.number());
         self.host.flip(tree, node, words.number())
     }
 
     /// `core swap TREE NODE TREE NODE`: swaps two records.
-    fn swap(&mut self, words: &mut Words) -> bool {
+    fn swap(&mut self, words: &mut RowWords) -> bool {
         let (tree_a, node_a) = (words.number(), words.number());
         self.host
             .swap(tree_a, node_a, words.number(), words.number())
@@ -62,7 +62,7 @@ impl<S: Sealer + Copy> Machine<S> {
         &mut self,
         alloc: Global,
         call: &str,
-        words: &mut Words,
+        words: &mut RowWords,
         page: &mut Page,
     ) -> Result<(), RowFault> {
         let done = match call {

@@ -4,7 +4,7 @@ use oram_bucket::Sealer;
 use oram_bytes::Bytes;
 use oram_core::{Run, run};
 use oram_geometry::Device;
-use oram_run::{Event, Reaction};
+use oram_semantics::{Event, Reaction};
 use rows::{Page, RowFault};
 use std::alloc::Global;
 

@@ -3,7 +3,7 @@
 use super::{bare_block, evicted, stash_of};
 use oram_geometry::Device;
 use oram_stash::Stash;
-use rows::{Page, RowFault, Words};
+use rows::{Page, RowFault, RowWords};
 use std::alloc::{AllocError, Global};
 
 /// The number of blocks of the devices, and of the leaves of their trees.
@@ -132,7 +132,7 @@ fn alike(alloc: Global, count: u32, seed: u64) -> Result<u32, RowFault> {
 
 /// `stash random COUNT SEED`: writes how many of `COUNT` stashes are evicted as by the simple eviction, up to the first
 /// that isn't. The buckets have 1 to 4 slots in turn.
-pub fn evictions(alloc: Global, words: &mut Words, page: &mut Page) -> Result<(), RowFault> {
+pub fn evictions(alloc: Global, words: &mut RowWords, page: &mut Page) -> Result<(), RowFault> {
     let alike = alike(alloc, words.short(), words.number())?;
     page.number(alike);
     page.word("alike");

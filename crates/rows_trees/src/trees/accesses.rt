@@ -10,7 +10,7 @@ use oram_geometry::Device;
 use oram_host::Server;
 use oram_tree::{Access, Edit, Lookup, Tree, TreeFault, TreeParts};
 use oram_wire::{GOOD, fetch_header, store_header};
-use rows::{RowFault, Words};
+use rows::{RowFault, RowWords};
 use std::alloc::Global;
 
 /// The answer of a host that has no room.
@@ -27,7 +27,7 @@ pub struct Asked {
 
 impl Asked {
     /// Reads four words.
-    pub fn read(words: &mut Words) -> Asked {
+    pub fn read(words: &mut RowWords) -> Asked {
         Asked {
             address: words.short(),
             old_leaf: words.short(),

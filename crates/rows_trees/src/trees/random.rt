@@ -9,7 +9,7 @@ use oram_geometry::Device;
 use oram_host::Server;
 use oram_tree::{Edit, Lookup, Tree, TreeParts};
 use oram_wire::ListSink;
-use rows::{Page, RowFault, Words};
+use rows::{Page, RowFault, RowWords};
 use std::alloc::Global;
 use std::mem::replace;
 
@@ -155,7 +155,7 @@ fn alike<S: Sealer>(
 pub fn accesses(
     alloc: Global,
     device: &Device,
-    words: &mut Words,
+    words: &mut RowWords,
     page: &mut Page,
 ) -> Result<(), RowFault> {
     let (count, seed) = (words.short(), words.number());

@@ -1,5 +1,5 @@
 use Rattle.std.proofs.Common.{◌≡◌, ◌≤◌, length, map, take, vec_len, vec_capacity}
-use Rattle.oram_run.specs.Events.{failed_reply}
+use Rattle.oram_semantics.specs.Events.{failed_reply}
 use Rattle.oram_core.proofs.messages.fill_failed.Given as goal
 
 abbrev pub invariant-loop-at : goal.invariant-loop-at

@@ -1,7 +1,7 @@
 use Rattle.std.proofs.Common.{◌≡◌, ◌∷◌, [], ◌++◌, List, Some, ◌∙◌, ap, subst}
 use Rattle.std.proofs.lemmas.List.Elements.{All-pop}
-use Rattle.oram_run.specs.declared.events.Reply.{Reply}
-use Rattle.oram_core.specs.Core.{shape_of}
+use Rattle.oram_semantics.specs.declared.events.Reply.{Reply}
+use Rattle.oram_core.specs.Core.{scheme_of}
 use Rattle.oram_session.proofs.Resumed.{HasBody, only_one}
 use Rattle.oram_keep.specs.Asking.{HasGivenAll, IsSame}
 use Rattle.oram_keep.proofs.Failing.{IsOfFailed}
@@ -10,7 +10,7 @@ use Rattle.oram_keep.proofs.asking.reply_of.Goals as goal
 pub returns-clause-ok : goal.returns-clause-ok
 returns-clause-ok g c = λ kept.
     let w = c.in_ok-last.ensures.ok kept in
-    let v = shape_of g.S.Sealer.overhead g.S.Sealer.sealing g.S.Sealer.opening c.args.core.now in
+    let v = scheme_of g.S.Sealer.overhead g.S.Sealer.sealing g.S.Sealer.opening c.args.core.now in
     let one = w.2 ∙ c.requires.alone in
     let only : w.0 ≡ c.in-Some.reply ∷ [] =
     only_one w.0 w.3.0 c.pop.new.self.items c.in-Some.reply one (w.3.1 ∙ ap (λ (l : List Reply). w.3.0 ++ l) c.in-Some.ensures.items) in

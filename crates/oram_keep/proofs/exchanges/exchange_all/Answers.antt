@@ -3,10 +3,10 @@ use Rattle.std.proofs.lemmas.List.Elements.{All-nil}
 use Rattle.std.proofs.lemmas.Result.{err_from_is_err_and}
 use Rattle.std.specs.List.{All}
 use Rattle.oram_geometry.specs.declared.Sizes.{Sizes}
-use Rattle.oram_run.specs.Progress.Status.{Waiting}
-use Rattle.oram_run.specs.Shape.{Shape}
-use Rattle.oram_run.specs.State.{status_in}
-use Rattle.oram_core.specs.Core.{shape_of}
+use Rattle.oram_semantics.specs.Progress.Status.{Waiting}
+use Rattle.oram_semantics.specs.Scheme.{Scheme}
+use Rattle.oram_semantics.specs.State.{status_in}
+use Rattle.oram_core.specs.Core.{scheme_of}
 use Rattle.oram_core.specs.Doing.{done}
 use Rattle.oram_core.specs.Steps.{Heard}
 use Rattle.oram_session.specs.Exchanges.{IsCutOff, IsSent}
@@ -29,7 +29,7 @@ returns-in_err-keep-clause-unkept g c = λ e kept.
     let p = err_from_is_err_and c.from_residual.result c.from_residual.ensures.1 in
     let h : c.in_err-keep.field-0.0 ≡ Unkept = cc in
     let w = c.in_err-keep.ensures.unkept (ap Err h) in
-    let v = shape_of g.S.Sealer.overhead g.S.Sealer.sealing g.S.Sealer.opening c.args.core.now in
+    let v = scheme_of g.S.Sealer.overhead g.S.Sealer.sealing g.S.Sealer.opening c.args.core.now in
     record {
       begun = c.args.core.now.state;
       led = refl;
@@ -41,7 +41,7 @@ returns-in_err-keep-clause-memory g c = λ e kept.
     let p = err_from_is_err_and c.from_residual.result c.from_residual.ensures.1 in
     let h : c.in_err-keep.field-0.0 ≡ OutOfMemory = cc in
     let w = c.in_err-keep.ensures.memory (ap Err h) in
-    let v = shape_of g.S.Sealer.overhead g.S.Sealer.sealing g.S.Sealer.opening c.args.core.now in
+    let v = scheme_of g.S.Sealer.overhead g.S.Sealer.sealing g.S.Sealer.opening c.args.core.now in
     let s = c.args.core.now.state in
     let l = c.args.link.now in
     let k = c.args.keeper.now in
@@ -55,7 +55,7 @@ returns-in_err-keep-clause-memory g c = λ e kept.
 
 pub loop-message-init : goal.loop-message-init
 loop-message-init g c =
-    let v = shape_of g.S.Sealer.overhead g.S.Sealer.sealing g.S.Sealer.opening c.args.core.now in
+    let v = scheme_of g.S.Sealer.overhead g.S.Sealer.sealing g.S.Sealer.opening c.args.core.now in
     let w = c.in_ok-keep.ensures.ok in
     record {
       kept = (refl, refl);
@@ -74,7 +74,7 @@ returns-in_err-reaction-clause-stalled g c = λ e kept.
     let w = c.in_err-reaction.ensures.stalled (ap Err h) in
     let now = c.loop-message.core in
     let after = c.send.new.core in
-    let v = shape_of g.S.Sealer.overhead g.S.Sealer.sealing g.S.Sealer.opening c.args.core.now in
+    let v = scheme_of g.S.Sealer.overhead g.S.Sealer.sealing g.S.Sealer.opening c.args.core.now in
     let same = same_shape g.S.Sealer.overhead g.S.Sealer.sealing g.S.Sealer.opening c.args.core.now now c.loop-message.invariant.kept in
     let so = c.loop-message.invariant.so_far kept in
     let empty : c.loop-message.reaction.sends.items ≡ [] → ⊥ = λ none. absurd (omega (arith, length-append c.pop.new.self.items (c.in-Some.message ∷ []), ap length (sym c.in-Some.ensures.items ∙ none))) in
@@ -84,7 +84,7 @@ returns-in_err-reaction-clause-stalled g c = λ e kept.
       led = refl;
       later = so.later;
       stalled = stalled_here v g.L.Link.calls g.K.Keeper.keeps _ _ _ kept _ _ now.state c.loop-message.link c.loop-message.keeper so waits w.0 after.state c.send.new.link
-          (subst (λ (u : Shape). IsSent u g.L.Link.calls most_retries (now.state, c.loop-message.link) w.0 (after.state, c.send.new.link)) same w.1) w.2;
+          (subst (λ (u : Scheme). IsSent u g.L.Link.calls most_retries (now.state, c.loop-message.link) w.0 (after.state, c.send.new.link)) same w.1) w.2;
     }
 
 pub returns-in_err-reaction-clause-memory : goal.returns-in_err-reaction-clause-memory
@@ -94,7 +94,7 @@ returns-in_err-reaction-clause-memory g c = λ e kept.
     let w = c.in_err-reaction.ensures.memory (ap Err h) in
     let now = c.loop-message.core in
     let after = c.send.new.core in
-    let v = shape_of g.S.Sealer.overhead g.S.Sealer.sealing g.S.Sealer.opening c.args.core.now in
+    let v = scheme_of g.S.Sealer.overhead g.S.Sealer.sealing g.S.Sealer.opening c.args.core.now in
     let same = same_shape g.S.Sealer.overhead g.S.Sealer.sealing g.S.Sealer.opening c.args.core.now now c.loop-message.invariant.kept in
     let so = c.loop-message.invariant.so_far kept in
     let empty : c.loop-message.reaction.sends.items ≡ [] → ⊥ = λ none. absurd (omega (arith, length-append c.pop.new.self.items (c.in-Some.message ∷ []), ap length (sym c.in-Some.ensures.items ∙ none))) in
@@ -104,7 +104,7 @@ returns-in_err-reaction-clause-memory g c = λ e kept.
       led = refl;
       later = so.later;
       out = cut_here v g.L.Link.calls g.K.Keeper.keeps _ _ _ kept _ _ now.state c.loop-message.link c.loop-message.keeper so waits w.0 after.state c.send.new.link
-          (subst (λ (u : Shape). IsCutOff u g.L.Link.calls most_retries (now.state, c.loop-message.link) w.0 (after.state, c.send.new.link)) same w.1);
+          (subst (λ (u : Scheme). IsCutOff u g.L.Link.calls most_retries (now.state, c.loop-message.link) w.0 (after.state, c.send.new.link)) same w.1);
     }
 
 -- the keeping behind it
@@ -118,7 +118,7 @@ returns-in_err-keep-2-clause-unkept g c = λ e kept.
     let after = c.send.new.core in
     let a = c.in_ok-reaction.ensures.ok in
     let d = done c.in_ok-reaction.reaction after.state in
-    let v = shape_of g.S.Sealer.overhead g.S.Sealer.sealing g.S.Sealer.opening c.args.core.now in
+    let v = scheme_of g.S.Sealer.overhead g.S.Sealer.sealing g.S.Sealer.opening c.args.core.now in
     let same = same_shape g.S.Sealer.overhead g.S.Sealer.sealing g.S.Sealer.opening c.args.core.now now c.loop-message.invariant.kept in
     let so = c.loop-message.invariant.so_far kept in
     let empty : c.loop-message.reaction.sends.items ≡ [] → ⊥ = λ none. absurd (omega (arith, length-append c.pop.new.self.items (c.in-Some.message ∷ []), ap length (sym c.in-Some.ensures.items ∙ none))) in
@@ -127,8 +127,8 @@ returns-in_err-keep-2-clause-unkept g c = λ e kept.
       begun = c.args.core.now.state;
       led = refl;
       unkept = unkept_then v g.L.Link.calls g.K.Keeper.keeps _ _ _ kept _ _ now.state c.loop-message.link c.loop-message.keeper so waits a.0 d c.send.new.link
-          (subst (λ (u : Shape). IsSent u g.L.Link.calls most_retries (now.state, c.loop-message.link) a.0 (after.state, c.send.new.link)) same a.1) a.2
-          (subst (λ (u : Shape). Heard u now.state d) same c.in_ok-reaction.ensures.heard) a.3 c.keep-then-is_to_be_kept.new.keeper
+          (subst (λ (u : Scheme). IsSent u g.L.Link.calls most_retries (now.state, c.loop-message.link) a.0 (after.state, c.send.new.link)) same a.1) a.2
+          (subst (λ (u : Scheme). Heard u now.state d) same c.in_ok-reaction.ensures.heard) a.3 c.keep-then-is_to_be_kept.new.keeper
           (w.0, saved_under g.S.Sealer.overhead c.args.core.now after w.0 (same_trans c.args.core.now now after c.loop-message.invariant.kept c.send.ensures.kept) w.1, w.2);
     }
 
@@ -141,7 +141,7 @@ returns-in_err-keep-2-clause-memory g c = λ e kept.
     let after = c.send.new.core in
     let a = c.in_ok-reaction.ensures.ok in
     let d = done c.in_ok-reaction.reaction after.state in
-    let v = shape_of g.S.Sealer.overhead g.S.Sealer.sealing g.S.Sealer.opening c.args.core.now in
+    let v = scheme_of g.S.Sealer.overhead g.S.Sealer.sealing g.S.Sealer.opening c.args.core.now in
     let same = same_shape g.S.Sealer.overhead g.S.Sealer.sealing g.S.Sealer.opening c.args.core.now now c.loop-message.invariant.kept in
     let so = c.loop-message.invariant.so_far kept in
     let empty : c.loop-message.reaction.sends.items ≡ [] → ⊥ = λ none. absurd (omega (arith, length-append c.pop.new.self.items (c.in-Some.message ∷ []), ap length (sym c.in-Some.ensures.items ∙ none))) in
@@ -152,8 +152,8 @@ returns-in_err-keep-2-clause-memory g c = λ e kept.
       later = so.later;
       out = subst (λ (j : g.row.K.Denot). HasRunOut v g.L.Link.calls g.K.Keeper.keeps (at c.args.core.now.state kept c.args.link.now c.args.keeper.now) (at after.state so.later c.send.new.link j)) (sym w)
           (refused_then v g.L.Link.calls g.K.Keeper.keeps _ _ _ kept _ _ now.state c.loop-message.link c.loop-message.keeper so waits a.0 d c.send.new.link
-          (subst (λ (u : Shape). IsSent u g.L.Link.calls most_retries (now.state, c.loop-message.link) a.0 (after.state, c.send.new.link)) same a.1) a.2
-          (subst (λ (u : Shape). Heard u now.state d) same c.in_ok-reaction.ensures.heard) a.3);
+          (subst (λ (u : Scheme). IsSent u g.L.Link.calls most_retries (now.state, c.loop-message.link) a.0 (after.state, c.send.new.link)) same a.1) a.2
+          (subst (λ (u : Scheme). Heard u now.state d) same c.in_ok-reaction.ensures.heard) a.3);
     }
 
 pub loop-message-preserved : goal.loop-message-preserved
@@ -162,14 +162,14 @@ loop-message-preserved g c =
     let after = c.send.new.core in
     let a = c.in_ok-reaction.ensures.ok in
     let d = done c.in_ok-reaction.reaction after.state in
-    let v = shape_of g.S.Sealer.overhead g.S.Sealer.sealing g.S.Sealer.opening c.args.core.now in
-    let u = shape_of g.S.Sealer.overhead g.S.Sealer.sealing g.S.Sealer.opening now in
+    let v = scheme_of g.S.Sealer.overhead g.S.Sealer.sealing g.S.Sealer.opening c.args.core.now in
+    let u = scheme_of g.S.Sealer.overhead g.S.Sealer.sealing g.S.Sealer.opening now in
     let same = same_shape g.S.Sealer.overhead g.S.Sealer.sealing g.S.Sealer.opening c.args.core.now now c.loop-message.invariant.kept in
     let empty : c.loop-message.reaction.sends.items ≡ [] → ⊥ = λ none. absurd (omega (arith, length-append c.pop.new.self.items (c.in-Some.message ∷ []), ap length (sym c.in-Some.ensures.items ∙ none))) in
     let waits : status_in now.state ≡ Waiting = elim c.loop-message.invariant.going [ inl b ↦ b.0 | inr b ↦ absurd (empty b.2) ] in
     let kept = same_trans c.args.core.now now after c.loop-message.invariant.kept c.send.ensures.kept in
-    let sent = subst (λ (z : Shape). IsSent z g.L.Link.calls most_retries (now.state, c.loop-message.link) a.0 (after.state, c.send.new.link)) same a.1 in
-    let heard = subst (λ (z : Shape). Heard z now.state d) same c.in_ok-reaction.ensures.heard in
+    let sent = subst (λ (z : Scheme). IsSent z g.L.Link.calls most_retries (now.state, c.loop-message.link) a.0 (after.state, c.send.new.link)) same a.1 in
+    let heard = subst (λ (z : Scheme). Heard z now.state d) same c.in_ok-reaction.ensures.heard in
     record {
       kept = kept;
       going = heard_going u now.state d waits c.in_ok-reaction.ensures.heard;
@@ -196,7 +196,7 @@ pub loop-message-smaller : goal.loop-message-smaller
 loop-message-smaller g c =
     let now = c.loop-message.core in
     let after = c.send.new.core in
-    let u = shape_of g.S.Sealer.overhead g.S.Sealer.sealing g.S.Sealer.opening now in
+    let u = scheme_of g.S.Sealer.overhead g.S.Sealer.sealing g.S.Sealer.opening now in
     let empty : c.loop-message.reaction.sends.items ≡ [] → ⊥ = λ none. absurd (omega (arith, length-append c.pop.new.self.items (c.in-Some.message ∷ []), ap length (sym c.in-Some.ensures.items ∙ none))) in
     let waits : status_in now.state ≡ Waiting = elim c.loop-message.invariant.going [ inl a ↦ a.0 | inr a ↦ absurd (empty a.2) ] in
     let left = some_at_work now.state.failure now.state.queue now.state.lost waits in

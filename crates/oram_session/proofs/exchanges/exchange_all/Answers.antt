@@ -3,15 +3,15 @@ use Rattle.std.proofs.lemmas.List.Elements.{All-nil}
 use Rattle.std.proofs.lemmas.Result.{err_from_is_err_and}
 use Rattle.std.specs.List.{All}
 use Rattle.oram_geometry.specs.declared.Sizes.{Sizes}
-use Rattle.oram_run.specs.Progress.Status.{Waiting}
-use Rattle.oram_run.specs.Shape.{Shape}
-use Rattle.oram_run.specs.State.{status_in}
-use Rattle.oram_core.specs.Core.{shape_of}
+use Rattle.oram_semantics.specs.Progress.Status.{Waiting}
+use Rattle.oram_semantics.specs.Scheme.{Scheme}
+use Rattle.oram_semantics.specs.State.{status_in}
+use Rattle.oram_core.specs.Core.{scheme_of}
 use Rattle.oram_core.specs.Doing.{done}
 use Rattle.oram_session.specs.Exchanges.{IsSent, IsCutOff, IsGivenUp}
 use Rattle.oram_session.specs.Settled.{answers_left}
 use Rattle.oram_session.specs.Turns.{most_retries}
-use Rattle.oram_answering.specs.declared.faults.ServeFault.TheVariants.{Stalled, OutOfMemory}
+use Rattle.oram_host.specs.declared.serve_fault.ServeFault.TheVariants.{Stalled, OutOfMemory}
 use Rattle.oram_session.proofs.Resumed.{HasBody, heard_bodies, heard_going, replied_last, replied_more, replies_of, retries_later, sent_more, some_at_work}
 use Rattle.oram_session.proofs.Steppings.{left_heard, same_shape, same_trans}
 use Rattle.oram_session.proofs.exchanges.exchange_all.Goals as goal
@@ -31,12 +31,12 @@ returns-in_err-reaction-clause-stalled g c = λ e.
     let w = c.in_err-reaction.ensures.stalled (ap Err h) in
     let k = c.loop-message.invariant.sent in
     let same = same_shape g.S.Sealer.overhead g.S.Sealer.sealing g.S.Sealer.opening c.args.core.now c.loop-message.core c.loop-message.invariant.kept in
-    let v = shape_of g.S.Sealer.overhead g.S.Sealer.sealing g.S.Sealer.opening c.args.core.now in (
+    let v = scheme_of g.S.Sealer.overhead g.S.Sealer.sealing g.S.Sealer.opening c.args.core.now in (
       k.0,
       (c.loop-message.core.state, c.loop-message.link),
       w.0,
       k.1,
-      subst (λ (n : ℕ). IsSent v g.L.Link.calls n (c.loop-message.core.state, c.loop-message.link) w.0 (c.exchange.new.core.state, c.exchange.new.link)) k.3 (subst (λ (u : Shape). IsSent u g.L.Link.calls c.loop-message.most (c.loop-message.core.state, c.loop-message.link) w.0 (c.exchange.new.core.state, c.exchange.new.link)) same w.1),
+      subst (λ (n : ℕ). IsSent v g.L.Link.calls n (c.loop-message.core.state, c.loop-message.link) w.0 (c.exchange.new.core.state, c.exchange.new.link)) k.3 (subst (λ (u : Scheme). IsSent u g.L.Link.calls c.loop-message.most (c.loop-message.core.state, c.loop-message.link) w.0 (c.exchange.new.core.state, c.exchange.new.link)) same w.1),
       subst (λ (n : ℕ). IsGivenUp n w.0) k.3 w.2,
     )
 
@@ -53,12 +53,12 @@ returns-in_err-reaction-clause-memory g c = λ e.
     let w = c.in_err-reaction.ensures.memory (ap Err h) in
     let k = c.loop-message.invariant.sent in
     let same = same_shape g.S.Sealer.overhead g.S.Sealer.sealing g.S.Sealer.opening c.args.core.now c.loop-message.core c.loop-message.invariant.kept in
-    let v = shape_of g.S.Sealer.overhead g.S.Sealer.sealing g.S.Sealer.opening c.args.core.now in (
+    let v = scheme_of g.S.Sealer.overhead g.S.Sealer.sealing g.S.Sealer.opening c.args.core.now in (
       k.0,
       (c.loop-message.core.state, c.loop-message.link),
       w.0,
       k.1,
-      subst (λ (n : ℕ). IsCutOff v g.L.Link.calls n (c.loop-message.core.state, c.loop-message.link) w.0 (c.exchange.new.core.state, c.exchange.new.link)) k.3 (subst (λ (u : Shape). IsCutOff u g.L.Link.calls c.loop-message.most (c.loop-message.core.state, c.loop-message.link) w.0 (c.exchange.new.core.state, c.exchange.new.link)) same w.1),
+      subst (λ (n : ℕ). IsCutOff v g.L.Link.calls n (c.loop-message.core.state, c.loop-message.link) w.0 (c.exchange.new.core.state, c.exchange.new.link)) k.3 (subst (λ (u : Scheme). IsCutOff u g.L.Link.calls c.loop-message.most (c.loop-message.core.state, c.loop-message.link) w.0 (c.exchange.new.core.state, c.exchange.new.link)) same w.1),
     )
 
 pub loop-message-preserved : goal.loop-message-preserved
@@ -68,12 +68,12 @@ loop-message-preserved g c =
     let some = c.in-Some.ensures.items in
     let now = c.loop-message.core in
     let after = c.exchange.new.core in
-    let v = shape_of g.S.Sealer.overhead g.S.Sealer.sealing g.S.Sealer.opening c.args.core.now in
-    let u = shape_of g.S.Sealer.overhead g.S.Sealer.sealing g.S.Sealer.opening now in
+    let v = scheme_of g.S.Sealer.overhead g.S.Sealer.sealing g.S.Sealer.opening c.args.core.now in
+    let u = scheme_of g.S.Sealer.overhead g.S.Sealer.sealing g.S.Sealer.opening now in
     let same = same_shape g.S.Sealer.overhead g.S.Sealer.sealing g.S.Sealer.opening c.args.core.now now c.loop-message.invariant.kept in
     let empty : c.loop-message.reaction.sends.items ≡ [] → ⊥ = λ none. absurd (omega (arith, length-append c.pop.new.self.items (c.in-Some.message ∷ []), ap length (sym some ∙ none))) in
     let waits : status_in now.state ≡ Waiting = elim c.loop-message.invariant.going [ inl a ↦ a.0 | inr a ↦ absurd (empty a.2) ] in
-    let sent = subst (λ (w : Shape). IsSent w g.L.Link.calls c.loop-message.most (now.state, c.loop-message.link) e.0 (after.state, c.exchange.new.link)) same e.1 in
+    let sent = subst (λ (w : Scheme). IsSent w g.L.Link.calls c.loop-message.most (now.state, c.loop-message.link) e.0 (after.state, c.exchange.new.link)) same e.1 in
     record {
       kept = same_trans c.args.core.now now after c.loop-message.invariant.kept c.exchange.ensures.kept;
       going = heard_going u now.state (done c.in_ok-reaction.reaction after.state) waits c.in_ok-reaction.ensures.heard;
@@ -94,7 +94,7 @@ loop-message-smaller g c =
     let some = c.in-Some.ensures.items in
     let now = c.loop-message.core in
     let after = c.exchange.new.core in
-    let u = shape_of g.S.Sealer.overhead g.S.Sealer.sealing g.S.Sealer.opening now in
+    let u = scheme_of g.S.Sealer.overhead g.S.Sealer.sealing g.S.Sealer.opening now in
     let empty : c.loop-message.reaction.sends.items ≡ [] → ⊥ = λ none. absurd (omega (arith, length-append c.pop.new.self.items (c.in-Some.message ∷ []), ap length (sym some ∙ none))) in
     let waits : status_in now.state ≡ Waiting = elim c.loop-message.invariant.going [ inl a ↦ a.0 | inr a ↦ absurd (empty a.2) ] in
     let left = some_at_work now.state.failure now.state.queue now.state.lost waits in

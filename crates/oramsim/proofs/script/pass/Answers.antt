@@ -1,5 +1,5 @@
 use Rattle.std.proofs.Common.{Some, inl, inr, refl, sym, ap, ◌∙◌, subst}
-use Rattle.oramsim.specs.Standing.{StandsAt}
+use Rattle.oramsim.specs.Correspondence.{StandsAt}
 use Rattle.oramsim.specs.declared.line.Line.{Line}
 use Rattle.oramsim.specs.declared.script.SimFault.TheVariants.{OutOfMemory}
 use Rattle.oramsim.proofs.Cut.{obeyed_cut, started_cut, stays_at}

@@ -1,5 +1,5 @@
 use Rattle.std.proofs.Common.{IfSome}
-use Rattle.oramsim.specs.Standing.{AreWhole}
+use Rattle.oramsim.specs.Correspondence.{AreWhole}
 use Rattle.oramsim.proofs.Passing.{Came}
 use Rattle.oramsim.proofs.script.run_lines.Given as goal
 

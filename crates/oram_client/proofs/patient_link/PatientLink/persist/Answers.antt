@@ -20,32 +20,32 @@ loop-trouble-init g c =
 pub returns-in_default-clause-answer : goal.returns-in_default-clause-answer
 returns-in_default-clause-answer g c =
     answered_behind g.D.Dial.opens g.D.Dial.fails g.D.Dial.pauses g.D.Dial.reads g.D.Line.Link.calls c.now-begin.result c.args.body.now c.now-begin.new.self.dialer
-    c.args.self.now c.loop-trouble.self c.attempt-came.new.self c.tell_answer.new.self c.loop-trouble.wait.pause c.loop-trouble.wait.left _ _
+    c.args.self.now c.loop-trouble.self c.attempt-came.new.self c.report_answer.new.self c.loop-trouble.wait.pause c.loop-trouble.wait.left _ _
     c.now-begin.ensures.read c.loop-trouble.invariant.delays c.loop-trouble.invariant.patience c.loop-trouble.invariant.trouble
-    c.attempt-came.ensures.tried c.attempt-came.ensures.same c.in_default.ensures c.tell_answer.ensures c.told.ensures
+    c.attempt-came.ensures.tried c.attempt-came.ensures.same c.in_default.ensures c.report_answer.ensures c.link_outcome.ensures
 
 pub returns-in-None-clause-answer : goal.returns-in-None-clause-answer
 returns-in-None-clause-answer g c =
     given_up_behind g.D.Dial.opens g.D.Dial.fails g.D.Dial.pauses g.D.Dial.reads g.D.Line.Link.calls c.now-begin.result c.args.body.now c.now-begin.new.self.dialer
-    c.args.self.now c.loop-trouble.self c.attempt-came.new.self c.tell_trouble.new.self c.wait.new.self c.give_up.new.self
+    c.args.self.now c.loop-trouble.self c.attempt-came.new.self c.report_trouble.new.self c.wait.new.self c.give_up.new.self
     c.loop-trouble.wait.pause c.loop-trouble.wait.left _ c.in-Some.trouble _
     c.now-begin.ensures.read c.loop-trouble.invariant.delays c.loop-trouble.invariant.patience
-    c.attempt-came.ensures.tried c.attempt-came.ensures.same c.in-Some.ensures c.tell_trouble.ensures c.in-None.ensures.waits c.in-None.ensures.same
-    c.give_up.ensures c.told-in-None.ensures
+    c.attempt-came.ensures.tried c.attempt-came.ensures.same c.in-Some.ensures c.report_trouble.ensures c.in-None.ensures.waits c.in-None.ensures.same
+    c.give_up.ensures c.link_outcome-in-None.ensures
 
 pub loop-trouble-preserved-in-Some-wait : goal.loop-trouble-preserved-in-Some-wait
 loop-trouble-preserved-in-Some-wait g c =
     let before = c.loop-trouble.invariant in
     let next = c.in-Some-wait.ensures.next in
     let rest = rest_same g.D.Dial.opens g.D.Dial.fails g.D.Dial.pauses g.D.Dial.reads g.D.Line.Link.calls c.args.self.now.patience c.args.self.now.faults
-    c.loop-trouble.self c.attempt-came.new.self c.tell_trouble.new.self c.wait.new.self before.patience before.trouble before.faults
-    c.attempt-came.ensures.same c.tell_trouble.ensures c.wait.ensures.same in
+    c.loop-trouble.self c.attempt-came.new.self c.report_trouble.new.self c.wait.new.self before.patience before.trouble before.faults
+    c.attempt-came.ensures.same c.report_trouble.ensures c.wait.ensures.same in
     record {
       delays = delayed_more g.D.Dial.opens g.D.Dial.fails g.D.Dial.pauses g.D.Dial.reads g.D.Line.Link.calls
           c.args.self.now.patience c.now-begin.result c.args.body.now c.now-begin.new.self.dialer c.args.self.now.line
-          c.loop-trouble.self c.attempt-came.new.self c.tell_trouble.new.self c.wait.new.self c.loop-trouble.wait.pause c.loop-trouble.wait.left
+          c.loop-trouble.self c.attempt-came.new.self c.report_trouble.new.self c.wait.new.self c.loop-trouble.wait.pause c.loop-trouble.wait.left
           c.in-Some-wait.next.pause c.in-Some-wait.next.left _ c.in-Some.trouble before.delays before.patience
-          c.attempt-came.ensures.tried c.attempt-came.ensures.same c.in-Some.ensures c.tell_trouble.ensures c.in-Some-wait.ensures.waits c.wait.ensures.same;
+          c.attempt-came.ensures.tried c.attempt-came.ensures.same c.in-Some.ensures c.report_trouble.ensures c.in-Some-wait.ensures.waits c.wait.ensures.same;
       patience = rest.0;
       trouble = rest.1;
       faults = rest.2;
@@ -58,14 +58,14 @@ loop-trouble-preserved g c =
     let before = c.loop-trouble.invariant in
     let next = c.in-Some-wait.ensures.next in
     let rest = rest_same g.D.Dial.opens g.D.Dial.fails g.D.Dial.pauses g.D.Dial.reads g.D.Line.Link.calls c.args.self.now.patience c.args.self.now.faults
-    c.loop-trouble.self c.attempt-came.new.self c.tell_trouble.new.self c.wait.new.self before.patience before.trouble before.faults
-    c.attempt-came.ensures.same c.tell_trouble.ensures c.wait.ensures.same in
+    c.loop-trouble.self c.attempt-came.new.self c.report_trouble.new.self c.wait.new.self before.patience before.trouble before.faults
+    c.attempt-came.ensures.same c.report_trouble.ensures c.wait.ensures.same in
     record {
       delays = delayed_more g.D.Dial.opens g.D.Dial.fails g.D.Dial.pauses g.D.Dial.reads g.D.Line.Link.calls
           c.args.self.now.patience c.now-begin.result c.args.body.now c.now-begin.new.self.dialer c.args.self.now.line
-          c.loop-trouble.self c.attempt-came.new.self c.tell_trouble.new.self c.wait.new.self c.loop-trouble.wait.pause c.loop-trouble.wait.left
+          c.loop-trouble.self c.attempt-came.new.self c.report_trouble.new.self c.wait.new.self c.loop-trouble.wait.pause c.loop-trouble.wait.left
           c.in-Some-wait.next.pause c.in-Some-wait.next.left _ c.in-Some.trouble before.delays before.patience
-          c.attempt-came.ensures.tried c.attempt-came.ensures.same c.in-Some.ensures c.tell_trouble.ensures c.in-Some-wait.ensures.waits c.wait.ensures.same;
+          c.attempt-came.ensures.tried c.attempt-came.ensures.same c.in-Some.ensures c.report_trouble.ensures c.in-Some-wait.ensures.waits c.wait.ensures.same;
       patience = rest.0;
       trouble = rest.1;
       faults = rest.2;

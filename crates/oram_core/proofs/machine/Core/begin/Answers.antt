@@ -1,5 +1,5 @@
 use Rattle.std.proofs.Common.{◌≡◌, ◌<◌, length, None, sym, subst, ap, refl}
-use Rattle.oram_run.specs.Agree.{IsAllowed}
+use Rattle.oram_semantics.specs.Agree.{IsAllowed}
 use Rattle.oram_core.specs.Core.{CoreValue}
 use Rattle.oram_core.specs.Doing.{first_message}
 use Rattle.oram_core.proofs.Sound.{begun_as}

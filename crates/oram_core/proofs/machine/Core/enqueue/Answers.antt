@@ -1,5 +1,5 @@
 use Rattle.std.proofs.Common.{◌≡◌, ◌<◌, length, sym, subst, ap}
-use Rattle.oram_run.specs.Agree.{IsAllowed}
+use Rattle.oram_semantics.specs.Agree.{IsAllowed}
 use Rattle.oram_core.specs.Core.{CoreValue}
 use Rattle.oram_core.proofs.Sound.{some_healthy, sound_pushed}
 use Rattle.std.proofs.lemmas.Result.{IfOk-from_err}

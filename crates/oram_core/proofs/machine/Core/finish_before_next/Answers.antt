@@ -1,9 +1,9 @@
 use Rattle.std.proofs.Common.{◌≡◌, ◌+◌, ◌*◌, ◌<◌, ◌∷◌, List, length, sym, subst, ap}
 use Rattle.oram_geometry.specs.Sizes.{trees_of}
-use Rattle.oram_run.specs.Progress.Status.{Waiting}
-use Rattle.oram_run.specs.State.{status_in}
-use Rattle.oram_run.specs.declared.events.Submission.{Submission}
-use Rattle.oram_core.specs.Core.{CoreValue, shape_with}
+use Rattle.oram_semantics.specs.Progress.Status.{Waiting}
+use Rattle.oram_semantics.specs.State.{status_in}
+use Rattle.oram_semantics.specs.declared.events.Submission.{Submission}
+use Rattle.oram_core.specs.Core.{CoreValue, scheme_with}
 use Rattle.oram_core.specs.Doing.{first_message}
 use Rattle.oram_core.proofs.Closing.{pass_sound, passed_by}
 use Rattle.std.proofs.lemmas.Result.{IfOk-from_err}
@@ -13,7 +13,7 @@ pub invariant_of-self-2 : goal.invariant_of-self-2
 invariant_of-self-2 g c =
     let same = sym c.self.view_is in
     let waits = subst (λ (v : CoreValue g.row.S.Denot). status_in v.state ≡ Waiting) same c.requires.waiting in
-    let end = subst (λ (v : CoreValue g.row.S.Denot). v.state.stage + 1 ≡ 2 * trees_of v.device) same c.requires.last in
+    let end = subst (λ (v : CoreValue g.row.S.Denot). v.state.entry_number + 1 ≡ 2 * trees_of v.device) same c.requires.last in
     let more = subst (λ (v : CoreValue g.row.S.Denot). 1 < length v.state.queue) same c.requires.more in
     let next = subst (λ (v : CoreValue g.row.S.Denot). (x y : Submission) (rest : List Submission) → v.state.queue ≡ x ∷ y ∷ rest → c.args.sending.kept ≡ first_message v.device v.state y) same c.requires.next in
     pass_sound _ _ _ _ _ _ c.self.invariant waits end more next c.in_ok-replies.ensures.queue c.in_ok-replies.ensures.ok
@@ -24,7 +24,7 @@ returns-clause-ok g c = λ x rest q.
     let more = subst (λ (v : CoreValue g.row.S.Denot). 1 < length v.state.queue) same c.requires.more in
     let next = subst (λ (v : CoreValue g.row.S.Denot). (x y : Submission) (rest : List Submission) → v.state.queue ≡ x ∷ y ∷ rest → c.args.sending.kept ≡ first_message v.device v.state y) same c.requires.next in
     let queue = subst (λ (v : CoreValue g.row.S.Denot). v.state.queue ≡ x ∷ rest) same q in
-    rw (← c.self.view_is) (passed_by (shape_with g.S.Sealer.overhead g.S.Sealer.sealing g.S.Sealer.opening c.self.inside.device c.self.inside.sealer) _ x rest _ _ _ _ _ c.self.invariant queue more next (c.in_ok-replies.ensures.replies x rest queue) c.requires.sends c.in_ok-replies.ensures.queue c.in_ok-replies.ensures.ok)
+    rw (← c.self.view_is) (passed_by (scheme_with g.S.Sealer.overhead g.S.Sealer.sealing g.S.Sealer.opening c.self.inside.device c.self.inside.sealer) _ x rest _ _ _ _ _ c.self.invariant queue more next (c.in_ok-replies.ensures.replies x rest queue) c.requires.sends c.in_ok-replies.ensures.queue c.in_ok-replies.ensures.ok)
 
 pub returns-in_err-replies-clause-kept : goal.returns-in_err-replies-clause-kept
 returns-in_err-replies-clause-kept g c = (ap (λ (u : CoreValue g.row.S.Denot). u.device) c.self.view_is, ap (λ (u : CoreValue g.row.S.Denot). u.sealer) c.self.view_is)

@@ -29,10 +29,10 @@ overflow_cast-result g c =
     let trees = subst (λ (p : Parts). AreTrees p.device 0 p.trees) c.parts.view_is (c.in_ok-trees.ensures.fits refl) in
     let next : c.args.parts.tickets ≤ c.args.parts.device.lifetime = subst (λ (p : Parts). p.tickets ≤ p.device.lifetime) c.parts.view_is (omega (arith, c.if-parts-lifetime.false, c.lifetime.ensures.value)) in
     let are : AreParts o c.args.parts = parts_by o c.args.parts ranges (g.met.S.Sealer.small c.args.sealer) next fits trees in
-    let stage : c.args.parts.r < 2 * trees_of c.args.parts.device = stage_within c.args.parts.device o (state_of c.args.parts) are.sound in
+    let entry_number : c.args.parts.entry_number < 2 * trees_of c.args.parts.device = stage_within c.args.parts.device o (state_of c.args.parts) are.sound in
     let few = trees_of-few c.args.parts.device ranges in
-    let same : c.parts.inside.r ≡ c.args.parts.r = ap (λ (p : Parts). p.r) c.parts.view_is in
-    omega (arith, stage, few, same)
+    let same : c.parts.inside.entry_number ≡ c.args.parts.entry_number = ap (λ (p : Parts). p.entry_number) c.parts.view_is in
+    omega (arith, entry_number, few, same)
 
 pub invariant_of-result : goal.invariant_of-result
 invariant_of-result g c =

@@ -1,4 +1,4 @@
-use Rattle.oram_run.proofs.Bounds.{some_trees}
+use Rattle.oram_semantics.proofs.Bounds.{some_trees}
 use Rattle.oram_core.proofs.machine.Core.refusal.Goals as goal
 
 pub blocks_in-requires : goal.blocks_in-requires

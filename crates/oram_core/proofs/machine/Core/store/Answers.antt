@@ -2,12 +2,12 @@ use Rattle.std.proofs.Common.{◌≡◌, ◌++◌, if◌then◌else◌, ℕ, sli
 use Rattle.std.specs.List.{All}
 use Rattle.oram_geometry.specs.Sizes.{depth_of, trees_of, blocks_in}
 use Rattle.oram_bucket.specs.Bucket.{IsBlockOf}
-use Rattle.oram_run.specs.Content.{block_of, new_leaf}
-use Rattle.oram_run.specs.declared.events.Submission.{Submission}
-use Rattle.oram_core.specs.Core.{CoreValue, IsSound, shape_of}
+use Rattle.oram_semantics.specs.Content.{block_of, new_leaf}
+use Rattle.oram_semantics.specs.declared.events.Submission.{Submission}
+use Rattle.oram_core.specs.Core.{CoreValue, IsSound, scheme_of}
 use Rattle.oram_core.proofs.Sound.{nonce_small, stage_within}
-use Rattle.oram_run.specs.Content.{stage_tree}
-use Rattle.oram_run.specs.declared.events.Reason.TheVariants as reason
+use Rattle.oram_semantics.specs.Content.{entry_tree}
+use Rattle.oram_semantics.specs.declared.events.Reason.TheVariants as reason
 use Rattle.oram_core.specs.Doing.{done, failed_by, stored_by, is_misled}
 use Rattle.oram_core.specs.Steps.{Heard}
 use Rattle.oram_core.proofs.Heard.{taken_heard, failed_heard, on_err}
@@ -24,202 +24,202 @@ use Rattle.oram_tree.specs.State.{IsStoredWith}
 use Rattle.oram_tree.specs.Access.{IsAtOrAbsent, IsLookup, IsNear, IsReadable, IsRewritten, IsUpdate}
 use Rattle.oram_tree.specs.Edits.{edited_block, edited_content}
 use Rattle.oram_tree.specs.declared.faults.TreeFault.TheVariants as fault
-use Rattle.oram_run.specs.Blocks.{block_after}
+use Rattle.oram_semantics.specs.Blocks.{block_after}
 use Rattle.oram_wire.specs.HostMessages.{store_body}
-use Rattle.oram_run.specs.Messages.{asked}
-use Rattle.oram_run.specs.Shape.{record_len}
+use Rattle.oram_semantics.specs.Messages.{requested}
+use Rattle.oram_semantics.specs.Scheme.{record_len}
 use Rattle.std.proofs.lemmas.Result.{IfOk-from_err}
-use Rattle.oram_run.specs.Progress.Status.{Waiting}
-use Rattle.oram_run.specs.State.{status_in}
+use Rattle.oram_semantics.specs.Progress.Status.{Waiting}
+use Rattle.oram_semantics.specs.State.{status_in}
 use Rattle.oram_core.proofs.Lengths.{levels_fit, path_fits, message_fits, store_fits}
 use Rattle.oram_core.proofs.machine.Core.store.Goals as goal
 
 pub access_to-looked-requires-clause-old_leaf : goal.access_to-looked-requires-clause-old_leaf
 access_to-looked-requires-clause-old_leaf g c =
-    let h = lends g.S.Sealer.overhead g.S.Sealer.sealing g.S.Sealer.opening _ c.args.self.now c.index_mut.result.now c.from.result c.errand-errand.result.tree c.self.view_is c.self.invariant c.requires.waiting c.from.ensures c.errand-errand.ensures.tree c.index_mut.ensures.value in
-    subst (λ (u : CoreValue g.row.S.Denot). c.errand-errand.result.leaf < 2 ^ depth_of u.device c.index_mut.result.now.number) (sym c.self.view_is) (rw h.number c.errand-errand.ensures.ranges.2)
+    let h = lends g.S.Sealer.overhead g.S.Sealer.sealing g.S.Sealer.opening _ c.args.self.now c.index_mut.result.now c.from.result c.path_access-path_access.result.tree c.self.view_is c.self.invariant c.requires.waiting c.from.ensures c.path_access-path_access.ensures.tree c.index_mut.ensures.value in
+    subst (λ (u : CoreValue g.row.S.Denot). c.path_access-path_access.result.leaf < 2 ^ depth_of u.device c.index_mut.result.now.number) (sym c.self.view_is) (rw h.number c.path_access-path_access.ensures.ranges.2)
 
 pub access_to-looked-requires-clause-new_leaf : goal.access_to-looked-requires-clause-new_leaf
 access_to-looked-requires-clause-new_leaf g c =
-    let h = lends g.S.Sealer.overhead g.S.Sealer.sealing g.S.Sealer.opening _ c.args.self.now c.index_mut.result.now c.from.result c.errand-errand.result.tree c.self.view_is c.self.invariant c.requires.waiting c.from.ensures c.errand-errand.ensures.tree c.index_mut.ensures.value in
-    subst (λ (u : CoreValue g.row.S.Denot). c.errand-errand.result.new_leaf < 2 ^ depth_of u.device c.index_mut.result.now.number) (sym c.self.view_is) (rw h.number c.errand-errand.ensures.ranges.3)
+    let h = lends g.S.Sealer.overhead g.S.Sealer.sealing g.S.Sealer.opening _ c.args.self.now c.index_mut.result.now c.from.result c.path_access-path_access.result.tree c.self.view_is c.self.invariant c.requires.waiting c.from.ensures c.path_access-path_access.ensures.tree c.index_mut.ensures.value in
+    subst (λ (u : CoreValue g.row.S.Denot). c.path_access-path_access.result.new_leaf < 2 ^ depth_of u.device c.index_mut.result.now.number) (sym c.self.view_is) (rw h.number c.path_access-path_access.ensures.ranges.3)
 
 pub access_to-looked-requires-clause-nonces : goal.access_to-looked-requires-clause-nonces
 access_to-looked-requires-clause-nonces g c =
     let now = c.args.self.now in
-    let v = shape_of g.S.Sealer.overhead g.S.Sealer.sealing g.S.Sealer.opening now in
-    let h = lends g.S.Sealer.overhead g.S.Sealer.sealing g.S.Sealer.opening _ c.args.self.now c.index_mut.result.now c.from.result c.errand-errand.result.tree c.self.view_is c.self.invariant c.requires.waiting c.from.ensures c.errand-errand.ensures.tree c.index_mut.ensures.value in
+    let v = scheme_of g.S.Sealer.overhead g.S.Sealer.sealing g.S.Sealer.opening now in
+    let h = lends g.S.Sealer.overhead g.S.Sealer.sealing g.S.Sealer.opening _ c.args.self.now c.index_mut.result.now c.from.result c.path_access-path_access.result.tree c.self.view_is c.self.invariant c.requires.waiting c.from.ensures c.path_access-path_access.ensures.tree c.index_mut.ensures.value in
     subst (λ (u : CoreValue g.row.S.Denot). u.state.nonce + depth_of u.device c.index_mut.result.now.number < 2 ^ 64) (sym c.self.view_is) (rw h.at.number (nonce_small v.device v.overhead now.state h.sound (waits now.state c.requires.waiting).healthy))
 
 pub access_to-looked-requires-clause-edit : goal.access_to-looked-requires-clause-edit
 access_to-looked-requires-clause-edit g c =
-    let h = lends g.S.Sealer.overhead g.S.Sealer.sealing g.S.Sealer.opening _ c.args.self.now c.index_mut.result.now c.from.result c.errand-errand.result.tree c.self.view_is c.self.invariant c.requires.waiting c.from.ensures c.errand-errand.ensures.tree c.index_mut.ensures.value in
+    let h = lends g.S.Sealer.overhead g.S.Sealer.sealing g.S.Sealer.opening _ c.args.self.now c.index_mut.result.now c.from.result c.path_access-path_access.result.tree c.self.view_is c.self.invariant c.requires.waiting c.from.ensures c.path_access-path_access.ensures.tree c.index_mut.ensures.value in
     rw h.number c.edit_for.ensures.edit
 
 pub access_to-looked-requires-clause-blocks : goal.access_to-looked-requires-clause-blocks
 access_to-looked-requires-clause-blocks g c =
-    let h = lends g.S.Sealer.overhead g.S.Sealer.sealing g.S.Sealer.opening _ c.args.self.now c.index_mut.result.now c.from.result c.errand-errand.result.tree c.self.view_is c.self.invariant c.requires.waiting c.from.ensures c.errand-errand.ensures.tree c.index_mut.ensures.value in
+    let h = lends g.S.Sealer.overhead g.S.Sealer.sealing g.S.Sealer.opening _ c.args.self.now c.index_mut.result.now c.from.result c.path_access-path_access.result.tree c.self.view_is c.self.invariant c.requires.waiting c.from.ensures c.path_access-path_access.ensures.tree c.index_mut.ensures.value in
     subst (λ (u : CoreValue g.row.S.Denot). All (IsBlockOf u.device c.index_mut.result.now.number) c.index_mut.result.now.stash) (sym c.self.view_is) (rw h.at.number h.at.blocks)
 
-pub take_over-requires-clause-oldest : goal.take_over-requires-clause-oldest
-take_over-requires-clause-oldest g c =
-    subst (λ (u : CoreValue g.row.S.Denot). (x : Submission) (rest : List Submission) → u.state.queue ≡ x ∷ rest → (c.errand-errand.result.block ≡ block_of u.device c.errand-errand.result.tree x) × (c.errand-errand.result.new_leaf ≡ new_leaf u.device c.errand-errand.result.tree x)) (sym c.self.view_is) c.errand-errand.ensures.oldest
+pub adopt_access-requires-clause-oldest : goal.adopt_access-requires-clause-oldest
+adopt_access-requires-clause-oldest g c =
+    subst (λ (u : CoreValue g.row.S.Denot). (x : Submission) (rest : List Submission) → u.state.queue ≡ x ∷ rest → (c.path_access-path_access.result.block ≡ block_of u.device c.path_access-path_access.result.tree x) × (c.path_access-path_access.result.new_leaf ≡ new_leaf u.device c.path_access-path_access.result.tree x)) (sym c.self.view_is) c.path_access-path_access.ensures.oldest
 
 pub invariant_of-self : goal.invariant_of-self
 invariant_of-self g c =
-    let h = lends g.S.Sealer.overhead g.S.Sealer.sealing g.S.Sealer.opening _ c.args.self.now c.index_mut.result.now c.from.result c.errand-errand.result.tree c.self.view_is c.self.invariant c.requires.waiting c.from.ensures c.errand-errand.ensures.tree c.index_mut.ensures.value in
-    gives_back g.S.Sealer.overhead _ c.args.self.now c.index_mut.result.now c.access_to-looked.new.self c.from.result c.errand-errand.result.tree c.self.view_is c.self.invariant c.requires.waiting c.from.ensures c.errand-errand.ensures.ranges.0 h.number c.access_to-looked.ensures.number c.access_to-looked.ensures.blocks
+    let h = lends g.S.Sealer.overhead g.S.Sealer.sealing g.S.Sealer.opening _ c.args.self.now c.index_mut.result.now c.from.result c.path_access-path_access.result.tree c.self.view_is c.self.invariant c.requires.waiting c.from.ensures c.path_access-path_access.ensures.tree c.index_mut.ensures.value in
+    gives_back g.S.Sealer.overhead _ c.args.self.now c.index_mut.result.now c.access_to-looked.new.self c.from.result c.path_access-path_access.result.tree c.self.view_is c.self.invariant c.requires.waiting c.from.ensures c.path_access-path_access.ensures.ranges.0 h.number c.access_to-looked.ensures.number c.access_to-looked.ensures.blocks
 
 pub invariant_of-self-in-Unreadable : goal.invariant_of-self-in-Unreadable
 invariant_of-self-in-Unreadable g c =
-    let h = lends g.S.Sealer.overhead g.S.Sealer.sealing g.S.Sealer.opening _ c.args.self.now c.index_mut.result.now c.from.result c.errand-errand.result.tree c.self.view_is c.self.invariant c.requires.waiting c.from.ensures c.errand-errand.ensures.tree c.index_mut.ensures.value in
-    gives_back g.S.Sealer.overhead _ c.args.self.now c.index_mut.result.now c.access_to-looked.new.self c.from.result c.errand-errand.result.tree c.self.view_is c.self.invariant c.requires.waiting c.from.ensures c.errand-errand.ensures.ranges.0 h.number c.access_to-looked.ensures.number c.access_to-looked.ensures.blocks
+    let h = lends g.S.Sealer.overhead g.S.Sealer.sealing g.S.Sealer.opening _ c.args.self.now c.index_mut.result.now c.from.result c.path_access-path_access.result.tree c.self.view_is c.self.invariant c.requires.waiting c.from.ensures c.path_access-path_access.ensures.tree c.index_mut.ensures.value in
+    gives_back g.S.Sealer.overhead _ c.args.self.now c.index_mut.result.now c.access_to-looked.new.self c.from.result c.path_access-path_access.result.tree c.self.view_is c.self.invariant c.requires.waiting c.from.ensures c.path_access-path_access.ensures.ranges.0 h.number c.access_to-looked.ensures.number c.access_to-looked.ensures.blocks
 
 pub returns-in-Ok-clause-moves : goal.returns-in-Ok-clause-moves
 returns-in-Ok-clause-moves g c = λ w fits on_path.
     let now = c.args.self.now in
-    let v = shape_of g.S.Sealer.overhead g.S.Sealer.sealing g.S.Sealer.opening now in
+    let v = scheme_of g.S.Sealer.overhead g.S.Sealer.sealing g.S.Sealer.opening now in
     let told = c.index_mut.result.now in
-    let h = lends g.S.Sealer.overhead g.S.Sealer.sealing g.S.Sealer.opening _ c.args.self.now c.index_mut.result.now c.from.result c.errand-errand.result.tree c.self.view_is c.self.invariant c.requires.waiting c.from.ensures c.errand-errand.ensures.tree c.index_mut.ensures.value in
+    let h = lends g.S.Sealer.overhead g.S.Sealer.sealing g.S.Sealer.opening _ c.args.self.now c.index_mut.result.now c.from.result c.path_access-path_access.result.tree c.self.view_is c.self.invariant c.requires.waiting c.from.ensures c.path_access-path_access.ensures.tree c.index_mut.ensures.value in
     let o : Waits now.state = waits now.state c.requires.waiting in
-    let i = stage_tree now.device now.state.stage in
+    let i = entry_tree now.device now.state.entry_number in
     let new = c.access_to-looked.new.self in
     let before = c.in-Ok.lookup.before.items in
     let records = c.in-Ok.ensures.appends.0 in
     let message = c.access_to-looked.new.out.items in
     let header = c.in_ok-message.message.items in
     let gained : message ≡ header ++ records = c.in-Ok.ensures.appends.1 in
-    let body : message ≡ store_body c.errand-errand.result.tree c.errand-errand.result.leaf records = gained ∙ c.in_ok-message.ensures.items records in
+    let body : message ≡ store_body c.path_access-path_access.result.tree c.path_access-path_access.result.leaf records = gained ∙ c.in_ok-message.ensures.items records in
     let found = c.in-Ok.lookup.found in
     let path = c.args.path.now in
     let why = reason.Tampered i 0 in
-    let does = subst (λ (u : CoreValue g.row.S.Denot). (x : Submission) (rest : List Submission) (records : List ℕ) → u.state.queue ≡ x ∷ rest → message ≡ store_body c.errand-errand.result.tree c.errand-errand.result.leaf records → done c.take_over.result c.take_over.new.self.state ≡ (let s' = record u.state { trees = slice_set u.state.trees c.from.result new } in if is_misled (shape_of g.S.Sealer.overhead g.S.Sealer.sealing g.S.Sealer.opening u) s' x found before then failed_by s' (reason.Tampered (stage_tree u.device u.state.stage) 0) else stored_by (shape_of g.S.Sealer.overhead g.S.Sealer.sealing g.S.Sealer.opening u) s' x before records)) c.self.view_is c.take_over.ensures.ok in
-    let does_at = subst (λ (k : ℕ). done c.take_over.result c.take_over.new.self.state ≡ (let s' = record now.state { trees = slice_set now.state.trees k new } in if is_misled v s' o.oldest found before then failed_by s' why else stored_by v s' o.oldest before records)) (c.from.ensures ∙ c.errand-errand.ensures.tree) (does o.oldest o.rest records o.queue body) in
-    let block : Cell = edited_block c.errand-errand.result.block c.errand-errand.result.new_leaf c.edit_for.result before in
+    let does = subst (λ (u : CoreValue g.row.S.Denot). (x : Submission) (rest : List Submission) (records : List ℕ) → u.state.queue ≡ x ∷ rest → message ≡ store_body c.path_access-path_access.result.tree c.path_access-path_access.result.leaf records → done c.adopt_access.result c.adopt_access.new.self.state ≡ (let s' = record u.state { trees = slice_set u.state.trees c.from.result new } in if is_misled (scheme_of g.S.Sealer.overhead g.S.Sealer.sealing g.S.Sealer.opening u) s' x found before then failed_by s' (reason.Tampered (entry_tree u.device u.state.entry_number) 0) else stored_by (scheme_of g.S.Sealer.overhead g.S.Sealer.sealing g.S.Sealer.opening u) s' x before records)) c.self.view_is c.adopt_access.ensures.ok in
+    let does_at = subst (λ (k : ℕ). done c.adopt_access.result c.adopt_access.new.self.state ≡ (let s' = record now.state { trees = slice_set now.state.trees k new } in if is_misled v s' o.oldest found before then failed_by s' why else stored_by v s' o.oldest before records)) (c.from.ensures ∙ c.path_access-path_access.ensures.tree) (does o.oldest o.rest records o.queue body) in
+    let block : Cell = edited_block c.path_access-path_access.result.block c.path_access-path_access.result.new_leaf c.edit_for.result before in
     let written : IsRewritten (Reads v.opening now.device told.number) v.sealing now.device now.state.nonce path told.stash (with_bytes path records) block new.stash =
     subst (λ (u : CoreValue g.row.S.Denot). IsRewritten (Reads (g.S.Sealer.opening u.sealer) u.device told.number) (g.S.Sealer.sealing u.sealer) u.device u.state.nonce path told.stash (with_bytes path records) block new.stash) c.self.view_is (c.in-Ok.ensures.written records gained) in
     let long : length records ≡ (depth_of now.device i + 1) * record_len v = c.in-Ok.ensures.whole records gained ∙ ap (λ (p : Path). (p.depth + 1) * p.record_len) c.requires.path in
     let x = o.oldest in
-    let tree = c.errand-errand.ensures.tree in
-    let ob = c.errand-errand.ensures.oldest o.oldest o.rest o.queue in
-    let at_block : c.errand-errand.result.block ≡ block_of now.device i x = ob.0 ∙ ap (λ (k : ℕ). block_of now.device k x) tree in
-    let at_leaf : c.errand-errand.result.new_leaf ≡ new_leaf now.device i x = ob.1 ∙ ap (λ (k : ℕ). new_leaf now.device k x) tree in
+    let tree = c.path_access-path_access.ensures.tree in
+    let ob = c.path_access-path_access.ensures.oldest o.oldest o.rest o.queue in
+    let at_block : c.path_access-path_access.result.block ≡ block_of now.device i x = ob.0 ∙ ap (λ (k : ℕ). block_of now.device k x) tree in
+    let at_leaf : c.path_access-path_access.result.new_leaf ≡ new_leaf now.device i x = ob.1 ∙ ap (λ (k : ℕ). new_leaf now.device k x) tree in
     let first : c.index.result.now ≡ x = subst (λ (u : CoreValue g.row.S.Denot). c.index.result.now ≡ slice_index_or u.state.queue 0 c.index.result.now) c.self.view_is c.index.ensures ∙ ap (λ q. slice_index_or q 0 c.index.result.now) o.queue in
     let content : edited_content c.edit_for.result before ≡ block_after now.device i x before =
-    subst (λ (u : CoreValue g.row.S.Denot). edited_content c.edit_for.result before ≡ block_after u.device c.errand-errand.result.tree c.index.result.now before) c.self.view_is (c.edit_for.ensures.block before)
+    subst (λ (u : CoreValue g.row.S.Denot). edited_content c.edit_for.result before ≡ block_after u.device c.path_access-path_access.result.tree c.index.result.now before) c.self.view_is (c.edit_for.ensures.block before)
     ∙ ap (λ (k : ℕ). block_after now.device k c.index.result.now before) tree ∙ ap (λ (y : Submission). block_after now.device i y before) first in
     let cell : Cell = record { address = block_of now.device i x; leaf = new_leaf now.device i x; content = block_after now.device i x before } in
     let same : block ≡ cell =
-    ap (λ (k : ℕ). let d : Cell = record { address = k; leaf = c.errand-errand.result.new_leaf; content = edited_content c.edit_for.result before } in d) at_block
+    ap (λ (k : ℕ). let d : Cell = record { address = k; leaf = c.path_access-path_access.result.new_leaf; content = edited_content c.edit_for.result before } in d) at_block
     ∙ ap (λ (k : ℕ). let d : Cell = record { address = block_of now.device i x; leaf = k; content = edited_content c.edit_for.result before } in d) at_leaf
     ∙ ap (λ (b : List ℕ). let d : Cell = record { address = block_of now.device i x; leaf = new_leaf now.device i x; content = b } in d) content in
-    let ready = ready_tree v now.state w told o h.sound c.requires.stage fits h.at in
-    let absent : IsAtOrAbsent (w.content i) c.errand-errand.result.block c.errand-errand.result.leaf =
-    subst (λ (k : ℕ). IsAtOrAbsent (w.content i) c.errand-errand.result.block k) (sym c.errand-errand.ensures.leaf)
-    (subst (λ (k : ℕ). IsAtOrAbsent (w.content i) k (asked now.state.last).leaf) (sym at_block) ready.at_leaf) in
-    let updates = subst (λ (u : CoreValue g.row.S.Denot). (rs : ℕ → List ℕ) (held : Map) → IsStoredWith (g.S.Sealer.opening u.sealer) (g.S.Sealer.overhead u.sealer) u.device told rs held → IsPathOf rs path → IsAtOrAbsent held c.errand-errand.result.block c.errand-errand.result.leaf
-    → MatchResult c.access_to-looked.result (λ a. (gained : List ℕ) → message ≡ header ++ gained → IsUpdate (g.S.Sealer.opening u.sealer) (g.S.Sealer.overhead u.sealer) u.device path (with_bytes path gained) rs held (edited_block c.errand-errand.result.block c.errand-errand.result.new_leaf c.edit_for.result a.before.items) a.found a.before.items new) (λ f. f ≡ fault.OutOfMemory)) c.self.view_is c.access_to-looked.ensures.updates in
-    let told_so = subst (λ r. MatchResult r (λ a. (gained : List ℕ) → message ≡ header ++ gained → IsUpdate v.opening v.overhead now.device path (with_bytes path gained) (w.records i) (w.content i) (edited_block c.errand-errand.result.block c.errand-errand.result.new_leaf c.edit_for.result a.before.items) a.found a.before.items new) (λ f. f ≡ fault.OutOfMemory)) c.in-Ok.is (updates (w.records i) (w.content i) ready.stored on_path absent) in
+    let ready = ready_tree v now.state w told o h.sound c.requires.entry_number fits h.at in
+    let absent : IsAtOrAbsent (w.content i) c.path_access-path_access.result.block c.path_access-path_access.result.leaf =
+    subst (λ (k : ℕ). IsAtOrAbsent (w.content i) c.path_access-path_access.result.block k) (sym c.path_access-path_access.ensures.leaf)
+    (subst (λ (k : ℕ). IsAtOrAbsent (w.content i) k (requested now.state.message).leaf) (sym at_block) ready.at_leaf) in
+    let updates = subst (λ (u : CoreValue g.row.S.Denot). (rs : ℕ → List ℕ) (held : Map) → IsStoredWith (g.S.Sealer.opening u.sealer) (g.S.Sealer.overhead u.sealer) u.device told rs held → IsPathOf rs path → IsAtOrAbsent held c.path_access-path_access.result.block c.path_access-path_access.result.leaf
+    → MatchResult c.access_to-looked.result (λ a. (gained : List ℕ) → message ≡ header ++ gained → IsUpdate (g.S.Sealer.opening u.sealer) (g.S.Sealer.overhead u.sealer) u.device path (with_bytes path gained) rs held (edited_block c.path_access-path_access.result.block c.path_access-path_access.result.new_leaf c.edit_for.result a.before.items) a.found a.before.items new) (λ f. f ≡ fault.OutOfMemory)) c.self.view_is c.access_to-looked.ensures.updates in
+    let told_so = subst (λ r. MatchResult r (λ a. (gained : List ℕ) → message ≡ header ++ gained → IsUpdate v.opening v.overhead now.device path (with_bytes path gained) (w.records i) (w.content i) (edited_block c.path_access-path_access.result.block c.path_access-path_access.result.new_leaf c.edit_for.result a.before.items) a.found a.before.items new) (λ f. f ≡ fault.OutOfMemory)) c.in-Ok.is (updates (w.records i) (w.content i) ready.stored on_path absent) in
     let update : IsUpdate v.opening v.overhead now.device path (with_bytes path records) (w.records i) (w.content i) cell found before new =
     subst (λ (d : Cell). IsUpdate v.opening v.overhead now.device path (with_bytes path records) (w.records i) (w.content i) d found before new) same (told_so records gained) in
     let made : IsRewritten (Reads v.opening now.device told.number) v.sealing now.device now.state.nonce path told.stash (with_bytes path records) cell new.stash =
     subst (λ (d : Cell). IsRewritten (Reads v.opening now.device told.number) v.sealing now.device now.state.nonce path told.stash (with_bytes path records) d new.stash) same written in
-    access_moves v now.state w told new path found before records why c.take_over.result c.take_over.new.self.state o h.sound c.requires.stage fits h.at c.requires.path long c.access_to-looked.ensures.number update made does_at
+    access_moves v now.state w told new path found before records why c.adopt_access.result c.adopt_access.new.self.state o h.sound c.requires.entry_number fits h.at c.requires.path long c.access_to-looked.ensures.number update made does_at
 
 pub returns-in-Unreadable-clause-moves : goal.returns-in-Unreadable-clause-moves
 returns-in-Unreadable-clause-moves g c = λ w fits on_path.
     let now = c.args.self.now in
-    let v = shape_of g.S.Sealer.overhead g.S.Sealer.sealing g.S.Sealer.opening now in
+    let v = scheme_of g.S.Sealer.overhead g.S.Sealer.sealing g.S.Sealer.opening now in
     let told = c.index_mut.result.now in
-    let h = lends g.S.Sealer.overhead g.S.Sealer.sealing g.S.Sealer.opening _ c.args.self.now c.index_mut.result.now c.from.result c.errand-errand.result.tree c.self.view_is c.self.invariant c.requires.waiting c.from.ensures c.errand-errand.ensures.tree c.index_mut.ensures.value in
+    let h = lends g.S.Sealer.overhead g.S.Sealer.sealing g.S.Sealer.opening _ c.args.self.now c.index_mut.result.now c.from.result c.path_access-path_access.result.tree c.self.view_is c.self.invariant c.requires.waiting c.from.ensures c.path_access-path_access.ensures.tree c.index_mut.ensures.value in
     let o : Waits now.state = waits now.state c.requires.waiting in
-    let i = stage_tree now.device now.state.stage in
+    let i = entry_tree now.device now.state.entry_number in
     let new = c.access_to-looked.new.self in
     let message = c.access_to-looked.new.out.items in
     let header = c.in_ok-message.message.items in
     let path = c.args.path.now in
     let x = o.oldest in
-    let tree = c.errand-errand.ensures.tree in
-    let ob = c.errand-errand.ensures.oldest o.oldest o.rest o.queue in
-    let at_block : c.errand-errand.result.block ≡ block_of now.device i x = ob.0 ∙ ap (λ (k : ℕ). block_of now.device k x) tree in
-    let ready = ready_tree v now.state w told o h.sound c.requires.stage fits h.at in
-    let absent : IsAtOrAbsent (w.content i) c.errand-errand.result.block c.errand-errand.result.leaf =
-    subst (λ (k : ℕ). IsAtOrAbsent (w.content i) c.errand-errand.result.block k) (sym c.errand-errand.ensures.leaf)
-    (subst (λ (k : ℕ). IsAtOrAbsent (w.content i) k (asked now.state.last).leaf) (sym at_block) ready.at_leaf) in
-    let updates = subst (λ (u : CoreValue g.row.S.Denot). (rs : ℕ → List ℕ) (held : Map) → IsStoredWith (g.S.Sealer.opening u.sealer) (g.S.Sealer.overhead u.sealer) u.device told rs held → IsPathOf rs path → IsAtOrAbsent held c.errand-errand.result.block c.errand-errand.result.leaf
-    → MatchResult c.access_to-looked.result (λ a. (gained : List ℕ) → message ≡ header ++ gained → IsUpdate (g.S.Sealer.opening u.sealer) (g.S.Sealer.overhead u.sealer) u.device path (with_bytes path gained) rs held (edited_block c.errand-errand.result.block c.errand-errand.result.new_leaf c.edit_for.result a.before.items) a.found a.before.items new) (λ f. f ≡ fault.OutOfMemory)) c.self.view_is c.access_to-looked.ensures.updates in
-    let told_so = subst (λ r. MatchResult r (λ a. (gained : List ℕ) → message ≡ header ++ gained → IsUpdate v.opening v.overhead now.device path (with_bytes path gained) (w.records i) (w.content i) (edited_block c.errand-errand.result.block c.errand-errand.result.new_leaf c.edit_for.result a.before.items) a.found a.before.items new) (λ f. f ≡ fault.OutOfMemory)) (c.in-Err.is ∙ ap Err c.in-Unreadable.is) (updates (w.records i) (w.content i) ready.stored on_path absent) in
+    let tree = c.path_access-path_access.ensures.tree in
+    let ob = c.path_access-path_access.ensures.oldest o.oldest o.rest o.queue in
+    let at_block : c.path_access-path_access.result.block ≡ block_of now.device i x = ob.0 ∙ ap (λ (k : ℕ). block_of now.device k x) tree in
+    let ready = ready_tree v now.state w told o h.sound c.requires.entry_number fits h.at in
+    let absent : IsAtOrAbsent (w.content i) c.path_access-path_access.result.block c.path_access-path_access.result.leaf =
+    subst (λ (k : ℕ). IsAtOrAbsent (w.content i) c.path_access-path_access.result.block k) (sym c.path_access-path_access.ensures.leaf)
+    (subst (λ (k : ℕ). IsAtOrAbsent (w.content i) k (requested now.state.message).leaf) (sym at_block) ready.at_leaf) in
+    let updates = subst (λ (u : CoreValue g.row.S.Denot). (rs : ℕ → List ℕ) (held : Map) → IsStoredWith (g.S.Sealer.opening u.sealer) (g.S.Sealer.overhead u.sealer) u.device told rs held → IsPathOf rs path → IsAtOrAbsent held c.path_access-path_access.result.block c.path_access-path_access.result.leaf
+    → MatchResult c.access_to-looked.result (λ a. (gained : List ℕ) → message ≡ header ++ gained → IsUpdate (g.S.Sealer.opening u.sealer) (g.S.Sealer.overhead u.sealer) u.device path (with_bytes path gained) rs held (edited_block c.path_access-path_access.result.block c.path_access-path_access.result.new_leaf c.edit_for.result a.before.items) a.found a.before.items new) (λ f. f ≡ fault.OutOfMemory)) c.self.view_is c.access_to-looked.ensures.updates in
+    let told_so = subst (λ r. MatchResult r (λ a. (gained : List ℕ) → message ≡ header ++ gained → IsUpdate v.opening v.overhead now.device path (with_bytes path gained) (w.records i) (w.content i) (edited_block c.path_access-path_access.result.block c.path_access-path_access.result.new_leaf c.edit_for.result a.before.items) a.found a.before.items new) (λ f. f ≡ fault.OutOfMemory)) (c.in-Err.is ∙ ap Err c.in-Unreadable.is) (updates (w.records i) (w.content i) ready.stored on_path absent) in
     absurd (let no_way : fault.Unreadable ≡ fault.OutOfMemory = told_so in cc)
 
 pub returns-in-Ok-clause-heard : goal.returns-in-Ok-clause-heard
 returns-in-Ok-clause-heard g c =
     let now = c.args.self.now in
-    let v = shape_of g.S.Sealer.overhead g.S.Sealer.sealing g.S.Sealer.opening now in
+    let v = scheme_of g.S.Sealer.overhead g.S.Sealer.sealing g.S.Sealer.opening now in
     let sound : IsSound v.device v.overhead now.state = subst (λ (u : CoreValue g.row.S.Denot). IsSound u.device (g.S.Sealer.overhead u.sealer) u.state) c.self.view_is c.self.invariant in
     let o : Waits now.state = waits now.state c.requires.waiting in
     let new = c.access_to-looked.new.self in
     let before = c.in-Ok.lookup.before.items in
     let records = c.in-Ok.ensures.appends.0 in
     let message = c.access_to-looked.new.out.items in
-    let body : message ≡ store_body c.errand-errand.result.tree c.errand-errand.result.leaf records = c.in-Ok.ensures.appends.1 ∙ c.in_ok-message.ensures.items records in
-    let does = subst (λ (u : CoreValue g.row.S.Denot). (x : Submission) (rest : List Submission) (records : List ℕ) → u.state.queue ≡ x ∷ rest → message ≡ store_body c.errand-errand.result.tree c.errand-errand.result.leaf records → done c.take_over.result c.take_over.new.self.state ≡ (let after = record u.state { trees = slice_set u.state.trees c.from.result new } in if is_misled (shape_of g.S.Sealer.overhead g.S.Sealer.sealing g.S.Sealer.opening u) after x c.in-Ok.lookup.found before then failed_by after (reason.Tampered (stage_tree u.device u.state.stage) 0) else stored_by (shape_of g.S.Sealer.overhead g.S.Sealer.sealing g.S.Sealer.opening u) after x before records)) c.self.view_is c.take_over.ensures.ok in
+    let body : message ≡ store_body c.path_access-path_access.result.tree c.path_access-path_access.result.leaf records = c.in-Ok.ensures.appends.1 ∙ c.in_ok-message.ensures.items records in
+    let does = subst (λ (u : CoreValue g.row.S.Denot). (x : Submission) (rest : List Submission) (records : List ℕ) → u.state.queue ≡ x ∷ rest → message ≡ store_body c.path_access-path_access.result.tree c.path_access-path_access.result.leaf records → done c.adopt_access.result c.adopt_access.new.self.state ≡ (let after = record u.state { trees = slice_set u.state.trees c.from.result new } in if is_misled (scheme_of g.S.Sealer.overhead g.S.Sealer.sealing g.S.Sealer.opening u) after x c.in-Ok.lookup.found before then failed_by after (reason.Tampered (entry_tree u.device u.state.entry_number) 0) else stored_by (scheme_of g.S.Sealer.overhead g.S.Sealer.sealing g.S.Sealer.opening u) after x before records)) c.self.view_is c.adopt_access.ensures.ok in
     subst (Heard v now.state) (sym (does o.oldest o.rest records o.queue body))
-    (taken_heard v now.state (slice_set now.state.trees c.from.result new) o.oldest c.in-Ok.lookup.found before records (reason.Tampered (stage_tree now.device now.state.stage) 0) c.requires.waiting c.requires.stage (stage_within v.device v.overhead now.state sound))
+    (taken_heard v now.state (slice_set now.state.trees c.from.result new) o.oldest c.in-Ok.lookup.found before records (reason.Tampered (entry_tree now.device now.state.entry_number) 0) c.requires.waiting c.requires.entry_number (stage_within v.device v.overhead now.state sound))
 
 pub returns-in-Unreadable-clause-heard : goal.returns-in-Unreadable-clause-heard
 returns-in-Unreadable-clause-heard g c =
     let now = c.args.self.now in
-    let v = shape_of g.S.Sealer.overhead g.S.Sealer.sealing g.S.Sealer.opening now in
+    let v = scheme_of g.S.Sealer.overhead g.S.Sealer.sealing g.S.Sealer.opening now in
     let new = c.access_to-looked.new.self in
-    let e = reason.Tampered c.errand-errand.result.tree 0 in
+    let e = reason.Tampered c.path_access-path_access.result.tree 0 in
     let does = subst (λ (u : CoreValue g.row.S.Denot). done c.fail.result c.fail.new.self.state ≡ failed_by (record u.state { trees = slice_set u.state.trees c.from.result new }) e) c.self.view_is c.fail.ensures.ok in
     subst (Heard v now.state) (sym does) (failed_heard v now.state (record now.state { trees = slice_set now.state.trees c.from.result new }) e refl refl refl)
 
 pub returns-in-Ok-clause-uses : goal.returns-in-Ok-clause-uses
 returns-in-Ok-clause-uses g c =
     let now = c.args.self.now in
-    let v = shape_of g.S.Sealer.overhead g.S.Sealer.sealing g.S.Sealer.opening now in
+    let v = scheme_of g.S.Sealer.overhead g.S.Sealer.sealing g.S.Sealer.opening now in
     let told = c.index_mut.result.now in
-    let h = lends g.S.Sealer.overhead g.S.Sealer.sealing g.S.Sealer.opening _ c.args.self.now c.index_mut.result.now c.from.result c.errand-errand.result.tree c.self.view_is c.self.invariant c.requires.waiting c.from.ensures c.errand-errand.ensures.tree c.index_mut.ensures.value in
+    let h = lends g.S.Sealer.overhead g.S.Sealer.sealing g.S.Sealer.opening _ c.args.self.now c.index_mut.result.now c.from.result c.path_access-path_access.result.tree c.self.view_is c.self.invariant c.requires.waiting c.from.ensures c.path_access-path_access.ensures.tree c.index_mut.ensures.value in
     let o : Waits now.state = waits now.state c.requires.waiting in
-    let i = stage_tree now.device now.state.stage in
+    let i = entry_tree now.device now.state.entry_number in
     let new = c.access_to-looked.new.self in
     let before = c.in-Ok.lookup.before.items in
     let found = c.in-Ok.lookup.found in
     let records = c.in-Ok.ensures.appends.0 in
     let message = c.access_to-looked.new.out.items in
-    let body : message ≡ store_body c.errand-errand.result.tree c.errand-errand.result.leaf records = c.in-Ok.ensures.appends.1 ∙ c.in_ok-message.ensures.items records in
+    let body : message ≡ store_body c.path_access-path_access.result.tree c.path_access-path_access.result.leaf records = c.in-Ok.ensures.appends.1 ∙ c.in_ok-message.ensures.items records in
     let path = c.args.path.now in
     let readable = subst (λ (u : CoreValue g.row.S.Denot). OnOk c.access_to-looked.result (IsReadable (Reads (g.S.Sealer.opening u.sealer) u.device told.number) path told.stash)) c.self.view_is c.access_to-looked.ensures.readable in
     let read : IsReadable (Reads v.opening now.device told.number) path told.stash = subst (λ r. OnOk r (IsReadable (Reads v.opening now.device told.number) path told.stash)) c.in-Ok.is readable in
-    let looked = subst (λ (u : CoreValue g.row.S.Denot). IsLookup (IsNear (Reads (g.S.Sealer.opening u.sealer) u.device told.number) path told.stash) u.device.block_bytes c.errand-errand.result.block found before) c.self.view_is c.in-Ok.ensures.lookup in
-    let ob = c.errand-errand.ensures.oldest o.oldest o.rest o.queue in
-    let at_block : c.errand-errand.result.block ≡ block_of now.device i o.oldest = ob.0 ∙ ap (λ (k : ℕ). block_of now.device k o.oldest) c.errand-errand.ensures.tree in
-    let does = subst (λ (u : CoreValue g.row.S.Denot). (x : Submission) (rest : List Submission) (records : List ℕ) → u.state.queue ≡ x ∷ rest → message ≡ store_body c.errand-errand.result.tree c.errand-errand.result.leaf records → done c.take_over.result c.take_over.new.self.state ≡ (let after = record u.state { trees = slice_set u.state.trees c.from.result new } in if is_misled (shape_of g.S.Sealer.overhead g.S.Sealer.sealing g.S.Sealer.opening u) after x found before then failed_by after (reason.Tampered (stage_tree u.device u.state.stage) 0) else stored_by (shape_of g.S.Sealer.overhead g.S.Sealer.sealing g.S.Sealer.opening u) after x before records)) c.self.view_is c.take_over.ensures.ok in
-    access_used v now.state (slice_set now.state.trees c.from.result new) o.oldest o.rest path found before records c.take_over.result c.take_over.new.self.state o.queue
+    let looked = subst (λ (u : CoreValue g.row.S.Denot). IsLookup (IsNear (Reads (g.S.Sealer.opening u.sealer) u.device told.number) path told.stash) u.device.block_bytes c.path_access-path_access.result.block found before) c.self.view_is c.in-Ok.ensures.lookup in
+    let ob = c.path_access-path_access.ensures.oldest o.oldest o.rest o.queue in
+    let at_block : c.path_access-path_access.result.block ≡ block_of now.device i o.oldest = ob.0 ∙ ap (λ (k : ℕ). block_of now.device k o.oldest) c.path_access-path_access.ensures.tree in
+    let does = subst (λ (u : CoreValue g.row.S.Denot). (x : Submission) (rest : List Submission) (records : List ℕ) → u.state.queue ≡ x ∷ rest → message ≡ store_body c.path_access-path_access.result.tree c.path_access-path_access.result.leaf records → done c.adopt_access.result c.adopt_access.new.self.state ≡ (let after = record u.state { trees = slice_set u.state.trees c.from.result new } in if is_misled (scheme_of g.S.Sealer.overhead g.S.Sealer.sealing g.S.Sealer.opening u) after x found before then failed_by after (reason.Tampered (entry_tree u.device u.state.entry_number) 0) else stored_by (scheme_of g.S.Sealer.overhead g.S.Sealer.sealing g.S.Sealer.opening u) after x before records)) c.self.view_is c.adopt_access.ensures.ok in
+    access_used v now.state (slice_set now.state.trees c.from.result new) o.oldest o.rest path found before records c.adopt_access.result c.adopt_access.new.self.state o.queue
     (readable_now v now.state told path h.at read)
-    (looked_now v now.state told path c.errand-errand.result.block o.oldest found before h.at at_block looked)
+    (looked_now v now.state told path c.path_access-path_access.result.block o.oldest found before h.at at_block looked)
     (does o.oldest o.rest records o.queue body)
 
 pub returns-in-Unreadable-clause-uses : goal.returns-in-Unreadable-clause-uses
 returns-in-Unreadable-clause-uses g c =
     let now = c.args.self.now in
-    let v = shape_of g.S.Sealer.overhead g.S.Sealer.sealing g.S.Sealer.opening now in
+    let v = scheme_of g.S.Sealer.overhead g.S.Sealer.sealing g.S.Sealer.opening now in
     let told = c.index_mut.result.now in
-    let h = lends g.S.Sealer.overhead g.S.Sealer.sealing g.S.Sealer.opening _ c.args.self.now c.index_mut.result.now c.from.result c.errand-errand.result.tree c.self.view_is c.self.invariant c.requires.waiting c.from.ensures c.errand-errand.ensures.tree c.index_mut.ensures.value in
+    let h = lends g.S.Sealer.overhead g.S.Sealer.sealing g.S.Sealer.opening _ c.args.self.now c.index_mut.result.now c.from.result c.path_access-path_access.result.tree c.self.view_is c.self.invariant c.requires.waiting c.from.ensures c.path_access-path_access.ensures.tree c.index_mut.ensures.value in
     let new = c.access_to-looked.new.self in
     let path = c.args.path.now in
-    let e = reason.Tampered c.errand-errand.result.tree 0 in
+    let e = reason.Tampered c.path_access-path_access.result.tree 0 in
     let unreadable = subst (λ (u : CoreValue g.row.S.Denot). c.access_to-looked.result ≡ Err fault.Unreadable → ¬ IsReadable (Reads (g.S.Sealer.opening u.sealer) u.device told.number) path told.stash) c.self.view_is c.access_to-looked.ensures.unreadable in
     let does = subst (λ (u : CoreValue g.row.S.Denot). done c.fail.result c.fail.new.self.state ≡ failed_by (record u.state { trees = slice_set u.state.trees c.from.result new }) e) c.self.view_is c.fail.ensures.ok in
-    unreadable_used v now.state (record now.state { trees = slice_set now.state.trees c.from.result new }) c.fail.new.self.state c.errand-errand.result.tree path c.fail.result c.errand-errand.ensures.tree
+    unreadable_used v now.state (record now.state { trees = slice_set now.state.trees c.from.result new }) c.fail.new.self.state c.path_access-path_access.result.tree path c.fail.result c.path_access-path_access.ensures.tree
     (λ so. unreadable (c.in-Err.is ∙ ap Err c.in-Unreadable.is) (readable_told v now.state told path h.at so)) does
 
-pub errand-errand-requires : goal.errand-errand-requires
-errand-errand-requires g c = c.requires.waiting
+pub path_access-path_access-requires : goal.path_access-path_access-requires
+path_access-path_access-requires g c = c.requires.waiting
 
 pub depth-requires : goal.depth-requires
-depth-requires g c = subst (λ (u : CoreValue g.row.S.Denot). c.errand-errand.result.tree < trees_of u.device) (sym c.self.view_is) c.errand-errand.ensures.ranges.0
+depth-requires g c = subst (λ (u : CoreValue g.row.S.Denot). c.path_access-path_access.result.tree < trees_of u.device) (sym c.self.view_is) c.path_access-path_access.ensures.ranges.0
 
 pub overflow_add-levels : goal.overflow_add-levels
 overflow_add-levels g c = record { fits = levels_fit _ _ c.from-levels.ensures c.depth.ensures.range }
@@ -273,30 +273,30 @@ pub returns-in_err-message-clause-err : goal.returns-in_err-message-clause-err
 returns-in_err-message-clause-err g c = on_err _ c.from_residual-in_err-message.result refl
 
 pub edit_for-requires-clause-tree : goal.edit_for-requires-clause-tree
-edit_for-requires-clause-tree g c = subst (λ (u : CoreValue g.row.S.Denot). c.errand-errand.result.tree < trees_of u.device) (sym c.self.view_is) c.errand-errand.ensures.ranges.0
+edit_for-requires-clause-tree g c = subst (λ (u : CoreValue g.row.S.Denot). c.path_access-path_access.result.tree < trees_of u.device) (sym c.self.view_is) c.path_access-path_access.ensures.ranges.0
 
-pub take_over-requires-clause-waiting : goal.take_over-requires-clause-waiting
-take_over-requires-clause-waiting g c = subst (λ (u : CoreValue g.row.S.Denot). status_in u.state ≡ Waiting) (sym c.self.view_is) c.requires.waiting
+pub adopt_access-requires-clause-waiting : goal.adopt_access-requires-clause-waiting
+adopt_access-requires-clause-waiting g c = subst (λ (u : CoreValue g.row.S.Denot). status_in u.state ≡ Waiting) (sym c.self.view_is) c.requires.waiting
 
-pub take_over-requires-clause-stage : goal.take_over-requires-clause-stage
-take_over-requires-clause-stage g c = subst (λ (u : CoreValue g.row.S.Denot). u.state.stage % 2 ≡ 0) (sym c.self.view_is) c.requires.stage
+pub adopt_access-requires-clause-entry_number : goal.adopt_access-requires-clause-entry_number
+adopt_access-requires-clause-entry_number g c = subst (λ (u : CoreValue g.row.S.Denot). u.state.entry_number % 2 ≡ 0) (sym c.self.view_is) c.requires.entry_number
 
-pub take_over-requires-clause-tree : goal.take_over-requires-clause-tree
-take_over-requires-clause-tree g c = subst (λ (u : CoreValue g.row.S.Denot). c.errand-errand.result.tree ≡ stage_tree u.device u.state.stage) (sym c.self.view_is) c.errand-errand.ensures.tree
+pub adopt_access-requires-clause-tree : goal.adopt_access-requires-clause-tree
+adopt_access-requires-clause-tree g c = subst (λ (u : CoreValue g.row.S.Denot). c.path_access-path_access.result.tree ≡ entry_tree u.device u.state.entry_number) (sym c.self.view_is) c.path_access-path_access.ensures.tree
 
-pub take_over-requires-clause-leaf : goal.take_over-requires-clause-leaf
-take_over-requires-clause-leaf g c = subst (λ (u : CoreValue g.row.S.Denot). c.errand-errand.result.leaf ≡ (asked u.state.last).leaf) (sym c.self.view_is) c.errand-errand.ensures.leaf
+pub adopt_access-requires-clause-leaf : goal.adopt_access-requires-clause-leaf
+adopt_access-requires-clause-leaf g c = subst (λ (u : CoreValue g.row.S.Denot). c.path_access-path_access.result.leaf ≡ (requested u.state.message).leaf) (sym c.self.view_is) c.path_access-path_access.ensures.leaf
 
-pub take_over-requires-clause-ranges : goal.take_over-requires-clause-ranges
-take_over-requires-clause-ranges g c = subst (λ (u : CoreValue g.row.S.Denot). (c.errand-errand.result.tree < trees_of u.device) × (c.errand-errand.result.block < blocks_in u.device c.errand-errand.result.tree) × (c.errand-errand.result.leaf < 2 ^ depth_of u.device c.errand-errand.result.tree) × (c.errand-errand.result.new_leaf < 2 ^ depth_of u.device c.errand-errand.result.tree)) (sym c.self.view_is) c.errand-errand.ensures.ranges
+pub adopt_access-requires-clause-ranges : goal.adopt_access-requires-clause-ranges
+adopt_access-requires-clause-ranges g c = subst (λ (u : CoreValue g.row.S.Denot). (c.path_access-path_access.result.tree < trees_of u.device) × (c.path_access-path_access.result.block < blocks_in u.device c.path_access-path_access.result.tree) × (c.path_access-path_access.result.leaf < 2 ^ depth_of u.device c.path_access-path_access.result.tree) × (c.path_access-path_access.result.new_leaf < 2 ^ depth_of u.device c.path_access-path_access.result.tree)) (sym c.self.view_is) c.path_access-path_access.ensures.ranges
 
 pub invariant_of-self-in-Err : goal.invariant_of-self-in-Err
 invariant_of-self-in-Err g c =
-    let h = lends g.S.Sealer.overhead g.S.Sealer.sealing g.S.Sealer.opening _ c.args.self.now c.index_mut.result.now c.from.result c.errand-errand.result.tree c.self.view_is c.self.invariant c.requires.waiting c.from.ensures c.errand-errand.ensures.tree c.index_mut.ensures.value in
-    gives_back g.S.Sealer.overhead _ c.args.self.now c.index_mut.result.now c.access_to-looked.new.self c.from.result c.errand-errand.result.tree c.self.view_is c.self.invariant c.requires.waiting c.from.ensures c.errand-errand.ensures.ranges.0 h.number c.access_to-looked.ensures.number c.access_to-looked.ensures.blocks
+    let h = lends g.S.Sealer.overhead g.S.Sealer.sealing g.S.Sealer.opening _ c.args.self.now c.index_mut.result.now c.from.result c.path_access-path_access.result.tree c.self.view_is c.self.invariant c.requires.waiting c.from.ensures c.path_access-path_access.ensures.tree c.index_mut.ensures.value in
+    gives_back g.S.Sealer.overhead _ c.args.self.now c.index_mut.result.now c.access_to-looked.new.self c.from.result c.path_access-path_access.result.tree c.self.view_is c.self.invariant c.requires.waiting c.from.ensures c.path_access-path_access.ensures.ranges.0 h.number c.access_to-looked.ensures.number c.access_to-looked.ensures.blocks
 
 pub returns-in-Ok-clause-kept : goal.returns-in-Ok-clause-kept
-returns-in-Ok-clause-kept g c = (c.take_over.ensures.kept.0 ∙ ap (λ (u : CoreValue g.row.S.Denot). u.device) c.self.view_is, c.take_over.ensures.kept.1 ∙ ap (λ (u : CoreValue g.row.S.Denot). u.sealer) c.self.view_is)
+returns-in-Ok-clause-kept g c = (c.adopt_access.ensures.kept.0 ∙ ap (λ (u : CoreValue g.row.S.Denot). u.device) c.self.view_is, c.adopt_access.ensures.kept.1 ∙ ap (λ (u : CoreValue g.row.S.Denot). u.sealer) c.self.view_is)
 
 pub returns-in-Unreadable-clause-kept : goal.returns-in-Unreadable-clause-kept
 returns-in-Unreadable-clause-kept g c = (c.fail.ensures.kept.0 ∙ ap (λ (u : CoreValue g.row.S.Denot). u.device) c.self.view_is, c.fail.ensures.kept.1 ∙ ap (λ (u : CoreValue g.row.S.Denot). u.sealer) c.self.view_is)
@@ -305,14 +305,14 @@ pub returns-in-OutOfMemory-clause-kept : goal.returns-in-OutOfMemory-clause-kept
 returns-in-OutOfMemory-clause-kept g c = (ap (λ (u : CoreValue g.row.S.Denot). u.device) c.self.view_is, ap (λ (u : CoreValue g.row.S.Denot). u.sealer) c.self.view_is)
 
 pub index_mut-requires : goal.index_mut-requires
-index_mut-requires g c = lent_within g.S.Sealer.overhead _ c.args.self.now c.from.result c.errand-errand.result.tree _ c.self.view_is c.self.invariant c.requires.waiting c.from.ensures c.errand-errand.ensures.ranges.0 c.self.inside.trees.ok.0
+index_mut-requires g c = lent_within g.S.Sealer.overhead _ c.args.self.now c.from.result c.path_access-path_access.result.tree _ c.self.view_is c.self.invariant c.requires.waiting c.from.ensures c.path_access-path_access.ensures.ranges.0 c.self.inside.trees.ok.0
 
 pub access_to-looked-requires-clause-number : goal.access_to-looked-requires-clause-number
 access_to-looked-requires-clause-number g c =
-    let h = lends g.S.Sealer.overhead g.S.Sealer.sealing g.S.Sealer.opening _ c.args.self.now c.index_mut.result.now c.from.result c.errand-errand.result.tree c.self.view_is c.self.invariant c.requires.waiting c.from.ensures c.errand-errand.ensures.tree c.index_mut.ensures.value in
-    subst (λ (u : CoreValue g.row.S.Denot). c.index_mut.result.now.number < trees_of u.device) (sym c.self.view_is) (rw h.number c.errand-errand.ensures.ranges.0)
+    let h = lends g.S.Sealer.overhead g.S.Sealer.sealing g.S.Sealer.opening _ c.args.self.now c.index_mut.result.now c.from.result c.path_access-path_access.result.tree c.self.view_is c.self.invariant c.requires.waiting c.from.ensures c.path_access-path_access.ensures.tree c.index_mut.ensures.value in
+    subst (λ (u : CoreValue g.row.S.Denot). c.index_mut.result.now.number < trees_of u.device) (sym c.self.view_is) (rw h.number c.path_access-path_access.ensures.ranges.0)
 
 pub access_to-looked-requires-clause-address : goal.access_to-looked-requires-clause-address
 access_to-looked-requires-clause-address g c =
-    let h = lends g.S.Sealer.overhead g.S.Sealer.sealing g.S.Sealer.opening _ c.args.self.now c.index_mut.result.now c.from.result c.errand-errand.result.tree c.self.view_is c.self.invariant c.requires.waiting c.from.ensures c.errand-errand.ensures.tree c.index_mut.ensures.value in
-    subst (λ (u : CoreValue g.row.S.Denot). c.errand-errand.result.block < blocks_in u.device c.index_mut.result.now.number) (sym c.self.view_is) (rw h.number c.errand-errand.ensures.ranges.1)
+    let h = lends g.S.Sealer.overhead g.S.Sealer.sealing g.S.Sealer.opening _ c.args.self.now c.index_mut.result.now c.from.result c.path_access-path_access.result.tree c.self.view_is c.self.invariant c.requires.waiting c.from.ensures c.path_access-path_access.ensures.tree c.index_mut.ensures.value in
+    subst (λ (u : CoreValue g.row.S.Denot). c.path_access-path_access.result.block < blocks_in u.device c.index_mut.result.now.number) (sym c.self.view_is) (rw h.number c.path_access-path_access.ensures.ranges.1)

@@ -3,7 +3,7 @@ use Rattle.std.proofs.lemmas.Nat.{pow-add}
 use Rattle.std.proofs.Math.Nat.{pow-le-pow_right}
 use Rattle.oram_geometry.specs.Sizes.{depth_of}
 use Rattle.oram_tree.specs.Content.{node_count}
-use Rattle.oram_run.proofs.NoncesApart.{formatted_small}
+use Rattle.oram_semantics.proofs.NoncesApart.{formatted_small}
 use Rattle.oram_core.proofs.Made.{below_none, below_next}
 use Rattle.oram_core.proofs.parts.fitting.formatted.Goals as goal
 

@@ -1,5 +1,5 @@
 use Rattle.std.proofs.Common.{◌≡◌}
-use Rattle.oram_run.specs.Nonces.{formatted_below}
+use Rattle.oram_semantics.specs.Nonces.{formatted_below}
 use Rattle.oram_core.proofs.parts.fitting.formatted.Given as goal
 
 abbrev pub invariant-loop-tree : goal.invariant-loop-tree

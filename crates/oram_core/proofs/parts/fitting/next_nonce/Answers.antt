@@ -1,9 +1,9 @@
 use Rattle.std.proofs.Common.{◌≡◌, ◌+◌, ◌-◌, ◌*◌, ◌/◌, ◌^◌, ◌≤◌, ap, ◌∙◌, arith}
 use Rattle.std.proofs.Math.Nat.{mul-le-mul}
 use Rattle.oram_geometry.specs.Sizes.{trees_of}
-use Rattle.oram_run.specs.Nonces.{formatted, buckets_below}
-use Rattle.oram_run.proofs.Nonces.{no_buckets}
-use Rattle.oram_run.proofs.NoncesApart.{formatted_small}
+use Rattle.oram_semantics.specs.Nonces.{formatted, buckets_below}
+use Rattle.oram_semantics.proofs.Nonces.{no_buckets}
+use Rattle.oram_semantics.proofs.NoncesApart.{formatted_small}
 use Rattle.oram_core.proofs.Sound.{buckets_small}
 use Rattle.oram_core.proofs.parts.fitting.next_nonce.Goals as goal
 
@@ -33,4 +33,4 @@ pub returns : goal.returns
 returns c =
     let d = c.args.device.now in
     let all : c.path_buckets.result ≡ buckets_below d (trees_of d) = c.path_buckets.ensures ∙ ap (λ (k : _). buckets_below d (trees_of d) - k) (no_buckets d) ∙ omega arith in
-    rw (c.formatted.ensures, all) (ap (λ (k : _). formatted d + c.args.answered * buckets_below d (trees_of d) + k) (c.path_buckets-2.ensures ∙ ap (λ (k : _). buckets_below d (trees_of d) - buckets_below d (k - (c.args.stage + 1) / 2)) c.trees.ensures.count))
+    rw (c.formatted.ensures, all) (ap (λ (k : _). formatted d + c.args.answered * buckets_below d (trees_of d) + k) (c.path_buckets-2.ensures ∙ ap (λ (k : _). buckets_below d (trees_of d) - buckets_below d (k - (c.args.entry_number + 1) / 2)) c.trees.ensures.count))

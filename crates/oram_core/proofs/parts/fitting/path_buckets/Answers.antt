@@ -1,5 +1,5 @@
 use Rattle.std.proofs.Common.{◌+◌, ◌≤◌, refl, arith}
-use Rattle.oram_run.proofs.Nonces.{one_more, rises_to}
+use Rattle.oram_semantics.proofs.Nonces.{one_more, rises_to}
 use Rattle.oram_core.proofs.Sound.{buckets_small}
 use Rattle.oram_core.proofs.parts.fitting.path_buckets.Goals as goal
 

@@ -2,4 +2,4 @@ use Rattle.oram_redo.proofs.Recorded.{elapses_to}
 use Rattle.oram_redo.proofs.system.SystemPairFilePair.read_onto.Goals as goal
 
 pub returns-clause-time : goal.returns-clause-time
-returns-clause-time g c = elapses_to g.S.Start.first c.args.self.now.noted.calls c.note.new.noted.calls _ c.note.ensures
+returns-clause-time g c = elapses_to g.S.Start.first c.args.self.now.history.calls c.note.new.history.calls _ c.note.ensures

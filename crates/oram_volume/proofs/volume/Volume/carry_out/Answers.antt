@@ -1,9 +1,9 @@
 use Rattle.std.proofs.Common.{◌≡◌, false, Err, is_some, sym, ap, ◌∙◌, subst, inl, inr}
 use Rattle.std.proofs.lemmas.Result.{err_from_is_err_and}
 use Rattle.oram_geometry.specs.declared.Sizes.{Sizes}
-use Rattle.oram_run.specs.Events.{address_of}
-use Rattle.oram_run.specs.declared.events.ReplyBody.{ReplyBody}
-use Rattle.oram_core.specs.Core.{shape_of}
+use Rattle.oram_semantics.specs.Events.{address_of}
+use Rattle.oram_semantics.specs.declared.events.ReplyBody.{ReplyBody}
+use Rattle.oram_core.specs.Core.{scheme_of}
 use Rattle.oram_session.specs.Settled.{IsBodyOf}
 use Rattle.oram_session.proofs.Steppings.{same_trans}
 use Rattle.oram_keep.specs.declared.asking.Asked.TheVariants.{Replied}
@@ -20,7 +20,7 @@ returns-in_err-settle-clause-stopped g c = λ e.
 pub returns-then-is_some-clause-sound : goal.returns-then-is_some-clause-sound
 returns-then-is_some-clause-sound g c = λ e array h.
     let mid = c.settle.new.self in
-    let v = shape_of g.S.Sealer.overhead g.S.Sealer.sealing g.S.Sealer.opening c.args.self.now.core in
+    let v = scheme_of g.S.Sealer.overhead g.S.Sealer.sealing g.S.Sealer.opening c.args.self.now.core in
     let none = alive v g.L.Link.calls mid.core.state mid.link array c.in_ok-settle.ensures.settled (c.settle.ensures.holds false array h) in
     absurd (let both = sym c.if-is_some.true ∙ c.is_some.ensures ∙ ap is_some (c.failure.ensures ∙ none) in cc)
 

@@ -1,12 +1,12 @@
 use Rattle.std.proofs.Common.{◌≡◌, Err, ap, inl, inr, sym, ◌∙◌}
-use Rattle.oram_core.specs.Core.{shape_of}
+use Rattle.oram_core.specs.Core.{scheme_of}
 use Rattle.oram_nbd.specs.declared.faults.DiskFault.TheVariants.{Stopped}
 use Rattle.oram_volume.proofs.Holding.{after_resuming, settled_or}
 use Rattle.oram_volume.proofs.volume.Volume.settle.Goals as goal
 
 pub returns-in-Ok-clause-holds : goal.returns-in-Ok-clause-holds
 returns-in-Ok-clause-holds g c = λ lie array h.
-    let v = shape_of g.S.Sealer.overhead g.S.Sealer.sealing g.S.Sealer.opening c.args.self.now.core in
+    let v = scheme_of g.S.Sealer.overhead g.S.Sealer.sealing g.S.Sealer.opening c.args.self.now.core in
     let r = c.resume.ensures in
     after_resuming lie v g.L.Link.calls g.K.Keeper.keeps c.args.self.now.core.state c.args.self.now.link c.args.self.now.keeper
     c.resume.new.core.state c.resume.new.link c.resume.new.keeper array h c.resume.result
@@ -15,7 +15,7 @@ returns-in-Ok-clause-holds g c = λ lie array h.
 
 pub returns-in-Err-clause-holds : goal.returns-in-Err-clause-holds
 returns-in-Err-clause-holds g c = λ lie array h.
-    let v = shape_of g.S.Sealer.overhead g.S.Sealer.sealing g.S.Sealer.opening c.args.self.now.core in
+    let v = scheme_of g.S.Sealer.overhead g.S.Sealer.sealing g.S.Sealer.opening c.args.self.now.core in
     let r = c.resume.ensures in
     after_resuming lie v g.L.Link.calls g.K.Keeper.keeps c.args.self.now.core.state c.args.self.now.link c.args.self.now.keeper
     c.resume.new.core.state c.resume.new.link c.resume.new.keeper array h c.resume.result

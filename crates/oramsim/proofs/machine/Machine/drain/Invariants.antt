@@ -1,8 +1,8 @@
 use Rattle.std.proofs.Common.{List}
 use Rattle.std.specs.List.{FoldsTo}
-use Rattle.oram_run.specs.Run.{Shown}
+use Rattle.oram_semantics.specs.Run.{Shown}
 use Rattle.oramsim.specs.Script.{Running, IsDrained}
-use Rattle.oramsim.specs.Standing.{RunsOn, IsFaithful, IsWholeMachine, IsAtRun, still_wanted}
+use Rattle.oramsim.specs.Correspondence.{RunsOn, IsFaithful, IsWholeMachine, IsAtRun, still_wanted}
 use Rattle.oramsim.proofs.machine.Machine.drain.Given as goal
 
 abbrev pub invariant-loop-alloc : goal.invariant-loop-alloc

@@ -5,8 +5,8 @@ use Rattle.oramsim.proofs.GivenUp.{line_answered, line_cut, line_drained, line_s
 use Rattle.oramsim.proofs.Obeyed.{answer_obeyed, drain_obeyed, restore_obeyed, restore_unfit, snapshot_obeyed, spoken_obeyed, swap_obeyed, swap_unfit, tamper_obeyed, tamper_unfit, told_obeyed, when_false, when_true}
 use Rattle.oramsim.proofs.machine.Machine.obey.Goals as goal
 
-pub returns-in_ok-tell-in-Told-clause-ok : goal.returns-in_ok-tell-in-Told-clause-ok
-returns-in_ok-tell-in-Told-clause-ok g c = λ r f e. told_obeyed r c.args.self.now.core.state c.args.line c.in-Told.event c.tell.new.self _ _ c.in-Told.is (c.in_ok-tell-in-Told.ensures.ok r f)
+pub returns-in_ok-tell-in-CoreEvent-clause-ok : goal.returns-in_ok-tell-in-CoreEvent-clause-ok
+returns-in_ok-tell-in-CoreEvent-clause-ok g c = λ r f e. told_obeyed r c.args.self.now.core.state c.args.line c.in-CoreEvent.event c.tell.new.self _ _ c.in-CoreEvent.is (c.in_ok-tell-in-CoreEvent.ensures.ok r f)
 
 pub returns-in_ok-answer-in-Answer-clause-ok : goal.returns-in_ok-answer-in-Answer-clause-ok
 returns-in_ok-answer-in-Answer-clause-ok g c = λ r f e. answer_obeyed r c.args.self.now.core.state c.args.line c.answer.new.self _ _ c.in-Answer.is (c.in_ok-answer-in-Answer.ensures.ok r f)
@@ -47,8 +47,8 @@ pub returns-in_ok-restore-in-Restore-clause-bad : goal.returns-in_ok-restore-in-
 returns-in_ok-restore-in-Restore-clause-bad g c = λ r f e.
     (restore_unfit r c.args.line c.in-Restore.is (when_false _ _ c.in_ok-restore-in-Restore.field-0 _ refl (c.in_ok-restore-in-Restore.ensures.ok r f) e), refl)
 
-pub returns-in_err-tell-in-Told-clause-err : goal.returns-in_err-tell-in-Told-clause-err
-returns-in_err-tell-in-Told-clause-err g c = λ r f. raised _ _ c.in_err-tell-in-Told.field-0.0 c.from_residual.ensures.1 (line_told r c.args.self.now.core.state c.args.line c.in-Told.event c.in_err-tell-in-Told.field-0.0 _ _ c.in-Told.is (c.in_err-tell-in-Told.ensures.err r f))
+pub returns-in_err-tell-in-CoreEvent-clause-err : goal.returns-in_err-tell-in-CoreEvent-clause-err
+returns-in_err-tell-in-CoreEvent-clause-err g c = λ r f. raised _ _ c.in_err-tell-in-CoreEvent.field-0.0 c.from_residual.ensures.1 (line_told r c.args.self.now.core.state c.args.line c.in-CoreEvent.event c.in_err-tell-in-CoreEvent.field-0.0 _ _ c.in-CoreEvent.is (c.in_err-tell-in-CoreEvent.ensures.err r f))
 
 pub returns-in_err-answer-in-Answer-clause-err : goal.returns-in_err-answer-in-Answer-clause-err
 returns-in_err-answer-in-Answer-clause-err g c = λ r f. raised _ _ c.in_err-answer-in-Answer.field-0.0 c.from_residual-in_err-answer-in-Answer.ensures.1 (line_answered r c.args.self.now.core.state c.args.line c.in_err-answer-in-Answer.field-0.0 _ _ c.in-Answer.is (c.in_err-answer-in-Answer.ensures.err r f))

@@ -1,0 +1,70 @@
+//! The lock on a state, which one process at a time can hold.
+
+ghost use Rattle.std.specs.Prelude.{◌≡◌, ◌++◌, codes, string_bytes, IfOk};
+ghost use Rattle.oram_cli.specs.declared.locks.LockFault.TheVariants as lock;
+
+use crate::files::{FileFault, call_fault};
+use std::alloc::Global;
+use std::fs::{File, OpenOptions, TryLockError};
+use std::io;
+use std::os::unix::fs::OpenOptionsExt;
+use thiserror::Error;
+
+/// Why a process can't lock a state.
+#[derive(Debug, PartialEq, Eq, Drop, Error)]
+pub enum LockFault {
+    /// Another process holds the lock.
+    #[error("in use by another process")]
+    InUse,
+    /// The lock file beside the state can't be created or locked.
+    #[error("{0}")]
+    File(FileFault),
+}
+
+impl From<FileFault> for LockFault {
+    ghost from_gives = { λ why fault. fault ≡ lock.File why };
+
+    fn from(why: FileFault) -> LockFault {
+        LockFault::File(why)
+    }
+}
+
+/// A lock on a state. Another process can take it once this is dropped, or once this process has
+/// ended.
+#[derive(Drop)]
+pub struct StateLock {
+    _file: File,
+}
+
+/// Returns the name of the lock file of a state.
+fn lock_name(alloc: Global, state: &str) -> Result<String, FileFault>
+    ensures { IfOk result (λ name. string_bytes name ≡ state.now ++ codes ".lock") }
+{
+    let mut name = String::from_str(alloc, state)?;
+    name.push_str(".lock")?;
+    Ok(name)
+}
+
+/// Opens the lock file, and creates it if it is missing. The file stays there, empty, after the
+/// lock is released.
+fn open_lock(rt: &HostRuntime, name: &str) -> io::Result<File> {
+    let mut options = OpenOptions::new();
+    options.write(true).create(true).mode(0o600);
+    options.open(rt, name)
+}
+
+/// Takes the lock of the state in the file `state`, which need not exist. Fails at once if another
+/// process holds it.
+pub fn lock_state(rt: &HostRuntime, state: &str) -> Result<StateLock, LockFault> {
+    let alloc = rt.alloc();
+    let name = lock_name(alloc, state)?;
+    let file = match open_lock(rt, name.as_str()) {
+        Ok(file) => file,
+        Err(error) => return Err(call_fault(alloc, name.as_str(), &error).into()),
+    };
+    match file.try_lock() {
+        Ok(()) => Ok(StateLock { _file: file }),
+        Err(TryLockError::WouldBlock) => Err(LockFault::InUse),
+        Err(TryLockError::Error(error)) => Err(call_fault(alloc, name.as_str(), &error).into()),
+    }
+}

@@ -1,0 +1,139 @@
+//! How a connection to a host is opened, what can be wrong with a host, and who is notified of it.
+ghost use Rattle.std.specs.Prelude.{◌≡◌, ℕ, Option, IfOk, IfErr};
+ghost use Rattle.oram_client.specs.Dialing as spec;
+
+use oram_cli::HostFault;
+use oram_session::{Link, LinkFault};
+use std::alloc::Global;
+use std::io;
+
+/// Why a host gives no answer that is of use.
+#[derive(Clone, Copy, Debug, PartialEq, Eq)]
+pub enum Trouble {
+    /// No connection could be opened, or it broke, or the host was silent for too long.
+    OutOfReach(LinkFault),
+    /// The host has no room.
+    NoRoom,
+    /// The host keeps another disk.
+    AnotherDisk,
+    /// The host keeps no disk that has an identity.
+    NoDisk,
+}
+
+impl Trouble {
+    ghost use Rattle.std.specs.Prelude.{◌≡◌};
+    ghost use Rattle.oram_client.specs.Dialing.{fault_of, may_pass};
+
+    /// Returns whether the trouble may pass if one waits. A host that keeps another disk goes on doing so.
+    pub fn may_pass(self) -> bool
+        ensures { result ≡ may_pass self }
+    {
+        match self {
+            Trouble::OutOfReach(_) | Trouble::NoRoom => true,
+            Trouble::AnotherDisk | Trouble::NoDisk => false,
+        }
+    }
+
+    /// Returns the fault that a link reports to its caller for this trouble.
+    pub fn fault(self) -> LinkFault
+        ensures { result ≡ fault_of self }
+    {
+        match self {
+            Trouble::OutOfReach(fault) => fault,
+            Trouble::NoRoom | Trouble::AnotherDisk | Trouble::NoDisk => LinkFault::Closed,
+        }
+    }
+}
+
+/// Returns what is wrong with a host after the link to it has given up with `trouble` as the last trouble.
+pub fn given_up(trouble: Option<Trouble>) -> HostFault
+    ensures { result ≡ spec.given_up trouble }
+{
+    match trouble {
+        Some(Trouble::NoRoom) => HostFault::NoRoom,
+        Some(Trouble::AnotherDisk) => HostFault::AnotherDisk,
+        Some(Trouble::NoDisk) => HostFault::NoDisk,
+        Some(Trouble::OutOfReach(_)) | None => HostFault::OutOfReach,
+    }
+}
+
+impl From<LinkFault> for Trouble {
+    ghost use Rattle.std.specs.Prelude.{◌≡◌};
+    ghost use Rattle.oram_client.specs.declared.dialer.Trouble.TheVariants.{OutOfReach};
+
+    ghost from_gives = { λ fault trouble. trouble ≡ OutOfReach fault };
+
+    fn from(fault: LinkFault) -> Trouble {
+        Trouble::OutOfReach(fault)
+    }
+}
+
+impl From<io::Error> for Trouble {
+    ghost use Rattle.std.specs.Prelude.{◌≡◌};
+    ghost use Rattle.oram_session.specs.declared.link.LinkFault.TheVariants.{Io};
+    ghost use Rattle.oram_client.specs.declared.dialer.Trouble.TheVariants.{OutOfReach};
+
+    ghost from_gives = { λ _ trouble. trouble ≡ OutOfReach Io };
+
+    fn from(_error: io::Error) -> Trouble {
+        Trouble::OutOfReach(LinkFault::Io)
+    }
+}
+
+/// The times that a host may take, in milliseconds.
+#[derive(Clone, Copy, Debug, PartialEq, Eq)]
+pub struct Limits {
+    /// To accept a connection and answer the greeting.
+    pub opening: u64,
+    /// To take or give the next bytes over an open connection.
+    pub silence: u64,
+    /// To give a whole answer over an open connection.
+    pub answering: u64,
+}
+
+/// Opens connections to a host, and has the clock that measures the waiting.
+pub trait Dial {
+    ghost use Rattle.oram_client.specs.declared.dialer.Limits.{Limits};
+    ghost use Rattle.oram_client.specs.declared.dialer.Trouble.{Trouble};
+
+    /// A connection. It is used until a call over it has a fault.
+    type Line: Link + Drop;
+
+    /// `opens old limits line new`: a try within `limits` may open `line`, and turns the dialer from `old` into `new`.
+    ghost opens: { Self → Limits → Self.Line → Self → Type 0 };
+
+    /// `fails old limits trouble new`: a try within `limits` may fail with `trouble`, and turns the dialer from `old`
+    /// into `new`.
+    ghost fails: { Self → Limits → Trouble → Self → Type 0 };
+
+    /// `pauses old milliseconds new`: a pause of `milliseconds` turns the dialer from `old` into `new`.
+    ghost pauses: { Self → ℕ → Self → Type 0 };
+
+    /// `reads old now new`: reading the clock may give `now`, which is `None` if the clock fails, and turns the dialer
+    /// from `old` into `new`.
+    ghost reads: { Self → Option ℕ → Self → Type 0 };
+
+    /// Tries once to open a connection.
+    fn dial(&mut self, alloc: Global, limits: Limits) -> Result<Self::Line, Trouble>
+        ensures ok { IfOk result (λ line. opens self.old limits line self.new) }
+        ensures err { IfErr result (λ trouble. fails self.old limits trouble self.new) };
+
+    /// Waits for `milliseconds`.
+    fn pause(&mut self, milliseconds: u64)
+        ensures { pauses self.old milliseconds self.new };
+
+    /// Returns the milliseconds since some fixed moment, by a clock that nobody sets; `None` if the clock can't be
+    /// read.
+    fn now(&mut self) -> Option<u64>
+        ensures { reads self.old result self.new };
+}
+
+/// Is notified when the host is lost, when it has no room, and when it answers again. Each trouble is reported once
+/// until the host has answered again.
+pub trait HostWatch {
+    fn lost(&mut self);
+
+    fn full(&mut self);
+
+    fn back(&mut self);
+}

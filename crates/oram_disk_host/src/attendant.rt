@@ -1,0 +1,66 @@
+//! How long a connection may let the host wait, and which connection comes first.
+
+use crate::connection::EarlyEnd;
+use oram_host::ServeFault;
+use oram_sockets::{Attendant, Direction, Marks};
+use std::cell::Cell;
+use std::io;
+use std::io::{Error, ErrorKind};
+use std::time::Duration;
+
+/// How long a connection may be silent in the middle of a message, or leave an answer unread, in seconds.
+const LONGEST_SILENCE: u64 = 60;
+
+/// Lets a connection be idle for as long as nobody else connects, and silent in the middle of a message for a minute.
+///
+/// The newest connection comes first. If the owner's connection freezes, the host can't tell it from an idle one, and
+/// the owner must be able to reach the disk over another connection at once.
+#[derive(Debug, Drop)]
+pub(crate) struct HostAttendant {
+    is_within_message: Cell<bool>,
+    ended: Cell<Option<EarlyEnd>>,
+}
+
+impl HostAttendant {
+    pub(crate) fn new() -> HostAttendant {
+        HostAttendant {
+            is_within_message: Cell::new(false),
+            ended: Cell::new(None),
+        }
+    }
+
+    /// Returns why the connection ended before its input did, if that is so.
+    pub(crate) fn early_end(&self, served: Result<u64, ServeFault>) -> Option<EarlyEnd> {
+        match served {
+            Ok(_) => None,
+            Err(fault) => Some(self.ended.get().unwrap_or(EarlyEnd::Fault(fault))),
+        }
+    }
+}
+
+impl Attendant for HostAttendant {
+    fn limit(&self, direction: Direction) -> io::Result<Option<Duration>> {
+        let is_limited = direction == Direction::Writing || self.is_within_message.get();
+        Ok(is_limited.then_some(Duration::from_secs(LONGEST_SILENCE)))
+    }
+
+    fn waited_out(&self) -> Error {
+        self.ended.set(Some(EarlyEnd::Silent));
+        Error::from(ErrorKind::TimedOut)
+    }
+
+    fn others_wait(&self) -> io::Result<()> {
+        self.ended.set(Some(EarlyEnd::Displaced));
+        Err(Error::from(ErrorKind::ConnectionAborted))
+    }
+}
+
+impl Marks for HostAttendant {
+    fn within_message(&self) {
+        self.is_within_message.set(true);
+    }
+
+    fn answered(&self) {
+        self.is_within_message.set(false);
+    }
+}

@@ -1,0 +1,282 @@
+//! The host, which serves connections one after the other, out of a store in a file.
+
+ghost use Rattle.std.specs.Prelude.{◌≡◌, ◌⊎◌, [], IsSome};
+
+use crate::attendant::HostAttendant;
+use crate::connection::{ConnectionReport, EarlyEnd, line};
+use crate::faults::{Fault, store_fault};
+use crate::file_faults::{file_fault, settings_bytes, text_of};
+use crate::kinds::FaultKind;
+use crate::settings_file::{HostSettings, read_host_settings};
+use crate::tallied_store::TalliedStore;
+use jiff::Timestamp;
+use oram_cli::{InputFault, SocketFault, listen};
+use oram_host::{ServeFault, host_serve};
+use oram_redo::FilePair;
+use oram_settings::{host_complaint, hosting_text, relative_to};
+use oram_sockets::{MarkedReader, MarkedWriter, watch};
+use oram_store::{FileStore, StoreFault, open_store};
+use std::alloc::AllocError;
+use std::io::{Error, ErrorKind, Read, Write};
+use std::net::{Net, OpenListener, OpenStream, SocketAddr};
+use std::os::fd::{AsRawFd, RawFd};
+use std::rt::{Clock, Files};
+use std::time::Duration;
+use std::{fs, thread};
+
+/// How many seconds a host waits before it tries again to open a file whose disk has failed.
+const RETRY_AFTER: u64 = 1;
+
+/// Reads the settings file `name`. It gives the file of buckets relative to the folder of the settings; this makes its
+/// name one that can be opened from here.
+fn settings_in<R: Files + AllocGlobal>(rt: &R, name: String) -> Result<HostSettings, Fault> {
+    let alloc = rt.alloc();
+    let bytes = settings_bytes(rt, name.as_str())?;
+    let text = text_of(alloc, bytes.as_slice(), name.as_str())?;
+    match read_host_settings(alloc, text) {
+        Ok(mut settings) => {
+            settings.file = relative_to(alloc, name.as_str(), settings.file.as_str())?;
+            Ok(settings)
+        }
+        Err(InputFault::Bad) => {
+            let complaint = host_complaint(alloc, name.as_str(), text)?;
+            Err(Fault::About(FaultKind::Settings, complaint))
+        }
+        Err(InputFault::OutOfMemory) => Err(Fault::OutOfMemory),
+    }
+}
+
+/// Listens at an address.
+pub fn listen_at<R: Net>(rt: &R, address: String) -> Result<R::Listener, Fault> {
+    match listen(rt, address.as_str()) {
+        Ok(listener) => Ok(listener),
+        Err(SocketFault::Failed) => Err(Fault::About(FaultKind::Address, address)),
+        Err(SocketFault::OutOfMemory) => Err(Fault::OutOfMemory),
+    }
+}
+
+/// Returns the clock's time in whole seconds of UTC, as RFC 3339 writes it.
+pub fn time<R: Clock + AllocGlobal>(rt: &R) -> Result<String, AllocError> {
+    let alloc = rt.alloc();
+    match Timestamp::now(rt) {
+        Ok(now) => format!(in alloc; "{now:.0}"),
+        Err(_) => String::from_str(alloc, "an unknown time"),
+    }
+}
+
+/// Serves a connection to its end, and returns why that came early, if it did.
+fn serve<R: Net + Clock + AllocGlobal, T: Read + Write + OpenStream + AsRawFd + Drop, F: FilePair>(
+    rt: &R,
+    listener: RawFd,
+    stream: T,
+    hosted: &mut TalliedStore<F>,
+) -> Option<EarlyEnd>
+    // After this, each record of a formatting is durable, or the tally says why not.
+    ensures { hosted.old.store.pending ≡ [] → (hosted.new.store.pending ≡ []) ⊎ IsSome hosted.new.tally.failure }
+{
+    let alloc = rt.alloc();
+    hosted.begin();
+    let attendant = HostAttendant::new();
+    let (reader, writer) = match watch(rt, alloc, stream, listener, &attendant) {
+        Ok(halves) => halves,
+        Err(error) if error.kind() == ErrorKind::OutOfMemory => {
+            return Some(EarlyEnd::Fault(ServeFault::OutOfMemory));
+        }
+        Err(_) => return Some(EarlyEnd::Fault(ServeFault::Read)),
+    };
+    let mut reader = MarkedReader::new(reader, &attendant);
+    let mut writer = MarkedWriter::new(writer, &attendant);
+    let served = host_serve(alloc, &mut reader, &mut writer, hosted);
+    hosted.commit_puts();
+    if hosted.has_failed() {
+        // The tally says why.
+        return None;
+    }
+    attendant.early_end(served)
+}
+
+/// Serves a connection, and prints its line.
+fn serve_client<
+    R: Net + Clock + Eprint + AllocGlobal,
+    T: Read + Write + OpenStream + AsRawFd + Drop,
+    F: FilePair,
+>(
+    rt: &R,
+    listener: RawFd,
+    stream: T,
+    peer: SocketAddr,
+    hosted: &mut TalliedStore<F>,
+) -> Result<(), AllocError>
+    ensures { hosted.old.store.pending ≡ [] → (hosted.new.store.pending ≡ []) ⊎ IsSome hosted.new.tally.failure }
+{
+    let alloc = rt.alloc();
+    let peer = format!(in alloc; "{peer}")?;
+    let from = time(rt)?;
+    let ended = serve(rt, listener, stream, hosted);
+    let visit = ConnectionReport {
+        peer,
+        from,
+        until: time(rt)?,
+        tally: hosted.tally(),
+        ended,
+    };
+    let line = line(alloc, &visit)?;
+    let _passed_over = rt.eprint(line.as_str());
+    Ok(())
+}
+
+/// Returns whether an error keeps only one connection from being accepted, and not the next.
+fn is_transient(kind: ErrorKind) -> bool {
+    matches!(
+        kind,
+        ErrorKind::Interrupted
+            | ErrorKind::ConnectionAborted
+            | ErrorKind::ConnectionReset
+            | ErrorKind::HostUnreachable
+            | ErrorKind::NetworkUnreachable
+            | ErrorKind::NetworkDown
+            | ErrorKind::TimedOut
+    )
+}
+
+/// Returns the program's fault for a connection that wasn't accepted, or `Ok` if the next one may be.
+pub fn not_accepted(error: &Error) -> Result<(), Fault> {
+    match error.kind() {
+        ErrorKind::OutOfMemory => Err(Fault::OutOfMemory),
+        kind if is_transient(kind) => Ok(()),
+        _ => Err(Fault::Accept),
+    }
+}
+
+/// Serves connections, one after the other, until the store has to be opened again.
+fn serve_all<R: Net + Clock + Eprint + AllocGlobal, L: OpenListener + AsRawFd, F: FilePair + Drop>(
+    rt: &R,
+    listener: &L,
+    mut hosted: TalliedStore<F>,
+) -> Result<(), Fault>
+where
+    L::Stream: Read + Write + OpenStream + AsRawFd,
+{
+    for _ in 0..u64::MAX {
+        match listener.accept() {
+            Ok((stream, peer)) => {
+                if serve_client(rt, listener.as_raw_fd(), stream, peer, &mut hosted).is_err() {
+                    let _passed_over = rt.eprint(
+                        "oramdisk: no memory for a connection, or for its line\n",
+                    );
+                }
+            }
+            Err(error) => not_accepted(&error)?,
+        }
+        if hosted.has_failed() {
+            return Ok(());
+        }
+    }
+    Ok(())
+}
+
+/// Serves a store that was opened, until it has to be opened again.
+fn serve_opened<
+    R: Net + Clock + Eprint + AllocGlobal,
+    L: OpenListener + AsRawFd,
+    F: FilePair + Drop,
+>(rt: &R, listener: &L, opened: Result<FileStore<F>, StoreFault>, file: &str) -> Result<(), Fault>
+where
+    L::Stream: Read + Write + OpenStream + AsRawFd,
+{
+    match opened {
+        Ok(store) => serve_all(rt, listener, TalliedStore::new(store)),
+        Err(why) => Err(store_fault(String::from_str(rt.alloc(), file)?, why)),
+    }
+}
+
+/// Refuses a file that is missing and, if a new one is asked for, a file that exists. So a host that was started in the
+/// wrong folder says so, instead of serving an empty file.
+fn check_presence<R: Files + AllocGlobal>(rt: &R, file: &str, is_new: bool) -> Result<(), Fault> {
+    let alloc = rt.alloc();
+    let is_there = match fs::exists(rt, file) {
+        Ok(is_there) => is_there,
+        Err(error) => return Err(file_fault(String::from_str(alloc, file)?, &error)),
+    };
+    let kind = match (is_there, is_new) {
+        (true, true) => FaultKind::FileExists,
+        (false, false) => FaultKind::NoFile,
+        _ => return Ok(()),
+    };
+    Err(Fault::About(kind, String::from_str(alloc, file)?))
+}
+
+/// Prints that a file was opened: whether it is a new one, and where it is served.
+fn tell_opened(
+    rt: &HostRuntime,
+    address: &str,
+    file: &str,
+    is_new: bool,
+) -> Result<(), AllocError> {
+    let alloc = rt.alloc();
+    if is_new {
+        let line = format!(in alloc; "oramdisk: made {file}\n")?;
+        let _passed_over = rt.eprint(line.as_str());
+    }
+    let line = hosting_text(alloc, file, address)?;
+    let _passed_over = rt.eprint(line.as_str());
+    Ok(())
+}
+
+/// Opens the file, or makes a new one, and serves it, until it has to be opened again.
+fn serve_file<L: OpenListener + AsRawFd>(
+    rt: &HostRuntime,
+    listener: &L,
+    address: &str,
+    file: &str,
+    is_new: bool,
+) -> Result<(), Fault>
+where
+    L::Stream: Read + Write + OpenStream + AsRawFd,
+{
+    check_presence(rt, file, is_new)?;
+    let opened = open_store(rt, rt.alloc(), file);
+    if opened.is_ok() {
+        tell_opened(rt, address, file, is_new)?;
+    }
+    serve_opened(rt, listener, opened, file)
+}
+
+/// Serves the file again after its disk has failed. As long as the file can't be opened, the host waits for it, and
+/// says so once: the storage that it is on, such as a volume over a network, may come back.
+fn serve_again<L: OpenListener + AsRawFd>(
+    rt: &HostRuntime,
+    listener: &L,
+    address: &str,
+    file: &str,
+) -> Result<(), Fault>
+where
+    L::Stream: Read + Write + OpenStream + AsRawFd,
+{
+    let mut is_told = false;
+    for _ in 0..u64::MAX {
+        match serve_file(rt, listener, address, file, false) {
+            Err(Fault::About(FaultKind::File(_), _)) => {}
+            ended => return ended,
+        }
+        if !is_told {
+            let line = format!(in rt.alloc(); "oramdisk: waiting for {file}\n")?;
+            let _passed_over = rt.eprint(line.as_str());
+            is_told = true;
+        }
+        thread::sleep(rt, Duration::from_secs(RETRY_AFTER));
+    }
+    Ok(())
+}
+
+/// Keeps buckets for others, until it is ended. It listens before it opens the file, so if the port is taken, the file
+/// stays as it is.
+pub fn host(rt: &HostRuntime, name: String, is_new: bool) -> Result<(), Fault> {
+    let HostSettings { listen, file } = settings_in(rt, name)?;
+    let listener = listen_at(rt, String::from_str(rt.alloc(), listen.as_str())?)?;
+    serve_file(rt, &listener, listen.as_str(), file.as_str(), is_new)?;
+    for _ in 0..u64::MAX {
+        serve_again(rt, &listener, listen.as_str(), file.as_str())?;
+    }
+    Ok(())
+}

@@ -1,0 +1,117 @@
+//! A store that is served, and the tally of a connection to it.
+
+ghost use Rattle.std.specs.Prelude.{◌≡◌, ◌≢◌, ◌⊎◌, [], false, IsSome};
+ghost use Rattle.oram_layout.specs.Records.{AreKept};
+ghost use Rattle.oram_store.specs.Crashes.{SettlesWhole};
+ghost use Rattle.oram_store.specs.Keeping.{IsSound, records_of};
+ghost use Rattle.oram_wire.specs.HostMessages.{answer_body};
+ghost use Rattle.oram_wire.specs.declared.host_messages.HostAnswer.{HostAnswer};
+ghost use Rattle.oram_disk_host.specs.Hosts.{Serves, is_lost};
+ghost use Rattle.oram_disk_host.specs.Tallies.{none};
+
+use crate::tally::Tally;
+use oram_host::{BucketServer, HostRefusal};
+use oram_redo::FilePair;
+use oram_store::{FileStore, StoreFault};
+use oram_wire::REFUSED;
+use std::alloc::{AllocError, Global};
+use std::marker::Model;
+
+/// A store that is served, one connection after the other.
+#[derive(Drop)]
+pub struct TalliedStore<F: FilePair> {
+    store: FileStore<F>,
+    tally: Tally,
+}
+
+impl<F: FilePair> Model for TalliedStore<F> {
+    ghost use Rattle.oram_disk_host.specs.Hosts.{HostedValue};
+
+    ghost Value = { HostedValue F };
+
+    ghost view = { λ h. record { store = h.store; tally = h.tally } };
+}
+
+impl<F: FilePair> TalliedStore<F> {
+    /// Returns a store before its first connection.
+    pub fn new(store: FileStore<F>) -> TalliedStore<F>
+        ensures { (result.store ≡ store) × (result.tally ≡ none) }
+    {
+        TalliedStore {
+            store,
+            tally: Tally::new(),
+        }
+    }
+
+    /// Begins the tally of a connection.
+    pub fn begin(&mut self)
+        ensures { (self.new.store ≡ self.old.store) × (self.new.tally ≡ none) }
+    {
+        self.tally = Tally::new();
+    }
+
+    /// Returns the tally of the connection so far.
+    pub fn tally(&self) -> Tally
+        ensures { result ≡ self.now.tally }
+    {
+        self.tally
+    }
+
+    /// Makes the records durable that a formatting has put so far. If that fails, the tally says why.
+    pub fn commit_puts(&mut self)
+        ensures settled { (self.new.store.pending ≡ []) ⊎ IsSome self.new.tally.failure }
+        ensures calm { self.old.store.pending ≡ [] → self.new ≡ self.old }
+        ensures trees { self.new.store.trees ≡ self.old.store.trees }
+        ensures sound { IsSound F.seen F.may_leave self.old.store → self.new.store.file.has_stopped ≡ false → IsSound F.seen F.may_leave self.new.store }
+        ensures records { IsSound F.seen F.may_leave self.old.store → self.new.store.file.has_stopped ≡ false
+            → AreKept (records_of F.seen self.old.store) (records_of F.seen self.new.store) }
+        ensures any_moment { IsSound F.seen F.may_leave self.old.store → SettlesWhole F.seen F.moment F.left_since self.old.store self.new.store }
+        ensures messages { self.new.tally.messages ≡ self.old.tally.messages }
+        ensures received { self.new.tally.received ≡ self.old.tally.received }
+        ensures sent { self.new.tally.sent ≡ self.old.tally.sent }
+        ensures told { self.new.store.failure ≢ self.old.store.failure → self.new.tally.failure ≡ self.new.store.failure }
+    {
+        if let Err(fault) = self.store.commit_puts() {
+            self.tally.failure = Some(fault);
+        }
+    }
+
+    /// Returns whether the disk has failed, so that the file has to be opened again.
+    pub fn has_failed(&self) -> bool
+        ensures { result ≡ is_lost self.now.tally.failure }
+    {
+        matches!(
+            self.tally.failure,
+            Some(StoreFault::Io | StoreFault::Closed)
+        )
+    }
+
+    /// Returns why there was no room, if `answer` says that there is none, or else the reason that the tally has
+    /// already.
+    fn failure(&self, answer: &[u8]) -> Option<StoreFault>
+        ensures full { answer.now ≡ answer_body (HostAnswer.Refused 8) → result ≡ self.now.store.failure }
+        ensures spare { answer.now ≢ answer_body (HostAnswer.Refused 8) → result ≡ self.now.tally.failure }
+    {
+        if answer == [REFUSED, HostRefusal::OutOfMemory.code()].as_slice() {
+            self.store.failure()
+        } else {
+            self.tally.failure
+        }
+    }
+}
+
+impl<F: FilePair> BucketServer for TalliedStore<F> {
+    ghost serves = { λ before body answer after. Serves F.seen F.may_leave F.moment F.left_since F.is_honest before body answer after };
+
+    // Once the disk has failed, it answers nothing more, so that the connection ends and the file is opened again.
+    fn respond(&mut self, alloc: Global, body: &[u8]) -> Result<Vec<u8>, AllocError> {
+        if self.has_failed() {
+            return Err(AllocError);
+        }
+        let answer = self.store.answer(alloc, body)?;
+        let failure = self.failure(&answer);
+        self.tally = self.tally.with(body, &answer);
+        self.tally.failure = failure;
+        Ok(answer)
+    }
+}

@@ -1,9 +1,0 @@
-use Rattle.std.proofs.Common.{refl}
-use Rattle.oram_host.proofs.Transfers.{begun_first, begun_last}
-use Rattle.oram_edge.proofs.writing.put_both.Goals as goal
-
-pub returns-in_err-put-clause-begun : goal.returns-in_err-put-clause-begun
-returns-in_err-put-clause-begun g c = begun_first _ _ c.args.front.now c.args.rest.now _ c.put.ensures.begun refl
-
-pub returns-clause-begun : goal.returns-clause-begun
-returns-clause-begun g c = begun_last _ _ _ c.args.front.now c.args.rest.now c.in_ok-put.ensures.ok c.put-2.ensures.begun

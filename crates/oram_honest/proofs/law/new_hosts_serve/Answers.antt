@@ -1,5 +1,0 @@
-use Rattle.oram_honest.proofs.Honest.{new_hosts_serve}
-use Rattle.oram_honest.proofs.law.new_hosts_serve.Goals as goal
-
-pub returns : goal.returns
-returns c = new_hosts_serve

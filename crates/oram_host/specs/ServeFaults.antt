@@ -1,0 +1,11 @@
+-- The fault of answering that a fault of reading a frame becomes.
+use Rattle.oram_wire.specs.declared.streaming.FrameFault.{FrameFault}
+use Rattle.oram_wire.specs.declared.streaming.FrameFault.TheVariants as frames
+use Rattle.oram_host.specs.declared.serve_fault.ServeFault.{ServeFault}
+use Rattle.oram_host.specs.declared.serve_fault.ServeFault.TheVariants.{Read, Frame, Truncated, OutOfMemory}
+
+abbrev pub frame_fault : FrameFault → ServeFault
+frame_fault frames.Read = Read
+frame_fault frames.Frame = Frame
+frame_fault frames.Truncated = Truncated
+frame_fault frames.OutOfMemory = OutOfMemory

@@ -1,0 +1,5 @@
+use Rattle.oram_nbd.proofs.Negotiated.{Negotiated}
+use Rattle.oram_nbd.proofs.negotiation.negotiate.Given as goal
+
+abbrev pub invariant-loop : goal.invariant-loop
+invariant-loop g l = Negotiated l.export.name.now l.export.size l.export.preferred l.zeroes (g.R.Read.remaining l.fn.reader) (g.W.Write.contents l.fn.writer) l.counter (g.R.Read.remaining l.reader) (g.W.Write.contents l.writer)

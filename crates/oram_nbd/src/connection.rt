@@ -1,0 +1,76 @@
+//! Serves a whole connection.
+
+ghost use Rattle.std.specs.Prelude.{◌≡◌, ◌≤◌, ◌↔◌, length, Err, IfOk, IfErr, IsTrue};
+ghost use Rattle.oram_nbd.specs.Connection.{preferred_of, HasConnected, StopsConnection};
+ghost use Rattle.oram_nbd.specs.Holding.{IsStopped};
+
+use crate::LONGEST_PAYLOAD;
+use crate::disk::BlockDevice;
+use crate::faults::NbdFault;
+use crate::handshake::{Agreement, Export};
+use crate::negotiation::negotiate;
+use crate::transmission::transmit;
+use std::alloc::Global;
+use std::io::{Read, Write};
+
+/// Returns the preferred number of bytes of a request: that of a block, if clients accept that number.
+fn preferred(block_bytes: u32) -> u32
+    ensures { result ≡ preferred_of block_bytes }
+{
+    if block_bytes.is_power_of_two() && 512 <= block_bytes && block_bytes <= LONGEST_PAYLOAD {
+        block_bytes
+    } else {
+        4096
+    }
+}
+
+/// A watcher of a connection's handshake, for example one that limits a client's time for it.
+pub trait HandshakeWatch {
+    /// Is called when the client has agreed with the server, before its requests.
+    fn agreed(&self);
+}
+
+/// Serves one connection, from its greeting until its client leaves, and returns the number of requests that were
+/// answered.
+///
+/// The device is the only export, under the name `name` and under the empty one. `watch` is notified when the handshake
+/// is done.
+pub fn serve<R: Read, W: Write, D: BlockDevice, H: HandshakeWatch>(
+    alloc: Global,
+    reader: &mut R,
+    writer: &mut W,
+    disk: &mut D,
+    name: &[u8],
+    watch: &H,
+) -> Result<u64, NbdFault>
+    requires { length name.now ≤ 4096 }
+    ensures ok { IfOk result (λ count. HasConnected (D.is_sound disk.old) (D.failed disk.old) (D.block_len disk.old) (D.size disk.old) (D.holds disk.old) (D.holds disk.new) name.now count
+        (R.remaining reader.old) (R.remaining reader.new) (W.contents writer.old) (W.contents writer.new)) }
+    ensures err { IfErr result (λ fault. StopsConnection (D.is_sound disk.old) (D.failed disk.old) (D.block_len disk.old) (D.size disk.old) (D.holds disk.old) (D.holds disk.new) name.now fault
+        (R.remaining reader.old) (R.remaining reader.new) (W.contents writer.old) (W.contents writer.new)) }
+    ensures stopped { IfErr result (λ fault. fault ≡ NbdFault.Stopped → IsStopped D.stops disk.new) }
+    ensures keeps { D.is_sound disk.old → D.is_sound disk.new }
+    ensures lasting { D.failed disk.old → D.failed disk.new }
+    ensures shape { (D.block_len disk.new ≡ D.block_len disk.old) × (D.size disk.new ≡ D.size disk.old) }
+{
+    let block_bytes = disk.block_bytes();
+    let export = Export {
+        name,
+        size: u64::from(block_bytes) * disk.blocks(),
+        preferred: preferred(block_bytes),
+    };
+    match negotiate(alloc, reader, writer, &export)? {
+        Agreement::Gone => Ok(0),
+        Agreement::Transmission => {
+            watch.agreed();
+            transmit(alloc, reader, writer, disk)
+        }
+    }
+}
+
+/// Returns whether the service of a connection ended because its disk has stopped.
+pub fn is_stop(served: Result<u64, NbdFault>) -> bool
+    ensures { IsTrue result ↔ (served ≡ Err NbdFault.Stopped) }
+{
+    served == Err(NbdFault::Stopped)
+}

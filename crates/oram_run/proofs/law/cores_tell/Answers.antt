@@ -1,5 +1,0 @@
-use Rattle.oram_run.proofs.Told.{cores_tell}
-use Rattle.oram_run.proofs.law.cores_tell.Goals as goal
-
-pub returns : goal.returns
-returns c = cores_tell

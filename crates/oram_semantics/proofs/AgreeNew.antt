@@ -1,0 +1,111 @@
+-- Cores whose trees agree: one just formatted, and one at rest whose table and map blocks name the leaves that the
+-- trees have.
+use Rattle.std.proofs.Common.{◌≡◌, ℕ, suc, ◌+◌, ◌-◌, ◌*◌, ◌/◌, ◌%◌, ◌^◌, ◌<◌, ◌≤◌, Bool, if◌then◌else◌, List, [], ◌∷◌, length, replicate, slice_index, take, IsSome, Option, Some, None, refl, ap, sym, ◌∙◌, subst, arith, inl, inr}
+use Rattle.std.specs.List.{All}
+use Rattle.std.specs.Int.{w32, from_be_bytes}
+use Rattle.std.proofs.lemmas.List.{get_or-replicate, length-replicate, drop-replicate}
+use Rattle.std.proofs.lemmas.List.Elements.{All-contains}
+use Rattle.std.proofs.lemmas.Nat.{mod_below}
+use Rattle.std.proofs.lemmas.Bool.Decides.{eqb_tells}
+use Rattle.oram_geometry.specs.declared.Sizes.{Sizes}
+use Rattle.oram_geometry.specs.Sizes.{trees_of, depth_of, blocks_in, fanout}
+use Rattle.oram_bucket.specs.Cell.{Cell}
+use Rattle.oram_bucket.specs.Bucket.{IsBlockOf}
+use Rattle.oram_tree.specs.Content.{Map, Entry as Held, entry_of}
+use Rattle.oram_tree.specs.State.{State as Tree}
+use Rattle.oram_semantics.specs.Scheme.{Scheme}
+use Rattle.oram_semantics.specs.Progress.{Setting}
+use Rattle.oram_semantics.specs.Content.{content_of}
+use Rattle.oram_semantics.specs.Trees.{Stands}
+use Rattle.oram_semantics.specs.State.{State, name_of}
+use Rattle.oram_semantics.specs.Blocks.{found_in, entry_in}
+use Rattle.oram_semantics.specs.Law.{new_state, world_of}
+use Rattle.oram_semantics.specs.Agree.{named_for, IsNext, Agrees, IsOrderly}
+use Rattle.oram_semantics.specs.declared.events.Submission.{Submission}
+use Rattle.oram_semantics.proofs.Bounds.{IsFit}
+use Rattle.oram_semantics.proofs.Others.{all_none}
+use Rattle.oram_semantics.proofs.Formatting.{empty_content}
+
+-- a block of a tree is one of the tree's blocks
+pub record IsEntryOf (d : Sizes) (i : ℕ) (e : Held) : Type 0 where
+  pub leaf_in : e.leaf < 2 ^ depth_of d i
+  pub whole : length e.content ≡ d.block_bytes
+
+entry_fits : (d : Sizes) (i : ℕ) (c : Cell) (e : Held) → IsBlockOf d i c → Some (entry_of c) ≡ Some e → IsEntryOf d i e
+entry_fits d i c e block same =
+    let is : entry_of c ≡ e = cc in
+    subst (IsEntryOf d i) is (record { leaf_in = block.leaf_in; whole = block.whole })
+
+held_fits : (v : Scheme) (i : ℕ) (tree : Tree) (records : ℕ → List ℕ) (content : Map) (a : ℕ) (e : Held)
+    → Stands v i tree records content → All (IsBlockOf v.device i) tree.stash → IsSome (content a) → content a ≡ Some e
+    → IsEntryOf v.device i e
+held_fits v i tree records content a e stands stash some is =
+    let same : tree.number ≡ i = stands.number in
+    elim (stands.stored.holds.held a some) [
+      | inl h ↦
+          let c : Cell = h.0 in
+          entry_fits v.device i c e (All-contains (IsBlockOf v.device i) tree.stash c stash h.2) (sym (stands.stored.holds.from_stash c h.2) ∙ ap content h.1 ∙ is)
+      | inr h ↦
+          let c : Cell = h.0 in
+          let n : ℕ = h.1 in
+          let block : IsBlockOf v.device tree.number c =
+          All-contains (IsBlockOf v.device tree.number) h.4.0 c h.4.1.spelled.bucket.blocks h.4.2 in
+          entry_fits v.device i c e (subst (λ (k : ℕ). IsBlockOf v.device k c) same block) (sym (stands.stored.holds.from_tree n c h.3 h.4) ∙ ap content h.2 ∙ is)
+    ]
+
+-- what a tree that stands has for a block
+pub record IsFound (d : Sizes) (i : ℕ) (o : Option Held) : Type 0 where
+  pub sized : length (found_in d o) ≡ d.block_bytes
+  pub leaves : name_of o ≤ 2 ^ depth_of d i
+
+found_by : (d : Sizes) (i : ℕ) (o : Option Held) → ((e : Held) → o ≡ Some e → IsEntryOf d i e) → IsFound d i o
+found_by d i None h = record { sized = length-replicate d.block_bytes 0; leaves = omega arith }
+found_by d i (Some e) h = let is = h e refl in record { sized = is.whole; leaves = omega (arith, is.leaf_in) }
+
+no_next : (v : Scheme) (s : State) (queue : List Submission) (i b : ℕ) → s.entry_number ≡ 0 → ¬ IsNext v s queue i b
+no_next v s [] i b z = λ n. n
+no_next v s (x ∷ rest) i b z = λ n. absurd (let more : 0 < s.entry_number = n.0.0 in omega arith)
+
+-- zeros name no leaf
+zeros_name : (n j : ℕ) → 4 * j + 4 ≤ n → entry_in (replicate n 0) j ≡ 0
+unfolding entry_in
+zeros_name n j fits =
+    let rest : n - 4 * j ≡ suc (suc (suc (suc (n - (4 * j + 4))))) = omega arith in
+    let four : 4 * j + 4 - 4 * j ≡ 4 = omega arith in
+    ap (λ xs. from_be_bytes w32 (take (4 * j + 4 - 4 * j) xs)) (drop-replicate (4 * j) n 0)
+    ∙ ap (λ k. from_be_bytes w32 (take k (replicate (n - 4 * j) 0))) four
+    ∙ ap (λ k. from_be_bytes w32 (take 4 (replicate k 0))) rest
+
+none_named : (v : Setting) (trees : List Tree) (i b : ℕ) → IsFit v.scheme.device → i < trees_of v.scheme.device
+    → b < blocks_in v.scheme.device i → named_for v.scheme (new_state v trees) (world_of v []) i b ≡ 0
+none_named v trees i b fit below inside =
+    let d = v.scheme.device in
+    let n : ℕ = blocks_in d (trees_of d - 1) in
+    let j : b % fanout d < fanout d = mod_below b (fanout d) fit.words.some in
+    elim (eqb_tells (i + 1) (trees_of d)) [
+      | inl last ↦
+          let same : i ≡ trees_of d - 1 = let one : i + 1 ≡ trees_of d = last.1 in omega arith in
+          ap (λ (t : Bool). if t then slice_index (replicate n 0) b else entry_in (found_in d (content_of v [] (i + 1) (b / fanout d))) (b % fanout d)) last.0
+          ∙ get_or-replicate n b 0 0 (subst (λ (k : ℕ). b < blocks_in d k) same inside)
+      | inr inner ↦
+          ap (λ (t : Bool). if t then slice_index (replicate n 0) b else entry_in (found_in d (content_of v [] (i + 1) (b / fanout d))) (b % fanout d)) inner.0
+          ∙ ap (λ (m : Map). entry_in (found_in d (m (b / fanout d))) (b % fanout d)) (empty_content v (i + 1))
+          ∙ zeros_name d.block_bytes (b % fanout d) (omega (arith, fit.words.whole))
+    ]
+
+-- a core that has just been formatted
+pub agrees_new : (v : Setting) (trees : List Tree) → IsFit v.scheme.device → Agrees v.scheme (new_state v trees) (world_of v [])
+agrees_new v trees fit = record {
+  sized = λ i b below. ap (λ (m : Map). length (found_in v.scheme.device (m b))) (empty_content v i) ∙ length-replicate v.scheme.device.block_bytes 0;
+  leaves = λ i b below. subst (λ (m : Map). name_of (m b) ≤ 2 ^ depth_of v.scheme.device i) (sym (empty_content v i)) (omega arith);
+  others = λ i b below inside apart. none_named v trees i b fit below inside ∙ sym (ap (λ (m : Map). name_of (m b)) (empty_content v i));
+  between = tt;
+}
+
+pub orderly_new : (v : Setting) (trees : List Tree) → IsFit v.scheme.device → IsOrderly v.scheme (new_state v trees)
+orderly_new v trees fit = record {
+  sized = length-replicate (blocks_in v.scheme.device (trees_of v.scheme.device - 1)) 0;
+  queue = all_none _;
+  entry_number = let some : 0 < trees_of v.scheme.device = fit.some in omega arith;
+  rests = λ none. refl;
+}

@@ -1,0 +1,5 @@
+use Rattle.oram_semantics.proofs.Serving.{new_cores_serve}
+use Rattle.oram_semantics.proofs.law.new_cores_serve.Goals as goal
+
+pub returns : goal.returns
+returns c = new_cores_serve

@@ -1,0 +1,5 @@
+use Rattle.oram_semantics.proofs.Going.{steps_are_right}
+use Rattle.oram_semantics.proofs.law.steps_are_right.Goals as goal
+
+pub returns : goal.returns
+returns c = steps_are_right

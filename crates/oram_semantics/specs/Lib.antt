@@ -1,0 +1,17 @@
+pub mod Events
+pub mod Scheme
+pub mod Messages
+pub mod Answers
+pub mod Progress
+pub mod Content
+pub mod Nonces
+pub mod Trees
+pub mod Run
+pub mod State
+pub mod Formatting
+pub mod Blocks
+pub mod Moves
+pub mod Agree
+pub mod Serving
+pub mod Law
+pub mod TwoWorlds

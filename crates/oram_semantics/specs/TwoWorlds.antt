@@ -1,0 +1,59 @@
+-- Two runs whose commands go to different addresses, and what the host sees of them.
+use Rattle.std.specs.Prelude.{◌≡◌, ℕ, false, List, [], ◌∷◌, length, take, map}
+use Rattle.std.specs.Io.{StartsWith}
+use Rattle.oram_trace.specs.Rearranging.{tape_len, rearranged_tape, ShowsAlike}
+use Rattle.oram_semantics.specs.Events.{addresses, tape}
+use Rattle.oram_semantics.specs.Progress.{Setting, Step, accepted}
+use Rattle.oram_semantics.specs.Run.{Shown, step_of, shows_pair, AllRight}
+use Rattle.oram_semantics.specs.declared.events.Event.{Event}
+
+-- Two messages differ at most in the bytes of their records: they have the same length and the same first six bytes,
+-- which say what is asked and for which path.
+pub record LooksLike (m n : List ℕ) : Type 0 where
+  pub length_is : length m ≡ length n
+  pub header : take 6 m ≡ take 6 n
+
+-- the two lists have equally many messages, which look alike pair by pair
+abbrev pub LookAlike : List (List ℕ) → List (List ℕ) → Type 0
+LookAlike [] [] = Unit {0}
+LookAlike (m ∷ ms) (n ∷ ns) = LooksLike m n × LookAlike ms ns
+LookAlike [] (n ∷ ns) = ⊥
+LookAlike (m ∷ ms) [] = ⊥
+
+-- the past after these events, on top of an earlier past
+abbrev pub past_of : List Step → List Event → List Shown → List Step
+past_of past events [] = past
+past_of past [] (x ∷ xs) = past
+past_of past (event ∷ events) (x ∷ xs) = past_of (step_of event x ∷ past) events xs
+
+-- the accepted commands of a past are the first of the commands with these addresses and this tape
+pub record AreFirstOf (all words : List ℕ) (past : List Step) : Type 0 where
+  pub addresses_are : StartsWith all (addresses (accepted past))
+  pub tape_is : StartsWith words (tape (accepted past))
+
+-- Two runs on one device, under sealers with the same overhead, with the same notes. The commands of the first run
+-- have the addresses a and the tape t. Those of the second have the addresses b, and t rearranged so that b shows the
+-- paths of a.
+pub record AreTwoWorlds (v u : Setting) (events others : List Event) (xs ys : List Shown) (a b t q : List ℕ) : Type 0 where
+  pub device : u.scheme.device ≡ v.scheme.device
+  pub overhead : u.scheme.overhead ≡ v.scheme.overhead
+  pub notes : map (λ x. x.note) xs ≡ map (λ y. y.note) ys
+  pub words : length t ≡ tape_len v.scheme.device (length a)
+  pub alike : ShowsAlike v.scheme.device a b q
+  pub first : AreFirstOf a t (past_of [] events xs)
+  pub second : AreFirstOf b (rearranged_tape q t) (past_of [] others ys)
+
+-- At each event, the messages sent in one run look like those sent in the other, until an answer shows two records
+-- with the same digest in either run.
+abbrev pub RunsLookAlike : Setting → Setting → List Step → List Step → List Event → List Event → List Shown → List Shown → Type 0
+RunsLookAlike v u past other events others [] [] = Unit {0}
+RunsLookAlike v u past other (event ∷ events) (beside ∷ others) (x ∷ xs) (y ∷ ys) =
+    shows_pair v past event ≡ false → shows_pair u other beside ≡ false
+    → LookAlike x.sends y.sends × RunsLookAlike v u (step_of event x ∷ past) (step_of beside y ∷ other) events others xs ys
+RunsLookAlike v u past other events others xs ys = ⊥
+
+-- The messages of two right runs in two worlds differ at most in the bytes of records.
+abbrev pub TwoWorldsLookAlike : Type 0
+TwoWorldsLookAlike =
+    (v u : Setting) (events others : List Event) (xs ys : List Shown) (a b t q : List ℕ) → AreTwoWorlds v u events others xs ys a b t q
+    → AllRight v [] events xs → AllRight u [] others ys → RunsLookAlike v u [] [] events others xs ys

@@ -1,0 +1,39 @@
+//! Laws about the definitions of a run.
+ghost use Rattle.oram_semantics.specs.Law.{CoresServe, CoresTell, NewCoresServe, StepsAreRight};
+ghost use Rattle.oram_semantics.specs.Nonces.{NoncesAreApart};
+ghost use Rattle.oram_semantics.specs.TwoWorlds.{TwoWorldsLookAlike};
+
+/// A law about definitions: a core that steps by the local rule is right over every list of events.
+pub fn steps_are_right()
+    ensures { StepsAreRight }
+{}
+
+/// A law about definitions: no two sealed buckets of a run have the same nonce.
+pub fn nonces_are_apart()
+    ensures { NoncesAreApart }
+{}
+
+/// A law about definitions: take a core with an unknown past, whose trees stand and agree in a world. They still do
+/// after each step by the local rule, unless the step fails the core, and the core answers like a plain array that
+/// begins with what its tree 0 holds.
+pub fn cores_serve()
+    ensures { CoresServe }
+{}
+
+/// A law about definitions: a core that has just been formatted serves an array of zeros.
+pub fn new_cores_serve()
+    ensures { NewCoresServe }
+{}
+
+/// A law about definitions: after any list of events, what a core tells agrees with its past: how many commands were
+/// accepted, how many of them have no reply, its status, and why it failed.
+pub fn cores_tell()
+    ensures { CoresTell }
+{}
+
+/// A law about definitions: take two right runs with the same notes, whose commands may have different addresses, the
+/// second run on the first one's tape, rearranged. At each event both send equally many messages, of the same lengths
+/// and for the same paths.
+pub fn two_worlds_look_alike()
+    ensures { TwoWorldsLookAlike }
+{}

@@ -1,0 +1,19 @@
+use Rattle.std.proofs.Common.{IfOk, Result, Ok, Err}
+use Rattle.oram_state.proofs.Counted.{counted}
+use Rattle.oram_state.proofs.Sized.{saved_as}
+use Rattle.oram_state.proofs.encoder.encode_state.Goals as goal
+
+if_both : {T E : Type 0} (r : Result T E) (P Q R : T → Type 0) → ((x : T) → P x → Q x → R x) → IfOk r P → IfOk r Q → IfOk r R
+if_both (Ok x) P Q R both p q = both x p q
+if_both (Err e) P Q R both p q = tt
+
+pub write_state-requires : goal.write_state-requires
+write_state-requires g c = counted (g.S.Sealer.overhead c.args.core.now.sealer) _ c.in_ok-parts.ensures.right
+
+pub returns-clause-saved : goal.returns-clause-saved
+returns-clause-saved g c =
+    let same = c.in_ok-parts.ensures.same in
+    let right = c.in_ok-parts.ensures.right in
+    let again = c.in_ok-parts.ensures.again in
+    if_both c.write_state.result _ _ _ (λ file spelled fit. saved_as file.items (g.S.Sealer.overhead c.args.core.now.sealer) c.overhead.result _ c.args.core.now.device c.args.core.now.state c.overhead.ensures same again right spelled fit)
+    c.write_state.ensures.spelled c.write_state.ensures.fit

@@ -1,7 +1,0 @@
-use Rattle.std.proofs.Common.{◌≡◌, ◌++◌, take}
-use Rattle.std.specs.List.{flat_map}
-use Rattle.oram_state.specs.Spelling.{short}
-use Rattle.oram_state.proofs.writing.push_shorts.Given as goal
-
-abbrev pub invariant-loop-number : goal.invariant-loop-number
-invariant-loop-number l = l.out.items ≡ l.fn.out.items ++ flat_map short (take l.number-index l.numbers)

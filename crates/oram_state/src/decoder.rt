@@ -1,0 +1,35 @@
+//! Reads a core from its file.
+
+ghost use Rattle.std.specs.Prelude.{◌≡◌, IfOk, IfErr};
+ghost use Rattle.oram_geometry.specs.declared.Sizes.{Sizes};
+ghost use Rattle.oram_semantics.specs.State.{State};
+ghost use Rattle.oram_state.specs.Decoding.{IsFaultIn, IsSaved};
+
+use crate::fault::StateFault;
+use crate::reader::read_state;
+use crate::saved::Saved;
+use oram_bucket::Sealer;
+use oram_core::Core;
+use std::alloc::Global;
+
+/// Makes the core whose file this is, under the sealer that it was saved with. Also reads files of the first version,
+/// which exist only for idle and failed cores.
+///
+/// Fails with the first fault of the file, and with `Content` if the file has another overhead than the sealer, or parts
+/// that can't be a core's.
+pub fn decode_state<S: Sealer>(alloc: Global, sealer: S, file: &[u8]) -> Result<Core<S>, StateFault>
+    ensures sealer { IfOk result (λ c. c.sealer ≡ sealer) }
+    ensures core { IfOk result (λ c. IsSaved file.now (S.overhead sealer) c.device c.state) }
+    // It returns the core that was saved, unless memory runs out.
+    ensures same { (d : Sizes) (s : State) → IsSaved file.now (S.overhead sealer) d s
+        → IfOk result (λ c. (c.device ≡ d) × (c.state ≡ s)) }
+    ensures only { (d : Sizes) (s : State) → IsSaved file.now (S.overhead sealer) d s
+        → IfErr result (λ fault. fault ≡ StateFault.OutOfMemory) }
+    ensures first { IfErr result (λ fault. IsFaultIn file.now (S.overhead sealer) fault) }
+{
+    let Saved { overhead, parts } = read_state(alloc, file)?;
+    if overhead as usize != sealer.overhead() {
+        return Err(StateFault::Content);
+    }
+    Ok(Core::from_parts(alloc, sealer, parts)?)
+}

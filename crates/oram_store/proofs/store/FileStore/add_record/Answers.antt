@@ -1,0 +1,78 @@
+use Rattle.std.proofs.Common.{◌≡◌, ◌≢◌, ℕ, suc, ◌+◌, [], ◌∷◌, ◌++◌, ◌∙◌, ap, List, Some, refl, subst, arith}
+use Rattle.std.specs.Prelude.{Contains}
+use Rattle.oram_layout.specs.Trees.{cell_at, tree_at}
+use Rattle.oram_layout.specs.declared.trees.Tree.{Tree}
+use Rattle.oram_redo.specs.Content.{Agrees, put}
+use Rattle.oram_redo.specs.Log.{AgreesBut, Patch}
+use Rattle.oram_redo.specs.declared.file_pair.FileKind.TheVariants.{Records}
+use Rattle.oram_store.specs.Crashes.{Serves}
+use Rattle.oram_store.specs.Keeping.{IsSound, StoreValue}
+use Rattle.oram_store.specs.RecordFile.{IsSteady, Passes}
+use Rattle.oram_wire.specs.declared.host_messages.HostAnswer.{HostAnswer}
+use Rattle.oram_wire.specs.declared.host_messages.HostAnswer.TheVariants as answer
+use Rattle.oram_wire.specs.declared.host_messages.HostRequest.TheVariants as request
+use Rattle.oram_store.proofs.Adding.{serves_added, serves_not_added}
+use Rattle.oram_store.proofs.Served.{answer_of_err}
+use Rattle.oram_store.proofs.store.FileStore.add_record.Goals as goal
+
+pub returns-in_err-write_loose-clause-serves : goal.returns-in_err-write_loose-clause-serves
+returns-in_err-write_loose-clause-serves g c number there s fresh unset =
+    let seen = g.F.FilePair.seen in
+    let leave = g.F.FilePair.may_leave in
+    let moment = g.F.FilePair.moment in
+    let since = g.F.FilePair.left_since in
+    let tree : Tree = c.args.tree.now in
+    let node : ℕ = c.args.node in
+    let bytes : List ℕ = c.args.bytes.now in
+    let place : c.cell_at-cell.result + 1 ≡ suc (cell_at tree node) = omega (arith, c.cell_at-cell.ensures.place) in
+    let new : StoreValue g.row.F.Denot = record { file = c.write_loose.new.self; trees = c.self.inside.trees.items; pending = c.self.inside.pending.items; failure = c.self.inside.failure } in
+    let passes = subst (λ (at : ℕ). (loose : List Patch) → IsSteady seen leave c.self.inside.file loose
+    → Passes seen leave moment since ((at, bytes) ∷ loose) (λ r. AgreesBut ((at, bytes) ∷ loose) r (seen c.self.inside.file.files Records)) c.self.inside.file c.write_loose.new.self) place c.write_loose.ensures.passes in
+    let elsewhere = subst (λ (at : ℕ). AgreesBut ((at, bytes) ∷ []) (seen c.write_loose.new.self.files Records) (seen c.self.inside.file.files Records)) place c.write_loose.ensures.elsewhere in
+    let served = (subst (λ (old : StoreValue g.row.F.Denot). IsSound seen leave old → tree_at old.trees number ≡ Some tree → (Contains old.pending (cell_at tree node) → ⊥)
+    → seen old.file.files Records (cell_at tree node) ≢ 1 → Serves seen leave moment since (request.Put number node bytes) (answer.Refused 8) old new) c.self.view_is
+    (λ was here none free. serves_not_added seen leave moment since number node bytes tree _ new was (record { is_there = here; within = c.requires.node }) c.requires.whole none free passes elsewhere refl refl))
+    s there fresh unset in
+    subst (λ (a : HostAnswer). Serves seen leave moment since (request.Put number node bytes) a c.args.self.now new) (answer_of_err c.from_residual.result c.from_residual.ensures.0) served
+
+pub returns-in_err-push-clause-serves : goal.returns-in_err-push-clause-serves
+returns-in_err-push-clause-serves g c number there s fresh unset =
+    let seen = g.F.FilePair.seen in
+    let leave = g.F.FilePair.may_leave in
+    let moment = g.F.FilePair.moment in
+    let since = g.F.FilePair.left_since in
+    let tree : Tree = c.args.tree.now in
+    let node : ℕ = c.args.node in
+    let bytes : List ℕ = c.args.bytes.now in
+    let place : c.cell_at-cell.result + 1 ≡ suc (cell_at tree node) = omega (arith, c.cell_at-cell.ensures.place) in
+    let new : StoreValue g.row.F.Denot = record { file = c.write_loose.new.self; trees = c.self.inside.trees.items; pending = c.push.new.self.items; failure = c.self.inside.failure } in
+    let passes = subst (λ (at : ℕ). (loose : List Patch) → IsSteady seen leave c.self.inside.file loose
+    → Passes seen leave moment since ((at, bytes) ∷ loose) (λ r. AgreesBut ((at, bytes) ∷ loose) r (seen c.self.inside.file.files Records)) c.self.inside.file c.write_loose.new.self) place c.write_loose.ensures.passes in
+    let elsewhere = subst (λ (at : ℕ). AgreesBut ((at, bytes) ∷ []) (seen c.write_loose.new.self.files Records) (seen c.self.inside.file.files Records)) place c.write_loose.ensures.elsewhere in
+    let served = (subst (λ (old : StoreValue g.row.F.Denot). IsSound seen leave old → tree_at old.trees number ≡ Some tree → (Contains old.pending (cell_at tree node) → ⊥)
+    → seen old.file.files Records (cell_at tree node) ≢ 1 → Serves seen leave moment since (request.Put number node bytes) (answer.Refused 8) old new) c.self.view_is
+    (λ was here none free. serves_not_added seen leave moment since number node bytes tree _ new was (record { is_there = here; within = c.requires.node }) c.requires.whole none free passes elsewhere refl c.in_err-push.ensures.items))
+    s there fresh unset in
+    subst (λ (a : HostAnswer). Serves seen leave moment since (request.Put number node bytes) a c.args.self.now new) (answer_of_err c.from_residual-in_err-push.result c.from_residual-in_err-push.ensures.0) served
+
+pub returns-clause-serves : goal.returns-clause-serves
+returns-clause-serves g c number there s fresh unset =
+    let seen = g.F.FilePair.seen in
+    let leave = g.F.FilePair.may_leave in
+    let moment = g.F.FilePair.moment in
+    let since = g.F.FilePair.left_since in
+    let tree : Tree = c.args.tree.now in
+    let node : ℕ = c.args.node in
+    let bytes : List ℕ = c.args.bytes.now in
+    let place : c.cell_at-cell.result + 1 ≡ suc (cell_at tree node) = omega (arith, c.cell_at-cell.ensures.place) in
+    let new : StoreValue g.row.F.Denot = record { file = c.write_loose.new.self; trees = c.self.inside.trees.items; pending = c.push.new.self.items; failure = c.self.inside.failure } in
+    let passes = subst (λ (at : ℕ). (loose : List Patch) → IsSteady seen leave c.self.inside.file loose
+    → Passes seen leave moment since ((at, bytes) ∷ loose) (λ r. AgreesBut ((at, bytes) ∷ loose) r (seen c.self.inside.file.files Records)) c.self.inside.file c.write_loose.new.self) place c.write_loose.ensures.passes in
+    let elsewhere = subst (λ (at : ℕ). AgreesBut ((at, bytes) ∷ []) (seen c.write_loose.new.self.files Records) (seen c.self.inside.file.files Records)) place c.write_loose.ensures.elsewhere in
+    let written = subst (λ (at : ℕ). Agrees (seen c.write_loose.new.self.files Records) (put bytes at (seen c.self.inside.file.files Records))) place c.in_ok-write_loose.ensures.written in
+    let pushed : c.push.new.self.items ≡ c.self.inside.pending.items ++ cell_at tree node ∷ [] = c.in_ok-push.ensures.items ∙ ap (λ (cell : ℕ). c.self.inside.pending.items ++ cell ∷ []) c.cell_at-cell.ensures.place in
+    let served = (subst (λ (old : StoreValue g.row.F.Denot). IsSound seen leave old → tree_at old.trees number ≡ Some tree → (Contains old.pending (cell_at tree node) → ⊥)
+    → seen old.file.files Records (cell_at tree node) ≢ 1 → Serves seen leave moment since (request.Put number node bytes) answer.Done old new) c.self.view_is
+    (λ was here none free. serves_added seen leave moment since number node bytes tree _ new was (record { is_there = here; within = c.requires.node }) c.requires.whole none free passes elsewhere refl written pushed))
+    s there fresh unset in
+    served

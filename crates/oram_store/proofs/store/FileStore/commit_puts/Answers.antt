@@ -1,0 +1,27 @@
+use Rattle.std.proofs.Common.{List, ℕ, refl, subst, Ok, Err, Some}
+use Rattle.oram_layout.specs.Changes.{marks}
+use Rattle.oram_store.specs.Crashes.{Settles}
+use Rattle.oram_store.specs.Keeping.{IsSound, StoreValue}
+use Rattle.oram_store.specs.RecordFile.{Commits}
+use Rattle.oram_store.proofs.Settling.{settles_by, settles_none}
+use Rattle.oram_store.proofs.store.FileStore.commit_puts.Goals as goal
+
+pub returns-then-is_empty-clause-settles : goal.returns-then-is_empty-clause-settles
+returns-then-is_empty-clause-settles g c s =
+    settles_none g.F.FilePair.seen g.F.FilePair.may_leave g.F.FilePair.moment g.F.FilePair.left_since c.args.self.now s (g.met.F.FilePair.only_now c.args.self.now.file.files)
+
+pub returns-in-Ok-clause-settles : goal.returns-in-Ok-clause-settles
+returns-in-Ok-clause-settles g c =
+    let new : StoreValue g.row.F.Denot = record { file = c.commit_marks.new.file; trees = c.self.inside.trees.items; pending = c.clear.new.self.items; failure = c.self.inside.failure } in
+    subst (λ (v : StoreValue g.row.F.Denot). IsSound g.F.FilePair.seen g.F.FilePair.may_leave v → Settles g.F.FilePair.seen g.F.FilePair.may_leave g.F.FilePair.moment g.F.FilePair.left_since v new) c.self.view_is
+    (λ s. settles_by g.F.FilePair.seen g.F.FilePair.may_leave g.F.FilePair.moment g.F.FilePair.left_since _ new (Ok c.in-Ok.field-0) s
+    (subst (λ (cells : List ℕ). Commits g.F.FilePair.seen g.F.FilePair.may_leave g.F.FilePair.moment g.F.FilePair.left_since (marks cells) (Ok c.in-Ok.field-0) c.self.inside.file c.commit_marks.new.file) c.deref.ensures.value c.in-Ok.ensures.commits)
+    refl c.clear.ensures.items tt)
+
+pub returns-in-Err-clause-settles : goal.returns-in-Err-clause-settles
+returns-in-Err-clause-settles g c =
+    let new : StoreValue g.row.F.Denot = record { file = c.commit_marks.new.file; trees = c.self.inside.trees.items; pending = c.self.inside.pending.items; failure = Some c.in-Err.fault } in
+    subst (λ (v : StoreValue g.row.F.Denot). IsSound g.F.FilePair.seen g.F.FilePair.may_leave v → Settles g.F.FilePair.seen g.F.FilePair.may_leave g.F.FilePair.moment g.F.FilePair.left_since v new) c.self.view_is
+    (λ s. settles_by g.F.FilePair.seen g.F.FilePair.may_leave g.F.FilePair.moment g.F.FilePair.left_since _ new (Err c.in-Err.fault) s
+    (subst (λ (cells : List ℕ). Commits g.F.FilePair.seen g.F.FilePair.may_leave g.F.FilePair.moment g.F.FilePair.left_since (marks cells) (Err c.in-Err.fault) c.self.inside.file c.commit_marks.new.file) c.deref.ensures.value c.in-Err.ensures.commits)
+    refl tt refl)

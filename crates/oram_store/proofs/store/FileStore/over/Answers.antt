@@ -1,0 +1,25 @@
+use Rattle.std.proofs.Common.{◌≡◌, [], sym, ◌∙◌, ap, subst, None}
+use Rattle.oram_redo.specs.Content.{Content}
+use Rattle.oram_redo.specs.Log.{StandsFor}
+use Rattle.oram_layout.specs.BucketFile.{IsBucketFile}
+use Rattle.oram_layout.specs.Records.{AreKept, records_in}
+use Rattle.oram_layout.specs.Trees.{Trees}
+use Rattle.oram_store.specs.Keeping.{IsSound, StoreValue, records_of}
+use Rattle.oram_store.specs.RecordFile.{FileValue, bounds}
+use Rattle.oram_store.proofs.Recovering.{fresh, fresh_found}
+use Rattle.oram_store.proofs.store.FileStore.over.Goals as goal
+
+pub returns-clause-found : goal.returns-clause-found
+returns-clause-found g c honest =
+    let seen = g.F.FilePair.seen in
+    let leave = g.F.FilePair.may_leave in
+    let new = c.recover_trees.new.files in
+    let redo = c.in_ok-redo.redo in
+    let opened = c.in_ok-redo.trees.items in
+    let is : c.new-2.result ≡ fresh seen leave g.F.FilePair.moment g.F.FilePair.left_since new redo opened =
+    c.new-2.ensures ∙ ap (λ (v : FileValue g.row.F.Denot). record { file = v; trees = opened; pending = []; failure = None }) c.new.ensures in
+    let was_honest : g.F.FilePair.is_honest new = subst (λ (s : StoreValue g.row.F.Denot). g.F.FilePair.is_honest s.file.files) is honest in
+    subst
+    (λ (s : StoreValue g.row.F.Denot). (trees : Trees) (d : Content) → StandsFor bounds [] d (seen c.args.files) → IsBucketFile trees d
+    → (s.trees ≡ trees) × IsSound seen leave s × AreKept (records_in trees d) (records_of seen s)) (sym is)
+    (fresh_found seen leave g.F.FilePair.moment g.F.FilePair.left_since redo opened c.args.files new (c.in_ok-redo.ensures.opened was_honest) c.in_ok-redo.ensures.bounds)

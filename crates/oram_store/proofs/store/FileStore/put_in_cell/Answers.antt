@@ -1,0 +1,51 @@
+use Rattle.std.proofs.Common.{◌≡◌, ◌≢◌, Some, true≢false, refl, sym, subst, ◌∙◌}
+use Rattle.std.specs.Prelude.{Contains}
+use Rattle.oram_layout.specs.Trees.{cell_at, tree_at}
+use Rattle.oram_redo.specs.declared.file_pair.FileKind.TheVariants.{Records}
+use Rattle.oram_store.specs.Answers.{answer_by}
+use Rattle.oram_store.specs.Crashes.{Serves}
+use Rattle.oram_store.specs.Keeping.{IsSound, StoreValue}
+use Rattle.oram_wire.specs.declared.host_messages.HostAnswer.{HostAnswer}
+use Rattle.oram_wire.specs.declared.host_messages.HostAnswer.TheVariants as answer
+use Rattle.oram_wire.specs.declared.host_messages.HostRequest.TheVariants as request
+use Rattle.oram_store.proofs.Putting.{serves_read, serves_unread}
+use Rattle.oram_store.proofs.Served.{answer_of_err}
+use Rattle.oram_store.proofs.store.FileStore.put_in_cell.Goals as goal
+
+pub returns-in_err-has_record-clause-serves : goal.returns-in_err-has_record-clause-serves
+returns-in_err-has_record-clause-serves g c number there honest s fresh =
+    let seen = g.F.FilePair.seen in
+    let leave = g.F.FilePair.may_leave in
+    let moment = g.F.FilePair.moment in
+    let since = g.F.FilePair.left_since in
+    let mid : StoreValue g.row.F.Denot = record { file = c.has_record.new.file; trees = c.self.inside.trees.items; pending = c.self.inside.pending.items; failure = c.self.inside.failure } in
+    let served = (subst (λ (old : StoreValue g.row.F.Denot). IsSound seen leave old → Serves seen leave moment since (request.Put number c.args.node c.args.bytes.now) (answer.Refused 8) old mid) c.self.view_is
+    (λ was. serves_unread seen leave moment since (request.Put number c.args.node c.args.bytes.now) _ mid was refl refl c.has_record.ensures.reads)) s in
+    subst (λ (a : HostAnswer). Serves seen leave moment since (request.Put number c.args.node c.args.bytes.now) a c.args.self.now mid) (answer_of_err c.from_residual.result c.from_residual.ensures.0) served
+
+pub returns-then-branch-clause-serves : goal.returns-then-branch-clause-serves
+returns-then-branch-clause-serves g c number there honest s fresh =
+    let seen = g.F.FilePair.seen in
+    let leave = g.F.FilePair.may_leave in
+    let moment = g.F.FilePair.moment in
+    let since = g.F.FilePair.left_since in
+    let mid : StoreValue g.row.F.Denot = record { file = c.has_record.new.file; trees = c.self.inside.trees.items; pending = c.self.inside.pending.items; failure = c.self.inside.failure } in
+    (subst (λ (old : StoreValue g.row.F.Denot). IsSound seen leave old → tree_at old.trees number ≡ Some c.args.tree.now
+    → Serves seen leave moment since (request.Put number c.args.node c.args.bytes.now) (answer_by c.replace_record.result) old c.replace_record.new.self) c.self.view_is
+    (λ was here. serves_read seen leave moment since (request.Put number c.args.node c.args.bytes.now) _ mid was refl refl c.has_record.ensures.reads (answer_by c.replace_record.result) c.replace_record.new.self
+    (λ sound. c.replace_record.ensures.serves number here sound) c.replace_record.ensures.calls.runs.stays (g.met.F.FilePair.counts_now mid.file.files) (g.met.F.FilePair.whole mid.file.files))) s there
+
+pub returns-else-branch-clause-serves : goal.returns-else-branch-clause-serves
+returns-else-branch-clause-serves g c number there honest s fresh =
+    let seen = g.F.FilePair.seen in
+    let leave = g.F.FilePair.may_leave in
+    let moment = g.F.FilePair.moment in
+    let since = g.F.FilePair.left_since in
+    let mid : StoreValue g.row.F.Denot = record { file = c.has_record.new.file; trees = c.self.inside.trees.items; pending = c.self.inside.pending.items; failure = c.self.inside.failure } in
+    let was_honest = c.add_record.ensures.calls.runs.after.honest honest in
+    let unset : seen mid.file.files Records (cell_at c.args.tree.now c.args.node) ≢ 1 =
+    λ one. true≢false (sym ((c.in_ok-has_record.ensures.found was_honest).1 (sym (c.has_record.ensures.reads.nothing.seen_same Records _) ∙ one)) ∙ c.if-branch.false) in
+    (subst (λ (old : StoreValue g.row.F.Denot). IsSound seen leave old → tree_at old.trees number ≡ Some c.args.tree.now → (Contains old.pending (cell_at c.args.tree.now c.args.node) → ⊥)
+    → Serves seen leave moment since (request.Put number c.args.node c.args.bytes.now) (answer_by c.add_record.result) old c.add_record.new.self) c.self.view_is
+    (λ was here free. serves_read seen leave moment since (request.Put number c.args.node c.args.bytes.now) _ mid was refl refl c.has_record.ensures.reads (answer_by c.add_record.result) c.add_record.new.self
+    (λ sound. c.add_record.ensures.serves number here sound free unset) c.add_record.ensures.calls.runs.stays (g.met.F.FilePair.counts_now mid.file.files) (g.met.F.FilePair.whole mid.file.files))) s there fresh

@@ -1,0 +1,39 @@
+use Rattle.std.proofs.Common.{◌≡◌, ◌+◌, ℕ, length, List, sym, subst, ap, ◌∙◌, arith, refl}
+use Rattle.std.specs.Prelude.{All}
+use Rattle.oram_layout.specs.Changes.{path_patches}
+use Rattle.oram_layout.proofs.Fitting.{patches_fit}
+use Rattle.oram_redo.specs.Batch.{patches_of}
+use Rattle.oram_redo.specs.Log.{Fits, Patch, entries}
+use Rattle.oram_store.specs.Batches.{HoldsCells}
+use Rattle.oram_store.specs.RecordFile.{bounds}
+use Rattle.oram_store.proofs.Finding.{commits_none}
+use Rattle.oram_store.proofs.Spelling.{path_short}
+use Rattle.oram_store.proofs.store.commit_path.Goals as goal
+
+pub returns-in_err-cells-clause-commits : goal.returns-in_err-cells-clause-commits
+returns-in_err-cells-clause-commits g c =
+    commits_none g.F.FilePair.seen g.F.FilePair.may_leave g.F.FilePair.moment g.F.FilePair.left_since (path_patches c.args.tree.now c.args.leaf c.args.records.now 0 (c.args.tree.now.shape.depth + 1)) c.args.file.now c.from_residual.result
+    c.from_residual.ensures.0 (g.met.F.FilePair.only_now c.args.file.now.files)
+
+pub returns-in_err-batch-clause-commits : goal.returns-in_err-batch-clause-commits
+returns-in_err-batch-clause-commits g c =
+    commits_none g.F.FilePair.seen g.F.FilePair.may_leave g.F.FilePair.moment g.F.FilePair.left_since (path_patches c.args.tree.now c.args.leaf c.args.records.now 0 (c.args.tree.now.shape.depth + 1)) c.args.file.now c.from_residual-in_err-batch.result
+    c.from_residual-in_err-batch.ensures.0 (g.met.F.FilePair.only_now c.args.file.now.files)
+
+pub commit-requires-clause-fits : goal.commit-requires-clause-fits
+commit-requires-clause-fits g c =
+    let path : List Patch = path_patches c.args.tree.now c.args.leaf c.args.records.now 0 (c.args.tree.now.shape.depth + 1) in
+    let is : patches_of c.deref-2.result.now ≡ path =
+    ap patches_of c.deref-2.ensures.value
+    ∙ c.in_ok-batch.ensures c.args.records.now
+    (subst (λ (xs : List ℕ). HoldsCells xs c.args.tree.now.shape.record_len c.args.records.now (c.args.tree.now.shape.depth + 1)) (sym c.deref.ensures.value) c.in_ok-cells.ensures.cells) in
+    subst (λ (ps : List Patch). All (Fits bounds) ps) (sym is) ((patches_fit bounds refl).of_path c.args.tree.now c.args.leaf c.args.records.now c.requires.leaf c.requires.whole)
+
+pub commit-requires-clause-short : goal.commit-requires-clause-short
+commit-requires-clause-short g c =
+    let path : List Patch = path_patches c.args.tree.now c.args.leaf c.args.records.now 0 (c.args.tree.now.shape.depth + 1) in
+    let is : patches_of c.deref-2.result.now ≡ path =
+    ap patches_of c.deref-2.ensures.value
+    ∙ c.in_ok-batch.ensures c.args.records.now
+    (subst (λ (xs : List ℕ). HoldsCells xs c.args.tree.now.shape.record_len c.args.records.now (c.args.tree.now.shape.depth + 1)) (sym c.deref.ensures.value) c.in_ok-cells.ensures.cells) in
+    omega (arith, ap (λ (ps : List Patch). length (entries ps)) is, path_short c.args.tree.now c.args.leaf c.args.records.now c.requires.whole)

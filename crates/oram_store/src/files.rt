@@ -1,0 +1,256 @@
+//! A store in a file of the system, with its log beside it.
+//!
+//! This looks at what is at a path before it writes anything there.
+ghost use Rattle.std.specs.Prelude.{◌≡◌, ◌⊎◌, ◌≤◌, ◌↔◌, [], false, length, take, Err, None, Ok, IfErr, IfOk, IsOk};
+ghost use Rattle.oram_layout.specs.Fronts.{IsFront, IsNewer, log_letters, sqlite_letters};
+ghost use Rattle.oram_layout.specs.Header.{letters};
+ghost use Rattle.oram_layout.specs.declared.fronts.Identity.{Identity};
+
+use crate::creation::create;
+use crate::faults::StoreFault;
+use crate::record_file::BOUNDS;
+use crate::store::FileStore;
+use oram_layout::{FRONT_LEN, Front, Identity, read_front, read_log_front};
+use oram_redo::{SystemPair, Unknown};
+use std::alloc::{AllocError, Global};
+use std::fs::{File, OpenFile, OpenOptions, TryLockError};
+use std::io::ErrorKind;
+use std::os::unix::fs::{FileExt, OpenOptionsExt};
+use std::path::Path;
+use std::random::RandomSource;
+use std::{fs, io};
+
+/// At least as large as any block of memory that a host frees, in bytes.
+const LARGE_BLOCK: usize = 1 << 22;
+
+/// A store in a file.
+pub type BucketFile = FileStore<SystemPair<Unknown>>;
+
+/// The mode of a file that only its owner may read and write.
+const OWNERS_ALONE: u32 = 0o600;
+
+/// Opens the file of a store, or makes it if there is none. Its log lies beside it, under the same name and `-log`. The
+/// two belong together.
+///
+/// A file that isn't a store's, is damaged or is held by another process is refused and keeps its bytes. This reads
+/// only the header of the file. It reads the log, which has 64 MiB at most, once; after a clean end the log is empty.
+///
+/// After the disk has failed (`StoreFault::Io`, `StoreFault::Closed`), drop the store and open its file again with this
+/// function: everything that was acknowledged and settled is there.
+pub fn open_store(rt: &HostRuntime, alloc: Global, path: &str) -> Result<BucketFile, StoreFault>
+    // No record waits to be settled, and the store hasn't stopped. No clause can say what it found in the files: for
+    // files that are known, see `FileStore::over`.
+    ensures { IfOk result (λ store. (store.pending ≡ []) × (store.failure ≡ None) × (store.file.has_stopped ≡ false)) }
+{
+    keep_freed_memory(alloc);
+    let files = if is_there(rt, path)? {
+        open_files(rt, alloc, path)?
+    } else {
+        make_files(rt, alloc, path)?
+    };
+    FileStore::over(alloc, files)
+}
+
+/// Makes the C library keep freed memory. Otherwise it returns the memory of each large message to the system and takes
+/// it again for the next one, which costs a page fault for every 4 KiB. It keeps twice as much as the largest block
+/// that was ever freed (mallopt(3), `M_TRIM_THRESHOLD`).
+fn keep_freed_memory(alloc: Global) {
+    let _freed: Result<Vec<u8>, AllocError> = Vec::with_capacity(alloc, LARGE_BLOCK);
+}
+
+/// Returns whether there is anything at a path, even a link that leads nowhere.
+fn is_there(rt: &HostRuntime, path: &str) -> io::Result<bool> {
+    match fs::symlink_metadata(rt, path) {
+        Ok(_) => Ok(true),
+        Err(error) if error.kind() == ErrorKind::NotFound => Ok(false),
+        Err(error) => Err(error),
+    }
+}
+
+/// Returns the name of a file's log.
+fn log_name(alloc: Global, path: &str) -> Result<String, AllocError> {
+    format!(in alloc; "{path}-log")
+}
+
+/// Returns the name under which a file is made.
+fn new_name(alloc: Global, path: &str) -> Result<String, AllocError> {
+    format!(in alloc; "{path}.new")
+}
+
+/// Opens a regular file for reading and writing. Fails with `not_plain` if the path leads to nothing or to anything
+/// else.
+fn open_plain(rt: &HostRuntime, path: &str, not_plain: StoreFault) -> Result<File, StoreFault> {
+    match fs::metadata(rt, path) {
+        Ok(found) if found.is_file() => {}
+        Ok(_) => return Err(not_plain),
+        Err(error) if error.kind() == ErrorKind::NotFound => return Err(not_plain),
+        Err(error) => return Err(error.into()),
+    }
+    let mut options = OpenOptions::new();
+    options.read(true).write(true);
+    Ok(options.open(rt, path)?)
+}
+
+/// Takes the lock of a file, which lasts as long as the file is open. Fails with `Busy` if another process holds it.
+fn lock(file: &File) -> Result<(), StoreFault> {
+    match file.try_lock() {
+        Ok(()) => Ok(()),
+        Err(TryLockError::WouldBlock) => Err(StoreFault::Busy),
+        Err(TryLockError::Error(error)) => Err(error.into()),
+    }
+}
+
+/// Reads the bytes at a place of a file, as many as there are, and returns their number.
+fn bytes_at(file: &File, at: u64, bytes: &mut [u8]) -> io::Result<usize>
+    ensures { IfOk result (λ len. len ≤ length bytes.new) }
+{
+    let mut got = 0;
+    while got < bytes.len() {
+        let Some(from) = at.checked_add(got as u64) else {
+            break;
+        };
+        match file.read_at(&mut bytes[got..], from)? {
+            0 => break,
+            n => got += n,
+        }
+    }
+    Ok(got)
+}
+
+/// Returns the identity of a file of buckets.
+fn identity_of(records: &File) -> Result<Identity, StoreFault> {
+    let mut front = [0; FRONT_LEN];
+    let len = bytes_at(records, 0, &mut front)?;
+    identity_in(&front[..len])
+}
+
+/// Returns the identity in the first bytes of a file of buckets, or why another file is refused.
+fn identity_in(front: &[u8]) -> Result<Identity, StoreFault>
+    ensures found { IfOk result (λ identity. IsFront letters identity front.now) }
+    ensures ours { (identity : Identity) → IsFront letters identity front.now → result ≡ Ok identity }
+    ensures newer { (result ≡ Err StoreFault.NewerKind) ↔ IsNewer front.now }
+    ensures old { (result ≡ Err StoreFault.OlderVersion) ↔ (take 16 front.now ≡ sqlite_letters) }
+    ensures errors { IfErr result (λ fault. (fault ≡ StoreFault.NewerKind) ⊎ (fault ≡ StoreFault.OlderVersion) ⊎ (fault ≡ StoreFault.NotABucketFile)) }
+{
+    match read_front(front) {
+        Front::Ours(identity) => Ok(identity),
+        Front::NewerVersion => Err(StoreFault::NewerKind),
+        Front::Sqlite => Err(StoreFault::OlderVersion),
+        Front::Another | Front::Empty => Err(StoreFault::NotABucketFile),
+    }
+}
+
+/// Returns the identity in the front of a log, if it has one.
+fn identity_of_log(log: &File) -> io::Result<Option<Identity>> {
+    let mut front = [0; FRONT_LEN];
+    let len = bytes_at(log, 0, &mut front)?;
+    Ok(read_log_front(&front[..len]))
+}
+
+/// Refuses a log that doesn't belong to a file with this identity.
+fn check_log(log: &File, identity: &Identity) -> Result<(), StoreFault> {
+    let mut front = [0; FRONT_LEN];
+    let len = bytes_at(log, 0, &mut front)?;
+    check_log_front(&front[..len], identity)
+}
+
+fn check_log_front(front: &[u8], identity: &Identity) -> Result<(), StoreFault>
+    ensures ours { IsOk result ↔ IsFront log_letters identity.now front.now }
+    ensures others { IfErr result (λ fault. fault ≡ StoreFault.LogOfAnotherFile) }
+{
+    match read_log_front(front) {
+        Some(found) if found == *identity => Ok(()),
+        _ => Err(StoreFault::LogOfAnotherFile),
+    }
+}
+
+/// Opens the file of a store, and its log.
+fn open_files(
+    rt: &HostRuntime,
+    alloc: Global,
+    path: &str,
+) -> Result<SystemPair<Unknown>, StoreFault> {
+    let records = open_plain(rt, path, StoreFault::NotABucketFile)?;
+    let identity = identity_of(&records)?;
+    lock(&records)?;
+    let real = fs::canonicalize(rt, path)?;
+    let log_name = log_name(alloc, real.as_str())?;
+    if !is_there(rt, log_name.as_str())? {
+        return Err(StoreFault::WithoutLog);
+    }
+    let log = open_plain(rt, log_name.as_str(), StoreFault::LogOfAnotherFile)?;
+    check_log(&log, &identity)?;
+    Ok(SystemPair::new(Unknown, records, log, BOUNDS.log_end)?)
+}
+
+/// Opens a file that is being made, for its owner alone. If an earlier attempt has left one, it takes that.
+fn open_new(rt: &HostRuntime, name: &str) -> io::Result<File> {
+    let mut options = OpenOptions::new();
+    options
+        .read(true)
+        .write(true)
+        .create(true)
+        .mode(OWNERS_ALONE);
+    options.open(rt, name)
+}
+
+/// Returns whether a log holds acknowledged changes, which is so if its first gate is open.
+fn holds_entries(log: &File) -> io::Result<bool> {
+    let mut gate = [0];
+    let len = bytes_at(log, BOUNDS.log_start, &mut gate)?;
+    Ok(len > 0 && gate[0] == 1)
+}
+
+/// Refuses a log where a new one would be, unless an attempt to make a store has left it.
+fn check_no_log(rt: &HostRuntime, log_name: &str) -> Result<(), StoreFault> {
+    if !is_there(rt, log_name)? {
+        return Ok(());
+    }
+    let log = open_plain(rt, log_name, StoreFault::LogWithoutFile)?;
+    if identity_of_log(&log)?.is_none() || holds_entries(&log)? {
+        return Err(StoreFault::LogWithoutFile);
+    }
+    Ok(())
+}
+
+fn new_identity(rt: &HostRuntime) -> io::Result<Identity> {
+    let mut identity = [0; 16];
+    rt.fill_bytes(&mut identity)?;
+    Ok(Identity(identity))
+}
+
+/// Renames a file that was made to its own name, and syncs its folder.
+fn rename_new(rt: &HostRuntime, from: &str, to: &str) -> io::Result<()> {
+    fs::rename(rt, from, to)?;
+    let folder = match Path::new(to).parent() {
+        Some(folder) if folder.as_str() != "" => folder.as_str(),
+        _ => ".",
+    };
+    File::open(rt, folder)?.sync_all()
+}
+
+/// Makes the file of a store and its log under other names, and renames them, so that nobody ever meets half of one.
+/// The new file is locked before it gets its name.
+fn make_files(
+    rt: &HostRuntime,
+    alloc: Global,
+    path: &str,
+) -> Result<SystemPair<Unknown>, StoreFault> {
+    let log_name = log_name(alloc, path)?;
+    check_no_log(rt, log_name.as_str())?;
+    let (new_file, new_log) = (new_name(alloc, path)?, new_name(alloc, log_name.as_str())?);
+    let records = open_new(rt, new_file.as_str())?;
+    lock(&records)?;
+    // Another process may have made the file just now.
+    if is_there(rt, path)? {
+        return Err(StoreFault::Busy);
+    }
+    let log = open_new(rt, new_log.as_str())?;
+    records.set_len(0)?;
+    log.set_len(0)?;
+    let mut files = SystemPair::new(Unknown, records, log, BOUNDS.log_end)?;
+    create(&mut files, &new_identity(rt)?)?;
+    rename_new(rt, new_log.as_str(), log_name.as_str())?;
+    rename_new(rt, new_file.as_str(), path)?;
+    Ok(files)
+}

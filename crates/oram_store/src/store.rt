@@ -1,0 +1,497 @@
+//! The store: its trees, and what each request does to their records.
+ghost use Rattle.std.specs.Prelude.{◌≡◌, ◌≢◌, Contains, MatchOption, ◌⊎◌, ◌≤◌, ◌<◌, ◌+◌, ◌*◌, ◌^◌, ◌∷◌, [], ℕ, length, false, None, Some, IfErr, IfOk, IfSome, IsOk, IsSome, IsSomeAnd, MatchResult, OnErr, OnOk};
+ghost use Rattle.oram_host.specs.Path.{FitsAnswer, IsBehind};
+ghost use Rattle.oram_host.specs.Refusals.{code_of};
+ghost use Rattle.oram_layout.specs.Changes.{IsCell, marks, path_patches, record_patch};
+ghost use Rattle.oram_layout.specs.Header.{entry_at, entry_bytes};
+ghost use Rattle.oram_layout.specs.Limits.{nodes_of};
+ghost use Rattle.oram_layout.specs.Records.{AreKept};
+ghost use Rattle.oram_layout.specs.Trees.{Trees, cell_at, next_of, sizes_of, tree_at};
+ghost use Rattle.oram_redo.specs.FilePair.{Contents, Rises};
+ghost use Rattle.oram_store.specs.Answers.{answer_by};
+ghost use Rattle.oram_store.specs.Closing.{Closes};
+ghost use Rattle.oram_store.specs.Crashes.{Serves, Settles};
+ghost use Rattle.oram_store.specs.Keeping.{Changes, IsSound, IsSoundFile, Puts, Stores, records_of};
+ghost use Rattle.oram_store.specs.Pending.{AreCells};
+ghost use Rattle.oram_store.specs.Reasons.{IsReasonFor, TellsWhy};
+ghost use Rattle.oram_store.specs.Refusals.{IsRefused, ChangesTrees, refusal_by};
+ghost use Rattle.oram_store.specs.RecordFile.{Calls, Commits, FileValue, IsReason, Runs};
+ghost use Rattle.oram_wire.specs.declared.host_messages.HostAnswer.{HostAnswer};
+ghost use Rattle.oram_wire.specs.declared.host_messages.HostRequest.{HostRequest};
+
+use crate::batches::{cells_of, marks_of, path_batch};
+use crate::cells::{THERE, has_record, read_path, write_missing};
+use crate::faults::StoreFault;
+use crate::record_file::RecordFile;
+use oram_host::HostRefusal;
+use oram_layout::{Shape, Tree, entry_place, next_base};
+use oram_redo::{FileKind, FilePair, Patch};
+use std::alloc::Global;
+use std::marker::Model;
+
+/// The greatest number of records of a formatting that are settled together.
+const MOST_PENDING: usize = 4_096;
+
+/// A bucket server that keeps its records in a file.
+#[derive(Drop)]
+pub struct FileStore<F: FilePair> {
+    alloc: Global,
+    file: RecordFile<F>,
+    /// The trees by number, as the file's header has them.
+    trees: Vec<Option<Tree>>,
+    /// The cells whose records were PUT and whose first bytes aren't set yet.
+    pending: Vec<u64>,
+    /// Why there was no room, the last time that a request or `commit_puts` found none.
+    failure: Option<StoreFault>,
+}
+
+impl<F: FilePair> Model for FileStore<F> {
+    ghost use Rattle.oram_store.specs.Keeping.{StoreValue};
+    ghost use Rattle.oram_store.specs.Pending.{AreCells};
+    ghost use Rattle.std.specs.Prelude.{◌≡◌, length};
+
+    ghost Value = { StoreValue F };
+
+    ghost view = { λ s. record { file = s.file; trees = s.trees.items; pending = s.pending.items; failure = s.failure } };
+
+    ghost invariant = { λ s. (length s.trees.items ≡ 256) × AreCells s.pending.items };
+}
+
+/// Commits that the records of these cells are there.
+fn commit_marks<F: FilePair>(
+    alloc: Global,
+    file: &mut RecordFile<F>,
+    cells: &[u64],
+) -> Result<(), StoreFault>
+    requires { AreCells cells.now }
+    ensures commits { Commits F.seen F.may_leave F.moment F.left_since (marks cells.now) result file.old file.new }
+    ensures calls { Calls F.failures F.shortages F.is_honest result file.old file.new }
+    ensures running { OnOk result (file.new.has_stopped ≡ false) }
+{
+    let batch = marks_of(alloc, cells)?;
+    file.commit(alloc, &batch)
+}
+
+/// Commits one patch.
+fn commit_one<F: FilePair>(
+    alloc: Global,
+    file: &mut RecordFile<F>,
+    at: u64,
+    bytes: &[u8],
+) -> Result<(), StoreFault>
+    requires within { at + length bytes.now ≤ 2 ^ 62 }
+    requires short { length bytes.now ≤ 2 ^ 21 }
+    ensures commits { Commits F.seen F.may_leave F.moment F.left_since ((at, bytes.now) ∷ []) result file.old file.new }
+    ensures calls { Calls F.failures F.shortages F.is_honest result file.old file.new }
+    ensures running { OnOk result (file.new.has_stopped ≡ false) }
+{
+    file.commit(alloc, &[Patch { at, bytes }])
+}
+
+/// Commits a new record for a node that has one.
+fn commit_record<F: FilePair>(
+    alloc: Global,
+    file: &mut RecordFile<F>,
+    tree: &Tree,
+    node: u32,
+    bytes: &[u8],
+) -> Result<(), StoreFault>
+    requires node { node < nodes_of (sizes_of tree.now.shape) }
+    requires whole { length bytes.now ≡ tree.now.shape.record_len }
+    ensures commits { Commits F.seen F.may_leave F.moment F.left_since (record_patch tree.now node bytes.now ∷ []) result file.old file.new }
+    ensures calls { Calls F.failures F.shortages F.is_honest result file.old file.new }
+    ensures running { OnOk result (file.new.has_stopped ≡ false) }
+{
+    let mut cell = Vec::with_capacity(alloc, bytes.len() + 1)?;
+    cell.push(THERE)?;
+    cell.extend_from_slice(bytes)?;
+    commit_one(alloc, file, tree.cell_at(node), &cell)
+}
+
+/// Commits the entry of a tree.
+fn commit_entry<F: FilePair>(
+    alloc: Global,
+    file: &mut RecordFile<F>,
+    number: u8,
+    tree: &Tree,
+) -> Result<(), StoreFault>
+    ensures commits { Commits F.seen F.may_leave F.moment F.left_since ((entry_at number, entry_bytes (Some tree.now)) ∷ []) result file.old file.new }
+    ensures calls { Calls F.failures F.shortages F.is_honest result file.old file.new }
+    ensures running { OnOk result (file.new.has_stopped ≡ false) }
+{
+    commit_one(alloc, file, entry_place(number), &tree.entry())
+}
+
+/// Commits the records of a path.
+fn commit_path<F: FilePair>(
+    alloc: Global,
+    file: &mut RecordFile<F>,
+    tree: &Tree,
+    leaf: u32,
+    records: &[u8],
+) -> Result<(), StoreFault>
+    requires leaf { leaf < 2 ^ tree.now.shape.depth }
+    requires whole { length records.now ≡ (tree.now.shape.depth + 1) * tree.now.shape.record_len }
+    ensures commits { Commits F.seen F.may_leave F.moment F.left_since (path_patches tree.now leaf records.now 0 (tree.now.shape.depth + 1)) result file.old file.new }
+    ensures calls { Calls F.failures F.shortages F.is_honest result file.old file.new }
+    ensures running { OnOk result (file.new.has_stopped ≡ false) }
+{
+    let cells = cells_of(alloc, tree, records)?;
+    let batch = path_batch(alloc, tree, leaf, &cells)?;
+    file.commit(alloc, &batch)
+}
+
+/// Replaces the records of a path.
+fn store_path<F: FilePair>(
+    alloc: Global,
+    file: &mut RecordFile<F>,
+    tree: &Tree,
+    leaf: u32,
+    records: &[u8],
+) -> Result<(), StoreFault>
+    requires leaf { leaf < 2 ^ tree.now.shape.depth }
+    requires whole { length records.now ≡ (tree.now.shape.depth + 1) * tree.now.shape.record_len }
+    ensures changes { (trees : Trees) (number : ℕ) → tree_at trees number ≡ Some tree.now → IsSoundFile F.seen F.may_leave trees file.old → F.is_honest file.new.files
+        → Changes F.seen F.may_leave F.moment F.left_since trees (Stores number (sizes_of tree.now.shape) leaf records.now) result file.old file.new }
+    ensures calls { Calls F.failures F.shortages F.is_honest result file.old file.new }
+    ensures running { OnOk result (file.new.has_stopped ≡ false) }
+{
+    write_missing(alloc, file, tree, leaf, records)?;
+    commit_path(alloc, file, tree, leaf, records)
+}
+
+impl<F: FilePair> FileStore<F> {
+    /// Returns a store over a file that was opened.
+    pub(crate) fn new(alloc: Global, file: RecordFile<F>, trees: Vec<Option<Tree>>) -> FileStore<F>
+        requires { length trees.items ≡ 256 }
+        ensures { result ≡ record { file = file; trees = trees.items; pending = []; failure = None } }
+    {
+        FileStore {
+            alloc,
+            file,
+            trees,
+            pending: Vec::new(alloc),
+            failure: None,
+        }
+    }
+
+    fn tree_of(&self, number: u8) -> Option<Tree>
+        ensures { result ≡ tree_at self.now.trees number }
+    {
+        self.trees[usize::from(number)]
+    }
+
+    /// Returns why there was no room, the last time that a request was refused with code 8 or `commit_puts` failed. After
+    /// `Io` and `Closed` the file has to be opened again.
+    pub fn failure(&self) -> Option<StoreFault>
+        ensures { result ≡ self.now.failure }
+    {
+        self.failure
+    }
+
+    /// Keeps the reason why there is no room, and returns the refusal.
+    fn refuse(&mut self, fault: StoreFault) -> HostRefusal
+        ensures why { result ≡ HostRefusal.OutOfMemory }
+        ensures kept { self.new ≡ record self.old { failure = Some fault } }
+    {
+        self.failure = Some(fault);
+        HostRefusal::OutOfMemory
+    }
+
+    /// Makes the records durable that a formatting has put so far. After `Err`, none of them is, and they still wait to
+    /// be settled.
+    pub fn commit_puts(&mut self) -> Result<(), StoreFault>
+        ensures none { self.old.pending ≡ [] → IsOk result × (self.new ≡ self.old) }
+        ensures none_pending { OnOk result (self.new.pending ≡ []) }
+        ensures trees { self.new.trees ≡ self.old.trees }
+        ensures settles { IsSound F.seen F.may_leave self.old → Settles F.seen F.may_leave F.moment F.left_since self.old self.new }
+        ensures failure { MatchResult result (λ _. self.new.failure ≡ self.old.failure) (λ fault. self.new.failure ≡ Some fault) }
+        ensures calls { Calls F.failures F.shortages F.is_honest result self.old.file self.new.file }
+    {
+        if self.pending.is_empty() {
+            return Ok(());
+        }
+        match commit_marks(self.alloc, &mut self.file, &self.pending) {
+            Ok(()) => {
+                self.pending.clear();
+                Ok(())
+            }
+            Err(fault) => {
+                self.failure = Some(fault);
+                Err(fault)
+            }
+        }
+    }
+
+    /// Settles what was put before, and returns `front` and then the records of a path. Returns `None` if a record is
+    /// missing.
+    fn commit_puts_and_fetch(
+        &mut self,
+        tree: &Tree,
+        leaf: u32,
+        front: &[u8],
+    ) -> Result<Option<Vec<u8>>, StoreFault>
+        requires leaf { leaf < 2 ^ tree.now.shape.depth }
+        requires short { length front.now ≤ 1 }
+        ensures fits { IfOk result (λ found. IfSome found (λ v. IsBehind front.now FitsAnswer v.items)) }
+        ensures serves { (number : ℕ) → tree_at self.old.trees number ≡ Some tree.now → F.is_honest self.new.file.files → IsSound F.seen F.may_leave self.old → MatchResult result
+            (λ found. MatchOption found (Serves F.seen F.may_leave F.moment F.left_since (HostRequest.Fetch number leaf) (HostAnswer.Refused 6) self.old self.new)
+            (λ v. IsBehind front.now (λ bytes. Serves F.seen F.may_leave F.moment F.left_since (HostRequest.Fetch number leaf) (HostAnswer.Payload bytes) self.old self.new) v.items))
+            (λ _. Serves F.seen F.may_leave F.moment F.left_since (HostRequest.Fetch number leaf) (HostAnswer.Refused 8) self.old self.new) }
+        ensures none_pending { OnOk result (self.new.pending ≡ []) }
+        ensures trees { self.new.trees ≡ self.old.trees }
+        ensures calls { Calls F.failures F.shortages F.is_honest result self.old.file self.new.file }
+        ensures running { OnOk result (self.new.file.has_stopped ≡ false) }
+    {
+        self.commit_puts()?;
+        read_path(self.alloc, &mut self.file, tree, leaf, front)
+    }
+
+    /// Returns `front` and then the records of a path.
+    pub(crate) fn fetch(
+        &mut self,
+        number: u8,
+        leaf: u32,
+        front: &[u8],
+    ) -> Result<Vec<u8>, HostRefusal>
+        requires { length front.now ≤ 1 }
+        ensures ok { IfOk result (λ v. IsBehind front.now FitsAnswer v.items) }
+        ensures allowed { OnOk result (refusal_by self.old.trees (HostRequest.Fetch number leaf) ≡ None) }
+        ensures refused { IfErr result (IsRefused self.old.trees (HostRequest.Fetch number leaf)) }
+        ensures untouched { IsSome (refusal_by self.old.trees (HostRequest.Fetch number leaf)) → self.new ≡ self.old }
+        ensures trees { self.new.trees ≡ self.old.trees }
+        ensures none_pending { OnOk result (self.new.pending ≡ []) }
+        ensures serves { F.is_honest self.new.file.files → IsSound F.seen F.may_leave self.old → MatchResult result
+            (λ v. IsBehind front.now (λ bytes. Serves F.seen F.may_leave F.moment F.left_since (HostRequest.Fetch number leaf) (HostAnswer.Payload bytes) self.old self.new) v.items)
+            (λ why. Serves F.seen F.may_leave F.moment F.left_since (HostRequest.Fetch number leaf) (HostAnswer.Refused (code_of why)) self.old self.new) }
+        ensures runs { Runs F.failures F.shortages F.is_honest self.old.file self.new.file }
+        ensures running { OnOk result (self.new.file.has_stopped ≡ false) }
+        ensures failure { result ≡ Err HostRefusal.OutOfMemory → IsSomeAnd self.new.failure (IsReason F.failures F.shortages self.old.file self.new.file) }
+    {
+        let Some(tree) = self.tree_of(number) else {
+            return Err(HostRefusal::NoShape);
+        };
+        if leaf >= tree.shape.leaves() {
+            return Err(HostRefusal::BadLeaf);
+        }
+        match self.commit_puts_and_fetch(&tree, leaf, front) {
+            Ok(Some(bytes)) => Ok(bytes),
+            Ok(None) => Err(HostRefusal::Missing),
+            Err(fault) => Err(self.refuse(fault)),
+        }
+    }
+
+    /// Settles what was put before, and replaces the records of a path.
+    fn commit_puts_and_store(
+        &mut self,
+        tree: &Tree,
+        leaf: u32,
+        records: &[u8],
+    ) -> Result<(), StoreFault>
+        requires leaf { leaf < 2 ^ tree.now.shape.depth }
+        requires whole { length records.now ≡ (tree.now.shape.depth + 1) * tree.now.shape.record_len }
+        ensures serves { (number : ℕ) → tree_at self.old.trees number ≡ Some tree.now → F.is_honest self.new.file.files → IsSound F.seen F.may_leave self.old → Serves F.seen F.may_leave F.moment F.left_since (HostRequest.Store number leaf records.now) (answer_by result) self.old self.new }
+        ensures none_pending { OnOk result (self.new.pending ≡ []) }
+        ensures trees { self.new.trees ≡ self.old.trees }
+        ensures calls { Calls F.failures F.shortages F.is_honest result self.old.file self.new.file }
+        ensures running { OnOk result (self.new.file.has_stopped ≡ false) }
+    {
+        self.commit_puts()?;
+        store_path(self.alloc, &mut self.file, tree, leaf, records)
+    }
+
+    pub(crate) fn store(&mut self, number: u8, leaf: u32, records: &[u8]) -> Result<(), HostRefusal>
+        ensures allowed { OnOk result (refusal_by self.old.trees (HostRequest.Store number leaf records.now) ≡ None) }
+        ensures refused { IfErr result (IsRefused self.old.trees (HostRequest.Store number leaf records.now)) }
+        ensures untouched { IsSome (refusal_by self.old.trees (HostRequest.Store number leaf records.now)) → self.new ≡ self.old }
+        ensures trees { self.new.trees ≡ self.old.trees }
+        ensures none_pending { OnOk result (self.new.pending ≡ []) }
+        ensures serves { F.is_honest self.new.file.files → IsSound F.seen F.may_leave self.old → MatchResult result
+            (λ _. Serves F.seen F.may_leave F.moment F.left_since (HostRequest.Store number leaf records.now) HostAnswer.Done self.old self.new)
+            (λ why. Serves F.seen F.may_leave F.moment F.left_since (HostRequest.Store number leaf records.now) (HostAnswer.Refused (code_of why)) self.old self.new) }
+        ensures runs { Runs F.failures F.shortages F.is_honest self.old.file self.new.file }
+        ensures running { OnOk result (self.new.file.has_stopped ≡ false) }
+        ensures failure { result ≡ Err HostRefusal.OutOfMemory → IsSomeAnd self.new.failure (IsReason F.failures F.shortages self.old.file self.new.file) }
+    {
+        let Some(tree) = self.tree_of(number) else {
+            return Err(HostRefusal::NoShape);
+        };
+        if leaf >= tree.shape.leaves() {
+            return Err(HostRefusal::BadLeaf);
+        }
+        if records.len() != tree.shape.path_len() {
+            return Err(HostRefusal::BadLength);
+        }
+        match self.commit_puts_and_store(&tree, leaf, records) {
+            Ok(()) => Ok(()),
+            Err(fault) => Err(self.refuse(fault)),
+        }
+    }
+
+    pub(crate) fn put(&mut self, number: u8, node: u32, bytes: &[u8]) -> Result<(), HostRefusal>
+        ensures allowed { OnOk result (refusal_by self.old.trees (HostRequest.Put number node bytes.now) ≡ None) }
+        ensures refused { IfErr result (IsRefused self.old.trees (HostRequest.Put number node bytes.now)) }
+        ensures untouched { IsSome (refusal_by self.old.trees (HostRequest.Put number node bytes.now)) → self.new ≡ self.old }
+        ensures trees { self.new.trees ≡ self.old.trees }
+        ensures serves { F.is_honest self.new.file.files → IsSound F.seen F.may_leave self.old → MatchResult result
+            (λ _. Serves F.seen F.may_leave F.moment F.left_since (HostRequest.Put number node bytes.now) HostAnswer.Done self.old self.new)
+            (λ why. Serves F.seen F.may_leave F.moment F.left_since (HostRequest.Put number node bytes.now) (HostAnswer.Refused (code_of why)) self.old self.new) }
+        ensures runs { Runs F.failures F.shortages F.is_honest self.old.file self.new.file }
+        ensures running { OnOk result (self.new.file.has_stopped ≡ false) }
+        ensures failure { result ≡ Err HostRefusal.OutOfMemory → IsSomeAnd self.new.failure (IsReason F.failures F.shortages self.old.file self.new.file) }
+    {
+        let Some(tree) = self.tree_of(number) else {
+            return Err(HostRefusal::NoShape);
+        };
+        if node >= tree.shape.nodes() {
+            return Err(HostRefusal::BadNode);
+        }
+        if bytes.len() != tree.shape.record_len as usize {
+            return Err(HostRefusal::BadLength);
+        }
+        match self.put_record(&tree, node, bytes) {
+            Ok(()) => Ok(()),
+            Err(fault) => Err(self.refuse(fault)),
+        }
+    }
+
+    /// Settles if too many PUTs wait, or if one of the same cell waits.
+    fn make_room(&mut self, cell: u64) -> Result<(), StoreFault>
+        ensures room { OnOk result (length self.new.pending < 4096) }
+        ensures fresh { OnOk result (Contains self.new.pending cell → ⊥) }
+        ensures stays { OnOk result ((self.new ≡ self.old) ⊎ (self.new.pending ≡ [])) }
+        ensures settles { IsSound F.seen F.may_leave self.old → Settles F.seen F.may_leave F.moment F.left_since self.old self.new }
+        ensures trees { self.new.trees ≡ self.old.trees }
+        ensures calls { Calls F.failures F.shortages F.is_honest result self.old.file self.new.file }
+    {
+        if self.pending.len() >= MOST_PENDING || self.pending.contains(&cell) {
+            return self.commit_puts();
+        }
+        Ok(())
+    }
+
+    /// Puts a record. If the node has one already, it commits the new one at once; if not, the new one waits to be
+    /// settled.
+    fn put_record(&mut self, tree: &Tree, node: u32, bytes: &[u8]) -> Result<(), StoreFault>
+        requires node { node < nodes_of (sizes_of tree.now.shape) }
+        requires whole { length bytes.now ≡ tree.now.shape.record_len }
+        ensures serves { (number : ℕ) → tree_at self.old.trees number ≡ Some tree.now → F.is_honest self.new.file.files → IsSound F.seen F.may_leave self.old → Serves F.seen F.may_leave F.moment F.left_since (HostRequest.Put number node bytes.now) (answer_by result) self.old self.new }
+        ensures trees { self.new.trees ≡ self.old.trees }
+        ensures calls { Calls F.failures F.shortages F.is_honest result self.old.file self.new.file }
+        ensures running { OnOk result (self.new.file.has_stopped ≡ false) }
+    {
+        self.make_room(tree.cell_at(node))?;
+        self.put_in_cell(tree, node, bytes)
+    }
+
+    /// Puts a record into a cell for which no record waits.
+    fn put_in_cell(&mut self, tree: &Tree, node: u32, bytes: &[u8]) -> Result<(), StoreFault>
+        requires node { node < nodes_of (sizes_of tree.now.shape) }
+        requires whole { length bytes.now ≡ tree.now.shape.record_len }
+        requires room { length self.old.pending < 4096 }
+        ensures serves { (number : ℕ) → tree_at self.old.trees number ≡ Some tree.now → F.is_honest self.new.file.files → IsSound F.seen F.may_leave self.old
+            → (Contains self.old.pending (cell_at tree.now node) → ⊥)
+            → Serves F.seen F.may_leave F.moment F.left_since (HostRequest.Put number node bytes.now) (answer_by result) self.old self.new }
+        ensures trees { self.new.trees ≡ self.old.trees }
+        ensures calls { Calls F.failures F.shortages F.is_honest result self.old.file self.new.file }
+        ensures running { OnOk result (self.new.file.has_stopped ≡ false) }
+    {
+        if has_record(self.alloc, &mut self.file, tree, node)? {
+            self.replace_record(tree, node, bytes)
+        } else {
+            self.add_record(tree, node, bytes)
+        }
+    }
+
+    /// Replaces the record of a node.
+    fn replace_record(&mut self, tree: &Tree, node: u32, bytes: &[u8]) -> Result<(), StoreFault>
+        requires node { node < nodes_of (sizes_of tree.now.shape) }
+        requires whole { length bytes.now ≡ tree.now.shape.record_len }
+        ensures serves { (number : ℕ) → tree_at self.old.trees number ≡ Some tree.now → IsSound F.seen F.may_leave self.old → Serves F.seen F.may_leave F.moment F.left_since (HostRequest.Put number node bytes.now) (answer_by result) self.old self.new }
+        ensures trees { self.new.trees ≡ self.old.trees }
+        ensures calls { Calls F.failures F.shortages F.is_honest result self.old.file self.new.file }
+        ensures running { OnOk result (self.new.file.has_stopped ≡ false) }
+    {
+        self.commit_puts()?;
+        commit_record(self.alloc, &mut self.file, tree, node, bytes)
+    }
+
+    /// Writes a record into a cell that has none, and for which none waits. Then this record waits to be settled.
+    fn add_record(&mut self, tree: &Tree, node: u32, bytes: &[u8]) -> Result<(), StoreFault>
+        requires node { node < nodes_of (sizes_of tree.now.shape) }
+        requires whole { length bytes.now ≡ tree.now.shape.record_len }
+        requires room { length self.old.pending < 4096 }
+        ensures serves { (number : ℕ) → tree_at self.old.trees number ≡ Some tree.now → IsSound F.seen F.may_leave self.old
+            → (Contains self.old.pending (cell_at tree.now node) → ⊥) → F.seen self.old.file.files FileKind.Records (cell_at tree.now node) ≢ 1 → Serves F.seen F.may_leave F.moment F.left_since (HostRequest.Put number node bytes.now) (answer_by result) self.old self.new }
+        ensures trees { self.new.trees ≡ self.old.trees }
+        ensures calls { Calls F.failures F.shortages F.is_honest result self.old.file self.new.file }
+        ensures running { OnOk result (self.new.file.has_stopped ≡ false) }
+    {
+        let cell = tree.cell_at(node);
+        self.file.write_loose(cell + 1, bytes)?;
+        self.pending.push(cell)?;
+        Ok(())
+    }
+
+    pub(crate) fn shape(
+        &mut self,
+        number: u8,
+        depth: u8,
+        record_len: u32,
+    ) -> Result<(), HostRefusal>
+        ensures allowed { OnOk result (refusal_by self.old.trees (HostRequest.Shape number depth record_len) ≡ None) }
+        ensures refused { IfErr result (IsRefused self.old.trees (HostRequest.Shape number depth record_len)) }
+        ensures untouched { IsSome (refusal_by self.old.trees (HostRequest.Shape number depth record_len)) → self.new ≡ self.old }
+        ensures after { OnOk result (ChangesTrees self.old.trees (HostRequest.Shape number depth record_len) self.new.trees) }
+        ensures same { OnErr result (self.new.trees ≡ self.old.trees) }
+        ensures none_pending { OnOk result (self.new.pending ≡ []) }
+        ensures serves { F.is_honest self.new.file.files → IsSound F.seen F.may_leave self.old → MatchResult result
+            (λ _. Serves F.seen F.may_leave F.moment F.left_since (HostRequest.Shape number depth record_len) HostAnswer.Done self.old self.new)
+            (λ why. Serves F.seen F.may_leave F.moment F.left_since (HostRequest.Shape number depth record_len) (HostAnswer.Refused (code_of why)) self.old self.new) }
+        ensures runs { Runs F.failures F.shortages F.is_honest self.old.file self.new.file }
+        ensures running { OnOk result (self.new.file.has_stopped ≡ false) }
+        ensures failure { result ≡ Err HostRefusal.OutOfMemory → TellsWhy F.failures F.shortages self.old self.new (HostRequest.Shape number depth record_len) }
+    {
+        let Some(shape) = Shape::new(depth, record_len) else {
+            return Err(HostRefusal::BadLength);
+        };
+        if self.tree_of(number).is_some() {
+            return Err(HostRefusal::ShapeTaken);
+        }
+        match self.commit_puts_and_add(number, shape) {
+            Ok(()) => Ok(()),
+            Err(fault) => Err(self.refuse(fault)),
+        }
+    }
+
+    /// Settles what was put before, and adds a tree after all others.
+    fn commit_puts_and_add(&mut self, number: u8, shape: Shape) -> Result<(), StoreFault>
+        requires { tree_at self.old.trees number ≡ None }
+        ensures serves { IsSound F.seen F.may_leave self.old → Serves F.seen F.may_leave F.moment F.left_since (HostRequest.Shape number shape.depth shape.record_len) (answer_by result) self.old self.new }
+        ensures after { OnOk result (ChangesTrees self.old.trees (HostRequest.Shape number shape.depth shape.record_len) self.new.trees) }
+        ensures same { OnErr result (self.new.trees ≡ self.old.trees) }
+        ensures none_pending { OnOk result (self.new.pending ≡ []) }
+        ensures runs { Runs F.failures F.shortages F.is_honest self.old.file self.new.file }
+        ensures running { OnOk result (self.new.file.has_stopped ≡ false) }
+        ensures reason { IfErr result (IsReasonFor F.failures F.shortages self.old self.new (HostRequest.Shape number shape.depth shape.record_len)) }
+    {
+        self.commit_puts()?;
+        let Some(tree) = Tree::place(shape, next_base(&self.trees)) else {
+            return Err(StoreFault::NoRoom);
+        };
+        commit_entry(self.alloc, &mut self.file, number, &tree)?;
+        self.trees[usize::from(number)] = Some(tree);
+        Ok(())
+    }
+}
+
+impl<F: FilePair + Drop> FileStore<F> {
+    /// Settles, and empties the log, so that the next opening is quick. After `Ok` all records are on the disk.
+    pub fn close(mut self) -> Result<(), StoreFault>
+        // `last` is the file when it is dropped.
+        ensures { (last : FileValue F) × Closes F.seen F.may_leave F.moment F.left_since F.failures F.shortages F.is_honest result self last }
+    {
+        self.commit_puts()?;
+        self.file.restart()
+    }
+}

@@ -1,0 +1,10 @@
+use Rattle.std.proofs.Common.{map, Bor, Vec, Global}
+use Rattle.oram_bucket.specs.Cell.{Cell}
+use Rattle.oram_bucket.specs.Reading.{Reads}
+use Rattle.oram_tree.specs.Access.{IsSealedTo}
+use Rattle.oram_tree.proofs.path_rewrite.seal_path.Given as goal
+
+abbrev pub invariant-loop-level : goal.invariant-loop-level
+invariant-loop-level g l =
+    IsSealedTo (Reads (g.S.Sealer.opening l.sealer) l.device l.tree) (g.S.Sealer.sealing l.sealer) l.device l.nonce l.path
+    (map (λ (list : Vec (Bor Cell) Global). map (λ (b : Bor Cell). b.now) list.items) l.lists) l.level l.initial.out.items l.out.items

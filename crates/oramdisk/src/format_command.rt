@@ -1,0 +1,190 @@
+//! Formats a disk on its host.
+
+use crate::disk_files::{disk_settings_in, keys_in, sealer_of, take_lock};
+use crate::failures::forget_failure;
+use oram_bucket::{ChaChaSeal, PlainSeal, Sealer};
+use oram_cli::{HostFault, buffered};
+use oram_client::{
+    Ahead, DiskKey, FileKeeper, FilePlace, FormattingFault, Head, Identity, Progress, Salt,
+    SealerKind, format_ahead, kept_name,
+};
+use oram_core::Core;
+use oram_disk_host::{Fault, FaultKind};
+use oram_geometry::Device;
+use oram_keep::Keeper;
+use oram_settings::{
+    DiskSettings, Meter, begun_text, device_of, percent, progress_text, stored_bytes,
+};
+use oram_state::encode_state;
+use std::alloc::{AllocError, Global};
+use std::io;
+use std::io::{ErrorKind, IsTerminal};
+use std::net::TcpStream;
+use std::random::RandomSource;
+use std::rt::Clock;
+use std::time::Instant;
+
+/// Prints on standard error how far a formatting is: on a terminal in one line that it overwrites, else in a new line
+/// for each tenth.
+#[derive(Drop)]
+struct ProgressPrinter<'a, R> {
+    rt: &'a R,
+    begun: Instant,
+    on_terminal: bool,
+    meter: Meter,
+}
+
+impl<'a, R: Clock> ProgressPrinter<'a, R> {
+    fn new(rt: &'a R, on_terminal: bool) -> io::Result<ProgressPrinter<'a, R>> {
+        Ok(ProgressPrinter {
+            rt,
+            begun: Instant::now(rt)?,
+            on_terminal,
+            meter: Meter::new(if on_terminal { 1 } else { 10 }),
+        })
+    }
+}
+
+impl<'a, R: Clock + Eprint + AllocGlobal> ProgressPrinter<'a, R> {
+    /// Prints how many bytes will go to the host at this address.
+    fn begin(&self, stored: u64, host: &str) -> io::Result<()> {
+        let text = begun_text(self.rt.alloc(), stored, host)?;
+        self.rt.eprint(text.as_str())
+    }
+
+    fn tell(&self, messages: u64, of: u64) -> io::Result<()> {
+        let alloc = self.rt.alloc();
+        let elapsed = self.begun.elapsed(self.rt)?.as_millis();
+        let milliseconds = u64::try_from(elapsed).unwrap_or(u64::MAX);
+        let text = progress_text(alloc, messages, of, milliseconds)?;
+        let text = text.as_str();
+        let line = if !self.on_terminal {
+            format!(in alloc; "oramdisk: {text}\n")?
+        } else if messages < of {
+            format!(in alloc; "\r{text}\x1b[K")?
+        } else {
+            format!(in alloc; "\r{text}\x1b[K\n")?
+        };
+        self.rt.eprint(line.as_str())
+    }
+}
+
+impl<'a, R: Clock + Eprint + AllocGlobal> Progress for ProgressPrinter<'a, R> {
+    fn answered(&mut self, messages: u64, of: u64) {
+        if self.meter.is_due(percent(messages, of)) {
+            let _passed_over = self.tell(messages, of);
+        }
+    }
+}
+
+/// Returns the program's fault for a formatting's fault, with the host's address.
+fn formatting_fault(fault: FormattingFault, host: String) -> Fault {
+    let why = match fault {
+        FormattingFault::Link => HostFault::OutOfReach,
+        FormattingFault::NoRoom => HostFault::NoRoom,
+        FormattingFault::Taken => HostFault::Taken,
+        FormattingFault::Refused | FormattingFault::NotStored => HostFault::Refused,
+        FormattingFault::OutOfMemory => return Fault::OutOfMemory,
+    };
+    Fault::About(FaultKind::Host(why), host)
+}
+
+/// Returns the program's fault for a connection that can't be made.
+fn unreached(error: &io::Error, host: String) -> Fault {
+    match error.kind() {
+        ErrorKind::OutOfMemory => Fault::OutOfMemory,
+        _ => Fault::About(FaultKind::Host(HostFault::OutOfReach), host),
+    }
+}
+
+/// Formats a device on the host at address `host`. Its records take `stored` bytes there.
+fn formatted<S: Sealer>(
+    rt: &HostRuntime,
+    device: Device,
+    sealer: S,
+    identity: &Identity,
+    host: String,
+    stored: u64,
+) -> Result<Core<S>, Fault> {
+    let alloc = rt.alloc();
+    let halves = match TcpStream::connect(rt, host.as_str()) {
+        Ok(stream) => buffered(alloc, stream),
+        Err(error) => Err(error),
+    };
+    let (reader, writer) = match halves {
+        Ok(halves) => halves,
+        Err(error) => return Err(unreached(&error, host)),
+    };
+    let teller = match ProgressPrinter::new(rt, rt.stderr().is_terminal()) {
+        Ok(teller) => teller,
+        Err(error) => return Err(unreached(&error, host)),
+    };
+    let _passed_over = teller.begin(stored, host.as_str());
+    let mut ahead = Ahead::new(alloc, &device, reader, writer, teller);
+    match format_ahead(alloc, device, sealer, identity, &mut ahead) {
+        Ok(core) => Ok(core),
+        Err(fault) => Err(formatting_fault(fault, host)),
+    }
+}
+
+/// Formats a device, and keeps its state for the first time.
+fn format_with<S: Sealer>(
+    rt: &HostRuntime,
+    device: Device,
+    sealer: S,
+    head: Head,
+    identity: &Identity,
+    settings: DiskSettings,
+) -> Result<(), Fault> {
+    let alloc = rt.alloc();
+    let name = settings.state.as_str();
+    let place = FilePlace::new(rt, alloc, name)?;
+    let mut keeper = FileKeeper::new(place, head, settings.sync);
+    let stored = stored_bytes(&device, settings.sealer);
+    let core = formatted(rt, device, sealer, identity, settings.host, stored)?;
+    let state = encode_state(alloc, &core)?;
+    match keeper.keep(state.as_slice()) {
+        Ok(()) => Ok(()),
+        Err(_) => Err(Fault::About(FaultKind::StateNotKept, settings.state)),
+    }
+}
+
+/// Draws a random salt.
+fn new_salt<R: RandomSource>(rt: &R) -> Result<Salt, Fault> {
+    let mut salt = [0; 32];
+    match rt.fill_bytes(&mut salt) {
+        Ok(()) => Ok(Salt(salt)),
+        Err(_) => Err(Fault::Random),
+    }
+}
+
+/// Formats the disk whose settings are in the file `name`. Refuses a disk that already has a kept file, and leaves that
+/// as it is.
+pub(crate) fn format_disk(rt: &HostRuntime, name: String) -> Result<(), Fault> {
+    let alloc = rt.alloc();
+    let settings = disk_settings_in(rt, String::from_str(alloc, name.as_str())?)?;
+    let Some(device) = device_of(
+        settings.size,
+        settings.block,
+        settings.slots,
+        settings.table,
+    ) else {
+        return Err(Fault::About(FaultKind::Device, name));
+    };
+    let _lock = take_lock(rt, settings.state.as_str())?;
+    if let Some(found) = kept_name(rt, alloc, settings.state.as_str())? {
+        return Err(Fault::About(FaultKind::Formatted, found));
+    }
+    // A failure that an earlier disk left, which has been removed since, says nothing about this one.
+    forget_failure(rt, settings.state.as_str())?;
+    let sealer = sealer_of(settings.sealer);
+    let head = Head::new(&DiskKey(settings.key), new_salt(rt)?, sealer);
+    let keys = keys_in(alloc, &settings, &head, name.as_str())?;
+    match sealer {
+        SealerKind::Plain => { format_with(rt, device, PlainSeal, head, &keys.identity, settings) }
+        SealerKind::ChaCha20 => {
+            let sealer = ChaChaSeal { key: keys.sealer.0 };
+            format_with(rt, device, sealer, head, &keys.identity, settings)
+        }
+    }
+}

@@ -1,0 +1,122 @@
+//! Makes a new folder with the first settings of a disk.
+
+use oram_disk_host::{FIRST_SETTINGS, Fault, FaultKind, file_fault};
+use oram_settings::{
+    DEFAULT_BLOCK, DEFAULT_SLOTS, DEFAULT_TABLE, Sealing, device_of, disk_text, made_text,
+    read_size, stored_bytes,
+};
+use std::alloc::AllocError;
+use std::fs::{DirBuilder, OpenFile, OpenOptions};
+use std::io::{ErrorKind, Write};
+use std::os::unix::fs::{DirBuilderExt, OpenOptionsExt};
+use std::random::RandomSource;
+use std::rt::Files;
+use std::{fs, io};
+
+/// Creates a folder for its owner alone.
+fn create_folder<R: Files>(rt: &R, folder: &str) -> io::Result<()> {
+    let mut builder = DirBuilder::new();
+    builder.mode(0o700);
+    builder.create(rt, folder)
+}
+
+/// Writes a new settings file for its owner alone.
+fn write_settings<R: Files>(rt: &R, name: &str, text: &str) -> io::Result<()> {
+    let mut options = OpenOptions::new();
+    options.write(true).create_new(true).mode(0o600);
+    let mut file = options.open(rt, name)?;
+    file.write_all(text.as_bytes())?;
+    file.sync_all()
+}
+
+/// Removes a folder and the settings in it, as far as they are there.
+fn remove_folder<R: Files>(rt: &R, folder: &str, host: &str, disk: &str) {
+    let _may_not_be_there = fs::remove_file(rt, host);
+    let _may_not_be_there = fs::remove_file(rt, disk);
+    let _passed_over = fs::remove_dir(rt, folder);
+}
+
+/// Writes a settings file, and returns the fault if that fails.
+fn write_or_fault<R: Files + AllocGlobal>(rt: &R, name: &str, text: &str) -> Option<Fault> {
+    match write_settings(rt, name, text) {
+        Ok(()) => None,
+        Err(error) => Some(match String::from_str(rt.alloc(), name) {
+            Ok(name) => file_fault(name, &error),
+            Err(_) => Fault::OutOfMemory,
+        }),
+    }
+}
+
+/// Rounds the size of a new disk up to whole blocks.
+fn whole_size(size: u64) -> u64 {
+    size.saturating_add(DEFAULT_BLOCK - 1) / DEFAULT_BLOCK * DEFAULT_BLOCK
+}
+
+/// A new disk: its size in bytes, the bytes that it takes at its host, and the text of its settings.
+#[derive(Drop)]
+struct FirstDisk {
+    size: u64,
+    stored: u64,
+    text: String,
+}
+
+/// Makes a new disk with a random key. It has the size that `size` says, rounded up to whole blocks. Fails with
+/// [`Fault::Size`] if `size` isn't a size or no device has it, and with [`Fault::Random`] if the system gives no random
+/// bytes.
+fn first_disk<R: RandomSource + AllocGlobal>(rt: &R, size: &str) -> Result<FirstDisk, Fault> {
+    let Some(size) = read_size(size) else {
+        return Err(Fault::Size);
+    };
+    let size = whole_size(size);
+    let Some(device) = device_of(size, DEFAULT_BLOCK, DEFAULT_SLOTS, DEFAULT_TABLE) else {
+        return Err(Fault::Size);
+    };
+    let mut key = [0; 32];
+    if rt.fill_bytes(&mut key).is_err() {
+        return Err(Fault::Random);
+    }
+    Ok(FirstDisk {
+        size,
+        stored: stored_bytes(&device, Sealing::ChaCha),
+        text: disk_text(rt.alloc(), size, &key)?,
+    })
+}
+
+/// Prints what was made, and what comes next.
+fn tell<R: Eprint + AllocGlobal>(rt: &R, folder: &str, disk: &FirstDisk) -> Result<(), AllocError> {
+    let text = made_text(rt.alloc(), folder, disk.size, disk.stored)?;
+    let _passed_over = rt.eprint(text.as_str());
+    Ok(())
+}
+
+/// Makes a folder with `host.toml` and `disk.toml` in it, for a disk of this size. Fails if the folder exists, and
+/// leaves it as it is. If the folder can't be filled, it is removed again.
+pub(crate) fn make_folder<R: Files + RandomSource + Eprint + AllocGlobal>(
+    rt: &R,
+    folder: String,
+    size: &str,
+) -> Result<(), Fault> {
+    let alloc = rt.alloc();
+    let host = format!(in alloc; "{folder}/host.toml")?;
+    let disk = format!(in alloc; "{folder}/disk.toml")?;
+    let first = first_disk(rt, size)?;
+    if let Err(error) = create_folder(rt, folder.as_str()) {
+        return Err(if error.kind() == ErrorKind::AlreadyExists {
+            Fault::About(FaultKind::Exists, folder)
+        } else {
+            file_fault(folder, &error)
+        });
+    }
+    let fault = write_or_fault(rt, host.as_str(), FIRST_SETTINGS).or_else(|| write_or_fault(
+        rt,
+        disk.as_str(),
+        first.text.as_str(),
+    ));
+    match fault {
+        None => Ok(tell(rt, folder.as_str(), &first)?),
+        Some(fault) => {
+            remove_folder(rt, folder.as_str(), host.as_str(), disk.as_str());
+            Err(fault)
+        }
+    }
+}

@@ -1,0 +1,414 @@
+//! Serves a disk to NBD clients, one connection after the other.
+
+use crate::clients::{ClientAttendant, Dismissal};
+use crate::disk_files::{
+    check_settings, core_in, disk_settings_in, kept_in, keys_in, state_bytes, take_lock,
+};
+use crate::failures::{keep_failure, kept_failure};
+use crate::watched_disk::{FailureKeeper, WatchedDisk};
+use oram_bucket::{ChaChaSeal, PlainSeal, Sealer};
+use oram_client::{
+    FileKeeper, FilePlace, Head, HostWatch, Keys, PatientLink, SealerKind, TcpDialer, given_up,
+};
+use oram_core::{Core, Reason};
+use oram_disk_host::{Fault, FaultKind, listen_at, not_accepted, time};
+use oram_keep::Keeper;
+use oram_nbd::{BlockDevice, DiskFault, NbdFault, is_stop, serve};
+use oram_session::{ChaChaTape, Link, Tape};
+use oram_settings::{DiskSettings, counted, failure_text, relative_to, serving_text};
+use oram_sockets::{Connection, Listener, Peer, listen_at_path, watch};
+use oram_volume::Volume;
+use std::alloc::{AllocError, Global};
+use std::fs;
+use std::io::ErrorKind;
+use std::net::Net;
+use std::os::fd::AsRawFd;
+use std::rt::Clock;
+
+/// The name of the one export. Clients may also ask for it with an empty name.
+const EXPORT: &[u8] = b"disk";
+
+/// Prints a line on standard error when the host is lost or has no room, and when it answers again.
+#[derive(Drop)]
+struct HostStatusPrinter<'a, R> {
+    rt: &'a R,
+    host: String,
+}
+
+impl<'a, R: Eprint + AllocGlobal> HostStatusPrinter<'a, R> {
+    fn tell(&self, what: &str) {
+        let host = self.host.as_str();
+        if let Ok(line) = format!(in self.rt.alloc(); "oramdisk: the host at {host} {what}\n") {
+            let _passed_over = self.rt.eprint(line.as_str());
+        }
+    }
+}
+
+impl<'a, R: Eprint + AllocGlobal> HostWatch for HostStatusPrinter<'a, R> {
+    fn lost(&mut self) {
+        self.tell("is out of reach");
+    }
+
+    fn full(&mut self) {
+        self.tell("has no room");
+    }
+
+    fn back(&mut self) {
+        self.tell("answers again");
+    }
+}
+
+/// How serving a client ended.
+#[derive(Clone, Copy)]
+struct Ended {
+    served: Result<u64, NbdFault>,
+    dismissal: Option<Dismissal>,
+}
+
+impl Ended {
+    /// Makes the end of a client that wasn't served at all because of `fault`.
+    fn by(fault: NbdFault) -> Ended {
+        Ended {
+            served: Err(fault),
+            dismissal: None,
+        }
+    }
+}
+
+/// Prints a line about a connection that has ended.
+fn report_connection<R: Clock + Eprint + AllocGlobal>(
+    rt: &R,
+    peer: Peer,
+    from: &str,
+    ended: &Ended,
+) -> Result<(), AllocError> {
+    let alloc = rt.alloc();
+    let until = time(rt)?;
+    let line = match (ended.served, ended.dismissal) {
+        (_, Some(dismissal)) => format!(in alloc;
+            "oramdisk: {peer} from {from} until {until}, {dismissal}\n"
+        )?,
+        (Ok(requests), None) => {
+            let requests = counted(alloc, requests, "request")?;
+            format!(in alloc; "oramdisk: {peer} from {from} until {until}, {requests}\n")?
+        }
+        (Err(fault), None) => format!(in alloc;
+            "oramdisk: {peer} from {from} until {until}, {fault}\n"
+        )?,
+    };
+    let _passed_over = rt.eprint(line.as_str());
+    Ok(())
+}
+
+/// Serves one client to its end, and turns others away meanwhile.
+fn serve_client<R: Net + Clock + Eprint + AllocGlobal, D: BlockDevice>(
+    rt: &R,
+    listener: &Listener,
+    stream: Connection,
+    disk: &mut D,
+) -> Ended {
+    let alloc = rt.alloc();
+    let attendant = match ClientAttendant::new(rt, listener) {
+        Ok(attendant) => attendant,
+        Err(_) => return Ended::by(NbdFault::Read),
+    };
+    let (mut reader, mut writer) = match watch(
+        rt,
+        alloc,
+        stream,
+        listener.as_raw_fd(),
+        &attendant,
+    ) {
+        Ok(halves) => halves,
+        Err(error) if error.kind() == ErrorKind::OutOfMemory => {
+            return Ended::by(NbdFault::OutOfMemory);
+        }
+        Err(_) => return Ended::by(NbdFault::Read),
+    };
+    let served = serve(alloc, &mut reader, &mut writer, disk, EXPORT, &attendant);
+    Ended {
+        served,
+        dismissal: attendant.dismissal(),
+    }
+}
+
+/// Serves one client with a listener that doesn't block, so that clients who come meanwhile can be turned away.
+fn serve_client_alone<R: Net + Clock + Eprint + AllocGlobal, D: BlockDevice>(
+    rt: &R,
+    listener: &Listener,
+    stream: Connection,
+    disk: &mut D,
+) -> Ended {
+    if listener.set_nonblocking(true).is_err() {
+        return Ended::by(NbdFault::Read);
+    }
+    let ended = serve_client(rt, listener, stream, disk);
+    let _blocks_again = listener.set_nonblocking(false);
+    ended
+}
+
+/// Keeps why a disk failed in a file beside its state, and prints it on standard error.
+#[derive(Drop)]
+struct FailureFile<'a> {
+    rt: &'a HostRuntime,
+    state: String,
+}
+
+impl<'a> FailureFile<'a> {
+    fn keep(&self, reason: Reason) -> Result<(), Fault> {
+        keep_failure(self.rt, self.state.as_str(), reason)?;
+        let why = failure_text(self.rt.alloc(), Some(reason))?;
+        let line = format!(in self.rt.alloc(); "oramdisk: the disk: {why}\n")?;
+        let _passed_over = self.rt.eprint(line.as_str());
+        Ok(())
+    }
+}
+
+impl<'a, S: Sealer, L: Link, K: Keeper, T: Tape> FailureKeeper<Volume<S, L, K, T>>
+    for FailureFile<'a> {
+    fn keep_failure(&mut self, volume: &Volume<S, L, K, T>) {
+        if let Some(reason) = volume.core.failure() {
+            // If it can't be kept, the next process finds the failure again.
+            let _found_again = self.keep(reason);
+        }
+    }
+}
+
+/// Serves one client, and prints a line about it. Returns whether the disk has stopped.
+fn serve_connection<R: Net + Clock + Eprint + AllocGlobal, D: BlockDevice>(
+    rt: &R,
+    listener: &Listener,
+    stream: Connection,
+    peer: Peer,
+    disk: &mut D,
+) -> bool {
+    let from = time(rt);
+    let ended = serve_client_alone(rt, listener, stream, disk);
+    let told = match from {
+        Ok(from) => report_connection(rt, peer, from.as_str(), &ended),
+        Err(error) => Err(error),
+    };
+    if told.is_err() {
+        let _passed_over = rt.eprint("oramdisk: no memory for the line of a connection\n");
+    }
+    is_stop(ended.served)
+}
+
+/// Serves clients, one after the other, until the disk stops.
+fn serve_all<R: Net + Clock + Eprint + AllocGlobal, D: BlockDevice>(
+    rt: &R,
+    listener: &Listener,
+    disk: &mut D,
+) -> Result<(), Fault> {
+    for _ in 0..u64::MAX {
+        match listener.accept() {
+            Ok((stream, peer)) => {
+                if serve_connection(rt, listener, stream, peer, disk) {
+                    return Ok(());
+                }
+            }
+            Err(error) => not_accepted(&error)?,
+        }
+    }
+    Ok(())
+}
+
+/// Prints where a disk is served, and serves it until it stops.
+fn serve_clients<D: BlockDevice>(
+    rt: &HostRuntime,
+    clients: &Clients,
+    disk: &mut D,
+) -> Result<(), Fault> {
+    let size = disk.blocks().saturating_mul(u64::from(disk.block_bytes()));
+    let line = serving_text(rt.alloc(), size, clients.uri.as_str())?;
+    let _passed_over = rt.eprint(line.as_str());
+    serve_all(rt, &clients.listener, disk)
+}
+
+/// The link to a disk's host.
+type HostLink<'a> = PatientLink<TcpDialer<&'a HostRuntime>, HostStatusPrinter<'a, HostRuntime>>;
+
+/// A core with the keeper of its file and the link to its host.
+type DiskVolume<'a, S> = Volume<
+    S,
+    HostLink<'a>,
+    FileKeeper<FilePlace<&'a HostRuntime>>,
+    ChaChaTape,
+>;
+
+/// Returns why a disk stopped.
+fn stopped<S: Sealer>(volume: &DiskVolume<'_, S>, settings: DiskSettings) -> Fault {
+    if volume.keeper.failure().is_some() {
+        Fault::About(FaultKind::StateNotKept, settings.state)
+    } else if volume.core.next_ticket() >= volume.core.device().lifetime() {
+        Fault::About(FaultKind::UsedUp, settings.state)
+    } else {
+        let why = given_up(volume.link.trouble());
+        Fault::About(FaultKind::Host(why), settings.host)
+    }
+}
+
+/// Serves a disk until it stops, and returns why. It first asks the host whether it keeps this disk, and then carries
+/// out the commands that wait from before.
+fn serve_volume<S: Sealer>(
+    rt: &HostRuntime,
+    settings: DiskSettings,
+    clients: &Clients,
+    mut volume: DiskVolume<'_, S>,
+) -> Result<(), Fault> {
+    let alloc = rt.alloc();
+    if let Err(trouble) = volume.link.reach(alloc) {
+        let why = FaultKind::Host(given_up(Some(trouble)));
+        return Err(Fault::About(why, settings.host));
+    }
+    let settled = volume.settle(alloc);
+    let state = String::from_str(alloc, settings.state.as_str())?;
+    let mut disk = WatchedDisk {
+        disk: volume,
+        keeper: FailureFile { rt, state },
+        is_kept: false,
+    };
+    disk.watch();
+    match settled {
+        Ok(()) => serve_clients(rt, clients, &mut disk)?,
+        Err(DiskFault::Failed | DiskFault::Stopped) => {}
+        Err(DiskFault::OutOfMemory) => return Err(Fault::OutOfMemory),
+    }
+    Err(stopped(&disk.disk, settings))
+}
+
+/// Makes the link to the host that the settings name. The link works only if that host keeps the disk with these keys.
+fn link_to<'a>(
+    rt: &'a HostRuntime,
+    settings: &DiskSettings,
+    keys: &Keys,
+) -> Result<HostLink<'a>, AllocError> {
+    let alloc = rt.alloc();
+    let host = settings.host.as_str();
+    let dialer = TcpDialer::new(rt, String::from_str(alloc, host)?, keys.identity.0);
+    let watch = HostStatusPrinter {
+        rt,
+        host: String::from_str(alloc, host)?,
+    };
+    Ok(PatientLink::new(alloc, dialer, watch, settings.patience))
+}
+
+/// Serves the disk of a core, until it stops.
+fn serve_core<S: Sealer>(
+    rt: &HostRuntime,
+    settings: DiskSettings,
+    clients: &Clients,
+    head: Head,
+    keys: &Keys,
+    core: Core<S>,
+) -> Result<(), Fault> {
+    let alloc = rt.alloc();
+    let link = link_to(rt, &settings, keys)?;
+    let place = FilePlace::new(rt, alloc, settings.state.as_str())?;
+    let keeper = FileKeeper::new(place, head, settings.sync);
+    let trees = core.device().trees();
+    let tape = ChaChaTape {
+        key: keys.tape.0,
+        trees,
+    };
+    let volume = Volume {
+        core,
+        link,
+        keeper,
+        tape,
+    };
+    serve_volume(rt, settings, clients, volume)
+}
+
+/// Where clients connect.
+#[derive(Drop)]
+struct Clients {
+    listener: Listener,
+    /// The address that is printed for clients.
+    uri: String,
+    /// The path of the Unix socket, if clients connect to one.
+    socket: Option<String>,
+}
+
+/// Listens for clients at an address.
+fn at_address(rt: &HostRuntime, address: &str) -> Result<Clients, Fault> {
+    let alloc = rt.alloc();
+    Ok(Clients {
+        listener: Listener::Tcp(listen_at(rt, String::from_str(alloc, address)?)?),
+        uri: format!(in alloc; "nbd://{address}")?,
+        socket: None,
+    })
+}
+
+/// Listens for clients at a Unix socket.
+fn at_socket(rt: &HostRuntime, path: String) -> Result<Clients, Fault> {
+    let alloc = rt.alloc();
+    let name = path.as_str();
+    let uri = format!(in alloc; "nbd+unix:///disk?socket={name}")?;
+    match listen_at_path(rt, name) {
+        Ok(listener) => Ok(Clients {
+            listener,
+            uri,
+            socket: Some(path),
+        }),
+        Err(error) if error.kind() == ErrorKind::OutOfMemory => Err(Fault::OutOfMemory),
+        Err(_) => Err(Fault::About(FaultKind::Address, path)),
+    }
+}
+
+/// Listens for clients at `place`, which the settings in the file `name` give. The path of a socket is relative to that
+/// file's folder.
+fn clients_at(rt: &HostRuntime, place: &str, name: &str) -> Result<Clients, Fault> {
+    match place.strip_prefix("unix:") {
+        Some(path) => at_socket(rt, relative_to(rt.alloc(), name, path)?),
+        None => at_address(rt, place),
+    }
+}
+
+/// Serves the disk whose settings were read from the file `name`, until it stops. It first carries out the commands
+/// that wait from before.
+fn serve_kept(
+    rt: &HostRuntime,
+    settings: DiskSettings,
+    name: String,
+    clients: &Clients,
+) -> Result<(), Fault> {
+    let alloc = rt.alloc();
+    let file = state_bytes(rt, settings.state.as_str(), name.as_str())?;
+    let kept = kept_in(alloc, file.as_slice(), settings.state.as_str())?;
+    let keys = keys_in(alloc, &settings, &kept.head, name.as_str())?;
+    let state = settings.state.as_str();
+    match kept.head.sealer {
+        SealerKind::Plain => {
+            let core = core_in(alloc, PlainSeal, kept.state, state)?;
+            check_settings(&settings, core.device(), kept.head.sealer, name)?;
+            serve_core(rt, settings, clients, kept.head, &keys, core)
+        }
+        SealerKind::ChaCha20 => {
+            let sealer = ChaChaSeal { key: keys.sealer.0 };
+            let core = core_in(alloc, sealer, kept.state, state)?;
+            check_settings(&settings, core.device(), kept.head.sealer, name)?;
+            serve_core(rt, settings, clients, kept.head, &keys, core)
+        }
+    }
+}
+
+/// Serves the disk whose settings are in the file `name`, until it stops.
+///
+/// It takes the lock and listens for clients before it reads the state. Otherwise another process could still advance
+/// the state, and this one would go on from an older one.
+pub(crate) fn serve_disk(rt: &HostRuntime, name: String) -> Result<(), Fault> {
+    let alloc = rt.alloc();
+    let settings = disk_settings_in(rt, String::from_str(alloc, name.as_str())?)?;
+    let _lock = take_lock(rt, settings.state.as_str())?;
+    if kept_failure(rt, settings.state.as_str())?.is_some() {
+        return Err(Fault::About(FaultKind::Failed, settings.state));
+    }
+    let clients = clients_at(rt, settings.listen.as_str(), name.as_str())?;
+    let ended = serve_kept(rt, settings, name, &clients);
+    if let Some(path) = &clients.socket {
+        // A socket that stays is replaced by the next process.
+        let _passed_over = fs::remove_file(rt, path.as_str());
+    }
+    ended
+}

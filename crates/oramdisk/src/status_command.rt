@@ -1,0 +1,64 @@
+//! Reports how a disk is, and lets a failed one be tried again.
+
+use crate::disk_files::{core_in, disk_settings_in, kept_in, state_bytes, take_lock};
+use crate::failures::{forget_failure, kept_failure};
+use oram_bucket::{ChaChaSeal, PlainSeal};
+use oram_client::SealerKind;
+use oram_disk_host::{Fault, FaultKind};
+use oram_settings::{report, status_of};
+use std::alloc::{AllocError, Global};
+use std::str;
+
+/// The report for a kept failure that isn't text.
+const UNREADABLE: &str = "it has failed\n";
+
+/// Returns the report with the reason why the disk failed in place of its state.
+fn with_failure(alloc: Global, report: &str, why: &str) -> Result<String, AllocError> {
+    let front = match report.rsplit_once("state: ") {
+        Some((front, _)) => front,
+        None => report,
+    };
+    format!(in alloc; "{front}state: {why}")
+}
+
+/// Prints the report of the disk whose settings are in the file `name`, from its kept state. It doesn't ask the host.
+pub(crate) fn print_status(rt: &HostRuntime, name: String) -> Result<(), Fault> {
+    let alloc = rt.alloc();
+    let settings = disk_settings_in(rt, String::from_str(alloc, name.as_str())?)?;
+    let file = state_bytes(rt, settings.state.as_str(), name.as_str())?;
+    let name = settings.state.as_str();
+    let kept = kept_in(alloc, file.as_slice(), name)?;
+    let status = match kept.head.sealer {
+        SealerKind::Plain => status_of(&core_in(alloc, PlainSeal, kept.state, name)?),
+        // No bucket is opened, so any key will do.
+        SealerKind::ChaCha20 => {
+            let sealer = ChaChaSeal { key: [0; 32] };
+            status_of(&core_in(alloc, sealer, kept.state, name)?)
+        }
+    };
+    let text = report(alloc, &status)?;
+    let text = match kept_failure(rt, name)? {
+        Some(why) => with_failure(
+            alloc,
+            text.as_str(),
+            str::from_utf8(&why).unwrap_or(UNREADABLE),
+        )?,
+        None => text,
+    };
+    let _passed_over = rt.print(text.as_str());
+    Ok(())
+}
+
+/// Lets the failed disk whose settings are in the file `name` be tried again: the next process that serves it goes on
+/// from its kept state. Fails with [`FaultKind::NotFailed`] if the disk hasn't failed.
+pub(crate) fn retry(rt: &HostRuntime, name: String) -> Result<(), Fault> {
+    let alloc = rt.alloc();
+    let settings = disk_settings_in(rt, name)?;
+    let _lock = take_lock(rt, settings.state.as_str())?;
+    if forget_failure(rt, settings.state.as_str())? {
+        let _passed_over = rt.print("oramdisk serve goes on from the kept state\n");
+        Ok(())
+    } else {
+        Err(Fault::About(FaultKind::NotFailed, settings.state))
+    }
+}

@@ -1,0 +1,108 @@
+//! Writes about cores, and about how calls end.
+
+use oram_bucket::PlainSeal;
+use oram_core::{Core, Note};
+use oram_geometry::Device;
+use oram_host::ServeFault;
+use oram_keep::KeepFault;
+use oram_session::LinkFault;
+use rows::{Page, RowFault, RowWords};
+
+/// Writes how many requests were carried out if all were, or why there were no more.
+pub(crate) fn tell_end(page: &mut Page, ended: Result<u64, ServeFault>) -> Result<(), RowFault> {
+    match ended {
+        Ok(count) => {
+            page.word("all");
+            page.number(count);
+        }
+        Err(ServeFault::OutOfMemory) => return Err(RowFault::OutOfMemory),
+        Err(fault) => page.fault(fault),
+    }
+    Ok(())
+}
+
+/// Writes the answer to a call of a link, or why there is none.
+pub(crate) fn tell_outcome(
+    page: &mut Page,
+    outcome: Result<Vec<u8>, LinkFault>,
+) -> Result<(), RowFault> {
+    match outcome {
+        Ok(answer) => page.bytes(&answer),
+        Err(LinkFault::OutOfMemory) => return Err(RowFault::OutOfMemory),
+        Err(fault) => page.fault(fault),
+    }
+    Ok(())
+}
+
+/// Writes the note of an event.
+pub(crate) fn tell_note(page: &mut Page, note: Note) {
+    page.word(match note {
+        Note::Accepted(_) => "accepted",
+        Note::Refused(_) => "refused",
+        Note::Taken => "taken",
+        Note::Stalled => "stalled",
+        Note::FailedNow(_) => "failed",
+        Note::Resent => "resent",
+        Note::Unexpected => "unexpected",
+    });
+    match note {
+        Note::Accepted(ticket) => page.number(ticket),
+        Note::Refused(why) => page.number(why.number()),
+        _ => {}
+    }
+}
+
+/// Returns whether a core is idle, failed or at work.
+pub(crate) fn standing(core: &Core<PlainSeal>) -> &'static str {
+    if core.failure().is_some() {
+        "failed"
+    } else if core.is_idle() {
+        "idle"
+    } else {
+        "at work"
+    }
+}
+
+/// Makes the device with five numbers.
+pub(crate) fn device_of(numbers: [u64; 5]) -> Result<Device, RowFault> {
+    let [blocks, block_bytes, slots, top, lifetime] = numbers;
+    match Device::new(blocks, block_bytes, slots, top, lifetime) {
+        Ok(device) => Ok(device),
+        Err(_) => Err(RowFault::NoRow),
+    }
+}
+
+/// `names of link faults`, `names of session faults`, `names of keeping faults`: writes the name of each
+/// fault.
+pub(crate) fn names(words: &mut RowWords, page: &mut Page) -> Result<(), RowFault> {
+    match words.all() {
+        "of link faults" => tell_link_faults(page),
+        "of session faults" => tell_session_faults(page),
+        "of keeping faults" => tell_keeping_faults(page),
+        _ => return Err(RowFault::NoRow),
+    }
+    Ok(())
+}
+
+fn tell_link_faults(page: &mut Page) {
+    page.fault(LinkFault::Io);
+    page.fault(LinkFault::Closed);
+    page.fault(LinkFault::TooLong);
+    page.fault(LinkFault::TooLarge);
+    page.fault(LinkFault::OutOfMemory);
+}
+
+fn tell_session_faults(page: &mut Page) {
+    page.fault(ServeFault::Read);
+    page.fault(ServeFault::Write);
+    page.fault(ServeFault::Frame);
+    page.fault(ServeFault::Truncated);
+    page.fault(ServeFault::Stalled);
+    page.fault(ServeFault::OutOfMemory);
+}
+
+fn tell_keeping_faults(page: &mut Page) {
+    page.fault(KeepFault::Stalled);
+    page.fault(KeepFault::Unkept);
+    page.fault(KeepFault::OutOfMemory);
+}
