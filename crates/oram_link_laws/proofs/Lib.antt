@@ -1,0 +1,12 @@
+pub mod Resending
+pub mod Answered
+pub mod Same
+pub mod Put
+pub mod Exchanged
+pub mod Paired
+pub mod Ran
+pub mod Streamed
+pub mod Mended
+pub mod Overlay
+pub mod Rows
+pub mod Device
