@@ -26,7 +26,8 @@ in_tenths tenths unit = concat (decimal (tenths / 10) ∷ codes "." ∷ decimal 
 abbrev pub amount : ℕ → List ℕ
 amount bytes = if nat_lt bytes 1000 then counted bytes (codes "byte") else in_tenths (scaled bytes).0 (scaled bytes).1
 
--- a size in a binary unit, and the unit: the greatest of which it is a whole number, with KiB only below 1 MiB
+-- A size as a whole number of a binary unit, and the name of that unit. It is the greatest unit that divides the size.
+-- KiB is used only for sizes below 1 MiB. The result is None if no unit divides the size, and for the size 0.
 abbrev pub in_binary : ℕ → Option (ℕ × List ℕ)
 in_binary size =
     if size == 0 then None

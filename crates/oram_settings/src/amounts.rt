@@ -72,8 +72,8 @@ const GIB: u64 = 1 << 30;
 
 const TIB: u64 = 1 << 40;
 
-/// Returns a size in a binary unit, and the unit: the greatest of which it is a whole number. It uses KiB only below 1
-/// MiB, where the number is short.
+/// Returns a size as a whole number of a binary unit, and the name of that unit, which is the greatest one that divides
+/// the size. KiB is used only for sizes below 1 MiB, where the number is short.
 fn in_binary(size: u64) -> Option<(u64, &'static str)>
     ensures { option_map (λ p. (p.0, p.1.now)) result ≡ spec.in_binary size }
 {

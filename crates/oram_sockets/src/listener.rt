@@ -138,8 +138,8 @@ impl OpenStream for Connection {
     }
 }
 
-/// Removes the file of a socket at which nobody listens any more, such as one that a killed process has left. It leaves
-/// a socket at which somebody listens (`AddrInUse`), and a file that isn't a socket (`AlreadyExists`).
+/// Removes a socket's file if no process listens at that socket any more. A process that is killed leaves such a file.
+/// The file stays, and the call fails, if a process listens (`AddrInUse`) or if it isn't a socket (`AlreadyExists`).
 fn clear<R: Files + Net>(rt: &R, path: &str) -> io::Result<()> {
     let found = match fs::symlink_metadata(rt, path) {
         Ok(found) => found,

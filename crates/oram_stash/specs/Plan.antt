@@ -1,4 +1,4 @@
--- A plan: which block goes to the list of which level, given by the blocks' indices in the stash.
+-- A plan has a list for each level of the path. The list holds the indices, in the stash, of the blocks that go there.
 use Rattle.std.specs.Prelude.{◌≡◌, ℕ, ◌<◌, ◌≤◌, Bool, true, false, cond, List, [], ◌∷◌, length, Option, Some, None, slice_index_or, slice_set, Contains, ◌↔◌, count_by, ◌==◌}
 use Rattle.std.specs.List.{HoldsAt, flat_map}
 use Rattle.oram_geometry.specs.Path.{MeetsAt}

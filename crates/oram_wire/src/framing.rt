@@ -199,7 +199,7 @@ fn advance(alloc: Global, held: &mut Vec<u8>, piece: &[u8]) -> Result<Fed, Alloc
 }
 
 impl Frames {
-    /// Makes a value for a stream of which nothing has arrived yet.
+    /// Makes the value for a stream before any byte of it has arrived.
     pub fn new(alloc: Global) -> Frames
         ensures empty { (result.held ≡ []) × (result.broken ≡ false) }
         ensures frames { AreFrames [] [] result }

@@ -171,8 +171,8 @@ impl Connections {
         Ok(ended == Err(NbdFault::Write) && self.told.get(..room) == Some(target.bytes()))
     }
 
-    /// `nbd rooms FROM TO ends|fails`: writes whether this holds for every amount of room from `FROM` up to but not
-    /// including `TO`: the client receives so many bytes, and the connection ends because there is no more room.
+    /// `nbd rooms FROM TO ends|fails`: tries every amount of room from `FROM` up to but not including `TO`. It writes
+    /// whether each client received that many bytes, and its connection then ended because there was no more room.
     fn rooms(&self, alloc: Global, words: &mut RowWords, page: &mut Page) -> Result<(), RowFault> {
         let from = words.size();
         let to = words.size();

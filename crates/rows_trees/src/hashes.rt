@@ -77,7 +77,7 @@ fn digest(alloc: Global, words: &mut RowWords, page: &mut Page) -> Result<(), Ro
     Ok(())
 }
 
-/// Makes sealed buckets of length `len`, each of which repeats one byte.
+/// Makes one sealed bucket of `len` bytes for each byte of `fills`, and repeats that byte in it.
 fn sealed(alloc: Global, fills: &[u8], len: usize) -> Result<Vec<Vec<u8>>, AllocError> {
     let mut parts = Vec::new(alloc);
     for fill in fills {
