@@ -7,5 +7,6 @@ pub mod Slots
 pub mod Fault
 pub mod Keystream
 pub mod ChaChaLaws
+pub mod Cipher
 pub mod Reading
 pub mod Opening

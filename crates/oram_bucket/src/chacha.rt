@@ -45,11 +45,7 @@ impl fmt::Debug for ChaChaSeal {
 }
 
 impl Sealer for ChaChaSeal {
-    ghost overhead = { λ _. 8 };
-
-    ghost sealing = { λ s nonce plain. chacha_sealing s.key nonce plain };
-
-    ghost opening = { λ s sealed. chacha_opening s.key sealed };
+    ghost cipher = { λ s. record { overhead = 8; sealing = chacha_sealing s.key; opening = chacha_opening s.key } };
 
     fn overhead(&self) -> usize {
         NONCE_LEN
@@ -86,11 +82,11 @@ impl Sealer for ChaChaSeal {
         Ok(plain)
     }
 
-    ghost small = { λ s. Prim.omega arith };
-
-    ghost longer = { λ s n plain. chacha_longer s.key n plain };
-
-    ghost undoes = { λ s n plain h k. chacha_undoes s.key n plain h };
+    ghost lawful = { λ s. record {
+      small = Prim.omega arith;
+      longer = chacha_longer s.key;
+      undoes = λ nonce plain h k. chacha_undoes s.key nonce plain h;
+    } };
 }
 
 /// Appends `bytes` to `out`, each XORed with its byte of the keystream.

@@ -24,10 +24,10 @@ pub fn seal_bucket<S: Sealer>(
     requires tree { tree < trees_of device.now }
     requires bucket { IsBucketOf device.now tree blocks.now }
     ensures sealed { IfOk result (λ v.
-        v.items ≡ S.sealing sealer.now nonce (spelling device.now blocks.now)) }
-    ensures len { IfOk result (λ v. length v.items ≡ S.overhead sealer.now + bucket_len device.now) }
+        v.items ≡ (S.cipher sealer.now).sealing nonce (spelling device.now blocks.now)) }
+    ensures len { IfOk result (λ v. length v.items ≡ (S.cipher sealer.now).overhead + bucket_len device.now) }
     ensures opens { IfOk result (λ v.
-        Reads (S.opening sealer.now) device.now tree v.items blocks.now) }
+        Reads (S.cipher sealer.now).opening device.now tree v.items blocks.now) }
 {
     let plain = encode_bucket(alloc, device, tree, blocks)?;
     sealer.seal(alloc, nonce, &plain)
@@ -49,12 +49,12 @@ pub fn seal_bucket_to<S: Sealer>(
     requires tree { tree < trees_of device.now }
     requires bucket { IsBucketOf device.now tree (map (λ b. b.now) blocks.now) }
     ensures sealed { OnOk result (out.new.items ≡ out.old.items
-        ++ S.sealing sealer.now nonce (spelling device.now (map (λ b. b.now) blocks.now))) }
+        ++ (S.cipher sealer.now).sealing nonce (spelling device.now (map (λ b. b.now) blocks.now))) }
     ensures len { OnOk result
-        (vec_len out.new ≡ vec_len out.old + (S.overhead sealer.now + bucket_len device.now)) }
+        (vec_len out.new ≡ vec_len out.old + ((S.cipher sealer.now).overhead + bucket_len device.now)) }
     ensures opens { OnOk result (let cells = map (λ b. b.now) blocks.now in
-        Reads (S.opening sealer.now) device.now tree
-        (S.sealing sealer.now nonce (spelling device.now cells)) cells) }
+        Reads (S.cipher sealer.now).opening device.now tree
+        ((S.cipher sealer.now).sealing nonce (spelling device.now cells)) cells) }
     ensures err { OnErr result (out.new.items ≡ out.old.items) }
 {
     write_bucket(device, tree, blocks, plain)?;
@@ -73,11 +73,11 @@ pub fn open_bucket<S: Sealer>(
 ) -> Result<Vec<Block>, OpenFault>
     requires { tree < trees_of device.now }
     ensures ok { IfOk result (λ v.
-        Reads (S.opening sealer.now) device.now tree sealed.now v.items) }
+        Reads (S.cipher sealer.now).opening device.now tree sealed.now v.items) }
     ensures only { (cells : List Cell) →
-        Reads (S.opening sealer.now) device.now tree sealed.now cells →
+        Reads (S.cipher sealer.now).opening device.now tree sealed.now cells →
         MatchResult result (λ v. v.items ≡ cells) (λ f. f ≡ OpenFault.OutOfMemory) }
-    ensures opened { IsOpened device.now tree (S.opening sealer.now sealed.now) result }
+    ensures opened { IsOpened device.now tree ((S.cipher sealer.now).opening sealed.now) result }
 {
     let plain = sealer.open(alloc, sealed)?;
     let blocks = decode_bucket(alloc, device, tree, &plain)?;

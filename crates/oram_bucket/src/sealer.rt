@@ -1,7 +1,7 @@
 //! The sealer, which hides a bucket's bytes from the host.
-ghost use Rattle.std.specs.Prelude.{◌≡◌, ◌↔◌, ℕ, ◌≤◌, ◌<◌, ◌+◌, ◌^◌, ◌++◌, List, Option, Some, None, length, IfOk, OnOk, OnErr, refl};
+ghost use Rattle.std.specs.Prelude.{◌≡◌, ◌↔◌, ◌++◌, Some, None, IfOk, OnOk, OnErr, refl};
 ghost use Rattle.std.proofs.Common.{arith};
-ghost use Rattle.oram_bucket.specs.Bytes.{IsBytes};
+ghost use Rattle.oram_bucket.specs.Cipher.{Cipher, IsCipher, plain_cipher};
 
 use std::alloc::{AllocError, Global};
 
@@ -27,22 +27,16 @@ impl From<AllocError> for OpenFault {
 ///
 /// The laws of this trait don't say that the host learns nothing from sealed bytes.
 pub trait Sealer: Drop {
-    /// The number of bytes that sealing adds.
-    ghost overhead: { Self → ℕ };
-
-    /// The sealed bytes of plain bytes under a nonce.
-    ghost sealing: { Self → ℕ → List ℕ → List ℕ };
-
-    /// The plain bytes that sealed bytes open to, or none if they are broken.
-    ghost opening: { Self → List ℕ → Option (List ℕ) };
+    /// What the sealer does.
+    ghost cipher: { Self → Cipher };
 
     /// Returns how many bytes longer sealed bytes are than the plain ones, at most 64.
     fn overhead(&self) -> usize
-        ensures { result ≡ overhead self.now };
+        ensures { result ≡ (cipher self.now).overhead };
 
     /// Seals plain bytes. Use each nonce only once.
     fn seal(&self, alloc: Global, nonce: u64, plain: &[u8]) -> Result<Vec<u8>, AllocError>
-        ensures { IfOk result (λ v. v.items ≡ sealing self.now nonce plain.now) };
+        ensures { IfOk result (λ v. v.items ≡ (cipher self.now).sealing nonce plain.now) };
 
     /// Seals plain bytes and appends the result to `out`. If memory runs out, `out` is unchanged.
     fn seal_to(
@@ -53,7 +47,7 @@ pub trait Sealer: Drop {
         out: &mut Vec<u8>,
     ) -> Result<(), AllocError>
         ensures ok { OnOk result
-            (out.new.items ≡ out.old.items ++ sealing self.now nonce plain.now) }
+            (out.new.items ≡ out.old.items ++ (cipher self.now).sealing nonce plain.now) }
         ensures err { OnErr result (out.new.items ≡ out.old.items) }
     {
         let sealed = self.seal(alloc, nonce, plain)?;
@@ -62,16 +56,10 @@ pub trait Sealer: Drop {
 
     /// Opens sealed bytes, whatever nonce they were sealed under.
     fn open(&self, alloc: Global, sealed: &[u8]) -> Result<Vec<u8>, OpenFault>
-        ensures ok { IfOk result (λ v. opening self.now sealed.now ≡ Some v.items) }
-        ensures broken { (result ≡ Err OpenFault.Broken) ↔ (opening self.now sealed.now ≡ None) };
+        ensures ok { IfOk result (λ v. (cipher self.now).opening sealed.now ≡ Some v.items) }
+        ensures broken { (result ≡ Err OpenFault.Broken) ↔ ((cipher self.now).opening sealed.now ≡ None) };
 
-    ghost small: { (s : Self) → overhead s ≤ 64 };
-
-    ghost longer: { (s : Self) (n : ℕ) (plain : List ℕ) →
-        length (sealing s n plain) ≡ overhead s + length plain };
-
-    ghost undoes: { (s : Self) (n : ℕ) (plain : List ℕ) → n < 2 ^ 64 → IsBytes plain →
-        opening s (sealing s n plain) ≡ Some plain };
+    ghost lawful: { (s : Self) → IsCipher (cipher s) };
 }
 
 /// The identity as a sealer: it hides nothing.
@@ -79,11 +67,7 @@ pub trait Sealer: Drop {
 pub struct PlainSeal;
 
 impl Sealer for PlainSeal {
-    ghost overhead = { λ _. 0 };
-
-    ghost sealing = { λ _ n plain. plain };
-
-    ghost opening = { λ _ bytes. Some bytes };
+    ghost cipher = { λ _. plain_cipher };
 
     fn overhead(&self) -> usize {
         0
@@ -108,9 +92,9 @@ impl Sealer for PlainSeal {
         Ok(plain)
     }
 
-    ghost small = { λ s. Prim.omega arith };
-
-    ghost longer = { λ s n plain. Prim.omega arith };
-
-    ghost undoes = { λ s n plain h k. refl };
+    ghost lawful = { λ s. record {
+      small = Prim.omega arith;
+      longer = λ nonce plain. Prim.omega arith;
+      undoes = λ nonce plain h k. refl;
+    } };
 }

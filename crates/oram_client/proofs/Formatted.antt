@@ -51,16 +51,16 @@ paths_more answers records =
     flat_map-append (λ r. frame (128 ∷ r)) answers (records ∷ []) ∙ ap (λ l. paths answers ++ l) (append-nil (frame (128 ∷ records)))
 
 genuine_more : (v : Scheme) (s : State) (n : ℕ) (answers : List (List ℕ)) (records : List ℕ) (d : Sizes) (overhead : ℕ) (root : List ℕ) → length answers ≡ n → AreGenuine v s n answers
-    → IsAccepted (path_of d n 0 overhead records) root → d ≡ v.device → overhead ≡ v.overhead → root ≡ (slice_index_or s.trees n no_tree).root → AreGenuine v s (n + 1) (answers ++ records ∷ [])
+    → IsAccepted (path_of d n 0 overhead records) root → d ≡ v.device → overhead ≡ v.cipher.overhead → root ≡ (slice_index_or s.trees n no_tree).root → AreGenuine v s (n + 1) (answers ++ records ∷ [])
 genuine_more v s n answers records d overhead root count before accepted device over stands =
-    let P = λ (i : ℕ). IsAccepted (path_of v.device i 0 v.overhead (slice_index_or (answers ++ records ∷ []) i [])) (slice_index_or s.trees i no_tree).root in
+    let P = λ (i : ℕ). IsAccepted (path_of v.device i 0 v.cipher.overhead (slice_index_or (answers ++ records ∷ []) i [])) (slice_index_or s.trees i no_tree).root in
     let a = subst (λ (e : Sizes). IsAccepted (path_of e n 0 overhead records) root) device accepted in
     let b = subst (λ (o : ℕ). IsAccepted (path_of v.device n 0 o records) root) over a in
-    let c = subst (λ (r : List ℕ). IsAccepted (path_of v.device n 0 v.overhead r) root) (sym (get_or_push answers records [] n count)) b in
+    let c = subst (λ (r : List ℕ). IsAccepted (path_of v.device n 0 v.cipher.overhead r) root) (sym (get_or_push answers records [] n count)) b in
     below_more P n
-    (λ i within. subst (λ (r : List ℕ). IsAccepted (path_of v.device i 0 v.overhead r) (slice_index_or s.trees i no_tree).root)
+    (λ i within. subst (λ (r : List ℕ). IsAccepted (path_of v.device i 0 v.cipher.overhead r) (slice_index_or s.trees i no_tree).root)
     (sym (get_or_append_left answers (records ∷ []) [] i (omega arith))) (before i within))
-    (subst (λ (r : List ℕ). IsAccepted (path_of v.device n 0 v.overhead (slice_index_or (answers ++ records ∷ []) n [])) r) stands c)
+    (subst (λ (r : List ℕ). IsAccepted (path_of v.device n 0 v.cipher.overhead (slice_index_or (answers ++ records ∷ []) n [])) r) stands c)
 
 -- A fault of the connection becomes the same fault of the formatting, through whichever layer it
 -- comes.
@@ -83,7 +83,7 @@ module _ {R W : Type 0} (remaining : R → Option (List ℕ)) (contents : W → 
   -- a genuine path of one more tree
   pub seen_more : (v : Scheme) (s : State) (n : ℕ) (a b c : ToHost R W) (records : List ℕ) (d : Sizes) (overhead : ℕ) (root : List ℕ) → AreSeen remaining contents v s n a b
       → IsAsked remaining contents b (fetch_body n 0) (128 ∷ records) c → IsAccepted (path_of d n 0 overhead records) root
-      → d ≡ v.device → overhead ≡ v.overhead → root ≡ (slice_index_or s.trees n no_tree).root → AreSeen remaining contents v s (n + 1) a c
+      → d ≡ v.device → overhead ≡ v.cipher.overhead → root ≡ (slice_index_or s.trees n no_tree).root → AreSeen remaining contents v s (n + 1) a c
   seen_more v s n a b c records d overhead root seen asked accepted device over stands = record {
     answers = seen.answers ++ records ∷ [];
     answers_count = length-append seen.answers (records ∷ []) ∙ ap (λ (k : ℕ). k + 1) seen.answers_count;
@@ -140,12 +140,12 @@ module _ {R W : Type 0} (remaining : R → Option (List ℕ)) (contents : W → 
 
   -- There was no genuine path of a tree, for the root digest that the core has.
   pub unheld_there : (v : Scheme) (s : State) (n : ℕ) (a : ToHost R W) (fault : FormattingFault) (b : ToHost R W) (d : Sizes) (overhead : ℕ) (root : List ℕ)
-      → IsUnheld remaining contents d overhead root n a fault b → d ≡ v.device → overhead ≡ v.overhead → root ≡ (slice_index_or s.trees n no_tree).root
-      → IsUnheld remaining contents v.device v.overhead (slice_index_or s.trees n no_tree).root n a fault b
+      → IsUnheld remaining contents d overhead root n a fault b → d ≡ v.device → overhead ≡ v.cipher.overhead → root ≡ (slice_index_or s.trees n no_tree).root
+      → IsUnheld remaining contents v.device v.cipher.overhead (slice_index_or s.trees n no_tree).root n a fault b
   unheld_there v s n a fault b d overhead root unheld device over stands =
       let c = subst (λ (e : Sizes). IsUnheld remaining contents e overhead root n a fault b) device unheld in
       let e = subst (λ (o : ℕ). IsUnheld remaining contents v.device o root n a fault b) over c in
-      subst (λ (r : List ℕ). IsUnheld remaining contents v.device v.overhead r n a fault b) stands e
+      subst (λ (r : List ℕ). IsUnheld remaining contents v.device v.cipher.overhead r n a fault b) stands e
 
   -- The formatting was broken off while messages were put,
   pub unmade : (v : Scheme) (a : ToHost R W) (fault : FormatFault) (b : ToHost R W) → IsBrokenOff (IsPut remaining contents) (IsUnput remaining contents) (IsFormatBegun v) a fault b

@@ -11,6 +11,7 @@ use Rattle.oram_host.specs.Refusals.{code_of}
 use Rattle.oram_host.specs.declared.refusals.HostRefusal.TheVariants as host
 use Rattle.oram_client.specs.declared.refusals.Refusal.{Refusal}
 use Rattle.oram_client.specs.declared.refusals.Refusal.TheVariants.{Taken, NoRoom, Other}
+use Rattle.oram_wire.specs.HostMessages.{done_answer, refusal_answer}
 
 -- the connection
 pub record ToHost (R W : Type 0) : Type 0 where
@@ -25,7 +26,7 @@ most_due = 256
 
 -- `count` answers that the host is done
 abbrev pub dones : ℕ → List ℕ
-dones count = flat_map frame (replicate count (128 ∷ []))
+dones count = flat_map frame (replicate count done_answer)
 
 -- No frame is read where an answer is due, and the fault says why.
 abbrev pub GivesNone : Option (List ℕ) → Option (List ℕ) → SinkFault → Type 0
@@ -35,14 +36,14 @@ GivesNone old new OutOfMemory = GivesHead old new
 
 -- what an answer other than done means: the tree already has a shape, the host has no room, or anything else
 abbrev pub Means : List ℕ → Refusal → Type 0
-Means answer Taken = answer ≡ 129 ∷ code_of host.ShapeTaken ∷ []
-Means answer NoRoom = answer ≡ 129 ∷ code_of host.OutOfMemory ∷ []
-Means answer Other = (answer ≢ 129 ∷ code_of host.ShapeTaken ∷ []) × (answer ≢ 129 ∷ code_of host.OutOfMemory ∷ [])
+Means answer Taken = answer ≡ refusal_answer (code_of host.ShapeTaken)
+Means answer NoRoom = answer ≡ refusal_answer (code_of host.OutOfMemory)
+Means answer Other = (answer ≢ refusal_answer (code_of host.ShapeTaken)) × (answer ≢ refusal_answer (code_of host.OutOfMemory))
 
 -- An answer is read, and it is not that the host is done.
 pub record GivesOther (old new : Option (List ℕ)) (refusal : Option Refusal) (fault : SinkFault) : Type 0 where
   pub answer : List ℕ
-  pub other : answer ≢ 128 ∷ []
+  pub other : answer ≢ done_answer
   pub read : Consumes old new (frame answer)
   pub meaning : Refusal
   pub means : Means answer meaning

@@ -1,9 +1,6 @@
 -- What can be wrong with a host, and a connection over which the host of a disk has answered.
 use Rattle.std.specs.Prelude.{◌≡◌, ◌≢◌, ℕ, Bool, true, false, List, [], ◌∷◌, Option, Ok, Some, None, MatchResult, ◌⊎◌}
-use Rattle.oram_wire.specs.HostMessages.{fetch_body, answer_body}
-use Rattle.oram_wire.specs.declared.host_messages.HostAnswer.TheVariants.{Payload, Refused}
-use Rattle.oram_host.specs.Refusals.{code_of}
-use Rattle.oram_host.specs.declared.refusals.HostRefusal.TheVariants as refusal
+use Rattle.oram_wire.specs.HostMessages.{fetch_body, no_room_answer, payload_answer}
 use Rattle.oram_cli.specs.declared.hosts.HostFault.{HostFault}
 use Rattle.oram_cli.specs.declared.hosts.HostFault.TheVariants as host
 use Rattle.oram_session.specs.Outcome.{Outcome}
@@ -35,10 +32,6 @@ given_up (Some AnotherDisk) = host.AnotherDisk
 given_up (Some NoDisk) = host.NoDisk
 given_up None = host.OutOfReach
 
--- the answer of a host that has no room
-abbrev pub no_room : List ℕ
-no_room = answer_body (Refused (code_of refusal.OutOfMemory))
-
 -- the address of a disk's host, and the identity of the disk that it has to keep
 pub record Destination : Type 0 where
   pub address : List ℕ
@@ -51,9 +44,9 @@ greeting = fetch_body 255 0
 -- what is wrong with the answer to the greeting
 abbrev pub Shows : List ℕ → List ℕ → Trouble → Type 0
 Shows identity answer (OutOfReach fault) = (fault ≡ Io) × (answer ≡ [] ⊎ (first : ℕ) × (rest : List ℕ) × (answer ≡ first ∷ rest) × (first ≢ 128) × (first ≢ 129))
-Shows identity answer NoRoom = answer ≡ no_room
-Shows identity answer AnotherDisk = (other : List ℕ) × (answer ≡ answer_body (Payload other)) × (other ≢ identity)
-Shows identity answer NoDisk = (rest : List ℕ) × (answer ≡ 129 ∷ rest) × (answer ≢ no_room)
+Shows identity answer NoRoom = answer ≡ no_room_answer
+Shows identity answer AnotherDisk = (other : List ℕ) × (answer ≡ payload_answer other) × (other ≢ identity)
+Shows identity answer NoDisk = (rest : List ℕ) × (answer ≡ 129 ∷ rest) × (answer ≢ no_room_answer)
 
 -- for streams whose bytes `remaining` and `contents` give
 module _ {S : Type 0} (remaining contents : S → Option (List ℕ)) where
@@ -63,7 +56,7 @@ module _ {S : Type 0} (remaining contents : S → Option (List ℕ)) where
 
   -- The host answered with this identity.
   abbrev pub IsGreetedOver : S → S → List ℕ → ToStreams S S → Type 0
-  IsGreetedOver reader writer identity line = Asks reader writer (Ok (answer_body (Payload identity))) line
+  IsGreetedOver reader writer identity line = Asks reader writer (Ok (payload_answer identity)) line
 
   -- Memory ran out before the host was asked, or the call had a fault, or the host gave another
   -- answer.

@@ -5,7 +5,7 @@ use Rattle.std.specs.List.{flat_map, range_with_len}
 use Rattle.oram_geometry.specs.declared.Sizes.{Sizes}
 use Rattle.oram_geometry.specs.Sizes.{trees_of}
 use Rattle.oram_wire.specs.FrameStream.{frame}
-use Rattle.oram_wire.specs.HostMessages.{fetch_body}
+use Rattle.oram_wire.specs.HostMessages.{fetch_body, payload_answer}
 use Rattle.oram_wire.specs.declared.sinks.SinkFault.{SinkFault}
 use Rattle.oram_hash.specs.Path.{IsAccepted, path_of}
 use Rattle.oram_semantics.specs.Formatting.{IsFormatBegun}
@@ -29,17 +29,17 @@ fetches count = flat_map frame (map (λ tree. fetch_body tree 0) (range_with_len
 
 -- the frames that answer with these paths
 abbrev pub paths : List (List ℕ) → List ℕ
-paths answers = flat_map (λ records. frame (128 ∷ records)) answers
+paths answers = flat_map (λ records. frame (payload_answer records)) answers
 
 -- `answers` are the records of a path of each of the first `count` trees, and each path has the tree's root digest.
 abbrev pub AreGenuine : Scheme → State → ℕ → List (List ℕ) → Type 0
 AreGenuine v s count answers =
-    (i : ℕ) → i < count → IsAccepted (path_of v.device i 0 v.overhead (slice_index_or answers i [])) (slice_index_or s.trees i no_tree).root
+    (i : ℕ) → i < count → IsAccepted (path_of v.device i 0 v.cipher.overhead (slice_index_or answers i [])) (slice_index_or s.trees i no_tree).root
 
 -- The answer isn't a path of this tree to leaf 0 with this root digest.
 abbrev pub IsFalse : Sizes → ℕ → List ℕ → ℕ → List ℕ → Type 0
 IsFalse d overhead root tree answer =
-    (records : List ℕ) → answer ≡ 128 ∷ records → ¬ IsAccepted (path_of d tree 0 overhead records) root
+    (records : List ℕ) → answer ≡ payload_answer records → ¬ IsAccepted (path_of d tree 0 overhead records) root
 
 -- for readers and writers whose bytes `remaining` and `contents` give
 module _ {R W : Type 0} (remaining : R → Option (List ℕ)) (contents : W → Option (List ℕ)) where
@@ -65,7 +65,7 @@ module _ {R W : Type 0} (remaining : R → Option (List ℕ)) (contents : W → 
     pub mid : ToHost R W
     pub seen : AreSeen v s count a mid
     pub ended : ((fault ≡ OutOfMemory) × (b ≡ mid))
-        ⊎ ((count < trees_of v.device) × IsUnheld v.device v.overhead (slice_index_or s.trees count no_tree).root count mid fault b)
+        ⊎ ((count < trees_of v.device) × IsUnheld v.device v.cipher.overhead (slice_index_or s.trees count no_tree).root count mid fault b)
 
   -- The messages that make the device's trees were written, and then those that fetch a path of each. The host is done
   -- with the former, and the paths are genuine.
@@ -114,7 +114,7 @@ module _ {R W : Type 0} (remaining : R → Option (List ℕ)) (contents : W → 
     pub wrote : Appends (contents a.writer) (contents b.writer)
         (flat_map frame (identity_messages identity ++ messages) ++ fetches (trees_of v.device) ++ frame (fetch_body IDENTITY_TREE 0))
     pub read : Consumes (remaining a.reader) (remaining b.reader)
-        (dones (a.due + length (identity_messages identity ++ messages)) ++ paths answers ++ frame (128 ∷ identity))
+        (dones (a.due + length (identity_messages identity ++ messages)) ++ paths answers ++ frame (payload_answer identity))
     pub genuine : AreGenuine v s (trees_of v.device) answers
 
   -- A formatting was broken off: while it put the identity, while it made the trees, or when it fetched the identity.

@@ -1,6 +1,6 @@
 -- The identity of a disk at its host.
 use Rattle.std.specs.Prelude.{◌≡◌, ◌≢◌, ℕ, ◌⊎◌, List, [], ◌∷◌, Option}
-use Rattle.oram_wire.specs.HostMessages.{fetch_body, put_body, shape_body}
+use Rattle.oram_wire.specs.HostMessages.{fetch_body, payload_answer, put_body, shape_body}
 use Rattle.oram_wire.specs.declared.sinks.SinkFault.{SinkFault}
 use Rattle.oram_client.specs.declared.faults.FormattingFault.{FormattingFault}
 use Rattle.oram_client.specs.declared.faults.FormattingFault.TheVariants.{NotStored, OutOfMemory}
@@ -25,4 +25,4 @@ module _ {R W : Type 0} (remaining : R → Option (List ℕ)) (contents : W → 
   abbrev pub IsUnrecognized : List ℕ → ToHost R W → FormattingFault → ToHost R W → Type 0
   IsUnrecognized identity a fault b =
       ((why : SinkFault) × IsUnasked remaining contents a (fetch_body IDENTITY_TREE 0) why b × (fault ≡ sink_told b.refusal why))
-      ⊎ ((answer : List ℕ) × IsAsked remaining contents a (fetch_body IDENTITY_TREE 0) answer b × (answer ≢ 128 ∷ identity) × (fault ≡ NotStored))
+      ⊎ ((answer : List ℕ) × IsAsked remaining contents a (fetch_body IDENTITY_TREE 0) answer b × (answer ≢ payload_answer identity) × (fault ≡ NotStored))

@@ -2,9 +2,10 @@
 use Rattle.std.specs.Prelude.{◌≡◌, ◌≢◌, ℕ, ◌-◌, ◌*◌, ◌<◌, min, max, cond, List, Option, None, Some, Result, Ok, Err, MatchOption, MatchResult, ◌⊎◌}
 use Rattle.std.specs.Global.{Vec}
 use Rattle.std.specs.List.{FoldsTo}
+use Rattle.oram_wire.specs.HostMessages.{no_room_answer}
 use Rattle.oram_session.specs.Outcome.{Outcome, faults_after}
 use Rattle.oram_session.specs.declared.link.LinkFault.TheVariants.{Closed}
-use Rattle.oram_client.specs.Dialing.{may_pass, fault_of, no_room}
+use Rattle.oram_client.specs.Dialing.{may_pass, fault_of}
 use Rattle.oram_client.specs.declared.dialer.Limits.{Limits}
 use Rattle.oram_client.specs.declared.dialer.Trouble.{Trouble}
 use Rattle.oram_client.specs.declared.dialer.Trouble.TheVariants.{OutOfReach, NoRoom}
@@ -28,8 +29,8 @@ attempt_of (Err trouble) = Err trouble
 
 -- why an attempt brought nothing to give to the caller; `None` where it brought an answer to give
 abbrev pub IsTroubleIn : Attempt → Option Trouble → Type 0
-IsTroubleIn (Ok answer) None = answer ≢ no_room
-IsTroubleIn (Ok answer) (Some trouble) = (answer ≡ no_room) × (trouble ≡ NoRoom)
+IsTroubleIn (Ok answer) None = answer ≢ no_room_answer
+IsTroubleIn (Ok answer) (Some trouble) = (answer ≡ no_room_answer) × (trouble ≡ NoRoom)
 IsTroubleIn (Err why) trouble = trouble ≡ Some why
 
 -- what the caller receives for an attempt

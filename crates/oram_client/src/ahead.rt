@@ -1,8 +1,8 @@
 //! A connection that sends messages to a host ahead of its answers.
-ghost use Rattle.std.specs.Prelude.{◌≡◌, ◌+◌, ◌<◌, ◌≤◌, ℕ, [], ◌∷◌, None, IfErr, IfOk, MatchBool, OnOk};
+ghost use Rattle.std.specs.Prelude.{◌≡◌, ◌+◌, ◌<◌, ◌≤◌, ℕ, None, IfErr, IfOk, MatchBool, OnOk};
 ghost use Rattle.std.specs.Io.KnownBytes.{Appends, Consumes, Keeps};
 ghost use Rattle.oram_wire.specs.FrameStream.{frame};
-ghost use Rattle.oram_wire.specs.HostMessages.{fetch_body};
+ghost use Rattle.oram_wire.specs.HostMessages.{done_answer, fetch_body};
 ghost use Rattle.oram_client.specs.Ahead.{GivesNone, IsAsked, IsDrained, IsStopped, IsUnasked, IsUndone, IsUnsent, most_due};
 
 use crate::refusals::Refusal;
@@ -154,7 +154,7 @@ impl<R: Read, W: Write, P: Progress> Ahead<R, W, P> {
     /// Reads the next answer, and fails with `Refused` if it isn't that the host is done.
     fn take_answer(&mut self) -> Result<(), SinkFault>
         requires { 0 < self.old.due }
-        ensures ok { OnOk result (Consumes (R.remaining self.old.reader) (R.remaining self.new.reader) (frame (128 ∷ []))) }
+        ensures ok { OnOk result (Consumes (R.remaining self.old.reader) (R.remaining self.new.reader) (frame done_answer)) }
         ensures due { OnOk result (self.new.due + 1 ≡ self.old.due) }
         ensures same { self.new.writer ≡ self.old.writer }
         ensures err { IfErr result (λ fault. IsUndone R.remaining W.contents self.old fault self.new) }

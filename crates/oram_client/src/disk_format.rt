@@ -1,7 +1,7 @@
 //! The formatting of a disk over a connection.
-ghost use Rattle.std.specs.Prelude.{◌≡◌, ◌<◌, ◌≤◌, ◌∷◌, List, ℕ, length, OnOk, IfOk, IfErr};
+ghost use Rattle.std.specs.Prelude.{◌≡◌, ◌<◌, ◌≤◌, List, ℕ, length, OnOk, IfOk, IfErr};
 ghost use Rattle.oram_geometry.specs.Sizes.{trees_of};
-ghost use Rattle.oram_wire.specs.HostMessages.{fetch_body};
+ghost use Rattle.oram_wire.specs.HostMessages.{fetch_body, payload_answer};
 ghost use Rattle.oram_hash.specs.Path.{IsAccepted, path_of};
 ghost use Rattle.oram_core.specs.Core.{scheme_of, scheme_with};
 ghost use Rattle.oram_client.specs.Ahead.{IsAsked};
@@ -30,7 +30,7 @@ fn check_tree<R: Read, W: Write, P>(
 ) -> Result<(), FormattingFault>
     requires tree { tree < trees_of device.now }
     requires overhead { overhead ≤ 64 }
-    ensures ok { OnOk result ((records : List ℕ) × IsAsked R.remaining W.contents ahead.old (fetch_body tree 0) (128 ∷ records) ahead.new
+    ensures ok { OnOk result ((records : List ℕ) × IsAsked R.remaining W.contents ahead.old (fetch_body tree 0) (payload_answer records) ahead.new
         × IsAccepted (path_of device.now tree 0 overhead records) root.now) }
     ensures err { IfErr result (λ fault. IsUnheld R.remaining W.contents device.now overhead root.now tree ahead.old fault ahead.new) }
 {
@@ -54,9 +54,9 @@ fn check_trees<S: Sealer, R: Read, W: Write, P>(
     ahead: &mut Ahead<R, W, P>,
 ) -> Result<(), FormattingFault>
     requires { length core.now.state.trees ≡ trees_of core.now.device }
-    ensures ok { let v = scheme_of S.overhead S.sealing S.opening core.now in
+    ensures ok { let v = scheme_of S.cipher core.now in
         OnOk result (AreSeen R.remaining W.contents v core.now.state (trees_of core.now.device) ahead.old ahead.new) }
-    ensures err { let v = scheme_of S.overhead S.sealing S.opening core.now in
+    ensures err { let v = scheme_of S.cipher core.now in
         IfErr result (λ fault. IsUnseen R.remaining W.contents v core.now.state ahead.old fault ahead.new) }
 {
     let parts = core.parts(alloc)?;
@@ -76,9 +76,9 @@ fn format_trees<S: Sealer, R: Read, W: Write, P: Progress>(
 ) -> Result<Core<S>, FormattingFault>
     ensures device { IfOk result (λ c. c.device ≡ device) }
     ensures sealer { IfOk result (λ c. c.sealer ≡ sealer) }
-    ensures made { let v = scheme_with S.overhead S.sealing S.opening device sealer in
+    ensures made { let v = scheme_with S.cipher device sealer in
         IfOk result (λ c. AreTreesMade R.remaining W.contents v ahead.old c.state ahead.new) }
-    ensures broken_off { let v = scheme_with S.overhead S.sealing S.opening device sealer in
+    ensures broken_off { let v = scheme_with S.cipher device sealer in
         IfErr result (λ fault. AreTreesMadeInPart R.remaining W.contents v ahead.old fault ahead.new) }
 {
     let core = match Core::format(alloc, device, sealer, ahead) {
@@ -108,11 +108,11 @@ pub fn format_ahead<S: Sealer, R: Read, W: Write, P: Progress>(
 ) -> Result<Core<S>, FormattingFault>
     ensures device { IfOk result (λ c. c.device ≡ device) }
     ensures sealer { IfOk result (λ c. c.sealer ≡ sealer) }
-    ensures made { let v = scheme_with S.overhead S.sealing S.opening device sealer in
+    ensures made { let v = scheme_with S.cipher device sealer in
         IfOk result (λ c. IsFormattedAhead R.remaining W.contents v identity.now.0 ahead.old c.state ahead.new) }
 
     // What was written and read up to a fault, and which fault it is.
-    ensures broken_off { let v = scheme_with S.overhead S.sealing S.opening device sealer in
+    ensures broken_off { let v = scheme_with S.cipher device sealer in
         IfErr result (λ fault. IsFormattedInPart R.remaining W.contents v identity.now.0 ahead.old fault ahead.new) }
 {
     put_identity(alloc, identity, ahead)?;

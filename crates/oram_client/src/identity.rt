@@ -1,6 +1,6 @@
 //! The identity of a disk at its host: a record of its own, in a tree that no device has.
 ghost use Rattle.std.specs.Prelude.{◌≡◌, ◌↔◌, [], ◌∷◌, IfErr, IfOk, IsTrue, OnOk};
-ghost use Rattle.oram_wire.specs.HostMessages.{fetch_body, put_body, shape_body};
+ghost use Rattle.oram_wire.specs.HostMessages.{fetch_body, payload_answer, put_body, shape_body};
 ghost use Rattle.oram_client.specs.Ahead.{AreTaken, AreUntaken, IsAsked};
 ghost use Rattle.oram_client.specs.Naming.{IsUnnamed, IsUnrecognized, identity_messages};
 
@@ -75,7 +75,7 @@ pub(crate) fn put_identity<R: Read, W: Write, P: Progress>(
 
 /// Returns whether an answer gives back the bytes `kept`.
 fn gives(answer: &[u8], kept: &[u8]) -> bool
-    ensures { IsTrue result ↔ (answer.now ≡ 128 ∷ kept.now) }
+    ensures { IsTrue result ↔ (answer.now ≡ payload_answer kept.now) }
 {
     match answer.split_first() {
         Some((&GOOD, rest)) => rest == kept,
@@ -88,7 +88,7 @@ pub(crate) fn check_identity<R: Read, W: Write, P>(
     identity: &Identity,
     ahead: &mut Ahead<R, W, P>,
 ) -> Result<(), FormattingFault>
-    ensures ok { OnOk result (IsAsked R.remaining W.contents ahead.old (fetch_body IDENTITY_TREE 0) (128 ∷ identity.now.0) ahead.new) }
+    ensures ok { OnOk result (IsAsked R.remaining W.contents ahead.old (fetch_body IDENTITY_TREE 0) (payload_answer identity.now.0) ahead.new) }
     ensures err { IfErr result (λ fault. IsUnrecognized R.remaining W.contents identity.now.0 ahead.old fault ahead.new) }
 {
     let answer = match ahead.fetch(IDENTITY_TREE) {

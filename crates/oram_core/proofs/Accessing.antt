@@ -32,32 +32,32 @@ use Rattle.oram_core.proofs.Hearing.{IsTreeAt}
 
 -- the tree at work stands in the world, and has the command's block at the leaf whose path was fetched, or not at all
 pub record IsReadyTree (v : Scheme) (s : State) (w : World) (x : Submission) (t : Tree) : Type 0 where
-  pub stored : IsStoredWith v.opening v.overhead v.device t (w.records (entry_tree v.device s.entry_number)) (w.content (entry_tree v.device s.entry_number))
+  pub stored : IsStoredWith v.cipher.opening v.cipher.overhead v.device t (w.records (entry_tree v.device s.entry_number)) (w.content (entry_tree v.device s.entry_number))
   pub at_leaf : IsAtOrAbsent (w.content (entry_tree v.device s.entry_number)) (block_of v.device (entry_tree v.device s.entry_number) x) (requested s.message).leaf
   pub ready : IsReadyFor v s w x
 
-pub ready_tree : (v : Scheme) (s : State) (w : World) (t : Tree) (o : Waits s) → IsSound v.device v.overhead s → s.entry_number % 2 ≡ 0 → Fits v s w → IsTreeAt v s t → IsReadyTree v s w o.oldest t
+pub ready_tree : (v : Scheme) (s : State) (w : World) (t : Tree) (o : Waits s) → IsSound v.device v.cipher.overhead s → s.entry_number % 2 ≡ 0 → Fits v s w → IsTreeAt v s t → IsReadyTree v s w o.oldest t
 ready_tree v s w t o h even fits at =
     let i : ℕ = entry_tree v.device s.entry_number in
     let x : Submission = o.oldest in
     let holds : AllStand v s w = (fits o.healthy).0 in
     let all : IsReady v s w (o.oldest ∷ o.rest) = subst (IsReady v s w) o.queue (fits o.healthy).1 in
     let ready : IsReadyFor v s w x = all even in
-    let work : Outstanding v.device s x = at_hand v.device v.overhead s x o.rest h o.healthy o.queue in
-    let stands : Stands v i (slice_index_or s.trees i no_tree) (w.records i) (w.content i) = holds i (tree_within v.device v.overhead s h) in
+    let work : Outstanding v.device s x = at_hand v.device v.cipher.overhead s x o.rest h o.healthy o.queue in
+    let stands : Stands v i (slice_index_or s.trees i no_tree) (w.records i) (w.content i) = holds i (tree_within v.device v.cipher.overhead s h) in
     record {
-      stored = subst (λ (u : Tree). IsStoredWith v.opening v.overhead v.device u (w.records i) (w.content i)) (sym at.is) stands.stored;
+      stored = subst (λ (u : Tree). IsStoredWith v.cipher.opening v.cipher.overhead v.device u (w.records i) (w.content i)) (sym at.is) stands.stored;
       at_leaf = subst (λ (k : ℕ). IsAtOrAbsent (w.content i) (block_of v.device i x) k) (sym (ap (λ (e : Entry). e.leaf) (work.fetch even))) (at_leaf v.device i (block_of v.device i x) (named_now v.device s x) x (w.content i) ready.held_entry);
       ready = ready;
     }
 
 -- the core takes over an access of the tree by the rule
-pub access_moves : (v : Scheme) (s : State) (w : World) (t new : Tree) (path : Path) (found : Bool) (before records : List ℕ) (why : Reason) (y : Reaction) (u : State) (o : Waits s) → IsSound v.device v.overhead s → s.entry_number % 2 ≡ 0 → Fits v s w → IsTreeAt v s t →
-    path ≡ path_of v.device (entry_tree v.device s.entry_number) (requested s.message).leaf v.overhead path.bytes → length records ≡ (depth_of v.device (entry_tree v.device s.entry_number) + 1) * record_len v → new.number ≡ t.number →
+pub access_moves : (v : Scheme) (s : State) (w : World) (t new : Tree) (path : Path) (found : Bool) (before records : List ℕ) (why : Reason) (y : Reaction) (u : State) (o : Waits s) → IsSound v.device v.cipher.overhead s → s.entry_number % 2 ≡ 0 → Fits v s w → IsTreeAt v s t →
+    path ≡ path_of v.device (entry_tree v.device s.entry_number) (requested s.message).leaf v.cipher.overhead path.bytes → length records ≡ (depth_of v.device (entry_tree v.device s.entry_number) + 1) * record_len v → new.number ≡ t.number →
     (let i = entry_tree v.device s.entry_number in let c : Cell = record { address = block_of v.device i o.oldest; leaf = new_leaf v.device i o.oldest; content = block_after v.device i o.oldest before } in
-    IsUpdate v.opening v.overhead v.device path (with_bytes path records) (w.records i) (w.content i) c found before new) →
+    IsUpdate v.cipher.opening v.cipher.overhead v.device path (with_bytes path records) (w.records i) (w.content i) c found before new) →
     (let i = entry_tree v.device s.entry_number in let c : Cell = record { address = block_of v.device i o.oldest; leaf = new_leaf v.device i o.oldest; content = block_after v.device i o.oldest before } in
-    IsRewritten (Reads v.opening v.device t.number) v.sealing v.device s.nonce path t.stash (with_bytes path records) c new.stash) →
+    IsRewritten (Reads v.cipher.opening v.device t.number) v.cipher.sealing v.device s.nonce path t.stash (with_bytes path records) c new.stash) →
     (let s' : State = record s { trees = slice_set s.trees (entry_tree v.device s.entry_number) new } in
     done y u ≡ (if is_misled v s' o.oldest found before then failed_by s' why else stored_by v s' o.oldest before records)) →
     MovesTo v s w (on_answer v s w Waiting Good) (shown_by y) u
@@ -67,13 +67,13 @@ access_moves v s w t new path found before records why y u o h even fits at path
     let c : Cell = record { address = block_of v.device i x; leaf = new_leaf v.device i x; content = block_after v.device i x before } in
     let s' : State = record s { trees = slice_set s.trees i new } in
     let r = ready_tree v s w t o h even fits at in
-    let work : Outstanding v.device s x = at_hand v.device v.overhead s x o.rest h o.healthy o.queue in
+    let work : Outstanding v.device s x = at_hand v.device v.cipher.overhead s x o.rest h o.healthy o.queue in
     let a : IsAccess v s w x path new found before records = record {
       number = number ∙ at.number;
       path_is = path_is;
       long = long;
-      rewritten = subst (λ (q : Tree). IsRewritten (Reads v.opening v.device i) v.sealing v.device s.nonce path q.stash (with_bytes path records) c new.stash) at.is
-          (subst (λ (k : ℕ). IsRewritten (Reads v.opening v.device k) v.sealing v.device s.nonce path t.stash (with_bytes path records) c new.stash) at.number rewritten);
+      rewritten = subst (λ (q : Tree). IsRewritten (Reads v.cipher.opening v.device i) v.cipher.sealing v.device s.nonce path q.stash (with_bytes path records) c new.stash) at.is
+          (subst (λ (k : ℕ). IsRewritten (Reads v.cipher.opening v.device k) v.cipher.sealing v.device s.nonce path t.stash (with_bytes path records) c new.stash) at.number rewritten);
       update = update;
     } in
     let fine : is_misled v s' x found before ≡ false = not_misled v s w x path new found before records r.ready a in

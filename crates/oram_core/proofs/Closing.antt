@@ -88,14 +88,14 @@ pass_sound d o s queue before last h now end more next q b =
     finished_as d o s w.oldest w.rest queue before last h w.healthy w.queue w.calm end (q ∙ ap (drop 1) w.queue) b (next_sent d o s w.oldest w.rest last w.queue more next)
 
 -- what the core did if no command waits after the oldest one
-pub ended_by : (v : Scheme) (s : State) (x : Submission) (rest queue : List Submission) (replies : List Reply) (sends : List (List ℕ)) (before last : List ℕ) → IsSound v.device v.overhead s → s.queue ≡ x ∷ rest → length s.queue ≡ 1 →
+pub ended_by : (v : Scheme) (s : State) (x : Submission) (rest queue : List Submission) (replies : List Reply) (sends : List (List ℕ)) (before last : List ℕ) → IsSound v.device v.cipher.overhead s → s.queue ≡ x ∷ rest → length s.queue ≡ 1 →
     replies ≡ (record { session = x.session; ticket = x.ticket; body = body_from s.held_data x.command }) ∷ [] → sends ≡ [] → queue ≡ drop 1 s.queue → before ≡ [] → last ≡ [] →
     (let d : Done = record { note = Taken; replies = replies; sends = sends; state = record s { queue = queue; entry_number = 0; held_entry = 0; held_data = before; message = last } } in d ≡ finished_by v s x rest)
 ended_by v s x [] queue replies sends before last h q alone r m k b l = let e : queue ≡ [] = k ∙ ap (drop 1) q in cc
 ended_by v s x (y ∷ rest) queue replies sends before last h q alone r m k b l = absurd (omega (arith, ap length q))
 
 -- and if one does
-pub passed_by : (v : Scheme) (s : State) (x : Submission) (rest queue : List Submission) (replies : List Reply) (sends : List (List ℕ)) (before last : List ℕ) → IsSound v.device v.overhead s → s.queue ≡ x ∷ rest → 1 < length s.queue →
+pub passed_by : (v : Scheme) (s : State) (x : Submission) (rest queue : List Submission) (replies : List Reply) (sends : List (List ℕ)) (before last : List ℕ) → IsSound v.device v.cipher.overhead s → s.queue ≡ x ∷ rest → 1 < length s.queue →
     ((x y : Submission) (rest : List Submission) → s.queue ≡ x ∷ y ∷ rest → last ≡ first_message v.device s y) →
     replies ≡ (record { session = x.session; ticket = x.ticket; body = body_from s.held_data x.command }) ∷ [] → sends ≡ last ∷ [] → queue ≡ drop 1 s.queue → before ≡ [] →
     (let d : Done = record { note = Taken; replies = replies; sends = sends; state = record s { queue = queue; entry_number = 0; held_entry = 0; held_data = before; message = last } } in d ≡ finished_by v s x rest)
@@ -107,7 +107,7 @@ passed_by v s x (y ∷ rest) queue replies sends before last h q more next r m k
     cc
 
 -- what the core did if it fetched another tree's path
-pub fetched_so : (v : Scheme) (s : State) (x : Submission) (replies : List Reply) (sends : List (List ℕ)) (last : List ℕ) → IsSound v.device v.overhead s →
+pub fetched_so : (v : Scheme) (s : State) (x : Submission) (replies : List Reply) (sends : List (List ℕ)) (last : List ℕ) → IsSound v.device v.cipher.overhead s →
     last ≡ fetch_of (fetch_at v.device (s.entry_number + 1) s.held_entry x) → sends ≡ last ∷ [] → replies ≡ [] →
     (let d : Done = record { note = Taken; replies = replies; sends = sends; state = record s { entry_number = s.entry_number + 1; message = last } } in d ≡ fetched_by v s x)
 fetched_so v s x replies sends last h l m r =

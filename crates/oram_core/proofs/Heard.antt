@@ -33,16 +33,16 @@ no_ok P (Err e) err ok = absurd (let no_way : false ≡ true = ok in cc)
 finished_heard : (v : Scheme) (s : State) (o : HasOldest v.device s) → s.entry_number + 1 ≡ 2 * trees_of v.device → Heard v s (finished_by v s o.oldest o.rest)
 finished_heard v s o end = inr (inr (record { oldest = o.oldest; rest = o.rest; queue = o.queue; does = refl; long = o.work.held_data end }))
 
-pub finish_heard : {E : Type 0} (v : Scheme) (s : State) (r : Result Reaction E) (t : State) → IsSound v.device v.overhead s → status_in s ≡ Waiting → s.entry_number + 1 ≡ 2 * trees_of v.device →
+pub finish_heard : {E : Type 0} (v : Scheme) (s : State) (r : Result Reaction E) (t : State) → IsSound v.device v.cipher.overhead s → status_in s ≡ Waiting → s.entry_number + 1 ≡ 2 * trees_of v.device →
     ((x : Submission) (rest : List Submission) → s.queue ≡ x ∷ rest → IfOk r (λ y. done y t ≡ finished_by v s x rest)) → IfOk r (λ y. Heard v s (done y t))
 finish_heard v s r t h now end does =
-    let o : HasOldest v.device s = has_oldest v.device v.overhead s h now in
+    let o : HasOldest v.device s = has_oldest v.device v.cipher.overhead s h now in
     if_ok _ _ r (λ y e. subst (Heard v s) (sym e) (finished_heard v s o end)) (does o.oldest o.rest o.queue)
 
-pub fetch_heard : {E : Type 0} (v : Scheme) (s : State) (r : Result Reaction E) (t : State) → IsSound v.device v.overhead s → status_in s ≡ Waiting → s.entry_number + 1 < 2 * trees_of v.device →
+pub fetch_heard : {E : Type 0} (v : Scheme) (s : State) (r : Result Reaction E) (t : State) → IsSound v.device v.cipher.overhead s → status_in s ≡ Waiting → s.entry_number + 1 < 2 * trees_of v.device →
     ((x : Submission) (rest : List Submission) → s.queue ≡ x ∷ rest → IfOk r (λ y. done y t ≡ fetched_by v s x)) → IfOk r (λ y. Heard v s (done y t))
 fetch_heard v s r t h now more does =
-    let o : HasOldest v.device s = has_oldest v.device v.overhead s h now in
+    let o : HasOldest v.device s = has_oldest v.device v.cipher.overhead s h now in
     if_ok _ _ r (λ y e. subst (Heard v s) (sym e) (inr (inl (record { note = refl; replies = refl; sends = refl; queue = refl; waits = now; next = refl; entry_number = refl; within = more; fetched = λ odd. record { oldest = o.oldest; rest = o.rest; queue = o.queue; does = refl } })))) (does o.oldest o.rest o.queue)
 
 -- the device fails, whatever the trees are then

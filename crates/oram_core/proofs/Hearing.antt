@@ -1,11 +1,12 @@
 -- The code's verdict on an answer agrees with what the answer means.
-use Rattle.std.proofs.Common.{◌≡◌, ◌≢◌, ◌⊎◌, ◌↔◌, ℕ, ◌+◌, ◌*◌, ◌%◌, ◌^◌, ◌<◌, ◌≤◌, ◌==◌, ◌&&◌, Bool, true, false, if◌then◌else◌, List, [], ◌∷◌, length, drop, slice_index, slice_index_or, slice_set, nat_le, nat_lt, not, Option, Some, None, Result, Ok, Err, IsOk, MatchResult, refl, ap, sym, ◌∙◌, subst, arith, inl, inr}
+use Rattle.std.proofs.Common.{◌≡◌, ◌≢◌, ◌⊎◌, ◌↔◌, ℕ, ◌+◌, ◌*◌, ◌%◌, ◌^◌, ◌<◌, ◌≤◌, ◌==◌, ◌&&◌, Bool, true, false, if◌then◌else◌, List, [], ◌∷◌, length, drop, slice_index, slice_index_or, slice_set, nat_le, nat_lt, not, Some, None, Result, Ok, Err, IsOk, MatchResult, refl, ap, sym, ◌∙◌, subst, arith, inl, inr}
 use Rattle.std.specs.List.{All}
 use Rattle.std.proofs.lemmas.List.{get_or_read}
 use Rattle.std.proofs.lemmas.Bool.{cases_eq}
 use Rattle.std.proofs.lemmas.Bool.Decides.{nat_tests}
 use Rattle.oram_geometry.specs.declared.Sizes.{Sizes}
 use Rattle.oram_geometry.specs.Sizes.{depth_of, trees_of}
+use Rattle.oram_bucket.specs.Cipher.{Cipher}
 use Rattle.oram_bucket.specs.Bucket.{IsBlockOf}
 use Rattle.oram_trace.specs.declared.entries.Entry.{Entry}
 use Rattle.oram_hash.specs.declared.HashFault.{HashFault}
@@ -43,23 +44,23 @@ path_told v records e bytes fetch whole apart (inr pair) =
     absurd (let both : true ≡ false = sym (pair_is v records e (128 ∷ bytes) payload pair) ∙ apart in cc)
 
 -- the outstanding fetch
-fetch_out : (v : Scheme) (s : State) → IsSound v.device v.overhead s → status_in s ≡ Waiting → s.entry_number % 2 ≡ 0 → ((requested s.message).fetch ≡ true) × ((requested s.message).tree ≡ entry_tree v.device s.entry_number) × ((requested s.message).leaf < 2 ^ depth_of v.device (entry_tree v.device s.entry_number))
+fetch_out : (v : Scheme) (s : State) → IsSound v.device v.cipher.overhead s → status_in s ≡ Waiting → s.entry_number % 2 ≡ 0 → ((requested s.message).fetch ≡ true) × ((requested s.message).tree ≡ entry_tree v.device s.entry_number) × ((requested s.message).leaf < 2 ^ depth_of v.device (entry_tree v.device s.entry_number))
 fetch_out v s h now even =
     let o = waits s now in
-    let work : Outstanding v.device s o.oldest = at_hand v.device v.overhead s o.oldest o.rest h o.healthy o.queue in
+    let work : Outstanding v.device s o.oldest = at_hand v.device v.cipher.overhead s o.oldest o.rest h o.healthy o.queue in
     let e = work.fetch even in
     (ap (λ (x : Entry). x.fetch) e, ap (λ (x : Entry). x.tree) e, work.leaf)
 
 -- the host's records are stored under the root digest of the tree at work
-stored_now : (v : Scheme) (s : State) (w : World) → IsSound v.device v.overhead s → status_in s ≡ Waiting → Fits v s w →
+stored_now : (v : Scheme) (s : State) (w : World) → IsSound v.device v.cipher.overhead s → status_in s ≡ Waiting → Fits v s w →
     IsStored (depth_of v.device (entry_tree v.device s.entry_number)) (record_len v) (tree_now v s).root (w.records (entry_tree v.device s.entry_number))
 stored_now v s w h now fits =
     let i : ℕ = entry_tree v.device s.entry_number in
-    let stands : Stands v i (tree_now v s) (w.records i) (w.content i) = holds_of v s w fits (waits s now).healthy i (tree_within v.device v.overhead s h) in
+    let stands : Stands v i (tree_now v s) (w.records i) (w.content i) = holds_of v s w fits (waits s now).healthy i (tree_within v.device v.cipher.overhead s h) in
     subst (λ (k : ℕ). IsStored (depth_of v.device k) (record_len v) (tree_now v s).root (w.records i)) stands.number stands.stored.stands
 
 -- the answer means what its check says
-pub path_means : {A : Type 0} (v : Scheme) (s : State) (w : World) (bytes : List ℕ) (r : Result A HashFault) → IsSound v.device v.overhead s → status_in s ≡ Waiting → s.entry_number % 2 ≡ 0 → Fits v s w →
+pub path_means : {A : Type 0} (v : Scheme) (s : State) (w : World) (bytes : List ℕ) (r : Result A HashFault) → IsSound v.device v.cipher.overhead s → status_in s ≡ Waiting → s.entry_number % 2 ≡ 0 → Fits v s w →
     pair_in v w.records (requested s.message) (128 ∷ bytes) ≡ false → IsChecked v s bytes r → outcome_of v w.records (requested s.message) (128 ∷ bytes) ≡ outcome_by (entry_tree v.device s.entry_number) r
 path_means v s w bytes r h now even fits apart checked =
     let i : ℕ = entry_tree v.device s.entry_number in
@@ -72,17 +73,17 @@ path_means v s w bytes r h now even fits apart checked =
     (subst (λ (k : ℕ). e.leaf < 2 ^ depth_of v.device k) (sym out.1) out.2)
     (subst (λ (k : ℕ). IsStored (depth_of v.device k) (record_len v) root (w.records k)) (sym out.1) stored)
     apart
-    (subst (λ (k : ℕ). (r ≡ Err fault.Length) ↔ (¬ HasLength (path_of v.device k e.leaf v.overhead bytes))) (sym out.1) checked.short)
-    (subst (λ (k : ℕ). MatchResult r (λ _. IsPathOf (w.records k) (path_of v.device k e.leaf v.overhead bytes)) (IsFaultOf (w.records k) (path_of v.device k e.leaf v.overhead bytes)) ⊎ Collides (w.records k) (path_of v.device k e.leaf v.overhead bytes)) (sym out.1)
+    (subst (λ (k : ℕ). (r ≡ Err fault.Length) ↔ (¬ HasLength (path_of v.device k e.leaf v.cipher.overhead bytes))) (sym out.1) checked.short)
+    (subst (λ (k : ℕ). MatchResult r (λ _. IsPathOf (w.records k) (path_of v.device k e.leaf v.cipher.overhead bytes)) (IsFaultOf (w.records k) (path_of v.device k e.leaf v.cipher.overhead bytes)) ⊎ Collides (w.records k) (path_of v.device k e.leaf v.cipher.overhead bytes)) (sym out.1)
     (checked.judged (w.records i) stored)))
 
 -- the path that is checked
-pub path_same : (v : Scheme) (s : State) (number leaf overhead : ℕ) (device : Sizes) (bytes : List ℕ) → device ≡ v.device → number ≡ entry_tree v.device s.entry_number → leaf ≡ (requested s.message).leaf → overhead ≡ v.overhead →
+pub path_same : (v : Scheme) (s : State) (number leaf overhead : ℕ) (device : Sizes) (bytes : List ℕ) → device ≡ v.device → number ≡ entry_tree v.device s.entry_number → leaf ≡ (requested s.message).leaf → overhead ≡ v.cipher.overhead →
     path_of device number leaf overhead bytes ≡ path_now v s bytes
 path_same v s number leaf overhead device bytes d n l o = cc
 
 -- the result of the check, case by case
-pub checked_as : {A : Type 0} (v : Scheme) (s : State) (number leaf overhead : ℕ) (device : Sizes) (t : Tree) (bytes : List ℕ) (r : Result A HashFault) → device ≡ v.device → number ≡ entry_tree v.device s.entry_number → leaf ≡ (requested s.message).leaf → overhead ≡ v.overhead → t ≡ tree_now v s →
+pub checked_as : {A : Type 0} (v : Scheme) (s : State) (number leaf overhead : ℕ) (device : Sizes) (t : Tree) (bytes : List ℕ) (r : Result A HashFault) → device ≡ v.device → number ≡ entry_tree v.device s.entry_number → leaf ≡ (requested s.message).leaf → overhead ≡ v.cipher.overhead → t ≡ tree_now v s →
     (let p = path_of device number leaf overhead bytes in IsOk r ↔ IsAccepted p t.root) →
     (let p = path_of device number leaf overhead bytes in (r ≡ Err fault.Length) ↔ (¬ HasLength p)) →
     (let p = path_of device number leaf overhead bytes in (level : ℕ) → (r ≡ Err (fault.Tampered level)) ↔ IsTamperedAt p t.root level) →
@@ -111,15 +112,15 @@ told_ok : {A P C : Type 0} (Q : HashFault → Type 0) (r : Result A HashFault) (
 told_ok {A} {P} {C} Q r a ok h = subst (λ (o : Result A HashFault). MatchResult o (λ _. P) Q ⊎ C) ok h
 
 -- and a path that passes the check is the one last stored
-pub path_stands : {A : Type 0} (v : Scheme) (s : State) (w : World) (bytes : List ℕ) (a : A) (r : Result A HashFault) → IsSound v.device v.overhead s → status_in s ≡ Waiting → s.entry_number % 2 ≡ 0 → Fits v s w →
+pub path_stands : {A : Type 0} (v : Scheme) (s : State) (w : World) (bytes : List ℕ) (a : A) (r : Result A HashFault) → IsSound v.device v.cipher.overhead s → status_in s ≡ Waiting → s.entry_number % 2 ≡ 0 → Fits v s w →
     pair_in v w.records (requested s.message) (128 ∷ bytes) ≡ false → IsChecked v s bytes r → r ≡ Ok a → IsPathOf (w.records (entry_tree v.device s.entry_number)) (path_now v s bytes)
 path_stands v s w bytes a r h now even fits apart checked ok =
     let out = fetch_out v s h now even in
     let e : Entry = requested s.message in
     let whole : HasLength (path_now v s bytes) = whole_by (path_now v s bytes) a r ok checked.short in
-    subst (λ (k : ℕ). IsPathOf (w.records k) (path_of v.device k e.leaf v.overhead bytes)) out.1
-    (path_told v w.records e bytes out.0 (subst (λ (k : ℕ). HasLength (path_of v.device k e.leaf v.overhead bytes)) (sym out.1) whole) apart
-    (subst (λ (k : ℕ). IsPathOf (w.records k) (path_of v.device k e.leaf v.overhead bytes) ⊎ Collides (w.records k) (path_of v.device k e.leaf v.overhead bytes)) (sym out.1)
+    subst (λ (k : ℕ). IsPathOf (w.records k) (path_of v.device k e.leaf v.cipher.overhead bytes)) out.1
+    (path_told v w.records e bytes out.0 (subst (λ (k : ℕ). HasLength (path_of v.device k e.leaf v.cipher.overhead bytes)) (sym out.1) whole) apart
+    (subst (λ (k : ℕ). IsPathOf (w.records k) (path_of v.device k e.leaf v.cipher.overhead bytes) ⊎ Collides (w.records k) (path_of v.device k e.leaf v.cipher.overhead bytes)) (sym out.1)
     (told_ok _ r a ok (checked.judged (w.records (entry_tree v.device s.entry_number)) (stored_now v s w h now fits)))))
 
 -- the tree at work, as the code reads it
@@ -128,12 +129,12 @@ pub record IsTreeAt (v : Scheme) (s : State) (t : Tree) : Type 0 where
   pub number : t.number ≡ entry_tree v.device s.entry_number
   pub blocks : All (IsBlockOf v.device (entry_tree v.device s.entry_number)) t.stash
 
-pub tree_at : (v : Scheme) (s : State) (t : Tree) (i tree : ℕ) → IsSound v.device v.overhead s → status_in s ≡ Waiting → i ≡ tree → tree ≡ entry_tree v.device s.entry_number → t ≡ slice_index_or s.trees i t → IsTreeAt v s t
+pub tree_at : (v : Scheme) (s : State) (t : Tree) (i tree : ℕ) → IsSound v.device v.cipher.overhead s → status_in s ≡ Waiting → i ≡ tree → tree ≡ entry_tree v.device s.entry_number → t ≡ slice_index_or s.trees i t → IsTreeAt v s t
 tree_at v s t i tree h now from of read =
-    let q = healthy_of v.device v.overhead s h (waits s now).healthy in
+    let q = healthy_of v.device v.cipher.overhead s h (waits s now).healthy in
     let n : ℕ = entry_tree v.device s.entry_number in
     let same : i ≡ n = from ∙ of in
-    let within : n < trees_of v.device = tree_within v.device v.overhead s h in
+    let within : n < trees_of v.device = tree_within v.device v.cipher.overhead s h in
     let inside : n < length s.trees = let count : length s.trees ≡ trees_of v.device = q.count in omega arith in
     let is : t ≡ slice_index_or s.trees n no_tree = get_or_read s.trees n t inside (subst (λ (k : ℕ). t ≡ slice_index_or s.trees k t) same read) no_tree in
     let kept : IsTreeKept v.device n t = subst (IsTreeKept v.device n) (sym is) (q.kept n within) in
@@ -141,36 +142,36 @@ tree_at v s t i tree h now from of read =
 
 -- A core from which a method borrows the tree at work: inside the method it is the same as outside.
 pub record Lends (v : Scheme) (s : State) (t : Tree) (tree : ℕ) : Type 0 where
-  pub sound : IsSound v.device v.overhead s
+  pub sound : IsSound v.device v.cipher.overhead s
   pub at : IsTreeAt v s t
   pub number : t.number ≡ tree
 
-pub lends : {S : Type 0} (overhead : S → ℕ) (sealing : S → ℕ → List ℕ → List ℕ) (opening : S → List ℕ → Option (List ℕ)) (inside now : CoreValue S) (t : Tree) (i tree : ℕ) → inside ≡ now →
-    IsSound inside.device (overhead inside.sealer) inside.state → status_in now.state ≡ Waiting → i ≡ tree → tree ≡ entry_tree now.device now.state.entry_number → t ≡ slice_index_or inside.state.trees i t →
-    Lends (scheme_of overhead sealing opening now) now.state t tree
-lends overhead sealing opening inside now t i tree same sound waiting from of read =
-    let v = scheme_of overhead sealing opening now in
-    let here : IsSound v.device v.overhead now.state = subst (λ (u : CoreValue _). IsSound u.device (overhead u.sealer) u.state) same sound in
+pub lends : {S : Type 0} (cipher : S → Cipher) (inside now : CoreValue S) (t : Tree) (i tree : ℕ) → inside ≡ now →
+    IsSound inside.device (cipher inside.sealer).overhead inside.state → status_in now.state ≡ Waiting → i ≡ tree → tree ≡ entry_tree now.device now.state.entry_number → t ≡ slice_index_or inside.state.trees i t →
+    Lends (scheme_of cipher now) now.state t tree
+lends cipher inside now t i tree same sound waiting from of read =
+    let v = scheme_of cipher now in
+    let here : IsSound v.device v.cipher.overhead now.state = subst (λ (u : CoreValue _). IsSound u.device (cipher u.sealer).overhead u.state) same sound in
     let at : IsTreeAt v now.state t = tree_at v now.state t i tree here waiting from of (subst (λ (u : CoreValue _). t ≡ slice_index_or u.state.trees i t) same read) in
     record { sound = here; at = at; number = at.number ∙ sym of }
 
 -- The index of the tree at work is one of the trees' indices.
-pub lent_within : {S : Type 0} (overhead : S → ℕ) (inside now : CoreValue S) (i tree count : ℕ) → inside ≡ now → IsSound inside.device (overhead inside.sealer) inside.state → status_in now.state ≡ Waiting → i ≡ tree → tree < trees_of now.device →
+pub lent_within : {S : Type 0} (cipher : S → Cipher) (inside now : CoreValue S) (i tree count : ℕ) → inside ≡ now → IsSound inside.device (cipher inside.sealer).overhead inside.state → status_in now.state ≡ Waiting → i ≡ tree → tree < trees_of now.device →
     count ≡ length inside.state.trees → i < count
-lent_within overhead inside now i tree count same sound waiting from within all =
-    let here : IsSound now.device (overhead now.sealer) now.state = subst (λ (u : CoreValue _). IsSound u.device (overhead u.sealer) u.state) same sound in
-    let whole : length now.state.trees ≡ trees_of now.device = (healthy_of now.device (overhead now.sealer) now.state here (waits now.state waiting).healthy).count in
+lent_within cipher inside now i tree count same sound waiting from within all =
+    let here : IsSound now.device (cipher now.sealer).overhead now.state = subst (λ (u : CoreValue _). IsSound u.device (cipher u.sealer).overhead u.state) same sound in
+    let whole : length now.state.trees ≡ trees_of now.device = (healthy_of now.device (cipher now.sealer).overhead now.state here (waits now.state waiting).healthy).count in
     let kept : length inside.state.trees ≡ length now.state.trees = ap (λ (u : CoreValue _). length u.state.trees) same in
     omega (arith, whole, kept, all, from, within)
 
 -- The core is sound again with another tree in place of that one.
-pub gives_back : {S : Type 0} (overhead : S → ℕ) (inside now : CoreValue S) (t new : Tree) (i tree : ℕ) → inside ≡ now → IsSound inside.device (overhead inside.sealer) inside.state → status_in now.state ≡ Waiting →
+pub gives_back : {S : Type 0} (cipher : S → Cipher) (inside now : CoreValue S) (t new : Tree) (i tree : ℕ) → inside ≡ now → IsSound inside.device (cipher inside.sealer).overhead inside.state → status_in now.state ≡ Waiting →
     i ≡ tree → tree < trees_of now.device → t.number ≡ tree → new.number ≡ t.number → All (IsBlockOf inside.device t.number) new.stash →
-    IsSound inside.device (overhead inside.sealer) (record inside.state { trees = slice_set inside.state.trees i new })
-gives_back overhead inside now t new i tree same sound waiting from within number kept blocks =
+    IsSound inside.device (cipher inside.sealer).overhead (record inside.state { trees = slice_set inside.state.trees i new })
+gives_back cipher inside now t new i tree same sound waiting from within number kept blocks =
     let at : t.number ≡ i = number ∙ sym from in
-    subst (λ (u : CoreValue _). IsSound u.device (overhead u.sealer) (record u.state { trees = slice_set u.state.trees i new })) (sym same)
-    (sound_accessed now.device (overhead now.sealer) now.state i new (subst (λ (u : CoreValue _). IsSound u.device (overhead u.sealer) u.state) same sound) (waits now.state waiting).healthy (rw from within)
+    subst (λ (u : CoreValue _). IsSound u.device (cipher u.sealer).overhead (record u.state { trees = slice_set u.state.trees i new })) (sym same)
+    (sound_accessed now.device (cipher now.sealer).overhead now.state i new (subst (λ (u : CoreValue _). IsSound u.device (cipher u.sealer).overhead u.state) same sound) (waits now.state waiting).healthy (rw from within)
     (record { number = kept ∙ at; blocks = subst (λ (k : ℕ). All (IsBlockOf now.device k) new.stash) at (subst (λ (u : CoreValue _). All (IsBlockOf u.device t.number) new.stash) same blocks) }))
 
 -- a refusal, by its code
@@ -222,10 +223,10 @@ not_refused bytes none = record {
   room = λ is. absurd (let no_way : Some 8 ≡ None = sym (ap refusal_in is) ∙ none in cc);
 }
 
-store_out : (v : Scheme) (s : State) → IsSound v.device v.overhead s → status_in s ≡ Waiting → s.entry_number % 2 ≡ 1 → (requested s.message).fetch ≡ false
+store_out : (v : Scheme) (s : State) → IsSound v.device v.cipher.overhead s → status_in s ≡ Waiting → s.entry_number % 2 ≡ 1 → (requested s.message).fetch ≡ false
 store_out v s h now odd =
     let o = waits s now in
-    let work : Outstanding v.device s o.oldest = at_hand v.device v.overhead s o.oldest o.rest h o.healthy o.queue in
+    let work : Outstanding v.device s o.oldest = at_hand v.device v.cipher.overhead s o.oldest o.rest h o.healthy o.queue in
     ap (λ (x : Entry). x.fetch) (work.store odd)
 
 nothing : (bytes : List ℕ) → length bytes ≡ 0 → bytes ≡ []
@@ -233,11 +234,11 @@ nothing [] none = refl
 nothing (x ∷ bytes) none = absurd (omega arith)
 
 -- byte 80 alone is a good answer to a STORE,
-pub stored_means : (v : Scheme) (s : State) (w : World) (records : List ℕ) → IsSound v.device v.overhead s → status_in s ≡ Waiting → s.entry_number % 2 ≡ 1 → length records ≡ 0 → outcome_of v w.records (requested s.message) (128 ∷ records) ≡ Good
+pub stored_means : (v : Scheme) (s : State) (w : World) (records : List ℕ) → IsSound v.device v.cipher.overhead s → status_in s ≡ Waiting → s.entry_number % 2 ≡ 1 → length records ≡ 0 → outcome_of v w.records (requested s.message) (128 ∷ records) ≡ Good
 stored_means v s w records h now odd none = stored_is v w.records (requested s.message) (128 ∷ records) (store_out v s h now odd) (ap (λ r. 128 ∷ r) (nothing records none))
 
 -- more bytes than that are not,
-pub longer_means : (v : Scheme) (s : State) (w : World) (records : List ℕ) → IsSound v.device v.overhead s → status_in s ≡ Waiting → s.entry_number % 2 ≡ 1 → 0 < length records → outcome_of v w.records (requested s.message) (128 ∷ records) ≡ Fails Malformed
+pub longer_means : (v : Scheme) (s : State) (w : World) (records : List ℕ) → IsSound v.device v.cipher.overhead s → status_in s ≡ Waiting → s.entry_number % 2 ≡ 1 → 0 < length records → outcome_of v w.records (requested s.message) (128 ∷ records) ≡ Fails Malformed
 longer_means v s w records h now odd some = malformed_store v w.records (requested s.message) (128 ∷ records) (store_out v s h now odd) refl (λ same. absurd (omega (arith, ap length same)))
 
 -- and nothing else begins a good answer

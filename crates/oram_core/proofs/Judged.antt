@@ -80,21 +80,21 @@ unreadable_used v s t u tree p y here unreadable does =
     subst (IsUseOf v s p) (sym note) (ap (λ (i : ℕ). Tampered i 0) here, inl unreadable)
 
 -- the tree at work is the one whose path is outstanding
-pub readable_now : (v : Scheme) (s : State) (t : Tree) (p : Path) → IsTreeAt v s t → IsReadable (Reads v.opening v.device t.number) p t.stash → IsReadableNow v s p
+pub readable_now : (v : Scheme) (s : State) (t : Tree) (p : Path) → IsTreeAt v s t → IsReadable (Reads v.cipher.opening v.device t.number) p t.stash → IsReadableNow v s p
 readable_now v s t p at h =
-    subst (λ (k : Tree). IsReadable (reads_now v s) p k.stash) at.is (subst (λ (i : ℕ). IsReadable (Reads v.opening v.device i) p t.stash) at.number h)
+    subst (λ (k : Tree). IsReadable (reads_now v s) p k.stash) at.is (subst (λ (i : ℕ). IsReadable (Reads v.cipher.opening v.device i) p t.stash) at.number h)
 
-pub readable_told : (v : Scheme) (s : State) (t : Tree) (p : Path) → IsTreeAt v s t → IsReadableNow v s p → IsReadable (Reads v.opening v.device t.number) p t.stash
+pub readable_told : (v : Scheme) (s : State) (t : Tree) (p : Path) → IsTreeAt v s t → IsReadableNow v s p → IsReadable (Reads v.cipher.opening v.device t.number) p t.stash
 readable_told v s t p at h =
-    subst (λ (i : ℕ). IsReadable (Reads v.opening v.device i) p t.stash) (sym at.number) (subst (λ (k : Tree). IsReadable (reads_now v s) p k.stash) (sym at.is) h)
+    subst (λ (i : ℕ). IsReadable (Reads v.cipher.opening v.device i) p t.stash) (sym at.number) (subst (λ (k : Tree). IsReadable (reads_now v s) p k.stash) (sym at.is) h)
 
 pub looked_now : (v : Scheme) (s : State) (t : Tree) (p : Path) (block : ℕ) (x : Submission) (found : Bool) (before : List ℕ) → IsTreeAt v s t → block ≡ block_of v.device (entry_tree v.device s.entry_number) x →
-    IsLookup (IsNear (Reads v.opening v.device t.number) p t.stash) v.device.block_bytes block found before →
+    IsLookup (IsNear (Reads v.cipher.opening v.device t.number) p t.stash) v.device.block_bytes block found before →
     IsLookup (IsNear (reads_now v s) p (tree_now v s).stash) v.device.block_bytes (block_of v.device (entry_tree v.device s.entry_number) x) found before
 looked_now v s t p block x found before at here h =
     subst (λ (b : ℕ). IsLookup (IsNear (reads_now v s) p (tree_now v s).stash) v.device.block_bytes b found before) here
     (subst (λ (k : Tree). IsLookup (IsNear (reads_now v s) p k.stash) v.device.block_bytes block found before) at.is
-    (subst (λ (i : ℕ). IsLookup (IsNear (Reads v.opening v.device i) p t.stash) v.device.block_bytes block found before) at.number h))
+    (subst (λ (i : ℕ). IsLookup (IsNear (Reads v.cipher.opening v.device i) p t.stash) v.device.block_bytes block found before) at.number h))
 
 -- the code's verdict on an answer, case by case
 

@@ -32,17 +32,17 @@ use Rattle.oram_core.proofs.Sound.{asked_store}
 -- an access to the tree at work: the block as changed, and the tree and the records that it has made
 pub record IsAccess (v : Scheme) (s : State) (w : World) (x : Submission) (path : Path) (tree : Tree) (found : Bool) (before records : List ℕ) : Type 0 where
   pub number : tree.number ≡ entry_tree v.device s.entry_number
-  pub path_is : path ≡ path_of v.device (entry_tree v.device s.entry_number) (requested s.message).leaf v.overhead path.bytes
+  pub path_is : path ≡ path_of v.device (entry_tree v.device s.entry_number) (requested s.message).leaf v.cipher.overhead path.bytes
   pub long : length records ≡ (depth_of v.device (entry_tree v.device s.entry_number) + 1) * record_len v
   pub rewritten :
       let d = v.device in
       let i = entry_tree d s.entry_number in
-      IsRewritten (Reads v.opening d i) v.sealing d s.nonce path (slice_index_or s.trees i no_tree).stash (with_bytes path records)
+      IsRewritten (Reads v.cipher.opening d i) v.cipher.sealing d s.nonce path (slice_index_or s.trees i no_tree).stash (with_bytes path records)
       (record { address = block_of d i x; leaf = new_leaf d i x; content = block_after d i x before }) tree.stash
   pub update :
       let d = v.device in
       let i = entry_tree d s.entry_number in
-      IsUpdate v.opening v.overhead d path (with_bytes path records) (w.records i) (w.content i)
+      IsUpdate v.cipher.opening v.cipher.overhead d path (with_bytes path records) (w.records i) (w.content i)
       (record { address = block_of d i x; leaf = new_leaf d i x; content = block_after d i x before }) found before tree
 
 both_ways : (b : Bool) → (not b && not (not b)) ≡ false
@@ -62,7 +62,7 @@ not_misled v s w x path tree found before records ready a =
     rw (there, both_ways (named_now v.device s x == 0)) none
 
 -- The core takes over the access by the rule, if the access found what the tree's content has.
-taken_over : (v : Scheme) (s : State) (w : World) (x : Submission) (path : Path) (tree : Tree) (found : Bool) (records : List ℕ) → IsSound v.device v.overhead s → s.failure ≡ None → Outstanding v.device s x → AllStand v s w →
+taken_over : (v : Scheme) (s : State) (w : World) (x : Submission) (path : Path) (tree : Tree) (found : Bool) (records : List ℕ) → IsSound v.device v.cipher.overhead s → s.failure ≡ None → Outstanding v.device s x → AllStand v s w →
     IsAccess v s w x path tree found (found_in v.device (w.content (entry_tree v.device s.entry_number) (block_of v.device (entry_tree v.device s.entry_number) x))) records →
     Meets v s w (stores v s w x) (stored_by v (record s { trees = slice_set s.trees (entry_tree v.device s.entry_number) tree }) x (found_in v.device (w.content (entry_tree v.device s.entry_number) (block_of v.device (entry_tree v.device s.entry_number) x))) records)
 taken_over v s w x path tree found records sound alive work holds a =
@@ -78,7 +78,7 @@ taken_over v s w x path tree found records sound alive work holds a =
     let small : leaf < 2 ^ 32 = omega arith in
     let made : IsMade v i leaf s.nonce (w.records i) (w.content i) c (slice_index_or s.trees i no_tree) tree path records =
     record { path_is = a.path_is; leaf_small = small; number = a.number; rewritten = a.rewritten; updated = a.update.updated } in
-    let inside : i < length s.trees = let n : length s.trees ≡ trees_of v.device = (healthy_of v.device v.overhead s sound alive).count in let some : 0 < trees_of v.device = some_trees v.device in omega arith in
+    let inside : i < length s.trees = let n : length s.trees ≡ trees_of v.device = (healthy_of v.device v.cipher.overhead s sound alive).count in let some : 0 < trees_of v.device = some_trees v.device in omega arith in
     let here : Stands v i tree (records_after v w.records (store_body i leaf records ∷ []) i) (put (w.content i) b (entry_of c)) = store_stands v w.records i leaf s.nonce (w.content i) c (slice_index_or s.trees i no_tree) tree path records made in
     let one : (i == i) ≡ true = grind (arith, nat_tests) in
     let same : put (w.content i) b (entry_of c) ≡ put_in w.content i b (entry_of c) i =
@@ -97,7 +97,7 @@ taken_over v s w x path tree found records sound alive work holds a =
           subst (λ (e : Entry). IsPlaced v e.tree e.leaf s.nonce (after.records e.tree) (after.content e.tree)) (sym (asked_store i leaf records small)) placed_here);
     }
 
-pub stores_met : (v : Scheme) (s : State) (w : World) (x : Submission) (path : Path) (tree : Tree) (found : Bool) (before records : List ℕ) → IsSound v.device v.overhead s → s.failure ≡ None → Outstanding v.device s x → AllStand v s w →
+pub stores_met : (v : Scheme) (s : State) (w : World) (x : Submission) (path : Path) (tree : Tree) (found : Bool) (before records : List ℕ) → IsSound v.device v.cipher.overhead s → s.failure ≡ None → Outstanding v.device s x → AllStand v s w →
     IsAccess v s w x path tree found before records →
     Meets v s w (stores v s w x) (stored_by v (record s { trees = slice_set s.trees (entry_tree v.device s.entry_number) tree }) x before records)
 stores_met v s w x path tree found before records sound alive work holds a =

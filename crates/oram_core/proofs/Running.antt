@@ -1,8 +1,9 @@
 -- From steps to a whole run.
-use Rattle.std.proofs.Common.{◌≡◌, ℕ, ◌+◌, ◌<◌, List, [], ◌∷◌, ◌++◌, Bool, true, false, Result, Ok, Err, is_err, OnOk, OnErr, length, get_or, drop, map, Option, inl, inr, ap, sym, ◌∙◌, subst, append_assoc}
+use Rattle.std.proofs.Common.{◌≡◌, ℕ, ◌+◌, ◌<◌, List, [], ◌∷◌, ◌++◌, Bool, true, false, Result, Ok, Err, is_err, OnOk, OnErr, length, get_or, drop, map, inl, inr, ap, sym, ◌∙◌, subst, append_assoc}
 use Rattle.std.specs.Global.{Vec}
 use Rattle.std.proofs.lemmas.List.{append-nil, map_push, drop_more}
 use Rattle.oram_geometry.specs.declared.Sizes.{Sizes}
+use Rattle.oram_bucket.specs.Cipher.{Cipher}
 use Rattle.oram_wire.specs.ListOfBodies.{bodies_in}
 use Rattle.oram_wire.specs.declared.sinks.SinkFault.{SinkFault}
 use Rattle.oram_wire.specs.declared.sinks.SinkFault.TheVariants.{OutOfMemory}
@@ -43,14 +44,14 @@ along_next v s events i event rs more r t u below is pushed step a =
 pub along_all : (v : Scheme) (s : State) (events rest : List Event) (xs : List Shown) (t : State) → Along v s events rest xs t → StepsAlong v s events xs
 along_all v s events rest xs t a = subst (StepsAlong v s events) (append-nil xs) (a.whole [] tt)
 
-pub new_shape : {S : Type 0} (overhead : S → ℕ) (sealing : S → ℕ → List ℕ → List ℕ) (opening : S → List ℕ → Option (List ℕ)) (c : CoreValue S) (d : Sizes) (s : S) → c.device ≡ d → c.sealer ≡ s → scheme_of overhead sealing opening c ≡ scheme_with overhead sealing opening d s
-new_shape overhead sealing opening c d s device sealer =
-    ap (λ (x : Sizes). scheme_with overhead sealing opening x c.sealer) device ∙ ap (λ x. scheme_with overhead sealing opening d x) sealer
+pub new_scheme : {S : Type 0} (cipher : S → Cipher) (c : CoreValue S) (d : Sizes) (s : S) → c.device ≡ d → c.sealer ≡ s → scheme_of cipher c ≡ scheme_with cipher d s
+new_scheme cipher c d s device sealer =
+    ap (λ (x : Sizes). scheme_with cipher x c.sealer) device ∙ ap (λ x. scheme_with cipher d x) sealer
 
--- a core of the same device and sealer has the same shape
-pub same_shape : {S : Type 0} (overhead : S → ℕ) (sealing : S → ℕ → List ℕ → List ℕ) (opening : S → List ℕ → Option (List ℕ)) (c d : CoreValue S) → IsSameDevice c d → scheme_of overhead sealing opening d ≡ scheme_of overhead sealing opening c
-same_shape overhead sealing opening c d same =
-    ap (λ (x : Sizes). scheme_with overhead sealing opening x d.sealer) same.0 ∙ ap (λ x. scheme_with overhead sealing opening c.device x) same.1
+-- a core of the same device and sealer has the same scheme
+pub same_scheme : {S : Type 0} (cipher : S → Cipher) (c d : CoreValue S) → IsSameDevice c d → scheme_of cipher d ≡ scheme_of cipher c
+same_scheme cipher c d same =
+    ap (λ (x : Sizes). scheme_with cipher x d.sealer) same.0 ∙ ap (λ x. scheme_with cipher c.device x) same.1
 
 -- a sink that keeps the bodies
 

@@ -181,7 +181,7 @@ sound_by : (d : Sizes) (o : ℕ) (t : State) → IsDevice d → o ≤ 64 → t.n
 sound_by d o t ranges small next alive whole = record { ranges = ranges; small = small; next = next; whole = subst (IsWhole d o t) (sym alive) whole }
 
 abbrev setting : Sizes → Setting
-setting d = record { scheme = record { device = d; overhead = 0; sealing = λ n plain. plain; opening = λ sealed. None }; format = [] }
+setting d = record { scheme = record { device = d; cipher = record { overhead = 0; sealing = λ n plain. plain; opening = λ sealed. None } }; format = [] }
 
 -- how the nonce rises from stage to stage
 next_stored : (d : Sizes) (n r : ℕ) → r < 2 * trees_of d → r % 2 ≡ 0 → next_nonce d n (r + 1) ≡ next_nonce d n r + (depth_of d (entry_tree d r) + 1)

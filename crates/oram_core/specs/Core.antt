@@ -3,6 +3,7 @@ use Rattle.std.specs.Prelude.{◌≡◌, ℕ, ◌+◌, ◌-◌, ◌*◌, ◌%◌
 use Rattle.std.specs.List.{All}
 use Rattle.oram_geometry.specs.declared.Sizes.{Sizes}
 use Rattle.oram_geometry.specs.Sizes.{IsDevice, trees_of, depth_of, blocks_in, record_len_of}
+use Rattle.oram_bucket.specs.Cipher.{Cipher}
 use Rattle.oram_bucket.specs.Bucket.{IsBlockOf}
 use Rattle.oram_tree.specs.State.{State as Tree}
 use Rattle.oram_wire.specs.HostMessages.{store_body}
@@ -24,12 +25,12 @@ pub record CoreValue (S : Type 0) : Type 0 where
   pub state : State
 
 -- a device with a sealer, given by what the sealer does
-abbrev pub scheme_with : {S : Type 0} → (S → ℕ) → (S → ℕ → List ℕ → List ℕ) → (S → List ℕ → Option (List ℕ)) → Sizes → S → Scheme
-scheme_with overhead sealing opening d s = record { device = d; overhead = overhead s; sealing = sealing s; opening = opening s }
+abbrev pub scheme_with : {S : Type 0} → (S → Cipher) → Sizes → S → Scheme
+scheme_with cipher d s = record { device = d; cipher = cipher s }
 
--- the shape of a core
-abbrev pub scheme_of : {S : Type 0} → (S → ℕ) → (S → ℕ → List ℕ → List ℕ) → (S → List ℕ → Option (List ℕ)) → CoreValue S → Scheme
-scheme_of overhead sealing opening c = scheme_with overhead sealing opening c.device c.sealer
+-- the scheme of a core
+abbrev pub scheme_of : {S : Type 0} → (S → Cipher) → CoreValue S → Scheme
+scheme_of cipher c = scheme_with cipher c.device c.sealer
 
 -- the device and the sealer are the same
 abbrev pub IsSameDevice : {S : Type 0} → CoreValue S → CoreValue S → Type 0

@@ -4,7 +4,7 @@ use Rattle.std.specs.Str.{bytes_eq}
 use Rattle.oram_geometry.specs.declared.Sizes.{Sizes}
 use Rattle.oram_geometry.specs.Sizes.{trees_of, depth_of}
 use Rattle.oram_trace.specs.declared.entries.Entry.{Entry}
-use Rattle.oram_wire.specs.HostMessages.{fetch_body, store_body}
+use Rattle.oram_wire.specs.HostMessages.{fetch_body, no_room_answer, store_body}
 use Rattle.oram_semantics.specs.Events.{failed_reply}
 use Rattle.oram_semantics.specs.Scheme.{Scheme}
 use Rattle.oram_semantics.specs.Content.{block_of, new_leaf, entry_tree}
@@ -106,12 +106,14 @@ stored_by v s x before records =
       };
     }
 
+-- whether no command waits
 abbrev pub is_idle : Status → Bool
 is_idle Idle = true
 is_idle Waiting = false
 is_idle Stalling = false
 is_idle Over = false
 
+-- whether the outstanding message counts as lost
 abbrev pub is_stalled : Status → Bool
 is_stalled Stalling = true
 is_stalled Idle = false
@@ -155,7 +157,7 @@ unheard_by s no_room Over = Some (noted s Unexpected)
 abbrev pub plain_step : Scheme → State → Event → Option Done
 plain_step v s (Submit session c words) =
     Some (submitted_by v s (record { session = session; ticket = s.next; command = c; words = words }) (refusal_of v.device (is_over (status_in s)) (length s.queue) s.next c words))
-plain_step v s (Answer bytes) = unheard_by s (bytes_eq bytes (129 ∷ 8 ∷ [])) (status_in s)
+plain_step v s (Answer bytes) = unheard_by s (bytes_eq bytes no_room_answer) (status_in s)
 plain_step v s Lost = Some (lost_by s (status_in s))
 plain_step v s Reopen = Some (lost_by s (status_in s))
 plain_step v s Retry = Some (retried_by s (status_in s))

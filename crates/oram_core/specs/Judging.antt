@@ -22,6 +22,7 @@ use Rattle.oram_semantics.specs.declared.events.Reason.{Reason}
 use Rattle.oram_semantics.specs.declared.events.Reason.TheVariants.{Malformed, Tampered, HostRefused}
 use Rattle.oram_semantics.specs.declared.events.Submission.{Submission}
 use Rattle.oram_core.specs.Doing.{is_misled}
+use Rattle.oram_wire.specs.HostMessages.{done_answer, payload_answer, refusal_answer}
 
 -- the tree of the outstanding path, as the core has it
 abbrev pub tree_now : Scheme → State → Tree
@@ -29,11 +30,11 @@ tree_now v s = slice_index_or s.trees (entry_tree v.device s.entry_number) no_tr
 
 -- these bytes, taken as the outstanding path
 abbrev pub path_now : Scheme → State → List ℕ → Path
-path_now v s records = path_of v.device (entry_tree v.device s.entry_number) (requested s.message).leaf v.overhead records
+path_now v s records = path_of v.device (entry_tree v.device s.entry_number) (requested s.message).leaf v.cipher.overhead records
 
 -- relates a sealed bucket of that tree to the blocks that it reads as
 abbrev pub reads_now : Scheme → State → List ℕ → List Cell → Type 0
-reads_now v s = Reads v.opening v.device (entry_tree v.device s.entry_number)
+reads_now v s = Reads v.cipher.opening v.device (entry_tree v.device s.entry_number)
 
 -- The result of checking these records as that path, under the root digest of its tree: in terms of digests, and
 -- compared with every stored tree under this root digest.
@@ -88,27 +89,27 @@ IsUseOf v s p Unexpected = ⊥
 pub record IsSpoilt (v : Scheme) (s : State) (bytes : List ℕ) (level : ℕ) : Type 0 where
   pub fetched : s.entry_number % 2 ≡ 0
   pub records : List ℕ
-  pub answer : bytes ≡ 128 ∷ records
+  pub answer : bytes ≡ payload_answer records
   pub spoilt : IsTamperedAt (path_now v s records) (tree_now v s).root level
       ⊎ ((level ≡ 0) × IsAccepted (path_now v s records) (tree_now v s).root × IsUseless v s (path_now v s records))
 
 -- why the answer fails the device
 abbrev pub IsReasonFor : Scheme → State → List ℕ → Reason → Type 0
-IsReasonFor v s bytes (HostRefused code) = (bytes ≡ 129 ∷ code ∷ []) × (1 ≤ code) × (code ≤ 7)
+IsReasonFor v s bytes (HostRefused code) = (bytes ≡ refusal_answer code) × (1 ≤ code) × (code ≤ 7)
 IsReasonFor v s bytes Malformed = (is_refusal bytes ≡ false) × (is_formed v s bytes ≡ false)
 IsReasonFor v s bytes (Tampered i level) = (i ≡ entry_tree v.device s.entry_number) × IsSpoilt v s bytes level
 
 -- the answer is a path that passes the check and can be used
 pub record IsUseful (v : Scheme) (s : State) (bytes : List ℕ) : Type 0 where
   pub records : List ℕ
-  pub answer : bytes ≡ 128 ∷ records
+  pub answer : bytes ≡ payload_answer records
   pub accepted : IsAccepted (path_now v s records) (tree_now v s).root
   pub leads : LooksUp v s (path_now v s records) false
 
 -- the answer is good, as far as the core can tell
 pub record IsGood (v : Scheme) (s : State) (bytes : List ℕ) : Type 0 where
   pub fetched : s.entry_number % 2 ≡ 0 → IsUseful v s bytes
-  pub stored : s.entry_number % 2 ≡ 1 → bytes ≡ 128 ∷ []
+  pub stored : s.entry_number % 2 ≡ 1 → bytes ≡ done_answer
 
 -- the note that the core gives for an answer that it waits for, except for the refusal for lack of room
 abbrev pub IsVerdict : Scheme → State → List ℕ → Note → Type 0

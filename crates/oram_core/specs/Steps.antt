@@ -14,6 +14,7 @@ use Rattle.oram_semantics.specs.declared.events.Reason.{Reason}
 use Rattle.oram_semantics.specs.declared.events.Submission.{Submission}
 use Rattle.oram_core.specs.Doing.{Done, plain_step, fetched_by, finished_by}
 use Rattle.oram_core.specs.Judging.{IsVerdict}
+use Rattle.oram_wire.specs.HostMessages.{no_room_answer}
 
 abbrev pub did : Shown → State → Done
 did x t = record { note = x.note; replies = x.replies; sends = x.sends; state = t }
@@ -63,9 +64,9 @@ pub record Steps (v : Scheme) (s : State) (event : Event) (x : Shown) (t : State
   -- if the effect of the event doesn't depend on the trees, it is the plain step
   pub plain : (d : Done) → plain_step v s event ≡ Some d → did x t ≡ d
   -- any other answer that the core waits for, from whatever host, fails it, makes it go on, or gives a reply
-  pub heard : (bytes : List ℕ) → event ≡ Answer bytes → status_in s ≡ Waiting → bytes ≢ 129 ∷ 8 ∷ [] → Heard v s (did x t)
+  pub heard : (bytes : List ℕ) → event ≡ Answer bytes → status_in s ≡ Waiting → bytes ≢ no_room_answer → Heard v s (did x t)
   -- the note says what such an answer is by the core's own digests, stashes and map
-  pub verdict : (bytes : List ℕ) → event ≡ Answer bytes → status_in s ≡ Waiting → bytes ≢ 129 ∷ 8 ∷ [] → IsVerdict v s bytes x.note
+  pub verdict : (bytes : List ℕ) → event ≡ Answer bytes → status_in s ≡ Waiting → bytes ≢ no_room_answer → IsVerdict v s bytes x.note
   -- in each world that the core fits, the step follows the local rule, unless the answer shows two records with the
   -- same digest
   pub moves : (w : World) → Fits v s w → shows_in v s w event ≡ false → Moves v s w event x t

@@ -1,5 +1,5 @@
 -- What a verdict says about an answer.
-use Rattle.std.specs.Prelude.{◌≡◌, ℕ, ◌%◌, ◌==◌, not, if◌then◌else◌, List, [], ◌∷◌, length, slice_index, Option, Some, None, nat_lt}
+use Rattle.std.specs.Prelude.{◌≡◌, ℕ, ◌%◌, ◌==◌, not, if◌then◌else◌, List, length, slice_index, Option, Some, None, nat_lt}
 use Rattle.oram_hash.specs.Path.{IsAccepted}
 use Rattle.oram_hash.specs.Tree.{IsPathOf}
 use Rattle.oram_semantics.specs.Answers.{outcome_of}
@@ -11,6 +11,7 @@ use Rattle.oram_semantics.specs.State.{State, World}
 use Rattle.oram_core.specs.Judging.{path_now, tree_now, IsReasonFor}
 use Rattle.oram_core.specs.declared.verdicts.Verdict.{Verdict}
 use Rattle.oram_core.specs.declared.verdicts.Verdict.TheVariants as verdict
+use Rattle.oram_wire.specs.HostMessages.{done_answer, no_room_answer, payload_answer}
 
 -- the verdict agrees with the answer's outcome in a world
 abbrev pub Means : Scheme → State → World → List ℕ → Verdict → Type 0
@@ -21,9 +22,9 @@ Means v s w bytes (verdict.Bad e) = outcome_of v w.records (requested s.message)
 
 -- the verdict is right by the core's own digests
 abbrev pub Tells : Scheme → State → List ℕ → Verdict → Type 0
-Tells v s bytes (verdict.Path p) = (s.entry_number % 2 ≡ 0) × (bytes ≡ 128 ∷ p.bytes) × (p ≡ path_now v s p.bytes) × IsAccepted p (tree_now v s).root
-Tells v s bytes verdict.Stored = (s.entry_number % 2 ≡ 1) × (bytes ≡ 128 ∷ [])
-Tells v s bytes verdict.NoRoom = bytes ≡ 129 ∷ 8 ∷ []
+Tells v s bytes (verdict.Path p) = (s.entry_number % 2 ≡ 0) × (bytes ≡ payload_answer p.bytes) × (p ≡ path_now v s p.bytes) × IsAccepted p (tree_now v s).root
+Tells v s bytes verdict.Stored = (s.entry_number % 2 ≡ 1) × (bytes ≡ done_answer)
+Tells v s bytes verdict.NoRoom = bytes ≡ no_room_answer
 Tells v s bytes (verdict.Bad e) = IsReasonFor v s bytes e
 
 -- the code of a refusal: byte 81 and a code from 1 to 8

@@ -28,7 +28,7 @@ use oram_bucket::Sealer;
 use oram_bytes::Bytes;
 use oram_hash::PathView;
 use oram_semantics::{Note, Reaction, Reason};
-use oram_tree::{Lookup, TreeFault};
+use oram_tree::{AccessRequest, Lookup, TreeFault};
 use oram_wire::HEADER_LEN;
 use std::alloc::{AllocError, Global};
 
@@ -63,14 +63,14 @@ impl<S: Sealer> Core<S> {
     ) -> Result<Reaction, AllocError>
         requires waiting { status_in self.old.state ≡ Waiting }
         requires entry_number { self.old.state.entry_number % 2 ≡ 0 }
-        requires path { let v = scheme_of S.overhead S.sealing S.opening self.old in let s = self.old.state in
-            path.now ≡ path_of v.device (entry_tree v.device s.entry_number) (requested s.message).leaf v.overhead path.now.bytes }
+        requires path { let v = scheme_of S.cipher self.old in let s = self.old.state in
+            path.now ≡ path_of v.device (entry_tree v.device s.entry_number) (requested s.message).leaf v.cipher.overhead path.now.bytes }
         ensures kept { IsSameDevice self.old self.new }
-        ensures moves { let v = scheme_of S.overhead S.sealing S.opening self.old in let s = self.old.state in
+        ensures moves { let v = scheme_of S.cipher self.old in let s = self.old.state in
             (w : World) → Fits v s w → IsPathOf (w.records (entry_tree v.device s.entry_number)) path.now
             → IfOk result (λ r. MovesTo v s w (on_answer v s w Waiting Good) (shown_by r) self.new.state) }
-        ensures heard { IfOk result (λ r. Heard (scheme_of S.overhead S.sealing S.opening self.old) self.old.state (done r self.new.state)) }
-        ensures uses { IfOk result (λ r. IsUseOf (scheme_of S.overhead S.sealing S.opening self.old) self.old.state path.now r.note) }
+        ensures heard { IfOk result (λ r. Heard (scheme_of S.cipher self.old) self.old.state (done r self.new.state)) }
+        ensures uses { IfOk result (λ r. IsUseOf (scheme_of S.cipher self.old) self.old.state path.now r.note) }
         ensures err { OnErr result (self.new ≡ self.old) }
     {
         let path_access = self.path_access();
@@ -78,15 +78,18 @@ impl<S: Sealer> Core<S> {
         let path_len = levels * self.device.record_len(self.sealer.overhead());
         let room = Room::new(alloc, HEADER_LEN + path_len, self.queue.len())?;
         let mut message = begun_store(alloc, path_access.tree, path_access.leaf, path_len)?;
+        let request = AccessRequest {
+            address: path_access.block,
+            old_leaf: path_access.leaf,
+            new_leaf: path_access.new_leaf,
+            nonce: self.nonce,
+        };
         let looked = self.trees[usize::from(path_access.tree)].access_to(
             alloc,
             &self.device,
             &self.sealer,
             path,
-            path_access.block,
-            path_access.leaf,
-            path_access.new_leaf,
-            self.nonce,
+            request,
             edit_for(&self.device, path_access.tree, &self.queue[0]),
             &mut message,
         );
@@ -112,7 +115,7 @@ impl<S: Sealer> Core<S> {
         requires block { path_access.now.block < blocks_in self.now.device path_access.now.tree }
         ensures { (x : Submission) (before : List ℕ) → path_access.now.block ≡ block_of self.now.device path_access.now.tree x
             → named ≡ next_named self.now.device path_access.now.tree x before
-            → result ≡ is_misled (scheme_of S.overhead S.sealing S.opening self.now) self.now.state x found before }
+            → result ≡ is_misled (scheme_of S.cipher self.now) self.now.state x found before }
     {
         let expected = match self.entry_number {
             0 => self.table[path_access.block as usize],
@@ -142,10 +145,10 @@ impl<S: Sealer> Core<S> {
         requires ranges { (path_access.tree < trees_of self.old.device) × (path_access.block < blocks_in self.old.device path_access.tree)
             × (path_access.leaf < 2 ^ depth_of self.old.device path_access.tree) × (path_access.new_leaf < 2 ^ depth_of self.old.device path_access.tree) }
         requires whole { length lookup.before.items ≡ self.old.device.block_bytes }
-        requires message { IsPathStore self.old.device (S.overhead self.old.sealer) path_access.tree path_access.leaf message.items }
+        requires message { IsPathStore self.old.device (S.cipher self.old.sealer).overhead path_access.tree path_access.leaf message.items }
         requires room { IsRoom (length message.items) (length self.old.state.queue) room }
         ensures kept { IsSameDevice self.old self.new }
-        ensures ok { let v = scheme_of S.overhead S.sealing S.opening self.old in let s = self.old.state in
+        ensures ok { let v = scheme_of S.cipher self.old in let s = self.old.state in
             (x : Submission) (rest : List Submission) (records : List ℕ) → s.queue ≡ x ∷ rest
             → message.items ≡ store_body path_access.tree path_access.leaf records
             → done result self.new.state ≡ (if is_misled v s x lookup.found lookup.before.items
@@ -174,7 +177,7 @@ impl<S: Sealer> Core<S> {
         requires entry_number { self.old.state.entry_number % 2 ≡ 0 }
         requires tree { path_access.tree ≡ entry_tree self.old.device self.old.state.entry_number }
         requires whole { length before.items ≡ self.old.device.block_bytes }
-        requires sending { IsPathStore self.old.device (S.overhead self.old.sealer) path_access.tree (requested self.old.state.message).leaf sending.kept
+        requires sending { IsPathStore self.old.device (S.cipher self.old.sealer).overhead path_access.tree (requested self.old.state.message).leaf sending.kept
             × (sending.sends.items ≡ sending.kept ∷ []) }
         requires oldest { (x : Submission) (rest : List Submission) → self.old.state.queue ≡ x ∷ rest
             → (path_access.block ≡ block_of self.old.device path_access.tree x) × (path_access.new_leaf ≡ new_leaf self.old.device path_access.tree x)

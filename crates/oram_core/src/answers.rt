@@ -1,5 +1,5 @@
 //! What a core does with the host's answers.
-ghost use Rattle.std.specs.Prelude.{◌≡◌, ◌≢◌, ◌-◌, ◌<◌, false, [], ◌∷◌, map, IsOk, IfOk, OnErr};
+ghost use Rattle.std.specs.Prelude.{◌≡◌, ◌≢◌, ◌-◌, ◌<◌, false, map, IsOk, IfOk, OnErr};
 ghost use Rattle.oram_semantics.specs.Answers.{outcome_of, pair_in};
 ghost use Rattle.oram_semantics.specs.Events.{failed_reply};
 ghost use Rattle.oram_semantics.specs.Messages.{requested};
@@ -11,6 +11,7 @@ ghost use Rattle.oram_core.specs.Core.{IsReasonOf, IsSameDevice, scheme_of};
 ghost use Rattle.oram_core.specs.Steps.{Heard};
 ghost use Rattle.oram_core.specs.Judging.{IsVerdict};
 ghost use Rattle.oram_core.specs.Doing.{done, stalled_by, failed_by};
+ghost use Rattle.oram_wire.specs.HostMessages.{no_room_answer};
 
 use crate::machine::Core;
 use crate::messages::failed_replies;
@@ -29,16 +30,16 @@ impl<S: Sealer> Core<S> {
     ) -> Result<Reaction, AllocError>
         requires { status_in self.old.state ≡ Waiting }
         ensures kept { IsSameDevice self.old self.new }
-        ensures moves { let v = scheme_of S.overhead S.sealing S.opening self.old in let s = self.old.state in
+        ensures moves { let v = scheme_of S.cipher self.old in let s = self.old.state in
             (w : World) → Fits v s w → pair_in v w.records (requested s.message) bytes.now ≡ false
             → IfOk result (λ r. let outcome = outcome_of v w.records (requested s.message) bytes.now in
             MovesTo v s w (on_answer v s w Waiting outcome) (shown_by r) self.new.state) }
-        ensures heard { let v = scheme_of S.overhead S.sealing S.opening self.old in
-            bytes.now ≢ 129 ∷ 8 ∷ [] → IfOk result (λ r. Heard v self.old.state (done r self.new.state)) }
-        ensures verdict { let v = scheme_of S.overhead S.sealing S.opening self.old in
-            bytes.now ≢ 129 ∷ 8 ∷ [] → IfOk result (λ r. IsVerdict v self.old.state bytes.now r.note) }
-        ensures no_room { bytes.now ≡ 129 ∷ 8 ∷ [] → IfOk result (λ r. done r self.new.state ≡ stalled_by self.old.state) }
-        ensures free { bytes.now ≡ 129 ∷ 8 ∷ [] → IsOk result }
+        ensures heard { let v = scheme_of S.cipher self.old in
+            bytes.now ≢ no_room_answer → IfOk result (λ r. Heard v self.old.state (done r self.new.state)) }
+        ensures verdict { let v = scheme_of S.cipher self.old in
+            bytes.now ≢ no_room_answer → IfOk result (λ r. IsVerdict v self.old.state bytes.now r.note) }
+        ensures no_room { bytes.now ≡ no_room_answer → IfOk result (λ r. done r self.new.state ≡ stalled_by self.old.state) }
+        ensures free { bytes.now ≡ no_room_answer → IsOk result }
         ensures err { OnErr result (self.new ≡ self.old) }
     {
         match self.verdict(bytes) {

@@ -36,10 +36,10 @@ fn format_next<S: Sealer, K: Sink>(
     requires nonce { so_far.old.nonce ≡ formatted_below device.now tree }
     ensures memory { result ≢ Err (FormatFault.Sink SinkFault.OutOfMemory) }
     ensures nonce { IfOk result (λ _. so_far.new.nonce ≡ formatted_below device.now (tree + 1)) }
-    ensures made { let v = scheme_with S.overhead S.sealing S.opening device.now sealer.now in
+    ensures made { let v = scheme_with S.cipher device.now sealer.now in
         IfOk result (λ _. IsMade v K.putting sink.old tree so_far.old.trees.items so_far.new.trees.items sink.new) }
     ensures broken_off { IfErr result (λ fault. IsBrokenOff K.putting K.refusing
-        (IsBegun (S.opening sealer.now) (S.sealing sealer.now) (S.overhead sealer.now) device.now (formatted_below device.now tree) tree)
+        (IsBegun (S.cipher sealer.now) device.now (formatted_below device.now tree) tree)
         sink.old fault sink.new) }
 {
     let made = Tree::format(alloc, device, tree, sealer, so_far.nonce, sink)?;
@@ -59,9 +59,9 @@ fn format_trees<S: Sealer, K: Sink>(
 ) -> Result<Formatted, FormatFault>
     ensures memory { result ≢ Err (FormatFault.Sink SinkFault.OutOfMemory) }
     ensures nonce { IfOk result (λ f. f.nonce ≡ formatted device.now) }
-    ensures made { let v = scheme_with S.overhead S.sealing S.opening device.now sealer.now in
+    ensures made { let v = scheme_with S.cipher device.now sealer.now in
         IfOk result (λ f. AreMade v K.putting sink.old (trees_of device.now) f.trees.items sink.new) }
-    ensures broken_off { let v = scheme_with S.overhead S.sealing S.opening device.now sealer.now in
+    ensures broken_off { let v = scheme_with S.cipher device.now sealer.now in
         IfErr result (λ fault. IsBrokenOff K.putting K.refusing (IsFormatBegun v) sink.old fault sink.new) }
 {
     let mut so_far = Formatted {
@@ -86,9 +86,9 @@ impl<S: Sealer> Core<S> {
         ensures memory { result ≢ Err (FormatFault.Sink SinkFault.OutOfMemory) }
         ensures device { IfOk result (λ c. c.device ≡ device) }
         ensures sealer { IfOk result (λ c. c.sealer ≡ sealer) }
-        ensures made { let v = scheme_with S.overhead S.sealing S.opening device sealer in
+        ensures made { let v = scheme_with S.cipher device sealer in
             IfOk result (λ c. IsNew v K.putting sink.old c.state sink.new) }
-        ensures broken_off { let v = scheme_with S.overhead S.sealing S.opening device sealer in
+        ensures broken_off { let v = scheme_with S.cipher device sealer in
             IfErr result (λ fault. IsBrokenOff K.putting K.refusing (IsFormatBegun v) sink.old fault sink.new) }
     {
         let Formatted { trees, nonce } = format_trees(alloc, &device, &sealer, sink)?;

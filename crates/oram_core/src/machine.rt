@@ -79,7 +79,7 @@ impl<S: Sealer> Model for Core<S> {
       };
     } };
 
-    ghost invariant = { λ c. IsSound c.device (S.overhead c.sealer) (record {
+    ghost invariant = { λ c. IsSound c.device (S.cipher c.sealer).overhead (record {
       table = c.table.items;
       trees = c.trees.items;
       next = c.next;
@@ -99,7 +99,7 @@ impl<S: Sealer> Core<S> {
     pub fn device(&self) -> &Device
         ensures value { result.now ≡ self.now.device }
         // A core is always sound, so any caller can learn this here.
-        ensures sound { IsSound self.now.device (S.overhead self.now.sealer) self.now.state }
+        ensures sound { IsSound self.now.device (S.cipher self.now.sealer).overhead self.now.state }
     {
         &self.device
     }
@@ -165,9 +165,9 @@ impl<S: Sealer> Core<S> {
     /// caller can make the same step again.
     pub fn step(&mut self, alloc: Global, event: &Event) -> Result<Reaction, AllocError>
         ensures kept { IsSameDevice self.old self.new }
-        ensures promise { let v = scheme_of S.overhead S.sealing S.opening self.old in
+        ensures promise { let v = scheme_of S.cipher self.old in
             IfOk result (λ r. Steps v self.old.state event.now (shown_by r) self.new.state) }
-        ensures free { let v = scheme_of S.overhead S.sealing S.opening self.old in
+        ensures free { let v = scheme_of S.cipher self.old in
             (d : Done) → plain_step v self.old.state event.now ≡ Some d → is_free_note d.note ≡ true → IsOk result }
         ensures err { OnErr result (self.new ≡ self.old) }
     {
@@ -228,7 +228,7 @@ impl<S: Sealer> Core<S> {
         requires { let s = self.old.state in
             refusal_of self.old.device (is_over (status_in s)) (length s.queue) s.next command.now words.now ≡ None }
         ensures kept { IsSameDevice self.old self.new }
-        ensures ok { let v = scheme_of S.overhead S.sealing S.opening self.old in let s = self.old.state in
+        ensures ok { let v = scheme_of S.cipher self.old in let s = self.old.state in
             IfOk result (λ r. done r self.new.state
             ≡ accepted_by v s (record { session = session; ticket = s.next; command = command.now; words = words.now })) }
         ensures err { OnErr result (self.new ≡ self.old) }
@@ -310,9 +310,9 @@ impl<S: Sealer> Core<S> {
     ) -> Result<MessageCopies, AllocError>
         requires healthy { self.now.state.failure ≡ None }
         requires allowed { IsAllowed self.now.device submission.now }
-        ensures kept { let v = scheme_of S.overhead S.sealing S.opening self.now in
+        ensures kept { let v = scheme_of S.cipher self.now in
             IfOk result (λ s. s.kept ≡ first_message v.device self.now.state submission.now) }
-        ensures sends { let v = scheme_of S.overhead S.sealing S.opening self.now in
+        ensures sends { let v = scheme_of S.cipher self.now in
             IfOk result (λ s. s.sends.items ≡ first_message v.device self.now.state submission.now ∷ []) }
     {
         let tree = self.device.trees() - 1;

@@ -118,7 +118,7 @@ fn table_copy(alloc: Global, table: &[u32]) -> Result<Vec<u32>, AllocError>
 impl<S: Sealer> Core<S> {
     /// Returns the number of bytes that the core's sealer adds to a bucket.
     pub fn overhead(&self) -> usize
-        ensures { result ≡ S.overhead self.now.sealer }
+        ensures { result ≡ (S.cipher self.now.sealer).overhead }
     {
         self.sealer.overhead()
     }
@@ -127,7 +127,7 @@ impl<S: Sealer> Core<S> {
     /// memory runs out.
     pub fn parts(&self, alloc: Global) -> Result<Parts, AllocError>
         ensures same { IfOk result (λ p. p ≡ parts_of self.now.device self.now.state) }
-        ensures right { IfOk result (λ p. AreParts (S.overhead self.now.sealer) p) }
+        ensures right { IfOk result (λ p. AreParts (S.cipher self.now.sealer).overhead p) }
         ensures again { IfOk result (λ p. state_of p ≡ self.now.state) }
     {
         let trees = trees_parts(alloc, &self.trees)?;

@@ -70,10 +70,10 @@ impl<S: Sealer> Core<S> {
         requires waiting { status_in self.old.state ≡ Waiting }
         requires entry_number { self.old.state.entry_number % 2 ≡ 1 }
         ensures kept { IsSameDevice self.old self.new }
-        ensures moves { let v = scheme_of S.overhead S.sealing S.opening self.old in let s = self.old.state in
+        ensures moves { let v = scheme_of S.cipher self.old in let s = self.old.state in
             (w : World) → Fits v s w
             → IfOk result (λ r. MovesTo v s w (on_answer v s w Waiting Good) (shown_by r) self.new.state) }
-        ensures heard { IfOk result (λ r. Heard (scheme_of S.overhead S.sealing S.opening self.old) self.old.state (done r self.new.state)) }
+        ensures heard { IfOk result (λ r. Heard (scheme_of S.cipher self.old) self.old.state (done r self.new.state)) }
         ensures taken { IfOk result (λ r. r.note ≡ note.Taken) }
         ensures err { OnErr result (self.new ≡ self.old) }
     {
@@ -110,7 +110,7 @@ impl<S: Sealer> Core<S> {
         requires more { self.old.state.entry_number + 1 < 2 * trees_of self.old.device }
         ensures kept { IsSameDevice self.old self.new }
         ensures ok { (x : Submission) (rest : List Submission) → self.old.state.queue ≡ x ∷ rest
-            → IfOk result (λ r. done r self.new.state ≡ fetched_by (scheme_of S.overhead S.sealing S.opening self.old) self.old.state x) }
+            → IfOk result (λ r. done r self.new.state ≡ fetched_by (scheme_of S.cipher self.old) self.old.state x) }
         ensures err { OnErr result (self.new ≡ self.old) }
     {
         let MessageCopies { kept, sends } = self.next_fetch(alloc)?;
@@ -129,7 +129,7 @@ impl<S: Sealer> Core<S> {
         requires last { self.old.state.entry_number + 1 ≡ 2 * trees_of self.old.device }
         ensures kept { IsSameDevice self.old self.new }
         ensures ok { (x : Submission) (rest : List Submission) → self.old.state.queue ≡ x ∷ rest
-            → IfOk result (λ r. done r self.new.state ≡ finished_by (scheme_of S.overhead S.sealing S.opening self.old) self.old.state x rest) }
+            → IfOk result (λ r. done r self.new.state ≡ finished_by (scheme_of S.cipher self.old) self.old.state x rest) }
         ensures err { OnErr result (self.new ≡ self.old) }
     {
         match self.queue.get(1) {
@@ -148,14 +148,14 @@ impl<S: Sealer> Core<S> {
     ) -> Result<Reaction, AllocError>
         requires waiting { status_in self.old.state ≡ Waiting }
         requires last { self.old.state.entry_number + 1 ≡ 2 * trees_of self.old.device }
-        requires next { let v = scheme_of S.overhead S.sealing S.opening self.old in
+        requires next { let v = scheme_of S.cipher self.old in
             (x y : Submission) (rest : List Submission) → self.old.state.queue ≡ x ∷ y ∷ rest
             → sending.kept ≡ first_message v.device self.old.state y }
         requires sends { sending.sends.items ≡ sending.kept ∷ [] }
         requires more { 1 < length self.old.state.queue }
         ensures kept { IsSameDevice self.old self.new }
         ensures ok { (x : Submission) (rest : List Submission) → self.old.state.queue ≡ x ∷ rest
-            → IfOk result (λ r. done r self.new.state ≡ finished_by (scheme_of S.overhead S.sealing S.opening self.old) self.old.state x rest) }
+            → IfOk result (λ r. done r self.new.state ≡ finished_by (scheme_of S.cipher self.old) self.old.state x rest) }
         ensures err { OnErr result (self.new ≡ self.old) }
     {
         let replies = replied(alloc, &mut self.queue, &mut self.held_data)?;
@@ -176,7 +176,7 @@ impl<S: Sealer> Core<S> {
         requires alone { length self.old.state.queue ≡ 1 }
         ensures kept { IsSameDevice self.old self.new }
         ensures ok { (x : Submission) (rest : List Submission) → self.old.state.queue ≡ x ∷ rest
-            → IfOk result (λ r. done r self.new.state ≡ finished_by (scheme_of S.overhead S.sealing S.opening self.old) self.old.state x rest) }
+            → IfOk result (λ r. done r self.new.state ≡ finished_by (scheme_of S.cipher self.old) self.old.state x rest) }
         ensures err { OnErr result (self.new ≡ self.old) }
     {
         let replies = replied(alloc, &mut self.queue, &mut self.held_data)?;

@@ -1,5 +1,5 @@
 //! Judges an answer to the outstanding message.
-ghost use Rattle.std.specs.Prelude.{◌≡◌, ◌≢◌, ◌↔◌, ◌%◌, ℕ, false, List, [], ◌∷◌, IfOk};
+ghost use Rattle.std.specs.Prelude.{◌≡◌, ◌≢◌, ◌↔◌, ◌%◌, false, IfOk};
 ghost use Rattle.oram_semantics.specs.Answers.{outcome_of, pair_in};
 ghost use Rattle.oram_semantics.specs.Messages.{requested};
 ghost use Rattle.oram_semantics.specs.Moves.{Fits};
@@ -8,12 +8,15 @@ ghost use Rattle.oram_semantics.specs.State.{World, status_in};
 ghost use Rattle.oram_core.specs.Core.{CoreValue, IsSound, scheme_of};
 ghost use Rattle.oram_core.specs.Judging.{IsChecked, path_now};
 ghost use Rattle.oram_core.specs.Verdicts.{Means, Tells, refusal_in};
+ghost use Rattle.oram_wire.specs.HostMessages.{no_room_answer, payload_answer};
 
 use crate::machine::Core;
 use crate::messages::leaf_named;
 use oram_bucket::Sealer;
 use oram_hash::{HashFault, PathView};
 use oram_semantics::Reason;
+use oram_wire::{GOOD, REFUSED};
+
 /// The verdict on an answer to the outstanding message.
 pub(crate) enum Verdict<'a> {
     /// The records of the requested path, as they were last stored.
@@ -33,7 +36,7 @@ fn refusal_in(bytes: &[u8]) -> Option<u8>
     if bytes.len() != 2 {
         return None;
     }
-    if bytes[0] != 0x81 {
+    if bytes[0] != REFUSED {
         return None;
     }
     if bytes[1] == 0 {
@@ -49,10 +52,10 @@ impl<S: Sealer> Core<S> {
     /// Judges an answer to the outstanding message.
     pub(crate) fn verdict<'a>(&self, bytes: &'a [u8]) -> Verdict<'a>
         requires { status_in self.now.state ≡ Waiting }
-        ensures means { let v = scheme_of S.overhead S.sealing S.opening self.now in let s = self.now.state in
+        ensures means { let v = scheme_of S.cipher self.now in let s = self.now.state in
             (w : World) → Fits v s w → pair_in v w.records (requested s.message) bytes.now ≡ false → Means v s w bytes.now result }
-        ensures tells { Tells (scheme_of S.overhead S.sealing S.opening self.now) self.now.state bytes.now result }
-        ensures no_room { (result ≡ Verdict.NoRoom) ↔ (bytes.now ≡ 129 ∷ 8 ∷ []) }
+        ensures tells { Tells (scheme_of S.cipher self.now) self.now.state bytes.now result }
+        ensures no_room { (result ≡ Verdict.NoRoom) ↔ (bytes.now ≡ no_room_answer) }
     {
         if let Some(code) = refusal_in(bytes) {
             return match code {
@@ -63,18 +66,18 @@ impl<S: Sealer> Core<S> {
         if bytes.is_empty() {
             return Verdict::Bad(Reason::Malformed);
         }
-        if bytes[0] != 0x80 {
+        if bytes[0] != GOOD {
             return Verdict::Bad(Reason::Malformed);
         }
         self.payload_verdict(&bytes[1..])
     }
 
-    /// Judges an answer that consists of byte 80 and these bytes.
+    /// Judges an answer that begins with [`GOOD`], by the bytes behind it.
     fn payload_verdict<'a>(&self, records: &'a [u8]) -> Verdict<'a>
         requires { status_in self.now.state ≡ Waiting }
-        ensures means { let v = scheme_of S.overhead S.sealing S.opening self.now in let s = self.now.state in
-            (w : World) → Fits v s w → pair_in v w.records (requested s.message) (128 ∷ records.now) ≡ false → Means v s w (128 ∷ records.now) result }
-        ensures tells { Tells (scheme_of S.overhead S.sealing S.opening self.now) self.now.state (128 ∷ records.now) result }
+        ensures means { let v = scheme_of S.cipher self.now in let s = self.now.state in
+            (w : World) → Fits v s w → pair_in v w.records (requested s.message) (payload_answer records.now) ≡ false → Means v s w (payload_answer records.now) result }
+        ensures tells { Tells (scheme_of S.cipher self.now) self.now.state (payload_answer records.now) result }
         ensures room { result ≢ Verdict.NoRoom }
     {
         if self.entry_number % 2 == 0 {
@@ -90,9 +93,9 @@ impl<S: Sealer> Core<S> {
     fn path_verdict<'a>(&self, records: &'a [u8]) -> Verdict<'a>
         requires waiting { status_in self.now.state ≡ Waiting }
         requires entry_number { self.now.state.entry_number % 2 ≡ 0 }
-        ensures means { let v = scheme_of S.overhead S.sealing S.opening self.now in let s = self.now.state in
-            (w : World) → Fits v s w → pair_in v w.records (requested s.message) (128 ∷ records.now) ≡ false → Means v s w (128 ∷ records.now) result }
-        ensures tells { Tells (scheme_of S.overhead S.sealing S.opening self.now) self.now.state (128 ∷ records.now) result }
+        ensures means { let v = scheme_of S.cipher self.now in let s = self.now.state in
+            (w : World) → Fits v s w → pair_in v w.records (requested s.message) (payload_answer records.now) ≡ false → Means v s w (payload_answer records.now) result }
+        ensures tells { Tells (scheme_of S.cipher self.now) self.now.state (payload_answer records.now) result }
         ensures room { result ≢ Verdict.NoRoom }
     {
         match self.checked(records) {
@@ -107,9 +110,9 @@ impl<S: Sealer> Core<S> {
     /// Checks these records as the requested path, against the root digest of its tree.
     fn checked<'a>(&self, records: &'a [u8]) -> Result<PathView<'a>, HashFault>
         requires { status_in self.now.state ≡ Waiting }
-        ensures sound { IsSound self.now.device (S.overhead self.now.sealer) self.now.state }
-        ensures checked { IsChecked (scheme_of S.overhead S.sealing S.opening self.now) self.now.state records.now result }
-        ensures view { IfOk result (λ p. p ≡ path_now (scheme_of S.overhead S.sealing S.opening self.now) self.now.state records.now) }
+        ensures sound { IsSound self.now.device (S.cipher self.now.sealer).overhead self.now.state }
+        ensures checked { IsChecked (scheme_of S.cipher self.now) self.now.state records.now result }
+        ensures view { IfOk result (λ p. p ≡ path_now (scheme_of S.cipher self.now) self.now.state records.now) }
     {
         let tree = self.tree_at_work();
         let leaf = leaf_named(self.message.as_slice());

@@ -19,14 +19,14 @@ use std::alloc::{AllocError, Global};
 pub fn run<S: Sealer>(alloc: Global, device: Device, sealer: S, events: &[Event]) -> Run
     // Each reply is that of the plain array, in the order of submission. Each message shows the word at a place of the
     // tape that the addresses alone determine. Both hold until an answer shows two records with the same digest.
-    ensures right { let v = scheme_with S.overhead S.sealing S.opening device sealer in
+    ensures right { let v = scheme_with S.cipher device sealer in
         AllRight (setting_by v result.format.items) [] events.now (map shown_by result.reactions.items) }
     // No two commands show the same place of the tape.
     ensures places { (addresses : List ℕ) → ArePlacesApart device addresses }
     // No nonce is used for two buckets.
     ensures nonces { AreNoncesApart device }
     ensures complete { result.out_of_memory ≡ false → length result.reactions.items ≡ length events.now }
-    ensures formatted { let v = scheme_with S.overhead S.sealing S.opening device sealer in
+    ensures formatted { let v = scheme_with S.cipher device sealer in
         IsCutShort v result ⊎ IsCarriedOut v events.now result }
 {
     let mut sink = ListSink::new(alloc);
@@ -54,7 +54,7 @@ fn step_all<S: Sealer>(
     reactions: &mut Vec<Reaction>,
 ) -> Result<(), AllocError>
     requires { reactions.old.items ≡ [] }
-    ensures along { let v = scheme_of S.overhead S.sealing S.opening core.old in
+    ensures along { let v = scheme_of S.cipher core.old in
         StepsAlong v core.old.state events.now (map shown_by reactions.new.items) }
     ensures complete { OnOk result (length reactions.new.items ≡ length events.now) }
     ensures fewer { OnErr result (length reactions.new.items < length events.now) }

@@ -72,6 +72,7 @@ device_unless d (Some fault) = Err fault
 abbrev pub device_of : Sizes → Result Sizes ShapeFault
 device_of d = device_unless d (range_fault d)
 
+-- the number by which messages and state files name a fault of a device's shape
 abbrev pub fault_number : ShapeFault → ℕ
 fault_number Blocks = 1
 fault_number BlockBytes = 2

@@ -1,15 +1,10 @@
+-- The nodes of a path. A host knows the depth of a tree and no device, and uses none of the client's crates: so it has `node_on`, and what
+-- it needs to know of it, of its own.
 use Rattle.std.proofs.Common.{◌≡◌, ℕ, ◌+◌, ◌-◌, ◌*◌, ◌/◌, ◌^◌, ◌<◌, ◌≤◌, ◌⊎◌, inl, inr, refl, sym, arith, zero, suc, ap, subst, ◌∙◌}
 use Rattle.std.proofs.lemmas.Bool.{cases_order}
-use Rattle.std.proofs.lemmas.Nat.{pow_pos, pow-add, shr-shr, shr_below, shr_le}
+use Rattle.std.proofs.lemmas.Nat.{pow_pos, pow-add, shr-shr, shr_below}
 use Rattle.std.proofs.Math.Nat.{pow-le-pow_right}
 use Rattle.oram_host.specs.Path.{node_on}
-
--- a path begins at the root
-pub node_on-zero : (depth leaf : ℕ) → leaf < 2 ^ depth → node_on depth leaf 0 ≡ 0
-unfolding node_on
-node_on-zero depth leaf h =
-    let q : leaf / 2 ^ (depth - 0) < 2 ^ 0 = shr_below leaf 0 (depth - 0) (omega (arith, ap (λ (k : ℕ). 2 ^ k) (let e : 0 + (depth - 0) ≡ depth = omega arith in e))) in
-    omega arith
 
 half : (leaf k : ℕ) → leaf / 2 ^ (k + 1) ≡ leaf / 2 ^ k / 2
 half leaf k = sym (shr-shr leaf k 1)
@@ -26,24 +21,6 @@ node_on-child depth leaf level h =
     (ap (λ (k : ℕ). leaf / 2 ^ k) (let e : depth - level ≡ depth - (level + 1) + 1 = omega arith in e) ∙ half leaf (depth - (level + 1)))
     refl
     (ap (λ (p : ℕ). p - 1 + leaf / 2 ^ (depth - (level + 1))) (pow-add 2 level 1))
-
--- above the leaves a path has inner nodes
-pub node_on-inner : (depth leaf level : ℕ) → leaf < 2 ^ depth → level < depth → node_on depth leaf level < 2 ^ depth - 1
-unfolding node_on
-node_on-inner depth leaf level fits h =
-    let whole : 2 ^ depth ≡ 2 ^ (level + (depth - level)) = ap (λ (k : ℕ). 2 ^ k) (let e : depth ≡ level + (depth - level) = omega arith in e) in
-    let below : leaf / 2 ^ (depth - level) < 2 ^ level = shr_below leaf level (depth - level) (omega arith) in
-    let twice : 2 ^ (level + 1) ≡ 2 ^ level * 2 = pow-add 2 level 1 in
-    let most : 2 ^ (level + 1) ≤ 2 ^ depth = pow-le-pow_right (omega arith) (omega arith) in
-    omega (arith, pow_pos level)
-
--- a path ends at a leaf
-pub node_on-leaf : (depth leaf : ℕ) → leaf < 2 ^ depth → (2 ^ depth - 1 ≤ node_on depth leaf depth) × (node_on depth leaf depth < 2 ^ (depth + 1) - 1)
-unfolding node_on
-node_on-leaf depth leaf h =
-    let twice : 2 ^ (depth + 1) ≡ 2 ^ depth * 2 = pow-add 2 depth 1 in
-    let part : leaf / 2 ^ (depth - depth) ≤ leaf = shr_le leaf (depth - depth) in
-    (omega arith, omega (arith, pow_pos depth))
 
 -- a path goes to higher node numbers
 pub node_on-rises : (depth leaf i k : ℕ) → i + k + 1 ≤ depth → node_on depth leaf i < node_on depth leaf (i + k + 1)

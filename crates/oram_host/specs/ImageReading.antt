@@ -7,6 +7,7 @@ use Rattle.oram_host.specs.declared.images.ImageFault.{ImageFault}
 use Rattle.oram_host.specs.declared.images.ImageFault.TheVariants.{Magic, Version, Length, Content, Io, OutOfMemory}
 use Rattle.oram_host.specs.Host.{Host, Kept}
 
+-- the number by which messages name a fault of an image; a fault of the reader or of memory has none
 abbrev pub fault_number : ImageFault → Option ℕ
 fault_number Magic = Some 1
 fault_number Version = Some 2

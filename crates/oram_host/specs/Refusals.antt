@@ -7,6 +7,7 @@ use Rattle.oram_host.specs.declared.refusals.HostRefusal.TheVariants.{NoShape, B
 use Rattle.oram_host.specs.Host.{Host, IsShape, Kept, record_of, tree_at}
 use Rattle.oram_host.specs.Path.{node_on}
 
+-- the code of a refusal on the wire
 abbrev pub code_of : HostRefusal → ℕ
 code_of NoShape = 1
 code_of BadLeaf = 2

@@ -37,7 +37,7 @@ use Rattle.oram_host_laws.proofs.Handed.{kept_same, IsFull}
 
 -- a host takes the shape of each tree
 
-module _ (v : Scheme) (device : IsDevice v.device) (light : v.overhead ≤ 64) where
+module _ (v : Scheme) (device : IsDevice v.device) (light : v.cipher.overhead ≤ 64) where
   record_small : (record_len v ≤ 32960) × (0 < record_len v)
   unfolding record_len_of
   record_small =
@@ -381,7 +381,7 @@ all_shapes v n bodies to fits grows puts =
     subst (λ (k : ℕ). HasShapes v k to) m.left m.shapes
 
 -- A host that took all messages of a formatting keeps each tree as they have left it,
-pub formatted_kept : (v : Setting) (trees : List Tree) (host : Host) → IsDevice v.scheme.device → v.scheme.overhead ≤ 64
+pub formatted_kept : (v : Setting) (trees : List Tree) (host : Host) → IsDevice v.scheme.device → v.scheme.cipher.overhead ≤ 64
     → IsFormatted v trees → PutsAll Takes [] v.format host → KeepsAll v.scheme (records_of v []) host
 unfolding sent
 formatted_kept v trees host device light made puts i below =
@@ -400,7 +400,7 @@ formatted_kept v trees host device light made puts i below =
 
 -- and it carries out each of them, unless it has no room.
 pub format_taken : (v : Scheme) (taken : List (List ℕ)) (body : List ℕ) (host after : Host) (answer : HostAnswer)
-    → IsDevice v.device → v.overhead ≤ 64 → IsFormatBegun v (taken ++ body ∷ []) → PutsAll Takes [] taken host
+    → IsDevice v.device → v.cipher.overhead ≤ 64 → IsFormatBegun v (taken ++ body ∷ []) → PutsAll Takes [] taken host
     → Serves host body answer after → (answer ≡ Done) ⊎ IsFull host answer after
 format_taken v taken body host after answer device light begun puts serves =
     let fits : (j : ℕ) → IsShape (depth_of v.device j) (record_len v) = shape_fits v device light in
@@ -419,7 +419,7 @@ room_alone answer why host after (inr full) is = ap format_fault (why_is why (sy
     why_is w e = ap (λ (o : Option SinkFault). unwrap_or o sinking.OutOfMemory) e
 
 -- So the formatting of a new server can be broken off only because memory runs out.
-pub broken_off_for_room : (v : Scheme) (fault : FormatFault) (to : Host) → IsDevice v.device → v.overhead ≤ 64
+pub broken_off_for_room : (v : Scheme) (fault : FormatFault) (to : Host) → IsDevice v.device → v.cipher.overhead ≤ 64
     → IsBrokenOff Takes Refusing (IsFormatBegun v) [] fault to → fault ≡ formatting.OutOfMemory
 broken_off_for_room v fault to device light broken = elim broken.ended [
   | inl elsewhere ↦ elsewhere.0

@@ -122,10 +122,10 @@ module _ (v : Scheme) (i leaf : ℕ) (records : ℕ → List ℕ) (host : Host) 
     fetched_whole =
         path.whole ∙ ap (λ n. (n + 1) * k.kept.record_len) k.depth ∙ ap (λ n. (depth_of v.device i + 1) * n) k.record_len
 
-    fetched_path : IsPathOf records (path_of v.device i leaf v.overhead bytes)
+    fetched_path : IsPathOf records (path_of v.device i leaf v.cipher.overhead bytes)
     fetched_path l below =
         let within : l ≤ k.kept.depth = omega (arith, k.depth, below) in
-        sym (record_same (path_of v.device i leaf v.overhead bytes) l)
+        sym (record_same (path_of v.device i leaf v.cipher.overhead bytes) l)
         ∙ ap (λ n. host_record n bytes l) (sym k.record_len)
         ∙ bytes_alike _ _ _ (path.each l within) (on_level l within)
 
@@ -159,7 +159,7 @@ stored_host v records host after i leaf bytes below fits few keeps is j inside =
               sym (ap (λ m. record_of is.stored (host_node m leaf on.0)) deep ∙ ap (record_of is.stored) (node_same (depth_of v.device i) leaf on.0))
               ∙ one.path.each on.0 (omega (arith, deep, on.1))
               ∙ ap (λ m. Some (host_record m bytes on.0)) long
-              ∙ ap (λ (r : List ℕ). Some r) (record_same (path_of v.device i leaf v.overhead bytes) on.0 ∙ sym (new.on_path on.0 on.1)))
+              ∙ ap (λ (r : List ℕ). Some r) (record_same (path_of v.device i leaf v.cipher.overhead bytes) on.0 ∙ sym (new.on_path on.0 on.1)))
           | inr off ↦
               one.others n (λ l within e. off l (omega (arith, k.depth)) (e ∙ ap (λ m. host_node m leaf l) k.depth ∙ node_same (depth_of v.device i) leaf l))
               ∙ k.each n small ∙ ap (λ (r : List ℕ). Some r) (sym (new.off_path n off))

@@ -26,5 +26,5 @@ pub record IsNewHosted (v : Scheme) (s : State) (w : World) (host : Host) : Type
   pub hosts : Hosts v s w host
 
 abbrev pub NewHostsServe : Type 0
-NewHostsServe = (v : Setting) (trees : List Tree) (host : Host) → IsDevice v.scheme.device → v.scheme.overhead ≤ 64
+NewHostsServe = (v : Setting) (trees : List Tree) (host : Host) → IsDevice v.scheme.device → v.scheme.cipher.overhead ≤ 64
     → IsFormatted v trees → PutsAll Takes [] v.format host → IsNewHosted v.scheme (new_state v trees) (world_of v []) host

@@ -5,6 +5,7 @@ use Rattle.std.proofs.lemmas.Fn.{FoldsTo-push}
 use Rattle.std.proofs.lemmas.List.Concat.{flat_map-append}
 use Rattle.oram_geometry.specs.declared.Sizes.{Sizes}
 use Rattle.oram_geometry.specs.Sizes.{trees_of}
+use Rattle.oram_bucket.specs.Cipher.{Cipher}
 use Rattle.oram_semantics.specs.Progress.Status.{Waiting}
 use Rattle.oram_semantics.specs.Scheme.{Scheme}
 use Rattle.oram_semantics.specs.State.{State, status_by, status_in}
@@ -45,10 +46,10 @@ pub message_is : (s : State) (m : List ℕ) → status_in s ≡ Waiting → outs
 message_is s m w e = ap (λ (o : Option (List ℕ)). unwrap_or o []) (sym e ∙ waits_outstanding s w)
 
 -- a file that tells of a core tells of it by the device and the sealer of the core that it came of
-pub saved_under : {S : Type 0} (overhead : S → ℕ) (c d : CoreValue S) (file : List ℕ) → IsSameDevice c d
-    → IsSaved file (overhead d.sealer) d.device d.state → IsSaved file (overhead c.sealer) c.device d.state
-saved_under {S} overhead c d file h k =
-    subst (λ (x : Sizes). IsSaved file (overhead c.sealer) x d.state) h.0 (subst (λ (x : S). IsSaved file (overhead x) d.device d.state) h.1 k)
+pub saved_under : {S : Type 0} (cipher : S → Cipher) (c d : CoreValue S) (file : List ℕ) → IsSameDevice c d
+    → IsSaved file (cipher d.sealer).overhead d.device d.state → IsSaved file (cipher c.sealer).overhead c.device d.state
+saved_under {S} cipher c d file h k =
+    subst (λ (x : Sizes). IsSaved file (cipher c.sealer).overhead x d.state) h.0 (subst (λ (x : S). IsSaved file (cipher x).overhead d.device d.state) h.1 k)
 
 -- whether the core is to be kept before the next message
 abbrev pub is_due : Done → Bool

@@ -52,7 +52,7 @@ replies_of deeds = flat_map replies_in deeds
 module _ (v : Scheme) {L K : Type 0} (calls : L → List ℕ → Outcome → L → Type 0) (keeps : K → List ℕ → Bool → K → Type 0) where
   -- the keeper is handed the core's state file, and keeps it or fails
   abbrev pub IsHanded : State → K → Bool → K → Type 0
-  IsHanded core keeper done after = (file : List ℕ) × IsSaved file v.overhead v.device core × keeps keeper file done after
+  IsHanded core keeper done after = (file : List ℕ) × IsSaved file v.cipher.overhead v.device core × keeps keeper file done after
 
   -- A message is only sent where it is covered by what is kept.
   abbrev pub Does : Moment L K → Deed → Moment L K → Type 0

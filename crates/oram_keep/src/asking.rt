@@ -43,16 +43,16 @@ fn reply_of<S: Sealer, L: Link, K: Keeper>(
     ensures settled { OnOk result (IsSettled core.new.state) }
     ensures block { IfOk result (λ reply. IsBodyOf core.old.device reply.body) }
     ensures failed { IfOk result (λ reply. reply.body ≡ ReplyBody.Failed → HasFailed core.new.state) }
-    ensures ok { let v = scheme_of S.overhead S.sealing S.opening core.old in
+    ensures ok { let v = scheme_of S.cipher core.old in
         IfOk result (λ reply. (kept : State) → HasGivenAll v L.calls K.keeps IsSame
         core.old.state link.old keeper.old core.new.state link.new keeper.new kept (reply ∷ [])) }
-    ensures stalled { let v = scheme_of S.overhead S.sealing S.opening core.old in
+    ensures stalled { let v = scheme_of S.cipher core.old in
         IsErrOf result KeepFault.Stalled → (kept : State) → HasStalledAt v L.calls K.keeps IsSame
         core.old.state link.old keeper.old core.new.state link.new keeper.new kept }
-    ensures unkept { let v = scheme_of S.overhead S.sealing S.opening core.old in
+    ensures unkept { let v = scheme_of S.cipher core.old in
         IsErrOf result KeepFault.Unkept → (kept : State) → IsUnkeptAt v L.calls K.keeps IsSame
         core.old.state link.old keeper.old core.new.state link.new keeper.new kept }
-    ensures memory { let v = scheme_of S.overhead S.sealing S.opening core.old in
+    ensures memory { let v = scheme_of S.cipher core.old in
         IsErrOf result KeepFault.OutOfMemory → (kept : State) → HasRunOutAt v L.calls K.keeps IsSame
         core.old.state link.old keeper.old core.new.state link.new keeper.new kept }
 {
@@ -88,18 +88,18 @@ pub fn ask<S: Sealer, L: Link, K: Keeper, T: Tape>(
     ensures failed { result ≡ Ok (Asked.Replied ReplyBody.Failed) → HasFailed core.new.state }
 
     // A command that is accepted has one reply.
-    ensures ok { let v = scheme_of S.overhead S.sealing S.opening core.old in
+    ensures ok { let v = scheme_of S.cipher core.old in
         IfOk result (λ asked. IsCarriedOut v L.calls K.keeps (T.words tape.old) command
         core.old.state link.old keeper.old asked core.new.state link.new keeper.new) }
 
     // After a fault it is at work, and these deeds were done.
-    ensures stalled { let v = scheme_of S.overhead S.sealing S.opening core.old in
+    ensures stalled { let v = scheme_of S.cipher core.old in
         IsErrOf result KeepFault.Stalled → (kept : State) → HasStalledAt v L.calls K.keeps (λ s t. IsAccepted v (T.words tape.old) s command t)
         core.old.state link.old keeper.old core.new.state link.new keeper.new kept }
-    ensures unkept { let v = scheme_of S.overhead S.sealing S.opening core.old in
+    ensures unkept { let v = scheme_of S.cipher core.old in
         IsErrOf result KeepFault.Unkept → (kept : State) → IsUnkeptAt v L.calls K.keeps (λ s t. IsAccepted v (T.words tape.old) s command t)
         core.old.state link.old keeper.old core.new.state link.new keeper.new kept }
-    ensures memory { let v = scheme_of S.overhead S.sealing S.opening core.old in
+    ensures memory { let v = scheme_of S.cipher core.old in
         IsErrOf result KeepFault.OutOfMemory → ((core.new ≡ core.old) × (link.new ≡ link.old) × (keeper.new ≡ keeper.old))
         ⊎ ((kept : State) → HasRunOutAt v L.calls K.keeps (λ s t. IsAccepted v (T.words tape.old) s command t)
         core.old.state link.old keeper.old core.new.state link.new keeper.new kept) }

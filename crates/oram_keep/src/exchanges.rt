@@ -31,15 +31,15 @@ fn send<S: Sealer, L: Link>(
     requires waits { status_in core.old.state ≡ Waiting }
     requires message { message.now ≡ core.old.state.message }
     ensures kept { IsSameDevice core.old core.new }
-    ensures ok { let v = scheme_of S.overhead S.sealing S.opening core.old in
+    ensures ok { let v = scheme_of S.cipher core.old in
         IfOk result (λ r. (x : Delivery) × IsSent v L.calls most_retries (core.old.state, link.old) x (core.new.state, link.new)
         × IsAnswered x × (x.replies ≡ r.replies.items)) }
-    ensures heard { let v = scheme_of S.overhead S.sealing S.opening core.old in
+    ensures heard { let v = scheme_of S.cipher core.old in
         IfOk result (λ r. Heard v core.old.state (done r core.new.state)) }
-    ensures stalled { let v = scheme_of S.overhead S.sealing S.opening core.old in
+    ensures stalled { let v = scheme_of S.cipher core.old in
         IsErrOf result KeepFault.Stalled → (x : Delivery)
         × IsSent v L.calls most_retries (core.old.state, link.old) x (core.new.state, link.new) × IsGivenUp most_retries x }
-    ensures memory { let v = scheme_of S.overhead S.sealing S.opening core.old in
+    ensures memory { let v = scheme_of S.cipher core.old in
         IsErrOf result KeepFault.OutOfMemory → (x : Delivery)
         × IsCutOff v L.calls most_retries (core.old.state, link.old) x (core.new.state, link.new) }
     ensures fault { IfErr result (λ e. (e ≡ KeepFault.Stalled) ⊎ (e ≡ KeepFault.OutOfMemory)) }
@@ -64,7 +64,7 @@ pub(crate) fn exchange_all<S: Sealer, L: Link, K: Keeper>(
 ) -> Result<Reaction, KeepFault>
     requires { IsUnderWay (done reaction core.old.state) }
     ensures kept { IsSameDevice core.old core.new }
-    ensures ok { let v = scheme_of S.overhead S.sealing S.opening core.old in
+    ensures ok { let v = scheme_of S.cipher core.old in
         IfOk result (λ r. (kept : State) → (all : List Reply) × HasGivenAll v L.calls K.keeps IsSame
         core.old.state link.old keeper.old core.new.state link.new keeper.new kept all
         × (length all ≡ length core.old.state.queue) × ((early : List Reply) × (all ≡ early ++ r.replies.items))) }
@@ -72,13 +72,13 @@ pub(crate) fn exchange_all<S: Sealer, L: Link, K: Keeper>(
     ensures replied { IfOk result (λ r. 0 < length r.replies.items) }
     ensures block { IfOk result (λ r. All (λ reply. IsBodyOf core.old.device reply.body) r.replies.items) }
     ensures failed { IfOk result (λ r. All (λ reply. reply.body ≡ ReplyBody.Failed → HasFailed core.new.state) r.replies.items) }
-    ensures stalled { let v = scheme_of S.overhead S.sealing S.opening core.old in
+    ensures stalled { let v = scheme_of S.cipher core.old in
         IsErrOf result KeepFault.Stalled → (kept : State) → HasStalledAt v L.calls K.keeps IsSame
         core.old.state link.old keeper.old core.new.state link.new keeper.new kept }
-    ensures unkept { let v = scheme_of S.overhead S.sealing S.opening core.old in
+    ensures unkept { let v = scheme_of S.cipher core.old in
         IsErrOf result KeepFault.Unkept → (kept : State) → IsUnkeptAt v L.calls K.keeps IsSame
         core.old.state link.old keeper.old core.new.state link.new keeper.new kept }
-    ensures memory { let v = scheme_of S.overhead S.sealing S.opening core.old in
+    ensures memory { let v = scheme_of S.cipher core.old in
         IsErrOf result KeepFault.OutOfMemory → (kept : State) → HasRunOutAt v L.calls K.keeps IsSame
         core.old.state link.old keeper.old core.new.state link.new keeper.new kept }
 {

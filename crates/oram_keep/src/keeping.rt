@@ -15,10 +15,10 @@ pub(crate) fn keep<S: Sealer, K: Keeper>(
     core: &Core<S>,
     keeper: &mut K,
 ) -> Result<(), KeepFault>
-    ensures ok { OnOk result ((file : List ℕ) × IsSaved file (S.overhead core.now.sealer) core.now.device core.now.state
+    ensures ok { OnOk result ((file : List ℕ) × IsSaved file (S.cipher core.now.sealer).overhead core.now.device core.now.state
         × K.keeps keeper.old file true keeper.new) }
     ensures unkept { IsErrOf result KeepFault.Unkept → (file : List ℕ)
-        × IsSaved file (S.overhead core.now.sealer) core.now.device core.now.state × K.keeps keeper.old file false keeper.new }
+        × IsSaved file (S.cipher core.now.sealer).overhead core.now.device core.now.state × K.keeps keeper.old file false keeper.new }
     ensures memory { IsErrOf result KeepFault.OutOfMemory → keeper.new ≡ keeper.old }
     ensures fault { IfErr result (λ e. (e ≡ KeepFault.Unkept) ⊎ (e ≡ KeepFault.OutOfMemory)) }
 {

@@ -35,18 +35,18 @@ pub fn resume<S: Sealer, L: Link, K: Keeper>(
 
     // Any other has a reply for each command that waits.
     ensures count { ¬ IsSettled core.old.state → IfOk result (λ k. k ≡ length core.old.state.queue) }
-    ensures ok { let v = scheme_of S.overhead S.sealing S.opening core.old in
+    ensures ok { let v = scheme_of S.cipher core.old in
         ¬ IsSettled core.old.state → IfOk result (λ k. (kept : State) → (all : List Reply) × (length all ≡ k)
         × HasGivenAll v L.calls K.keeps (IsReopened v) core.old.state link.old keeper.old core.new.state link.new keeper.new kept all) }
 
     // What was done before a fault stands.
-    ensures stalled { let v = scheme_of S.overhead S.sealing S.opening core.old in
+    ensures stalled { let v = scheme_of S.cipher core.old in
         IsErrOf result KeepFault.Stalled → (kept : State) → HasStalledAt v L.calls K.keeps (IsReopened v)
         core.old.state link.old keeper.old core.new.state link.new keeper.new kept }
-    ensures unkept { let v = scheme_of S.overhead S.sealing S.opening core.old in
+    ensures unkept { let v = scheme_of S.cipher core.old in
         IsErrOf result KeepFault.Unkept → (kept : State) → IsUnkeptAt v L.calls K.keeps (IsReopened v)
         core.old.state link.old keeper.old core.new.state link.new keeper.new kept }
-    ensures memory { let v = scheme_of S.overhead S.sealing S.opening core.old in
+    ensures memory { let v = scheme_of S.cipher core.old in
         IsErrOf result KeepFault.OutOfMemory
         → (Runs v core.old.state (Reopen ∷ []) [] core.new.state × (link.new ≡ link.old) × (keeper.new ≡ keeper.old))
         ⊎ ((kept : State) → HasRunOutAt v L.calls K.keeps (IsReopened v)

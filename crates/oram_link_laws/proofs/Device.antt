@@ -159,10 +159,10 @@ root_is : sha256 (replicate 88 0) ≡ sha256 (root_record seal 0 0)
 unfolding spelling
 root_is = ap sha256 (sym (root_record-leaf seal 0 0 refl))
 
-formed : (bodies : List (List ℕ)) × PutsAll Takes [] bodies new_host × IsFormat one_block.opening one_block.sealing 0 one_block.device 0 tree bodies
+formed : (bodies : List (List ℕ)) × PutsAll Takes [] bodies new_host × IsFormat one_block.cipher one_block.device 0 tree bodies
 formed =
-    made Takes [] shaped_host new_host one_block.opening one_block.sealing one_block.device 0 0 88 0 0 (shape_body 0 0 88) (sha256 (replicate 88 0))
-    is_device no_depth eighty_eight (λ n plain. omega arith) (λ n plain low is. refl) one_node refl shape_taken all_put root_is
+    made Takes [] shaped_host new_host one_block.cipher one_block.device 0 0 88 0 (shape_body 0 0 88) (sha256 (replicate 88 0))
+    is_device no_depth eighty_eight (record { small = omega arith; longer = λ n plain. omega arith; undoes = λ n plain low is. refl }) one_node refl shape_taken all_put root_is
 
 tree_made : IsTreeMade one_block 0 tree formed.0
 unfolding formatted_below

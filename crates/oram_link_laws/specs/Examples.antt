@@ -4,6 +4,7 @@ use Rattle.std.specs.Prelude.{◌≡◌, ℕ, Bool, false, List, [], ◌∷◌, 
 use Rattle.std.specs.List.{AllByRecursion, FoldsTo}
 use Rattle.sha2.specs.Sha256.{sha256}
 use Rattle.oram_geometry.specs.Sizes.{IsDevice}
+use Rattle.oram_bucket.specs.Cipher.{plain_cipher}
 use Rattle.oram_wire.specs.HostMessages.{fetch_body, store_body}
 use Rattle.oram_wire.specs.FrameStream.{IsBody, frame}
 use Rattle.oram_wire.specs.declared.session_messages.SessionReply.TheVariants.{Refused}
@@ -108,9 +109,7 @@ DirectSessionsAreStreamed = (v : Scheme) (words : ℕ → ℕ → List ℕ) (ses
 abbrev pub one_block : Scheme
 one_block = record {
   device = record { blocks = 1; block_bytes = 16; slots = 1; top = 1; lifetime = 1 };
-  overhead = 0;
-  sealing = λ nonce plain. plain;
-  opening = λ bytes. Some bytes;
+  cipher = plain_cipher;
 }
 
 -- its core after the formatting, and the host: there is one tree of one node, whose record is 88 zeros

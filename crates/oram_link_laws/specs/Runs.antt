@@ -1,6 +1,6 @@
 -- A host that stands beside the exchanges of a link, and isn't a function of the link's value. A link over sockets may
 -- give any answer, so no function of its value is the host at its other end.
-use Rattle.std.specs.Prelude.{ℕ, ◌≤◌, Bool, List, [], ◌∷◌, map, replicate, Ok}
+use Rattle.std.specs.Prelude.{ℕ, ◌≤◌, Bool, List, [], map, replicate, Ok}
 use Rattle.std.specs.List.{FoldsTo, flat_map}
 use Rattle.oram_geometry.specs.Sizes.{IsDevice}
 use Rattle.oram_host.specs.Host.{Host}
@@ -12,6 +12,7 @@ use Rattle.oram_session.specs.Formatting.{TakesMessage}
 use Rattle.oram_session.specs.Honesty.{IsArrayTurn, IsHeardCall, IsHeardLink, IsHeld, IsHonestCall, IsHonestLink, SessionsAreTheArrays}
 use Rattle.oram_session.specs.Outcome.{Outcome}
 use Rattle.oram_session.specs.Turns.{Turn, IsTurn}
+use Rattle.oram_wire.specs.HostMessages.{done_answer}
 
 -- a message, and the outcome of the call with it
 abbrev pub Exchange : Type 0
@@ -31,7 +32,7 @@ bodies_of exchanges = map {A = Exchange} (λ e. e.0) exchanges
 
 -- the exchanges in which each of these bodies was answered with the one byte 80 (in hexadecimal)
 abbrev pub acknowledged : List (List ℕ) → List Exchange
-acknowledged bodies = map {B = Exchange} (λ body. (body, Ok (128 ∷ []))) bodies
+acknowledged bodies = map {B = Exchange} (λ body. (body, Ok done_answer)) bodies
 
 -- the exchanges of the calls with one message
 abbrev pub exchanges_of : Delivery → List Exchange
@@ -58,7 +59,7 @@ Beside calls by p body o q = calls p.0 body o q.0 × by p.1 body o q.1
 -- Whatever the link is: if a device was formatted over it, and a host kept nothing before and acknowledged the messages of
 -- the formatting, that host keeps what the device holds, an array of zeros.
 abbrev pub NewDevicesHoldZerosBeside : {L : Type 0} → (L → List ℕ → Outcome → L → Type 0) → Type 0
-NewDevicesHoldZerosBeside {L} calls = (v : Scheme) (from to : L) (s : State) (host : Host) → v.overhead ≤ 64
+NewDevicesHoldZerosBeside {L} calls = (v : Scheme) (from to : L) (s : State) (host : Host) → v.cipher.overhead ≤ 64
     → (new : IsNew v (TakesMessage calls) from s to) → HostRun [] (acknowledged new.format) host
     → IsHeldBy v s host (λ a. replicate v.device.block_bytes 0)
 

@@ -1,3 +1,4 @@
+pub mod Calls
 pub mod Splices
 pub mod Texts
 pub mod Wanted

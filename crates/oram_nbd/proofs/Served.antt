@@ -8,7 +8,7 @@ use Rattle.std.proofs.KnownBytes.{Appends-nil, Appends-trans, Consumes-nil, Cons
 use Rattle.oram_nbd.specs.Holding.{GoesOnHolding}
 use Rattle.oram_nbd.specs.Messages.{payload_len, request_text, IsRequest}
 use Rattle.oram_nbd.specs.Streams.{ComesShort, IsBegunText, Misses}
-use Rattle.oram_nbd.specs.Serving.{asking, refusal_of, replying, requests_text, replies_text, IsAnswer, IsPartly, IsReplied, IsService, IsRefusal, IsTurn, NeverFails, FailsForGood, SaysFailed, Turn}
+use Rattle.oram_nbd.specs.Serving.{asking, refusal_of, replying, requests_text, replies_text, IsAnswer, IsPartly, IsReplied, IsReply, IsService, IsRefusal, IsTurn, NeverFails, FailsForGood, SaysFailed, Turn}
 use Rattle.oram_nbd.specs.Transmission.{HasExchanged, HasServed, IsNoRequest, IsUnfinished, StopsServing}
 use Rattle.oram_nbd.specs.declared.faults.NbdError.{NbdError}
 use Rattle.oram_nbd.specs.declared.faults.NbdError.TheVariants.{Io, NoMemory}
@@ -44,14 +44,12 @@ refuses_more failed [] turn h last = (λ f. last (inl f), tt)
 refuses_more failed (t ∷ turns) turn (first, rest) last =
     (first, refuses_more (failed ⊎ (t.reply ≡ Refused Io)) turns turn rest (λ e. last (elim e [ inl d ↦ elim d [ inl f ↦ inl f | inr io ↦ inr (inl io) ] | inr later ↦ inr (inr later) ])))
 
--- what holds once the device has failed holds after one more turn too
-pub still_failed : (failed now later : Type 0) (turns : List Turn) (turn : Turn) → (failed ⊎ SaysFailed turns → now) → (now → later) → (turn.reply ≡ Refused Io → later) → failed ⊎ SaysFailed (turns ++ turn ∷ []) → later
-still_failed failed now later turns turn so_far keeps fails (inl f) = keeps (so_far (inl f))
-still_failed failed now later [] turn so_far keeps fails (inr (inl io)) = fails io
-still_failed failed now later [] turn so_far keeps fails (inr (inr none)) = absurd none
-still_failed failed now later (t ∷ turns) turn so_far keeps fails (inr (inl io)) = keeps (so_far (inr (inl io)))
-still_failed failed now later (t ∷ turns) turn so_far keeps fails (inr (inr more)) =
-    still_failed failed now later turns turn (λ e. so_far (elim e [ inl f ↦ inl f | inr requests_text ↦ inr (inr requests_text) ])) keeps fails (inr more)
+-- one more turn after which the device has failed, if a reply has said so
+pub told_more : (now later : Type 0) (turns : List Turn) (turn : Turn) → (SaysFailed turns → now) → (now → later) → (turn.reply ≡ Refused Io → later) → SaysFailed (turns ++ turn ∷ []) → later
+told_more now later [] turn so_far stays fails (inl io) = fails io
+told_more now later [] turn so_far stays fails (inr none) = absurd none
+told_more now later (t ∷ turns) turn so_far stays fails (inl io) = stays (so_far (inl io))
+told_more now later (t ∷ turns) turn so_far stays fails (inr more) = told_more now later turns turn (λ e. so_far (inr e)) stays fails more
 
 abbrev pub turn_of : Request → List ℕ → SimpleReply → Turn
 turn_of r bytes reply = record { request = r; payload = bytes; reply = reply }
@@ -60,18 +58,21 @@ module _ (sound failed : Type 0) (size : ℕ) (held : List ℕ → Type 0) where
   pub served_none : HasServed sound failed size held held []
   served_none = record { fits = All-nil (λ turn. IsReplied size turn); never = λ _. tt; refused = tt; service = λ bytes h. (bytes, refl, h) }
 
-  -- one turn more
-  pub served_more : (held' held'' : List ℕ → Type 0) (turns : List Turn) (turn : Turn) → HasServed sound failed size held held' turns → IsReplied size turn → (sound → turn.reply ≡ Refused Io → ⊥) → (failed ⊎ SaysFailed turns → IsRefusal turn.reply) →
-      GoesOnHolding held' (λ old new. IsAnswer old turn.request turn.payload turn.reply new) held'' → HasServed sound failed size held held'' (turns ++ turn ∷ [])
-  served_more held' held'' turns turn s is works refuses answer = record {
-    fits = All-push (λ t. IsReplied size t) turns turn s.fits is;
-    never = λ h. never_more turns turn (s.never h) (works h);
-    refused = refuses_more failed turns turn s.refused refuses;
-    service = λ bytes h.
-        let so_far = s.service bytes h in
-        let more = answer so_far.0 so_far.2 in
-        (more.0, service_more bytes so_far.0 turns turn more.0 so_far.1 (record { request = is.request; payload = is.payload; answer = more.1 }), more.2);
-  }
+  -- one turn more, of a device that reports `now` bytes
+  pub served_more : (held' held'' : List ℕ → Type 0) (now : ℕ) (turns : List Turn) (r : Request) (bytes : List ℕ) (reply : SimpleReply) → HasServed sound failed size held held' turns → now ≡ size →
+      IsRequest r → length bytes ≡ payload_len r.command r.length → IsReply now r reply → (sound → reply ≡ Refused Io → ⊥) → (failed → IsRefusal reply) → (SaysFailed turns → IsRefusal reply) →
+      GoesOnHolding held' (λ old new. IsAnswer old r bytes reply new) held'' → HasServed sound failed size held held'' (turns ++ turn_of r bytes reply ∷ [])
+  served_more held' held'' now turns r bytes reply s same is long fits works refuses_failed refuses_told answer =
+      let turn = turn_of r bytes reply in
+      record {
+        fits = All-push (λ t. IsReplied size t) turns turn s.fits (record { request = is; payload = long; reply = subst (λ (n : ℕ). IsReply n r reply) same fits });
+        never = λ h. never_more turns turn (s.never h) (works h);
+        refused = refuses_more failed turns turn s.refused (λ e. elim e [ inl f ↦ refuses_failed f | inr told ↦ refuses_told told ]);
+        service = λ old h.
+            let so_far = s.service old h in
+            let more = answer so_far.0 so_far.2 in
+            (more.0, service_more old so_far.0 turns turn more.0 so_far.1 (record { request = is; payload = long; answer = more.1 }), more.2);
+      }
 
   -- as far as the loop has come
   pub record Served (from text : Option (List ℕ)) (count : ℕ) (held' : List ℕ → Type 0) (to told' : Option (List ℕ)) : Type 0 where

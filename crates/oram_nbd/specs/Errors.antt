@@ -7,12 +7,14 @@ use Rattle.oram_nbd.specs.declared.faults.NbdError.TheVariants.{Io, NoMemory, In
 use Rattle.oram_nbd.specs.declared.faults.NbdFault.{NbdFault}
 use Rattle.oram_nbd.specs.declared.faults.NbdFault.TheVariants as fault
 
+-- the error's number on the wire, that of errno (NBD's proto.md, "Error values")
 abbrev pub error_number : NbdError → ℕ
 error_number Io = 5
 error_number NoMemory = 12
 error_number Invalid = 22
 error_number NoSpace = 28
 
+-- the fault of a connection, by why its next message can't be read
 abbrev pub reading_fault : FrameFault → NbdFault
 reading_fault frames.Read = fault.Read
 reading_fault frames.Truncated = fault.Truncated

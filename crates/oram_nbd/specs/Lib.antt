@@ -1,5 +1,6 @@
 pub mod Bytes
 pub mod Holding
+pub mod Calls
 pub mod MemBlocks
 pub mod Errors
 pub mod Streams

@@ -8,6 +8,7 @@ use Rattle.oram_nbd.specs.declared.requests.Request.{Request}
 use Rattle.oram_nbd.specs.declared.replies.SimpleReply.{SimpleReply}
 use Rattle.oram_nbd.specs.declared.replies.SimpleReply.TheVariants as reply
 
+-- a command's number on the wire (NBD's proto.md, "Request types")
 abbrev pub command_code : Command → ℕ
 command_code command.Read = 0
 command_code command.Write = 1

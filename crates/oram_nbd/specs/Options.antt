@@ -7,6 +7,7 @@ use Rattle.oram_nbd.specs.declared.options.OptionHead.{OptionHead}
 use Rattle.oram_nbd.specs.declared.options.ReplyKind.{ReplyKind}
 use Rattle.oram_nbd.specs.declared.options.ReplyKind.TheVariants as kind
 
+-- an option's number on the wire (NBD's proto.md, "Option types")
 abbrev pub option_code : HandshakeOption → ℕ
 option_code option.ExportName = 1
 option_code option.Abort = 2
@@ -33,6 +34,7 @@ pub record IsHead (h : OptionHead) : Type 0 where
   pub code : option_code h.option < 2 ^ 32
   pub length : h.length < 2 ^ 32
 
+-- the number of a kind of reply to an option; the highest bit marks an error (NBD's proto.md, "Option reply types")
 abbrev pub kind_code : ReplyKind → ℕ
 kind_code kind.Ack = 1
 kind_code kind.Server = 2

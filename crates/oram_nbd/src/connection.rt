@@ -1,6 +1,7 @@
 //! Serves a whole connection.
 
 ghost use Rattle.std.specs.Prelude.{◌≡◌, ◌≤◌, ◌↔◌, length, Err, IfOk, IfErr, IsTrue};
+ghost use Rattle.oram_nbd.specs.Calls.{Stays};
 ghost use Rattle.oram_nbd.specs.Connection.{preferred_of, HasConnected, StopsConnection};
 ghost use Rattle.oram_nbd.specs.Holding.{IsStopped};
 
@@ -49,9 +50,7 @@ pub fn serve<R: Read, W: Write, D: BlockDevice, H: HandshakeWatch>(
     ensures err { IfErr result (λ fault. StopsConnection (D.is_sound disk.old) (D.failed disk.old) (D.block_len disk.old) (D.size disk.old) (D.holds disk.old) (D.holds disk.new) name.now fault
         (R.remaining reader.old) (R.remaining reader.new) (W.contents writer.old) (W.contents writer.new)) }
     ensures stopped { IfErr result (λ fault. fault ≡ NbdFault.Stopped → IsStopped D.stops disk.new) }
-    ensures keeps { D.is_sound disk.old → D.is_sound disk.new }
-    ensures lasting { D.failed disk.old → D.failed disk.new }
-    ensures shape { (D.block_len disk.new ≡ D.block_len disk.old) × (D.size disk.new ≡ D.size disk.old) }
+    ensures stays { Stays D.block_len D.size D.is_sound D.failed disk.old disk.new }
 {
     let block_bytes = disk.block_bytes();
     let export = Export {

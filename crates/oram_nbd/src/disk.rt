@@ -1,7 +1,8 @@
 //! A device of whole blocks.
 
-ghost use Rattle.std.specs.Prelude.{◌≡◌, ◌⊎◌, ℕ, List, ◌+◌, ◌*◌, ◌<◌, ◌≤◌, ◌^◌, ◌↔◌, length, IfOk, OnOk, OnErr, IsErrOf, IsTrue};
+ghost use Rattle.std.specs.Prelude.{◌≡◌, ◌⊎◌, ℕ, List, ◌+◌, ◌*◌, ◌<◌, ◌≤◌, ◌^◌, ◌↔◌, length, IfOk, OnOk, OnErr, IsTrue};
 ghost use Rattle.oram_nbd.specs.Bytes.{bytes_at, written, zeroes};
+ghost use Rattle.oram_nbd.specs.Calls.{IsCall};
 
 use crate::faults::DiskFault;
 use std::alloc::Global;
@@ -49,13 +50,8 @@ pub trait BlockDevice {
         ensures ok { IfOk result (λ v. (bytes : List ℕ) → holds self.old bytes
             → v.items ≡ bytes_at bytes (block_len self.old * block) (block_len self.old)) }
         ensures same { (bytes : List ℕ) → holds self.old bytes → holds self.new bytes }
-        ensures sound { IsErrOf result DiskFault.Failed → is_sound self.old → ⊥ }
-        ensures failing { IsErrOf result DiskFault.Failed → failed self.new }
-        ensures stopped { IsErrOf result DiskFault.Stopped → stops self.old self.new }
-        ensures keeps { is_sound self.old → is_sound self.new }
         ensures refused { OnOk result (failed self.old → ⊥) }
-        ensures lasting { failed self.old → failed self.new }
-        ensures shape { (block_len self.new ≡ block_len self.old) × (size self.new ≡ size self.old) };
+        ensures call { IsCall block_len size is_sound failed (stops self.old self.new) self.old result self.new };
 
     /// Replaces a block. After an `Err` the block is as before, or replaced.
     fn write(&mut self, alloc: Global, block: u64, payload: &[u8]) -> Result<(), DiskFault>
@@ -65,13 +61,8 @@ pub trait BlockDevice {
             → holds self.new (written bytes (block_len self.old * block) payload.now)) }
         ensures err { OnErr result ((bytes : List ℕ) → holds self.old bytes
             → holds self.new bytes ⊎ holds self.new (written bytes (block_len self.old * block) payload.now)) }
-        ensures sound { IsErrOf result DiskFault.Failed → is_sound self.old → ⊥ }
-        ensures failing { IsErrOf result DiskFault.Failed → failed self.new }
-        ensures stopped { IsErrOf result DiskFault.Stopped → stops self.old self.new }
-        ensures keeps { is_sound self.old → is_sound self.new }
         ensures refused { OnOk result (failed self.old → ⊥) }
-        ensures lasting { failed self.old → failed self.new }
-        ensures shape { (block_len self.new ≡ block_len self.old) × (size self.new ≡ size self.old) };
+        ensures call { IsCall block_len size is_sound failed (stops self.old self.new) self.old result self.new };
 
     /// Discards a block: its bytes are zeroes from then on. After an `Err` the block is as before,
     /// or discarded.
@@ -81,11 +72,6 @@ pub trait BlockDevice {
             → holds self.new (written bytes (block_len self.old * block) (zeroes (block_len self.old)))) }
         ensures err { OnErr result ((bytes : List ℕ) → holds self.old bytes
             → holds self.new bytes ⊎ holds self.new (written bytes (block_len self.old * block) (zeroes (block_len self.old)))) }
-        ensures sound { IsErrOf result DiskFault.Failed → is_sound self.old → ⊥ }
-        ensures failing { IsErrOf result DiskFault.Failed → failed self.new }
-        ensures stopped { IsErrOf result DiskFault.Stopped → stops self.old self.new }
-        ensures keeps { is_sound self.old → is_sound self.new }
         ensures refused { OnOk result (failed self.old → ⊥) }
-        ensures lasting { failed self.old → failed self.new }
-        ensures shape { (block_len self.new ≡ block_len self.old) × (size self.new ≡ size self.old) };
+        ensures call { IsCall block_len size is_sound failed (stops self.old self.new) self.old result self.new };
 }

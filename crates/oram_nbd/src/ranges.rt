@@ -1,7 +1,8 @@
 //! Carries out byte ranges by calls of whole blocks.
 
-ghost use Rattle.std.specs.Prelude.{◌≡◌, ◌⊎◌, ℕ, List, ◌+◌, ◌-◌, ◌*◌, ◌<◌, ◌≤◌, ◌++◌, length, take, IfOk, OnOk, OnErr, IsErrOf};
+ghost use Rattle.std.specs.Prelude.{◌≡◌, ◌⊎◌, ℕ, List, ◌+◌, ◌-◌, ◌*◌, ◌<◌, ◌≤◌, ◌++◌, length, take, IfOk, OnOk, OnErr};
 ghost use Rattle.oram_nbd.specs.Bytes.{bytes_at, written, zeroes, IsBegun};
+ghost use Rattle.oram_nbd.specs.Calls.{IsCall};
 ghost use Rattle.oram_nbd.specs.Holding.{IsStopped, GoesOnHolding, StillHolds};
 
 use crate::disk::BlockDevice;
@@ -17,15 +18,18 @@ struct Part {
 }
 
 impl Part {
-    fn at(at: u64, most: u64, block_bytes: u32) -> Part
-        requires block { 0 < block_bytes }
+    /// Returns that part of the range of `most` bytes from a place on.
+    fn at<D: BlockDevice>(disk: &D, at: u64, most: u64) -> Part
+        requires within { at + most ≤ D.size disk.now }
         requires some { 0 < most }
-        ensures place { block_bytes * result.block + result.start ≡ at }
-        ensures fits { result.start + result.count ≤ block_bytes }
+        ensures place { D.block_len disk.now * result.block + result.start ≡ at }
+        ensures within { D.block_len disk.now * result.block + D.block_len disk.now ≤ D.size disk.now }
+        ensures fits { result.start + result.count ≤ D.block_len disk.now }
         ensures most { result.count ≤ most }
         ensures some { 0 < result.count }
     {
-        let len = u64::from(block_bytes);
+        let _blocks = disk.blocks();
+        let len = u64::from(disk.block_bytes());
         let start = at % len;
         let count = most.min(len - start);
         Part {
@@ -52,15 +56,9 @@ fn read_part<D: BlockDevice>(
     ensures len { IfOk result (λ n. length out.new.items ≡ length out.old.items + n) }
     ensures ok { IfOk result (λ n. (bytes : List ℕ) → D.holds disk.old bytes → out.new.items ≡ out.old.items ++ bytes_at bytes at n) }
     ensures same { StillHolds (D.holds disk.old) (D.holds disk.new) }
-    ensures sound { IsErrOf result DiskFault.Failed → D.is_sound disk.old → ⊥ }
-    ensures failing { IsErrOf result DiskFault.Failed → D.failed disk.new }
-    ensures stopped { IsErrOf result DiskFault.Stopped → IsStopped D.stops disk.new }
-    ensures keeps { D.is_sound disk.old → D.is_sound disk.new }
-    ensures lasting { D.failed disk.old → D.failed disk.new }
-    ensures shape { (D.block_len disk.new ≡ D.block_len disk.old) × (D.size disk.new ≡ D.size disk.old) }
+    ensures call { IsCall D.block_len D.size D.is_sound D.failed (IsStopped D.stops disk.new) disk.old result disk.new }
 {
-    let _blocks = disk.blocks();
-    let part = Part::at(at, most, disk.block_bytes());
+    let part = Part::at(disk, at, most);
     let block = disk.read(alloc, part.block)?;
     out.extend_from_slice(&block[part.start..part.start + part.count])?;
     Ok(part.count as u64)
@@ -77,12 +75,7 @@ pub fn read_range<D: BlockDevice>(
     ensures len { IfOk result (λ v. length v.items ≡ count) }
     ensures ok { IfOk result (λ v. (bytes : List ℕ) → D.holds disk.old bytes → v.items ≡ bytes_at bytes offset count) }
     ensures same { StillHolds (D.holds disk.old) (D.holds disk.new) }
-    ensures sound { IsErrOf result DiskFault.Failed → D.is_sound disk.old → ⊥ }
-    ensures failing { IsErrOf result DiskFault.Failed → D.failed disk.new }
-    ensures stopped { IsErrOf result DiskFault.Stopped → IsStopped D.stops disk.new }
-    ensures keeps { D.is_sound disk.old → D.is_sound disk.new }
-    ensures lasting { D.failed disk.old → D.failed disk.new }
-    ensures shape { (D.block_len disk.new ≡ D.block_len disk.old) × (D.size disk.new ≡ D.size disk.old) }
+    ensures call { IsCall D.block_len D.size D.is_sound D.failed (IsStopped D.stops disk.new) disk.old result disk.new }
 {
     let _blocks = disk.blocks();
     let mut out = Vec::with_capacity(alloc, count as usize)?;
@@ -120,12 +113,7 @@ fn write_in_block<D: BlockDevice>(
         → D.holds disk.new (written bytes (D.block_len disk.old * block + start) payload.now)) }
     ensures err { OnErr result ((bytes : List ℕ) → D.holds disk.old bytes
         → D.holds disk.new bytes ⊎ D.holds disk.new (written bytes (D.block_len disk.old * block + start) payload.now)) }
-    ensures sound { IsErrOf result DiskFault.Failed → D.is_sound disk.old → ⊥ }
-    ensures failing { IsErrOf result DiskFault.Failed → D.failed disk.new }
-    ensures stopped { IsErrOf result DiskFault.Stopped → IsStopped D.stops disk.new }
-    ensures keeps { D.is_sound disk.old → D.is_sound disk.new }
-    ensures lasting { D.failed disk.old → D.failed disk.new }
-    ensures shape { (D.block_len disk.new ≡ D.block_len disk.old) × (D.size disk.new ≡ D.size disk.old) }
+    ensures call { IsCall D.block_len D.size D.is_sound D.failed (IsStopped D.stops disk.new) disk.old result disk.new }
 {
     let _blocks = disk.blocks();
     if payload.len() == disk.block_bytes() as usize {
@@ -149,15 +137,9 @@ fn write_part<D: BlockDevice>(
     ensures most { IfOk result (λ n. n ≤ length payload.now) }
     ensures ok { IfOk result (λ n. (bytes : List ℕ) → D.holds disk.old bytes → D.holds disk.new (written bytes at (take n payload.now))) }
     ensures err { OnErr result (GoesOnHolding (D.holds disk.old) (λ old new. IsBegun old at payload.now new) (D.holds disk.new)) }
-    ensures sound { IsErrOf result DiskFault.Failed → D.is_sound disk.old → ⊥ }
-    ensures failing { IsErrOf result DiskFault.Failed → D.failed disk.new }
-    ensures stopped { IsErrOf result DiskFault.Stopped → IsStopped D.stops disk.new }
-    ensures keeps { D.is_sound disk.old → D.is_sound disk.new }
-    ensures lasting { D.failed disk.old → D.failed disk.new }
-    ensures shape { (D.block_len disk.new ≡ D.block_len disk.old) × (D.size disk.new ≡ D.size disk.old) }
+    ensures call { IsCall D.block_len D.size D.is_sound D.failed (IsStopped D.stops disk.new) disk.old result disk.new }
 {
-    let _blocks = disk.blocks();
-    let part = Part::at(at, payload.len() as u64, disk.block_bytes());
+    let part = Part::at(disk, at, payload.len() as u64);
     write_in_block(alloc, disk, part.block, part.start, &payload[..part.count])?;
     Ok(part.count)
 }
@@ -173,12 +155,7 @@ pub fn write_range<D: BlockDevice>(
     ensures ok { OnOk result ((bytes : List ℕ) → D.holds disk.old bytes → D.holds disk.new (written bytes offset payload.now)) }
     // On an error, a beginning of the payload may be written.
     ensures err { OnErr result (GoesOnHolding (D.holds disk.old) (λ old new. IsBegun old offset payload.now new) (D.holds disk.new)) }
-    ensures sound { IsErrOf result DiskFault.Failed → D.is_sound disk.old → ⊥ }
-    ensures failing { IsErrOf result DiskFault.Failed → D.failed disk.new }
-    ensures stopped { IsErrOf result DiskFault.Stopped → IsStopped D.stops disk.new }
-    ensures keeps { D.is_sound disk.old → D.is_sound disk.new }
-    ensures lasting { D.failed disk.old → D.failed disk.new }
-    ensures shape { (D.block_len disk.new ≡ D.block_len disk.old) × (D.size disk.new ≡ D.size disk.old) }
+    ensures call { IsCall D.block_len D.size D.is_sound D.failed (IsStopped D.stops disk.new) disk.old result disk.new }
 {
     let _blocks = disk.blocks();
     let mut done = 0;
@@ -202,17 +179,10 @@ fn zero_part<D: BlockDevice>(
     ensures most { IfOk result (λ n. n ≤ most) }
     ensures ok { IfOk result (λ n. (bytes : List ℕ) → D.holds disk.old bytes → D.holds disk.new (written bytes at (zeroes n))) }
     ensures err { OnErr result (GoesOnHolding (D.holds disk.old) (λ old new. IsBegun old at (zeroes most) new) (D.holds disk.new)) }
-    ensures sound { IsErrOf result DiskFault.Failed → D.is_sound disk.old → ⊥ }
-    ensures failing { IsErrOf result DiskFault.Failed → D.failed disk.new }
-    ensures stopped { IsErrOf result DiskFault.Stopped → IsStopped D.stops disk.new }
-    ensures keeps { D.is_sound disk.old → D.is_sound disk.new }
-    ensures lasting { D.failed disk.old → D.failed disk.new }
-    ensures shape { (D.block_len disk.new ≡ D.block_len disk.old) × (D.size disk.new ≡ D.size disk.old) }
+    ensures call { IsCall D.block_len D.size D.is_sound D.failed (IsStopped D.stops disk.new) disk.old result disk.new }
 {
-    let _blocks = disk.blocks();
-    let block_bytes = disk.block_bytes();
-    let part = Part::at(at, most, block_bytes);
-    if part.count == block_bytes as usize {
+    let part = Part::at(disk, at, most);
+    if part.count == disk.block_bytes() as usize {
         disk.discard(alloc, part.block)?;
     } else {
         let none = vec![in alloc; 0u8; part.count]?;
@@ -231,12 +201,7 @@ pub fn zero_range<D: BlockDevice>(
     requires { offset + count ≤ D.size disk.old }
     ensures ok { OnOk result ((bytes : List ℕ) → D.holds disk.old bytes → D.holds disk.new (written bytes offset (zeroes count))) }
     ensures err { OnErr result (GoesOnHolding (D.holds disk.old) (λ old new. IsBegun old offset (zeroes count) new) (D.holds disk.new)) }
-    ensures sound { IsErrOf result DiskFault.Failed → D.is_sound disk.old → ⊥ }
-    ensures failing { IsErrOf result DiskFault.Failed → D.failed disk.new }
-    ensures stopped { IsErrOf result DiskFault.Stopped → IsStopped D.stops disk.new }
-    ensures keeps { D.is_sound disk.old → D.is_sound disk.new }
-    ensures lasting { D.failed disk.old → D.failed disk.new }
-    ensures shape { (D.block_len disk.new ≡ D.block_len disk.old) × (D.size disk.new ≡ D.size disk.old) }
+    ensures call { IsCall D.block_len D.size D.is_sound D.failed (IsStopped D.stops disk.new) disk.old result disk.new }
 {
     let _blocks = disk.blocks();
     let mut done = 0;

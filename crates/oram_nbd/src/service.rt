@@ -1,6 +1,7 @@
 //! The answer to one request.
 
-ghost use Rattle.std.specs.Prelude.{◌≡◌, ℕ, List, ◌+◌, length, IfOk, IfSome, IfNone, OnOk, OnErr, IsErrOf, None, nat_le};
+ghost use Rattle.std.specs.Prelude.{◌≡◌, ℕ, List, ◌+◌, length, IfOk, IfSome, IfNone, OnOk, OnErr, None, nat_le};
+ghost use Rattle.oram_nbd.specs.Calls.{IsCall, Stays};
 ghost use Rattle.oram_nbd.specs.Holding.{IsStopped, GoesOnHolding};
 ghost use Rattle.oram_nbd.specs.Messages.{payload_len};
 ghost use Rattle.oram_nbd.specs.Serving.{after, given, given_len, refusal_of, IsAnswer, IsPartly, IsRefusal, IsReply};
@@ -61,12 +62,7 @@ fn carry_out<D: BlockDevice>(
         → D.holds disk.new (after request.now.command bytes request.now.offset request.now.length payload.now)) }
     ensures err { OnErr result (GoesOnHolding (D.holds disk.old)
         (λ old new. IsPartly request.now.command old request.now.offset request.now.length payload.now new) (D.holds disk.new)) }
-    ensures sound { IsErrOf result DiskFault.Failed → D.is_sound disk.old → ⊥ }
-    ensures failing { IsErrOf result DiskFault.Failed → D.failed disk.new }
-    ensures stopped { IsErrOf result DiskFault.Stopped → IsStopped D.stops disk.new }
-    ensures keeps { D.is_sound disk.old → D.is_sound disk.new }
-    ensures lasting { D.failed disk.old → D.failed disk.new }
-    ensures shape { (D.block_len disk.new ≡ D.block_len disk.old) × (D.size disk.new ≡ D.size disk.old) }
+    ensures call { IsCall D.block_len D.size D.is_sound D.failed (IsStopped D.stops disk.new) disk.old result disk.new }
 {
     let offset = request.offset;
     let length = request.length;
@@ -105,9 +101,7 @@ pub(crate) fn answer<D: BlockDevice>(
     ensures sound { IfSome result (λ reply. reply ≡ SimpleReply.Refused NbdError.Io → D.is_sound disk.old → ⊥) }
     ensures failing { IfSome result (λ reply. reply ≡ SimpleReply.Refused NbdError.Io → D.failed disk.new) }
     ensures refused { D.failed disk.old → IfSome result IsRefusal }
-    ensures keeps { D.is_sound disk.old → D.is_sound disk.new }
-    ensures lasting { D.failed disk.old → D.failed disk.new }
-    ensures shape { (D.block_len disk.new ≡ D.block_len disk.old) × (D.size disk.new ≡ D.size disk.old) }
+    ensures stays { Stays D.block_len D.size D.is_sound D.failed disk.old disk.new }
 {
     let size = u64::from(disk.block_bytes()) * disk.blocks();
     if let Some(error) = refusal(request, size) {

@@ -3,6 +3,7 @@
 ghost use Rattle.std.specs.Prelude.{◌≡◌, ℕ, List, length, IfOk, IfErr, OnOk, IfSome, MatchOption};
 ghost use Rattle.std.specs.Io.KnownBytes.{Appends, Consumes};
 ghost use Rattle.oram_wire.specs.Streaming.{GivesEnd};
+ghost use Rattle.oram_nbd.specs.Calls.{Stays};
 ghost use Rattle.oram_nbd.specs.Holding.{IsStopped};
 ghost use Rattle.oram_nbd.specs.Messages.{reply_text, request_text, IsRequest};
 ghost use Rattle.oram_nbd.specs.Streams.{ComesShort, IsBegunText, Misses};
@@ -94,9 +95,7 @@ pub fn transmit<R: Read, W: Write, D: BlockDevice>(
     ensures err { IfErr result (λ fault. StopsServing (D.is_sound disk.old) (D.failed disk.old) (D.size disk.old) (D.holds disk.old) (D.holds disk.new) fault
         (R.remaining reader.old) (R.remaining reader.new) (W.contents writer.old) (W.contents writer.new)) }
     ensures stopped { IfErr result (λ fault. fault ≡ NbdFault.Stopped → IsStopped D.stops disk.new) }
-    ensures keeps { D.is_sound disk.old → D.is_sound disk.new }
-    ensures lasting { D.failed disk.old → D.failed disk.new }
-    ensures shape { (D.block_len disk.new ≡ D.block_len disk.old) × (D.size disk.new ≡ D.size disk.old) }
+    ensures stays { Stays D.block_len D.size D.is_sound D.failed disk.old disk.new }
 {
     for served in 0..u64::MAX {
         let Some(request) = next_request(reader)? else {

@@ -11,6 +11,7 @@ use Rattle.oram_redo.specs.declared.file_pair.FileKind.{FileKind}
 use Rattle.oram_redo.specs.declared.file_pair.FileKind.TheVariants.{Records, Log}
 use Rattle.oram_redo.specs.declared.memory.Range.{Range}
 
+-- the contents of both files after bytes are put into one of them
 abbrev pub put_in : FileKind → ℕ → List ℕ → Contents → Contents
 put_in Records at bytes seen Records = put bytes at (seen Records)
 put_in Records at bytes seen Log = seen Log
@@ -22,6 +23,7 @@ abbrev pub seen_after : Contents → List Call → Contents
 seen_after first [] = first
 seen_after first (call ∷ calls) = if (call.kind == 1) && call.is_ok then put_in call.file call.at call.bytes (seen_after first calls) else seen_after first calls
 
+-- whether two kinds are one
 abbrev pub is_same : FileKind → FileKind → Bool
 is_same Records Records = true
 is_same Records Log = false

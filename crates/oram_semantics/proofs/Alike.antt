@@ -13,9 +13,9 @@ use Rattle.oram_semantics.specs.TwoWorlds.{LooksLike, LookAlike}
 use Rattle.oram_semantics.proofs.Counts.{header_is}
 
 -- one device, and sealers with the same overhead
-pub record AreOneShape (v u : Scheme) : Type 0 where
+pub record AreOneScheme (v u : Scheme) : Type 0 where
   pub device : u.device ≡ v.device
-  pub overhead : u.overhead ≡ v.overhead
+  pub overhead : u.cipher.overhead ≡ v.cipher.overhead
 
 body_len : (fetch : Bool) (i leaf n : ℕ) (records : List ℕ) → length records ≡ (if fetch then 0 else n)
     → length (if fetch then fetch_body i leaf else store_body i leaf records) ≡ 6 + (if fetch then 0 else n)
@@ -24,21 +24,21 @@ body_len false i leaf n records len = ap (λ (k : ℕ). suc (suc (suc (suc (suc 
 
 message_len : (v : Scheme) (e : Entry) (m : List ℕ) → IsMessage v e m → length m ≡ 6 + records_len v e
 message_len v e m is =
-    ap length is.body ∙ body_len e.fetch e.tree e.leaf ((depth_of v.device e.tree + 1) * record_len_of v.device v.overhead) is.records is.length_is
+    ap length is.body ∙ body_len e.fetch e.tree e.leaf ((depth_of v.device e.tree + 1) * record_len_of v.device v.cipher.overhead) is.records is.length_is
 
-records_same : (v u : Scheme) (e : Entry) → AreOneShape v u → records_len u e ≡ records_len v e
+records_same : (v u : Scheme) (e : Entry) → AreOneScheme v u → records_len u e ≡ records_len v e
 records_same v u e one =
-    ap (λ (d : Sizes). if e.fetch then 0 else (depth_of d e.tree + 1) * record_len_of d u.overhead) one.device
+    ap (λ (d : Sizes). if e.fetch then 0 else (depth_of d e.tree + 1) * record_len_of d u.cipher.overhead) one.device
     ∙ ap (λ (k : ℕ). if e.fetch then 0 else (depth_of v.device e.tree + 1) * record_len_of v.device k) one.overhead
 
-looks_like : (v u : Scheme) (e : Entry) (m n : List ℕ) → AreOneShape v u → IsMessage v e m → IsMessage u e n → LooksLike m n
+looks_like : (v u : Scheme) (e : Entry) (m n : List ℕ) → AreOneScheme v u → IsMessage v e m → IsMessage u e n → LooksLike m n
 looks_like v u e m n one is also = record {
   length_is = message_len v e m is ∙ ap (λ (k : ℕ). 6 + k) (sym (records_same v u e one)) ∙ sym (message_len u e n also);
   header = header_is v e m is ∙ sym (header_is u e n also);
 }
 
 -- the messages that ask for the entries from s on, n of them
-pub asks_alike : (v u : Setting) (past other : List Step) (s n : ℕ) (xs ys : List (List ℕ)) → AreOneShape v.scheme u.scheme
+pub asks_alike : (v u : Setting) (past other : List Step) (s n : ℕ) (xs ys : List (List ℕ)) → AreOneScheme v.scheme u.scheme
     → ((m : ℕ) → s ≤ m → m < s + n → entry_at v past m ≡ entry_at u other m)
     → AskFor v past (range_with_len s n) xs → AskFor u other (range_with_len s n) ys → LookAlike xs ys
 asks_alike v u past other s zero [] [] one same ask also = tt

@@ -84,7 +84,7 @@ each_part v j i n r tree bodies made is =
     let m = made.made in
     let k : ℕ = tree.number in
     subst (Each (LeavesAtMost v i n r)) (sym m.bodies_are) (
-      inl (written_shape v k (depth_of v.device k) (record_len_of v.device v.overhead) i n),
+      inl (written_shape v k (depth_of v.device k) (record_len_of v.device v.cipher.overhead) i n),
       each_put (LeavesAtMost v i n r) (λ q. put_body k q (m.records q)) (depth_of v.device k) (depth_small v.device k) (λ q small. put_leaves v k q i n m.records r small (λ e. is (sym made.number ∙ e))),
     )
 
@@ -149,7 +149,7 @@ formatted_holds v trees made i below =
     subst (λ (content : Map). Stands v.scheme i tree (records_of v [] i) content) (sym (empty_content v i)) (record {
       number = one.number;
       stored =
-          stored_with_over v.scheme.opening v.scheme.overhead v.scheme.device tree one.made.records (records_of v [] i) no_blocks
+          stored_with_over v.scheme.cipher.opening v.scheme.cipher.overhead v.scheme.device tree one.made.records (records_of v [] i) no_blocks
           (λ n small. sym (left_there v.scheme (trees_of v.scheme.device) trees v.format made i n below (subst (λ (k : ℕ). n < node_count (depth_of v.scheme.device k)) one.number small)))
           one.made.empty;
     })

@@ -25,13 +25,13 @@ use Rattle.oram_semantics.proofs.Replaced.{store_replaces, store_leaves}
 
 -- An access to tree i, on the path of a leaf as the records have it, has made these bytes of a STORE of that path.
 pub record IsMade (v : Scheme) (i leaf nonce : ℕ) (records : ℕ → List ℕ) (content : Map) (c : Cell) (before tree : Tree) (path : Path) (bytes : List ℕ) : Type 0 where
-  pub path_is : path ≡ path_of v.device i leaf v.overhead path.bytes
+  pub path_is : path ≡ path_of v.device i leaf v.cipher.overhead path.bytes
   pub leaf_small : leaf < 2 ^ 32
   pub number : tree.number ≡ i
   pub rewritten :
-      IsRewritten (Reads v.opening v.device i) v.sealing v.device nonce path before.stash (with_bytes path bytes) c tree.stash
+      IsRewritten (Reads v.cipher.opening v.device i) v.cipher.sealing v.device nonce path before.stash (with_bytes path bytes) c tree.stash
   pub updated : (new : ℕ → List ℕ) → IsReplaced path (with_bytes path bytes) records new
-      → IsStoredWith v.opening v.overhead v.device tree new (put content c.address (entry_of c))
+      → IsStoredWith v.cipher.opening v.cipher.overhead v.device tree new (put content c.address (entry_of c))
 
 module _ (v : Scheme) (records : ℕ → ℕ → List ℕ) (i leaf nonce : ℕ) (content : Map) (c : Cell) (before tree : Tree) (path : Path) (bytes : List ℕ) (made : IsMade v i leaf nonce (records i) content c before tree path bytes) where
   replaced : IsReplaced path (with_bytes path bytes) (records i) (records_after v records (store_body i leaf bytes ∷ []) i)
@@ -40,7 +40,7 @@ module _ (v : Scheme) (records : ℕ → ℕ → List ℕ) (i leaf nonce : ℕ) 
       (store_replaces v records i leaf path.bytes bytes made.leaf_small)
 
   stored :
-      IsStoredWith v.opening v.overhead v.device tree (records_after v records (store_body i leaf bytes ∷ []) i) (put content c.address (entry_of c))
+      IsStoredWith v.cipher.opening v.cipher.overhead v.device tree (records_after v records (store_body i leaf bytes ∷ []) i) (put content c.address (entry_of c))
   stored = made.updated _ replaced
 
   deep : path.depth ≡ depth_of v.device i
@@ -64,14 +64,14 @@ module _ (v : Scheme) (records : ℕ → ℕ → List ℕ) (i leaf nonce : ℕ) 
       IsPlaced v i leaf nonce (records_after v records (store_body i leaf bytes ∷ []) i) (put content c.address (entry_of c))
   store_places =
       let records' : ℕ → List ℕ = records_after v records (store_body i leaf bytes ∷ []) i in
-      let held : HasContent (Reads v.opening v.device tree.number) (depth_of v.device tree.number) records' tree.stash (put content c.address (entry_of c)) =
+      let held : HasContent (Reads v.cipher.opening v.device tree.number) (depth_of v.device tree.number) records' tree.stash (put content c.address (entry_of c)) =
       stored.holds in
       record {
         lists = made.rewritten.lists;
         rest = tree.stash;
-        holds = subst (λ (k : ℕ). HasContent (Reads v.opening v.device k) (depth_of v.device k) records' tree.stash (put content c.address (entry_of c))) made.number held;
+        holds = subst (λ (k : ℕ). HasContent (Reads v.cipher.opening v.device k) (depth_of v.device k) records' tree.stash (put content c.address (entry_of c))) made.number held;
         levels = made.rewritten.evicted.placement.levels ∙ ap (λ (k : ℕ). k + 1) deep;
-        reads = λ level below. subst (λ (part : List ℕ). Reads v.opening v.device i part (listed made.rewritten.lists level)) (part_is level below) (made.rewritten.read_back level (omega (arith, deep)));
+        reads = λ level below. subst (λ (part : List ℕ). Reads v.cipher.opening v.device i part (listed made.rewritten.lists level)) (part_is level below) (made.rewritten.read_back level (omega (arith, deep)));
         sealed = λ level below. sym (part_is level below) ∙ made.rewritten.sealed level (omega (arith, deep));
         greedy = subst (λ (p : Path). IsGreedy p.depth v.device.slots p.leaf made.rewritten.lists tree.stash) made.path_is made.rewritten.evicted.greedy;
       }

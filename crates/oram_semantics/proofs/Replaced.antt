@@ -79,14 +79,14 @@ replaced_by v records m p q store path deep leaf = record {
 }
 
 path_is : (v : Scheme) (i leaf : ℕ) (bytes : List ℕ) → leaf < 2 ^ 32
-    → stored_path v (store_body i leaf bytes) ≡ path_of v.device i leaf v.overhead bytes
-path_is v i leaf bytes small = ap (λ x. path_of v.device i x v.overhead bytes) (from_be_bytes-to_be_bytes_4 leaf small)
+    → stored_path v (store_body i leaf bytes) ≡ path_of v.device i leaf v.cipher.overhead bytes
+path_is v i leaf bytes small = ap (λ x. path_of v.device i x v.cipher.overhead bytes) (from_be_bytes-to_be_bytes_4 leaf small)
 
 -- A STORE of a leaf's path replaces the path's records in its tree,
 pub store_replaces : (v : Scheme) (records : ℕ → ℕ → List ℕ) (i leaf : ℕ) (old bytes : List ℕ) → leaf < 2 ^ 32 →
-    IsReplaced (path_of v.device i leaf v.overhead old) (path_of v.device i leaf v.overhead bytes) (records i) (records_after v records (store_body i leaf bytes ∷ []) i)
+    IsReplaced (path_of v.device i leaf v.cipher.overhead old) (path_of v.device i leaf v.cipher.overhead bytes) (records i) (records_after v records (store_body i leaf bytes ∷ []) i)
 store_replaces v records i leaf old bytes small =
-    replaced_by v records (store_body i leaf bytes) (path_of v.device i leaf v.overhead old) (path_of v.device i leaf v.overhead bytes) refl (path_is v i leaf bytes small) refl refl
+    replaced_by v records (store_body i leaf bytes) (path_of v.device i leaf v.cipher.overhead old) (path_of v.device i leaf v.cipher.overhead bytes) refl (path_is v i leaf bytes small) refl refl
 
 -- and leaves the other trees unchanged.
 pub store_leaves : (v : Scheme) (records : ℕ → ℕ → List ℕ) (i leaf k : ℕ) (bytes : List ℕ) → k ≢ i

@@ -12,6 +12,7 @@ use Rattle.oram_hash.specs.Path.{record_at}
 use Rattle.oram_semantics.specs.Scheme.{Scheme}
 use Rattle.oram_semantics.specs.Messages.{last_stored, written, level_on}
 use Rattle.std.specs.Str.{bytes_eq}
+use Rattle.oram_bucket.specs.Cipher.{plain_cipher}
 use Rattle.sha2.specs.Sha256.{sha256}
 use Rattle.oram_semantics.specs.Answers.{path_in, outcome_of, good_answer, first_other, pair_in}
 use Rattle.oram_semantics.specs.Answers.Outcome.{Good, NoRoom, Fails}
@@ -70,9 +71,7 @@ nonces = refl
 abbrev small : Scheme
 small = record {
   device = record { blocks = 2; block_bytes = 16; slots = 1; top = 2; lifetime = 10 };
-  overhead = 0;
-  sealing = λ nonce plain. plain;
-  opening = λ bytes. Some bytes;
+  cipher = plain_cipher;
 }
 
 abbrev filled : ℕ → List ℕ

@@ -15,7 +15,7 @@ use Rattle.oram_semantics.specs.declared.events.Note.{Note}
 use Rattle.oram_semantics.specs.declared.events.Submission.{Submission}
 use Rattle.oram_semantics.proofs.Counts.{accepted_cons, sent_cons}
 use Rattle.oram_semantics.proofs.FirstEntries.{AgreeBelow, entry_same, start_short, start_agrees}
-use Rattle.oram_semantics.proofs.Alike.{AreOneShape, asks_alike, newest_alike}
+use Rattle.oram_semantics.proofs.Alike.{AreOneScheme, asks_alike, newest_alike}
 use Rattle.oram_semantics.proofs.Rising.{takes, good_rises, brings, Adds, adds}
 
 one_more_by : (b : Bool) (xs ys : List Submission) → (more : List Submission) × ((if b then xs ++ ys else xs) ≡ xs ++ more)
@@ -83,7 +83,7 @@ tape_len-rises : (d : Sizes) (m n k : ℕ) → n ≤ k → m < tape_len d n → 
 tape_len-rises d m n k low below = grind arith
 
 -- an entry of one past is the same as that of the other
-entry_beside : (v u : Setting) (past other : List Step) (a b t q : List ℕ) (m : ℕ) → AreOneShape v.scheme u.scheme
+entry_beside : (v u : Setting) (past other : List Step) (a b t q : List ℕ) (m : ℕ) → AreOneScheme v.scheme u.scheme
     → AreMatched v.scheme.device a b t q → AreLevel v u past other → Begins a t (accepted past)
     → Begins b (rearranged_tape q t) (accepted other) → m < entries v past → entry_at v past m ≡ entry_at u other m
 entry_beside v u past other a b t q m one match level begun also below =
@@ -94,13 +94,13 @@ entry_beside v u past other a b t q m one match level begun also below =
     ∙ sym (entry_ahead d b (rearranged_tape q t) (accepted other) m also level.others near)
     ∙ ap (λ (e : Sizes). entry e (addresses (accepted other)) (tape (accepted other)) m) (sym one.device)
 
-sent_level : (v u : Setting) (past other : List Step) → AreOneShape v.scheme u.scheme → AreLevel v u past other
+sent_level : (v u : Setting) (past other : List Step) → AreOneScheme v.scheme u.scheme → AreLevel v u past other
     → entries_sent v past ≡ entries_sent u other
 sent_level v u past other one level =
     let trees : trees_of u.scheme.device ≡ trees_of v.scheme.device = ap trees_of one.device in
     rw (level.good, level.count, trees) refl
 
-sends_by : (v u : Setting) (past other : List Step) (s r : Step) (b : Bool) → AreOneShape v.scheme u.scheme
+sends_by : (v u : Setting) (past other : List Step) (s r : Step) (b : Bool) → AreOneScheme v.scheme u.scheme
     → AreLevel v u past other → AreLevel v u (s ∷ past) (r ∷ other) → LookAlike (take 1 (sent past)) (take 1 (sent other))
     → ((m : ℕ) → m < entries v (s ∷ past) → entry_at v (s ∷ past) m ≡ entry_at u (r ∷ other) m)
     → SendsRight v past s b → SendsRight u other r b → LookAlike s.sends r.sends
@@ -131,7 +131,7 @@ tape_more v past step n whole more =
     ∙ sym (ap (tape_len d) (count_more v past step n more) ∙ omega arith)
 
 -- after right steps with the same note, two pasts have again come equally far
-level_on : (v u : Setting) (past other : List Step) (event beside : Event) (x y : Shown) → AreOneShape v.scheme u.scheme
+level_on : (v u : Setting) (past other : List Step) (event beside : Event) (x y : Shown) → AreOneScheme v.scheme u.scheme
     → AreLevel v u past other → IsRight v past event x → IsRight u other beside y → x.note ≡ y.note
     → AreLevel v u (step_of event x ∷ past) (step_of beside y ∷ other)
 level_on v u past other event beside x y one level right also note =
@@ -149,7 +149,7 @@ level_on v u past other event beside x y one level right also note =
     }
 
 along : (v u : Setting) (past other : List Step) (events others : List Event) (xs ys : List Shown) (a b t q : List ℕ)
-    → AreOneShape v.scheme u.scheme → AreMatched v.scheme.device a b t q → AreLevel v u past other
+    → AreOneScheme v.scheme u.scheme → AreMatched v.scheme.device a b t q → AreLevel v u past other
     → LookAlike (take 1 (sent past)) (take 1 (sent other)) → AreFirstOf a t (past_of past events xs)
     → AreFirstOf b (rearranged_tape q t) (past_of other others ys) → map (λ (x : Shown). x.note) xs ≡ map (λ (y : Shown). y.note) ys
     → AllRight v past events xs → AllRight u other others ys → RunsLookAlike v u past other events others xs ys

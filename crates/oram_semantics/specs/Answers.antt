@@ -1,5 +1,5 @@
 -- What the host's answer to a message means, given the records last stored at the host, by tree and node.
-use Rattle.std.specs.Prelude.{ℕ, ◌+◌, ◌*◌, ◌==◌, ◌&&◌, not, Bool, false, if◌then◌else◌, List, [], ◌∷◌, length, drop, slice_index, Option, Some, None, Result, Ok, Err, find, nat_le}
+use Rattle.std.specs.Prelude.{ℕ, ◌+◌, ◌*◌, ◌==◌, ◌&&◌, not, Bool, false, if◌then◌else◌, List, [], length, drop, slice_index, Option, Some, None, Result, Ok, Err, find, nat_le}
 use Rattle.std.specs.List.{flat_map}
 use Rattle.std.specs.Option.{option_map_or}
 use Rattle.std.specs.Str.{bytes_eq}
@@ -14,6 +14,7 @@ use Rattle.oram_semantics.specs.Scheme.{Scheme, record_len}
 use Rattle.oram_semantics.specs.Messages.{levels}
 use Rattle.oram_semantics.specs.declared.events.Reason.{Reason}
 use Rattle.oram_semantics.specs.declared.events.Reason.TheVariants.{Malformed, Tampered, HostRefused}
+use Rattle.oram_wire.specs.HostMessages.{no_room_answer, payload_answer}
 
 -- the records on the path of a leaf of tree i, root first
 unfoldable pub path_in : Scheme → (ℕ → ℕ → List ℕ) → ℕ → ℕ → List ℕ
@@ -21,7 +22,7 @@ path_in v records i leaf = flat_map (λ level. records i (node_on (depth_of v.de
 
 -- the good answer to an entry: byte 80, and to a fetch the records of its path
 unfoldable pub good_answer : Scheme → (ℕ → ℕ → List ℕ) → Entry → List ℕ
-good_answer v records e = 128 ∷ (if e.fetch then path_in v records e.tree e.leaf else [])
+good_answer v records e = payload_answer (if e.fetch then path_in v records e.tree e.leaf else [])
 
 -- the answer to a FETCH is byte 80 and as many bytes as the path has
 abbrev pub is_payload : Scheme → Entry → List ℕ → Bool
@@ -30,7 +31,7 @@ is_payload v e bytes =
 
 -- the path whose records such an answer gives
 abbrev pub answered_path : Scheme → Entry → List ℕ → Path
-answered_path v e bytes = path_of v.device e.tree e.leaf v.overhead (drop 1 bytes)
+answered_path v e bytes = path_of v.device e.tree e.leaf v.cipher.overhead (drop 1 bytes)
 
 -- whether the record at this level of a path is the one last stored there
 abbrev pub is_last_stored : (ℕ → List ℕ) → Path → ℕ → Bool
@@ -65,7 +66,7 @@ pub data Outcome : Type 0 where
 unfoldable pub outcome_of : Scheme → (ℕ → ℕ → List ℕ) → Entry → List ℕ → Outcome
 outcome_of v records e bytes =
     if bytes_eq bytes (good_answer v records e) then Good
-    else if bytes_eq bytes (129 ∷ 8 ∷ []) then NoRoom
+    else if bytes_eq bytes no_room_answer then NoRoom
     else Fails (reason_for v records e bytes)
 
 -- what byte 80 and the records of a path mean as the answer to a FETCH in tree i, given the result of checking the

@@ -12,11 +12,13 @@ use Rattle.oram_semantics.specs.declared.events.Refusal.TheVariants.{BadAddress,
 use Rattle.oram_semantics.specs.declared.events.Reply.{Reply}
 use Rattle.oram_semantics.specs.declared.events.Submission.{Submission}
 
+-- the block that a command asks for
 abbrev pub address_of : Command → ℕ
 address_of (Read a) = a
 address_of (Write a bytes) = a
 address_of (Discard a) = a
 
+-- the number by which programs and sessions name a refusal
 abbrev pub refusal_number : Refusal → ℕ
 refusal_number BadAddress = 1
 refusal_number BadLength = 2

@@ -12,7 +12,7 @@ use Rattle.oram_semantics.specs.State.{no_tree}
 -- the bodies make tree i; their nonces follow those of the trees before it
 pub record IsTreeMade (v : Scheme) (i : ℕ) (tree : Tree) (bodies : List (List ℕ)) : Type 0 where
   pub number : tree.number ≡ i
-  pub made : IsFormat v.opening v.sealing v.overhead v.device (formatted_below v.device i) tree bodies
+  pub made : IsFormat v.cipher v.device (formatted_below v.device i) tree bodies
 
 -- the messages make the trees before tree n, one after the other
 pub record AreTreesMade (v : Scheme) (n : ℕ) (trees : List Tree) (messages : List (List ℕ)) : Type 0 where

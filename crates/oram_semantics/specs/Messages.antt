@@ -47,7 +47,7 @@ is_put m = slice_index m 0 == 3
 
 -- the path that a STORE writes
 abbrev pub stored_path : Scheme → List ℕ → Path
-stored_path v m = path_of v.device (message_tree m) (message_place m) v.overhead (drop 6 m)
+stored_path v m = path_of v.device (message_tree m) (message_place m) v.cipher.overhead (drop 6 m)
 
 -- the levels of a tree of this depth
 abbrev pub levels : ℕ → List ℕ

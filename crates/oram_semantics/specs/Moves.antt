@@ -134,10 +134,12 @@ resends s w = record { note = Resent; replies = []; ask = Again; state = record 
 abbrev pub fails : State → World → Reason → Moved
 fails s w e = record { note = FailedNow e; replies = map failed_reply s.queue; ask = Nothing; state = failed_state s.next s.nonce e; content = w.content }
 
+-- the effect of a submission, by why it is refused, if it is
 abbrev pub on_submission : Scheme → State → World → Submission → Option Refusal → Moved
 on_submission v s w x (Some e) = stays s w (Refused e)
 on_submission v s w x None = accepts v s w x
 
+-- the effect of an answer, by the core's status and what the answer means
 abbrev pub on_answer : Scheme → State → World → Status → Outcome → Moved
 on_answer v s w Waiting Good = goes_on v s w s.queue
 on_answer v s w Waiting NoRoom = stalls s w
@@ -146,12 +148,14 @@ on_answer v s w Idle o = stays s w Unexpected
 on_answer v s w Stalling o = stays s w Unexpected
 on_answer v s w Over o = stays s w Unexpected
 
+-- the effect of a lost message, by the core's status
 abbrev pub on_loss : State → World → Status → Moved
 on_loss s w Waiting = stalls s w
 on_loss s w Idle = stays s w Unexpected
 on_loss s w Stalling = stays s w Unexpected
 on_loss s w Over = stays s w Unexpected
 
+-- the effect of a retry, by the core's status
 abbrev pub on_retry : State → World → Status → Moved
 on_retry s w Stalling = resends s w
 on_retry s w Idle = stays s w Unexpected
@@ -193,6 +197,7 @@ records_next v records (For e) sends = records_after v records sends
 abbrev pub world_after : Scheme → World → Moved → List (List ℕ) → World
 world_after v w m sends = record { records = records_next v w.records m.ask sends; content = m.content }
 
+-- whether a message is a new one, and not sent again
 abbrev pub is_new : Ask → Bool
 is_new (For e) = true
 is_new Nothing = false

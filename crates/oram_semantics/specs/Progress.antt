@@ -13,7 +13,7 @@ use Rattle.oram_semantics.specs.declared.events.Event.TheVariants.{Submit, Answe
 use Rattle.oram_semantics.specs.declared.events.Reason.{Reason}
 use Rattle.oram_semantics.specs.declared.events.Submission.{Submission}
 
--- the values that are fixed for a run: the shape, and the messages of the formatting, the oldest first
+-- the values that are fixed for a run: the scheme, and the messages of the formatting, the oldest first
 pub record Setting : Type 0 where
   pub scheme : Scheme
   pub format : List (List ℕ)
@@ -70,6 +70,7 @@ entry_at v past m = entry v.scheme.device (addresses (accepted past)) (tape (acc
 unfoldable pub status_from : ℕ → Progress → Status
 status_from all p = elim p.failure [ Some e ↦ Over | None ↦ if p.good == all then Idle else if p.lost then Stalling else Waiting ]
 
+-- the progress after an answer, by the status before it and what the answer means
 abbrev pub answered : Progress → Status → Outcome → Progress
 answered p Waiting Good = record { good = p.good + 1; lost = false; failure = None }
 answered p Waiting NoRoom = record { good = p.good; lost = true; failure = None }
@@ -78,12 +79,14 @@ answered p Idle o = p
 answered p Stalling o = p
 answered p Over o = p
 
+-- the progress after a lost message, by the status before it
 abbrev pub after_loss : Progress → Status → Progress
 after_loss p Waiting = record { good = p.good; lost = true; failure = None }
 after_loss p Idle = p
 after_loss p Stalling = p
 after_loss p Over = p
 
+-- the progress after a retry, by the status before it
 abbrev pub after_retry : Progress → Status → Progress
 after_retry p Stalling = record { good = p.good; lost = false; failure = None }
 after_retry p Idle = p

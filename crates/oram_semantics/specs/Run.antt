@@ -24,6 +24,7 @@ use Rattle.oram_semantics.specs.declared.events.Note.TheVariants.{Accepted, Refu
 use Rattle.oram_semantics.specs.declared.events.Reply.{Reply}
 use Rattle.oram_semantics.specs.declared.events.Reaction.{Reaction}
 
+-- whether a command's data isn't as long as a block
 abbrev pub has_bad_length : Sizes → Command → Bool
 has_bad_length d (Read a) = false
 has_bad_length d (Write a bytes) = not (length bytes == d.block_bytes)
@@ -44,6 +45,7 @@ abbrev pub submit_note : ℕ → Option Refusal → Note
 submit_note ticket None = Accepted ticket
 submit_note ticket (Some e) = Refused e
 
+-- the note on an answer, by the status before it and what the answer means
 abbrev pub answer_note : Status → Outcome → Note
 answer_note Waiting Good = Taken
 answer_note Waiting NoRoom = Stalled
@@ -52,24 +54,28 @@ answer_note Idle o = Unexpected
 answer_note Stalling o = Unexpected
 answer_note Over o = Unexpected
 
+-- the note on a lost message, by the status before it
 abbrev pub loss_note : Status → Note
 loss_note Waiting = Stalled
 loss_note Idle = Unexpected
 loss_note Stalling = Unexpected
 loss_note Over = Unexpected
 
+-- the note on a retry, by the status before it
 abbrev pub retry_note : Status → Note
 retry_note Stalling = Resent
 retry_note Idle = Unexpected
 retry_note Waiting = Unexpected
 retry_note Over = Unexpected
 
+-- whether the device has failed
 abbrev pub is_over : Status → Bool
 is_over Over = true
 is_over Idle = false
 is_over Waiting = false
 is_over Stalling = false
 
+-- whether the core waits for an answer
 abbrev pub is_waiting : Status → Bool
 is_waiting Waiting = true
 is_waiting Idle = false
@@ -98,6 +104,7 @@ note_of v past Lost = loss_note (status v past)
 note_of v past Reopen = loss_note (status v past)
 note_of v past Retry = retry_note (status v past)
 
+-- whether the note says that a submission was accepted
 abbrev pub is_accepted : Note → Bool
 is_accepted (Accepted t) = true
 is_accepted (Refused e) = false
@@ -107,6 +114,7 @@ is_accepted (FailedNow e) = false
 is_accepted Resent = false
 is_accepted Unexpected = false
 
+-- whether the note says that the device fails with this event
 abbrev pub fails_now : Note → Bool
 fails_now (FailedNow e) = true
 fails_now (Accepted t) = false
@@ -116,6 +124,7 @@ fails_now Stalled = false
 fails_now Resent = false
 fails_now Unexpected = false
 
+-- whether the note says that the outstanding message was sent again
 abbrev pub is_resent : Note → Bool
 is_resent Resent = true
 is_resent (Accepted t) = false

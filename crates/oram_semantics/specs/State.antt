@@ -43,6 +43,7 @@ no_tree = record { number = 0; root = []; stash = [] }
 abbrev pub AllStand : Scheme → State → World → Type 0
 AllStand v s w = (i : ℕ) → i < trees_of v.device → Stands v i (slice_index_or s.trees i no_tree) (w.records i) (w.content i)
 
+-- the status, by the reason of a failure, the commands that wait, and whether the outstanding message is lost
 abbrev pub status_by : Option Reason → List Submission → Bool → Status
 status_by (Some e) queue lost = Over
 status_by None [] lost = Idle

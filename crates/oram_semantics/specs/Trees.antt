@@ -15,7 +15,7 @@ use Rattle.oram_semantics.specs.Scheme.{Scheme}
 -- hold this map.
 pub record Stands (v : Scheme) (i : ℕ) (tree : Tree) (records : ℕ → List ℕ) (content : Map) : Type 0 where
   pub number : tree.number ≡ i
-  pub stored : IsStoredWith v.opening v.overhead v.device tree records content
+  pub stored : IsStoredWith v.cipher.opening v.cipher.overhead v.device tree records content
 
 -- the sealed bucket at a level of a leaf's path
 abbrev pub part_on : Scheme → ℕ → ℕ → (ℕ → List ℕ) → ℕ → List ℕ
@@ -27,10 +27,10 @@ part_on v i leaf records level = sealed_part (records (node_on (depth_of v.devic
 pub record IsPlaced (v : Scheme) (i leaf nonce : ℕ) (records : ℕ → List ℕ) (content : Map) : Type 0 where
   pub lists : List (List Cell)
   pub rest : List Cell
-  pub holds : HasContent (Reads v.opening v.device i) (depth_of v.device i) records rest content
+  pub holds : HasContent (Reads v.cipher.opening v.device i) (depth_of v.device i) records rest content
   pub levels : length lists ≡ depth_of v.device i + 1
   pub reads : (level : ℕ) → level ≤ depth_of v.device i
-      → Reads v.opening v.device i (part_on v i leaf records level) (listed lists level)
+      → Reads v.cipher.opening v.device i (part_on v i leaf records level) (listed lists level)
   pub sealed : (level : ℕ) → level ≤ depth_of v.device i
-      → part_on v i leaf records level ≡ v.sealing (nonce + level) (spelling v.device (listed lists level))
+      → part_on v i leaf records level ≡ v.cipher.sealing (nonce + level) (spelling v.device (listed lists level))
   pub greedy : IsGreedy (depth_of v.device i) v.device.slots leaf lists rest

@@ -36,7 +36,7 @@ pub record AreFirstOf (all words : List ℕ) (past : List Step) : Type 0 where
 -- paths of a.
 pub record AreTwoWorlds (v u : Setting) (events others : List Event) (xs ys : List Shown) (a b t q : List ℕ) : Type 0 where
   pub device : u.scheme.device ≡ v.scheme.device
-  pub overhead : u.scheme.overhead ≡ v.scheme.overhead
+  pub overhead : u.scheme.cipher.overhead ≡ v.scheme.cipher.overhead
   pub notes : map (λ x. x.note) xs ≡ map (λ y. y.note) ys
   pub words : length t ≡ tape_len v.scheme.device (length a)
   pub alike : ShowsAlike v.scheme.device a b q

@@ -23,7 +23,7 @@ module _ (v : Scheme) {L : Type 0} (calls : L → List ℕ → Outcome → L →
       (k : Served p r w n q r' w') → Consumes r' r'' part → Appends w' w'' more → HasServed v calls words session p k.all q part r r'' more w w''
   served_then = answered_then {P = State × L} (IsTurn v calls words session) (λ x. x.body) reply_body
 
--- under another shape and another tape that are equal to these
+-- under another scheme and another tape that are equal to these
 pub under : (P : Scheme → (ℕ → ℕ → List ℕ) → Type 0) (v v' : Scheme) (w w' : ℕ → ℕ → List ℕ) → v' ≡ v → w' ≡ w → P v' w' → P v w
 under P v v' w w' e f h = subst (λ (u : Scheme). P u w) e (subst (λ (f : ℕ → ℕ → List ℕ). P v' f) f h)
 

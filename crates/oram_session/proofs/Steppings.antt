@@ -3,6 +3,7 @@ use Rattle.std.proofs.Common.{◌≡◌, ◌≢◌, ℕ, zero, suc, ◌+◌, ◌
 use Rattle.std.specs.Str.{bytes_eq}
 use Rattle.oram_geometry.specs.declared.Sizes.{Sizes}
 use Rattle.oram_geometry.specs.Sizes.{trees_of}
+use Rattle.oram_bucket.specs.Cipher.{Cipher}
 use Rattle.oram_semantics.specs.Progress.Status.{Waiting, Stalling}
 use Rattle.oram_semantics.specs.Run.{Shown, refusal_of, is_over}
 use Rattle.oram_semantics.specs.Scheme.{Scheme}
@@ -22,16 +23,16 @@ use Rattle.oram_session.specs.Exchanges.{event_of, is_stall}
 use Rattle.oram_session.specs.Outcome.{Outcome}
 use Rattle.oram_session.specs.Settled.{is_settled_by, IsSettled, outstanding, IsBegun, answers_left}
 
--- a core that keeps its device and sealer keeps its shape
-pub same_shape : {S : Type 0} (overhead : S → ℕ) (sealing : S → ℕ → List ℕ → List ℕ) (opening : S → List ℕ → Option (List ℕ)) (c d : CoreValue S) →
-    IsSameDevice c d → scheme_of overhead sealing opening d ≡ scheme_of overhead sealing opening c
-same_shape {S} overhead sealing opening c d h =
-    ap (λ (x : Sizes). scheme_with overhead sealing opening x d.sealer) h.0 ∙ ap (λ (x : S). scheme_with overhead sealing opening c.device x) h.1
+-- a core that keeps its device and sealer keeps its scheme
+pub same_scheme : {S : Type 0} (cipher : S → Cipher) (c d : CoreValue S) →
+    IsSameDevice c d → scheme_of cipher d ≡ scheme_of cipher c
+same_scheme {S} cipher c d h =
+    ap (λ (x : Sizes). scheme_with cipher x d.sealer) h.0 ∙ ap (λ (x : S). scheme_with cipher c.device x) h.1
 
 -- so its steps are those of the core before
-pub steps_under : {S : Type 0} (overhead : S → ℕ) (sealing : S → ℕ → List ℕ → List ℕ) (opening : S → List ℕ → Option (List ℕ)) (c d : CoreValue S) →
-    IsSameDevice c d → (s : State) (e : Event) (x : Shown) (t : State) → Steps (scheme_of overhead sealing opening d) s e x t → Steps (scheme_of overhead sealing opening c) s e x t
-steps_under overhead sealing opening c d h s e x t step = subst (λ (v : Scheme). Steps v s e x t) (same_shape overhead sealing opening c d h) step
+pub steps_under : {S : Type 0} (cipher : S → Cipher) (c d : CoreValue S) →
+    IsSameDevice c d → (s : State) (e : Event) (x : Shown) (t : State) → Steps (scheme_of cipher d) s e x t → Steps (scheme_of cipher c) s e x t
+steps_under cipher c d h s e x t step = subst (λ (v : Scheme). Steps v s e x t) (same_scheme cipher c d h) step
 
 pub same_trans : {S : Type 0} (a b c : CoreValue S) → IsSameDevice a b → IsSameDevice b c → IsSameDevice a c
 same_trans a b c h k = (k.0 ∙ h.0, k.1 ∙ h.1)
@@ -140,14 +141,14 @@ calm_by d o s alive none sound =
     let rests : IsResting s = subst (AtWork d o s) none healthy.work in
     rests.lost
 
-begun_at : (v : Scheme) (s : State) (x : Submission) (o : Option Refusal) → IsSound v.device v.overhead s → IsSettled s → (o ≡ None → is_over (status_in s) ≡ false) →
+begun_at : (v : Scheme) (s : State) (x : Submission) (o : Option Refusal) → IsSound v.device v.cipher.overhead s → IsSettled s → (o ≡ None → is_over (status_in s) ≡ false) →
     IsBegun s (submitted_by v s x o).note (submitted_by v s x o)
 begun_at v s x (Some e) sound settled going = refl
 begun_at v s x None sound settled going =
     let k = settled_idle s.failure s.queue s.lost settled (going refl) in
-    rw (k.0, k.1, calm_by v.device v.overhead s k.0 k.1 sound) (record { waits = refl; sends = refl; none = refl }, refl)
+    rw (k.0, k.1, calm_by v.device v.cipher.overhead s k.0 k.1 sound) (record { waits = refl; sends = refl; none = refl }, refl)
 
-pub begun_is : (v : Scheme) (s t : State) (session : ℕ) (c : Command) (words : List ℕ) (x : Shown) → IsSound v.device v.overhead s → IsSettled s → Steps v s (Submit session c words) x t → IsBegun s x.note (did x t)
+pub begun_is : (v : Scheme) (s t : State) (session : ℕ) (c : Command) (words : List ℕ) (x : Shown) → IsSound v.device v.cipher.overhead s → IsSettled s → Steps v s (Submit session c words) x t → IsBegun s x.note (did x t)
 begun_is v s t session c words x sound settled h =
     let sub : Submission = record { session = session; ticket = s.next; command = c; words = words } in
     let why = refusal_of v.device (is_over (status_in s)) (length s.queue) s.next c words in

@@ -11,6 +11,7 @@ use Rattle.oram_semantics.specs.declared.events.Reply.{Reply}
 use Rattle.oram_core.specs.Steps.{Steps}
 use Rattle.oram_session.specs.Outcome.{Outcome}
 use Rattle.oram_session.specs.Settled.{outstanding}
+use Rattle.oram_wire.specs.HostMessages.{no_room_answer}
 
 -- the event that a call's outcome gives to the core
 abbrev pub event_of : Outcome → Event
@@ -19,7 +20,7 @@ event_of (Err fault) = Lost
 
 -- the call stalls: it gives no answer, or the host has no room
 abbrev pub is_stall : Outcome → Bool
-is_stall (Ok bytes) = bytes_eq bytes (129 ∷ 8 ∷ [])
+is_stall (Ok bytes) = bytes_eq bytes no_room_answer
 is_stall (Err fault) = true
 
 -- the events lead the core from state s to state t, and these are all its replies

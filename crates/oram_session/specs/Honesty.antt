@@ -88,7 +88,7 @@ HasFailed s = (reason : Reason) × (s.failure ≡ Some reason)
 -- of zeros.
 abbrev pub NewDevicesHoldZeros : {L : Type 0} → (L → List ℕ → Outcome → L → Type 0) → Type 0
 NewDevicesHoldZeros {L} calls = (host_of : L → Host) → IsHonestLink calls host_of
-    → (v : Scheme) (from to : L) (s : State) → v.overhead ≤ 64 → host_of from ≡ [] → IsNew v (TakesMessage calls) from s to
+    → (v : Scheme) (from to : L) (s : State) → v.cipher.overhead ≤ 64 → host_of from ≡ [] → IsNew v (TakesMessage calls) from s to
     → IsHeld v host_of (s, to) (λ a. replicate v.device.block_bytes 0)
 
 -- Over an honest link each turn is one of the array, and afterwards the device is held between requests again.

@@ -65,11 +65,11 @@ pub fn format_device<S: Sealer, L: Link>(
     ensures sealer { IfOk result (λ c. c.sealer ≡ sealer) }
 
     // The messages that make the device's trees went over the link, the host took each, and the core is new.
-    ensures made { let v = scheme_with S.overhead S.sealing S.opening device sealer in
+    ensures made { let v = scheme_with S.cipher device sealer in
         IfOk result (λ c. IsNew v (TakesMessage L.calls) link.old c.state link.new) }
 
     // A beginning of these messages went over the link; then memory ran out elsewhere, or the next message wasn't taken.
-    ensures broken_off { let v = scheme_with S.overhead S.sealing S.opening device sealer in
+    ensures broken_off { let v = scheme_with S.cipher device sealer in
         IfErr result (λ fault. IsBrokenOff (TakesMessage L.calls) (RefusesMessage L.calls) (IsFormatBegun v) link.old fault link.new) }
     ensures memory { result ≢ Err (FormatFault.Sink SinkFault.OutOfMemory) }
 {

@@ -31,7 +31,7 @@ fn attempt<S: Sealer, L: Link>(
     message: &[u8],
 ) -> Result<Reaction, AllocError>
     ensures kept { IsSameDevice core.old core.new }
-    ensures ok { let v = scheme_of S.overhead S.sealing S.opening core.old in
+    ensures ok { let v = scheme_of S.cipher core.old in
         IfOk result (λ r. (o : Outcome) × L.calls link.old message.now o link.new
         × Steps v core.old.state (event_of o) (shown_by r) core.new.state) }
     ensures err { OnErr result ((core.new ≡ core.old) × ((o : Outcome) × L.calls link.old message.now o link.new)) }
@@ -57,16 +57,16 @@ pub fn exchange<S: Sealer, L: Link>(
     requires waits { status_in core.old.state ≡ Waiting }
     requires message { message.now ≡ core.old.state.message }
     ensures kept { IsSameDevice core.old core.new }
-    ensures ok { let v = scheme_of S.overhead S.sealing S.opening core.old in
+    ensures ok { let v = scheme_of S.cipher core.old in
         IfOk result (λ r. (x : Delivery) × IsSent v L.calls most (core.old.state, link.old) x (core.new.state, link.new)
         × IsAnswered x × (x.replies ≡ r.replies.items)) }
-    ensures heard { let v = scheme_of S.overhead S.sealing S.opening core.old in
+    ensures heard { let v = scheme_of S.cipher core.old in
         IfOk result (λ r. Heard v core.old.state (done r core.new.state)) }
-    ensures stalled { let v = scheme_of S.overhead S.sealing S.opening core.old in
+    ensures stalled { let v = scheme_of S.cipher core.old in
         IsErrOf result ServeFault.Stalled → (x : Delivery)
         × IsSent v L.calls most (core.old.state, link.old) x (core.new.state, link.new) × IsGivenUp most x }
     ensures left { IsErrOf result ServeFault.Stalled → status_in core.new.state ≡ Stalling }
-    ensures memory { let v = scheme_of S.overhead S.sealing S.opening core.old in
+    ensures memory { let v = scheme_of S.cipher core.old in
         IsErrOf result ServeFault.OutOfMemory → (x : Delivery)
         × IsCutOff v L.calls most (core.old.state, link.old) x (core.new.state, link.new) }
     ensures fault { IfErr result (λ e. (e ≡ ServeFault.Stalled) ⊎ (e ≡ ServeFault.OutOfMemory)) }
@@ -96,20 +96,20 @@ pub(crate) fn exchange_all<S: Sealer, L: Link>(
 ) -> Result<Reaction, ServeFault>
     requires { IsUnderWay (done reaction core.old.state) }
     ensures kept { IsSameDevice core.old core.new }
-    ensures ok { let v = scheme_of S.overhead S.sealing S.opening core.old in
+    ensures ok { let v = scheme_of S.cipher core.old in
         IfOk result (λ r. (xs : List Delivery) × (length (flat_map (λ y. y.replies) xs) ≡ length core.old.state.queue)
         × ((early : List Reply) × (flat_map (λ y. y.replies) xs ≡ early ++ r.replies.items))
         × AllSentFrom v L.calls first most_retries (core.old.state, link.old) xs (core.new.state, link.new)) }
     ensures settled { OnOk result (IsSettled core.new.state) }
     ensures replied { IfOk result (λ r. 0 < length r.replies.items) }
     ensures block { IfOk result (λ r. All (λ reply. IsBodyOf core.old.device reply.body) r.replies.items) }
-    ensures stalled { let v = scheme_of S.overhead S.sealing S.opening core.old in
+    ensures stalled { let v = scheme_of S.cipher core.old in
         IsErrOf result ServeFault.Stalled → (xs : List Delivery) × (mid : State × L) × (last : Delivery)
         × AllSentFrom v L.calls first most_retries (core.old.state, link.old) xs mid
         × IsSent v L.calls (retries_after first most_retries xs) mid last (core.new.state, link.new)
         × IsGivenUp (retries_after first most_retries xs) last }
     ensures left { IsErrOf result ServeFault.Stalled → status_in core.new.state ≡ Stalling }
-    ensures memory { let v = scheme_of S.overhead S.sealing S.opening core.old in
+    ensures memory { let v = scheme_of S.cipher core.old in
         IsErrOf result ServeFault.OutOfMemory → (xs : List Delivery) × (mid : State × L) × (last : Delivery)
         × AllSentFrom v L.calls first most_retries (core.old.state, link.old) xs mid
         × IsCutOff v L.calls (retries_after first most_retries xs) mid last (core.new.state, link.new) }
@@ -133,17 +133,17 @@ pub fn carry_out<S: Sealer, L: Link>(
     requires under_way { IsUnderWay (done reaction core.old.state) }
     requires alone { length core.old.state.queue ≡ 1 }
     ensures kept { IsSameDevice core.old core.new }
-    ensures ok { let v = scheme_of S.overhead S.sealing S.opening core.old in
+    ensures ok { let v = scheme_of S.cipher core.old in
         IfOk result (λ reply. (xs : List Delivery)
         × AllSent v L.calls most_retries (core.old.state, link.old) xs (core.new.state, link.new)
         × (flat_map (λ y. y.replies) xs ≡ reply ∷ [])) }
     ensures settled { OnOk result (IsSettled core.new.state) }
     ensures block { IfOk result (λ reply. IsBodyOf core.old.device reply.body) }
-    ensures stalled { let v = scheme_of S.overhead S.sealing S.opening core.old in
+    ensures stalled { let v = scheme_of S.cipher core.old in
         IsErrOf result ServeFault.Stalled → (xs : List Delivery) × (mid : State × L) × (last : Delivery)
         × AllSent v L.calls most_retries (core.old.state, link.old) xs mid
         × IsSent v L.calls most_retries mid last (core.new.state, link.new) × IsGivenUp most_retries last }
-    ensures memory { let v = scheme_of S.overhead S.sealing S.opening core.old in
+    ensures memory { let v = scheme_of S.cipher core.old in
         IsErrOf result ServeFault.OutOfMemory → (xs : List Delivery) × (mid : State × L) × (last : Delivery)
         × AllSent v L.calls most_retries (core.old.state, link.old) xs mid
         × IsCutOff v L.calls most_retries mid last (core.new.state, link.new) }

@@ -28,11 +28,11 @@ pub fn is_settled<S: Sealer>(core: &Core<S>) -> bool
 pub fn reopen<S: Sealer>(alloc: Global, core: &mut Core<S>) -> Result<Reaction, AllocError>
     requires { ¬ IsSettled core.old.state }
     ensures kept { IsSameDevice core.old core.new }
-    ensures ok { let v = scheme_of S.overhead S.sealing S.opening core.old in
+    ensures ok { let v = scheme_of S.cipher core.old in
         OnOk result (Runs v core.old.state (Reopen ∷ Retry ∷ []) [] core.new.state) }
     ensures under_way { IfOk result (λ r. IsUnderWay (done r core.new.state)) }
     ensures queue { OnOk result (core.new.state.queue ≡ core.old.state.queue) }
-    ensures err { let v = scheme_of S.overhead S.sealing S.opening core.old in
+    ensures err { let v = scheme_of S.cipher core.old in
         OnErr result (Runs v core.old.state (Reopen ∷ []) [] core.new.state) }
 {
     let _stalled = core.step(alloc, &Event::Reopen)?;
@@ -58,15 +58,15 @@ pub fn resume<S: Sealer, L: Link>(
 
     // In any other core, each command that waits gets its reply.
     ensures count { ¬ IsSettled core.old.state → IfOk result (λ k. k ≡ length core.old.state.queue) }
-    ensures ok { let v = scheme_of S.overhead S.sealing S.opening core.old in
+    ensures ok { let v = scheme_of S.cipher core.old in
         ¬ IsSettled core.old.state → IfOk result (λ k. (xs : List Delivery) × (length (flat_map (λ y. y.replies) xs) ≡ k)
         × HasGoneOn v L.calls (core.old.state, link.old) xs (core.new.state, link.new)) }
 
     // One message stalled four times, or memory ran out. Everything done before stays done.
-    ensures stalled { let v = scheme_of S.overhead S.sealing S.opening core.old in
+    ensures stalled { let v = scheme_of S.cipher core.old in
         IsErrOf result ServeFault.Stalled → HasStalled v L.calls (core.old.state, link.old) (core.new.state, link.new) }
     ensures left { IsErrOf result ServeFault.Stalled → status_in core.new.state ≡ Stalling }
-    ensures memory { let v = scheme_of S.overhead S.sealing S.opening core.old in
+    ensures memory { let v = scheme_of S.cipher core.old in
         IsErrOf result ServeFault.OutOfMemory → IsCutShort v L.calls (core.old.state, link.old) (core.new.state, link.new) }
     ensures fault { IfErr result (λ e. (e ≡ ServeFault.Stalled) ⊎ (e ≡ ServeFault.OutOfMemory)) }
 {

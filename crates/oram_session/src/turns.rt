@@ -37,7 +37,7 @@ pub fn submit<S: Sealer, T: Tape>(
 ) -> Result<Reaction, AllocError>
     requires { IsSettled core.old.state }
     ensures kept { IsSameDevice core.old core.new }
-    ensures ok { let v = scheme_of S.overhead S.sealing S.opening core.old in
+    ensures ok { let v = scheme_of S.cipher core.old in
         IfOk result (λ r. Steps v core.old.state
         (Submit session command (T.words tape.old core.old.state.next (2 * trees_of core.old.device))) (shown_by r) core.new.state) }
     ensures begun { IfOk result (λ r. IsBegun core.old.state r.note (done r core.new.state)) }
@@ -66,15 +66,15 @@ fn take_turn<S: Sealer, L: Link, T: Tape>(
 ) -> Result<SessionReply, ServeFault>
     requires { IsSettled core.old.state }
     ensures kept { IsSameDevice core.old core.new }
-    ensures ok { let v = scheme_of S.overhead S.sealing S.opening core.old in
+    ensures ok { let v = scheme_of S.cipher core.old in
         IfOk result (λ reply. (turn : Turn) × (turn.body ≡ body.now) × (turn.reply ≡ reply)
         × IsTurn v L.calls (T.words tape.old) session (core.old.state, link.old) turn (core.new.state, link.new)) }
     ensures settled { OnOk result (IsSettled core.new.state) }
     ensures spelled { IfOk result (λ reply. IsSessionReply reply × IsBody (session_reply_body reply)) }
-    ensures stalled { let v = scheme_of S.overhead S.sealing S.opening core.old in
+    ensures stalled { let v = scheme_of S.cipher core.old in
         IsErrOf result ServeFault.Stalled
         → IsStuck v L.calls (T.words tape.old) session (core.old.state, link.old) body.now (core.new.state, link.new) }
-    ensures memory { let v = scheme_of S.overhead S.sealing S.opening core.old in
+    ensures memory { let v = scheme_of S.cipher core.old in
         IsErrOf result ServeFault.OutOfMemory → ((core.new ≡ core.old) × (link.new ≡ link.old))
         ⊎ IsCutTurn v L.calls (T.words tape.old) session (core.old.state, link.old) body.now (core.new.state, link.new) }
     ensures tape { T.words tape.new ≡ T.words tape.old }
@@ -136,29 +136,29 @@ pub fn serve<S: Sealer, R: Read, W: Write, L: Link, T: Tape>(
     ensures kept { IsSameDevice core.old core.new }
     ensures settled { LeavesCore result core.new.state }
     ensures tape { T.words tape.new ≡ T.words tape.old }
-    ensures ok { let v = scheme_of S.overhead S.sealing S.opening core.old in
+    ensures ok { let v = scheme_of S.cipher core.old in
         IfOk result (λ k. (turns : List Turn) × (length turns ≡ k)
         × HasServed v L.calls (T.words tape.old) session (core.old.state, link.old) turns (core.new.state, link.new)
         [] (R.remaining reader.old) (R.remaining reader.new) [] (W.contents writer.old) (W.contents writer.new)
         × IsAtEnd (R.remaining reader.new)) }
 
     // A frame's length is too great, the input ends inside a frame, or the reader fails before a frame is whole.
-    ensures frame { let v = scheme_of S.overhead S.sealing S.opening core.old in
+    ensures frame { let v = scheme_of S.cipher core.old in
         IsErrOf result ServeFault.Frame → (turns : List Turn) × (head : List ℕ) × (length head ≡ 4) × IsBroken head
         × HasServed v L.calls (T.words tape.old) session (core.old.state, link.old) turns (core.new.state, link.new)
         head (R.remaining reader.old) (R.remaining reader.new) [] (W.contents writer.old) (W.contents writer.new) }
-    ensures truncated { let v = scheme_of S.overhead S.sealing S.opening core.old in
+    ensures truncated { let v = scheme_of S.cipher core.old in
         IsErrOf result ServeFault.Truncated → (turns : List Turn) × (part : List ℕ) × (0 < length part) × IsUnfinished part
         × HasServed v L.calls (T.words tape.old) session (core.old.state, link.old) turns (core.new.state, link.new)
         part (R.remaining reader.old) (R.remaining reader.new) [] (W.contents writer.old) (W.contents writer.new)
         × IsAtEnd (R.remaining reader.new) }
-    ensures read { let v = scheme_of S.overhead S.sealing S.opening core.old in
+    ensures read { let v = scheme_of S.cipher core.old in
         IsErrOf result ServeFault.Read → (turns : List Turn) × (part : List ℕ) × IsUnfinished part
         × HasServed v L.calls (T.words tape.old) session (core.old.state, link.old) turns (core.new.state, link.new)
         part (R.remaining reader.old) (R.remaining reader.new) [] (W.contents writer.old) (W.contents writer.new) }
 
     // Only a beginning of the last reply was written, or all of it but not flushed.
-    ensures write { let v = scheme_of S.overhead S.sealing S.opening core.old in
+    ensures write { let v = scheme_of S.cipher core.old in
         IsErrOf result ServeFault.Write → (turns : List Turn) × (mid : State × L) × (last : Turn) × (count : ℕ) × IsBody last.body
         × IsTurn v L.calls (T.words tape.old) session mid last (core.new.state, link.new)
         × HasServed v L.calls (T.words tape.old) session (core.old.state, link.old) turns mid
@@ -166,14 +166,14 @@ pub fn serve<S: Sealer, R: Read, W: Write, L: Link, T: Tape>(
         (take count (reply_frame last)) (W.contents writer.old) (W.contents writer.new) }
 
     // One message of the last request stalled four times.
-    ensures stalled { let v = scheme_of S.overhead S.sealing S.opening core.old in
+    ensures stalled { let v = scheme_of S.cipher core.old in
         IsErrOf result ServeFault.Stalled → (turns : List Turn) × (mid : State × L) × (body : List ℕ) × IsBody body
         × IsStuck v L.calls (T.words tape.old) session mid body (core.new.state, link.new)
         × HasServed v L.calls (T.words tape.old) session (core.old.state, link.old) turns mid
         (frame body) (R.remaining reader.old) (R.remaining reader.new) [] (W.contents writer.old) (W.contents writer.new) }
 
     // If memory runs out, everything done before stays done: these turns, and a last one as far as it came.
-    ensures memory { let v = scheme_of S.overhead S.sealing S.opening core.old in
+    ensures memory { let v = scheme_of S.cipher core.old in
         IsErrOf result ServeFault.OutOfMemory → (turns : List Turn) × (mid : State × L) × (part : List ℕ)
         × IsLeft v L.calls (T.words tape.old) session mid part (core.new.state, link.new)
         × HasServed v L.calls (T.words tape.old) session (core.old.state, link.old) turns mid

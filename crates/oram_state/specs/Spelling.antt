@@ -90,6 +90,7 @@ mode_by None (first ∷ others) true = Stalled
 abbrev pub mode_of : Parts → Mode
 mode_of p = mode_by p.failure p.waiting p.stalled
 
+-- a mode's number in the file
 abbrev pub mode_number : Mode → ℕ
 mode_number Idle = 0
 mode_number Failed = 1

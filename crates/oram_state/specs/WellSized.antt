@@ -39,6 +39,7 @@ pub record IsSizedTree (d : Sizes) (t : TreeParts) : Type 0 where
   pub count : IsShort (length t.stash)
   pub blocks : AllByRecursion (IsSizedBlock d) t.stash
 
+-- a command's fields fit the widths that the file has for them
 abbrev pub IsSizedCommand : Sizes → Command → Type 0
 IsSizedCommand d (Read address) = IsShort address
 IsSizedCommand d (Write address content) = IsShort address × (length content ≡ d.block_bytes)

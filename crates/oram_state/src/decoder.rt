@@ -19,13 +19,13 @@ use std::alloc::Global;
 /// that can't be a core's.
 pub fn decode_state<S: Sealer>(alloc: Global, sealer: S, file: &[u8]) -> Result<Core<S>, StateFault>
     ensures sealer { IfOk result (λ c. c.sealer ≡ sealer) }
-    ensures core { IfOk result (λ c. IsSaved file.now (S.overhead sealer) c.device c.state) }
+    ensures core { IfOk result (λ c. IsSaved file.now (S.cipher sealer).overhead c.device c.state) }
     // It returns the core that was saved, unless memory runs out.
-    ensures same { (d : Sizes) (s : State) → IsSaved file.now (S.overhead sealer) d s
+    ensures same { (d : Sizes) (s : State) → IsSaved file.now (S.cipher sealer).overhead d s
         → IfOk result (λ c. (c.device ≡ d) × (c.state ≡ s)) }
-    ensures only { (d : Sizes) (s : State) → IsSaved file.now (S.overhead sealer) d s
+    ensures only { (d : Sizes) (s : State) → IsSaved file.now (S.cipher sealer).overhead d s
         → IfErr result (λ fault. fault ≡ StateFault.OutOfMemory) }
-    ensures first { IfErr result (λ fault. IsFaultIn file.now (S.overhead sealer) fault) }
+    ensures first { IfErr result (λ fault. IsFaultIn file.now (S.cipher sealer).overhead fault) }
 {
     let Saved { overhead, parts } = read_state(alloc, file)?;
     if overhead as usize != sealer.overhead() {

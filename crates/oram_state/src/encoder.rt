@@ -15,9 +15,9 @@ use std::alloc::{AllocError, Global};
 pub fn encode_state<S: Sealer>(alloc: Global, core: &Core<S>) -> Result<Vec<u8>, AllocError>
     // A file belongs to only one core, so reading it gives this core again.
     ensures saved { IfOk result (λ file.
-        IsSaved file.items (S.overhead core.now.sealer) core.now.device core.now.state) }
+        IsSaved file.items (S.cipher core.now.sealer).overhead core.now.device core.now.state) }
     ensures spelled { IfOk result (λ file. file.items
-        ≡ state_file 2 (S.overhead core.now.sealer) (parts_of core.now.device core.now.state)) }
+        ≡ state_file 2 (S.cipher core.now.sealer).overhead (parts_of core.now.device core.now.state)) }
 {
     let parts = core.parts(alloc)?;
     write_state(alloc, core.overhead() as u32, &parts)

@@ -1,5 +1,5 @@
 -- The records that formatting puts form a stored tree of empty buckets.
-use Rattle.std.proofs.Common.{◌≡◌, ℕ, zero, suc, ◌+◌, ◌-◌, ◌*◌, ◌/◌, ◌%◌, ◌^◌, ◌<◌, ◌≤◌, List, [], ◌∷◌, ◌++◌, length, get_or, map, Contains, Some, Result, Ok, Err, IfOk, OnOk, Option, true, false, cond, nat_eq, replicate, inl, inr, refl, sym, ap, subst, ◌∙◌, arith}
+use Rattle.std.proofs.Common.{◌≡◌, ℕ, zero, suc, ◌+◌, ◌-◌, ◌*◌, ◌/◌, ◌%◌, ◌^◌, ◌<◌, ◌≤◌, List, [], ◌∷◌, ◌++◌, length, get_or, map, Contains, Result, Ok, Err, IfOk, OnOk, true, false, cond, nat_eq, replicate, inl, inr, refl, sym, ap, subst, ◌∙◌, arith}
 use Rattle.std.proofs.lemmas.Bool.{cases_lt}
 use Rattle.std.proofs.lemmas.Bool.Decides.{Decides-eqb, eqb_tells}
 use Rattle.std.proofs.lemmas.List.{map-append, length-append, length-replicate, get_or_append_left, get_or-append-add}
@@ -11,6 +11,7 @@ use Rattle.oram_hash.specs.Tree.{IsStored}
 use Rattle.oram_geometry.specs.declared.Sizes.{Sizes}
 use Rattle.oram_geometry.specs.Sizes.{IsDevice, depth_of, bucket_len, record_len_of}
 use Rattle.oram_wire.specs.HostMessages.{put_body, shape_body}
+use Rattle.oram_bucket.specs.Cipher.{Cipher, IsCipher}
 use Rattle.oram_bucket.specs.Cell.{Cell}
 use Rattle.oram_bucket.specs.Bytes.{IsBytes}
 use Rattle.oram_bucket.specs.Bucket.{IsBucketOf, spelling}
@@ -260,27 +261,23 @@ unfolding record_len_of
 length-sealed s overhead sealed longer = omega (arith, longer, length-empty s)
 
 -- how a sealer seals the empty bucket
-abbrev seal_empty : (ℕ → List ℕ → List ℕ) → Sizes → ℕ → List ℕ
-seal_empty sealing d n = sealing n (spelling d [])
+abbrev seal_empty : Cipher → Sizes → ℕ → List ℕ
+seal_empty cipher d n = cipher.sealing n (spelling d [])
 
 -- the sealed empty bucket is as long as a record has room for, and reads as empty
-record IsSealing (opening : List ℕ → Option (List ℕ)) (sealing : ℕ → List ℕ → List ℕ) (overhead : ℕ) : Type 0 where
-  longer : (n : ℕ) (plain : List ℕ) → length (sealing n plain) ≡ overhead + length plain
-  undoes : (n : ℕ) (plain : List ℕ) → n < 2 ^ 64 → IsBytes plain → opening (sealing n plain) ≡ Some plain
-
-formed : (opening : List ℕ → Option (List ℕ)) (sealing : ℕ → List ℕ → List ℕ) (overhead : ℕ) (d : Sizes) (i nonce : ℕ) → IsDevice d → IsSealing opening sealing overhead → nonce + node_count (depth_of d i) ≤ 2 ^ 64
-    → (let t : State = record { number = i; root = sha256 (root_record (seal_empty sealing d) (depth_of d i) nonce); stash = [] } in
-    IsFormat opening sealing overhead d nonce t (shape_body i (depth_of d i) (record_len_of d overhead) ∷ puts (seal_empty sealing d) i (depth_of d i) nonce 0))
+formed : (cipher : Cipher) (d : Sizes) (i nonce : ℕ) → IsDevice d → IsCipher cipher → nonce + node_count (depth_of d i) ≤ 2 ^ 64
+    → (let t : State = record { number = i; root = sha256 (root_record (seal_empty cipher d) (depth_of d i) nonce); stash = [] } in
+    IsFormat cipher d nonce t (shape_body i (depth_of d i) (record_len_of d cipher.overhead) ∷ puts (seal_empty cipher d) i (depth_of d i) nonce 0))
 unfolding spot
-formed opening sealing overhead d i nonce of law fits =
+formed cipher d i nonce of law fits =
     let depth = depth_of d i in
-    let len = record_len_of d overhead in
-    let seal = seal_empty sealing d in
-    let reads = Reads opening d i in
+    let len = record_len_of d cipher.overhead in
+    let seal = seal_empty cipher d in
+    let reads = Reads cipher.opening d i in
     let here : IsAt depth nonce 0 depth nonce = refl in
     let records = records_of seal depth nonce in
     let whole = grown reads seal len depth nonce depth nonce 0
-    (λ x. length-sealed d overhead (seal x) (law.longer x (spelling d [])))
+    (λ x. length-sealed d cipher.overhead (seal x) (law.longer x (spelling d [])))
     (λ x low high. record { plain = spelling d []; opens = law.undoes x (spelling d []) (omega arith) (bytes-empty d); spelled = record { bucket = empty_bucket d i; spelled = refl } })
     here in
     let S : List ℕ → Type 0 = λ root. IsStored depth len root records in
@@ -290,38 +287,36 @@ formed opening sealing overhead d i nonce of law fits =
       sealed = λ j lt. sealed_are seal depth nonce depth nonce 0 here j lt;
       empty = record {
         stands = subst S (ap sha256 (record_is seal depth nonce 0 depth nonce here)) (grown_stands (IsEmpty reads) records len depth whole);
-        holds = empty_content reads records depth (reads_uniquely opening d i of) (all_grown (IsEmpty reads) records len depth whole);
+        holds = empty_content reads records depth (reads_uniquely cipher.opening d i of) (all_grown (IsEmpty reads) records len depth whole);
       };
     }
 
 -- the messages and the result of a formatting
-pub made : {K : Type 0} (putting : K → List ℕ → K → Type 0) (from next to : K) (opening : List ℕ → Option (List ℕ)) (sealing : ℕ → List ℕ → List ℕ) (d : Sizes) (i depth len overhead nonce : ℕ) (shape root : List ℕ)
-    → IsDevice d → depth ≡ depth_of d i → len ≡ record_len_of d overhead
-    → ((n : ℕ) (plain : List ℕ) → length (sealing n plain) ≡ overhead + length plain) → ((n : ℕ) (plain : List ℕ) → n < 2 ^ 64 → IsBytes plain → opening (sealing n plain) ≡ Some plain)
-    → nonce + node_count (depth_of d i) ≤ 2 ^ 64 → shape ≡ shape_body i depth len → putting from shape next → PutsAll putting next (puts (λ n. sealing n (spelling d [])) i depth nonce 0) to
-    → root ≡ sha256 (root_record (λ n. sealing n (spelling d [])) depth nonce)
-    → (bodies : List (List ℕ)) × PutsAll putting from bodies to × (let t : State = record { number = i; root = root; stash = [] } in IsFormat opening sealing overhead d nonce t bodies)
-made putting from next to opening sealing d i depth len overhead nonce shape root of depth_is len_is longer undoes fits shape_is first others root_is =
-    let seal = seal_empty sealing d in
-    let bodies = shape_body i (depth_of d i) (record_len_of d overhead) ∷ puts seal i (depth_of d i) nonce 0 in
-    let body_is : shape ≡ shape_body i (depth_of d i) (record_len_of d overhead) = shape_is ∙ ap (λ (x : ℕ). shape_body i x len) depth_is ∙ ap (λ (x : ℕ). shape_body i (depth_of d i) x) len_is in
+pub made : {K : Type 0} (putting : K → List ℕ → K → Type 0) (from next to : K) (cipher : Cipher) (d : Sizes) (i depth len nonce : ℕ) (shape root : List ℕ)
+    → IsDevice d → depth ≡ depth_of d i → len ≡ record_len_of d cipher.overhead → IsCipher cipher
+    → nonce + node_count (depth_of d i) ≤ 2 ^ 64 → shape ≡ shape_body i depth len → putting from shape next → PutsAll putting next (puts (seal_empty cipher d) i depth nonce 0) to
+    → root ≡ sha256 (root_record (seal_empty cipher d) depth nonce)
+    → (bodies : List (List ℕ)) × PutsAll putting from bodies to × (let t : State = record { number = i; root = root; stash = [] } in IsFormat cipher d nonce t bodies)
+made putting from next to cipher d i depth len nonce shape root of depth_is len_is law fits shape_is first others root_is =
+    let seal = seal_empty cipher d in
+    let bodies = shape_body i (depth_of d i) (record_len_of d cipher.overhead) ∷ puts seal i (depth_of d i) nonce 0 in
+    let body_is : shape ≡ shape_body i (depth_of d i) (record_len_of d cipher.overhead) = shape_is ∙ ap (λ (x : ℕ). shape_body i x len) depth_is ∙ ap (λ (x : ℕ). shape_body i (depth_of d i) x) len_is in
     let P = λ (x : ℕ). PutsAll putting next (puts seal i x nonce 0) to in
     let F = λ (x : List ℕ). putting from x next in
-    let R = λ (x : List ℕ). let t : State = record { number = i; root = x; stash = [] } in IsFormat opening sealing overhead d nonce t bodies in (
+    let R = λ (x : List ℕ). let t : State = record { number = i; root = x; stash = [] } in IsFormat cipher d nonce t bodies in (
       bodies,
       (next, subst F body_is first, subst P depth_is others),
-      subst R (sym (root_is ∙ ap (λ (x : ℕ). sha256 (root_record seal x nonce)) depth_is)) (formed opening sealing overhead d i nonce of (record { longer = longer; undoes = undoes }) fits),
+      subst R (sym (root_is ∙ ap (λ (x : ℕ). sha256 (root_record seal x nonce)) depth_is)) (formed cipher d i nonce of law fits),
     )
 
 -- a beginning of a formatting's messages
-pub begun : (opening : List ℕ → Option (List ℕ)) (sealing : ℕ → List ℕ → List ℕ) (d : Sizes) (i overhead nonce : ℕ) (xs : List (List ℕ)) → IsDevice d
-    → ((n : ℕ) (plain : List ℕ) → length (sealing n plain) ≡ overhead + length plain) → ((n : ℕ) (plain : List ℕ) → n < 2 ^ 64 → IsBytes plain → opening (sealing n plain) ≡ Some plain)
-    → nonce + node_count (depth_of d i) ≤ 2 ^ 64 → IsStartOf (shape_body i (depth_of d i) (record_len_of d overhead) ∷ puts (λ n. sealing n (spelling d [])) i (depth_of d i) nonce 0) xs
-    → IsBegun opening sealing overhead d nonce i xs
-begun opening sealing d i overhead nonce xs of longer undoes fits starts =
-    let root = sha256 (root_record (seal_empty sealing d) (depth_of d i) nonce) in
-    let F = λ (bodies : List (List ℕ)). let t : State = record { number = i; root = root; stash = [] } in IsFormat opening sealing overhead d nonce t bodies in
-    (starts.0, root, subst F (sym starts.1) (formed opening sealing overhead d i nonce of (record { longer = longer; undoes = undoes }) fits))
+pub begun : (cipher : Cipher) (d : Sizes) (i nonce : ℕ) (xs : List (List ℕ)) → IsDevice d → IsCipher cipher
+    → nonce + node_count (depth_of d i) ≤ 2 ^ 64 → IsStartOf (shape_body i (depth_of d i) (record_len_of d cipher.overhead) ∷ puts (seal_empty cipher d) i (depth_of d i) nonce 0) xs
+    → IsBegun cipher d nonce i xs
+begun cipher d i nonce xs of law fits starts =
+    let root = sha256 (root_record (seal_empty cipher d) (depth_of d i) nonce) in
+    let F = λ (bodies : List (List ℕ)). let t : State = record { number = i; root = root; stash = [] } in IsFormat cipher d nonce t bodies in
+    (starts.0, root, subst F (sym starts.1) (formed cipher d i nonce of law fits))
 
 -- two facts about the same answer
 pub both : {T E : Type 0} (r : Result T E) (P : T → Type 0) (Q : Type 0) (R : T → Type 0) → IfOk r P → OnOk r Q → ((x : T) → P x → Q → R x) → IfOk r R

@@ -1,9 +1,10 @@
 -- The messages that make a tree of empty buckets.
-use Rattle.std.specs.Prelude.{◌≡◌, ℕ, zero, suc, ◌+◌, ◌*◌, ◌<◌, ◌⊎◌, List, Option, [], ◌∷◌, ◌++◌, map, slice_index}
+use Rattle.std.specs.Prelude.{◌≡◌, ℕ, zero, suc, ◌+◌, ◌*◌, ◌<◌, ◌⊎◌, List, [], ◌∷◌, ◌++◌, map, slice_index}
 use Rattle.oram_geometry.specs.declared.Sizes.{Sizes}
 use Rattle.oram_geometry.specs.Sizes.{depth_of, record_len_of}
 use Rattle.oram_hash.specs.Record.{sealed_part}
 use Rattle.oram_bucket.specs.Bucket.{spelling}
+use Rattle.oram_bucket.specs.Cipher.{Cipher}
 use Rattle.oram_wire.specs.HostMessages.{put_body, shape_body}
 use Rattle.oram_wire.specs.declared.sinks.SinkFault.{SinkFault}
 use Rattle.oram_tree.specs.Content.{no_blocks, node_count}
@@ -25,20 +26,19 @@ post_order (suc h) n = post_order h (2 * n + 1) ++ post_order h (2 * n + 2) ++ n
 
 -- the bodies are the SHAPE of the tree and then the PUTs of its nodes' records, in that order; the records have empty
 -- buckets, sealed under rising nonces, and are stored under the tree's root digest
-pub record IsFormat (opening : List ℕ → Option (List ℕ)) (sealing : ℕ → List ℕ → List ℕ) (overhead : ℕ)
-    (d : Sizes) (nonce : ℕ) (t : State) (bodies : List (List ℕ)) : Type 0 where
+pub record IsFormat (cipher : Cipher) (d : Sizes) (nonce : ℕ) (t : State) (bodies : List (List ℕ)) : Type 0 where
   pub records : ℕ → List ℕ
-  pub bodies_are : bodies ≡ shape_body t.number (depth_of d t.number) (record_len_of d overhead)
+  pub bodies_are : bodies ≡ shape_body t.number (depth_of d t.number) (record_len_of d cipher.overhead)
       ∷ map (λ n. put_body t.number n (records n)) (post_order (depth_of d t.number) 0)
   pub sealed : (k : ℕ) → k < node_count (depth_of d t.number)
-      → sealed_part (records (slice_index (post_order (depth_of d t.number) 0) k)) ≡ sealing (nonce + k) (spelling d [])
-  pub empty : IsStoredWith opening overhead d t records no_blocks
+      → sealed_part (records (slice_index (post_order (depth_of d t.number) 0) k)) ≡ cipher.sealing (nonce + k) (spelling d [])
+  pub empty : IsStoredWith cipher.opening cipher.overhead d t records no_blocks
 
 -- the bodies are a beginning of the messages that format the tree of this number
-abbrev pub IsBegun : (List ℕ → Option (List ℕ)) → (ℕ → List ℕ → List ℕ) → ℕ → Sizes → ℕ → ℕ → List (List ℕ) → Type 0
-IsBegun opening sealing overhead d nonce number bodies =
+abbrev pub IsBegun : Cipher → Sizes → ℕ → ℕ → List (List ℕ) → Type 0
+IsBegun cipher d nonce number bodies =
     (more : List (List ℕ)) × (root : List ℕ)
-    × IsFormat opening sealing overhead d nonce (record { number = number; root = root; stash = [] }) (bodies ++ more)
+    × IsFormat cipher d nonce (record { number = number; root = root; stash = [] }) (bodies ++ more)
 
 -- a sink in the state `from`, which had taken the bodies `taken`, refused the next body, and `fault` reports this
 pub record IsRefused {K : Type 0} (refusing : K → List ℕ → SinkFault → K → Type 0) (Begins : List (List ℕ) → Type 0)

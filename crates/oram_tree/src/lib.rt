@@ -34,7 +34,7 @@ use oram_stash::Stash;
 use oram_wire::{Sink, SinkFault};
 pub use parts::{TreeParts, parts_make_their_tree};
 use path_rewrite::rewrite;
-pub use path_rewrite::{Access, Lookup};
+pub use path_rewrite::{Access, AccessRequest, Lookup};
 use std::alloc::Global;
 use std::marker::Model;
 use tree_format::format_tree;
@@ -73,10 +73,10 @@ impl Tree {
         ensures stash { IfOk result (λ t. t.stash ≡ []) }
         ensures made { IfOk result (λ t. (bodies : List (List ℕ))
             × PutsAll K.putting sink.old bodies sink.new
-            × IsFormat (S.opening sealer.now) (S.sealing sealer.now) (S.overhead sealer.now)
+            × IsFormat (S.cipher sealer.now)
             device.now nonce t bodies) }
         ensures broken_off { IfErr result (λ fault. IsBrokenOff K.putting K.refusing
-            (IsBegun (S.opening sealer.now) (S.sealing sealer.now) (S.overhead sealer.now) device.now nonce number)
+            (IsBegun (S.cipher sealer.now) device.now nonce number)
             sink.old fault sink.new) }
     {
         let root = format_tree(alloc, device, number, sealer, nonce, sink)?;
@@ -149,7 +149,7 @@ impl Tree {
     ) -> Result<Access, TreeFault>
         requires number { self.old.number < trees_of device.now }
         requires path { path.now ≡ path_of device.now self.old.number old_leaf
-            (S.overhead sealer.now) path.now.bytes }
+            (S.cipher sealer.now).overhead path.now.bytes }
         requires address { address < blocks_in device.now self.old.number }
         requires old_leaf { old_leaf < 2 ^ depth_of device.now self.old.number }
         requires new_leaf { new_leaf < 2 ^ depth_of device.now self.old.number }
@@ -162,25 +162,25 @@ impl Tree {
         ensures blocks { All (IsBlockOf device.now self.old.number) self.new.stash }
 
         // It reads each readable path, unless memory runs out, and fails on any other.
-        ensures unreadable { let reads = Reads (S.opening sealer.now) device.now self.old.number in
+        ensures unreadable { let reads = Reads (S.cipher sealer.now).opening device.now self.old.number in
             result ≡ Err TreeFault.Unreadable → ¬ IsReadable reads path.now self.old.stash }
-        ensures readable { let reads = Reads (S.opening sealer.now) device.now self.old.number in
+        ensures readable { let reads = Reads (S.cipher sealer.now).opening device.now self.old.number in
             OnOk result (IsReadable reads path.now self.old.stash) }
 
-        ensures lookup { let reads = Reads (S.opening sealer.now) device.now self.old.number in
+        ensures lookup { let reads = Reads (S.cipher sealer.now).opening device.now self.old.number in
             IfOk result (λ a. IsLookup (IsNear reads path.now self.old.stash)
             device.now.block_bytes address a.found a.before.items) }
         ensures data_len { IfOk result (λ a. length a.before.items ≡ device.now.block_bytes) }
 
         // The new buckets and the new stash are the outcome of an eviction; the buckets are sealed under rising nonces.
         ensures whole { IfOk result (λ a. HasLength (with_bytes path.now a.records.items)) }
-        ensures written { let reads = Reads (S.opening sealer.now) device.now self.old.number in
-            IfOk result (λ a. IsRewritten reads (S.sealing sealer.now) device.now nonce
+        ensures written { let reads = Reads (S.cipher sealer.now).opening device.now self.old.number in
+            IfOk result (λ a. IsRewritten reads (S.cipher sealer.now).sealing device.now nonce
             path.now self.old.stash (with_bytes path.now a.records.items)
             (edited_block address new_leaf edit.entry a.before.items) self.new.stash) }
 
         // The effect on any stored tree that has the path, and on the map that this tree and the stash hold.
-        ensures updates { let opens = S.opening sealer.now in let overhead = S.overhead sealer.now in
+        ensures updates { let opens = (S.cipher sealer.now).opening in let overhead = (S.cipher sealer.now).overhead in
             (records : ℕ → List ℕ) (content : Map)
             → IsStoredWith opens overhead device.now self.old records content
             → IsPathOf records path.now → IsAtOrAbsent content address old_leaf
@@ -190,16 +190,19 @@ impl Tree {
             a.found a.before.items self.new)
             (λ f. f ≡ TreeFault.OutOfMemory) }
     {
+        let request = AccessRequest {
+            address,
+            old_leaf,
+            new_leaf,
+            nonce,
+        };
         let mut records = Vec::new(alloc);
         let Lookup { before, found } = self.access_to(
             alloc,
             device,
             sealer,
             path,
-            address,
-            old_leaf,
-            new_leaf,
-            nonce,
+            request,
             edit,
             &mut records,
         )?;
@@ -217,20 +220,17 @@ impl Tree {
         device: &Device,
         sealer: &S,
         path: &PathView<'_>,
-        address: u32,
-        old_leaf: u32,
-        new_leaf: u32,
-        nonce: u64,
+        request: AccessRequest,
         edit: Edit<'_>,
         out: &mut Vec<u8>,
     ) -> Result<Lookup, TreeFault>
         requires number { self.old.number < trees_of device.now }
-        requires path { path.now ≡ path_of device.now self.old.number old_leaf
-            (S.overhead sealer.now) path.now.bytes }
-        requires address { address < blocks_in device.now self.old.number }
-        requires old_leaf { old_leaf < 2 ^ depth_of device.now self.old.number }
-        requires new_leaf { new_leaf < 2 ^ depth_of device.now self.old.number }
-        requires nonces { nonce + depth_of device.now self.old.number < 2 ^ 64 }
+        requires path { path.now ≡ path_of device.now self.old.number request.old_leaf
+            (S.cipher sealer.now).overhead path.now.bytes }
+        requires address { request.address < blocks_in device.now self.old.number }
+        requires old_leaf { request.old_leaf < 2 ^ depth_of device.now self.old.number }
+        requires new_leaf { request.new_leaf < 2 ^ depth_of device.now self.old.number }
+        requires nonces { request.nonce + depth_of device.now self.old.number < 2 ^ 64 }
         requires edit { IsEditOf device.now self.old.number edit }
         requires blocks { All (IsBlockOf device.now self.old.number) self.old.stash }
 
@@ -240,14 +240,14 @@ impl Tree {
         ensures blocks { All (IsBlockOf device.now self.old.number) self.new.stash }
 
         // It reads each readable path, unless memory runs out, and fails on any other.
-        ensures unreadable { let reads = Reads (S.opening sealer.now) device.now self.old.number in
+        ensures unreadable { let reads = Reads (S.cipher sealer.now).opening device.now self.old.number in
             result ≡ Err TreeFault.Unreadable → ¬ IsReadable reads path.now self.old.stash }
-        ensures readable { let reads = Reads (S.opening sealer.now) device.now self.old.number in
+        ensures readable { let reads = Reads (S.cipher sealer.now).opening device.now self.old.number in
             OnOk result (IsReadable reads path.now self.old.stash) }
 
-        ensures lookup { let reads = Reads (S.opening sealer.now) device.now self.old.number in
+        ensures lookup { let reads = Reads (S.cipher sealer.now).opening device.now self.old.number in
             IfOk result (λ a. IsLookup (IsNear reads path.now self.old.stash)
-            device.now.block_bytes address a.found a.before.items) }
+            device.now.block_bytes request.address a.found a.before.items) }
         ensures data_len { IfOk result (λ a. length a.before.items ≡ device.now.block_bytes) }
 
         // The records that `out` gained: the new buckets and the new stash are the outcome of an eviction; the buckets
@@ -255,21 +255,21 @@ impl Tree {
         ensures appends { OnOk result ((gained : List ℕ) × (out.new.items ≡ out.old.items ++ gained)) }
         ensures whole { OnOk result ((gained : List ℕ) → out.new.items ≡ out.old.items ++ gained
             → HasLength (with_bytes path.now gained)) }
-        ensures written { let reads = Reads (S.opening sealer.now) device.now self.old.number in
+        ensures written { let reads = Reads (S.cipher sealer.now).opening device.now self.old.number in
             IfOk result (λ a. (gained : List ℕ) → out.new.items ≡ out.old.items ++ gained
-            → IsRewritten reads (S.sealing sealer.now) device.now nonce
+            → IsRewritten reads (S.cipher sealer.now).sealing device.now request.nonce
             path.now self.old.stash (with_bytes path.now gained)
-            (edited_block address new_leaf edit.entry a.before.items) self.new.stash) }
+            (edited_block request.address request.new_leaf edit.entry a.before.items) self.new.stash) }
 
         // The effect on any stored tree that has the path, and on the map that this tree and the stash hold.
-        ensures updates { let opens = S.opening sealer.now in let overhead = S.overhead sealer.now in
+        ensures updates { let opens = (S.cipher sealer.now).opening in let overhead = (S.cipher sealer.now).overhead in
             (records : ℕ → List ℕ) (content : Map)
             → IsStoredWith opens overhead device.now self.old records content
-            → IsPathOf records path.now → IsAtOrAbsent content address old_leaf
+            → IsPathOf records path.now → IsAtOrAbsent content request.address request.old_leaf
             → MatchResult result (λ a. (gained : List ℕ) → out.new.items ≡ out.old.items ++ gained
             → IsUpdate opens overhead device.now
             path.now (with_bytes path.now gained) records content
-            (edited_block address new_leaf edit.entry a.before.items)
+            (edited_block request.address request.new_leaf edit.entry a.before.items)
             a.found a.before.items self.new)
             (λ f. f ≡ TreeFault.OutOfMemory) }
     {
@@ -281,10 +281,7 @@ impl Tree {
             sealer,
             path,
             &mut self.stash,
-            address,
-            old_leaf,
-            new_leaf,
-            nonce,
+            request,
             edit,
             out,
         )?;

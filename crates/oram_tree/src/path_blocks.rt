@@ -52,11 +52,11 @@ pub(crate) fn gather<S: Sealer>(
     requires depth { path.now.depth ≡ depth_of device.now tree }
     ensures rising { IfOk result (λ near. IsRising near) }
     ensures blocks { IfOk result (λ near. All (IsBlockOf device.now tree) near) }
-    ensures near { let reads = Reads (S.opening sealer.now) device.now tree in
+    ensures near { let reads = Reads (S.cipher sealer.now).opening device.now tree in
         IfOk result (λ near. (c : Cell) → Contains near c ↔ IsInBucket reads path.now c) }
-    ensures unreadable { let reads = Reads (S.opening sealer.now) device.now tree in
+    ensures unreadable { let reads = Reads (S.cipher sealer.now).opening device.now tree in
         result ≡ Err TreeFault.Unreadable → ¬ IsReadable reads path.now stash.now }
-    ensures readable { let reads = Reads (S.opening sealer.now) device.now tree in
+    ensures readable { let reads = Reads (S.cipher sealer.now).opening device.now tree in
         OnOk result (IsReadable reads path.now stash.now) }
 {
     prove!(tree < device.trees());

@@ -20,6 +20,19 @@ use oram_hash::{DIGEST_LEN, PathView};
 use oram_stash::{Placement, Stash, StashFault, place};
 use std::alloc::{AllocError, Global};
 
+/// What an access asks of a tree.
+#[derive(Clone, Copy, Debug)]
+pub struct AccessRequest {
+    /// The block to access.
+    pub address: u32,
+    /// The leaf whose path was fetched.
+    pub old_leaf: u32,
+    /// The leaf that the block gets.
+    pub new_leaf: u32,
+    /// The nonce of the path's first new bucket; each further one has the next number.
+    pub nonce: u64,
+}
+
 /// The block that an access finds.
 #[derive(Debug, Drop)]
 pub struct Lookup {
@@ -136,11 +149,11 @@ fn seal_path<S: Sealer>(
     requires tree { tree < trees_of device.now }
     requires depth { path.now.depth ≡ depth_of device.now tree }
     requires levels { length lists.now ≡ path.now.depth + 1 }
-    requires len { path.now.record_len ≡ record_len_of device.now (S.overhead sealer.now) }
+    requires len { path.now.record_len ≡ record_len_of device.now (S.cipher sealer.now).overhead }
     requires buckets { All (λ list. IsBucketOf device.now tree (map (λ b. b.now) list.items)) lists.now }
     requires nonces { nonce + length lists.now ≤ 2 ^ 64 }
     ensures keeps { (gained : List ℕ) × (out.new.items ≡ out.old.items ++ gained) }
-    ensures sealed { OnOk result (IsSealedTo (Reads (S.opening sealer.now) device.now tree) (S.sealing sealer.now)
+    ensures sealed { OnOk result (IsSealedTo (Reads (S.cipher sealer.now).opening device.now tree) (S.cipher sealer.now).sealing
         device.now nonce path.now (map (λ list. map (λ b. b.now) list.items) lists.now) (length lists.now)
         out.old.items out.new.items) }
 {
@@ -169,11 +182,11 @@ fn append_path<S: Sealer>(
     requires tree { tree < trees_of device.now }
     requires depth { path.now.depth ≡ depth_of device.now tree }
     requires levels { length lists.now ≡ path.now.depth + 1 }
-    requires len { path.now.record_len ≡ record_len_of device.now (S.overhead sealer.now) }
+    requires len { path.now.record_len ≡ record_len_of device.now (S.cipher sealer.now).overhead }
     requires buckets { All (λ list. IsBucketOf device.now tree (map (λ b. b.now) list.items)) lists.now }
     requires nonces { nonce + length lists.now ≤ 2 ^ 64 }
     ensures err { OnErr result (out.new.items ≡ out.old.items) }
-    ensures appended { IfOk result (IsAppended (Reads (S.opening sealer.now) device.now tree) (S.sealing sealer.now)
+    ensures appended { IfOk result (IsAppended (Reads (S.cipher sealer.now).opening device.now tree) (S.cipher sealer.now).sealing
         device.now nonce path.now (map (λ list. map (λ b. b.now) list.items) lists.now) out.old.items out.new.items) }
 {
     let start = out.len();
@@ -206,7 +219,7 @@ fn evict_to<S: Sealer>(
     out: &mut Vec<u8>,
 ) -> Result<(Vec<u32>, [u8; DIGEST_LEN]), AllocError>
     requires tree { tree < trees_of device.now }
-    requires path { path.now ≡ path_of device.now tree leaf (S.overhead sealer.now) path.now.bytes }
+    requires path { path.now ≡ path_of device.now tree leaf (S.cipher sealer.now).overhead path.now.bytes }
     requires leaf { leaf < 2 ^ depth_of device.now tree }
     requires nonces { nonce + depth_of device.now tree < 2 ^ 64 }
     requires rising { IsRising (map (λ b. b.now) waiting.items) }
@@ -215,7 +228,7 @@ fn evict_to<S: Sealer>(
     ensures evicted { IfOk result (λ r. (lists : List (List Cell)) × (rest : List Cell)
         × IsEviction path.now.depth device.now.slots path.now.leaf (map (λ b. b.now) waiting.entry.items) lists rest
         × (r.0.items ≡ map (λ b. b.address) rest)
-        × IsAppended (Reads (S.opening sealer.now) device.now tree) (S.sealing sealer.now)
+        × IsAppended (Reads (S.cipher sealer.now).opening device.now tree) (S.cipher sealer.now).sealing
         device.now nonce path.now lists out.old.items out.new.items r.1) }
 {
     let Placement { lists, rest } = place(alloc, device, tree, leaf, waiting)?;
@@ -232,43 +245,46 @@ fn prepare<S: Sealer>(
     sealer: &S,
     path: &PathView<'_>,
     stash: &Stash,
-    address: u32,
-    old_leaf: u32,
-    new_leaf: u32,
-    nonce: u64,
+    request: AccessRequest,
     edit: Edit<'_>,
     out: &mut Vec<u8>,
 ) -> Result<Prepared, TreeFault>
     requires tree { tree < trees_of device.now }
-    requires path { path.now ≡ path_of device.now tree old_leaf
-        (S.overhead sealer.now) path.now.bytes }
-    requires address { address < blocks_in device.now tree }
-    requires old_leaf { old_leaf < 2 ^ depth_of device.now tree }
-    requires new_leaf { new_leaf < 2 ^ depth_of device.now tree }
-    requires nonces { nonce + depth_of device.now tree < 2 ^ 64 }
+    requires path { path.now ≡ path_of device.now tree request.old_leaf
+        (S.cipher sealer.now).overhead path.now.bytes }
+    requires address { request.address < blocks_in device.now tree }
+    requires old_leaf { request.old_leaf < 2 ^ depth_of device.now tree }
+    requires new_leaf { request.new_leaf < 2 ^ depth_of device.now tree }
+    requires nonces { request.nonce + depth_of device.now tree < 2 ^ 64 }
     requires edit { IsEditOf device.now tree edit }
     requires blocks { All (IsBlockOf device.now tree) stash.now }
 
     ensures err { OnErr result (out.new.items ≡ out.old.items) }
-    ensures unreadable { let reads = Reads (S.opening sealer.now) device.now tree in
+    ensures unreadable { let reads = Reads (S.cipher sealer.now).opening device.now tree in
         result ≡ Err TreeFault.Unreadable → ¬ IsReadable reads path.now stash.now }
-    ensures readable { let reads = Reads (S.opening sealer.now) device.now tree in
+    ensures readable { let reads = Reads (S.cipher sealer.now).opening device.now tree in
         OnOk result (IsReadable reads path.now stash.now) }
 
-    ensures lookup { let reads = Reads (S.opening sealer.now) device.now tree in
+    ensures lookup { let reads = Reads (S.cipher sealer.now).opening device.now tree in
         IfOk result (λ r. IsLookup (IsInBucket reads path.now)
-        device.now.block_bytes address r.on_path.found r.on_path.before.items) }
-    ensures prepared { let reads = Reads (S.opening sealer.now) device.now tree in
-        IfOk result (λ r. IsPrepared reads (S.sealing sealer.now) device.now nonce path.now stash.now
-        (edited_block address new_leaf edit.entry (content_in stash.now address r.on_path.before.items))
+        device.now.block_bytes request.address r.on_path.found r.on_path.before.items) }
+    ensures prepared { let reads = Reads (S.cipher sealer.now).opening device.now tree in
+        IfOk result (λ r. IsPrepared reads (S.cipher sealer.now).sealing device.now request.nonce path.now stash.now
+        (edited_block request.address request.new_leaf edit.entry (content_in stash.now request.address r.on_path.before.items))
         r.near r.stays.items out.old.items out.new.items r.root) }
     ensures blocks { IfOk result (λ r. All (IsBlockOf device.now tree) r.near) }
     ensures apart { IfOk result (λ r. (c d : Cell) → Contains stash.now c → Contains r.near d
-        → c.address ≡ d.address → c.address ≡ address) }
+        → c.address ≡ d.address → c.address ≡ request.address) }
     ensures empty { IfOk result (λ r. r.room.items ≡ []) }
     ensures room { IfOk result (λ r. length stash.now + length r.near ≤ vec_capacity r.room) }
 {
     let mut near = gather(alloc, device, tree, sealer, path, stash)?;
+    let AccessRequest {
+        address,
+        old_leaf,
+        new_leaf,
+        nonce,
+    } = request;
     let (before, found) = change(alloc, device, stash, &mut near, address, new_leaf, edit)?;
     let room = stash.room_with(alloc, &near)?;
     let waiting = stash.waiting(alloc, &near, address)?;
@@ -339,46 +355,41 @@ pub(crate) fn rewrite<S: Sealer>(
     sealer: &S,
     path: &PathView<'_>,
     stash: &mut Stash,
-    address: u32,
-    old_leaf: u32,
-    new_leaf: u32,
-    nonce: u64,
+    request: AccessRequest,
     edit: Edit<'_>,
     out: &mut Vec<u8>,
 ) -> Result<(Lookup, [u8; DIGEST_LEN]), TreeFault>
     requires tree { tree < trees_of device.now }
-    requires path { path.now ≡ path_of device.now tree old_leaf
-        (S.overhead sealer.now) path.now.bytes }
-    requires address { address < blocks_in device.now tree }
-    requires old_leaf { old_leaf < 2 ^ depth_of device.now tree }
-    requires new_leaf { new_leaf < 2 ^ depth_of device.now tree }
-    requires nonces { nonce + depth_of device.now tree < 2 ^ 64 }
+    requires path { path.now ≡ path_of device.now tree request.old_leaf
+        (S.cipher sealer.now).overhead path.now.bytes }
+    requires address { request.address < blocks_in device.now tree }
+    requires old_leaf { request.old_leaf < 2 ^ depth_of device.now tree }
+    requires new_leaf { request.new_leaf < 2 ^ depth_of device.now tree }
+    requires nonces { request.nonce + depth_of device.now tree < 2 ^ 64 }
     requires edit { IsEditOf device.now tree edit }
     requires blocks { All (IsBlockOf device.now tree) stash.old }
 
     ensures err { OnErr result (stash.new ≡ stash.old) }
     ensures out_err { OnErr result (out.new.items ≡ out.old.items) }
-    ensures unreadable { let reads = Reads (S.opening sealer.now) device.now tree in
+    ensures unreadable { let reads = Reads (S.cipher sealer.now).opening device.now tree in
         result ≡ Err TreeFault.Unreadable → ¬ IsReadable reads path.now stash.old }
-    ensures readable { let reads = Reads (S.opening sealer.now) device.now tree in
+    ensures readable { let reads = Reads (S.cipher sealer.now).opening device.now tree in
         OnOk result (IsReadable reads path.now stash.old) }
 
-    ensures lookup { let reads = Reads (S.opening sealer.now) device.now tree in
+    ensures lookup { let reads = Reads (S.cipher sealer.now).opening device.now tree in
         IfOk result (λ r. IsLookup (IsNear reads path.now stash.old)
-        device.now.block_bytes address r.0.found r.0.before.items) }
+        device.now.block_bytes request.address r.0.found r.0.before.items) }
     ensures data_len { IfOk result (λ r. length r.0.before.items ≡ device.now.block_bytes) }
-    ensures written { let reads = Reads (S.opening sealer.now) device.now tree in
+    ensures written { let reads = Reads (S.cipher sealer.now).opening device.now tree in
         IfOk result (λ r. (records : List ℕ) × (out.new.items ≡ out.old.items ++ records)
-        × HasLength (with_bytes path.now records) × IsRewritten reads (S.sealing sealer.now) device.now nonce
+        × HasLength (with_bytes path.now records) × IsRewritten reads (S.cipher sealer.now).sealing device.now request.nonce
         path.now stash.old (with_bytes path.now records)
-        (edited_block address new_leaf edit.entry r.0.before.items) stash.new
+        (edited_block request.address request.new_leaf edit.entry r.0.before.items) stash.new
         × StandsRebuilt path.now records r.1) }
     ensures blocks { All (IsBlockOf device.now tree) stash.new }
 {
-    let prepared = prepare(
-        alloc, device, tree, sealer, path, stash, address, old_leaf, new_leaf, nonce, edit, out,
-    )?;
+    let prepared = prepare(alloc, device, tree, sealer, path, stash, request, edit, out)?;
     let root = prepared.root;
-    let lookup = commit(stash, address, prepared);
+    let lookup = commit(stash, request.address, prepared);
     Ok((lookup, root))
 }

@@ -28,7 +28,7 @@ fn empty_record<S: Sealer>(
 ) -> Result<Vec<u8>, AllocError>
     requires { tree < trees_of device.now }
     ensures { IfOk result (λ v.
-        v.items ≡ S.sealing sealer.now nonce (spelling device.now []) ++ left.now ++ right.now) }
+        v.items ≡ (S.cipher sealer.now).sealing nonce (spelling device.now []) ++ left.now ++ right.now) }
 {
     let no_blocks: [Block; 0] = [];
     let mut record = seal_bucket(alloc, sealer, device, tree, nonce, &no_blocks)?;
@@ -59,11 +59,11 @@ fn put_node<S: Sealer, K: Sink>(
 ) -> Result<[u8; DIGEST_LEN], FormatFault>
     requires { tree < trees_of device.now }
     ensures memory { result ≢ Err (FormatFault.Sink SinkFault.OutOfMemory) }
-    ensures put { let sealed = S.sealing sealer.now nonce (spelling device.now []) in
+    ensures put { let sealed = (S.cipher sealer.now).sealing nonce (spelling device.now []) in
         OnOk result (K.putting sink.old (put_body tree node (sealed ++ left.now ++ right.now)) sink.new) }
-    ensures digest { let sealed = S.sealing sealer.now nonce (spelling device.now []) in
+    ensures digest { let sealed = (S.cipher sealer.now).sealing nonce (spelling device.now []) in
         IfOk result (λ d. d ≡ sha256 (sealed ++ left.now ++ right.now)) }
-    ensures broken_off { let sealed = S.sealing sealer.now nonce (spelling device.now []) in
+    ensures broken_off { let sealed = (S.cipher sealer.now).sealing nonce (spelling device.now []) in
         IfErr result (λ fault. IsBrokenOff K.putting K.refusing (IsStartOf (put_body tree node (sealed ++ left.now ++ right.now) ∷ [])) sink.old fault sink.new) }
 {
     let record = empty_record(alloc, device, tree, sealer, nonce, left, right)?;
@@ -99,11 +99,11 @@ fn put_subtree<S: Sealer, K: Sink>(
     requires nodes { (node + 2) * 2 ^ height ≤ 2 ^ 25 }
     requires nonces { nonce + node_count height ≤ 2 ^ 64 }
     ensures memory { result ≢ Err (FormatFault.Sink SinkFault.OutOfMemory) }
-    ensures put { let seal = λ (n : ℕ). S.sealing sealer.now n (spelling device.now []) in
+    ensures put { let seal = λ (n : ℕ). (S.cipher sealer.now).sealing n (spelling device.now []) in
         OnOk result (PutsAll K.putting sink.old (puts seal tree height nonce node) sink.new) }
-    ensures digest { let seal = λ (n : ℕ). S.sealing sealer.now n (spelling device.now []) in
+    ensures digest { let seal = λ (n : ℕ). (S.cipher sealer.now).sealing n (spelling device.now []) in
         IfOk result (λ d. d ≡ sha256 (root_record seal height nonce)) }
-    ensures broken_off { let seal = λ (n : ℕ). S.sealing sealer.now n (spelling device.now []) in
+    ensures broken_off { let seal = λ (n : ℕ). (S.cipher sealer.now).sealing n (spelling device.now []) in
         IfErr result (λ fault. IsBrokenOff K.putting K.refusing (IsStartOf (puts seal tree height nonce node)) sink.old fault sink.new) }
 {
     if height == 0 {
@@ -167,10 +167,10 @@ pub(crate) fn format_tree<S: Sealer, K: Sink>(
     ensures memory { result ≢ Err (FormatFault.Sink SinkFault.OutOfMemory) }
     ensures made { IfOk result (λ root. (bodies : List (List ℕ))
         × PutsAll K.putting sink.old bodies sink.new
-        × IsFormat (S.opening sealer.now) (S.sealing sealer.now) (S.overhead sealer.now)
+        × IsFormat (S.cipher sealer.now)
         device.now nonce (record { number = tree; root = root; stash = [] }) bodies) }
     ensures broken_off { IfErr result (λ fault. IsBrokenOff K.putting K.refusing
-        (IsBegun (S.opening sealer.now) (S.sealing sealer.now) (S.overhead sealer.now) device.now nonce tree)
+        (IsBegun (S.cipher sealer.now) device.now nonce tree)
         sink.old fault sink.new) }
 {
     prove!(tree < device.trees());

@@ -1,5 +1,6 @@
 -- What a kept core with its link holds, after a command and after what waited.
 use Rattle.std.proofs.Common.{◌≡◌, ◌≢◌, ◌⊎◌, ℕ, Bool, true, false, List, [], ◌∷◌, length, Option, Some, None, is_some, Result, Ok, Err, IfOk, IsErrOf, OnOk, refl, sym, ◌∙◌, subst, inl, inr}
+use Rattle.oram_bucket.specs.Cipher.{Cipher}
 use Rattle.oram_host.specs.Host.{Host}
 use Rattle.oram_semantics.specs.Blocks.{body_from}
 use Rattle.oram_semantics.specs.Events.{address_of}
@@ -20,7 +21,7 @@ use Rattle.oram_session.specs.Honesty.{IsHeld}
 use Rattle.oram_session.specs.Outcome.{Outcome}
 use Rattle.oram_session.specs.Settled.{IsSettled, is_settled_by}
 use Rattle.oram_session.proofs.Honesty.{resting}
-use Rattle.oram_session.proofs.Steppings.{same_shape}
+use Rattle.oram_session.proofs.Steppings.{same_scheme}
 use Rattle.oram_keep.specs.Asking.{HasGivenAll, HasRunOutAt, HasStalledAt, IsAccepted, IsCarriedOut, IsRefused, IsReopened, IsUnkeptAt}
 use Rattle.oram_keep.specs.Keeping.{at}
 use Rattle.oram_keep.specs.Surviving.{Holds, IsLasting, IsResuming, Recovers}
@@ -182,15 +183,15 @@ module _ (may_lie : Bool) (v : Scheme) {L : Type 0} (calls : L → List ℕ → 
       ]
 
 -- what waited is settled, and then a command carried out
-module _ {S : Type 0} (overhead : S → ℕ) (sealing : S → ℕ → List ℕ → List ℕ) (opening : S → List ℕ → Option (List ℕ)) (first mid : CoreValue S) (kept : IsSameDevice first mid) {L K : Type 0} (calls : L → List ℕ → Outcome → L → Type 0) (keeps : K → List ℕ → Bool → K → Type 0) (first_link link : L) (keeper : K) (t : State) (m : L) (j : K) (words : ℕ → ℕ → List ℕ) (c : Command) (settled : IsSettled mid.state) where
+module _ {S : Type 0} (cipher : S → Cipher) (first mid : CoreValue S) (kept : IsSameDevice first mid) {L K : Type 0} (calls : L → List ℕ → Outcome → L → Type 0) (keeps : K → List ℕ → Bool → K → Type 0) (first_link link : L) (keeper : K) (t : State) (m : L) (j : K) (words : ℕ → ℕ → List ℕ) (c : Command) (settled : IsSettled mid.state) where
   abbrev v : Scheme
-  v = scheme_of overhead sealing opening first
+  v = scheme_of cipher first
 
   abbrev w : Scheme
-  w = scheme_of overhead sealing opening mid
+  w = scheme_of cipher mid
 
   same : w ≡ v
-  same = same_shape overhead sealing opening first mid kept
+  same = same_scheme cipher first mid kept
 
   abbrev StillHolds : Type 0
   StillHolds = (may_lie : Bool) (array : ℕ → List ℕ) → HoldsArray may_lie v calls first.state first_link array → HoldsArray may_lie v calls mid.state link array

@@ -1,5 +1,6 @@
 -- What a volume holds of bytes, after a command.
-use Rattle.std.proofs.Common.{◌⊎◌, ℕ, Bool, false, List, [], Option, Result, Ok, Err, OnErr, sym, subst, inl, inr}
+use Rattle.std.proofs.Common.{◌⊎◌, ℕ, Bool, false, List, [], Result, Ok, Err, OnErr, sym, subst, inl, inr}
+use Rattle.oram_bucket.specs.Cipher.{Cipher}
 use Rattle.oram_semantics.specs.Serving.{array_after}
 use Rattle.oram_semantics.specs.Scheme.{Scheme}
 use Rattle.oram_semantics.specs.declared.events.Command.{Command}
@@ -7,7 +8,7 @@ use Rattle.oram_semantics.specs.declared.events.ReplyBody.{ReplyBody}
 use Rattle.oram_semantics.specs.declared.events.ReplyBody.TheVariants.{Data, Done, Failed}
 use Rattle.oram_core.specs.Core.{CoreValue, IsSameDevice, scheme_of}
 use Rattle.oram_session.specs.Outcome.{Outcome}
-use Rattle.oram_session.proofs.Steppings.{same_shape}
+use Rattle.oram_session.proofs.Steppings.{same_scheme}
 use Rattle.oram_volume.specs.Blocks.{IsLaidOut}
 use Rattle.oram_volume.specs.Holding.{HoldsArray, HoldsBytes, IsSound, Keeps}
 
@@ -22,16 +23,16 @@ data_of Done = []
 data_of Failed = []
 
 -- over a core before and after a command, and its link: a command that makes these bytes of the bytes
-module _ {S : Type 0} (overhead : S → ℕ) (sealing : S → ℕ → List ℕ → List ℕ) (opening : S → List ℕ → Option (List ℕ)) (old new : CoreValue S) (kept : IsSameDevice old new) {L : Type 0} (calls : L → List ℕ → Outcome → L → Type 0) (l m : L) (c : Command) (made : List ℕ → List ℕ) (laid : (array : ℕ → List ℕ) (bytes : List ℕ) → IsLaidOut old.device array bytes → IsLaidOut old.device (array_after old.device c array) (made bytes)) where
+module _ {S : Type 0} (cipher : S → Cipher) (old new : CoreValue S) (kept : IsSameDevice old new) {L : Type 0} (calls : L → List ℕ → Outcome → L → Type 0) (l m : L) (c : Command) (made : List ℕ → List ℕ) (laid : (array : ℕ → List ℕ) (bytes : List ℕ) → IsLaidOut old.device array bytes → IsLaidOut old.device (array_after old.device c array) (made bytes)) where
   abbrev v : Scheme
-  v = scheme_of overhead sealing opening old
+  v = scheme_of cipher old
 
   abbrev w : Scheme
-  w = scheme_of overhead sealing opening new
+  w = scheme_of cipher new
 
   as_spelled : (may_lie : Bool) (array : ℕ → List ℕ) (bytes : List ℕ) → HoldsArray may_lie v calls new.state m array → IsLaidOut v.device array bytes
       → HoldsBytes may_lie w calls new.state m bytes
-  as_spelled may_lie array bytes h is = subst (λ (u : Scheme). HoldsBytes may_lie u calls new.state m bytes) (sym (same_shape overhead sealing opening old new kept)) (record { array = array; holds = h; laid = is })
+  as_spelled may_lie array bytes h is = subst (λ (u : Scheme). HoldsBytes may_lie u calls new.state m bytes) (sym (same_scheme cipher old new kept)) (record { array = array; holds = h; laid = is })
 
   -- the array becomes the one after the command, or it may also stay
   abbrev Becomes : Type 0

@@ -22,13 +22,13 @@ impl<S: Sealer, L: Link, K: Keeper, T: Tape> BlockDevice for Volume<S, L, K, T> 
 
     ghost size = { λ d. d.core.device.block_bytes * d.core.device.blocks };
 
-    ghost holds = { λ d bytes. Keeps (scheme_of S.overhead S.sealing S.opening d.core) L.calls d.core.state d.link bytes };
+    ghost holds = { λ d bytes. Keeps (scheme_of S.cipher d.core) L.calls d.core.state d.link bytes };
 
-    ghost is_sound = { λ d. IsSound (scheme_of S.overhead S.sealing S.opening d.core) L.calls d.core.state d.link };
+    ghost is_sound = { λ d. IsSound (scheme_of S.cipher d.core) L.calls d.core.state d.link };
 
     ghost failed = { λ d. HasFailed d.core.state };
 
-    ghost stops = { λ d e. (command : Command) × StopsAt (scheme_of S.overhead S.sealing S.opening d.core) L.calls K.keeps (T.words d.tape) command
+    ghost stops = { λ d e. (command : Command) × StopsAt (scheme_of S.cipher d.core) L.calls K.keeps (T.words d.tape) command
         d.core.state d.link d.keeper e.core.state e.link e.keeper };
 
     fn has_failed(&self) -> bool {

@@ -47,15 +47,15 @@ impl<S: Sealer, L: Link, K: Keeper, T: Tape> Volume<S, L, K, T> {
         ensures kept { IsSameDevice self.old.core self.new.core }
         ensures settled { OnOk result (IsSettled self.new.core.state) }
         ensures calm { IsSettled self.old.core.state → IsOk result }
-        ensures holds { let v = scheme_of S.overhead S.sealing S.opening self.old.core in
+        ensures holds { let v = scheme_of S.cipher self.old.core in
             (may_lie : Bool) (array : ℕ → List ℕ) → HoldsArray may_lie v L.calls self.old.core.state self.old.link array
             → HoldsArray may_lie v L.calls self.new.core.state self.new.link array }
         ensures fault { IfErr result (λ e. e ≢ DiskFault.Failed) }
 
         // It stops where a message stalls four times or the state can't be kept, and nowhere else.
-        ensures through { let v = scheme_of S.overhead S.sealing S.opening self.old.core in
+        ensures through { let v = scheme_of S.cipher self.old.core in
             OnOk result (IsThrough v L.calls K.keeps self.old.core.state self.old.link self.old.keeper self.new.core.state self.new.link self.new.keeper) }
-        ensures stopped { let v = scheme_of S.overhead S.sealing S.opening self.old.core in
+        ensures stopped { let v = scheme_of S.cipher self.old.core in
             IsErrOf result DiskFault.Stopped → IsLeftUndone v L.calls K.keeps (IsReopened v)
             self.old.core.state self.old.link self.old.keeper self.new.core.state self.new.link self.new.keeper }
         ensures tape { self.new.tape ≡ self.old.tape }
@@ -84,18 +84,18 @@ impl<S: Sealer, L: Link, K: Keeper, T: Tape> Volume<S, L, K, T> {
     ) -> Result<ReplyBody, DiskFault>
         ensures kept { IsSameDevice self.old.core self.new.core }
         ensures block { IfOk result (λ body. IsBodyOf self.old.core.device body) }
-        ensures ok { let v = scheme_of S.overhead S.sealing S.opening self.old.core in
+        ensures ok { let v = scheme_of S.cipher self.old.core in
             IfOk result (λ body. (may_lie : Bool) (array : ℕ → List ℕ) → HoldsArray may_lie v L.calls self.old.core.state self.old.link array
             → (body ≡ body_from (array (address_in command)) command)
             × HoldsArray may_lie v L.calls self.new.core.state self.new.link (array_after v.device command array)) }
-        ensures err { let v = scheme_of S.overhead S.sealing S.opening self.old.core in
+        ensures err { let v = scheme_of S.cipher self.old.core in
             OnErr result ((may_lie : Bool) (array : ℕ → List ℕ) → HoldsArray may_lie v L.calls self.old.core.state self.old.link array
             → HoldsArray may_lie v L.calls self.new.core.state self.new.link array
             ⊎ HoldsArray may_lie v L.calls self.new.core.state self.new.link (array_after v.device command array)) }
-        ensures sound { let v = scheme_of S.overhead S.sealing S.opening self.old.core in
+        ensures sound { let v = scheme_of S.cipher self.old.core in
             IsErrOf result DiskFault.Failed → (array : ℕ → List ℕ) → HoldsArray false v L.calls self.old.core.state self.old.link array → ⊥ }
         ensures failing { IsErrOf result DiskFault.Failed → HasFailed self.new.core.state }
-        ensures stopped { let v = scheme_of S.overhead S.sealing S.opening self.old.core in
+        ensures stopped { let v = scheme_of S.cipher self.old.core in
             IsErrOf result DiskFault.Stopped → StopsAt v L.calls K.keeps (T.words self.old.tape) command
             self.old.core.state self.old.link self.old.keeper self.new.core.state self.new.link self.new.keeper }
     {

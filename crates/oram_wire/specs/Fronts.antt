@@ -4,6 +4,7 @@ use Rattle.oram_wire.specs.FrameStream.{IsBody, IsBroken, IsUnfinished, frame}
 use Rattle.oram_wire.specs.declared.framing.Front.{Front}
 use Rattle.oram_wire.specs.declared.framing.Front.TheVariants as front
 
+-- the bytes begin as this reading of them says
 abbrev pub IsFront : List ℕ → Front → Type 0
 IsFront bytes (front.Whole body after) = IsBody body.now × (bytes ≡ frame body.now ++ after.now)
 IsFront bytes front.Unfinished = IsUnfinished bytes

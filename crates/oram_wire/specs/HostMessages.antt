@@ -29,8 +29,24 @@ request_body (request.Store tree leaf records) = store_body tree leaf records
 request_body (request.Put tree node bytes) = put_body tree node bytes
 request_body (request.Shape tree depth record_len) = shape_body tree depth record_len
 
+-- the host gives what it was asked for
+abbrev pub payload_answer : List ℕ → List ℕ
+payload_answer bytes = 128 ∷ bytes
+
+-- the host has done what it was asked to do
+abbrev pub done_answer : List ℕ
+done_answer = payload_answer []
+
+-- the host refuses, by a code
+abbrev pub refusal_answer : ℕ → List ℕ
+refusal_answer code = 129 ∷ code ∷ []
+
+-- the host has no room
+abbrev pub no_room_answer : List ℕ
+no_room_answer = refusal_answer 8
+
 -- the body of an answer
 abbrev pub answer_body : HostAnswer → List ℕ
-answer_body (answer.Payload bytes) = 128 ∷ bytes
-answer_body answer.Done = 128 ∷ []
-answer_body (answer.Refused code) = 129 ∷ code ∷ []
+answer_body (answer.Payload bytes) = payload_answer bytes
+answer_body answer.Done = done_answer
+answer_body (answer.Refused code) = refusal_answer code

@@ -6,6 +6,7 @@ use Rattle.oram_wire.specs.declared.host_messages.HostAnswer.{HostAnswer}
 use Rattle.oram_wire.specs.declared.host_messages.HostAnswer.TheVariants as answer
 use Rattle.oram_wire.specs.declared.host_messages.HostView.{HostView}
 use Rattle.oram_wire.specs.declared.host_messages.HostView.TheVariants as view
+use Rattle.oram_wire.specs.HostMessages.{refusal_answer}
 
 -- the request that a view borrows
 abbrev pub request_of : HostView → HostRequest
@@ -47,7 +48,7 @@ IsOverlong body = (slice_index body 0 ≡ 129) × (length body ≢ 2)
 
 -- a refusal whose code is unknown
 abbrev pub HasNoCode : List ℕ → Type 0
-HasNoCode body = (code : ℕ) × (body ≡ 129 ∷ code ∷ []) × ((code ≡ 0) ⊎ (8 < code))
+HasNoCode body = (code : ℕ) × (body ≡ refusal_answer code) × ((code ≡ 0) ⊎ (8 < code))
 
 -- the host can give this answer: a payload has at least one byte, and a code is from 1 to 8
 abbrev pub IsAnswer : HostAnswer → Type 0

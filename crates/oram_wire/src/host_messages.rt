@@ -2,7 +2,7 @@
 
 ghost use Rattle.std.specs.Prelude.{◌≡◌, ◌≢◌, ◌↔◌, ◌⊎◌, ◌<◌, ◌^◌, ◌∷◌, [], ◌++◌, IsTrue, true, false, ℕ, List, length, IfOk, IfErr, IsErrOf, IsOkAnd, MatchResult};
 ghost use Rattle.std.specs.Int.{w32, to_be_bytes};
-ghost use Rattle.oram_wire.specs.HostMessages.{request_body, answer_body, fetch_body, store_body, shape_body};
+ghost use Rattle.oram_wire.specs.HostMessages.{answer_body, done_answer, fetch_body, request_body, shape_body, store_body};
 ghost use Rattle.oram_wire.specs.HostReading.{request_of, names_request, names_answer, IsMisfit, IsOverlong, HasNoCode, HasNumbers, IsAnswer};
 
 use crate::faults::WireFault;
@@ -26,7 +26,7 @@ pub const REFUSED: u8 = 0x81;
 
 /// Returns whether an answer is the one byte that says that the host is done.
 pub fn is_done(answer: &[u8]) -> bool
-    ensures { IsTrue result ↔ (answer.now ≡ 128 ∷ []) }
+    ensures { IsTrue result ↔ (answer.now ≡ done_answer) }
 {
     answer == [GOOD].as_slice()
 }

@@ -4,6 +4,7 @@ use Rattle.std.specs.Prelude.{IfOk, IsErrOf, OnOk, replicate}
 use Rattle.std.specs.Io.KnownBytes.{IsAtEnd}
 use Rattle.oram_geometry.specs.declared.Sizes.{Sizes}
 use Rattle.oram_geometry.specs.Sizes.{trees_of}
+use Rattle.oram_bucket.specs.Cipher.{plain_cipher}
 use Rattle.oram_wire.specs.FrameStream.{IsBroken, IsUnfinished}
 use Rattle.oram_semantics.specs.Scheme.{Scheme}
 use Rattle.oram_semantics.specs.State.{State}
@@ -14,13 +15,13 @@ use Rattle.oram_session.specs.Turns.{Turn}
 use Rattle.oram_host.specs.declared.serve_fault.ServeFault.{ServeFault}
 use Rattle.oram_host.specs.declared.serve_fault.ServeFault.TheVariants as serve
 use Rattle.oramd.specs.Formatting.{IsFormatted}
-use Rattle.oramd.specs.Looping.{HasAnswered, after_frames, loop_shape, loop_sizes, loop_words}
+use Rattle.oramd.specs.Looping.{HasAnswered, after_frames, loop_scheme, loop_sizes, loop_words}
 use Rattle.oramd.specs.declared.faults.Fault.{Fault}
 use Rattle.oramd.specs.declared.faults.Fault.TheVariants.{Hex, OutOfMemory, Stalled}
 
 -- a device of these sizes, unsealed
-abbrev pub shape_at : Sizes → Scheme
-shape_at d = record { device = d; overhead = 0; sealing = λ nonce plain. plain; opening = λ bytes. Some bytes }
+abbrev pub scheme_at : Sizes → Scheme
+scheme_at d = record { device = d; cipher = plain_cipher }
 
 -- One end isn't another.
 ok_is_not : (q : Result (Unit {0}) Fault) → q ≡ Ok tt → q ≡ Err Hex → ⊥
@@ -35,24 +36,24 @@ memory_is_not q a b = cc
 module _ {L : Type 0} (calls : L → List ℕ → Outcome → L → Type 0) (d : Sizes) (key : List ℕ) (trees : ℕ) (from mid to : L) (new after : State) (frames unread replies replies' : List ℕ) where
   -- the turns that a device of these sizes answered
   abbrev pub Served : List Turn → List ℕ → Type 0
-  Served turns part = HasServed (shape_at d) calls (chacha_words key trees) 0 (new, mid) turns (after, to) part (Some frames) (Some unread) [] (Some replies) (Some replies')
+  Served turns part = HasServed (scheme_at d) calls (chacha_words key trees) 0 (new, mid) turns (after, to) part (Some frames) (Some unread) [] (Some replies) (Some replies')
 
   abbrev pub Answered : List ℕ → Type 0
   Answered part = HasAnswered calls from frames part replies replies' unread to
 
-  module _ (sized : d ≡ loop_sizes) (zero_key : key ≡ replicate 32 0) (count : trees ≡ trees_of d) (formatted : IsFormatted (shape_at d) calls from new mid) where
+  module _ (sized : d ≡ loop_sizes) (zero_key : key ≡ replicate 32 0) (count : trees ≡ trees_of d) (formatted : IsFormatted (scheme_at d) calls from new mid) where
     pub answered : (turns : List Turn) (part : List ℕ) → Served turns part → Answered part
     answered turns part served =
         let P : Scheme → Type 0 = λ v. HasServed v calls (chacha_words key trees) 0 (new, mid) turns (after, to) part (Some frames) (Some unread) [] (Some replies) (Some replies') in
-        let Q : (ℕ → ℕ → List ℕ) → Type 0 = λ words. HasServed loop_shape calls words 0 (new, mid) turns (after, to) part (Some frames) (Some unread) [] (Some replies) (Some replies') in
+        let Q : (ℕ → ℕ → List ℕ) → Type 0 = λ words. HasServed loop_scheme calls words 0 (new, mid) turns (after, to) part (Some frames) (Some unread) [] (Some replies) (Some replies') in
         let words : chacha_words key trees ≡ loop_words = ap₂ chacha_words zero_key (count ∙ ap trees_of sized) in
         record {
           new = new;
           mid = mid;
-          formatted = subst (λ (v : Scheme). IsFormatted v calls from new mid) (ap shape_at sized) formatted;
+          formatted = subst (λ (v : Scheme). IsFormatted v calls from new mid) (ap scheme_at sized) formatted;
           turns = turns;
           after = after;
-          served = subst Q words (subst P (ap shape_at sized) served);
+          served = subst Q words (subst P (ap scheme_at sized) served);
         }
 
     pub all_answered : (r : Result ℕ ServeFault) (q : Result (Unit {0}) Fault) → q ≡ after_frames r

@@ -3,6 +3,7 @@ use Rattle.std.specs.Prelude.{◌≡◌, ◌⊎◌, ℕ, List, ◌++◌, codes, 
 use Rattle.oramd.specs.declared.faults.Fault.{Fault}
 use Rattle.oramd.specs.declared.faults.Fault.TheVariants.{CommandLine, Hex, Settings, OutOfMemory, File, Socket, Shape, State, Image, HostRefused, Stalled, Failed}
 
+-- what oramd says of a fault
 abbrev pub message_of : Fault → List ℕ
 message_of CommandLine = codes "bad command line"
 message_of Hex = codes "bad hex"

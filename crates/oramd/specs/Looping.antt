@@ -2,6 +2,7 @@
 use Rattle.std.specs.Prelude.{◌≡◌, ◌⊎◌, ℕ, List, [], Some, Result, Ok, Err, replicate}
 use Rattle.oram_geometry.specs.declared.Sizes.{Sizes}
 use Rattle.oram_geometry.specs.Sizes.{trees_of}
+use Rattle.oram_bucket.specs.Cipher.{plain_cipher}
 use Rattle.oram_semantics.specs.Scheme.{Scheme}
 use Rattle.oram_semantics.specs.State.{State}
 use Rattle.oram_session.specs.Outcome.{Outcome}
@@ -21,8 +22,8 @@ abbrev pub loop_sizes : Sizes
 loop_sizes = record { blocks = 64; block_bytes = 16; slots = 4; top = 64; lifetime = 100 }
 
 -- unsealed
-abbrev pub loop_shape : Scheme
-loop_shape = record { device = loop_sizes; overhead = 0; sealing = λ nonce plain. plain; opening = λ bytes. Some bytes }
+abbrev pub loop_scheme : Scheme
+loop_scheme = record { device = loop_sizes; cipher = plain_cipher }
 
 -- the words of the tape with the zero key
 abbrev pub loop_words : ℕ → ℕ → List ℕ
@@ -48,7 +49,7 @@ IsUnansweredFor told = ((why : FormatFault) × (told ≡ format_fault why)) ⊎ 
 pub record HasAnswered {L : Type 0} (calls : L → List ℕ → Outcome → L → Type 0) (from : L) (frames part replies replies' : List ℕ) (unread : List ℕ) (to : L) : Type 0 where
   pub new : State
   pub mid : L
-  pub formatted : IsFormatted loop_shape calls from new mid
+  pub formatted : IsFormatted loop_scheme calls from new mid
   pub turns : List Turn
   pub after : State
-  pub served : HasServed loop_shape calls loop_words 0 (new, mid) turns (after, to) part (Some frames) (Some unread) [] (Some replies) (Some replies')
+  pub served : HasServed loop_scheme calls loop_words 0 (new, mid) turns (after, to) part (Some frames) (Some unread) [] (Some replies) (Some replies')

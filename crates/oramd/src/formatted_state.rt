@@ -36,9 +36,9 @@ pub fn format_state<S: Sealer, L: Link>(
     sealer: S,
     link: &mut L,
 ) -> Result<Vec<u8>, Fault>
-    ensures formatted { let v = scheme_with S.overhead S.sealing S.opening device sealer in
-        IfOk result (λ file. (s : State) × IsFormatted v L.calls link.old s link.new × IsSaved file.items (S.overhead sealer) device s) }
-    ensures fault { let v = scheme_with S.overhead S.sealing S.opening device sealer in
+    ensures formatted { let v = scheme_with S.cipher device sealer in
+        IfOk result (λ file. (s : State) × IsFormatted v L.calls link.old s link.new × IsSaved file.items (S.cipher sealer).overhead device s) }
+    ensures fault { let v = scheme_with S.cipher device sealer in
         IfErr result (λ told. GivesNoFile v L.calls link.old told link.new) }
 {
     let core = format_device(alloc, device, sealer, link)?;

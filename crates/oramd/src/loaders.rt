@@ -49,9 +49,9 @@ pub fn load_host<R: Read>(alloc: Global, name: &str, reader: &mut R) -> Result<S
 /// Loads the core from a state file. `sealer` has to be the one that it was saved with.
 pub fn load_core<S: Sealer>(alloc: Global, sealer: S, file: &[u8]) -> Result<Core<S>, Fault>
     ensures sealer { IfOk result (λ c. c.sealer ≡ sealer) }
-    ensures core { IfOk result (λ c. IsSaved file.now (S.overhead sealer) c.device c.state) }
+    ensures core { IfOk result (λ c. IsSaved file.now (S.cipher sealer).overhead c.device c.state) }
     ensures fault { IfErr result (λ told. (why : StateFault) × (told ≡ state_fault why)
-        × IsFaultIn file.now (S.overhead sealer) why) }
+        × IsFaultIn file.now (S.cipher sealer).overhead why) }
 {
     Ok(decode_state(alloc, sealer, file)?)
 }

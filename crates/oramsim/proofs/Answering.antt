@@ -25,7 +25,7 @@ replies_as r m n bytes f h = subst (λ (k : Host). HostAnswers k r.message bytes
 pub heard_stands : (r : Running) (m n : Machine) (bytes : List ℕ) → IsAtRun r m → IsHeard m n bytes → IsAtRun (with_host r n.server) n
 heard_stands r m n bytes f h = record {
   ranges = rw h.core f.ranges;
-  shape = rw h.core f.shape;
+  scheme = rw h.core f.scheme;
   leads = rw h.core f.leads;
   message = h.outstanding ∙ f.message;
   host = refl;

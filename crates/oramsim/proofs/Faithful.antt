@@ -19,7 +19,7 @@ use Rattle.oram_semantics.specs.declared.events.Reply.{Reply}
 use Rattle.oram_semantics.proofs.Going.{steps_are_right}
 use Rattle.oram_host_laws.specs.Honest.{IsHonest}
 use Rattle.oram_host_laws.proofs.Honest.{honest_hosts_serve}
-use Rattle.oramsim.specs.Script.{HostAnswers, Running, Turn, all_shown, events, is_answer, plain_shape}
+use Rattle.oramsim.specs.Script.{HostAnswers, Running, Turn, all_shown, events, is_answer, plain_scheme}
 use Rattle.oramsim.specs.Correspondence.{IsPlayed, IsAtRun, StaysFaithful}
 use Rattle.oramsim.specs.declared.machine.Machine.{Machine}
 use Rattle.oramsim.proofs.Turning.{moving}
@@ -37,8 +37,8 @@ pub stays_faithful : (r : Running) (m : Machine) (e : Event) (x : Shown) (sent :
 stays_faithful r m e x sent t f played before honest h =
     let v : Scheme = r.setting.scheme in
     let s : State = m.core.state in
-    let k = honest_hosts_serve v s t h.world h.array e x before r.host (subst (λ (u : Scheme). IsDevice u.device) (sym f.shape) f.ranges) h.alive h.serving h.hosts
-    (moving (plain_shape m.core.device) v s t e x f.shape played.steps) honest in
+    let k = honest_hosts_serve v s t h.world h.array e x before r.host (subst (λ (u : Scheme). IsDevice u.device) (sym f.scheme) f.ranges) h.alive h.serving h.hosts
+    (moving (plain_scheme m.core.device) v s t e x f.scheme played.steps) honest in
     let now : World = world_after v h.world (moved v s h.world e) x.sends in
     let served = served_now v s t now h.array x.replies k.goes_on.served in
     record {
@@ -97,5 +97,5 @@ along v s t (u ∷ turns) run = (run.0, run.1, along v run.0 t turns run.2)
 
 pub run_right : (r : Running) (m : Machine) → IsAtRun r m → AllRight r.setting [] (events r) (all_shown r)
 run_right r m f =
-    steps_are_right r.setting f.leads.0 (events r) (all_shown r) (subst (λ (v : Scheme). IsDevice v.device) (sym f.shape) f.ranges) f.leads.1
+    steps_are_right r.setting f.leads.0 (events r) (all_shown r) (subst (λ (v : Scheme). IsDevice v.device) (sym f.scheme) f.ranges) f.leads.1
     (along r.setting (new_state r.setting f.leads.0) m.core.state r.turns f.leads.2)

@@ -10,14 +10,14 @@ use Rattle.oramsim.specs.declared.line.Line.TheVariants.{Restore, Snapshot, Swap
 use Rattle.oramsim.specs.declared.machine.Machine.{Machine}
 
 host_stands : (r : Running) (m : Machine) (h k : Host) → IsAtRun r m → h ≡ k → IsAtRun (with_host r k) (record m { server = h })
-host_stands r m h k f same = record { ranges = f.ranges; shape = f.shape; leads = f.leads; message = f.message; host = same; copy = f.copy }
+host_stands r m h k f same = record { ranges = f.ranges; scheme = f.scheme; leads = f.leads; message = f.message; host = same; copy = f.copy }
 
 pub kept : (r : Running) (m : Machine) (k : Host) → IsAtRun r m → k ≡ m.server
     → (later : Running) × Obeys r Snapshot later × IsAtRun later (record m { snapshot = Some k }) × (IsFaithful r m.core.state → IsFaithful later m.core.state)
 kept r m k f same = (
   record r { copy = Some r.host },
   refl,
-  record { ranges = f.ranges; shape = f.shape; leads = f.leads; message = f.message; host = f.host; copy = ap (λ (h : Host). Some h) (same ∙ f.host) },
+  record { ranges = f.ranges; scheme = f.scheme; leads = f.leads; message = f.message; host = f.host; copy = ap (λ (h : Host). Some h) (same ∙ f.host) },
   λ h. record { calm = h.calm; alive = h.alive; world = h.world; array = h.array; serving = h.serving; hosts = h.hosts },
 )
 

@@ -14,7 +14,7 @@ use Rattle.oram_semantics.specs.State.{State}
 use Rattle.oram_semantics.specs.declared.events.Event.{Event}
 use Rattle.oram_core.specs.Steps.{Steps}
 use Rattle.oramsim.specs.Printing.{reaction_text}
-use Rattle.oramsim.specs.Script.{Running, Turn, after_turn, all_shown, left_at, newest_of, plain_shape, stage_text}
+use Rattle.oramsim.specs.Script.{Running, Turn, after_turn, all_shown, left_at, newest_of, plain_scheme, stage_text}
 use Rattle.oramsim.specs.Correspondence.{RunsOn, IsPlayed, IsAtRun, Prints}
 use Rattle.oramsim.specs.declared.machine.Machine.{Machine}
 use Rattle.oramsim.proofs.Whole.{newest_or}
@@ -37,12 +37,12 @@ pub goes_on : (r : Running) (m n : Machine) (e : Event) (x : Shown) (sent old ne
 goes_on r m n e x sent old new f played device out server snapshot wrote = (
   record {
     ranges = rw device f.ranges;
-    shape = f.shape ∙ ap plain_shape (sym device);
+    scheme = f.scheme ∙ ap plain_scheme (sym device);
     leads = (
       f.leads.0,
       f.leads.1,
       FoldsTo-push (λ a (t : Turn) b. StepsByRule r.setting.scheme a t.event t.shown b) (new_state r.setting f.leads.0) r.turns m.core.state (record { event = e; shown = x }) n.core.state f.leads.2
-          (moving (plain_shape m.core.device) r.setting.scheme m.core.state n.core.state e x f.shape played.steps),
+          (moving (plain_scheme m.core.device) r.setting.scheme m.core.state n.core.state e x f.scheme played.steps),
     );
     message = out ∙ ap (λ o. newest_of x.sends (left_at e o)) f.message;
     host = server ∙ f.host;

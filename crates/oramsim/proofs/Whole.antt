@@ -20,7 +20,7 @@ use Rattle.oram_semantics.specs.declared.events.Submission.{Submission}
 use Rattle.oram_semantics.proofs.Judged.{bytes_same}
 use Rattle.oram_core.specs.Doing.{Done, noted, stalled_by, finished_by, first_message, first_messages, sent_if_idle, submitted_by, lost_by, retried_by}
 use Rattle.oram_core.specs.Steps.{Steps, Heard, did}
-use Rattle.oramsim.specs.Script.{is_answer, left_at, newest_of, plain_shape}
+use Rattle.oramsim.specs.Script.{is_answer, left_at, newest_of, plain_scheme}
 use Rattle.oramsim.specs.Correspondence.{IsWhole, answers_left}
 
 newest_some : (xs : List (List ℕ)) (x : List ℕ) (m : Option (List ℕ)) → option_or (newest_of xs (Some x)) m ≡ newest_of xs (Some x)
@@ -66,7 +66,7 @@ long [] x e = absurd (omega (arith, e))
 long (y ∷ q) x e = absurd (omega (arith, e))
 
 submitted : (d : Sizes) (s : State) (x : Submission) (o : Option Refusal) (message : Option (List ℕ)) → (o ≡ None → is_over (status_in s) ≡ false) → IsWhole d s message
-    → Leaves d message (submitted_by (plain_shape d) s x o)
+    → Leaves d message (submitted_by (plain_scheme d) s x o)
 submitted d s x (Some e) message alive w = w
 submitted d s x None message alive w = record {
   waits = accepted_waits s.failure s.queue s.lost x (first_message d s x) message (alive refl) w.rests w.waits;
@@ -142,7 +142,7 @@ no_failure : (f : Option Reason) (q : List Submission) (l : Bool) → status_by 
 no_failure (Some e) q l w = cc
 no_failure None q l w = refl
 
-heard : (d : Sizes) (s t : State) (x : Shown) (message : Option (List ℕ)) → status_in s ≡ Waiting → IsWhole d s message → Heard (plain_shape d) s (did x t) → IsWhole d t (newest_of x.sends None)
+heard : (d : Sizes) (s t : State) (x : Shown) (message : Option (List ℕ)) → status_in s ≡ Waiting → IsWhole d s message → Heard (plain_scheme d) s (did x t) → IsWhole d t (newest_of x.sends None)
 heard d s t x message e w (inl h) = record {
   waits = failed_waits x.sends t.failure t.queue t.lost h.reason h.sends (ap (λ (u : State). u.failure) h.state);
   latest = rw h.sends tt;
@@ -155,14 +155,14 @@ heard d s t x message e w (inr (inl h)) = record {
   rests = λ none empty. not_lost t.failure t.queue t.lost h.waits;
   stage = λ none. h.within;
 }
-heard d s t x message e w (inr (inr h)) = by_plain d None x t (finished_by (plain_shape d) s h.oldest h.rest) h.does (record {
+heard d s t x message e w (inr (inr h)) = by_plain d None x t (finished_by (plain_scheme d) s h.oldest h.rest) h.does (record {
   waits = finished_waits s.failure s.queue s.lost d s h.rest e;
   latest = finished_latest d s h.rest [];
   rests = λ none empty. not_lost s.failure s.queue s.lost e;
   stage = λ none. some_trees d s.entry_number (w.stage none);
 })
 
-answered : (d : Sizes) (s t : State) (x : Shown) (bytes : List ℕ) (message : Option (List ℕ)) (now : Status) (b : Bool) → status_in s ≡ now → bytes_eq bytes (129 ∷ 8 ∷ []) ≡ b → IsWhole d s message → Steps (plain_shape d) s (Answer bytes) x t
+answered : (d : Sizes) (s t : State) (x : Shown) (bytes : List ℕ) (message : Option (List ℕ)) (now : Status) (b : Bool) → status_in s ≡ now → bytes_eq bytes (129 ∷ 8 ∷ []) ≡ b → IsWhole d s message → Steps (plain_scheme d) s (Answer bytes) x t
     → IsWhole d t (newest_of x.sends None)
 answered d s t x bytes message Waiting true e b w step = by_plain d None x t (stalled_by s) (step.plain (stalled_by s) (rw (e, b) refl)) (stalled d s message e w)
 answered d s t x bytes message Waiting false e b w step =
@@ -172,11 +172,11 @@ answered d s t x bytes message Stalling b e r w step = by_plain d None x t (note
 answered d s t x bytes message Over b e r w step = by_plain d None x t (noted s Unexpected) (step.plain (noted s Unexpected) (rw e refl)) (ignored d s message (ap is_waiting e) w)
 
 -- After a step, the outstanding message still fits the core.
-pub whole_after : (d : Sizes) (s t : State) (event : Event) (x : Shown) (message : Option (List ℕ)) → IsWhole d s message → Steps (plain_shape d) s event x t → IsWhole d t (newest_of x.sends (left_at event message))
+pub whole_after : (d : Sizes) (s t : State) (event : Event) (x : Shown) (message : Option (List ℕ)) → IsWhole d s message → Steps (plain_scheme d) s event x t → IsWhole d t (newest_of x.sends (left_at event message))
 whole_after d s t (Submit session c words) x message w step =
     let sub : Submission = record { session = session; ticket = s.next; command = c; words = words } in
     let o = refusal_of d (is_over (status_in s)) (length s.queue) s.next c words in
-    by_plain d message x t (submitted_by (plain_shape d) s sub o) (step.plain _ refl) (submitted d s sub o message (alive d (is_over (status_in s)) (length s.queue) s.next c words) w)
+    by_plain d message x t (submitted_by (plain_scheme d) s sub o) (step.plain _ refl) (submitted d s sub o message (alive d (is_over (status_in s)) (length s.queue) s.next c words) w)
 whole_after d s t (Answer bytes) x message w step = answered d s t x bytes message (status_in s) (bytes_eq bytes (129 ∷ 8 ∷ [])) refl refl w step
 whole_after d s t Lost x message w step = by_plain d None x t (lost_by s (status_in s)) (step.plain _ refl) (lost d s message (status_in s) refl w)
 whole_after d s t Reopen x message w step = by_plain d None x t (lost_by s (status_in s)) (step.plain _ refl) (lost d s message (status_in s) refl w)
@@ -202,11 +202,11 @@ is_waiting_at Stalling w = cc
 is_waiting_at Over w = cc
 
 finished_wanted : (d : Sizes) (s : State) (x : Submission) (rest : List Submission) → s.queue ≡ x ∷ rest → s.entry_number < 2 * trees_of d
-    → answers_left d (finished_by (plain_shape d) s x rest).state (newest_of (first_messages d s rest) None) < 2 * trees_of d * length s.queue - s.entry_number + 1
+    → answers_left d (finished_by (plain_scheme d) s x rest).state (newest_of (first_messages d s rest) None) < 2 * trees_of d * length s.queue - s.entry_number + 1
 finished_wanted d s x [] q within = omega arith
 finished_wanted d s x (y ∷ rest) q within = rw q (omega (arith, within))
 
-heard_wanted : (d : Sizes) (s t : State) (x : Shown) (message : Option (List ℕ)) → status_in s ≡ Waiting → IsWhole d s message → Heard (plain_shape d) s (did x t)
+heard_wanted : (d : Sizes) (s t : State) (x : Shown) (message : Option (List ℕ)) → status_in s ≡ Waiting → IsWhole d s message → Heard (plain_scheme d) s (did x t)
     → answers_left d t (newest_of x.sends None) < 2 * trees_of d * length s.queue - s.entry_number + 1
 heard_wanted d s t x message e w (inl h) = none_wanted d t x.sends _ h.sends
 heard_wanted d s t x message e w (inr (inl h)) =
@@ -216,7 +216,7 @@ heard_wanted d s t x message e w (inr (inr h)) =
     subst (λ (y : Done). answers_left d y.state (newest_of y.sends None) < 2 * trees_of d * length s.queue - s.entry_number + 1) (sym h.does)
     (finished_wanted d s h.oldest h.rest h.queue (w.stage (no_failure s.failure s.queue s.lost e)))
 
-answer_wanted : (d : Sizes) (s t : State) (x : Shown) (bytes : List ℕ) (message : Option (List ℕ)) (b : Bool) → status_in s ≡ Waiting → bytes_eq bytes (129 ∷ 8 ∷ []) ≡ b → IsWhole d s message → Steps (plain_shape d) s (Answer bytes) x t
+answer_wanted : (d : Sizes) (s t : State) (x : Shown) (bytes : List ℕ) (message : Option (List ℕ)) (b : Bool) → status_in s ≡ Waiting → bytes_eq bytes (129 ∷ 8 ∷ []) ≡ b → IsWhole d s message → Steps (plain_scheme d) s (Answer bytes) x t
     → answers_left d t (newest_of x.sends None) < 2 * trees_of d * length s.queue - s.entry_number + 1
 answer_wanted d s t x bytes message true e b w step =
     subst (λ (y : Done). answers_left d y.state (newest_of y.sends None) < 2 * trees_of d * length s.queue - s.entry_number + 1) (sym (step.plain (stalled_by s) (rw (e, b) refl))) (none_wanted d (stalled_by s).state [] _ refl)
@@ -226,7 +226,7 @@ answer_wanted d s t x bytes message false e b w step =
 wanted_before : (d : Sizes) (s : State) (message : Option (List ℕ)) → is_some message ≡ true → answers_left d s message ≡ 2 * trees_of d * length s.queue - s.entry_number + 1
 wanted_before d s message some = rw some refl
 
-pub fewer : (d : Sizes) (s t : State) (event : Event) (x : Shown) (message : Option (List ℕ)) → IsWhole d s message → Steps (plain_shape d) s event x t → is_answer event ≡ true → is_some message ≡ true
+pub fewer : (d : Sizes) (s t : State) (event : Event) (x : Shown) (message : Option (List ℕ)) → IsWhole d s message → Steps (plain_scheme d) s event x t → is_answer event ≡ true → is_some message ≡ true
     → answers_left d t (newest_of x.sends (left_at event message)) < answers_left d s message
 fewer d s t (Submit session c words) x message w step heard_of some = cc
 fewer d s t (Answer bytes) x message w step heard_of some =

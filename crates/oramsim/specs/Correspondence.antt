@@ -16,7 +16,7 @@ use Rattle.oram_core.specs.Steps.{Steps}
 use Rattle.oram_host_laws.specs.Honest.{IsHonest}
 use Rattle.oram_host_laws.specs.Hosting.{Hosts}
 use Rattle.oramsim.specs.Printing.{memory_text, reaction_text}
-use Rattle.oramsim.specs.Script.{HasNoFailure, HasRun, IsBeginning, IsCutText, IsDrained, IsHarmlessScript, IsScriptText, Obeys, Point, Running, Stage, Turn, after_turn, newest_of, plain_shape, stage_text, text_at, with_host}
+use Rattle.oramsim.specs.Script.{HasNoFailure, HasRun, IsBeginning, IsCutText, IsDrained, IsHarmlessScript, IsScriptText, Obeys, Point, Running, Stage, Turn, after_turn, newest_of, plain_scheme, stage_text, text_at, with_host}
 use Rattle.oramsim.specs.declared.line.Line.{Line}
 use Rattle.oramsim.specs.declared.line.Line.TheVariants.{Drain}
 use Rattle.oramsim.specs.declared.script.Ending.{Ending}
@@ -43,7 +43,7 @@ still_wanted m = answers_left m.core.device m.core.state m.outstanding
 
 -- The core made a step at an event, which shows x, and `sent` is the newest message of that step.
 pub record IsPlayed (d : Sizes) (s : State) (event : Event) (x : Shown) (sent : Option (List ℕ)) (t : State) : Type 0 where
-  pub steps : Steps (plain_shape d) s event x t
+  pub steps : Steps (plain_scheme d) s event x t
   pub newest : sent ≡ newest_of x.sends None
 
 -- Steps lead from a core that has just been formatted to this one.
@@ -53,7 +53,7 @@ LeadsTo v turns s = (trees : List Tree) × IsFormatted v trees × FoldsTo (λ a 
 -- The machine is in the state that the run describes.
 pub record IsAtRun (r : Running) (m : Machine) : Type 0 where
   pub ranges : IsDevice m.core.device
-  pub shape : r.setting.scheme ≡ plain_shape m.core.device
+  pub scheme : r.setting.scheme ≡ plain_scheme m.core.device
   pub leads : LeadsTo r.setting r.turns m.core.state
   pub message : m.outstanding ≡ r.message
   pub host : m.server ≡ r.host
@@ -76,6 +76,7 @@ pub record IsFaithful (r : Running) (s : State) : Type 0 where
   pub serving : IsServing r.setting.scheme s world array
   pub hosts : Hosts r.setting.scheme s world r.host
 
+-- where a script has a run, the machine's core keeps what the run says
 abbrev pub IsFaithfulAt : Stage → Option Machine → Type 0
 IsFaithfulAt None machine = ⊤
 IsFaithfulAt (Some r) None = ⊥
@@ -94,6 +95,7 @@ abbrev pub AreWhole : Option Machine → Type 0
 AreWhole None = ⊤
 AreWhole (Some m) = IsWholeMachine m
 
+-- a script has a run just where it has a machine, and that machine is at the run's end
 abbrev pub StandsAt : Stage → Option Machine → Type 0
 StandsAt None None = ⊤
 StandsAt None (Some m) = ⊥

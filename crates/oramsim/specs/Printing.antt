@@ -32,6 +32,7 @@ refusal_text refusal.Busy = codes "4 busy"
 refusal_text refusal.Exhausted = codes "5 exhausted"
 refusal_text refusal.Failed = codes "6 failed"
 
+-- why a device failed, as oramsim prints it
 abbrev pub reason_text : Reason → List ℕ
 reason_text Malformed = codes "malformed"
 reason_text (Tampered tree level) = codes "tampered " ++ decimal tree ++ space ++ decimal level
@@ -47,6 +48,7 @@ note_text (FailedNow reason) = codes "failed " ++ reason_text reason ++ newline
 note_text Resent = []
 note_text Unexpected = codes "unexpected" ++ newline
 
+-- what a reply says, as oramsim prints it
 abbrev pub body_text : ReplyBody → List ℕ
 body_text (body.Data bytes) = codes "data " ++ encode_lower bytes
 body_text body.Done = codes "done"

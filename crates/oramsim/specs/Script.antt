@@ -4,6 +4,7 @@ use Rattle.std.specs.List.{AllByRecursion, flat_map, FoldsTo}
 use Rattle.oram_geometry.specs.declared.Sizes.{Sizes}
 use Rattle.oram_geometry.specs.declared.ShapeFault.{ShapeFault}
 use Rattle.oram_geometry.specs.Sizes.{device_of, trees_of}
+use Rattle.oram_bucket.specs.Cipher.{plain_cipher}
 use Rattle.oram_wire.specs.HostMessages.{answer_body}
 use Rattle.oram_wire.specs.declared.host_messages.HostAnswer.{HostAnswer}
 use Rattle.oram_host.specs.Host.{Host}
@@ -96,12 +97,12 @@ Obeys r Snapshot after = after ≡ record r { copy = Some r.host }
 Obeys r Restore after = (host : Host) × (r.copy ≡ Some host) × (after ≡ with_host r host)
 
 -- a device with the sealer that changes nothing
-abbrev pub plain_shape : Sizes → Scheme
-plain_shape d = record { device = d; overhead = 0; sealing = λ nonce plain. plain; opening = λ bytes. Some bytes }
+abbrev pub plain_scheme : Sizes → Scheme
+plain_scheme d = record { device = d; cipher = plain_cipher }
 
 -- a device that has just been formatted, on a host that kept nothing before
 pub record IsNewRun (d : Sizes) (r : Running) : Type 0 where
-  pub shape : r.setting.scheme ≡ plain_shape d
+  pub scheme : r.setting.scheme ≡ plain_scheme d
   pub trees : List Tree
   pub formatted : IsFormatted r.setting trees
   pub taken : PutsAll Takes [] r.setting.format r.host
@@ -134,6 +135,7 @@ abbrev pub Starts : List ℕ → Result Sizes ShapeFault → Point → Type 0
 Starts head (Ok d) q = (r : Running) × IsNewRun d r × (q ≡ record { stage = Some r; head = head ++ ready_text (trees_of d) })
 Starts head (Err fault) q = q ≡ record { stage = None; head = head ++ shape_text fault }
 
+-- a line leads from one point of a script to another: before the device line it is that line, and behind it any other
 abbrev pub IsDone : Point → Stage → Line → Point → Type 0
 IsDone p (Some r) line q = (later : Running) × Obeys r line later × (q ≡ record { stage = Some later; head = p.head })
 IsDone p None (Device blocks block_bytes slots top lifetime) q =
@@ -167,6 +169,7 @@ IsUnfit r Late = ⊥
 IsUnfit r Reopen = ⊥
 IsUnfit r Snapshot = ⊥
 
+-- whether a line makes a device
 abbrev pub is_device : Line → Bool
 is_device (Device blocks block_bytes slots top lifetime) = true
 is_device (CoreEvent e) = false
@@ -237,6 +240,7 @@ IsCutText input text OutOfMemory = (q : Point) × GetsTo input q × (text ≡ te
 IsCutText input text Read = (rest : List (List ℕ)) × (q : Point) × HasPassed input rest q × (text ≡ text_at q)
 IsCutText input text Write = (whole : List ℕ) × IsDue input whole × IsBeginning text whole
 
+-- whether an event is an answer of the host
 abbrev pub is_answer : Event → Bool
 is_answer (event.Submit session c words) = false
 is_answer (event.Answer bytes) = true

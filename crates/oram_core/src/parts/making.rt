@@ -65,8 +65,8 @@ impl<S: Sealer> Core<S> {
         ensures device { IfOk result (λ c. c.device ≡ parts.device) }
         ensures sealer { IfOk result (λ c. c.sealer ≡ sealer) }
         ensures state { IfOk result (λ c. c.state ≡ state_of parts) }
-        ensures fits { IsOk result → AreParts (S.overhead sealer) parts }
-        ensures content { result ≡ Err PartsFault.Content → ¬ AreParts (S.overhead sealer) parts }
+        ensures fits { IsOk result → AreParts (S.cipher sealer).overhead parts }
+        ensures content { result ≡ Err PartsFault.Content → ¬ AreParts (S.cipher sealer).overhead parts }
     {
         if parts.tickets > parts.device.lifetime() {
             return Err(PartsFault::Content);

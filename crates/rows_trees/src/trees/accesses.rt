@@ -8,7 +8,7 @@ use super::tree_of;
 use oram_bucket::Sealer;
 use oram_geometry::Device;
 use oram_host::Server;
-use oram_tree::{Access, Edit, Lookup, Tree, TreeFault, TreeParts};
+use oram_tree::{Access, AccessRequest, Edit, Lookup, Tree, TreeFault, TreeParts};
 use oram_wire::{GOOD, fetch_header, store_header};
 use rows::{RowFault, RowWords};
 use std::alloc::Global;
@@ -179,9 +179,13 @@ fn reach<S: Sealer>(
         );
         return alone(made);
     };
-    let made = tree.access_to(
-        alloc, device, sealer, &path, address, old_leaf, new_leaf, nonce, edit, &mut out,
-    );
+    let request = AccessRequest {
+        address,
+        old_leaf,
+        new_leaf,
+        nonce,
+    };
+    let made = tree.access_to(alloc, device, sealer, &path, request, edit, &mut out);
     behind(made, out)
 }
 

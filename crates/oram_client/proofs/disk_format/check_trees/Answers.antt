@@ -21,21 +21,21 @@ stands g c =
 
 pub loop-tree-preserved : goal.loop-tree-preserved
 loop-tree-preserved g c =
-    let v = scheme_of g.S.Sealer.overhead g.S.Sealer.sealing g.S.Sealer.opening c.args.core.now in
+    let v = scheme_of g.S.Sealer.cipher c.args.core.now in
     let asked = c.in_ok-check_tree.ensures.ok in
     seen_more g.R.Read.remaining g.W.Write.contents v c.args.core.now.state c.loop-tree.tree c.args.ahead.now c.loop-tree.ahead c.check_tree.new.ahead asked.0 _ _ _ c.loop-tree.invariant asked.1 asked.2
     c.device-in-loop-tree.ensures.value c.overhead.ensures (stands g (goal.at.loop-tree-preserved g c).After-check_tree)
 
 pub returns-in_err-parts-clause-err : goal.returns-in_err-parts-clause-err
 returns-in_err-parts-clause-err g c =
-    let v = scheme_of g.S.Sealer.overhead g.S.Sealer.sealing g.S.Sealer.opening c.args.core.now in
+    let v = scheme_of g.S.Sealer.cipher c.args.core.now in
     let p = err_from_is_err_and c.from_residual.result c.from_residual.ensures.1 in
     let a = c.args.ahead.now in
     rw (p.1, p.2) (record { count = 0; mid = a; seen = seen_none g.R.Read.remaining g.W.Write.contents v c.args.core.now.state a; ended = inl (refl, refl) })
 
 pub returns-in_err-check_tree-clause-err : goal.returns-in_err-check_tree-clause-err
 returns-in_err-check_tree-clause-err g c =
-    let v = scheme_of g.S.Sealer.overhead g.S.Sealer.sealing g.S.Sealer.opening c.args.core.now in
+    let v = scheme_of g.S.Sealer.cipher c.args.core.now in
     let p = err_from_is_err_and c.from_residual-in_err-check_tree.result c.from_residual-in_err-check_tree.ensures.1 in
     let ends : c.trees-tree-end.result ≡ trees_of c.args.core.now.device = c.trees-tree-end.ensures.count ∙ ap trees_of c.device.ensures.value in
     rw (p.1, p.2) (record {

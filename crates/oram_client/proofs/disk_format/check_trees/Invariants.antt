@@ -3,4 +3,4 @@ use Rattle.oram_client.specs.Formatting.{AreSeen}
 use Rattle.oram_client.proofs.disk_format.check_trees.Given as goal
 
 abbrev pub invariant-loop-tree : goal.invariant-loop-tree
-invariant-loop-tree g l = AreSeen g.R.Read.remaining g.W.Write.contents (scheme_of g.S.Sealer.overhead g.S.Sealer.sealing g.S.Sealer.opening l.core) l.core.state l.tree l.fn.ahead l.ahead
+invariant-loop-tree g l = AreSeen g.R.Read.remaining g.W.Write.contents (scheme_of g.S.Sealer.cipher l.core) l.core.state l.tree l.fn.ahead l.ahead

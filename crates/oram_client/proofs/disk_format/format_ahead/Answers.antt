@@ -6,7 +6,7 @@ use Rattle.oram_client.proofs.disk_format.format_ahead.Goals as goal
 
 pub returns-clause-made : goal.returns-clause-made
 returns-clause-made g c =
-    let v = scheme_with g.S.Sealer.overhead g.S.Sealer.sealing g.S.Sealer.opening c.args.device c.args.sealer in
+    let v = scheme_with g.S.Sealer.cipher c.args.device c.args.sealer in
     formatted_ahead g.R.Read.remaining g.W.Write.contents v c.args.identity.now.0 c.args.ahead.now c.put_identity.new.ahead c.format_trees.new.ahead c.check_identity.new.ahead c.in_ok-core.core.state
     c.in_ok-put_identity.ensures.ok c.in_ok-core.ensures.made c.in_ok-check_identity.ensures.ok
 

@@ -19,7 +19,7 @@ format-requires-clause-nonces g c =
 
 pub returns-in_err-made-clause-broken_off : goal.returns-in_err-made-clause-broken_off
 returns-in_err-made-clause-broken_off g c =
-    let begins = λ (k : ℕ). IsBegun (g.S.Sealer.opening c.args.sealer.now) (g.S.Sealer.sealing c.args.sealer.now) (g.S.Sealer.overhead c.args.sealer.now) c.args.device.now k c.args.tree in
+    let begins = λ (k : ℕ). IsBegun (g.S.Sealer.cipher c.args.sealer.now) c.args.device.now k c.args.tree in
     let B = λ (k : ℕ). IsBrokenOff g.K.Sink.putting g.K.Sink.refusing (begins k) c.args.sink.now c.in_err-made.field-0.0 c.format.new.sink in
     if_err c.from_residual.result _ _ c.from_residual.ensures.1
     (λ fault same. broken_told g.K.Sink.putting g.K.Sink.refusing (begins (formatted_below c.args.device.now c.args.tree)) c.args.sink.now c.format.new.sink fault c.in_err-made.field-0.0 same
@@ -30,7 +30,7 @@ returns-in-Err-clause-broken_off g c =
     let whole = c.in_ok-made.ensures.made in
     record {
       taken = whole.0;
-      begun = whole_begun (g.S.Sealer.opening c.args.sealer.now) (g.S.Sealer.sealing c.args.sealer.now) (g.S.Sealer.overhead c.args.sealer.now) c.args.device.now c.args.so_far.now.nonce (formatted_below c.args.device.now c.args.tree) c.args.tree c.in_ok-made.made whole.0
+      begun = whole_begun (g.S.Sealer.cipher c.args.sealer.now) c.args.device.now c.args.so_far.now.nonce (formatted_below c.args.device.now c.args.tree) c.args.tree c.in_ok-made.made whole.0
           c.requires.nonce c.in_ok-made.ensures.number c.in_ok-made.ensures.stash whole.2;
       mid = c.format.new.sink;
       puts = whole.1;
@@ -54,7 +54,7 @@ returns-clause-nonce g c =
 pub returns-clause-made : goal.returns-clause-made
 returns-clause-made g c =
     let whole = c.in_ok-made.ensures.made in
-    let N = λ (k : ℕ). IsFormat (g.S.Sealer.opening c.args.sealer.now) (g.S.Sealer.sealing c.args.sealer.now) (g.S.Sealer.overhead c.args.sealer.now) c.args.device.now k c.in_ok-made.made whole.0 in
+    let N = λ (k : ℕ). IsFormat (g.S.Sealer.cipher c.args.sealer.now) c.args.device.now k c.in_ok-made.made whole.0 in
     record {
       tree = c.in_ok-made.made;
       messages = whole.0;

@@ -2,7 +2,7 @@ use Rattle.std.proofs.Common.{◌≡◌, ◌<◌, ℕ, [], refl, sym, ap, subst,
 use Rattle.oram_geometry.specs.Sizes.{trees_of}
 use Rattle.oram_semantics.specs.Formatting.{IsFormatBegun}
 use Rattle.oram_semantics.specs.Nonces.{formatted_below}
-use Rattle.oram_semantics.specs.Scheme.{IsLawful}
+use Rattle.oram_bucket.specs.Cipher.{IsCipher}
 use Rattle.oram_core.specs.Formatting.{AreMade}
 use Rattle.oram_core.specs.Core.{scheme_with}
 use Rattle.oram_tree.proofs.Puts.{if_err, broken_told}
@@ -12,20 +12,20 @@ use Rattle.oram_core.proofs.core_format.format_trees.Goals as goal
 
 pub returns-in_err-with_capacity-clause-broken_off : goal.returns-in_err-with_capacity-clause-broken_off
 returns-in_err-with_capacity-clause-broken_off g c =
-    let v = scheme_with g.S.Sealer.overhead g.S.Sealer.sealing g.S.Sealer.opening c.args.device.now c.args.sealer.now in
-    let law : IsLawful v = record { longer = g.met.S.Sealer.longer c.args.sealer.now; undoes = g.met.S.Sealer.undoes c.args.sealer.now } in
+    let v = scheme_with g.S.Sealer.cipher c.args.device.now c.args.sealer.now in
+    let law : IsCipher v.cipher = g.met.S.Sealer.lawful c.args.sealer.now in
     if_err c.from_residual.result _ _ c.from_residual.ensures.1
     (λ fault memory. broken_between v g.K.Sink.putting g.K.Sink.refusing c.trees.ensures.ranges law c.args.sink.now c.args.sink.now 0 [] fault (omega arith) (none_made v g.K.Sink.putting c.args.sink.now [] refl) memory)
 
 pub loop-tree-init : goal.loop-tree-init
 loop-tree-init g c =
-    let v = scheme_with g.S.Sealer.overhead g.S.Sealer.sealing g.S.Sealer.opening c.args.device.now c.args.sealer.now in
+    let v = scheme_with g.S.Sealer.cipher c.args.device.now c.args.sealer.now in
     record { nonce = sym (below_none c.args.device.now); made = none_made v g.K.Sink.putting c.args.sink.now _ c.in_ok-with_capacity.ensures.items }
 
 pub returns-in_err-format_next-clause-broken_off : goal.returns-in_err-format_next-clause-broken_off
 returns-in_err-format_next-clause-broken_off g c =
-    let v = scheme_with g.S.Sealer.overhead g.S.Sealer.sealing g.S.Sealer.opening c.args.device.now c.args.sealer.now in
-    let law : IsLawful v = record { longer = g.met.S.Sealer.longer c.args.sealer.now; undoes = g.met.S.Sealer.undoes c.args.sealer.now } in
+    let v = scheme_with g.S.Sealer.cipher c.args.device.now c.args.sealer.now in
+    let law : IsCipher v.cipher = g.met.S.Sealer.lawful c.args.sealer.now in
     let below : c.loop-tree.tree < trees_of c.args.device.now = omega (arith, c.trees-tree-end.ensures.count) in
     if_err c.from_residual-in_err-format_next.result _ _ c.from_residual-in_err-format_next.ensures.1
     (λ fault same. broken_told g.K.Sink.putting g.K.Sink.refusing (IsFormatBegun v) c.args.sink.now c.format_next.new.sink fault c.in_err-format_next.field-0.0 same
@@ -33,7 +33,7 @@ returns-in_err-format_next-clause-broken_off g c =
 
 pub loop-tree-preserved : goal.loop-tree-preserved
 loop-tree-preserved g c =
-    let v = scheme_with g.S.Sealer.overhead g.S.Sealer.sealing g.S.Sealer.opening c.args.device.now c.args.sealer.now in
+    let v = scheme_with g.S.Sealer.cipher c.args.device.now c.args.sealer.now in
     record {
       nonce = c.in_ok-format_next.ensures.nonce;
       made = next_made v g.K.Sink.putting c.args.sink.now c.loop-tree.sink c.format_next.new.sink c.loop-tree.tree c.loop-tree.so_far.trees.items c.format_next.new.so_far.trees.items c.loop-tree.invariant.made c.in_ok-format_next.ensures.made;
@@ -46,7 +46,7 @@ returns-clause-nonce g c =
 
 pub returns-clause-made : goal.returns-clause-made
 returns-clause-made g c =
-    let v = scheme_with g.S.Sealer.overhead g.S.Sealer.sealing g.S.Sealer.opening c.args.device.now c.args.sealer.now in
+    let v = scheme_with g.S.Sealer.cipher c.args.device.now c.args.sealer.now in
     let all : c.loop-tree.tree ≡ trees_of c.args.device.now = omega (arith, c.trees-tree-end.ensures.count) in
     let M = λ (n : ℕ). AreMade v g.K.Sink.putting c.args.sink.now n c.loop-tree.so_far.trees.items c.loop-tree.sink in
     subst M all c.loop-tree.invariant.made

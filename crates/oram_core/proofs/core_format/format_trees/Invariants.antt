@@ -7,5 +7,5 @@ use Rattle.oram_core.proofs.core_format.format_trees.Given as goal
 abbrev pub invariant-loop-tree : goal.invariant-loop-tree
 invariant-loop-tree g l = record {
   nonce : l.so_far.nonce ≡ formatted_below l.device l.tree;
-  made : AreMade (scheme_with g.S.Sealer.overhead g.S.Sealer.sealing g.S.Sealer.opening l.device l.sealer) g.K.Sink.putting l.fn.sink l.tree l.so_far.trees.items l.sink;
+  made : AreMade (scheme_with g.S.Sealer.cipher l.device l.sealer) g.K.Sink.putting l.fn.sink l.tree l.so_far.trees.items l.sink;
 }

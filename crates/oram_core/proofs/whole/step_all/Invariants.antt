@@ -7,6 +7,6 @@ use Rattle.oram_core.proofs.whole.step_all.Given as goal
 abbrev pub invariant-loop-event : goal.invariant-loop-event
 invariant-loop-event g l = record {
   device : IsSameDevice l.fn.core l.core;
-  along : Along (scheme_of g.S.Sealer.overhead g.S.Sealer.sealing g.S.Sealer.opening l.fn.core) l.fn.core.state l.events (drop l.event-index l.events) (map shown_by l.reactions.items) l.core.state;
+  along : Along (scheme_of g.S.Sealer.cipher l.fn.core) l.fn.core.state l.events (drop l.event-index l.events) (map shown_by l.reactions.items) l.core.state;
   count : length l.reactions.items ≡ l.event-index;
 }

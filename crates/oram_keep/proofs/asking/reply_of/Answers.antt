@@ -10,7 +10,7 @@ use Rattle.oram_keep.proofs.asking.reply_of.Goals as goal
 pub returns-clause-ok : goal.returns-clause-ok
 returns-clause-ok g c = λ kept.
     let w = c.in_ok-last.ensures.ok kept in
-    let v = scheme_of g.S.Sealer.overhead g.S.Sealer.sealing g.S.Sealer.opening c.args.core.now in
+    let v = scheme_of g.S.Sealer.cipher c.args.core.now in
     let one = w.2 ∙ c.requires.alone in
     let only : w.0 ≡ c.in-Some.reply ∷ [] =
     only_one w.0 w.3.0 c.pop.new.self.items c.in-Some.reply one (w.3.1 ∙ ap (λ (l : List Reply). w.3.0 ++ l) c.in-Some.ensures.items) in

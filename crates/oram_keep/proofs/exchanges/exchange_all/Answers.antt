@@ -13,7 +13,7 @@ use Rattle.oram_session.specs.Exchanges.{IsCutOff, IsSent}
 use Rattle.oram_session.specs.Settled.{answers_left}
 use Rattle.oram_session.specs.Turns.{most_retries}
 use Rattle.oram_session.proofs.Resumed.{HasBody, heard_bodies, heard_going, some_at_work}
-use Rattle.oram_session.proofs.Steppings.{left_heard, same_shape, same_trans}
+use Rattle.oram_session.proofs.Steppings.{left_heard, same_scheme, same_trans}
 use Rattle.oram_keep.specs.Ends.{HasRunOut}
 use Rattle.oram_keep.specs.Keeping.{at, replies_of}
 use Rattle.oram_keep.specs.declared.faults.KeepFault.TheVariants.{Stalled, Unkept, OutOfMemory}
@@ -29,7 +29,7 @@ returns-in_err-keep-clause-unkept g c = λ e kept.
     let p = err_from_is_err_and c.from_residual.result c.from_residual.ensures.1 in
     let h : c.in_err-keep.field-0.0 ≡ Unkept = cc in
     let w = c.in_err-keep.ensures.unkept (ap Err h) in
-    let v = scheme_of g.S.Sealer.overhead g.S.Sealer.sealing g.S.Sealer.opening c.args.core.now in
+    let v = scheme_of g.S.Sealer.cipher c.args.core.now in
     record {
       begun = c.args.core.now.state;
       led = refl;
@@ -41,7 +41,7 @@ returns-in_err-keep-clause-memory g c = λ e kept.
     let p = err_from_is_err_and c.from_residual.result c.from_residual.ensures.1 in
     let h : c.in_err-keep.field-0.0 ≡ OutOfMemory = cc in
     let w = c.in_err-keep.ensures.memory (ap Err h) in
-    let v = scheme_of g.S.Sealer.overhead g.S.Sealer.sealing g.S.Sealer.opening c.args.core.now in
+    let v = scheme_of g.S.Sealer.cipher c.args.core.now in
     let s = c.args.core.now.state in
     let l = c.args.link.now in
     let k = c.args.keeper.now in
@@ -55,7 +55,7 @@ returns-in_err-keep-clause-memory g c = λ e kept.
 
 pub loop-message-init : goal.loop-message-init
 loop-message-init g c =
-    let v = scheme_of g.S.Sealer.overhead g.S.Sealer.sealing g.S.Sealer.opening c.args.core.now in
+    let v = scheme_of g.S.Sealer.cipher c.args.core.now in
     let w = c.in_ok-keep.ensures.ok in
     record {
       kept = (refl, refl);
@@ -74,8 +74,8 @@ returns-in_err-reaction-clause-stalled g c = λ e kept.
     let w = c.in_err-reaction.ensures.stalled (ap Err h) in
     let now = c.loop-message.core in
     let after = c.send.new.core in
-    let v = scheme_of g.S.Sealer.overhead g.S.Sealer.sealing g.S.Sealer.opening c.args.core.now in
-    let same = same_shape g.S.Sealer.overhead g.S.Sealer.sealing g.S.Sealer.opening c.args.core.now now c.loop-message.invariant.kept in
+    let v = scheme_of g.S.Sealer.cipher c.args.core.now in
+    let same = same_scheme g.S.Sealer.cipher c.args.core.now now c.loop-message.invariant.kept in
     let so = c.loop-message.invariant.so_far kept in
     let empty : c.loop-message.reaction.sends.items ≡ [] → ⊥ = λ none. absurd (omega (arith, length-append c.pop.new.self.items (c.in-Some.message ∷ []), ap length (sym c.in-Some.ensures.items ∙ none))) in
     let waits : status_in now.state ≡ Waiting = elim c.loop-message.invariant.going [ inl a ↦ a.0 | inr a ↦ absurd (empty a.2) ] in
@@ -94,8 +94,8 @@ returns-in_err-reaction-clause-memory g c = λ e kept.
     let w = c.in_err-reaction.ensures.memory (ap Err h) in
     let now = c.loop-message.core in
     let after = c.send.new.core in
-    let v = scheme_of g.S.Sealer.overhead g.S.Sealer.sealing g.S.Sealer.opening c.args.core.now in
-    let same = same_shape g.S.Sealer.overhead g.S.Sealer.sealing g.S.Sealer.opening c.args.core.now now c.loop-message.invariant.kept in
+    let v = scheme_of g.S.Sealer.cipher c.args.core.now in
+    let same = same_scheme g.S.Sealer.cipher c.args.core.now now c.loop-message.invariant.kept in
     let so = c.loop-message.invariant.so_far kept in
     let empty : c.loop-message.reaction.sends.items ≡ [] → ⊥ = λ none. absurd (omega (arith, length-append c.pop.new.self.items (c.in-Some.message ∷ []), ap length (sym c.in-Some.ensures.items ∙ none))) in
     let waits : status_in now.state ≡ Waiting = elim c.loop-message.invariant.going [ inl a ↦ a.0 | inr a ↦ absurd (empty a.2) ] in
@@ -118,8 +118,8 @@ returns-in_err-keep-2-clause-unkept g c = λ e kept.
     let after = c.send.new.core in
     let a = c.in_ok-reaction.ensures.ok in
     let d = done c.in_ok-reaction.reaction after.state in
-    let v = scheme_of g.S.Sealer.overhead g.S.Sealer.sealing g.S.Sealer.opening c.args.core.now in
-    let same = same_shape g.S.Sealer.overhead g.S.Sealer.sealing g.S.Sealer.opening c.args.core.now now c.loop-message.invariant.kept in
+    let v = scheme_of g.S.Sealer.cipher c.args.core.now in
+    let same = same_scheme g.S.Sealer.cipher c.args.core.now now c.loop-message.invariant.kept in
     let so = c.loop-message.invariant.so_far kept in
     let empty : c.loop-message.reaction.sends.items ≡ [] → ⊥ = λ none. absurd (omega (arith, length-append c.pop.new.self.items (c.in-Some.message ∷ []), ap length (sym c.in-Some.ensures.items ∙ none))) in
     let waits : status_in now.state ≡ Waiting = elim c.loop-message.invariant.going [ inl b ↦ b.0 | inr b ↦ absurd (empty b.2) ] in
@@ -129,7 +129,7 @@ returns-in_err-keep-2-clause-unkept g c = λ e kept.
       unkept = unkept_then v g.L.Link.calls g.K.Keeper.keeps _ _ _ kept _ _ now.state c.loop-message.link c.loop-message.keeper so waits a.0 d c.send.new.link
           (subst (λ (u : Scheme). IsSent u g.L.Link.calls most_retries (now.state, c.loop-message.link) a.0 (after.state, c.send.new.link)) same a.1) a.2
           (subst (λ (u : Scheme). Heard u now.state d) same c.in_ok-reaction.ensures.heard) a.3 c.keep-then-is_to_be_kept.new.keeper
-          (w.0, saved_under g.S.Sealer.overhead c.args.core.now after w.0 (same_trans c.args.core.now now after c.loop-message.invariant.kept c.send.ensures.kept) w.1, w.2);
+          (w.0, saved_under g.S.Sealer.cipher c.args.core.now after w.0 (same_trans c.args.core.now now after c.loop-message.invariant.kept c.send.ensures.kept) w.1, w.2);
     }
 
 pub returns-in_err-keep-2-clause-memory : goal.returns-in_err-keep-2-clause-memory
@@ -141,8 +141,8 @@ returns-in_err-keep-2-clause-memory g c = λ e kept.
     let after = c.send.new.core in
     let a = c.in_ok-reaction.ensures.ok in
     let d = done c.in_ok-reaction.reaction after.state in
-    let v = scheme_of g.S.Sealer.overhead g.S.Sealer.sealing g.S.Sealer.opening c.args.core.now in
-    let same = same_shape g.S.Sealer.overhead g.S.Sealer.sealing g.S.Sealer.opening c.args.core.now now c.loop-message.invariant.kept in
+    let v = scheme_of g.S.Sealer.cipher c.args.core.now in
+    let same = same_scheme g.S.Sealer.cipher c.args.core.now now c.loop-message.invariant.kept in
     let so = c.loop-message.invariant.so_far kept in
     let empty : c.loop-message.reaction.sends.items ≡ [] → ⊥ = λ none. absurd (omega (arith, length-append c.pop.new.self.items (c.in-Some.message ∷ []), ap length (sym c.in-Some.ensures.items ∙ none))) in
     let waits : status_in now.state ≡ Waiting = elim c.loop-message.invariant.going [ inl b ↦ b.0 | inr b ↦ absurd (empty b.2) ] in
@@ -162,9 +162,9 @@ loop-message-preserved g c =
     let after = c.send.new.core in
     let a = c.in_ok-reaction.ensures.ok in
     let d = done c.in_ok-reaction.reaction after.state in
-    let v = scheme_of g.S.Sealer.overhead g.S.Sealer.sealing g.S.Sealer.opening c.args.core.now in
-    let u = scheme_of g.S.Sealer.overhead g.S.Sealer.sealing g.S.Sealer.opening now in
-    let same = same_shape g.S.Sealer.overhead g.S.Sealer.sealing g.S.Sealer.opening c.args.core.now now c.loop-message.invariant.kept in
+    let v = scheme_of g.S.Sealer.cipher c.args.core.now in
+    let u = scheme_of g.S.Sealer.cipher now in
+    let same = same_scheme g.S.Sealer.cipher c.args.core.now now c.loop-message.invariant.kept in
     let empty : c.loop-message.reaction.sends.items ≡ [] → ⊥ = λ none. absurd (omega (arith, length-append c.pop.new.self.items (c.in-Some.message ∷ []), ap length (sym c.in-Some.ensures.items ∙ none))) in
     let waits : status_in now.state ≡ Waiting = elim c.loop-message.invariant.going [ inl b ↦ b.0 | inr b ↦ absurd (empty b.2) ] in
     let kept = same_trans c.args.core.now now after c.loop-message.invariant.kept c.send.ensures.kept in
@@ -183,7 +183,7 @@ loop-message-preserved g c =
                 subst (λ (j : g.row.K.Denot). SoFar v g.L.Link.calls g.K.Keeper.keeps c.args.core.now.state c.args.link.now c.args.keeper.now before (length c.args.core.now.state.queue) c.in_ok-reaction.reaction.replies.items after.state c.send.new.link j)
                 (sym w.keeper-is)
                 (kept_then v g.L.Link.calls g.K.Keeper.keeps _ _ _ before _ _ now.state c.loop-message.link c.loop-message.keeper so waits a.0 d c.send.new.link sent a.2 heard a.3
-                w.keep-then-is_to_be_kept.new.keeper (k.0, saved_under g.S.Sealer.overhead c.args.core.now after k.0 kept k.1, k.2))
+                w.keep-then-is_to_be_kept.new.keeper (k.0, saved_under g.S.Sealer.cipher c.args.core.now after k.0 kept k.1, k.2))
             | else-is_to_be_kept w ↦
                 subst (λ (j : g.row.K.Denot). SoFar v g.L.Link.calls g.K.Keeper.keeps c.args.core.now.state c.args.link.now c.args.keeper.now before (length c.args.core.now.state.queue) c.in_ok-reaction.reaction.replies.items after.state c.send.new.link j)
                 (sym w.keeper-is)
@@ -196,7 +196,7 @@ pub loop-message-smaller : goal.loop-message-smaller
 loop-message-smaller g c =
     let now = c.loop-message.core in
     let after = c.send.new.core in
-    let u = scheme_of g.S.Sealer.overhead g.S.Sealer.sealing g.S.Sealer.opening now in
+    let u = scheme_of g.S.Sealer.cipher now in
     let empty : c.loop-message.reaction.sends.items ≡ [] → ⊥ = λ none. absurd (omega (arith, length-append c.pop.new.self.items (c.in-Some.message ∷ []), ap length (sym c.in-Some.ensures.items ∙ none))) in
     let waits : status_in now.state ≡ Waiting = elim c.loop-message.invariant.going [ inl a ↦ a.0 | inr a ↦ absurd (empty a.2) ] in
     let left = some_at_work now.state.failure now.state.queue now.state.lost waits in

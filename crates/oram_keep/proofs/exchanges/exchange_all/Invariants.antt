@@ -15,7 +15,7 @@ invariant-loop-message g l = record {
   going : IsGoing (done l.reaction l.core.state);
   block : All (HasBody l.fn.core.device) l.reaction.replies.items;
   failed : All (IsOfFailed l.core.state) l.reaction.replies.items;
-  so_far : (kept : State) → SoFar (scheme_of g.S.Sealer.overhead g.S.Sealer.sealing g.S.Sealer.opening l.fn.core) g.L.Link.calls g.K.Keeper.keeps
+  so_far : (kept : State) → SoFar (scheme_of g.S.Sealer.cipher l.fn.core) g.L.Link.calls g.K.Keeper.keeps
       l.fn.core.state l.fn.link l.fn.keeper kept (length l.fn.core.state.queue) l.reaction.replies.items l.core.state l.link l.keeper;
 }
 

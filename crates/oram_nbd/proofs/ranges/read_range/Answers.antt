@@ -1,7 +1,8 @@
-use Rattle.std.proofs.Common.{◌++◌, ◌+◌, List, ℕ, ap, ◌∙◌, arith, refl}
+use Rattle.std.proofs.Common.{◌++◌, ◌+◌, List, ℕ, ap, ◌∙◌, arith}
 use Rattle.oram_nbd.specs.Bytes.{bytes_at}
+use Rattle.oram_nbd.proofs.Calls.{after, at_rest, no_memory, passed_on, stays_on}
 use Rattle.oram_nbd.proofs.Splices.{bytes_at_more}
-use Rattle.std.proofs.lemmas.Result.{IfOk-from_err}
+use Rattle.std.proofs.lemmas.Result.{err_from_is_err_and}
 use Rattle.oram_nbd.proofs.ranges.read_range.Goals as goal
 
 pub loop-done-preserved : goal.loop-done-preserved
@@ -14,32 +15,17 @@ loop-done-preserved g c =
       long = call.len ∙ ap (λ (k : ℕ). k + n) inv.long;
       so_far = λ bytes h. call.ok bytes (inv.same bytes h) ∙ ap (λ (l : List ℕ). l ++ bytes_at bytes (c.args.offset + c.loop-done.done) n) (inv.so_far bytes h) ∙ bytes_at_more bytes c.args.offset c.loop-done.done n;
       same = λ bytes h. call.same bytes (inv.same bytes h);
-      keeps = λ s. call.keeps (inv.keeps s);
-      lasting = λ s. call.lasting (inv.lasting s);
-      block = call.shape.0 ∙ inv.block;
-      size = call.shape.1 ∙ inv.size;
+      stays = stays_on inv.stays call.call.stays;
     }
 
-pub returns-in_err-out-clause-len : goal.returns-in_err-out-clause-len
-returns-in_err-out-clause-len g c = IfOk-from_err c.from_residual.result _ c.from_residual.ensures.0
+pub returns-in_err-out : goal.returns-in_err-out
+returns-in_err-out g c =
+    let p = err_from_is_err_and c.from_residual.result c.from_residual.ensures.1 in
+    rw p.1 (record { len = tt; ok = tt; same = λ bytes h. h; call = no_memory p.2 (at_rest _) })
 
-pub returns-in_err-out-clause-ok : goal.returns-in_err-out-clause-ok
-returns-in_err-out-clause-ok g c = IfOk-from_err c.from_residual.result _ c.from_residual.ensures.0
-
-pub returns-in_err-done-clause-len : goal.returns-in_err-done-clause-len
-returns-in_err-done-clause-len g c = IfOk-from_err c.from_residual-in_err-done.result _ c.from_residual-in_err-done.ensures.0
-
-pub returns-in_err-done-clause-ok : goal.returns-in_err-done-clause-ok
-returns-in_err-done-clause-ok g c = IfOk-from_err c.from_residual-in_err-done.result _ c.from_residual-in_err-done.ensures.0
-
-pub returns-in_err-out-clause-same : goal.returns-in_err-out-clause-same
-returns-in_err-out-clause-same g c = λ bytes h. h
-
-pub returns-in_err-out-clause-keeps : goal.returns-in_err-out-clause-keeps
-returns-in_err-out-clause-keeps g c = λ h. h
-
-pub returns-in_err-out-clause-lasting : goal.returns-in_err-out-clause-lasting
-returns-in_err-out-clause-lasting g c = λ h. h
-
-pub returns-in_err-out-clause-shape : goal.returns-in_err-out-clause-shape
-returns-in_err-out-clause-shape g c = (refl, refl)
+pub returns-in_err-done : goal.returns-in_err-done
+returns-in_err-done g c =
+    let inv = c.loop-done.invariant in
+    let call = c.in_err-done.ensures in
+    let p = err_from_is_err_and c.from_residual-in_err-done.result c.from_residual-in_err-done.ensures.1 in
+    rw p.1 (record { len = tt; ok = tt; same = λ bytes h. call.same bytes (inv.same bytes h); call = passed_on p.2 (after inv.stays call.call) })

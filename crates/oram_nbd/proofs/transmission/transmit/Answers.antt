@@ -2,16 +2,17 @@ use Rattle.std.proofs.Common.{◌≡◌, ℕ, [], None, inl, inr, refl, rules, �
 use Rattle.std.proofs.KnownBytes.{Appends-nil, Consumes-trans}
 use Rattle.std.proofs.lemmas.Result.{err_from_is_err_and}
 use Rattle.oram_nbd.specs.Messages.{request_text}
-use Rattle.oram_nbd.specs.Serving.{refusal_of, IsReplied, IsReply}
+use Rattle.oram_nbd.specs.Serving.{refusal_of}
 use Rattle.oram_nbd.specs.Streams.{ComesShort}
 use Rattle.oram_nbd.specs.declared.requests.Command.TheVariants.{Disconnect}
+use Rattle.oram_nbd.proofs.Calls.{at_rest, stays_on}
 use Rattle.oram_nbd.proofs.Pieces.{if_err}
-use Rattle.oram_nbd.proofs.Served.{begin, exchanged, next, served_more, still_failed, stopped_at_payload, stopped_at_reply, stopped_at_request, turn_of}
+use Rattle.oram_nbd.proofs.Served.{begin, exchanged, next, served_more, stopped_at_payload, stopped_at_reply, stopped_at_request, told_more, turn_of}
 use Rattle.oram_nbd.proofs.transmission.transmit.Goals as goal
 
 pub loop-served-init : goal.loop-served-init
 unfolding begin
-loop-served-init g c = record { served = begin _ _ _ _ _ _; keeps = λ h. h; lasting = λ h. elim h [ inl f ↦ f | inr none ↦ absurd none ]; block = refl; size = refl }
+loop-served-init g c = record { served = begin _ _ _ _ _ _; stays = at_rest _; told = λ none. absurd none }
 
 -- the client leaves
 
@@ -49,7 +50,7 @@ returns-in_default-answer-clause-err g c =
     let call = c.in_default-answer.ensures in
     let held = g.D.BlockDevice.holds c.loop-served.disk in
     let held' = g.D.BlockDevice.holds c.answer.new.disk in
-    let fits = subst (λ (n : ℕ). refusal_of n r ≡ None) inv.size call.refusal in
+    let fits = subst (λ (n : ℕ). refusal_of n r ≡ None) inv.stays.same_size call.refusal in
     let step = call.stopped got.0 got.3 in
     stopped_at_request _ _ _ _ _ _ _ held held' _ _ _ r got.0 inv.served came.0 (got.1 ∙ c.payload_len.ensures) fits step (Consumes-trans _ _ _ (request_text r) got.0 came.1 got.2)
 
@@ -64,13 +65,8 @@ returns-in_err-put_reply-clause-err g c =
     let call = c.in-Some-answer.ensures in
     let held = g.D.BlockDevice.holds c.loop-served.disk in
     let held' = g.D.BlockDevice.holds c.answer.new.disk in
-    let is : IsReplied (g.D.BlockDevice.size c.args.disk.now) (turn_of r got.0 reply) = record {
-      request = came.0;
-      payload = got.1 ∙ c.payload_len.ensures;
-      reply = subst (λ (n : ℕ). IsReply n r reply) inv.size call.reply;
-    } in
-    let step = call.answer got.0 got.3 in
-    let served = served_more _ _ _ _ held held' inv.served.turns (turn_of r got.0 reply) inv.served.served is (λ h e. call.sound e (inv.keeps h)) (λ h. call.refused (inv.lasting h)) step in
+    let served = served_more _ _ _ _ held held' _ inv.served.turns r got.0 reply inv.served.served inv.stays.same_size came.0 (got.1 ∙ c.payload_len.ensures) call.reply
+    (λ h e. call.sound e (inv.stays.still_sound h)) (λ h. call.refused (inv.stays.still_failed h)) (λ h. call.refused (inv.told h)) (call.answer got.0 got.3) in
     if_err _ _ _ _ p.1 (p.2 ∙ c.in_err-put_reply.ensures.err.0)
     (stopped_at_reply _ _ _ _ _ _ _ held held' _ _ _ _ (turn_of r got.0 reply) inv.served served (Consumes-trans _ _ _ (request_text r) got.0 came.1 got.2) c.in_err-put_reply.ensures.err.1)
 
@@ -87,17 +83,10 @@ loop-served-preserved g c =
     let call = c.in-Some-answer.ensures in
     let held = g.D.BlockDevice.holds c.loop-served.disk in
     let held' = g.D.BlockDevice.holds c.answer.new.disk in
-    let is : IsReplied (g.D.BlockDevice.size c.args.disk.now) (turn_of r got.0 reply) = record {
-      request = came.0;
-      payload = got.1 ∙ c.payload_len.ensures;
-      reply = subst (λ (n : ℕ). IsReply n r reply) inv.size call.reply;
-    } in
-    let step = call.answer got.0 got.3 in
-    let served = served_more _ _ _ _ held held' inv.served.turns (turn_of r got.0 reply) inv.served.served is (λ h e. call.sound e (inv.keeps h)) (λ h. call.refused (inv.lasting h)) step in
+    let served = served_more _ _ _ _ held held' _ inv.served.turns r got.0 reply inv.served.served inv.stays.same_size came.0 (got.1 ∙ c.payload_len.ensures) call.reply
+    (λ h e. call.sound e (inv.stays.still_sound h)) (λ h. call.refused (inv.stays.still_failed h)) (λ h. call.refused (inv.told h)) (call.answer got.0 got.3) in
     record {
       served = next _ _ _ _ _ _ _ held held' _ _ _ _ (turn_of r got.0 reply) inv.served served (Consumes-trans _ _ _ (request_text r) got.0 came.1 got.2) c.in_ok-put_reply.ensures.ok;
-      keeps = λ h. call.keeps (inv.keeps h);
-      lasting = still_failed _ _ _ inv.served.turns (turn_of r got.0 reply) inv.lasting call.lasting call.failing;
-      block = call.shape.0 ∙ inv.block;
-      size = call.shape.1 ∙ inv.size;
+      stays = stays_on inv.stays call.stays;
+      told = told_more _ _ inv.served.turns (turn_of r got.0 reply) inv.told call.stays.still_failed call.failing;
     }

@@ -1,4 +1,4 @@
-use Rattle.std.proofs.Common.{◌≡◌, ◌⊎◌}
+use Rattle.oram_nbd.specs.Calls.{Stays}
 use Rattle.oram_nbd.specs.Serving.{SaysFailed}
 use Rattle.oram_nbd.proofs.Served.{Served}
 use Rattle.oram_nbd.proofs.transmission.transmit.Given as goal
@@ -7,8 +7,6 @@ abbrev pub invariant-loop-served : goal.invariant-loop-served
 invariant-loop-served g l = record {
   served : Served (g.D.BlockDevice.is_sound l.fn.disk) (g.D.BlockDevice.failed l.fn.disk) (g.D.BlockDevice.size l.fn.disk) (g.D.BlockDevice.holds l.fn.disk) (g.R.Read.remaining l.fn.reader) (g.W.Write.contents l.fn.writer)
       l.served (g.D.BlockDevice.holds l.disk) (g.R.Read.remaining l.reader) (g.W.Write.contents l.writer);
-  keeps : g.D.BlockDevice.is_sound l.fn.disk → g.D.BlockDevice.is_sound l.disk;
-  lasting : g.D.BlockDevice.failed l.fn.disk ⊎ SaysFailed served.turns → g.D.BlockDevice.failed l.disk;
-  block : g.D.BlockDevice.block_len l.disk ≡ g.D.BlockDevice.block_len l.fn.disk;
-  size : g.D.BlockDevice.size l.disk ≡ g.D.BlockDevice.size l.fn.disk;
+  stays : Stays g.D.BlockDevice.block_len g.D.BlockDevice.size g.D.BlockDevice.is_sound g.D.BlockDevice.failed l.fn.disk l.disk;
+  told : SaysFailed served.turns → g.D.BlockDevice.failed l.disk;
 }

@@ -7,7 +7,7 @@ use Rattle.oram_session.proofs.device_format.format_device.Goals as goal
 
 pub returns-clause-made : goal.returns-clause-made
 returns-clause-made g c =
-    let v = scheme_with g.S.Sealer.overhead g.S.Sealer.sealing g.S.Sealer.opening c.args.device c.args.sealer in
+    let v = scheme_with g.S.Sealer.cipher c.args.device c.args.sealer in
     let h = formatted_lent (λ s. s.link.ghost_name) (λ s. s.link.now) (TakesMessage g.L.Link.calls) (RefusesMessage g.L.Link.calls) c.format-formatted.result (λ x. x.state) v (IsFormatBegun v) _ _
     c.format-formatted.ensures.made c.format-formatted.ensures.broken_off in
     let name = h.0 in
@@ -16,7 +16,7 @@ returns-clause-made g c =
 
 pub returns-clause-broken_off : goal.returns-clause-broken_off
 returns-clause-broken_off g c =
-    let v = scheme_with g.S.Sealer.overhead g.S.Sealer.sealing g.S.Sealer.opening c.args.device c.args.sealer in
+    let v = scheme_with g.S.Sealer.cipher c.args.device c.args.sealer in
     let h = formatted_lent (λ s. s.link.ghost_name) (λ s. s.link.now) (TakesMessage g.L.Link.calls) (RefusesMessage g.L.Link.calls) c.format-formatted.result (λ x. x.state) v (IsFormatBegun v) _ _
     c.format-formatted.ensures.made c.format-formatted.ensures.broken_off in
     let name = h.0 in

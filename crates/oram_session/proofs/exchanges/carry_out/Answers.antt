@@ -13,7 +13,7 @@ returns-in_err-last-clause-stalled g c = λ e.
     let p = err_from_is_err_and c.from_residual.result c.from_residual.ensures.1 in
     let h : c.in_err-last.field-0.0 ≡ Stalled = cc in
     let w = c.in_err-last.ensures.stalled (ap Err h) in
-    let v = scheme_of g.S.Sealer.overhead g.S.Sealer.sealing g.S.Sealer.opening c.args.core.now in
+    let v = scheme_of g.S.Sealer.cipher c.args.core.now in
     let same = retries_same most_retries w.0 in (
       w.0,
       w.1,
@@ -28,7 +28,7 @@ returns-in_err-last-clause-memory g c = λ e.
     let p = err_from_is_err_and c.from_residual.result c.from_residual.ensures.1 in
     let h : c.in_err-last.field-0.0 ≡ OutOfMemory = cc in
     let w = c.in_err-last.ensures.memory (ap Err h) in
-    let v = scheme_of g.S.Sealer.overhead g.S.Sealer.sealing g.S.Sealer.opening c.args.core.now in
+    let v = scheme_of g.S.Sealer.cipher c.args.core.now in
     let same = retries_same most_retries w.0 in (
       w.0,
       w.1,
@@ -40,7 +40,7 @@ returns-in_err-last-clause-memory g c = λ e.
 pub returns-clause-ok : goal.returns-clause-ok
 returns-clause-ok g c =
     let w = c.in_ok-last.ensures.ok in
-    let v = scheme_of g.S.Sealer.overhead g.S.Sealer.sealing g.S.Sealer.opening c.args.core.now in
+    let v = scheme_of g.S.Sealer.cipher c.args.core.now in
     let one = w.1 ∙ c.requires.alone in (
       w.0,
       all_alike v g.L.Link.calls most_retries _ w.0 _ w.3,

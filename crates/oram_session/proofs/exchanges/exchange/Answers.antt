@@ -14,10 +14,10 @@ use Rattle.oram_session.proofs.exchanges.exchange.Goals.{in-Stalled, in_default}
 
 pub returns-then-not-matches-clause-ok : goal.returns-then-not-matches-clause-ok
 returns-then-not-matches-clause-ok g c =
-    let v = scheme_of g.S.Sealer.overhead g.S.Sealer.sealing g.S.Sealer.opening c.args.core.now in
+    let v = scheme_of g.S.Sealer.cipher c.args.core.now in
     let k = c.loop-reaction.invariant.tried in
     let e = c.in_ok-reaction.ensures.ok in
-    let step = steps_under g.S.Sealer.overhead g.S.Sealer.sealing g.S.Sealer.opening c.args.core.now c.loop-reaction.core c.loop-reaction.invariant.kept
+    let step = steps_under g.S.Sealer.cipher c.args.core.now c.loop-reaction.core c.loop-reaction.invariant.kept
     c.loop-reaction.core.state (event_of e.0) (shown_by c.in_ok-reaction.reaction) c.attempt.new.core.state e.2 in
     let waits : status_in c.loop-reaction.core.state ≡ Waiting = subst (λ (s : State). status_in s ≡ Waiting) (sym k.same) c.requires.waits in
     let ne : c.in_ok-reaction.reaction.note ≢ Stalled = elim c.match-matches.branch [ in-Stalled w ↦ absurd cc | in_default w ↦ w.in_default.not-Stalled ] in (
@@ -29,11 +29,11 @@ returns-then-not-matches-clause-ok g c =
 
 pub returns-then-not-matches-clause-heard : goal.returns-then-not-matches-clause-heard
 returns-then-not-matches-clause-heard g c =
-    let v = scheme_of g.S.Sealer.overhead g.S.Sealer.sealing g.S.Sealer.opening c.args.core.now in
+    let v = scheme_of g.S.Sealer.cipher c.args.core.now in
     let k = c.loop-reaction.invariant.tried in
     let e = c.in_ok-reaction.ensures.ok in
     let x = shown_by c.in_ok-reaction.reaction in
-    let step = steps_under g.S.Sealer.overhead g.S.Sealer.sealing g.S.Sealer.opening c.args.core.now c.loop-reaction.core c.loop-reaction.invariant.kept
+    let step = steps_under g.S.Sealer.cipher c.args.core.now c.loop-reaction.core c.loop-reaction.invariant.kept
     c.loop-reaction.core.state (event_of e.0) x c.attempt.new.core.state e.2 in
     let waits : status_in c.loop-reaction.core.state ≡ Waiting = subst (λ (s : State). status_in s ≡ Waiting) (sym k.same) c.requires.waits in
     let ne : c.in_ok-reaction.reaction.note ≢ Stalled = elim c.match-matches.branch [ in-Stalled w ↦ absurd cc | in_default w ↦ w.in_default.not-Stalled ] in
@@ -42,11 +42,11 @@ returns-then-not-matches-clause-heard g c =
 
 pub returns-then-retries-most-clause-stalled : goal.returns-then-retries-most-clause-stalled
 returns-then-retries-most-clause-stalled g c = λ _.
-    let v = scheme_of g.S.Sealer.overhead g.S.Sealer.sealing g.S.Sealer.opening c.args.core.now in
+    let v = scheme_of g.S.Sealer.cipher c.args.core.now in
     let k = c.loop-reaction.invariant.tried in
     let e = c.in_ok-reaction.ensures.ok in
     let x = shown_by c.in_ok-reaction.reaction in
-    let step = steps_under g.S.Sealer.overhead g.S.Sealer.sealing g.S.Sealer.opening c.args.core.now c.loop-reaction.core c.loop-reaction.invariant.kept
+    let step = steps_under g.S.Sealer.cipher c.args.core.now c.loop-reaction.core c.loop-reaction.invariant.kept
     c.loop-reaction.core.state (event_of e.0) x c.attempt.new.core.state e.2 in
     let waits : status_in c.loop-reaction.core.state ≡ Waiting = subst (λ (s : State). status_in s ≡ Waiting) (sym k.same) c.requires.waits in
     let is : c.in_ok-reaction.reaction.note ≡ Stalled = elim c.match-matches.branch [ in-Stalled w ↦ w.in-Stalled.is | in_default w ↦ absurd cc ] in (
@@ -60,24 +60,24 @@ returns-then-retries-most-clause-left g c = λ _.
     let k = c.loop-reaction.invariant.tried in
     let e = c.in_ok-reaction.ensures.ok in
     let x = shown_by c.in_ok-reaction.reaction in
-    let u = scheme_of g.S.Sealer.overhead g.S.Sealer.sealing g.S.Sealer.opening c.loop-reaction.core in
+    let u = scheme_of g.S.Sealer.cipher c.loop-reaction.core in
     let waits : status_in c.loop-reaction.core.state ≡ Waiting = subst (λ (s : State). status_in s ≡ Waiting) (sym k.same) c.requires.waits in
     let is : c.in_ok-reaction.reaction.note ≡ Stalled = elim c.match-matches.branch [ in-Stalled w ↦ w.in-Stalled.is | in_default w ↦ absurd cc ] in
     stalled_status u c.loop-reaction.core.state c.attempt.new.core.state e.0 x waits (stall_noted u c.loop-reaction.core.state c.attempt.new.core.state e.0 x waits e.2 is) e.2
 
 pub loop-reaction-preserved : goal.loop-reaction-preserved
 loop-reaction-preserved g c =
-    let v = scheme_of g.S.Sealer.overhead g.S.Sealer.sealing g.S.Sealer.opening c.args.core.now in
+    let v = scheme_of g.S.Sealer.cipher c.args.core.now in
     let k = c.loop-reaction.invariant.tried in
     let e = c.in_ok-reaction.ensures.ok in
     let x = shown_by c.in_ok-reaction.reaction in
-    let step = steps_under g.S.Sealer.overhead g.S.Sealer.sealing g.S.Sealer.opening c.args.core.now c.loop-reaction.core c.loop-reaction.invariant.kept
+    let step = steps_under g.S.Sealer.cipher c.args.core.now c.loop-reaction.core c.loop-reaction.invariant.kept
     c.loop-reaction.core.state (event_of e.0) x c.attempt.new.core.state e.2 in
     let waits : status_in c.loop-reaction.core.state ≡ Waiting = subst (λ (s : State). status_in s ≡ Waiting) (sym k.same) c.requires.waits in
     let is : c.in_ok-reaction.reaction.note ≡ Stalled = elim c.match-matches.branch [ in-Stalled w ↦ w.in-Stalled.is | in_default w ↦ absurd cc ] in
     let last = stall_noted v c.loop-reaction.core.state c.attempt.new.core.state e.0 x waits step is in
     let kept = same_trans c.args.core.now c.loop-reaction.core c.attempt.new.core c.loop-reaction.invariant.kept c.attempt.ensures.kept in
-    let again = steps_under g.S.Sealer.overhead g.S.Sealer.sealing g.S.Sealer.opening c.args.core.now c.attempt.new.core kept
+    let again = steps_under g.S.Sealer.cipher c.args.core.now c.attempt.new.core kept
     c.attempt.new.core.state Retry (shown_by c.in_ok-_resent._resent) c.step.new.self.state c.in_ok-_resent.ensures.promise in
     record {
       kept = same_trans c.args.core.now c.attempt.new.core c.step.new.self kept c.step.ensures.kept;
@@ -87,7 +87,7 @@ loop-reaction-preserved g c =
 
 pub returns-in_err-reaction-clause-memory : goal.returns-in_err-reaction-clause-memory
 returns-in_err-reaction-clause-memory g c = λ _.
-    let v = scheme_of g.S.Sealer.overhead g.S.Sealer.sealing g.S.Sealer.opening c.args.core.now in
+    let v = scheme_of g.S.Sealer.cipher c.args.core.now in
     let k = c.loop-reaction.invariant.tried in
     let e = c.in_err-reaction.ensures.err in
     let x : Delivery = record { message = c.args.message.now; stalls = k.stalls; last = e.1.0; replies = [] } in (
@@ -98,10 +98,10 @@ returns-in_err-reaction-clause-memory g c = λ _.
 
 pub returns-in_err-_resent-clause-memory : goal.returns-in_err-_resent-clause-memory
 returns-in_err-_resent-clause-memory g c = λ _.
-    let v = scheme_of g.S.Sealer.overhead g.S.Sealer.sealing g.S.Sealer.opening c.args.core.now in
+    let v = scheme_of g.S.Sealer.cipher c.args.core.now in
     let k = c.loop-reaction.invariant.tried in
     let e = c.in_ok-reaction.ensures.ok in
-    let step = steps_under g.S.Sealer.overhead g.S.Sealer.sealing g.S.Sealer.opening c.args.core.now c.loop-reaction.core c.loop-reaction.invariant.kept
+    let step = steps_under g.S.Sealer.cipher c.args.core.now c.loop-reaction.core c.loop-reaction.invariant.kept
     c.loop-reaction.core.state (event_of e.0) (shown_by c.in_ok-reaction.reaction) c.attempt.new.core.state e.2 in
     let x : Delivery = record { message = c.args.message.now; stalls = k.stalls; last = e.0; replies = c.in_ok-reaction.reaction.replies.items } in (
       x,

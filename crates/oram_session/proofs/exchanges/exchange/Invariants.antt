@@ -6,7 +6,7 @@ use Rattle.oram_session.proofs.exchanges.exchange.Given as goal
 abbrev pub invariant-loop-reaction : goal.invariant-loop-reaction
 invariant-loop-reaction g l = record {
   kept : IsSameDevice l.fn.core l.core;
-  tried : Tried (scheme_of g.S.Sealer.overhead g.S.Sealer.sealing g.S.Sealer.opening l.fn.core) g.L.Link.calls l.message l.fn.core.state l.fn.link l.retries l.core.state l.link;
+  tried : Tried (scheme_of g.S.Sealer.cipher l.fn.core) g.L.Link.calls l.message l.fn.core.state l.fn.link l.retries l.core.state l.link;
   few : l.retries ≤ l.most;
 }
 

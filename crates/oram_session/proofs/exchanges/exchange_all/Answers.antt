@@ -13,7 +13,7 @@ use Rattle.oram_session.specs.Settled.{answers_left}
 use Rattle.oram_session.specs.Turns.{most_retries}
 use Rattle.oram_host.specs.declared.serve_fault.ServeFault.TheVariants.{Stalled, OutOfMemory}
 use Rattle.oram_session.proofs.Resumed.{HasBody, heard_bodies, heard_going, replied_last, replied_more, replies_of, retries_later, sent_more, some_at_work}
-use Rattle.oram_session.proofs.Steppings.{left_heard, same_shape, same_trans}
+use Rattle.oram_session.proofs.Steppings.{left_heard, same_scheme, same_trans}
 use Rattle.oram_session.proofs.exchanges.exchange_all.Goals as goal
 
 pub loop-message-init : goal.loop-message-init
@@ -30,8 +30,8 @@ returns-in_err-reaction-clause-stalled g c = λ e.
     let h : c.in_err-reaction.field-0.0 ≡ Stalled = cc in
     let w = c.in_err-reaction.ensures.stalled (ap Err h) in
     let k = c.loop-message.invariant.sent in
-    let same = same_shape g.S.Sealer.overhead g.S.Sealer.sealing g.S.Sealer.opening c.args.core.now c.loop-message.core c.loop-message.invariant.kept in
-    let v = scheme_of g.S.Sealer.overhead g.S.Sealer.sealing g.S.Sealer.opening c.args.core.now in (
+    let same = same_scheme g.S.Sealer.cipher c.args.core.now c.loop-message.core c.loop-message.invariant.kept in
+    let v = scheme_of g.S.Sealer.cipher c.args.core.now in (
       k.0,
       (c.loop-message.core.state, c.loop-message.link),
       w.0,
@@ -52,8 +52,8 @@ returns-in_err-reaction-clause-memory g c = λ e.
     let h : c.in_err-reaction.field-0.0 ≡ OutOfMemory = cc in
     let w = c.in_err-reaction.ensures.memory (ap Err h) in
     let k = c.loop-message.invariant.sent in
-    let same = same_shape g.S.Sealer.overhead g.S.Sealer.sealing g.S.Sealer.opening c.args.core.now c.loop-message.core c.loop-message.invariant.kept in
-    let v = scheme_of g.S.Sealer.overhead g.S.Sealer.sealing g.S.Sealer.opening c.args.core.now in (
+    let same = same_scheme g.S.Sealer.cipher c.args.core.now c.loop-message.core c.loop-message.invariant.kept in
+    let v = scheme_of g.S.Sealer.cipher c.args.core.now in (
       k.0,
       (c.loop-message.core.state, c.loop-message.link),
       w.0,
@@ -68,9 +68,9 @@ loop-message-preserved g c =
     let some = c.in-Some.ensures.items in
     let now = c.loop-message.core in
     let after = c.exchange.new.core in
-    let v = scheme_of g.S.Sealer.overhead g.S.Sealer.sealing g.S.Sealer.opening c.args.core.now in
-    let u = scheme_of g.S.Sealer.overhead g.S.Sealer.sealing g.S.Sealer.opening now in
-    let same = same_shape g.S.Sealer.overhead g.S.Sealer.sealing g.S.Sealer.opening c.args.core.now now c.loop-message.invariant.kept in
+    let v = scheme_of g.S.Sealer.cipher c.args.core.now in
+    let u = scheme_of g.S.Sealer.cipher now in
+    let same = same_scheme g.S.Sealer.cipher c.args.core.now now c.loop-message.invariant.kept in
     let empty : c.loop-message.reaction.sends.items ≡ [] → ⊥ = λ none. absurd (omega (arith, length-append c.pop.new.self.items (c.in-Some.message ∷ []), ap length (sym some ∙ none))) in
     let waits : status_in now.state ≡ Waiting = elim c.loop-message.invariant.going [ inl a ↦ a.0 | inr a ↦ absurd (empty a.2) ] in
     let sent = subst (λ (w : Scheme). IsSent w g.L.Link.calls c.loop-message.most (now.state, c.loop-message.link) e.0 (after.state, c.exchange.new.link)) same e.1 in
@@ -94,7 +94,7 @@ loop-message-smaller g c =
     let some = c.in-Some.ensures.items in
     let now = c.loop-message.core in
     let after = c.exchange.new.core in
-    let u = scheme_of g.S.Sealer.overhead g.S.Sealer.sealing g.S.Sealer.opening now in
+    let u = scheme_of g.S.Sealer.cipher now in
     let empty : c.loop-message.reaction.sends.items ≡ [] → ⊥ = λ none. absurd (omega (arith, length-append c.pop.new.self.items (c.in-Some.message ∷ []), ap length (sym some ∙ none))) in
     let waits : status_in now.state ≡ Waiting = elim c.loop-message.invariant.going [ inl a ↦ a.0 | inr a ↦ absurd (empty a.2) ] in
     let left = some_at_work now.state.failure now.state.queue now.state.lost waits in

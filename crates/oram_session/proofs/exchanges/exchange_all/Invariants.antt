@@ -14,7 +14,7 @@ invariant-loop-message g l = record {
   kept : IsSameDevice l.fn.core l.core;
   going : IsGoing (done l.reaction l.core.state);
   block : All (HasBody l.fn.core.device) l.reaction.replies.items;
-  sent : let v = scheme_of g.S.Sealer.overhead g.S.Sealer.sealing g.S.Sealer.opening l.fn.core in
+  sent : let v = scheme_of g.S.Sealer.cipher l.fn.core in
       (xs : List Delivery) × AllSentFrom v g.L.Link.calls l.first most_retries (l.fn.core.state, l.fn.link) xs (l.core.state, l.link)
       × (length (replies_of xs) + length l.core.state.queue ≡ length l.fn.core.state.queue)
       × (l.most ≡ retries_after l.first most_retries xs)

@@ -21,7 +21,7 @@ returns-in_err-_stalled-clause-err g c =
 
 pub returns-clause-ok : goal.returns-clause-ok
 returns-clause-ok g c =
-    let v = scheme_of g.S.Sealer.overhead g.S.Sealer.sealing g.S.Sealer.opening c.args.core.now in
+    let v = scheme_of g.S.Sealer.cipher c.args.core.now in
     let s = c.args.core.now.state in
     let mid = c.step.new.self in
     let t = c.step-2.new.self.state in
@@ -30,40 +30,40 @@ returns-clause-ok g c =
     let a = reopened v s mid.state x c.requires first in
     IfOk-weaker c.step-2.result _ (λ (r : Reaction). Runs v s (Reopen ∷ Retry ∷ []) [] t)
     (λ r h.
-    let second = steps_under g.S.Sealer.overhead g.S.Sealer.sealing g.S.Sealer.opening c.args.core.now mid c.step.ensures.kept mid.state Retry (shown_by r) t h in
+    let second = steps_under g.S.Sealer.cipher c.args.core.now mid c.step.ensures.kept mid.state Retry (shown_by r) t h in
     let b = resent v s mid.state t (shown_by r) c.requires a.1 second in
     told_again v s mid.state t x (shown_by r) first second a.0 (ap (λ (d : Done). d.replies) b))
     c.step-2.ensures.promise
 
 pub returns-clause-under_way : goal.returns-clause-under_way
 returns-clause-under_way g c =
-    let v = scheme_of g.S.Sealer.overhead g.S.Sealer.sealing g.S.Sealer.opening c.args.core.now in
+    let v = scheme_of g.S.Sealer.cipher c.args.core.now in
     let s = c.args.core.now.state in
     let mid = c.step.new.self in
     let t = c.step-2.new.self.state in
     let a = reopened v s mid.state (shown_by c.in_ok-_stalled._stalled) c.requires c.in_ok-_stalled.ensures.promise in
     IfOk-weaker c.step-2.result _ (λ (r : Reaction). IsUnderWay (done r t))
     (λ r h.
-    let second = steps_under g.S.Sealer.overhead g.S.Sealer.sealing g.S.Sealer.opening c.args.core.now mid c.step.ensures.kept mid.state Retry (shown_by r) t h in
+    let second = steps_under g.S.Sealer.cipher c.args.core.now mid c.step.ensures.kept mid.state Retry (shown_by r) t h in
     resent_under_way s t (shown_by r) c.requires (resent v s mid.state t (shown_by r) c.requires a.1 second))
     c.step-2.ensures.promise
 
 pub returns-clause-queue : goal.returns-clause-queue
 returns-clause-queue g c =
-    let v = scheme_of g.S.Sealer.overhead g.S.Sealer.sealing g.S.Sealer.opening c.args.core.now in
+    let v = scheme_of g.S.Sealer.cipher c.args.core.now in
     let s = c.args.core.now.state in
     let mid = c.step.new.self in
     let t = c.step-2.new.self.state in
     let a = reopened v s mid.state (shown_by c.in_ok-_stalled._stalled) c.requires c.in_ok-_stalled.ensures.promise in
     IfOk-weaker c.step-2.result _ (λ (r : Reaction). t.queue ≡ s.queue)
     (λ r h.
-    let second = steps_under g.S.Sealer.overhead g.S.Sealer.sealing g.S.Sealer.opening c.args.core.now mid c.step.ensures.kept mid.state Retry (shown_by r) t h in
+    let second = steps_under g.S.Sealer.cipher c.args.core.now mid c.step.ensures.kept mid.state Retry (shown_by r) t h in
     ap (λ (d : Done). d.state.queue) (resent v s mid.state t (shown_by r) c.requires a.1 second))
     c.step-2.ensures.promise
 
 pub returns-clause-err : goal.returns-clause-err
 returns-clause-err g c =
-    let v = scheme_of g.S.Sealer.overhead g.S.Sealer.sealing g.S.Sealer.opening c.args.core.now in
+    let v = scheme_of g.S.Sealer.cipher c.args.core.now in
     let s = c.args.core.now.state in
     let mid = c.step.new.self in
     let x = shown_by c.in_ok-_stalled._stalled in

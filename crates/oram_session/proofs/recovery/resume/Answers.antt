@@ -5,7 +5,7 @@ use Rattle.oram_session.specs.Exchanges.{IsSent, IsCutOff, AllSentFrom}
 use Rattle.oram_session.specs.Resuming.{first_retries, retries_now}
 use Rattle.oram_session.specs.Turns.{most_retries}
 use Rattle.oram_host.specs.declared.serve_fault.ServeFault.TheVariants.{Stalled, OutOfMemory}
-use Rattle.oram_session.proofs.Steppings.{same_shape}
+use Rattle.oram_session.proofs.Steppings.{same_scheme}
 use Rattle.oram_session.proofs.Turned.{err_is}
 use Rattle.oram_session.proofs.recovery.resume.Goals as goal
 
@@ -36,7 +36,7 @@ returns-in_err-exchange_all-clause-stalled g c = λ e.
     let p = err_from_is_err_and c.from_residual-in_err-exchange_all.result c.from_residual-in_err-exchange_all.ensures.1 in
     let h : c.in_err-exchange_all.field-0.0 ≡ Stalled = err_is _ _ _ _ p.1 p.2 e in
     let w = c.in_err-exchange_all.ensures.stalled (ap Err h) in
-    let same = same_shape g.S.Sealer.overhead g.S.Sealer.sealing g.S.Sealer.opening c.args.core.now c.reopen.new.core c.reopen.ensures.kept in
+    let same = same_scheme g.S.Sealer.cipher c.args.core.now c.reopen.new.core c.reopen.ensures.kept in
     record {
       sendings = w.0;
       mid = w.1;
@@ -61,7 +61,7 @@ returns-in_err-exchange_all-clause-memory g c = λ e.
     let p = err_from_is_err_and c.from_residual-in_err-exchange_all.result c.from_residual-in_err-exchange_all.ensures.1 in
     let h : c.in_err-exchange_all.field-0.0 ≡ OutOfMemory = err_is _ _ _ _ p.1 p.2 e in
     let w = c.in_err-exchange_all.ensures.memory (ap Err h) in
-    let same = same_shape g.S.Sealer.overhead g.S.Sealer.sealing g.S.Sealer.opening c.args.core.now c.reopen.new.core c.reopen.ensures.kept in
+    let same = same_scheme g.S.Sealer.cipher c.args.core.now c.reopen.new.core c.reopen.ensures.kept in
     inr (record {
       sendings = w.0;
       mid = w.1;
@@ -80,7 +80,7 @@ returns-clause-none g c = λ settled. let e : false ≡ true = sym c.if-is_settl
 pub returns-clause-ok : goal.returns-clause-ok
 returns-clause-ok g c = λ _.
     let w = c.in_ok-exchange_all.ensures.ok in
-    let same = same_shape g.S.Sealer.overhead g.S.Sealer.sealing g.S.Sealer.opening c.args.core.now c.reopen.new.core c.reopen.ensures.kept in (
+    let same = same_scheme g.S.Sealer.cipher c.args.core.now c.reopen.new.core c.reopen.ensures.kept in (
       w.0,
       w.1 ∙ ap length c.in_ok-reaction.ensures.queue ∙ sym c.waiting-waiting.ensures,
       record {

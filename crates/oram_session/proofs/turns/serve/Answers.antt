@@ -12,7 +12,7 @@ use Rattle.oram_session.specs.Turns.{IsTurn, IsStuck, IsCutTurn}
 use Rattle.oram_host.specs.declared.serve_fault.ServeFault.TheVariants.{Write, Stalled, OutOfMemory}
 use Rattle.oram_host.proofs.Answered.{was_read, was_frame, was_memory}
 use Rattle.oram_session.proofs.Served.{served_more, served_then, under, same_pair}
-use Rattle.oram_session.proofs.Steppings.{same_shape, same_trans}
+use Rattle.oram_session.proofs.Steppings.{same_scheme, same_trans}
 use Rattle.oram_session.proofs.Turned.{err_is}
 use Rattle.oram_session.proofs.turns.serve.Goals as goal
 
@@ -24,7 +24,7 @@ returns-in_err-body-clause-frame g c = λ e.
     let h = was_frame c.in_err-body.field-0.0 (err_is _ _ _ _ p.1 p.2 e) in
     let w = c.in_err-body.ensures.frame (ap Err h) in
     let k = c.loop-served.invariant.so_far in
-    let v = scheme_of g.S.Sealer.overhead g.S.Sealer.sealing g.S.Sealer.opening c.args.core.now in
+    let v = scheme_of g.S.Sealer.cipher c.args.core.now in
     (k.all, w.0, w.1, w.2, served_then v g.L.Link.calls (g.T.Tape.words c.args.tape.now) c.args.session _ _ _ _ _ _ _ _ _ w.0 [] k w.3 (Appends-nil _))
 
 pub returns-in_err-body-clause-read : goal.returns-in_err-body-clause-read
@@ -33,7 +33,7 @@ returns-in_err-body-clause-read g c = λ e.
     let h = was_read c.in_err-body.field-0.0 (err_is _ _ _ _ p.1 p.2 e) in
     let w = c.in_err-body.ensures.read (ap Err h) in
     let k = c.loop-served.invariant.so_far in
-    let v = scheme_of g.S.Sealer.overhead g.S.Sealer.sealing g.S.Sealer.opening c.args.core.now in
+    let v = scheme_of g.S.Sealer.cipher c.args.core.now in
     (k.all, w.0, w.1, served_then v g.L.Link.calls (g.T.Tape.words c.args.tape.now) c.args.session _ _ _ _ _ _ _ _ _ w.0 [] k w.2 (Appends-nil _))
 
 pub returns-in_err-body-clause-memory : goal.returns-in_err-body-clause-memory
@@ -42,7 +42,7 @@ returns-in_err-body-clause-memory g c = λ e.
     let h = was_memory c.in_err-body.field-0.0 (err_is _ _ _ _ p.1 p.2 e) in
     let w = c.in_err-body.ensures.memory (ap Err h) in
     let k = c.loop-served.invariant.so_far in
-    let v = scheme_of g.S.Sealer.overhead g.S.Sealer.sealing g.S.Sealer.opening c.args.core.now in (
+    let v = scheme_of g.S.Sealer.cipher c.args.core.now in (
       k.all,
       (c.loop-served.core.state, c.loop-served.link),
       w.0,
@@ -53,7 +53,7 @@ returns-in_err-body-clause-memory g c = λ e.
 pub returns-clause-read : goal.returns-clause-read
 returns-clause-read g c = λ _.
     let k = c.loop-served.invariant.so_far in
-    let v = scheme_of g.S.Sealer.overhead g.S.Sealer.sealing g.S.Sealer.opening c.args.core.now in
+    let v = scheme_of g.S.Sealer.cipher c.args.core.now in
     (k.all, [], (λ h. absurd (omega arith)), served_then v g.L.Link.calls (g.T.Tape.words c.args.tape.now) c.args.session _ _ _ _ _ _ _ _ _ [] [] k (Consumes-nil _) (Appends-nil _))
 
 -- a request ends the session
@@ -65,8 +65,8 @@ returns-in_err-reply-clause-stalled g c = λ e.
     let w = c.in_err-reply.ensures.stalled (ap Err h) in
     let k = c.loop-served.invariant.so_far in
     let words = g.T.Tape.words c.args.tape.now in
-    let v = scheme_of g.S.Sealer.overhead g.S.Sealer.sealing g.S.Sealer.opening c.args.core.now in
-    let same = same_shape g.S.Sealer.overhead g.S.Sealer.sealing g.S.Sealer.opening c.args.core.now c.loop-served.core c.loop-served.invariant.kept in
+    let v = scheme_of g.S.Sealer.cipher c.args.core.now in
+    let same = same_scheme g.S.Sealer.cipher c.args.core.now c.loop-served.core c.loop-served.invariant.kept in
     let came = rw c.in-Some.is at c.in_ok-body.ensures.ok in
     let P = λ (u : Scheme) (f : ℕ → ℕ → List ℕ). IsStuck u g.L.Link.calls f c.args.session (c.loop-served.core.state, c.loop-served.link) c.deref.result.now (c.take_turn.new.core.state, c.take_turn.new.link) in (
       k.all,
@@ -85,8 +85,8 @@ returns-in_err-reply-clause-memory g c = λ e.
     let w = c.in_err-reply.ensures.memory (ap Err h) in
     let k = c.loop-served.invariant.so_far in
     let words = g.T.Tape.words c.args.tape.now in
-    let v = scheme_of g.S.Sealer.overhead g.S.Sealer.sealing g.S.Sealer.opening c.args.core.now in
-    let same = same_shape g.S.Sealer.overhead g.S.Sealer.sealing g.S.Sealer.opening c.args.core.now c.loop-served.core c.loop-served.invariant.kept in
+    let v = scheme_of g.S.Sealer.cipher c.args.core.now in
+    let same = same_scheme g.S.Sealer.cipher c.args.core.now c.loop-served.core c.loop-served.invariant.kept in
     let came = rw c.in-Some.is at c.in_ok-body.ensures.ok in
     let P = λ (u : Scheme) (f : ℕ → ℕ → List ℕ). IsCutTurn u g.L.Link.calls f c.args.session (c.loop-served.core.state, c.loop-served.link) c.deref.result.now (c.take_turn.new.core.state, c.take_turn.new.link) in (
       k.all,
@@ -114,8 +114,8 @@ returns-in_err-put_reply-clause-write g c = λ e.
     let w = c.in_err-put_reply.ensures.write (ap Err h) in
     let k = c.loop-served.invariant.so_far in
     let words = g.T.Tape.words c.args.tape.now in
-    let v = scheme_of g.S.Sealer.overhead g.S.Sealer.sealing g.S.Sealer.opening c.args.core.now in
-    let same = same_shape g.S.Sealer.overhead g.S.Sealer.sealing g.S.Sealer.opening c.args.core.now c.loop-served.core c.loop-served.invariant.kept in
+    let v = scheme_of g.S.Sealer.cipher c.args.core.now in
+    let same = same_scheme g.S.Sealer.cipher c.args.core.now c.loop-served.core c.loop-served.invariant.kept in
     let came = rw c.in-Some.is at c.in_ok-body.ensures.ok in
     let x = c.in_ok-reply.ensures.ok in
     let body : x.0.body ≡ c.in-Some.body.items = x.1 ∙ c.deref.ensures.value in
@@ -138,8 +138,8 @@ returns-in_err-put_reply-clause-memory g c = λ e.
     let w = c.in_err-put_reply.ensures.memory (ap Err h) in
     let k = c.loop-served.invariant.so_far in
     let words = g.T.Tape.words c.args.tape.now in
-    let v = scheme_of g.S.Sealer.overhead g.S.Sealer.sealing g.S.Sealer.opening c.args.core.now in
-    let same = same_shape g.S.Sealer.overhead g.S.Sealer.sealing g.S.Sealer.opening c.args.core.now c.loop-served.core c.loop-served.invariant.kept in
+    let v = scheme_of g.S.Sealer.cipher c.args.core.now in
+    let same = same_scheme g.S.Sealer.cipher c.args.core.now c.loop-served.core c.loop-served.invariant.kept in
     let came = rw c.in-Some.is at c.in_ok-body.ensures.ok in
     let x = c.in_ok-reply.ensures.ok in
     let P = λ (u : Scheme) (f : ℕ → ℕ → List ℕ). IsTurn u g.L.Link.calls f c.args.session (c.loop-served.core.state, c.loop-served.link) x.0 (c.take_turn.new.core.state, c.take_turn.new.link) in (
@@ -156,8 +156,8 @@ pub loop-served-preserved : goal.loop-served-preserved
 loop-served-preserved g c =
     let k = c.loop-served.invariant.so_far in
     let words = g.T.Tape.words c.args.tape.now in
-    let v = scheme_of g.S.Sealer.overhead g.S.Sealer.sealing g.S.Sealer.opening c.args.core.now in
-    let same = same_shape g.S.Sealer.overhead g.S.Sealer.sealing g.S.Sealer.opening c.args.core.now c.loop-served.core c.loop-served.invariant.kept in
+    let v = scheme_of g.S.Sealer.cipher c.args.core.now in
+    let same = same_scheme g.S.Sealer.cipher c.args.core.now c.loop-served.core c.loop-served.invariant.kept in
     let came = rw c.in-Some.is at c.in_ok-body.ensures.ok in
     let x = c.in_ok-reply.ensures.ok in
     let body : x.0.body ≡ c.in-Some.body.items = x.1 ∙ c.deref.ensures.value in

@@ -9,6 +9,6 @@ invariant-loop-served g l = record {
   kept : IsSameDevice l.fn.core l.core;
   settled : IsSettled l.core.state;
   tape : g.T.Tape.words l.tape ≡ g.T.Tape.words l.fn.tape;
-  so_far : Served (scheme_of g.S.Sealer.overhead g.S.Sealer.sealing g.S.Sealer.opening l.fn.core) g.L.Link.calls (g.T.Tape.words l.fn.tape) l.session (l.fn.core.state, l.fn.link)
+  so_far : Served (scheme_of g.S.Sealer.cipher l.fn.core) g.L.Link.calls (g.T.Tape.words l.fn.tape) l.session (l.fn.core.state, l.fn.link)
       (g.R.Read.remaining l.fn.reader) (g.W.Write.contents l.fn.writer) l.served (l.core.state, l.link) (g.R.Read.remaining l.reader) (g.W.Write.contents l.writer);
 }

@@ -9,13 +9,13 @@ use Rattle.oram_session.specs.Exchanges.{AllSent, IsSent, IsCutOff}
 use Rattle.oram_session.specs.Requests.{session_reply}
 use Rattle.oram_session.specs.Turns.{most_retries}
 use Rattle.oram_host.specs.declared.serve_fault.ServeFault.TheVariants.{Stalled, OutOfMemory}
-use Rattle.oram_session.proofs.Steppings.{same_shape}
+use Rattle.oram_session.proofs.Steppings.{same_scheme}
 use Rattle.oram_session.proofs.Turned.{err_is, bad_turn, asked_so, refused_turn, accepted_turn, at_work}
 use Rattle.oram_session.proofs.turns.take_turn.Goals as goal
 
 pub returns-in_default-clause-ok : goal.returns-in_default-clause-ok
 returns-in_default-clause-ok g c =
-    let v = scheme_of g.S.Sealer.overhead g.S.Sealer.sealing g.S.Sealer.opening c.args.core.now in
+    let v = scheme_of g.S.Sealer.cipher c.args.core.now in
     let none = rw c.in_default.is at c.in_ok-command.ensures.ok in (
       record { body = c.args.body.now; sendings = []; reply = Refused 7 },
       refl,
@@ -25,7 +25,7 @@ returns-in_default-clause-ok g c =
 
 pub returns-in-Refused-clause-ok : goal.returns-in-Refused-clause-ok
 returns-in-Refused-clause-ok g c =
-    let v = scheme_of g.S.Sealer.overhead g.S.Sealer.sealing g.S.Sealer.opening c.args.core.now in
+    let v = scheme_of g.S.Sealer.cipher c.args.core.now in
     let words = g.T.Tape.words c.args.tape.now in
     let a = rw c.in-Some.is at c.in_ok-command.ensures.ok in
     let asked = asked_so v g.L.Link.calls words c.args.session c.args.body.now a.0 c.in-Some.command c.args.core.now.state c.submit.new.core.state (shown_by c.in_ok-reaction.reaction) a.1 a.2 c.in_ok-reaction.ensures.ok in (
@@ -37,13 +37,13 @@ returns-in-Refused-clause-ok g c =
 
 pub returns-in_ok-reply-in-Accepted-clause-ok : goal.returns-in_ok-reply-in-Accepted-clause-ok
 returns-in_ok-reply-in-Accepted-clause-ok g c =
-    let v = scheme_of g.S.Sealer.overhead g.S.Sealer.sealing g.S.Sealer.opening c.args.core.now in
+    let v = scheme_of g.S.Sealer.cipher c.args.core.now in
     let words = g.T.Tape.words c.args.tape.now in
     let a = rw c.in-Some.is at c.in_ok-command.ensures.ok in
     let x = shown_by c.in_ok-reaction.reaction in
     let asked = asked_so v g.L.Link.calls words c.args.session c.args.body.now a.0 c.in-Some.command c.args.core.now.state c.submit.new.core.state x a.1 a.2 c.in_ok-reaction.ensures.ok in
     let w = c.in_ok-reply-in-Accepted.ensures.ok in
-    let same = same_shape g.S.Sealer.overhead g.S.Sealer.sealing g.S.Sealer.opening c.args.core.now c.submit.new.core c.submit.ensures.kept in
+    let same = same_scheme g.S.Sealer.cipher c.args.core.now c.submit.new.core c.submit.ensures.kept in
     let sent = subst (λ (u : Scheme). AllSent u g.L.Link.calls most_retries (c.submit.new.core.state, c.args.link.now) w.0 (c.carry_out.new.core.state, c.carry_out.new.link)) same w.1 in (
       record { body = c.args.body.now; sendings = w.0; reply = session_reply c.in_ok-reply-in-Accepted.reply.body },
       refl,
@@ -56,13 +56,13 @@ pub returns-in_err-reply-in-Accepted-clause-stalled : goal.returns-in_err-reply-
 returns-in_err-reply-in-Accepted-clause-stalled g c = λ e.
     let p = err_from_is_err_and c.from_residual-in_err-reply-in-Accepted.result c.from_residual-in_err-reply-in-Accepted.ensures.1 in
     let h : c.in_err-reply-in-Accepted.field-0.0 ≡ Stalled = err_is _ _ _ _ p.1 p.2 e in
-    let v = scheme_of g.S.Sealer.overhead g.S.Sealer.sealing g.S.Sealer.opening c.args.core.now in
+    let v = scheme_of g.S.Sealer.cipher c.args.core.now in
     let words = g.T.Tape.words c.args.tape.now in
     let a = rw c.in-Some.is at c.in_ok-command.ensures.ok in
     let x = shown_by c.in_ok-reaction.reaction in
     let asked = asked_so v g.L.Link.calls words c.args.session c.args.body.now a.0 c.in-Some.command c.args.core.now.state c.submit.new.core.state x a.1 a.2 c.in_ok-reaction.ensures.ok in
     let w = c.in_err-reply-in-Accepted.ensures.stalled (ap Err h) in
-    let same = same_shape g.S.Sealer.overhead g.S.Sealer.sealing g.S.Sealer.opening c.args.core.now c.submit.new.core c.submit.ensures.kept in
+    let same = same_scheme g.S.Sealer.cipher c.args.core.now c.submit.new.core c.submit.ensures.kept in
     let sent = subst (λ (u : Scheme). AllSent u g.L.Link.calls most_retries (c.submit.new.core.state, c.args.link.now) w.0 w.1) same w.3 in
     record {
       mid = w.1;
@@ -76,13 +76,13 @@ pub returns-in_err-reply-in-Accepted-clause-memory : goal.returns-in_err-reply-i
 returns-in_err-reply-in-Accepted-clause-memory g c = λ e.
     let p = err_from_is_err_and c.from_residual-in_err-reply-in-Accepted.result c.from_residual-in_err-reply-in-Accepted.ensures.1 in
     let h : c.in_err-reply-in-Accepted.field-0.0 ≡ OutOfMemory = err_is _ _ _ _ p.1 p.2 e in
-    let v = scheme_of g.S.Sealer.overhead g.S.Sealer.sealing g.S.Sealer.opening c.args.core.now in
+    let v = scheme_of g.S.Sealer.cipher c.args.core.now in
     let words = g.T.Tape.words c.args.tape.now in
     let a = rw c.in-Some.is at c.in_ok-command.ensures.ok in
     let x = shown_by c.in_ok-reaction.reaction in
     let asked = asked_so v g.L.Link.calls words c.args.session c.args.body.now a.0 c.in-Some.command c.args.core.now.state c.submit.new.core.state x a.1 a.2 c.in_ok-reaction.ensures.ok in
     let w = c.in_err-reply-in-Accepted.ensures.memory (ap Err h) in
-    let same = same_shape g.S.Sealer.overhead g.S.Sealer.sealing g.S.Sealer.opening c.args.core.now c.submit.new.core c.submit.ensures.kept in
+    let same = same_scheme g.S.Sealer.cipher c.args.core.now c.submit.new.core c.submit.ensures.kept in
     let sent = subst (λ (u : Scheme). AllSent u g.L.Link.calls most_retries (c.submit.new.core.state, c.args.link.now) w.0 w.1) same w.3 in
     inr (record {
       mid = w.1;

@@ -10,7 +10,7 @@ relink-requires g c =
     let now = c.deref_mut.result.now in
     let n = c.len-start.result in (
       s.parts,
-      joined_whole (Reads (g.S.Sealer.opening c.args.sealer.now) c.args.device.now c.args.tree) (g.S.Sealer.sealing c.args.sealer.now) c.args.device.now c.args.nonce c.args.path.now (lent c.args.lists.now)
+      joined_whole (Reads (g.S.Sealer.cipher c.args.sealer.now).opening c.args.device.now c.args.tree) (g.S.Sealer.cipher c.args.sealer.now).sealing c.args.device.now c.args.nonce c.args.path.now (lent c.args.lists.now)
           (length c.args.lists.now) c.args.out.now.items c.seal_path.new.out.items _ s c.requires.levels
           (gained_part c.args.out.now.items (joined_from c.args.path.now 0 s.parts) now n (length now - n) (c.deref_mut.ensures.value ∙ s.gained) (c.len-start.ensures ∙ c.args.out.now.ok.0) refl),
     )
@@ -21,8 +21,8 @@ returns-in-Ok-clause-appended g c =
     let now = c.deref_mut.result.now in
     let n = c.len-start.result in
     let p = c.args.path.now in
-    let reads = Reads (g.S.Sealer.opening c.args.sealer.now) c.args.device.now c.args.tree in
-    let sealing = g.S.Sealer.sealing c.args.sealer.now in
+    let reads = Reads (g.S.Sealer.cipher c.args.sealer.now).opening c.args.device.now c.args.tree in
+    let sealing = (g.S.Sealer.cipher c.args.sealer.now).sealing in
     let part = gained_part c.args.out.now.items (joined_from p 0 s.parts) now n (length now - n) (c.deref_mut.ensures.value ∙ s.gained) (c.len-start.ensures ∙ c.args.out.now.ok.0) refl in
     let kept : length c.relink.new.records ≡ length (take (length now - n) (drop n now)) = search rules in
     appended reads sealing c.args.device.now c.args.nonce p (lent c.args.lists.now) (length c.args.lists.now) c.args.out.now.items c.seal_path.new.out.items _ c.relink.new.records c.relink.result s c.requires.levels

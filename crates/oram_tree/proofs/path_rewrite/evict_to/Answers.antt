@@ -39,7 +39,7 @@ returns-clause-evicted g c =
     let deep : ℕ = depth_of c.args.device.now c.args.tree in
     let depth_is : c.args.path.now.depth ≡ deep = ap (λ (p : Path). p.depth) c.requires.path in
     let leaf_is : c.args.path.now.leaf ≡ c.args.leaf = ap (λ (p : Path). p.leaf) c.requires.path in
-    let A : List (Vec (Bor Cell) Global) → Type 0 = λ vs. IsAppended (Reads (g.S.Sealer.opening c.args.sealer.now) c.args.device.now c.args.tree) (g.S.Sealer.sealing c.args.sealer.now) c.args.device.now c.args.nonce c.args.path.now (lent vs) c.args.out.now.items c.append_path.new.out.items c.in_ok-root.root in
+    let A : List (Vec (Bor Cell) Global) → Type 0 = λ vs. IsAppended (Reads (g.S.Sealer.cipher c.args.sealer.now).opening c.args.device.now c.args.tree) (g.S.Sealer.cipher c.args.sealer.now).sealing c.args.device.now c.args.nonce c.args.path.now (lent vs) c.args.out.now.items c.append_path.new.out.items c.in_ok-root.root in
     let P : ℕ → Type 0 = λ n. E n c.args.path.now.leaf in
     let Q : ℕ → Type 0 = E deep in (
       lists,

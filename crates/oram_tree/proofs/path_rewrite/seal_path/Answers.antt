@@ -15,8 +15,8 @@ loop-level-init g c = sealed_none _ _ c.args.device.now c.args.nonce c.args.path
 pub loop-level-preserved : goal.loop-level-preserved
 unfolding record_len_of
 loop-level-preserved g c =
-    let reads = Reads (g.S.Sealer.opening c.args.sealer.now) c.args.device.now c.args.tree in
-    let sealing = g.S.Sealer.sealing c.args.sealer.now in
+    let reads = Reads (g.S.Sealer.cipher c.args.sealer.now).opening c.args.device.now c.args.tree in
+    let sealing = (g.S.Sealer.cipher c.args.sealer.now).sealing in
     let device = c.args.device.now in
     let lists = lent c.args.lists.now in
     let level = c.loop-level.level in
@@ -37,6 +37,6 @@ loop-level-preserved g c =
 
 pub returns-clause-sealed : goal.returns-clause-sealed
 returns-clause-sealed g c =
-    let P : ℕ → Type 0 = λ n. IsSealedTo (Reads (g.S.Sealer.opening c.args.sealer.now) c.args.device.now c.args.tree) (g.S.Sealer.sealing c.args.sealer.now) c.args.device.now c.args.nonce c.args.path.now (lent c.args.lists.now) n c.args.out.now.items c.loop-level.out.items in
+    let P : ℕ → Type 0 = λ n. IsSealedTo (Reads (g.S.Sealer.cipher c.args.sealer.now).opening c.args.device.now c.args.tree) (g.S.Sealer.cipher c.args.sealer.now).sealing c.args.device.now c.args.nonce c.args.path.now (lent c.args.lists.now) n c.args.out.now.items c.loop-level.out.items in
     let all : c.loop-level.level ≡ length c.args.lists.now = omega (arith, c.loop-level-test.false, c.depth-level-end.ensures.count, c.requires.depth, c.requires.levels) in
     subst P all c.loop-level.invariant

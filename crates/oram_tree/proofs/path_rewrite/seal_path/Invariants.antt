@@ -6,5 +6,5 @@ use Rattle.oram_tree.proofs.path_rewrite.seal_path.Given as goal
 
 abbrev pub invariant-loop-level : goal.invariant-loop-level
 invariant-loop-level g l =
-    IsSealedTo (Reads (g.S.Sealer.opening l.sealer) l.device l.tree) (g.S.Sealer.sealing l.sealer) l.device l.nonce l.path
+    IsSealedTo (Reads (g.S.Sealer.cipher l.sealer).opening l.device l.tree) (g.S.Sealer.cipher l.sealer).sealing l.device l.nonce l.path
     (map (λ (list : Vec (Bor Cell) Global). map (λ (b : Bor Cell). b.now) list.items) l.lists) l.level l.initial.out.items l.out.items

@@ -8,11 +8,11 @@ use Rattle.oram_tree.proofs.tree_format.+put_subtree.Goals as goal
 
 pub returns-then-height-eq0-clause-put : goal.returns-then-height-eq0-clause-put
 returns-then-height-eq0-clause-put g t c =
-    on_ok_weaker c.put_node.result (λ done. puts-leaf g.K.Sink.putting c.args.sink.now c.put_node.new.sink (λ n. g.S.Sealer.sealing c.args.sealer.now n (spelling c.args.device.now [])) c.args.tree c.args.height c.args.nonce c.args.node (omega arith) done) c.put_node.ensures.put
+    on_ok_weaker c.put_node.result (λ done. puts-leaf g.K.Sink.putting c.args.sink.now c.put_node.new.sink (λ n. (g.S.Sealer.cipher c.args.sealer.now).sealing n (spelling c.args.device.now [])) c.args.tree c.args.height c.args.nonce c.args.node (omega arith) done) c.put_node.ensures.put
 
 pub returns-then-height-eq0-clause-digest : goal.returns-then-height-eq0-clause-digest
 returns-then-height-eq0-clause-digest g t c =
-    let r = root_record-leaf (λ n. g.S.Sealer.sealing c.args.sealer.now n (spelling c.args.device.now [])) c.args.height c.args.nonce (omega arith) in
+    let r = root_record-leaf (λ n. (g.S.Sealer.cipher c.args.sealer.now).sealing n (spelling c.args.device.now [])) c.args.height c.args.nonce (omega arith) in
     IfOk-weaker c.put_node.result _ _ (λ d same. same ∙ ap sha256 (sym r)) c.put_node.ensures.digest
 
 pub put_subtree-requires : goal.put_subtree-requires
@@ -33,7 +33,7 @@ put_subtree-requires-2 g t c =
 
 pub returns-clause-put : goal.returns-clause-put
 returns-clause-put g t c =
-    let seal = λ (n : ℕ). g.S.Sealer.sealing c.args.sealer.now n (spelling c.args.device.now []) in
+    let seal = λ (n : ℕ). (g.S.Sealer.cipher c.args.sealer.now).sealing n (spelling c.args.device.now []) in
     let some : 0 < c.args.height = omega arith in
     let r = root_record-inner seal c.args.height c.args.nonce c.nodes_below-below.result _ _ some c.nodes_below-below.ensures c.in_ok-left.ensures.digest c.in_ok-right.ensures.digest in
     on_ok_weaker c.put_node-2.result (λ done. puts-inner g.K.Sink.putting c.args.sink.now c.put_subtree.new.sink c.put_subtree-2.new.sink c.put_node-2.new.sink seal c.args.tree c.args.height c.args.nonce c.args.node c.nodes_below-below.result _
@@ -41,21 +41,21 @@ returns-clause-put g t c =
 
 pub returns-clause-digest : goal.returns-clause-digest
 returns-clause-digest g t c =
-    let seal = λ (n : ℕ). g.S.Sealer.sealing c.args.sealer.now n (spelling c.args.device.now []) in
+    let seal = λ (n : ℕ). (g.S.Sealer.cipher c.args.sealer.now).sealing n (spelling c.args.device.now []) in
     let some : 0 < c.args.height = omega arith in
     let r = root_record-inner seal c.args.height c.args.nonce c.nodes_below-below.result _ _ some c.nodes_below-below.ensures c.in_ok-left.ensures.digest c.in_ok-right.ensures.digest in
     IfOk-weaker c.put_node-2.result _ _ (λ d same. same ∙ ap sha256 (sym r)) c.put_node-2.ensures.digest
 
 pub returns-then-height-eq0-clause-broken_off : goal.returns-then-height-eq0-clause-broken_off
 returns-then-height-eq0-clause-broken_off g t c =
-    let seal = λ (n : ℕ). g.S.Sealer.sealing c.args.sealer.now n (spelling c.args.device.now []) in
+    let seal = λ (n : ℕ). (g.S.Sealer.cipher c.args.sealer.now).sealing n (spelling c.args.device.now []) in
     IfErr-weaker c.put_node.result _ _
     (λ fault b. broken_after g.K.Sink.putting g.K.Sink.refusing _ _ c.args.sink.now c.args.sink.now c.put_node.new.sink fault []
     (λ xs s. starts-leaf seal c.args.tree c.args.height c.args.nonce c.args.node xs (omega arith) s) refl b) c.put_node.ensures.broken_off
 
 pub returns-in_err-left-clause-broken_off : goal.returns-in_err-left-clause-broken_off
 returns-in_err-left-clause-broken_off g t c =
-    let seal = λ (n : ℕ). g.S.Sealer.sealing c.args.sealer.now n (spelling c.args.device.now []) in
+    let seal = λ (n : ℕ). (g.S.Sealer.cipher c.args.sealer.now).sealing n (spelling c.args.device.now []) in
     let some : 0 < c.args.height = omega arith in
     if_err c.from_residual.result _ _ c.from_residual.ensures.1
     (λ fault same. broken_after g.K.Sink.putting g.K.Sink.refusing _ _ c.args.sink.now c.args.sink.now c.put_subtree.new.sink fault []
@@ -64,7 +64,7 @@ returns-in_err-left-clause-broken_off g t c =
 
 pub returns-in_err-right-clause-broken_off : goal.returns-in_err-right-clause-broken_off
 returns-in_err-right-clause-broken_off g t c =
-    let seal = λ (n : ℕ). g.S.Sealer.sealing c.args.sealer.now n (spelling c.args.device.now []) in
+    let seal = λ (n : ℕ). (g.S.Sealer.cipher c.args.sealer.now).sealing n (spelling c.args.device.now []) in
     let some : 0 < c.args.height = omega arith in
     if_err c.from_residual-in_err-right.result _ _ c.from_residual-in_err-right.ensures.1
     (λ fault same. broken_after g.K.Sink.putting g.K.Sink.refusing _ _ c.args.sink.now c.put_subtree.new.sink c.put_subtree-2.new.sink fault _
@@ -73,7 +73,7 @@ returns-in_err-right-clause-broken_off g t c =
 
 pub returns-clause-broken_off : goal.returns-clause-broken_off
 returns-clause-broken_off g t c =
-    let seal = λ (n : ℕ). g.S.Sealer.sealing c.args.sealer.now n (spelling c.args.device.now []) in
+    let seal = λ (n : ℕ). (g.S.Sealer.cipher c.args.sealer.now).sealing n (spelling c.args.device.now []) in
     let some : 0 < c.args.height = omega arith in
     let r = root_record-inner seal c.args.height c.args.nonce c.nodes_below-below.result _ _ some c.nodes_below-below.ensures c.in_ok-left.ensures.digest c.in_ok-right.ensures.digest in
     IfErr-weaker c.put_node-2.result _ _

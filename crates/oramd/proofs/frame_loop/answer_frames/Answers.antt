@@ -5,7 +5,7 @@ use Rattle.oram_geometry.specs.Sizes.{trees_of}
 use Rattle.oramd.specs.Formatting.{IsFormatted}
 use Rattle.oramd.specs.Looping.{loop_sizes}
 use Rattle.oramd.specs.declared.faults.Fault.{Fault}
-use Rattle.oramd.proofs.Looped.{all_answered, at_end, front_answered, shape_at}
+use Rattle.oramd.proofs.Looped.{all_answered, at_end, front_answered, scheme_at}
 use Rattle.oramd.proofs.frame_loop.answer_frames.Goals as goal
 
 same_device : (r : Result Sizes Fault) (d : Sizes) → r ≡ Ok d → r ≡ Ok loop_sizes → d ≡ loop_sizes
@@ -16,8 +16,8 @@ returns-clause-ok g c =
     let core = c.in_ok-core.core in
     let sized : core.device ≡ loop_sizes = c.in_ok-core.ensures.device ∙ same_device _ c.in_ok-device.device refl c.in_ok-device.ensures in
     let count : c.trees-trees.result ≡ trees_of core.device = c.trees-trees.ensures.count ∙ ap trees_of c.device.ensures.value in
-    let formatted : IsFormatted (shape_at core.device) g.L.Link.calls c.args.link.now core.state c.format_device.new.link =
-    subst (λ (d : Sizes). IsFormatted (shape_at d) g.L.Link.calls c.args.link.now core.state c.format_device.new.link) (sym c.in_ok-core.ensures.device) c.in_ok-core.ensures.made in
+    let formatted : IsFormatted (scheme_at core.device) g.L.Link.calls c.args.link.now core.state c.format_device.new.link =
+    subst (λ (d : Sizes). IsFormatted (scheme_at d) g.L.Link.calls c.args.link.now core.state c.format_device.new.link) (sym c.in_ok-core.ensures.device) c.in_ok-core.ensures.made in
     at_end _ _ _ _ _ _ _ _
     (all_answered g.L.Link.calls core.device (replicate 32 0) c.trees-trees.result c.args.link.now c.format_device.new.link c.serve-ended.new.link core.state c.serve-ended.new.core.state
     c.args.frames.now c.serve-ended.new.reader.now c.args.replies.now.items c.serve-ended.new.writer.items
@@ -28,8 +28,8 @@ returns-clause-hex g c hex =
     let core = c.in_ok-core.core in
     let sized : core.device ≡ loop_sizes = c.in_ok-core.ensures.device ∙ same_device _ c.in_ok-device.device refl c.in_ok-device.ensures in
     let count : c.trees-trees.result ≡ trees_of core.device = c.trees-trees.ensures.count ∙ ap trees_of c.device.ensures.value in
-    let formatted : IsFormatted (shape_at core.device) g.L.Link.calls c.args.link.now core.state c.format_device.new.link =
-    subst (λ (d : Sizes). IsFormatted (shape_at d) g.L.Link.calls c.args.link.now core.state c.format_device.new.link) (sym c.in_ok-core.ensures.device) c.in_ok-core.ensures.made in
+    let formatted : IsFormatted (scheme_at core.device) g.L.Link.calls c.args.link.now core.state c.format_device.new.link =
+    subst (λ (d : Sizes). IsFormatted (scheme_at d) g.L.Link.calls c.args.link.now core.state c.format_device.new.link) (sym c.in_ok-core.ensures.device) c.in_ok-core.ensures.made in
     let front = front_answered g.L.Link.calls core.device (replicate 32 0) c.trees-trees.result c.args.link.now c.format_device.new.link c.serve-ended.new.link core.state c.serve-ended.new.core.state
     c.args.frames.now c.serve-ended.new.reader.now c.args.replies.now.items c.serve-ended.new.writer.items
     sized refl count formatted c.serve-ended.result c.after_frames.result c.after_frames.ensures c.serve-ended.ensures.frame c.serve-ended.ensures.truncated c.serve-ended.ensures.read hex in

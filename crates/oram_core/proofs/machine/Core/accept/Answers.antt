@@ -80,7 +80,7 @@ pub returns-then-is_empty-clause-ok : goal.returns-then-is_empty-clause-ok
 returns-then-is_empty-clause-ok g c =
     let now = c.args.self.now in
     let ticket = ap (λ (u : CoreValue g.row.S.Denot). u.state.next) c.self.view_is in
-    begun_so (scheme_of g.S.Sealer.overhead g.S.Sealer.sealing g.S.Sealer.opening now) now.state c.begin.new.self.state (record { session = c.args.session; ticket = now.state.next; command = c.args.command.now; words = c.args.words.now })
+    begun_so (scheme_of g.S.Sealer.cipher now) now.state c.begin.new.self.state (record { session = c.args.session; ticket = now.state.next; command = c.args.command.now; words = c.args.words.now })
     (record { session = c.args.session; ticket = c.self.inside.next; command = c.in_ok-copy.field-0; words = c.in_ok-copy-2.field-0 })
     c.begin.result (search rules) (copied _ _ _ _ _ c.as_slice.result.now _ _ ticket c.in_ok-copy.ensures c.in_ok-copy-2.ensures c.as_slice.ensures) ticket c.begin.ensures.ok
 
@@ -88,6 +88,6 @@ pub returns-else-is_empty-clause-ok : goal.returns-else-is_empty-clause-ok
 returns-else-is_empty-clause-ok g c =
     let now = c.args.self.now in
     let ticket = ap (λ (u : CoreValue g.row.S.Denot). u.state.next) c.self.view_is in
-    enqueued_so (scheme_of g.S.Sealer.overhead g.S.Sealer.sealing g.S.Sealer.opening now) now.state c.enqueue.new.self.state (record { session = c.args.session; ticket = now.state.next; command = c.args.command.now; words = c.args.words.now })
+    enqueued_so (scheme_of g.S.Sealer.cipher now) now.state c.enqueue.new.self.state (record { session = c.args.session; ticket = now.state.next; command = c.args.command.now; words = c.args.words.now })
     (record { session = c.args.session; ticket = c.self.inside.next; command = c.in_ok-copy.field-0; words = c.in_ok-copy-2.field-0 })
     c.enqueue.result (search rules) (copied _ _ _ _ _ c.as_slice.result.now _ _ ticket c.in_ok-copy.ensures c.in_ok-copy-2.ensures c.as_slice.ensures) ticket c.enqueue.ensures.ok

@@ -15,7 +15,7 @@ use Rattle.oram_core.proofs.machine.Core.adopt_access.Goals as goal
 pub returns-then-is_misled-clause-ok : goal.returns-then-is_misled-clause-ok
 returns-then-is_misled-clause-ok g c = λ x rest records q m.
     let now = c.args.self.now in
-    let v = scheme_of g.S.Sealer.overhead g.S.Sealer.sealing g.S.Sealer.opening now in
+    let v = scheme_of g.S.Sealer.cipher now in
     let tree = c.args.path_access.tree in
     let before = c.args.lookup.before.items in
     let device_is : c.self.inside.device ≡ now.device = ap (λ (u : CoreValue g.row.S.Denot). u.device) c.self.view_is in
@@ -31,7 +31,7 @@ returns-then-is_misled-clause-ok g c = λ x rest records q m.
 pub commit-requires-clause-oldest : goal.commit-requires-clause-oldest
 commit-requires-clause-oldest g c = λ x rest q.
     let now = c.args.self.now in
-    let v = scheme_of g.S.Sealer.overhead g.S.Sealer.sealing g.S.Sealer.opening now in
+    let v = scheme_of g.S.Sealer.cipher now in
     let tree = c.args.path_access.tree in
     let before = c.args.lookup.before.items in
     let device_is : c.self.inside.device ≡ now.device = ap (λ (u : CoreValue g.row.S.Denot). u.device) c.self.view_is in
@@ -44,7 +44,7 @@ commit-requires-clause-oldest g c = λ x rest q.
 pub commit-requires-clause-named : goal.commit-requires-clause-named
 commit-requires-clause-named g c =
     let now = c.args.self.now in
-    let v = scheme_of g.S.Sealer.overhead g.S.Sealer.sealing g.S.Sealer.opening now in
+    let v = scheme_of g.S.Sealer.cipher now in
     let tree = c.args.path_access.tree in
     let before = c.args.lookup.before.items in
     let o : Waits now.state = waits now.state c.requires.waiting in
@@ -59,7 +59,7 @@ commit-requires-clause-named g c =
 pub returns-clause-ok : goal.returns-clause-ok
 returns-clause-ok g c = λ x rest records q m.
     let now = c.args.self.now in
-    let v = scheme_of g.S.Sealer.overhead g.S.Sealer.sealing g.S.Sealer.opening now in
+    let v = scheme_of g.S.Sealer.cipher now in
     let tree = c.args.path_access.tree in
     let before = c.args.lookup.before.items in
     let device_is : c.self.inside.device ≡ now.device = ap (λ (u : CoreValue g.row.S.Denot). u.device) c.self.view_is in

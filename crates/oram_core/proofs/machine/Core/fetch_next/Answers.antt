@@ -28,7 +28,7 @@ returns-clause-ok g c = λ x rest q.
     let same = sym c.self.view_is in
     let fetch = subst (λ (v : CoreValue g.row.S.Denot). (x : Submission) (rest : List Submission) → v.state.queue ≡ x ∷ rest → c.in_ok-kept.field-0.kept ≡ fetch_of (fetch_at v.device (v.state.entry_number + 1) v.state.held_entry x)) same c.in_ok-kept.ensures.kept in
     let queue = subst (λ (v : CoreValue g.row.S.Denot). v.state.queue ≡ x ∷ rest) same q in
-    rw (← c.self.view_is) (fetched_so (scheme_with g.S.Sealer.overhead g.S.Sealer.sealing g.S.Sealer.opening c.self.inside.device c.self.inside.sealer) _ x _ _ _ c.self.invariant (fetch x rest queue) c.in_ok-kept.ensures.sends c.new.ensures.items)
+    rw (← c.self.view_is) (fetched_so (scheme_with g.S.Sealer.cipher c.self.inside.device c.self.inside.sealer) _ x _ _ _ c.self.invariant (fetch x rest queue) c.in_ok-kept.ensures.sends c.new.ensures.items)
 
 pub next_fetch-requires-clause-waiting : goal.next_fetch-requires-clause-waiting
 next_fetch-requires-clause-waiting g c = c.requires.waiting

@@ -24,7 +24,7 @@ returns-clause-ok g c = λ x rest q.
     let more = subst (λ (v : CoreValue g.row.S.Denot). 1 < length v.state.queue) same c.requires.more in
     let next = subst (λ (v : CoreValue g.row.S.Denot). (x y : Submission) (rest : List Submission) → v.state.queue ≡ x ∷ y ∷ rest → c.args.sending.kept ≡ first_message v.device v.state y) same c.requires.next in
     let queue = subst (λ (v : CoreValue g.row.S.Denot). v.state.queue ≡ x ∷ rest) same q in
-    rw (← c.self.view_is) (passed_by (scheme_with g.S.Sealer.overhead g.S.Sealer.sealing g.S.Sealer.opening c.self.inside.device c.self.inside.sealer) _ x rest _ _ _ _ _ c.self.invariant queue more next (c.in_ok-replies.ensures.replies x rest queue) c.requires.sends c.in_ok-replies.ensures.queue c.in_ok-replies.ensures.ok)
+    rw (← c.self.view_is) (passed_by (scheme_with g.S.Sealer.cipher c.self.inside.device c.self.inside.sealer) _ x rest _ _ _ _ _ c.self.invariant queue more next (c.in_ok-replies.ensures.replies x rest queue) c.requires.sends c.in_ok-replies.ensures.queue c.in_ok-replies.ensures.ok)
 
 pub returns-in_err-replies-clause-kept : goal.returns-in_err-replies-clause-kept
 returns-in_err-replies-clause-kept g c = (ap (λ (u : CoreValue g.row.S.Denot). u.device) c.self.view_is, ap (λ (u : CoreValue g.row.S.Denot). u.sealer) c.self.view_is)

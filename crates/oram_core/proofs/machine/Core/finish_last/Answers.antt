@@ -20,7 +20,7 @@ returns-clause-ok g c = λ x rest q.
     let same = sym c.self.view_is in
     let alone = subst (λ (v : CoreValue g.row.S.Denot). length v.state.queue ≡ 1) same c.requires.alone in
     let queue = subst (λ (v : CoreValue g.row.S.Denot). v.state.queue ≡ x ∷ rest) same q in
-    rw (← c.self.view_is) (ended_by (scheme_with g.S.Sealer.overhead g.S.Sealer.sealing g.S.Sealer.opening c.self.inside.device c.self.inside.sealer) _ x rest _ _ _ _ _ c.self.invariant queue alone (c.in_ok-replies.ensures.replies x rest queue) c.new-2.ensures.items c.in_ok-replies.ensures.queue c.in_ok-replies.ensures.ok (c.from_vec.ensures ∙ c.new.ensures.items))
+    rw (← c.self.view_is) (ended_by (scheme_with g.S.Sealer.cipher c.self.inside.device c.self.inside.sealer) _ x rest _ _ _ _ _ c.self.invariant queue alone (c.in_ok-replies.ensures.replies x rest queue) c.new-2.ensures.items c.in_ok-replies.ensures.queue c.in_ok-replies.ensures.ok (c.from_vec.ensures ∙ c.new.ensures.items))
 
 pub returns-in_err-replies-clause-kept : goal.returns-in_err-replies-clause-kept
 returns-in_err-replies-clause-kept g c = (ap (λ (u : CoreValue g.row.S.Denot). u.device) c.self.view_is, ap (λ (u : CoreValue g.row.S.Denot). u.sealer) c.self.view_is)

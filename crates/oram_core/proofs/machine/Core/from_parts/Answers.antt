@@ -13,22 +13,22 @@ use Rattle.oram_core.proofs.Heard.{no_ok}
 use Rattle.oram_core.proofs.machine.Core.from_parts.Goals as goal
 
 pub returns-then-not-is_fitting-clause-content : goal.returns-then-not-is_fitting-clause-content
-returns-then-not-is_fitting-clause-content g c = λ same are. false≢true (sym c.if-not-is_fitting.true ∙ c.is_fitting.ensures.1 (subst (λ (n : ℕ). IsFitting n c.args.parts c.args.parts.failure) (sym c.overhead.ensures) (fits_of (g.S.Sealer.overhead c.args.sealer) c.args.parts are)))
+returns-then-not-is_fitting-clause-content g c = λ same are. false≢true (sym c.if-not-is_fitting.true ∙ c.is_fitting.ensures.1 (subst (λ (n : ℕ). IsFitting n c.args.parts c.args.parts.failure) (sym c.overhead.ensures) (fits_of (g.S.Sealer.cipher c.args.sealer).overhead c.args.parts are)))
 
 pub returns-in_err-trees-clause-content : goal.returns-in_err-trees-clause-content
 returns-in_err-trees-clause-content g c = λ same are.
-    let o = g.S.Sealer.overhead c.args.sealer in
+    let o = (g.S.Sealer.cipher c.args.sealer).overhead in
     let trees = subst (λ (p : Parts). AreTrees p.device 0 p.trees) (sym c.parts.view_is) (trees_of_parts o c.args.parts are) in
     c.in_err-trees.ensures.content (ap Err (sym (told_err c.from_residual.result _ PartsFault.Content same c.from_residual.ensures.1))) trees
 
 pub overflow_cast-result : goal.overflow_cast-result
 overflow_cast-result g c =
-    let o = g.S.Sealer.overhead c.args.sealer in
+    let o = (g.S.Sealer.cipher c.args.sealer).overhead in
     let ranges = subst (λ (p : Parts). IsDevice p.device) c.parts.view_is c.trees_of.ensures.ranges in
     let fits : IsFitting o c.args.parts c.args.parts.failure = subst (λ (n : ℕ). IsFitting n c.args.parts c.args.parts.failure) c.overhead.ensures (c.is_fitting.ensures.0 c.if-not-is_fitting.false) in
     let trees = subst (λ (p : Parts). AreTrees p.device 0 p.trees) c.parts.view_is (c.in_ok-trees.ensures.fits refl) in
     let next : c.args.parts.tickets ≤ c.args.parts.device.lifetime = subst (λ (p : Parts). p.tickets ≤ p.device.lifetime) c.parts.view_is (omega (arith, c.if-parts-lifetime.false, c.lifetime.ensures.value)) in
-    let are : AreParts o c.args.parts = parts_by o c.args.parts ranges (g.met.S.Sealer.small c.args.sealer) next fits trees in
+    let are : AreParts o c.args.parts = parts_by o c.args.parts ranges (g.met.S.Sealer.lawful c.args.sealer).small next fits trees in
     let entry_number : c.args.parts.entry_number < 2 * trees_of c.args.parts.device = stage_within c.args.parts.device o (state_of c.args.parts) are.sound in
     let few = trees_of-few c.args.parts.device ranges in
     let same : c.parts.inside.entry_number ≡ c.args.parts.entry_number = ap (λ (p : Parts). p.entry_number) c.parts.view_is in
@@ -36,23 +36,23 @@ overflow_cast-result g c =
 
 pub invariant_of-result : goal.invariant_of-result
 invariant_of-result g c =
-    let o = g.S.Sealer.overhead c.args.sealer in
+    let o = (g.S.Sealer.cipher c.args.sealer).overhead in
     let ranges = subst (λ (p : Parts). IsDevice p.device) c.parts.view_is c.trees_of.ensures.ranges in
     let fits : IsFitting o c.args.parts c.args.parts.failure = subst (λ (n : ℕ). IsFitting n c.args.parts c.args.parts.failure) c.overhead.ensures (c.is_fitting.ensures.0 c.if-not-is_fitting.false) in
     let trees = subst (λ (p : Parts). AreTrees p.device 0 p.trees) c.parts.view_is (c.in_ok-trees.ensures.fits refl) in
     let next : c.args.parts.tickets ≤ c.args.parts.device.lifetime = subst (λ (p : Parts). p.tickets ≤ p.device.lifetime) c.parts.view_is (omega (arith, c.if-parts-lifetime.false, c.lifetime.ensures.value)) in
-    let are : AreParts o c.args.parts = parts_by o c.args.parts ranges (g.met.S.Sealer.small c.args.sealer) next fits trees in
+    let are : AreParts o c.args.parts = parts_by o c.args.parts ranges (g.met.S.Sealer.lawful c.args.sealer).small next fits trees in
     let sound = subst (λ (p : Parts). IsSound p.device o (state_of p)) (sym c.parts.view_is) are.sound in
     rw (c.in_ok-trees.ensures.made, c.in_ok-queue_of.ensures) sound
 
 pub returns-clause-fits : goal.returns-clause-fits
 returns-clause-fits g c = λ whole.
-    let o = g.S.Sealer.overhead c.args.sealer in
+    let o = (g.S.Sealer.cipher c.args.sealer).overhead in
     let ranges = subst (λ (p : Parts). IsDevice p.device) c.parts.view_is c.trees_of.ensures.ranges in
     let fits : IsFitting o c.args.parts c.args.parts.failure = subst (λ (n : ℕ). IsFitting n c.args.parts c.args.parts.failure) c.overhead.ensures (c.is_fitting.ensures.0 c.if-not-is_fitting.false) in
     let trees = subst (λ (p : Parts). AreTrees p.device 0 p.trees) c.parts.view_is (c.in_ok-trees.ensures.fits refl) in
     let next : c.args.parts.tickets ≤ c.args.parts.device.lifetime = subst (λ (p : Parts). p.tickets ≤ p.device.lifetime) c.parts.view_is (omega (arith, c.if-parts-lifetime.false, c.lifetime.ensures.value)) in
-    parts_by o c.args.parts ranges (g.met.S.Sealer.small c.args.sealer) next fits trees
+    parts_by o c.args.parts ranges (g.met.S.Sealer.lawful c.args.sealer).small next fits trees
 
 pub returns-in_err-trees-clause-device : goal.returns-in_err-trees-clause-device
 returns-in_err-trees-clause-device g c = IfOk-from_err c.from_residual.result _ c.from_residual.ensures.0

@@ -9,15 +9,15 @@ use Rattle.oram_core.proofs.machine.Core.parts.Goals as goal
 pub returns-clause-right : goal.returns-clause-right
 returns-clause-right g c =
     let now = c.args.self.now in
-    let sound = subst (λ (u : CoreValue g.row.S.Denot). IsSound u.device (g.S.Sealer.overhead u.sealer) u.state) c.self.view_is c.self.invariant in
+    let sound = subst (λ (u : CoreValue g.row.S.Denot). IsSound u.device (g.S.Sealer.cipher u.sealer).overhead u.state) c.self.view_is c.self.invariant in
     let same = c.in_ok-trees.ensures.same ∙ ap (λ ts. map tree_parts ts) (c.deref.ensures.value ∙ ap (λ (u : CoreValue g.row.S.Denot). u.state.trees) c.self.view_is) in
-    right_if now.device (g.S.Sealer.overhead now.sealer) now.state _ c.parts_beside.result sound (subst (λ (ts : List TreeParts). All (λ t. IsRising t.stash) ts) same c.in_ok-trees.ensures.rising) c.parts_beside.ensures
+    right_if now.device (g.S.Sealer.cipher now.sealer).overhead now.state _ c.parts_beside.result sound (subst (λ (ts : List TreeParts). All (λ t. IsRising t.stash) ts) same c.in_ok-trees.ensures.rising) c.parts_beside.ensures
 
 pub returns-clause-again : goal.returns-clause-again
 returns-clause-again g c =
     let now = c.args.self.now in
-    let sound = subst (λ (u : CoreValue g.row.S.Denot). IsSound u.device (g.S.Sealer.overhead u.sealer) u.state) c.self.view_is c.self.invariant in
-    again_if now.device (g.S.Sealer.overhead now.sealer) now.state _ c.parts_beside.result sound c.parts_beside.ensures
+    let sound = subst (λ (u : CoreValue g.row.S.Denot). IsSound u.device (g.S.Sealer.cipher u.sealer).overhead u.state) c.self.view_is c.self.invariant in
+    again_if now.device (g.S.Sealer.cipher now.sealer).overhead now.state _ c.parts_beside.result sound c.parts_beside.ensures
 
 pub returns-in_err-trees-clause-same : goal.returns-in_err-trees-clause-same
 returns-in_err-trees-clause-same g c = IfOk-from_err c.from_residual.result _ c.from_residual.ensures.0

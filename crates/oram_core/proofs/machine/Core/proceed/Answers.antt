@@ -10,34 +10,34 @@ use Rattle.oram_core.proofs.machine.Core.proceed.Goals as goal
 pub returns-then-from-clause-moves : goal.returns-then-from-clause-moves
 returns-then-from-clause-moves g c = λ w fits.
     let now = c.args.self.now in
-    let v = scheme_of g.S.Sealer.overhead g.S.Sealer.sealing g.S.Sealer.opening now in
+    let v = scheme_of g.S.Sealer.cipher now in
     let end : now.state.entry_number + 1 ≡ 2 * trees_of now.device = subst (λ (u : CoreValue g.row.S.Denot). u.state.entry_number + 1 ≡ 2 * trees_of u.device) c.self.view_is (ap (λ k. k + 1) (sym c.from.ensures) ∙ c.if-from.true ∙ ap (λ k. 2 * k) (c.from-2.ensures ∙ c.trees.ensures.count)) in
     finish_moves v now.state c.finish.result c.finish.new.self.state c.requires.waiting c.requires.entry_number end c.finish.ensures.ok w fits
 
 pub returns-then-from-clause-heard : goal.returns-then-from-clause-heard
 returns-then-from-clause-heard g c =
     let now = c.args.self.now in
-    let v = scheme_of g.S.Sealer.overhead g.S.Sealer.sealing g.S.Sealer.opening now in
-    let sound : IsSound v.device v.overhead now.state = subst (λ (u : CoreValue g.row.S.Denot). IsSound u.device (g.S.Sealer.overhead u.sealer) u.state) c.self.view_is c.self.invariant in
+    let v = scheme_of g.S.Sealer.cipher now in
+    let sound : IsSound v.device v.cipher.overhead now.state = subst (λ (u : CoreValue g.row.S.Denot). IsSound u.device (g.S.Sealer.cipher u.sealer).overhead u.state) c.self.view_is c.self.invariant in
     let end : now.state.entry_number + 1 ≡ 2 * trees_of now.device = subst (λ (u : CoreValue g.row.S.Denot). u.state.entry_number + 1 ≡ 2 * trees_of u.device) c.self.view_is (ap (λ k. k + 1) (sym c.from.ensures) ∙ c.if-from.true ∙ ap (λ k. 2 * k) (c.from-2.ensures ∙ c.trees.ensures.count)) in
     finish_heard v now.state c.finish.result c.finish.new.self.state sound c.requires.waiting end c.finish.ensures.ok
 
 pub returns-else-from-clause-moves : goal.returns-else-from-clause-moves
 returns-else-from-clause-moves g c = λ w fits.
     let now = c.args.self.now in
-    let v = scheme_of g.S.Sealer.overhead g.S.Sealer.sealing g.S.Sealer.opening now in
-    let sound : IsSound v.device v.overhead now.state = subst (λ (u : CoreValue g.row.S.Denot). IsSound u.device (g.S.Sealer.overhead u.sealer) u.state) c.self.view_is c.self.invariant in
+    let v = scheme_of g.S.Sealer.cipher now in
+    let sound : IsSound v.device v.cipher.overhead now.state = subst (λ (u : CoreValue g.row.S.Denot). IsSound u.device (g.S.Sealer.cipher u.sealer).overhead u.state) c.self.view_is c.self.invariant in
     let differs : now.state.entry_number + 1 ≢ 2 * trees_of now.device = λ end. c.if-from.false (ap (λ k. k + 1) c.from.ensures ∙ subst (λ (u : CoreValue g.row.S.Denot). u.state.entry_number + 1 ≡ 2 * trees_of u.device) (sym c.self.view_is) end ∙ ap (λ k. 2 * k) (sym (c.from-2.ensures ∙ c.trees.ensures.count))) in
-    let more : now.state.entry_number + 1 < 2 * trees_of now.device = omega (arith, stage_within v.device v.overhead now.state sound, differs) in
+    let more : now.state.entry_number + 1 < 2 * trees_of now.device = omega (arith, stage_within v.device v.cipher.overhead now.state sound, differs) in
     fetch_moves v now.state c.fetch_next.result c.fetch_next.new.self.state c.requires.waiting c.requires.entry_number more c.fetch_next.ensures.ok w fits
 
 pub returns-else-from-clause-heard : goal.returns-else-from-clause-heard
 returns-else-from-clause-heard g c =
     let now = c.args.self.now in
-    let v = scheme_of g.S.Sealer.overhead g.S.Sealer.sealing g.S.Sealer.opening now in
-    let sound : IsSound v.device v.overhead now.state = subst (λ (u : CoreValue g.row.S.Denot). IsSound u.device (g.S.Sealer.overhead u.sealer) u.state) c.self.view_is c.self.invariant in
+    let v = scheme_of g.S.Sealer.cipher now in
+    let sound : IsSound v.device v.cipher.overhead now.state = subst (λ (u : CoreValue g.row.S.Denot). IsSound u.device (g.S.Sealer.cipher u.sealer).overhead u.state) c.self.view_is c.self.invariant in
     let differs : now.state.entry_number + 1 ≢ 2 * trees_of now.device = λ end. c.if-from.false (ap (λ k. k + 1) c.from.ensures ∙ subst (λ (u : CoreValue g.row.S.Denot). u.state.entry_number + 1 ≡ 2 * trees_of u.device) (sym c.self.view_is) end ∙ ap (λ k. 2 * k) (sym (c.from-2.ensures ∙ c.trees.ensures.count))) in
-    let more : now.state.entry_number + 1 < 2 * trees_of now.device = omega (arith, stage_within v.device v.overhead now.state sound, differs) in
+    let more : now.state.entry_number + 1 < 2 * trees_of now.device = omega (arith, stage_within v.device v.cipher.overhead now.state sound, differs) in
     fetch_heard v now.state c.fetch_next.result c.fetch_next.new.self.state sound c.requires.waiting more c.fetch_next.ensures.ok
 
 pub returns-then-from-clause-taken : goal.returns-then-from-clause-taken

@@ -36,29 +36,29 @@ use Rattle.oram_core.proofs.machine.Core.store.Goals as goal
 
 pub access_to-looked-requires-clause-old_leaf : goal.access_to-looked-requires-clause-old_leaf
 access_to-looked-requires-clause-old_leaf g c =
-    let h = lends g.S.Sealer.overhead g.S.Sealer.sealing g.S.Sealer.opening _ c.args.self.now c.index_mut.result.now c.from.result c.path_access-path_access.result.tree c.self.view_is c.self.invariant c.requires.waiting c.from.ensures c.path_access-path_access.ensures.tree c.index_mut.ensures.value in
+    let h = lends g.S.Sealer.cipher _ c.args.self.now c.index_mut.result.now c.from.result c.path_access-path_access.result.tree c.self.view_is c.self.invariant c.requires.waiting c.from.ensures c.path_access-path_access.ensures.tree c.index_mut.ensures.value in
     subst (λ (u : CoreValue g.row.S.Denot). c.path_access-path_access.result.leaf < 2 ^ depth_of u.device c.index_mut.result.now.number) (sym c.self.view_is) (rw h.number c.path_access-path_access.ensures.ranges.2)
 
 pub access_to-looked-requires-clause-new_leaf : goal.access_to-looked-requires-clause-new_leaf
 access_to-looked-requires-clause-new_leaf g c =
-    let h = lends g.S.Sealer.overhead g.S.Sealer.sealing g.S.Sealer.opening _ c.args.self.now c.index_mut.result.now c.from.result c.path_access-path_access.result.tree c.self.view_is c.self.invariant c.requires.waiting c.from.ensures c.path_access-path_access.ensures.tree c.index_mut.ensures.value in
+    let h = lends g.S.Sealer.cipher _ c.args.self.now c.index_mut.result.now c.from.result c.path_access-path_access.result.tree c.self.view_is c.self.invariant c.requires.waiting c.from.ensures c.path_access-path_access.ensures.tree c.index_mut.ensures.value in
     subst (λ (u : CoreValue g.row.S.Denot). c.path_access-path_access.result.new_leaf < 2 ^ depth_of u.device c.index_mut.result.now.number) (sym c.self.view_is) (rw h.number c.path_access-path_access.ensures.ranges.3)
 
 pub access_to-looked-requires-clause-nonces : goal.access_to-looked-requires-clause-nonces
 access_to-looked-requires-clause-nonces g c =
     let now = c.args.self.now in
-    let v = scheme_of g.S.Sealer.overhead g.S.Sealer.sealing g.S.Sealer.opening now in
-    let h = lends g.S.Sealer.overhead g.S.Sealer.sealing g.S.Sealer.opening _ c.args.self.now c.index_mut.result.now c.from.result c.path_access-path_access.result.tree c.self.view_is c.self.invariant c.requires.waiting c.from.ensures c.path_access-path_access.ensures.tree c.index_mut.ensures.value in
-    subst (λ (u : CoreValue g.row.S.Denot). u.state.nonce + depth_of u.device c.index_mut.result.now.number < 2 ^ 64) (sym c.self.view_is) (rw h.at.number (nonce_small v.device v.overhead now.state h.sound (waits now.state c.requires.waiting).healthy))
+    let v = scheme_of g.S.Sealer.cipher now in
+    let h = lends g.S.Sealer.cipher _ c.args.self.now c.index_mut.result.now c.from.result c.path_access-path_access.result.tree c.self.view_is c.self.invariant c.requires.waiting c.from.ensures c.path_access-path_access.ensures.tree c.index_mut.ensures.value in
+    subst (λ (u : CoreValue g.row.S.Denot). u.state.nonce + depth_of u.device c.index_mut.result.now.number < 2 ^ 64) (sym c.self.view_is) (rw h.at.number (nonce_small v.device v.cipher.overhead now.state h.sound (waits now.state c.requires.waiting).healthy))
 
 pub access_to-looked-requires-clause-edit : goal.access_to-looked-requires-clause-edit
 access_to-looked-requires-clause-edit g c =
-    let h = lends g.S.Sealer.overhead g.S.Sealer.sealing g.S.Sealer.opening _ c.args.self.now c.index_mut.result.now c.from.result c.path_access-path_access.result.tree c.self.view_is c.self.invariant c.requires.waiting c.from.ensures c.path_access-path_access.ensures.tree c.index_mut.ensures.value in
+    let h = lends g.S.Sealer.cipher _ c.args.self.now c.index_mut.result.now c.from.result c.path_access-path_access.result.tree c.self.view_is c.self.invariant c.requires.waiting c.from.ensures c.path_access-path_access.ensures.tree c.index_mut.ensures.value in
     rw h.number c.edit_for.ensures.edit
 
 pub access_to-looked-requires-clause-blocks : goal.access_to-looked-requires-clause-blocks
 access_to-looked-requires-clause-blocks g c =
-    let h = lends g.S.Sealer.overhead g.S.Sealer.sealing g.S.Sealer.opening _ c.args.self.now c.index_mut.result.now c.from.result c.path_access-path_access.result.tree c.self.view_is c.self.invariant c.requires.waiting c.from.ensures c.path_access-path_access.ensures.tree c.index_mut.ensures.value in
+    let h = lends g.S.Sealer.cipher _ c.args.self.now c.index_mut.result.now c.from.result c.path_access-path_access.result.tree c.self.view_is c.self.invariant c.requires.waiting c.from.ensures c.path_access-path_access.ensures.tree c.index_mut.ensures.value in
     subst (λ (u : CoreValue g.row.S.Denot). All (IsBlockOf u.device c.index_mut.result.now.number) c.index_mut.result.now.stash) (sym c.self.view_is) (rw h.at.number h.at.blocks)
 
 pub adopt_access-requires-clause-oldest : goal.adopt_access-requires-clause-oldest
@@ -67,20 +67,20 @@ adopt_access-requires-clause-oldest g c =
 
 pub invariant_of-self : goal.invariant_of-self
 invariant_of-self g c =
-    let h = lends g.S.Sealer.overhead g.S.Sealer.sealing g.S.Sealer.opening _ c.args.self.now c.index_mut.result.now c.from.result c.path_access-path_access.result.tree c.self.view_is c.self.invariant c.requires.waiting c.from.ensures c.path_access-path_access.ensures.tree c.index_mut.ensures.value in
-    gives_back g.S.Sealer.overhead _ c.args.self.now c.index_mut.result.now c.access_to-looked.new.self c.from.result c.path_access-path_access.result.tree c.self.view_is c.self.invariant c.requires.waiting c.from.ensures c.path_access-path_access.ensures.ranges.0 h.number c.access_to-looked.ensures.number c.access_to-looked.ensures.blocks
+    let h = lends g.S.Sealer.cipher _ c.args.self.now c.index_mut.result.now c.from.result c.path_access-path_access.result.tree c.self.view_is c.self.invariant c.requires.waiting c.from.ensures c.path_access-path_access.ensures.tree c.index_mut.ensures.value in
+    gives_back g.S.Sealer.cipher _ c.args.self.now c.index_mut.result.now c.access_to-looked.new.self c.from.result c.path_access-path_access.result.tree c.self.view_is c.self.invariant c.requires.waiting c.from.ensures c.path_access-path_access.ensures.ranges.0 h.number c.access_to-looked.ensures.number c.access_to-looked.ensures.blocks
 
 pub invariant_of-self-in-Unreadable : goal.invariant_of-self-in-Unreadable
 invariant_of-self-in-Unreadable g c =
-    let h = lends g.S.Sealer.overhead g.S.Sealer.sealing g.S.Sealer.opening _ c.args.self.now c.index_mut.result.now c.from.result c.path_access-path_access.result.tree c.self.view_is c.self.invariant c.requires.waiting c.from.ensures c.path_access-path_access.ensures.tree c.index_mut.ensures.value in
-    gives_back g.S.Sealer.overhead _ c.args.self.now c.index_mut.result.now c.access_to-looked.new.self c.from.result c.path_access-path_access.result.tree c.self.view_is c.self.invariant c.requires.waiting c.from.ensures c.path_access-path_access.ensures.ranges.0 h.number c.access_to-looked.ensures.number c.access_to-looked.ensures.blocks
+    let h = lends g.S.Sealer.cipher _ c.args.self.now c.index_mut.result.now c.from.result c.path_access-path_access.result.tree c.self.view_is c.self.invariant c.requires.waiting c.from.ensures c.path_access-path_access.ensures.tree c.index_mut.ensures.value in
+    gives_back g.S.Sealer.cipher _ c.args.self.now c.index_mut.result.now c.access_to-looked.new.self c.from.result c.path_access-path_access.result.tree c.self.view_is c.self.invariant c.requires.waiting c.from.ensures c.path_access-path_access.ensures.ranges.0 h.number c.access_to-looked.ensures.number c.access_to-looked.ensures.blocks
 
 pub returns-in-Ok-clause-moves : goal.returns-in-Ok-clause-moves
 returns-in-Ok-clause-moves g c = λ w fits on_path.
     let now = c.args.self.now in
-    let v = scheme_of g.S.Sealer.overhead g.S.Sealer.sealing g.S.Sealer.opening now in
+    let v = scheme_of g.S.Sealer.cipher now in
     let told = c.index_mut.result.now in
-    let h = lends g.S.Sealer.overhead g.S.Sealer.sealing g.S.Sealer.opening _ c.args.self.now c.index_mut.result.now c.from.result c.path_access-path_access.result.tree c.self.view_is c.self.invariant c.requires.waiting c.from.ensures c.path_access-path_access.ensures.tree c.index_mut.ensures.value in
+    let h = lends g.S.Sealer.cipher _ c.args.self.now c.index_mut.result.now c.from.result c.path_access-path_access.result.tree c.self.view_is c.self.invariant c.requires.waiting c.from.ensures c.path_access-path_access.ensures.tree c.index_mut.ensures.value in
     let o : Waits now.state = waits now.state c.requires.waiting in
     let i = entry_tree now.device now.state.entry_number in
     let new = c.access_to-looked.new.self in
@@ -93,11 +93,11 @@ returns-in-Ok-clause-moves g c = λ w fits on_path.
     let found = c.in-Ok.lookup.found in
     let path = c.args.path.now in
     let why = reason.Tampered i 0 in
-    let does = subst (λ (u : CoreValue g.row.S.Denot). (x : Submission) (rest : List Submission) (records : List ℕ) → u.state.queue ≡ x ∷ rest → message ≡ store_body c.path_access-path_access.result.tree c.path_access-path_access.result.leaf records → done c.adopt_access.result c.adopt_access.new.self.state ≡ (let s' = record u.state { trees = slice_set u.state.trees c.from.result new } in if is_misled (scheme_of g.S.Sealer.overhead g.S.Sealer.sealing g.S.Sealer.opening u) s' x found before then failed_by s' (reason.Tampered (entry_tree u.device u.state.entry_number) 0) else stored_by (scheme_of g.S.Sealer.overhead g.S.Sealer.sealing g.S.Sealer.opening u) s' x before records)) c.self.view_is c.adopt_access.ensures.ok in
+    let does = subst (λ (u : CoreValue g.row.S.Denot). (x : Submission) (rest : List Submission) (records : List ℕ) → u.state.queue ≡ x ∷ rest → message ≡ store_body c.path_access-path_access.result.tree c.path_access-path_access.result.leaf records → done c.adopt_access.result c.adopt_access.new.self.state ≡ (let s' = record u.state { trees = slice_set u.state.trees c.from.result new } in if is_misled (scheme_of g.S.Sealer.cipher u) s' x found before then failed_by s' (reason.Tampered (entry_tree u.device u.state.entry_number) 0) else stored_by (scheme_of g.S.Sealer.cipher u) s' x before records)) c.self.view_is c.adopt_access.ensures.ok in
     let does_at = subst (λ (k : ℕ). done c.adopt_access.result c.adopt_access.new.self.state ≡ (let s' = record now.state { trees = slice_set now.state.trees k new } in if is_misled v s' o.oldest found before then failed_by s' why else stored_by v s' o.oldest before records)) (c.from.ensures ∙ c.path_access-path_access.ensures.tree) (does o.oldest o.rest records o.queue body) in
     let block : Cell = edited_block c.path_access-path_access.result.block c.path_access-path_access.result.new_leaf c.edit_for.result before in
-    let written : IsRewritten (Reads v.opening now.device told.number) v.sealing now.device now.state.nonce path told.stash (with_bytes path records) block new.stash =
-    subst (λ (u : CoreValue g.row.S.Denot). IsRewritten (Reads (g.S.Sealer.opening u.sealer) u.device told.number) (g.S.Sealer.sealing u.sealer) u.device u.state.nonce path told.stash (with_bytes path records) block new.stash) c.self.view_is (c.in-Ok.ensures.written records gained) in
+    let written : IsRewritten (Reads v.cipher.opening now.device told.number) v.cipher.sealing now.device now.state.nonce path told.stash (with_bytes path records) block new.stash =
+    subst (λ (u : CoreValue g.row.S.Denot). IsRewritten (Reads (g.S.Sealer.cipher u.sealer).opening u.device told.number) (g.S.Sealer.cipher u.sealer).sealing u.device u.state.nonce path told.stash (with_bytes path records) block new.stash) c.self.view_is (c.in-Ok.ensures.written records gained) in
     let long : length records ≡ (depth_of now.device i + 1) * record_len v = c.in-Ok.ensures.whole records gained ∙ ap (λ (p : Path). (p.depth + 1) * p.record_len) c.requires.path in
     let x = o.oldest in
     let tree = c.path_access-path_access.ensures.tree in
@@ -117,21 +117,21 @@ returns-in-Ok-clause-moves g c = λ w fits on_path.
     let absent : IsAtOrAbsent (w.content i) c.path_access-path_access.result.block c.path_access-path_access.result.leaf =
     subst (λ (k : ℕ). IsAtOrAbsent (w.content i) c.path_access-path_access.result.block k) (sym c.path_access-path_access.ensures.leaf)
     (subst (λ (k : ℕ). IsAtOrAbsent (w.content i) k (requested now.state.message).leaf) (sym at_block) ready.at_leaf) in
-    let updates = subst (λ (u : CoreValue g.row.S.Denot). (rs : ℕ → List ℕ) (held : Map) → IsStoredWith (g.S.Sealer.opening u.sealer) (g.S.Sealer.overhead u.sealer) u.device told rs held → IsPathOf rs path → IsAtOrAbsent held c.path_access-path_access.result.block c.path_access-path_access.result.leaf
-    → MatchResult c.access_to-looked.result (λ a. (gained : List ℕ) → message ≡ header ++ gained → IsUpdate (g.S.Sealer.opening u.sealer) (g.S.Sealer.overhead u.sealer) u.device path (with_bytes path gained) rs held (edited_block c.path_access-path_access.result.block c.path_access-path_access.result.new_leaf c.edit_for.result a.before.items) a.found a.before.items new) (λ f. f ≡ fault.OutOfMemory)) c.self.view_is c.access_to-looked.ensures.updates in
-    let told_so = subst (λ r. MatchResult r (λ a. (gained : List ℕ) → message ≡ header ++ gained → IsUpdate v.opening v.overhead now.device path (with_bytes path gained) (w.records i) (w.content i) (edited_block c.path_access-path_access.result.block c.path_access-path_access.result.new_leaf c.edit_for.result a.before.items) a.found a.before.items new) (λ f. f ≡ fault.OutOfMemory)) c.in-Ok.is (updates (w.records i) (w.content i) ready.stored on_path absent) in
-    let update : IsUpdate v.opening v.overhead now.device path (with_bytes path records) (w.records i) (w.content i) cell found before new =
-    subst (λ (d : Cell). IsUpdate v.opening v.overhead now.device path (with_bytes path records) (w.records i) (w.content i) d found before new) same (told_so records gained) in
-    let made : IsRewritten (Reads v.opening now.device told.number) v.sealing now.device now.state.nonce path told.stash (with_bytes path records) cell new.stash =
-    subst (λ (d : Cell). IsRewritten (Reads v.opening now.device told.number) v.sealing now.device now.state.nonce path told.stash (with_bytes path records) d new.stash) same written in
+    let updates = subst (λ (u : CoreValue g.row.S.Denot). (rs : ℕ → List ℕ) (held : Map) → IsStoredWith (g.S.Sealer.cipher u.sealer).opening (g.S.Sealer.cipher u.sealer).overhead u.device told rs held → IsPathOf rs path → IsAtOrAbsent held c.path_access-path_access.result.block c.path_access-path_access.result.leaf
+    → MatchResult c.access_to-looked.result (λ a. (gained : List ℕ) → message ≡ header ++ gained → IsUpdate (g.S.Sealer.cipher u.sealer).opening (g.S.Sealer.cipher u.sealer).overhead u.device path (with_bytes path gained) rs held (edited_block c.path_access-path_access.result.block c.path_access-path_access.result.new_leaf c.edit_for.result a.before.items) a.found a.before.items new) (λ f. f ≡ fault.OutOfMemory)) c.self.view_is c.access_to-looked.ensures.updates in
+    let told_so = subst (λ r. MatchResult r (λ a. (gained : List ℕ) → message ≡ header ++ gained → IsUpdate v.cipher.opening v.cipher.overhead now.device path (with_bytes path gained) (w.records i) (w.content i) (edited_block c.path_access-path_access.result.block c.path_access-path_access.result.new_leaf c.edit_for.result a.before.items) a.found a.before.items new) (λ f. f ≡ fault.OutOfMemory)) c.in-Ok.is (updates (w.records i) (w.content i) ready.stored on_path absent) in
+    let update : IsUpdate v.cipher.opening v.cipher.overhead now.device path (with_bytes path records) (w.records i) (w.content i) cell found before new =
+    subst (λ (d : Cell). IsUpdate v.cipher.opening v.cipher.overhead now.device path (with_bytes path records) (w.records i) (w.content i) d found before new) same (told_so records gained) in
+    let made : IsRewritten (Reads v.cipher.opening now.device told.number) v.cipher.sealing now.device now.state.nonce path told.stash (with_bytes path records) cell new.stash =
+    subst (λ (d : Cell). IsRewritten (Reads v.cipher.opening now.device told.number) v.cipher.sealing now.device now.state.nonce path told.stash (with_bytes path records) d new.stash) same written in
     access_moves v now.state w told new path found before records why c.adopt_access.result c.adopt_access.new.self.state o h.sound c.requires.entry_number fits h.at c.requires.path long c.access_to-looked.ensures.number update made does_at
 
 pub returns-in-Unreadable-clause-moves : goal.returns-in-Unreadable-clause-moves
 returns-in-Unreadable-clause-moves g c = λ w fits on_path.
     let now = c.args.self.now in
-    let v = scheme_of g.S.Sealer.overhead g.S.Sealer.sealing g.S.Sealer.opening now in
+    let v = scheme_of g.S.Sealer.cipher now in
     let told = c.index_mut.result.now in
-    let h = lends g.S.Sealer.overhead g.S.Sealer.sealing g.S.Sealer.opening _ c.args.self.now c.index_mut.result.now c.from.result c.path_access-path_access.result.tree c.self.view_is c.self.invariant c.requires.waiting c.from.ensures c.path_access-path_access.ensures.tree c.index_mut.ensures.value in
+    let h = lends g.S.Sealer.cipher _ c.args.self.now c.index_mut.result.now c.from.result c.path_access-path_access.result.tree c.self.view_is c.self.invariant c.requires.waiting c.from.ensures c.path_access-path_access.ensures.tree c.index_mut.ensures.value in
     let o : Waits now.state = waits now.state c.requires.waiting in
     let i = entry_tree now.device now.state.entry_number in
     let new = c.access_to-looked.new.self in
@@ -146,30 +146,30 @@ returns-in-Unreadable-clause-moves g c = λ w fits on_path.
     let absent : IsAtOrAbsent (w.content i) c.path_access-path_access.result.block c.path_access-path_access.result.leaf =
     subst (λ (k : ℕ). IsAtOrAbsent (w.content i) c.path_access-path_access.result.block k) (sym c.path_access-path_access.ensures.leaf)
     (subst (λ (k : ℕ). IsAtOrAbsent (w.content i) k (requested now.state.message).leaf) (sym at_block) ready.at_leaf) in
-    let updates = subst (λ (u : CoreValue g.row.S.Denot). (rs : ℕ → List ℕ) (held : Map) → IsStoredWith (g.S.Sealer.opening u.sealer) (g.S.Sealer.overhead u.sealer) u.device told rs held → IsPathOf rs path → IsAtOrAbsent held c.path_access-path_access.result.block c.path_access-path_access.result.leaf
-    → MatchResult c.access_to-looked.result (λ a. (gained : List ℕ) → message ≡ header ++ gained → IsUpdate (g.S.Sealer.opening u.sealer) (g.S.Sealer.overhead u.sealer) u.device path (with_bytes path gained) rs held (edited_block c.path_access-path_access.result.block c.path_access-path_access.result.new_leaf c.edit_for.result a.before.items) a.found a.before.items new) (λ f. f ≡ fault.OutOfMemory)) c.self.view_is c.access_to-looked.ensures.updates in
-    let told_so = subst (λ r. MatchResult r (λ a. (gained : List ℕ) → message ≡ header ++ gained → IsUpdate v.opening v.overhead now.device path (with_bytes path gained) (w.records i) (w.content i) (edited_block c.path_access-path_access.result.block c.path_access-path_access.result.new_leaf c.edit_for.result a.before.items) a.found a.before.items new) (λ f. f ≡ fault.OutOfMemory)) (c.in-Err.is ∙ ap Err c.in-Unreadable.is) (updates (w.records i) (w.content i) ready.stored on_path absent) in
+    let updates = subst (λ (u : CoreValue g.row.S.Denot). (rs : ℕ → List ℕ) (held : Map) → IsStoredWith (g.S.Sealer.cipher u.sealer).opening (g.S.Sealer.cipher u.sealer).overhead u.device told rs held → IsPathOf rs path → IsAtOrAbsent held c.path_access-path_access.result.block c.path_access-path_access.result.leaf
+    → MatchResult c.access_to-looked.result (λ a. (gained : List ℕ) → message ≡ header ++ gained → IsUpdate (g.S.Sealer.cipher u.sealer).opening (g.S.Sealer.cipher u.sealer).overhead u.device path (with_bytes path gained) rs held (edited_block c.path_access-path_access.result.block c.path_access-path_access.result.new_leaf c.edit_for.result a.before.items) a.found a.before.items new) (λ f. f ≡ fault.OutOfMemory)) c.self.view_is c.access_to-looked.ensures.updates in
+    let told_so = subst (λ r. MatchResult r (λ a. (gained : List ℕ) → message ≡ header ++ gained → IsUpdate v.cipher.opening v.cipher.overhead now.device path (with_bytes path gained) (w.records i) (w.content i) (edited_block c.path_access-path_access.result.block c.path_access-path_access.result.new_leaf c.edit_for.result a.before.items) a.found a.before.items new) (λ f. f ≡ fault.OutOfMemory)) (c.in-Err.is ∙ ap Err c.in-Unreadable.is) (updates (w.records i) (w.content i) ready.stored on_path absent) in
     absurd (let no_way : fault.Unreadable ≡ fault.OutOfMemory = told_so in cc)
 
 pub returns-in-Ok-clause-heard : goal.returns-in-Ok-clause-heard
 returns-in-Ok-clause-heard g c =
     let now = c.args.self.now in
-    let v = scheme_of g.S.Sealer.overhead g.S.Sealer.sealing g.S.Sealer.opening now in
-    let sound : IsSound v.device v.overhead now.state = subst (λ (u : CoreValue g.row.S.Denot). IsSound u.device (g.S.Sealer.overhead u.sealer) u.state) c.self.view_is c.self.invariant in
+    let v = scheme_of g.S.Sealer.cipher now in
+    let sound : IsSound v.device v.cipher.overhead now.state = subst (λ (u : CoreValue g.row.S.Denot). IsSound u.device (g.S.Sealer.cipher u.sealer).overhead u.state) c.self.view_is c.self.invariant in
     let o : Waits now.state = waits now.state c.requires.waiting in
     let new = c.access_to-looked.new.self in
     let before = c.in-Ok.lookup.before.items in
     let records = c.in-Ok.ensures.appends.0 in
     let message = c.access_to-looked.new.out.items in
     let body : message ≡ store_body c.path_access-path_access.result.tree c.path_access-path_access.result.leaf records = c.in-Ok.ensures.appends.1 ∙ c.in_ok-message.ensures.items records in
-    let does = subst (λ (u : CoreValue g.row.S.Denot). (x : Submission) (rest : List Submission) (records : List ℕ) → u.state.queue ≡ x ∷ rest → message ≡ store_body c.path_access-path_access.result.tree c.path_access-path_access.result.leaf records → done c.adopt_access.result c.adopt_access.new.self.state ≡ (let after = record u.state { trees = slice_set u.state.trees c.from.result new } in if is_misled (scheme_of g.S.Sealer.overhead g.S.Sealer.sealing g.S.Sealer.opening u) after x c.in-Ok.lookup.found before then failed_by after (reason.Tampered (entry_tree u.device u.state.entry_number) 0) else stored_by (scheme_of g.S.Sealer.overhead g.S.Sealer.sealing g.S.Sealer.opening u) after x before records)) c.self.view_is c.adopt_access.ensures.ok in
+    let does = subst (λ (u : CoreValue g.row.S.Denot). (x : Submission) (rest : List Submission) (records : List ℕ) → u.state.queue ≡ x ∷ rest → message ≡ store_body c.path_access-path_access.result.tree c.path_access-path_access.result.leaf records → done c.adopt_access.result c.adopt_access.new.self.state ≡ (let after = record u.state { trees = slice_set u.state.trees c.from.result new } in if is_misled (scheme_of g.S.Sealer.cipher u) after x c.in-Ok.lookup.found before then failed_by after (reason.Tampered (entry_tree u.device u.state.entry_number) 0) else stored_by (scheme_of g.S.Sealer.cipher u) after x before records)) c.self.view_is c.adopt_access.ensures.ok in
     subst (Heard v now.state) (sym (does o.oldest o.rest records o.queue body))
-    (taken_heard v now.state (slice_set now.state.trees c.from.result new) o.oldest c.in-Ok.lookup.found before records (reason.Tampered (entry_tree now.device now.state.entry_number) 0) c.requires.waiting c.requires.entry_number (stage_within v.device v.overhead now.state sound))
+    (taken_heard v now.state (slice_set now.state.trees c.from.result new) o.oldest c.in-Ok.lookup.found before records (reason.Tampered (entry_tree now.device now.state.entry_number) 0) c.requires.waiting c.requires.entry_number (stage_within v.device v.cipher.overhead now.state sound))
 
 pub returns-in-Unreadable-clause-heard : goal.returns-in-Unreadable-clause-heard
 returns-in-Unreadable-clause-heard g c =
     let now = c.args.self.now in
-    let v = scheme_of g.S.Sealer.overhead g.S.Sealer.sealing g.S.Sealer.opening now in
+    let v = scheme_of g.S.Sealer.cipher now in
     let new = c.access_to-looked.new.self in
     let e = reason.Tampered c.path_access-path_access.result.tree 0 in
     let does = subst (λ (u : CoreValue g.row.S.Denot). done c.fail.result c.fail.new.self.state ≡ failed_by (record u.state { trees = slice_set u.state.trees c.from.result new }) e) c.self.view_is c.fail.ensures.ok in
@@ -178,9 +178,9 @@ returns-in-Unreadable-clause-heard g c =
 pub returns-in-Ok-clause-uses : goal.returns-in-Ok-clause-uses
 returns-in-Ok-clause-uses g c =
     let now = c.args.self.now in
-    let v = scheme_of g.S.Sealer.overhead g.S.Sealer.sealing g.S.Sealer.opening now in
+    let v = scheme_of g.S.Sealer.cipher now in
     let told = c.index_mut.result.now in
-    let h = lends g.S.Sealer.overhead g.S.Sealer.sealing g.S.Sealer.opening _ c.args.self.now c.index_mut.result.now c.from.result c.path_access-path_access.result.tree c.self.view_is c.self.invariant c.requires.waiting c.from.ensures c.path_access-path_access.ensures.tree c.index_mut.ensures.value in
+    let h = lends g.S.Sealer.cipher _ c.args.self.now c.index_mut.result.now c.from.result c.path_access-path_access.result.tree c.self.view_is c.self.invariant c.requires.waiting c.from.ensures c.path_access-path_access.ensures.tree c.index_mut.ensures.value in
     let o : Waits now.state = waits now.state c.requires.waiting in
     let i = entry_tree now.device now.state.entry_number in
     let new = c.access_to-looked.new.self in
@@ -190,12 +190,12 @@ returns-in-Ok-clause-uses g c =
     let message = c.access_to-looked.new.out.items in
     let body : message ≡ store_body c.path_access-path_access.result.tree c.path_access-path_access.result.leaf records = c.in-Ok.ensures.appends.1 ∙ c.in_ok-message.ensures.items records in
     let path = c.args.path.now in
-    let readable = subst (λ (u : CoreValue g.row.S.Denot). OnOk c.access_to-looked.result (IsReadable (Reads (g.S.Sealer.opening u.sealer) u.device told.number) path told.stash)) c.self.view_is c.access_to-looked.ensures.readable in
-    let read : IsReadable (Reads v.opening now.device told.number) path told.stash = subst (λ r. OnOk r (IsReadable (Reads v.opening now.device told.number) path told.stash)) c.in-Ok.is readable in
-    let looked = subst (λ (u : CoreValue g.row.S.Denot). IsLookup (IsNear (Reads (g.S.Sealer.opening u.sealer) u.device told.number) path told.stash) u.device.block_bytes c.path_access-path_access.result.block found before) c.self.view_is c.in-Ok.ensures.lookup in
+    let readable = subst (λ (u : CoreValue g.row.S.Denot). OnOk c.access_to-looked.result (IsReadable (Reads (g.S.Sealer.cipher u.sealer).opening u.device told.number) path told.stash)) c.self.view_is c.access_to-looked.ensures.readable in
+    let read : IsReadable (Reads v.cipher.opening now.device told.number) path told.stash = subst (λ r. OnOk r (IsReadable (Reads v.cipher.opening now.device told.number) path told.stash)) c.in-Ok.is readable in
+    let looked = subst (λ (u : CoreValue g.row.S.Denot). IsLookup (IsNear (Reads (g.S.Sealer.cipher u.sealer).opening u.device told.number) path told.stash) u.device.block_bytes c.path_access-path_access.result.block found before) c.self.view_is c.in-Ok.ensures.lookup in
     let ob = c.path_access-path_access.ensures.oldest o.oldest o.rest o.queue in
     let at_block : c.path_access-path_access.result.block ≡ block_of now.device i o.oldest = ob.0 ∙ ap (λ (k : ℕ). block_of now.device k o.oldest) c.path_access-path_access.ensures.tree in
-    let does = subst (λ (u : CoreValue g.row.S.Denot). (x : Submission) (rest : List Submission) (records : List ℕ) → u.state.queue ≡ x ∷ rest → message ≡ store_body c.path_access-path_access.result.tree c.path_access-path_access.result.leaf records → done c.adopt_access.result c.adopt_access.new.self.state ≡ (let after = record u.state { trees = slice_set u.state.trees c.from.result new } in if is_misled (scheme_of g.S.Sealer.overhead g.S.Sealer.sealing g.S.Sealer.opening u) after x found before then failed_by after (reason.Tampered (entry_tree u.device u.state.entry_number) 0) else stored_by (scheme_of g.S.Sealer.overhead g.S.Sealer.sealing g.S.Sealer.opening u) after x before records)) c.self.view_is c.adopt_access.ensures.ok in
+    let does = subst (λ (u : CoreValue g.row.S.Denot). (x : Submission) (rest : List Submission) (records : List ℕ) → u.state.queue ≡ x ∷ rest → message ≡ store_body c.path_access-path_access.result.tree c.path_access-path_access.result.leaf records → done c.adopt_access.result c.adopt_access.new.self.state ≡ (let after = record u.state { trees = slice_set u.state.trees c.from.result new } in if is_misled (scheme_of g.S.Sealer.cipher u) after x found before then failed_by after (reason.Tampered (entry_tree u.device u.state.entry_number) 0) else stored_by (scheme_of g.S.Sealer.cipher u) after x before records)) c.self.view_is c.adopt_access.ensures.ok in
     access_used v now.state (slice_set now.state.trees c.from.result new) o.oldest o.rest path found before records c.adopt_access.result c.adopt_access.new.self.state o.queue
     (readable_now v now.state told path h.at read)
     (looked_now v now.state told path c.path_access-path_access.result.block o.oldest found before h.at at_block looked)
@@ -204,13 +204,13 @@ returns-in-Ok-clause-uses g c =
 pub returns-in-Unreadable-clause-uses : goal.returns-in-Unreadable-clause-uses
 returns-in-Unreadable-clause-uses g c =
     let now = c.args.self.now in
-    let v = scheme_of g.S.Sealer.overhead g.S.Sealer.sealing g.S.Sealer.opening now in
+    let v = scheme_of g.S.Sealer.cipher now in
     let told = c.index_mut.result.now in
-    let h = lends g.S.Sealer.overhead g.S.Sealer.sealing g.S.Sealer.opening _ c.args.self.now c.index_mut.result.now c.from.result c.path_access-path_access.result.tree c.self.view_is c.self.invariant c.requires.waiting c.from.ensures c.path_access-path_access.ensures.tree c.index_mut.ensures.value in
+    let h = lends g.S.Sealer.cipher _ c.args.self.now c.index_mut.result.now c.from.result c.path_access-path_access.result.tree c.self.view_is c.self.invariant c.requires.waiting c.from.ensures c.path_access-path_access.ensures.tree c.index_mut.ensures.value in
     let new = c.access_to-looked.new.self in
     let path = c.args.path.now in
     let e = reason.Tampered c.path_access-path_access.result.tree 0 in
-    let unreadable = subst (λ (u : CoreValue g.row.S.Denot). c.access_to-looked.result ≡ Err fault.Unreadable → ¬ IsReadable (Reads (g.S.Sealer.opening u.sealer) u.device told.number) path told.stash) c.self.view_is c.access_to-looked.ensures.unreadable in
+    let unreadable = subst (λ (u : CoreValue g.row.S.Denot). c.access_to-looked.result ≡ Err fault.Unreadable → ¬ IsReadable (Reads (g.S.Sealer.cipher u.sealer).opening u.device told.number) path told.stash) c.self.view_is c.access_to-looked.ensures.unreadable in
     let does = subst (λ (u : CoreValue g.row.S.Denot). done c.fail.result c.fail.new.self.state ≡ failed_by (record u.state { trees = slice_set u.state.trees c.from.result new }) e) c.self.view_is c.fail.ensures.ok in
     unreadable_used v now.state (record now.state { trees = slice_set now.state.trees c.from.result new }) c.fail.new.self.state c.path_access-path_access.result.tree path c.fail.result c.path_access-path_access.ensures.tree
     (λ so. unreadable (c.in-Err.is ∙ ap Err c.in-Unreadable.is) (readable_told v now.state told path h.at so)) does
@@ -292,8 +292,8 @@ adopt_access-requires-clause-ranges g c = subst (λ (u : CoreValue g.row.S.Denot
 
 pub invariant_of-self-in-Err : goal.invariant_of-self-in-Err
 invariant_of-self-in-Err g c =
-    let h = lends g.S.Sealer.overhead g.S.Sealer.sealing g.S.Sealer.opening _ c.args.self.now c.index_mut.result.now c.from.result c.path_access-path_access.result.tree c.self.view_is c.self.invariant c.requires.waiting c.from.ensures c.path_access-path_access.ensures.tree c.index_mut.ensures.value in
-    gives_back g.S.Sealer.overhead _ c.args.self.now c.index_mut.result.now c.access_to-looked.new.self c.from.result c.path_access-path_access.result.tree c.self.view_is c.self.invariant c.requires.waiting c.from.ensures c.path_access-path_access.ensures.ranges.0 h.number c.access_to-looked.ensures.number c.access_to-looked.ensures.blocks
+    let h = lends g.S.Sealer.cipher _ c.args.self.now c.index_mut.result.now c.from.result c.path_access-path_access.result.tree c.self.view_is c.self.invariant c.requires.waiting c.from.ensures c.path_access-path_access.ensures.tree c.index_mut.ensures.value in
+    gives_back g.S.Sealer.cipher _ c.args.self.now c.index_mut.result.now c.access_to-looked.new.self c.from.result c.path_access-path_access.result.tree c.self.view_is c.self.invariant c.requires.waiting c.from.ensures c.path_access-path_access.ensures.ranges.0 h.number c.access_to-looked.ensures.number c.access_to-looked.ensures.blocks
 
 pub returns-in-Ok-clause-kept : goal.returns-in-Ok-clause-kept
 returns-in-Ok-clause-kept g c = (c.adopt_access.ensures.kept.0 ∙ ap (λ (u : CoreValue g.row.S.Denot). u.device) c.self.view_is, c.adopt_access.ensures.kept.1 ∙ ap (λ (u : CoreValue g.row.S.Denot). u.sealer) c.self.view_is)
@@ -305,14 +305,14 @@ pub returns-in-OutOfMemory-clause-kept : goal.returns-in-OutOfMemory-clause-kept
 returns-in-OutOfMemory-clause-kept g c = (ap (λ (u : CoreValue g.row.S.Denot). u.device) c.self.view_is, ap (λ (u : CoreValue g.row.S.Denot). u.sealer) c.self.view_is)
 
 pub index_mut-requires : goal.index_mut-requires
-index_mut-requires g c = lent_within g.S.Sealer.overhead _ c.args.self.now c.from.result c.path_access-path_access.result.tree _ c.self.view_is c.self.invariant c.requires.waiting c.from.ensures c.path_access-path_access.ensures.ranges.0 c.self.inside.trees.ok.0
+index_mut-requires g c = lent_within g.S.Sealer.cipher _ c.args.self.now c.from.result c.path_access-path_access.result.tree _ c.self.view_is c.self.invariant c.requires.waiting c.from.ensures c.path_access-path_access.ensures.ranges.0 c.self.inside.trees.ok.0
 
 pub access_to-looked-requires-clause-number : goal.access_to-looked-requires-clause-number
 access_to-looked-requires-clause-number g c =
-    let h = lends g.S.Sealer.overhead g.S.Sealer.sealing g.S.Sealer.opening _ c.args.self.now c.index_mut.result.now c.from.result c.path_access-path_access.result.tree c.self.view_is c.self.invariant c.requires.waiting c.from.ensures c.path_access-path_access.ensures.tree c.index_mut.ensures.value in
+    let h = lends g.S.Sealer.cipher _ c.args.self.now c.index_mut.result.now c.from.result c.path_access-path_access.result.tree c.self.view_is c.self.invariant c.requires.waiting c.from.ensures c.path_access-path_access.ensures.tree c.index_mut.ensures.value in
     subst (λ (u : CoreValue g.row.S.Denot). c.index_mut.result.now.number < trees_of u.device) (sym c.self.view_is) (rw h.number c.path_access-path_access.ensures.ranges.0)
 
 pub access_to-looked-requires-clause-address : goal.access_to-looked-requires-clause-address
 access_to-looked-requires-clause-address g c =
-    let h = lends g.S.Sealer.overhead g.S.Sealer.sealing g.S.Sealer.opening _ c.args.self.now c.index_mut.result.now c.from.result c.path_access-path_access.result.tree c.self.view_is c.self.invariant c.requires.waiting c.from.ensures c.path_access-path_access.ensures.tree c.index_mut.ensures.value in
+    let h = lends g.S.Sealer.cipher _ c.args.self.now c.index_mut.result.now c.from.result c.path_access-path_access.result.tree c.self.view_is c.self.invariant c.requires.waiting c.from.ensures c.path_access-path_access.ensures.tree c.index_mut.ensures.value in
     subst (λ (u : CoreValue g.row.S.Denot). c.path_access-path_access.result.block < blocks_in u.device c.index_mut.result.now.number) (sym c.self.view_is) (rw h.number c.path_access-path_access.ensures.ranges.1)

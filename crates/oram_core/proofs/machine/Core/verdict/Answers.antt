@@ -29,7 +29,7 @@ returns-in_default-code-clause-no_room g c =
 pub returns-then-is_empty-clause-means : goal.returns-then-is_empty-clause-means
 returns-then-is_empty-clause-means g c = λ w fits apart.
     let empty : length c.args.bytes.now ≡ 0 = first_of (search rules, grind (arith, common_steps)) in
-    empty_means (scheme_of g.S.Sealer.overhead g.S.Sealer.sealing g.S.Sealer.opening c.args.self.now) c.args.self.now.state w c.args.bytes.now (sym c.refusal_in.ensures ∙ c.in_default.is) empty
+    empty_means (scheme_of g.S.Sealer.cipher c.args.self.now) c.args.self.now.state w c.args.bytes.now (sym c.refusal_in.ensures ∙ c.in_default.is) empty
 
 pub returns-then-is_empty-clause-no_room : goal.returns-then-is_empty-clause-no_room
 returns-then-is_empty-clause-no_room g c = (λ bad. cc, λ is. absurd ((not_refused c.args.bytes.now (sym c.refusal_in.ensures ∙ c.in_default.is)).room is))
@@ -37,14 +37,14 @@ returns-then-is_empty-clause-no_room g c = (λ bad. cc, λ is. absurd ((not_refu
 pub returns-then-bytes-clause-means : goal.returns-then-bytes-clause-means
 returns-then-bytes-clause-means g c = λ w fits apart.
     let first : slice_index c.args.bytes.now 0 ≢ 128 = λ same. omega arith in
-    other_means (scheme_of g.S.Sealer.overhead g.S.Sealer.sealing g.S.Sealer.opening c.args.self.now) c.args.self.now.state w c.args.bytes.now (sym c.refusal_in.ensures ∙ c.in_default.is) first
+    other_means (scheme_of g.S.Sealer.cipher c.args.self.now) c.args.self.now.state w c.args.bytes.now (sym c.refusal_in.ensures ∙ c.in_default.is) first
 
 pub returns-then-bytes-clause-no_room : goal.returns-then-bytes-clause-no_room
 returns-then-bytes-clause-no_room g c = (λ bad. cc, λ is. absurd ((not_refused c.args.bytes.now (sym c.refusal_in.ensures ∙ c.in_default.is)).room is))
 
 pub returns-clause-means : goal.returns-clause-means
 returns-clause-means g c =
-    payload_means (scheme_of g.S.Sealer.overhead g.S.Sealer.sealing g.S.Sealer.opening c.args.self.now) c.args.self.now.state c.args.bytes.now _ c.payload_verdict.result c.payload_verdict.ensures.means (first_of (search rules, grind (arith, common_steps))) c.if-bytes.false
+    payload_means (scheme_of g.S.Sealer.cipher c.args.self.now) c.args.self.now.state c.args.bytes.now _ c.payload_verdict.result c.payload_verdict.ensures.means (first_of (search rules, grind (arith, common_steps))) c.if-bytes.false
 
 pub returns-clause-no_room : goal.returns-clause-no_room
 returns-clause-no_room g c = (
@@ -59,18 +59,18 @@ returns-in-8-clause-tells g c =
 
 pub returns-in_default-code-clause-tells : goal.returns-in_default-code-clause-tells
 returns-in_default-code-clause-tells g c =
-    refused_tells (scheme_of g.S.Sealer.overhead g.S.Sealer.sealing g.S.Sealer.opening c.args.self.now) c.args.self.now.state c.args.bytes.now c.in-Some.code (sym c.refusal_in.ensures ∙ c.in-Some.is) (λ is. omega arith)
+    refused_tells (scheme_of g.S.Sealer.cipher c.args.self.now) c.args.self.now.state c.args.bytes.now c.in-Some.code (sym c.refusal_in.ensures ∙ c.in-Some.is) (λ is. omega arith)
 
 pub returns-then-is_empty-clause-tells : goal.returns-then-is_empty-clause-tells
 returns-then-is_empty-clause-tells g c =
     let empty : length c.args.bytes.now ≡ 0 = first_of (search rules, grind (arith, common_steps)) in
-    empty_tells (scheme_of g.S.Sealer.overhead g.S.Sealer.sealing g.S.Sealer.opening c.args.self.now) c.args.self.now.state c.args.bytes.now (sym c.refusal_in.ensures ∙ c.in_default.is) empty
+    empty_tells (scheme_of g.S.Sealer.cipher c.args.self.now) c.args.self.now.state c.args.bytes.now (sym c.refusal_in.ensures ∙ c.in_default.is) empty
 
 pub returns-then-bytes-clause-tells : goal.returns-then-bytes-clause-tells
 returns-then-bytes-clause-tells g c =
     let first : slice_index c.args.bytes.now 0 ≢ 128 = λ same. omega arith in
-    other_tells (scheme_of g.S.Sealer.overhead g.S.Sealer.sealing g.S.Sealer.opening c.args.self.now) c.args.self.now.state c.args.bytes.now (sym c.refusal_in.ensures ∙ c.in_default.is) first
+    other_tells (scheme_of g.S.Sealer.cipher c.args.self.now) c.args.self.now.state c.args.bytes.now (sym c.refusal_in.ensures ∙ c.in_default.is) first
 
 pub returns-clause-tells : goal.returns-clause-tells
 returns-clause-tells g c =
-    payload_tells (scheme_of g.S.Sealer.overhead g.S.Sealer.sealing g.S.Sealer.opening c.args.self.now) c.args.self.now.state c.args.bytes.now _ c.payload_verdict.result c.payload_verdict.ensures.tells (first_of (search rules, grind (arith, common_steps))) c.if-bytes.false
+    payload_tells (scheme_of g.S.Sealer.cipher c.args.self.now) c.args.self.now.state c.args.bytes.now _ c.payload_verdict.result c.payload_verdict.ensures.tells (first_of (search rules, grind (arith, common_steps))) c.if-bytes.false

@@ -6,7 +6,7 @@ use Rattle.oram_volume.proofs.disk.VolumeBlockDevice.has_failed.Goals as goal
 pub returns-clause-sound : goal.returns-clause-sound
 returns-clause-sound g c = λ sound failed.
     let now = c.args.self.now in
-    let v = scheme_of g.S.Sealer.overhead g.S.Sealer.sealing g.S.Sealer.opening now.core in
+    let v = scheme_of g.S.Sealer.cipher now.core in
     let none = unfailed v g.L.Link.calls now.core.state now.link sound.1.array sound.1.holds in
     let both = sym none ∙ failed.1 in
     cc

@@ -20,7 +20,7 @@ returns-in_err-settle-clause-stopped g c = λ e.
 pub returns-then-is_some-clause-sound : goal.returns-then-is_some-clause-sound
 returns-then-is_some-clause-sound g c = λ e array h.
     let mid = c.settle.new.self in
-    let v = scheme_of g.S.Sealer.overhead g.S.Sealer.sealing g.S.Sealer.opening c.args.self.now.core in
+    let v = scheme_of g.S.Sealer.cipher c.args.self.now.core in
     let none = alive v g.L.Link.calls mid.core.state mid.link array c.in_ok-settle.ensures.settled (c.settle.ensures.holds false array h) in
     absurd (let both = sym c.if-is_some.true ∙ c.is_some.ensures ∙ ap is_some (c.failure.ensures ∙ none) in cc)
 
@@ -30,7 +30,7 @@ returns-in-Ok-Replied-Data g c =
     let well : is_some mid.core.state.failure ≡ false = ap is_some (sym c.failure.ensures) ∙ sym c.is_some.ensures ∙ c.if-is_some.false in
     let k = c.in-Ok-Replied-Data in
     let body : ReplyBody = ReplyBody.Data k.bytes in
-    let right = told_right g.S.Sealer.overhead g.S.Sealer.sealing g.S.Sealer.opening c.args.self.now.core mid.core c.settle.ensures.kept g.L.Link.calls g.K.Keeper.keeps c.args.self.now.link mid.link mid.keeper
+    let right = told_right g.S.Sealer.cipher c.args.self.now.core mid.core c.settle.ensures.kept g.L.Link.calls g.K.Keeper.keeps c.args.self.now.link mid.link mid.keeper
     c.ask.new.core.state c.ask.new.link c.ask.new.keeper (g.T.Tape.words mid.tape) c.args.command c.in_ok-settle.ensures.settled well c.settle.ensures.holds k.field-0 body (k.field-0-is ∙ ap Replied k.field-0-0-is) k.ensures.ok in
     record {
       kept = same_trans c.args.self.now.core c.settle.new.self.core c.ask.new.core c.settle.ensures.kept c.ask.ensures.kept;
@@ -48,7 +48,7 @@ returns-in-Ok-Replied-Done g c =
     let well : is_some mid.core.state.failure ≡ false = ap is_some (sym c.failure.ensures) ∙ sym c.is_some.ensures ∙ c.if-is_some.false in
     let k = c.in-Ok-Replied-Done in
     let body : ReplyBody = ReplyBody.Done in
-    let right = told_right g.S.Sealer.overhead g.S.Sealer.sealing g.S.Sealer.opening c.args.self.now.core mid.core c.settle.ensures.kept g.L.Link.calls g.K.Keeper.keeps c.args.self.now.link mid.link mid.keeper
+    let right = told_right g.S.Sealer.cipher c.args.self.now.core mid.core c.settle.ensures.kept g.L.Link.calls g.K.Keeper.keeps c.args.self.now.link mid.link mid.keeper
     c.ask.new.core.state c.ask.new.link c.ask.new.keeper (g.T.Tape.words mid.tape) c.args.command c.in_ok-settle.ensures.settled well c.settle.ensures.holds k.field-0 body (k.field-0-is ∙ ap Replied k.field-0-0-is) k.ensures.ok in
     record {
       kept = same_trans c.args.self.now.core c.settle.new.self.core c.ask.new.core c.settle.ensures.kept c.ask.ensures.kept;
@@ -65,7 +65,7 @@ returns-in-Ok-Replied-Failed-clause-sound g c = λ e array h.
     let mid = c.settle.new.self in
     let well : is_some mid.core.state.failure ≡ false = ap is_some (sym c.failure.ensures) ∙ sym c.is_some.ensures ∙ c.if-is_some.false in
     let k = c.in-Ok-Replied-Failed in
-    let r = told_right g.S.Sealer.overhead g.S.Sealer.sealing g.S.Sealer.opening c.args.self.now.core mid.core c.settle.ensures.kept g.L.Link.calls g.K.Keeper.keeps c.args.self.now.link mid.link mid.keeper
+    let r = told_right g.S.Sealer.cipher c.args.self.now.core mid.core c.settle.ensures.kept g.L.Link.calls g.K.Keeper.keeps c.args.self.now.link mid.link mid.keeper
     c.ask.new.core.state c.ask.new.link c.ask.new.keeper (g.T.Tape.words mid.tape) c.args.command c.in_ok-settle.ensures.settled well c.settle.ensures.holds k.field-0 ReplyBody.Failed (k.field-0-is ∙ ap Replied k.field-0-0-is) k.ensures.ok false array h in
     elim r.0 [
       | inl as_told ↦ never_failed (array (address_of c.args.command)) c.args.command (sym as_told)
@@ -77,14 +77,14 @@ returns-in-Ok-Replied-Failed-clause-err g c = λ lie array h.
     let mid = c.settle.new.self in
     let well : is_some mid.core.state.failure ≡ false = ap is_some (sym c.failure.ensures) ∙ sym c.is_some.ensures ∙ c.if-is_some.false in
     let k = c.in-Ok-Replied-Failed in
-    inr (told_right g.S.Sealer.overhead g.S.Sealer.sealing g.S.Sealer.opening c.args.self.now.core mid.core c.settle.ensures.kept g.L.Link.calls g.K.Keeper.keeps c.args.self.now.link mid.link mid.keeper
+    inr (told_right g.S.Sealer.cipher c.args.self.now.core mid.core c.settle.ensures.kept g.L.Link.calls g.K.Keeper.keeps c.args.self.now.link mid.link mid.keeper
     c.ask.new.core.state c.ask.new.link c.ask.new.keeper (g.T.Tape.words mid.tape) c.args.command c.in_ok-settle.ensures.settled well c.settle.ensures.holds k.field-0 ReplyBody.Failed (k.field-0-is ∙ ap Replied k.field-0-0-is) k.ensures.ok lie array h).1
 
 pub returns-in-Ok-Refused-clause-stopped : goal.returns-in-Ok-Refused-clause-stopped
 returns-in-Ok-Refused-clause-stopped g c = λ e.
     let mid = c.settle.new.self in
     let k = c.in-Ok-Refused in
-    turned_away g.S.Sealer.overhead g.S.Sealer.sealing g.S.Sealer.opening c.args.self.now.core mid.core c.settle.ensures.kept g.L.Link.calls g.K.Keeper.keeps c.args.self.now.link mid.link mid.keeper
+    turned_away g.S.Sealer.cipher c.args.self.now.core mid.core c.settle.ensures.kept g.L.Link.calls g.K.Keeper.keeps c.args.self.now.link mid.link mid.keeper
     c.ask.new.core.state c.ask.new.link c.ask.new.keeper (g.T.Tape.words mid.tape) c.args.command c.in_ok-settle.ensures.settled
     (g.T.Tape.words c.args.self.now.tape) (ap g.T.Tape.words c.settle.ensures.tape) c.args.self.now.keeper c.in_ok-settle.ensures.through k.field-0 k.field-0-0 k.field-0-is k.ensures.ok
 
@@ -94,7 +94,7 @@ returns-in-Err-clause-err g c =
     let well : is_some mid.core.state.failure ≡ false = ap is_some (sym c.failure.ensures) ∙ sym c.is_some.ensures ∙ c.if-is_some.false in
     let k = c.in-Err in
     let a = c.ask.ensures in
-    told_fault g.S.Sealer.overhead g.S.Sealer.sealing g.S.Sealer.opening c.args.self.now.core mid.core c.settle.ensures.kept g.L.Link.calls g.K.Keeper.keeps c.args.self.now.link mid.link mid.keeper
+    told_fault g.S.Sealer.cipher c.args.self.now.core mid.core c.settle.ensures.kept g.L.Link.calls g.K.Keeper.keeps c.args.self.now.link mid.link mid.keeper
     c.ask.new.core.state c.ask.new.link c.ask.new.keeper (g.T.Tape.words mid.tape) c.args.command c.in_ok-settle.ensures.settled well c.settle.ensures.holds k.fault
     (λ e. a.stalled (k.is ∙ ap Err e)) (λ e. a.unkept (k.is ∙ ap Err e))
     (λ e. elim (a.memory (k.is ∙ ap Err e)) [ inl same ↦ inl (ap (λ d. d.state) same.0, same.1) | inr out ↦ inr out ])
@@ -105,7 +105,7 @@ returns-in-Err-clause-stopped g c = λ e.
     let k = c.in-Err in
     let a = c.ask.ensures in
     let stops : c.told.result ≡ Stopped = cc in
-    held_up g.S.Sealer.overhead g.S.Sealer.sealing g.S.Sealer.opening c.args.self.now.core mid.core c.settle.ensures.kept g.L.Link.calls g.K.Keeper.keeps c.args.self.now.link mid.link mid.keeper
+    held_up g.S.Sealer.cipher c.args.self.now.core mid.core c.settle.ensures.kept g.L.Link.calls g.K.Keeper.keeps c.args.self.now.link mid.link mid.keeper
     c.ask.new.core.state c.ask.new.link c.ask.new.keeper (g.T.Tape.words mid.tape) c.args.command c.in_ok-settle.ensures.settled
     (g.T.Tape.words c.args.self.now.tape) (ap g.T.Tape.words c.settle.ensures.tape) c.args.self.now.keeper c.in_ok-settle.ensures.through (inl (elim (c.told.ensures.stopped stops) [
       | inl stalled ↦ inl (a.stalled (k.is ∙ ap Err stalled))

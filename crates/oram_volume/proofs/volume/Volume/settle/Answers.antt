@@ -6,7 +6,7 @@ use Rattle.oram_volume.proofs.volume.Volume.settle.Goals as goal
 
 pub returns-in-Ok-clause-holds : goal.returns-in-Ok-clause-holds
 returns-in-Ok-clause-holds g c = λ lie array h.
-    let v = scheme_of g.S.Sealer.overhead g.S.Sealer.sealing g.S.Sealer.opening c.args.self.now.core in
+    let v = scheme_of g.S.Sealer.cipher c.args.self.now.core in
     let r = c.resume.ensures in
     after_resuming lie v g.L.Link.calls g.K.Keeper.keeps c.args.self.now.core.state c.args.self.now.link c.args.self.now.keeper
     c.resume.new.core.state c.resume.new.link c.resume.new.keeper array h c.resume.result
@@ -15,7 +15,7 @@ returns-in-Ok-clause-holds g c = λ lie array h.
 
 pub returns-in-Err-clause-holds : goal.returns-in-Err-clause-holds
 returns-in-Err-clause-holds g c = λ lie array h.
-    let v = scheme_of g.S.Sealer.overhead g.S.Sealer.sealing g.S.Sealer.opening c.args.self.now.core in
+    let v = scheme_of g.S.Sealer.cipher c.args.self.now.core in
     let r = c.resume.ensures in
     after_resuming lie v g.L.Link.calls g.K.Keeper.keeps c.args.self.now.core.state c.args.self.now.link c.args.self.now.keeper
     c.resume.new.core.state c.resume.new.link c.resume.new.keeper array h c.resume.result
