@@ -2,6 +2,8 @@ pub mod Recovering
 pub mod Lives
 pub mod Closing
 pub mod Finding
+pub mod Outcomes
+pub mod Allowed
 pub mod Sound
 pub mod Levels
 pub mod Spelling

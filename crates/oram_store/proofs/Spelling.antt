@@ -68,6 +68,9 @@ marks_fit (cell ∷ cells) all =
     let low : cell < 2 ^ 62 = all 0 cell (omega arith) in
     all_cons (Fits bounds) (cell, 1 ∷ []) (marks cells) (record { within = omega arith; place_fits = omega arith; length_fits = omega arith }) (marks_fit cells (λ j e l. all (suc j) e (omega arith)))
 
+pub one_fits : (p : Patch) → p.0 + length p.1 ≤ 2 ^ 62 → length p.1 ≤ 2 ^ 21 → All (Fits bounds) (p ∷ [])
+one_fits p within short = all_cons (Fits bounds) p [] (record { within = within; place_fits = omega arith; length_fits = omega arith }) (λ k d h. absurd (omega arith))
+
 -- a path has room in an empty log
 pub path_short : (tree : Tree) (leaf : ℕ) (bytes : List ℕ) → length bytes ≡ (tree.shape.depth + 1) * tree.shape.record_len
     → bounds.log_start + length (entries (path_patches tree leaf bytes 0 (tree.shape.depth + 1))) < bounds.log_end

@@ -6,6 +6,7 @@ use Rattle.oram_redo.specs.declared.faults.RedoError.TheVariants as error
 use Rattle.oram_store.specs.declared.faults.StoreFault.{StoreFault}
 use Rattle.oram_store.specs.declared.faults.StoreFault.TheVariants.{Damaged, Io, NoRoom, OutOfMemory}
 
+-- the store's fault, by that of its redo log
 abbrev pub fault_of : RedoError → StoreFault
 fault_of error.Memory = OutOfMemory
 fault_of error.NoRoom = NoRoom

@@ -173,14 +173,25 @@ fn open_files(
     let records = open_plain(rt, path, StoreFault::NotABucketFile)?;
     let identity = identity_of(&records)?;
     lock(&records)?;
+    let log = open_log(rt, alloc, path, &identity)?;
+    Ok(SystemPair::new(Unknown, records, log, BOUNDS.log_end)?)
+}
+
+/// Opens the log of a file with this identity, at the path that any links on the way to the file lead to.
+fn open_log(
+    rt: &HostRuntime,
+    alloc: Global,
+    path: &str,
+    identity: &Identity,
+) -> Result<File, StoreFault> {
     let real = fs::canonicalize(rt, path)?;
     let log_name = log_name(alloc, real.as_str())?;
     if !is_there(rt, log_name.as_str())? {
         return Err(StoreFault::WithoutLog);
     }
     let log = open_plain(rt, log_name.as_str(), StoreFault::LogOfAnotherFile)?;
-    check_log(&log, &identity)?;
-    Ok(SystemPair::new(Unknown, records, log, BOUNDS.log_end)?)
+    check_log(&log, identity)?;
+    Ok(log)
 }
 
 /// Opens a file that is being made, for its owner alone. If an earlier attempt has left one, it takes that.
@@ -219,18 +230,21 @@ fn new_identity(rt: &HostRuntime) -> io::Result<Identity> {
     Ok(Identity(identity))
 }
 
+/// Returns the folder of a file.
+fn folder_of(path: &str) -> &str {
+    match Path::new(path).parent() {
+        Some(folder) if folder.as_str() != "" => folder.as_str(),
+        _ => ".",
+    }
+}
+
 /// Renames a file that was made to its own name, and syncs its folder.
 fn rename_new(rt: &HostRuntime, from: &str, to: &str) -> io::Result<()> {
     fs::rename(rt, from, to)?;
-    let folder = match Path::new(to).parent() {
-        Some(folder) if folder.as_str() != "" => folder.as_str(),
-        _ => ".",
-    };
-    File::open(rt, folder)?.sync_all()
+    File::open(rt, folder_of(to))?.sync_all()
 }
 
-/// Makes the file of a store and its log under other names, and renames them, so that nobody ever meets half of one.
-/// The new file is locked before it gets its name.
+/// Makes the file of a store and its log, unless there is a log already.
 fn make_files(
     rt: &HostRuntime,
     alloc: Global,
@@ -238,19 +252,46 @@ fn make_files(
 ) -> Result<SystemPair<Unknown>, StoreFault> {
     let log_name = log_name(alloc, path)?;
     check_no_log(rt, log_name.as_str())?;
-    let (new_file, new_log) = (new_name(alloc, path)?, new_name(alloc, log_name.as_str())?);
-    let records = open_new(rt, new_file.as_str())?;
+    make_and_rename(rt, alloc, path, log_name.as_str())
+}
+
+/// Makes the file of a store and its log under other names, and renames them, so that nobody ever meets half of one.
+/// The new file is locked before it gets its name.
+fn make_and_rename(
+    rt: &HostRuntime,
+    alloc: Global,
+    path: &str,
+    log_name: &str,
+) -> Result<SystemPair<Unknown>, StoreFault> {
+    let (new_file, new_log) = (new_name(alloc, path)?, new_name(alloc, log_name)?);
+    let records = open_new_locked(rt, new_file.as_str(), path)?;
+    let files = make_empty(rt, records, new_log.as_str())?;
+    rename_new(rt, new_log.as_str(), log_name)?;
+    rename_new(rt, new_file.as_str(), path)?;
+    Ok(files)
+}
+
+/// Opens the file that is being made for a path, and locks it.
+fn open_new_locked(rt: &HostRuntime, name: &str, path: &str) -> Result<File, StoreFault> {
+    let records = open_new(rt, name)?;
     lock(&records)?;
     // Another process may have made the file just now.
     if is_there(rt, path)? {
         return Err(StoreFault::Busy);
     }
-    let log = open_new(rt, new_log.as_str())?;
+    Ok(records)
+}
+
+/// Makes the file that was locked, and a log that it opens under this name, a store without trees.
+fn make_empty(
+    rt: &HostRuntime,
+    records: File,
+    log_name: &str,
+) -> Result<SystemPair<Unknown>, StoreFault> {
+    let log = open_new(rt, log_name)?;
     records.set_len(0)?;
     log.set_len(0)?;
     let mut files = SystemPair::new(Unknown, records, log, BOUNDS.log_end)?;
     create(&mut files, &new_identity(rt)?)?;
-    rename_new(rt, new_log.as_str(), log_name.as_str())?;
-    rename_new(rt, new_file.as_str(), path)?;
     Ok(files)
 }

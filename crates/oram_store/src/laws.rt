@@ -1,12 +1,13 @@
 //! Laws of the definitions, as contracts of functions that do nothing, and one run from empty files, whose promise
 //! rests on no premise that might never hold.
 ghost use Rattle.std.specs.Prelude.{◌≡◌, ℕ, [], false, true, IfOk, IfSome};
+ghost use Rattle.oram_layout.specs.Records.{AreKept};
 ghost use Rattle.oram_layout.specs.Trees.{sizes_of};
 ghost use Rattle.oram_redo.specs.FilePair.{Contents};
 ghost use Rattle.oram_store.specs.Answers.{IsKeptAtOnce};
 ghost use Rattle.oram_store.specs.Crashes.{Serves};
-ghost use Rattle.oram_store.specs.Keeping.{Holds, IsSound, sure_records};
-ghost use Rattle.oram_store.specs.Laws.{HoldsPath};
+ghost use Rattle.oram_store.specs.Keeping.{Holds, IsSound, records_of, sure_records};
+ghost use Rattle.oram_store.specs.Laws.{HoldsPath, no_records};
 ghost use Rattle.oram_store.specs.RecordFile.{Finds, Runs};
 ghost use Rattle.oram_store.specs.Refusals.{RespondsWith};
 ghost use Rattle.oram_wire.specs.HostReading.{HasNumbers};
@@ -44,23 +45,39 @@ pub fn first_life<F: FilePair + Drop>(
 {
     create(&mut files, identity)?;
     let mut store = FileStore::over(alloc, files)?;
+    if !is_stored(alloc, &mut store, tree, shape, leaf, records)? {
+        return Ok(None);
+    }
+    Ok(Some(store))
+}
+
+/// Gives a store a tree, stores the records of one path, and returns whether both were done.
+fn is_stored<F: FilePair>(
+    alloc: Global,
+    store: &mut FileStore<F>,
+    tree: u8,
+    shape: Shape,
+    leaf: u32,
+    records: Bytes,
+) -> Result<bool, AllocError>
+    ensures found { IfOk result (λ stored. stored ≡ true → F.is_honest store.new.file.files → IsSound F.seen F.may_leave store.old → AreKept no_records (records_of F.seen store.old)
+        → (c : Contents) → F.may_leave store.new.file.files c → Finds (F.seen store.new.file.files) (HoldsPath store.new.trees tree (sizes_of shape) leaf records) c) }
+    ensures runs { Runs F.failures F.shortages F.is_honest store.old.file store.new.file }
+{
     let shaping = HostRequest::Shape {
         tree,
         depth: shape.depth,
         record_len: shape.record_len,
     };
-    if !is_done(alloc, &mut store, &shaping)? {
-        return Ok(None);
+    if !is_done(alloc, store, &shaping)? {
+        return Ok(false);
     }
     let storing = HostRequest::Store {
         tree,
         leaf,
         records,
     };
-    if !is_done(alloc, &mut store, &storing)? {
-        return Ok(None);
-    }
-    Ok(Some(store))
+    is_done(alloc, store, &storing)
 }
 
 /// Sends a request to a store, and returns whether it was done.

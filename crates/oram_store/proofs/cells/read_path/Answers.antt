@@ -6,7 +6,8 @@ use Rattle.oram_redo.specs.Content.{Content}
 use Rattle.oram_redo.specs.declared.file_pair.FileKind.TheVariants.{Records}
 use Rattle.oram_store.specs.Batches.{records_of_tree}
 use Rattle.oram_store.proofs.Finding.{calls_residual, runs_none, runs_then}
-use Rattle.oram_store.proofs.Levels.{read_more}
+use Rattle.oram_store.proofs.Levels.{lacks_at, read_more}
+use Rattle.oram_store.proofs.Outcomes.{calls_memory, if_ok_none, on_ok_none}
 use Rattle.oram_store.proofs.Sound.{reads_nothing, reads_then}
 use Rattle.oram_store.proofs.cells.read_path.Goals as goal
 
@@ -49,3 +50,76 @@ pub returns-in_err-read_record-clause-calls : goal.returns-in_err-read_record-cl
 returns-in_err-read_record-clause-calls g c =
     calls_residual g.F.FilePair.failures g.F.FilePair.shortages g.F.FilePair.is_honest c.from_residual-in_err-read_record.result c.in_err-read_record.field-0.0 c.args.file.now c.loop-level.file c.read_record.new.file
     c.from_residual-in_err-read_record.ensures.1 c.loop-level.invariant.runs c.loop-level.invariant.same c.in_err-read_record.ensures.calls
+
+pub returns-in_err-bytes-clause-fits : goal.returns-in_err-bytes-clause-fits
+returns-in_err-bytes-clause-fits g c = if_ok_none c.from_residual.result _ c.from_residual.ensures.0
+
+pub returns-in_err-bytes-clause-path : goal.returns-in_err-bytes-clause-path
+returns-in_err-bytes-clause-path g c = if_ok_none c.from_residual.result _ c.from_residual.ensures.0
+
+pub returns-in_err-bytes-clause-running : goal.returns-in_err-bytes-clause-running
+returns-in_err-bytes-clause-running g c = on_ok_none c.from_residual.result _ c.from_residual.ensures.0
+
+pub returns-in_err-bytes-clause-reads : goal.returns-in_err-bytes-clause-reads
+returns-in_err-bytes-clause-reads g c = reads_nothing g.F.FilePair.seen g.F.FilePair.may_leave g.F.FilePair.moment g.F.FilePair.left_since c.args.file.now (g.met.F.FilePair.only_now c.args.file.now.files)
+
+pub returns-in_err-bytes-clause-calls : goal.returns-in_err-bytes-clause-calls
+returns-in_err-bytes-clause-calls g c = calls_memory g.F.FilePair.failures g.F.FilePair.shortages g.F.FilePair.is_honest c.from_residual.result c.args.file.now c.args.file.now c.from_residual.ensures.1 (runs_none g.F.FilePair.failures g.F.FilePair.shortages g.F.FilePair.is_honest c.args.file.now)
+
+pub returns-in_err-extend_from_slice-clause-fits : goal.returns-in_err-extend_from_slice-clause-fits
+returns-in_err-extend_from_slice-clause-fits g c = if_ok_none c.from_residual-in_err-extend_from_slice.result _ c.from_residual-in_err-extend_from_slice.ensures.0
+
+pub returns-in_err-extend_from_slice-clause-path : goal.returns-in_err-extend_from_slice-clause-path
+returns-in_err-extend_from_slice-clause-path g c = if_ok_none c.from_residual-in_err-extend_from_slice.result _ c.from_residual-in_err-extend_from_slice.ensures.0
+
+pub returns-in_err-extend_from_slice-clause-running : goal.returns-in_err-extend_from_slice-clause-running
+returns-in_err-extend_from_slice-clause-running g c = on_ok_none c.from_residual-in_err-extend_from_slice.result _ c.from_residual-in_err-extend_from_slice.ensures.0
+
+pub returns-in_err-extend_from_slice-clause-reads : goal.returns-in_err-extend_from_slice-clause-reads
+returns-in_err-extend_from_slice-clause-reads g c = reads_nothing g.F.FilePair.seen g.F.FilePair.may_leave g.F.FilePair.moment g.F.FilePair.left_since c.args.file.now (g.met.F.FilePair.only_now c.args.file.now.files)
+
+pub returns-in_err-extend_from_slice-clause-calls : goal.returns-in_err-extend_from_slice-clause-calls
+returns-in_err-extend_from_slice-clause-calls g c = calls_memory g.F.FilePair.failures g.F.FilePair.shortages g.F.FilePair.is_honest c.from_residual-in_err-extend_from_slice.result c.args.file.now c.args.file.now c.from_residual-in_err-extend_from_slice.ensures.1 (runs_none g.F.FilePair.failures g.F.FilePair.shortages g.F.FilePair.is_honest c.args.file.now)
+
+pub returns-in_err-read_record-clause-fits : goal.returns-in_err-read_record-clause-fits
+returns-in_err-read_record-clause-fits g c = if_ok_none c.from_residual-in_err-read_record.result _ c.from_residual-in_err-read_record.ensures.0
+
+pub returns-in_err-read_record-clause-path : goal.returns-in_err-read_record-clause-path
+returns-in_err-read_record-clause-path g c = if_ok_none c.from_residual-in_err-read_record.result _ c.from_residual-in_err-read_record.ensures.0
+
+pub returns-in_err-read_record-clause-running : goal.returns-in_err-read_record-clause-running
+returns-in_err-read_record-clause-running g c = on_ok_none c.from_residual-in_err-read_record.result _ c.from_residual-in_err-read_record.ensures.0
+
+pub returns-in_err-read_record-clause-reads : goal.returns-in_err-read_record-clause-reads
+returns-in_err-read_record-clause-reads g c =
+    reads_then g.F.FilePair.seen g.F.FilePair.may_leave g.F.FilePair.moment g.F.FilePair.left_since c.args.file.now c.loop-level.file c.read_record.new.file c.loop-level.invariant.reads c.read_record.ensures.reads
+
+pub returns-then-not-branch-clause-path : goal.returns-then-not-branch-clause-path
+returns-then-not-branch-clause-path g c honest =
+    let seen = g.F.FilePair.seen in
+    lacks_at c.args.tree.now c.args.leaf c.loop-level.level c.node_at-node.result (seen c.args.file.now.files Records) (seen c.loop-level.file.files Records) (omega arith) c.node_at-node.ensures.place
+    (content_is (seen c.args.file.now.files Records) (seen c.loop-level.file.files Records) (c.loop-level.invariant.reads.nothing.seen_same Records))
+    (c.in_ok-read_record.ensures.missing c.if-not-branch.true honest)
+
+pub returns-then-not-branch-clause-reads : goal.returns-then-not-branch-clause-reads
+returns-then-not-branch-clause-reads g c =
+    reads_then g.F.FilePair.seen g.F.FilePair.may_leave g.F.FilePair.moment g.F.FilePair.left_since c.args.file.now c.loop-level.file c.read_record.new.file c.loop-level.invariant.reads c.read_record.ensures.reads
+
+pub returns-then-not-branch-clause-calls : goal.returns-then-not-branch-clause-calls
+returns-then-not-branch-clause-calls g c = record {
+  runs = runs_then g.F.FilePair.failures g.F.FilePair.shortages g.F.FilePair.is_honest c.args.file.now c.loop-level.file c.read_record.new.file c.loop-level.invariant.runs c.read_record.ensures.calls.runs;
+  goes_on = c.in_ok-read_record.ensures.calls.goes_on ∙ c.loop-level.invariant.same;
+  reason = tt;
+}
+
+pub returns-then-not-branch-clause-running : goal.returns-then-not-branch-clause-running
+returns-then-not-branch-clause-running g c = c.in_ok-read_record.ensures.running
+
+pub returns-clause-reads : goal.returns-clause-reads
+returns-clause-reads g c = c.loop-level.invariant.reads
+
+pub returns-clause-calls : goal.returns-clause-calls
+returns-clause-calls g c = record { runs = c.loop-level.invariant.runs; goes_on = c.loop-level.invariant.same; reason = tt }
+
+pub returns-clause-running : goal.returns-clause-running
+returns-clause-running g c = c.loop-level.invariant.running (omega arith)

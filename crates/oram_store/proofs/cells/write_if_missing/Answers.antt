@@ -3,6 +3,8 @@ use Rattle.oram_layout.specs.Changes.{IsOffRecords}
 use Rattle.oram_layout.specs.Trees.{cell_at}
 use Rattle.oram_layout.proofs.Changes.{unmarked_off}
 use Rattle.oram_redo.specs.declared.file_pair.FileKind.TheVariants.{Records}
+use Rattle.oram_store.proofs.Finding.{calls_ok, calls_then}
+use Rattle.oram_store.proofs.Outcomes.{calls_passed, on_ok_none}
 use Rattle.oram_store.proofs.Sound.{leaves_then, loose_leaves, reads_leave}
 use Rattle.oram_store.proofs.cells.write_if_missing.Goals as goal
 
@@ -28,3 +30,24 @@ returns-clause-kept g c trees number there sound honest =
     (λ mid_sound. loose_leaves g.F.FilePair.seen g.F.FilePair.may_leave g.F.FilePair.moment g.F.FilePair.left_since trees mid c.write_loose.new.self (c.cell_at.result + 1, c.args.bytes.now) mid_sound off
     c.write_loose.ensures.passes c.write_loose.ensures.elsewhere)
     c.write_loose.ensures.calls.runs.stays (g.met.F.FilePair.counts_now mid.files) (g.met.F.FilePair.whole mid.files)
+
+pub returns-in_err-has_record-clause-calls : goal.returns-in_err-has_record-clause-calls
+returns-in_err-has_record-clause-calls g c =
+    calls_passed g.F.FilePair.failures g.F.FilePair.shortages g.F.FilePair.is_honest c.from_residual.result c.in_err-has_record.field-0.0 c.args.file.now c.has_record.new.file c.from_residual.ensures.1 c.in_err-has_record.ensures.calls
+
+pub returns-in_err-has_record-clause-running : goal.returns-in_err-has_record-clause-running
+returns-in_err-has_record-clause-running g c = on_ok_none c.from_residual.result _ c.from_residual.ensures.0
+
+pub returns-then-branch-clause-calls : goal.returns-then-branch-clause-calls
+returns-then-branch-clause-calls g c = calls_ok g.F.FilePair.failures g.F.FilePair.shortages g.F.FilePair.is_honest c.in_ok-has_record.field-0 tt c.args.file.now c.has_record.new.file c.in_ok-has_record.ensures.calls
+
+pub returns-then-branch-clause-running : goal.returns-then-branch-clause-running
+returns-then-branch-clause-running g c = c.in_ok-has_record.ensures.running
+
+pub returns-clause-calls : goal.returns-clause-calls
+returns-clause-calls g c =
+    calls_then g.F.FilePair.failures g.F.FilePair.shortages g.F.FilePair.is_honest c.write_loose.result c.args.file.now c.has_record.new.file c.write_loose.new.self
+    c.has_record.ensures.calls.runs c.in_ok-has_record.ensures.calls.goes_on c.write_loose.ensures.calls
+
+pub returns-clause-running : goal.returns-clause-running
+returns-clause-running g c = c.write_loose.ensures.running

@@ -2,6 +2,7 @@ use Rattle.std.proofs.Common.{ℕ, List, length, refl, ◌∙◌, ap, subst, ari
 use Rattle.oram_redo.specs.Content.{Agrees, Has, put}
 use Rattle.oram_redo.specs.declared.file_pair.FileKind.TheVariants.{Log, Records}
 use Rattle.oram_layout.specs.Header.{letters}
+use Rattle.oram_store.proofs.Outcomes.{on_ok_none}
 use Rattle.oram_store.proofs.Recovering.{first_file, front_stands, put_in_empty}
 use Rattle.oram_store.proofs.creation.create.Goals as goal
 
@@ -32,3 +33,63 @@ returns-clause-log_front g c =
     subst (λ (front : List ℕ). Has front 0 (seen c.sync-2.new.self Log)) c.log_front_of.ensures
     (front_stands c.log_front_of.result (seen c.sync-2.new.self Log)
     (λ i. c.sync-2.ensures.seen Log i ∙ c.sync.ensures.seen Log i ∙ c.in_ok-write_at-2.ensures.written.other i ∙ filled i))
+
+pub returns-in_err-write_at-clause-records : goal.returns-in_err-write_at-clause-records
+returns-in_err-write_at-clause-records g c = on_ok_none c.from_residual.result _ c.from_residual.ensures.0
+
+pub returns-in_err-write_at-clause-log : goal.returns-in_err-write_at-clause-log
+returns-in_err-write_at-clause-log g c = on_ok_none c.from_residual.result _ c.from_residual.ensures.0
+
+pub returns-in_err-write_at-clause-front : goal.returns-in_err-write_at-clause-front
+returns-in_err-write_at-clause-front g c = on_ok_none c.from_residual.result _ c.from_residual.ensures.0
+
+pub returns-in_err-write_at-clause-log_front : goal.returns-in_err-write_at-clause-log_front
+returns-in_err-write_at-clause-log_front g c = on_ok_none c.from_residual.result _ c.from_residual.ensures.0
+
+pub returns-in_err-write_at-clause-sure : goal.returns-in_err-write_at-clause-sure
+returns-in_err-write_at-clause-sure g c = on_ok_none c.from_residual.result _ c.from_residual.ensures.0
+
+pub returns-in_err-write_at-2-clause-records : goal.returns-in_err-write_at-2-clause-records
+returns-in_err-write_at-2-clause-records g c = on_ok_none c.from_residual-in_err-write_at-2.result _ c.from_residual-in_err-write_at-2.ensures.0
+
+pub returns-in_err-write_at-2-clause-log : goal.returns-in_err-write_at-2-clause-log
+returns-in_err-write_at-2-clause-log g c = on_ok_none c.from_residual-in_err-write_at-2.result _ c.from_residual-in_err-write_at-2.ensures.0
+
+pub returns-in_err-write_at-2-clause-front : goal.returns-in_err-write_at-2-clause-front
+returns-in_err-write_at-2-clause-front g c = on_ok_none c.from_residual-in_err-write_at-2.result _ c.from_residual-in_err-write_at-2.ensures.0
+
+pub returns-in_err-write_at-2-clause-log_front : goal.returns-in_err-write_at-2-clause-log_front
+returns-in_err-write_at-2-clause-log_front g c = on_ok_none c.from_residual-in_err-write_at-2.result _ c.from_residual-in_err-write_at-2.ensures.0
+
+pub returns-in_err-write_at-2-clause-sure : goal.returns-in_err-write_at-2-clause-sure
+returns-in_err-write_at-2-clause-sure g c = on_ok_none c.from_residual-in_err-write_at-2.result _ c.from_residual-in_err-write_at-2.ensures.0
+
+pub returns-in_err-sync-clause-records : goal.returns-in_err-sync-clause-records
+returns-in_err-sync-clause-records g c = on_ok_none c.from_residual-in_err-sync.result _ c.from_residual-in_err-sync.ensures.0
+
+pub returns-in_err-sync-clause-log : goal.returns-in_err-sync-clause-log
+returns-in_err-sync-clause-log g c = on_ok_none c.from_residual-in_err-sync.result _ c.from_residual-in_err-sync.ensures.0
+
+pub returns-in_err-sync-clause-front : goal.returns-in_err-sync-clause-front
+returns-in_err-sync-clause-front g c = on_ok_none c.from_residual-in_err-sync.result _ c.from_residual-in_err-sync.ensures.0
+
+pub returns-in_err-sync-clause-log_front : goal.returns-in_err-sync-clause-log_front
+returns-in_err-sync-clause-log_front g c = on_ok_none c.from_residual-in_err-sync.result _ c.from_residual-in_err-sync.ensures.0
+
+pub returns-in_err-sync-clause-sure : goal.returns-in_err-sync-clause-sure
+returns-in_err-sync-clause-sure g c = on_ok_none c.from_residual-in_err-sync.result _ c.from_residual-in_err-sync.ensures.0
+
+pub returns-in_err-sync-2-clause-records : goal.returns-in_err-sync-2-clause-records
+returns-in_err-sync-2-clause-records g c = on_ok_none c.from_residual-in_err-sync-2.result _ c.from_residual-in_err-sync-2.ensures.0
+
+pub returns-in_err-sync-2-clause-log : goal.returns-in_err-sync-2-clause-log
+returns-in_err-sync-2-clause-log g c = on_ok_none c.from_residual-in_err-sync-2.result _ c.from_residual-in_err-sync-2.ensures.0
+
+pub returns-in_err-sync-2-clause-front : goal.returns-in_err-sync-2-clause-front
+returns-in_err-sync-2-clause-front g c = on_ok_none c.from_residual-in_err-sync-2.result _ c.from_residual-in_err-sync-2.ensures.0
+
+pub returns-in_err-sync-2-clause-log_front : goal.returns-in_err-sync-2-clause-log_front
+returns-in_err-sync-2-clause-log_front g c = on_ok_none c.from_residual-in_err-sync-2.result _ c.from_residual-in_err-sync-2.ensures.0
+
+pub returns-in_err-sync-2-clause-sure : goal.returns-in_err-sync-2-clause-sure
+returns-in_err-sync-2-clause-sure g c = on_ok_none c.from_residual-in_err-sync-2.result _ c.from_residual-in_err-sync-2.ensures.0

@@ -3,6 +3,7 @@ use Rattle.std.proofs.lemmas.Result.{err_from_is_err_and}
 use Rattle.oram_redo.specs.Content.{Has, put}
 use Rattle.oram_redo.specs.declared.file_pair.FileKind.TheVariants.{Records}
 use Rattle.oram_redo.proofs.Bytes.{has-put}
+use Rattle.oram_store.proofs.Outcomes.{if_ok_none}
 use Rattle.oram_store.proofs.Recovering.{not_read, not_recovered, not_trees, opens_on}
 use Rattle.oram_store.proofs.creation.recover_trees.Goals as goal
 
@@ -45,3 +46,33 @@ pub returns-clause-any_moment : goal.returns-clause-any_moment
 returns-clause-any_moment g c honest =
     opens_on g.F.FilePair.seen g.F.FilePair.may_leave g.F.FilePair.moment g.F.FilePair.left_since c.args.files.now c.recover.new.files c.read_entries.new.files
     (c.recover.ensures.any_moment (c.read_entries.ensures.after.honest honest)) c.read_entries.ensures.nothing_written (g.met.F.FilePair.counts_now c.recover.new.files)
+
+pub returns-in_err-redo-clause-opened : goal.returns-in_err-redo-clause-opened
+returns-in_err-redo-clause-opened g c = if_ok_none c.from_residual.result _ c.from_residual.ensures.0
+
+pub returns-in_err-redo-clause-bounds : goal.returns-in_err-redo-clause-bounds
+returns-in_err-redo-clause-bounds g c = if_ok_none c.from_residual.result _ c.from_residual.ensures.0
+
+pub returns-in_err-redo-clause-all : goal.returns-in_err-redo-clause-all
+returns-in_err-redo-clause-all g c = if_ok_none c.from_residual.result _ c.from_residual.ensures.0
+
+pub returns-in_err-entries-clause-opened : goal.returns-in_err-entries-clause-opened
+returns-in_err-entries-clause-opened g c = if_ok_none c.from_residual-in_err-entries.result _ c.from_residual-in_err-entries.ensures.0
+
+pub returns-in_err-entries-clause-bounds : goal.returns-in_err-entries-clause-bounds
+returns-in_err-entries-clause-bounds g c = if_ok_none c.from_residual-in_err-entries.result _ c.from_residual-in_err-entries.ensures.0
+
+pub returns-in_err-entries-clause-all : goal.returns-in_err-entries-clause-all
+returns-in_err-entries-clause-all g c = if_ok_none c.from_residual-in_err-entries.result _ c.from_residual-in_err-entries.ensures.0
+
+pub returns-in_err-trees-clause-opened : goal.returns-in_err-trees-clause-opened
+returns-in_err-trees-clause-opened g c = if_ok_none c.from_residual-in_err-trees.result _ c.from_residual-in_err-trees.ensures.0
+
+pub returns-in_err-trees-clause-bounds : goal.returns-in_err-trees-clause-bounds
+returns-in_err-trees-clause-bounds g c = if_ok_none c.from_residual-in_err-trees.result _ c.from_residual-in_err-trees.ensures.0
+
+pub returns-in_err-trees-clause-all : goal.returns-in_err-trees-clause-all
+returns-in_err-trees-clause-all g c = if_ok_none c.from_residual-in_err-trees.result _ c.from_residual-in_err-trees.ensures.0
+
+pub returns-in_err-redo-clause-after : goal.returns-in_err-redo-clause-after
+returns-in_err-redo-clause-after g c = c.recover.ensures.after

@@ -1,8 +1,9 @@
-use Rattle.std.proofs.Common.{[], ap, sym, ◌∙◌, subst, List, false, inl}
+use Rattle.std.proofs.Common.{[], ap, sym, ◌∙◌, subst, List, false, inl, refl, Ok}
 use Rattle.oram_redo.specs.Log.{AgreesBut, Patch}
 use Rattle.oram_redo.specs.declared.file_pair.FileKind.TheVariants.{Records}
-use Rattle.oram_store.specs.RecordFile.{FileValue, IsSteady, Passes}
+use Rattle.oram_store.specs.RecordFile.{Calls, FileValue, IsSteady, Passes}
 use Rattle.oram_store.proofs.Finding.{failed_passes, found_by, restart_passes, stopped_passes}
+use Rattle.oram_store.proofs.Outcomes.{calls_closed, calls_made}
 use Rattle.oram_store.proofs.record_file.RecordFile.restart.Goals as goal
 
 pub returns-then-self-clause-passes : goal.returns-then-self-clause-passes
@@ -30,3 +31,12 @@ returns-in-Err-clause-passes g c =
     (ap (λ (v : FileValue g.row.F.Denot). v.has_stopped) (c.stopped_by.ensures.others (inl c.in-Err.ensures.failed.0)).1)
     (found_by g.F.FilePair.seen g.F.FilePair.may_leave g.F.FilePair.moment g.F.FilePair.left_since old c.restart.new.files loose
     (λ r. AgreesBut loose r (g.F.FilePair.seen c.self.inside.files Records)) s.bounded (c.restart.ensures.any_moment loose s.settled) (λ r agrees. agrees)))
+
+pub returns-then-self-clause-calls : goal.returns-then-self-clause-calls
+returns-then-self-clause-calls g c =
+    calls_closed g.F.FilePair.failures g.F.FilePair.shortages g.F.FilePair.is_honest c.args.self.now (ap (λ (v : FileValue g.row.F.Denot). v.has_stopped) (sym c.self.view_is) ∙ c.if-self.true)
+
+pub returns-in-Ok-clause-calls : goal.returns-in-Ok-clause-calls
+returns-in-Ok-clause-calls g c =
+    let new : FileValue g.row.F.Denot = record { files = c.restart.new.files; redo = c.restart.new.self; is_loose = false; has_stopped = c.self.inside.has_stopped } in
+    subst (λ (v : FileValue g.row.F.Denot). Calls g.F.FilePair.failures g.F.FilePair.shortages g.F.FilePair.is_honest (Ok tt) v new) c.self.view_is (calls_made g.F.FilePair.failures g.F.FilePair.shortages g.F.FilePair.is_honest (Ok tt) _ new c.if-self.false c.restart.ensures.after refl tt)

@@ -1,8 +1,9 @@
-use Rattle.std.proofs.Common.{◌∷◌, ap, sym, ◌∙◌, subst, List, true, refl}
+use Rattle.std.proofs.Common.{◌∷◌, ap, sym, ◌∙◌, subst, List, true, refl, Ok}
 use Rattle.oram_redo.specs.Log.{AgreesBut, Patch}
 use Rattle.oram_redo.specs.declared.file_pair.FileKind.TheVariants.{Records}
-use Rattle.oram_store.specs.RecordFile.{FileValue, IsSteady, Passes}
+use Rattle.oram_store.specs.RecordFile.{Calls, FileValue, IsSteady, Passes}
 use Rattle.oram_store.proofs.Finding.{loose_passes, stopped_passes}
+use Rattle.oram_store.proofs.Outcomes.{calls_closed, calls_made}
 use Rattle.oram_store.proofs.record_file.RecordFile.write_loose.Goals as goal
 
 pub returns-then-self-clause-passes : goal.returns-then-self-clause-passes
@@ -29,3 +30,12 @@ returns-in-Err-clause-passes g c =
     → Passes g.F.FilePair.seen g.F.FilePair.may_leave g.F.FilePair.moment g.F.FilePair.left_since (p ∷ loose) (λ r. AgreesBut (p ∷ loose) r (g.F.FilePair.seen v.files Records)) v new) c.self.view_is
     (λ loose s. loose_passes g.F.FilePair.seen g.F.FilePair.may_leave g.F.FilePair.moment g.F.FilePair.left_since _ new c.write_loose.new.files p loose s c.stopped_by.ensures.files c.stopped_by.ensures.redo c.stopped_by.ensures.loose
     (c.write_loose.ensures.loose loose s.settled) (c.write_loose.ensures.any_moment loose s.settled))
+
+pub returns-then-self-clause-calls : goal.returns-then-self-clause-calls
+returns-then-self-clause-calls g c =
+    calls_closed g.F.FilePair.failures g.F.FilePair.shortages g.F.FilePair.is_honest c.args.self.now (ap (λ (v : FileValue g.row.F.Denot). v.has_stopped) (sym c.self.view_is) ∙ c.if-self.true)
+
+pub returns-in-Ok-clause-calls : goal.returns-in-Ok-clause-calls
+returns-in-Ok-clause-calls g c =
+    let new : FileValue g.row.F.Denot = record { files = c.write_loose.new.files; redo = c.self.inside.redo; is_loose = true; has_stopped = c.self.inside.has_stopped } in
+    subst (λ (v : FileValue g.row.F.Denot). Calls g.F.FilePair.failures g.F.FilePair.shortages g.F.FilePair.is_honest (Ok tt) v new) c.self.view_is (calls_made g.F.FilePair.failures g.F.FilePair.shortages g.F.FilePair.is_honest (Ok tt) _ new c.if-self.false c.write_loose.ensures.after refl tt)

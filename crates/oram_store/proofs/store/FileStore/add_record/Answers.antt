@@ -1,4 +1,4 @@
-use Rattle.std.proofs.Common.{◌≡◌, ◌≢◌, ℕ, suc, ◌+◌, [], ◌∷◌, ◌++◌, ◌∙◌, ap, List, Some, refl, subst, arith}
+use Rattle.std.proofs.Common.{◌≡◌, ◌≢◌, ℕ, suc, ◌+◌, [], ◌∷◌, ◌++◌, ◌∙◌, ap, List, Ok, Some, refl, subst, arith}
 use Rattle.std.specs.Prelude.{Contains}
 use Rattle.oram_layout.specs.Trees.{cell_at, tree_at}
 use Rattle.oram_layout.specs.declared.trees.Tree.{Tree}
@@ -7,11 +7,13 @@ use Rattle.oram_redo.specs.Log.{AgreesBut, Patch}
 use Rattle.oram_redo.specs.declared.file_pair.FileKind.TheVariants.{Records}
 use Rattle.oram_store.specs.Crashes.{Serves}
 use Rattle.oram_store.specs.Keeping.{IsSound, StoreValue}
-use Rattle.oram_store.specs.RecordFile.{IsSteady, Passes}
+use Rattle.oram_store.specs.RecordFile.{Calls, IsSteady, Passes}
 use Rattle.oram_wire.specs.declared.host_messages.HostAnswer.{HostAnswer}
 use Rattle.oram_wire.specs.declared.host_messages.HostAnswer.TheVariants as answer
 use Rattle.oram_wire.specs.declared.host_messages.HostRequest.TheVariants as request
 use Rattle.oram_store.proofs.Adding.{serves_added, serves_not_added}
+use Rattle.oram_store.proofs.Finding.{calls_ok}
+use Rattle.oram_store.proofs.Outcomes.{calls_memory, calls_passed, on_ok_none}
 use Rattle.oram_store.proofs.Served.{answer_of_err}
 use Rattle.oram_store.proofs.store.FileStore.add_record.Goals as goal
 
@@ -76,3 +78,39 @@ returns-clause-serves g c number there s fresh unset =
     (λ was here none free. serves_added seen leave moment since number node bytes tree _ new was (record { is_there = here; within = c.requires.node }) c.requires.whole none free passes elsewhere refl written pushed))
     s there fresh unset in
     served
+
+pub returns-in_err-write_loose-clause-trees : goal.returns-in_err-write_loose-clause-trees
+returns-in_err-write_loose-clause-trees g c = ap (λ (v : StoreValue g.row.F.Denot). v.trees) c.self.view_is
+
+pub returns-in_err-write_loose-clause-calls : goal.returns-in_err-write_loose-clause-calls
+returns-in_err-write_loose-clause-calls g c =
+    subst (λ (old : StoreValue g.row.F.Denot). Calls g.F.FilePair.failures g.F.FilePair.shortages g.F.FilePair.is_honest c.from_residual.result old.file c.write_loose.new.self) c.self.view_is
+    (calls_passed g.F.FilePair.failures g.F.FilePair.shortages g.F.FilePair.is_honest c.from_residual.result c.in_err-write_loose.field-0.0 c.self.inside.file c.write_loose.new.self c.from_residual.ensures.1 c.in_err-write_loose.ensures.calls)
+
+pub returns-in_err-write_loose-clause-running : goal.returns-in_err-write_loose-clause-running
+returns-in_err-write_loose-clause-running g c = on_ok_none c.from_residual.result _ c.from_residual.ensures.0
+
+pub returns-in_err-push-clause-trees : goal.returns-in_err-push-clause-trees
+returns-in_err-push-clause-trees g c = ap (λ (v : StoreValue g.row.F.Denot). v.trees) c.self.view_is
+
+pub returns-in_err-push-clause-calls : goal.returns-in_err-push-clause-calls
+returns-in_err-push-clause-calls g c =
+    subst (λ (old : StoreValue g.row.F.Denot). Calls g.F.FilePair.failures g.F.FilePair.shortages g.F.FilePair.is_honest c.from_residual-in_err-push.result old.file c.write_loose.new.self) c.self.view_is
+    (calls_memory g.F.FilePair.failures g.F.FilePair.shortages g.F.FilePair.is_honest c.from_residual-in_err-push.result c.self.inside.file c.write_loose.new.self c.from_residual-in_err-push.ensures.1 c.write_loose.ensures.calls.runs)
+
+pub returns-in_err-push-clause-running : goal.returns-in_err-push-clause-running
+returns-in_err-push-clause-running g c = on_ok_none c.from_residual-in_err-push.result _ c.from_residual-in_err-push.ensures.0
+
+pub returns-clause-trees : goal.returns-clause-trees
+returns-clause-trees g c = ap (λ (v : StoreValue g.row.F.Denot). v.trees) c.self.view_is
+
+pub returns-clause-calls : goal.returns-clause-calls
+returns-clause-calls g c =
+    subst (λ (old : StoreValue g.row.F.Denot). Calls g.F.FilePair.failures g.F.FilePair.shortages g.F.FilePair.is_honest (Ok tt) old.file c.write_loose.new.self) c.self.view_is
+    (calls_ok g.F.FilePair.failures g.F.FilePair.shortages g.F.FilePair.is_honest c.in_ok-write_loose.field-0 tt c.self.inside.file c.write_loose.new.self c.in_ok-write_loose.ensures.calls)
+
+pub returns-clause-running : goal.returns-clause-running
+returns-clause-running g c = c.in_ok-write_loose.ensures.running
+
+pub invariant_of-self : goal.invariant_of-self
+invariant_of-self g c = c.self.invariant

@@ -1,8 +1,9 @@
-use Rattle.std.proofs.Common.{List, ℕ, refl, subst, Ok, Err, Some}
+use Rattle.std.proofs.Common.{List, ℕ, refl, ap, subst, Ok, Err, Some}
 use Rattle.oram_layout.specs.Changes.{marks}
 use Rattle.oram_store.specs.Crashes.{Settles}
 use Rattle.oram_store.specs.Keeping.{IsSound, StoreValue}
-use Rattle.oram_store.specs.RecordFile.{Commits}
+use Rattle.oram_store.specs.RecordFile.{Calls, Commits}
+use Rattle.oram_store.proofs.Finding.{runs_none}
 use Rattle.oram_store.proofs.Settling.{settles_by, settles_none}
 use Rattle.oram_store.proofs.store.FileStore.commit_puts.Goals as goal
 
@@ -25,3 +26,20 @@ returns-in-Err-clause-settles g c =
     (λ s. settles_by g.F.FilePair.seen g.F.FilePair.may_leave g.F.FilePair.moment g.F.FilePair.left_since _ new (Err c.in-Err.fault) s
     (subst (λ (cells : List ℕ). Commits g.F.FilePair.seen g.F.FilePair.may_leave g.F.FilePair.moment g.F.FilePair.left_since (marks cells) (Err c.in-Err.fault) c.self.inside.file c.commit_marks.new.file) c.deref.ensures.value c.in-Err.ensures.commits)
     refl tt refl)
+
+pub returns-then-is_empty-clause-calls : goal.returns-then-is_empty-clause-calls
+returns-then-is_empty-clause-calls g c = record { runs = runs_none g.F.FilePair.failures g.F.FilePair.shortages g.F.FilePair.is_honest c.args.self.now.file; goes_on = refl; reason = tt }
+
+pub returns-in-Ok-clause-calls : goal.returns-in-Ok-clause-calls
+returns-in-Ok-clause-calls g c =
+    subst (λ (v : StoreValue g.row.F.Denot). Calls g.F.FilePair.failures g.F.FilePair.shortages g.F.FilePair.is_honest (Ok c.in-Ok.field-0) v.file c.commit_marks.new.file) c.self.view_is c.in-Ok.ensures.calls
+
+pub returns-in-Err-clause-calls : goal.returns-in-Err-clause-calls
+returns-in-Err-clause-calls g c =
+    subst (λ (v : StoreValue g.row.F.Denot). Calls g.F.FilePair.failures g.F.FilePair.shortages g.F.FilePair.is_honest (Err c.in-Err.fault) v.file c.commit_marks.new.file) c.self.view_is c.in-Err.ensures.calls
+
+pub returns-in-Ok-clause-trees : goal.returns-in-Ok-clause-trees
+returns-in-Ok-clause-trees g c = ap (λ (v : StoreValue g.row.F.Denot). v.trees) c.self.view_is
+
+pub returns-in-Err-clause-trees : goal.returns-in-Err-clause-trees
+returns-in-Err-clause-trees g c = ap (λ (v : StoreValue g.row.F.Denot). v.trees) c.self.view_is

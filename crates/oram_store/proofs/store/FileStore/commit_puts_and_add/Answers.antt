@@ -9,7 +9,8 @@ use Rattle.oram_wire.specs.declared.host_messages.HostAnswer.{HostAnswer}
 use Rattle.oram_wire.specs.declared.host_messages.HostAnswer.TheVariants as answer
 use Rattle.oram_wire.specs.declared.host_messages.HostRequest.TheVariants as request
 use Rattle.oram_store.proofs.Finding.{error_is, reason_then, runs_then}
-use Rattle.oram_store.proofs.Served.{answer_of_err, serves_after}
+use Rattle.oram_store.proofs.Outcomes.{on_err_holds, on_ok_none}
+use Rattle.oram_store.proofs.Served.{answer_of_err, serves_after, serves_err}
 use Rattle.oram_store.proofs.Shaping.{adds_there, leads_there, serves_no_shape, serves_shape}
 use Rattle.oram_store.proofs.store.FileStore.commit_puts_and_add.Goals as goal
 
@@ -71,3 +72,54 @@ returns-clause-serves g c s =
     c.commit_entry.ensures.calls.runs.stays (g.met.F.FilePair.counts_now c.self.inside.file.files) (g.met.F.FilePair.whole c.self.inside.file.files)))
     (c.commit_puts.ensures.settles s) c.in_ok-commit_puts.ensures.none_pending c.commit_puts.ensures.trees in
     served
+
+pub returns-in_err-commit_puts-clause-serves : goal.returns-in_err-commit_puts-clause-serves
+returns-in_err-commit_puts-clause-serves g c s =
+    serves_err g.F.FilePair.seen g.F.FilePair.may_leave g.F.FilePair.moment g.F.FilePair.left_since (request.Shape c.args.number c.args.shape.depth c.args.shape.record_len) c.from_residual.result c.args.self.now c.commit_puts.new.self c.from_residual.ensures.0 (c.commit_puts.ensures.settles s)
+
+pub returns-in_err-commit_puts-clause-after : goal.returns-in_err-commit_puts-clause-after
+returns-in_err-commit_puts-clause-after g c = on_ok_none c.from_residual.result _ c.from_residual.ensures.0
+
+pub returns-in_err-commit_puts-clause-same : goal.returns-in_err-commit_puts-clause-same
+returns-in_err-commit_puts-clause-same g c = on_err_holds c.from_residual.result _ c.commit_puts.ensures.trees
+
+pub returns-in_err-commit_puts-clause-none_pending : goal.returns-in_err-commit_puts-clause-none_pending
+returns-in_err-commit_puts-clause-none_pending g c = on_ok_none c.from_residual.result _ c.from_residual.ensures.0
+
+pub returns-in_err-commit_puts-clause-runs : goal.returns-in_err-commit_puts-clause-runs
+returns-in_err-commit_puts-clause-runs g c = c.commit_puts.ensures.calls.runs
+
+pub returns-in_err-commit_puts-clause-running : goal.returns-in_err-commit_puts-clause-running
+returns-in_err-commit_puts-clause-running g c = on_ok_none c.from_residual.result _ c.from_residual.ensures.0
+
+pub returns-in_err-commit_puts-clause-reason : goal.returns-in_err-commit_puts-clause-reason
+returns-in_err-commit_puts-clause-reason g c =
+    error_is c.from_residual.result c.in_err-commit_puts.field-0.0 _ c.from_residual.ensures.1 (inl c.in_err-commit_puts.ensures.calls.reason)
+
+pub returns-in_err-commit_entry-clause-after : goal.returns-in_err-commit_entry-clause-after
+returns-in_err-commit_entry-clause-after g c = on_ok_none c.from_residual-in_err-commit_entry.result _ c.from_residual-in_err-commit_entry.ensures.0
+
+pub returns-in_err-commit_entry-clause-same : goal.returns-in_err-commit_entry-clause-same
+returns-in_err-commit_entry-clause-same g c =
+    on_err_holds c.from_residual-in_err-commit_entry.result _ (ap (λ (v : StoreValue g.row.F.Denot). v.trees) c.self.view_is ∙ c.commit_puts.ensures.trees)
+
+pub returns-in_err-commit_entry-clause-none_pending : goal.returns-in_err-commit_entry-clause-none_pending
+returns-in_err-commit_entry-clause-none_pending g c = on_ok_none c.from_residual-in_err-commit_entry.result _ c.from_residual-in_err-commit_entry.ensures.0
+
+pub returns-in_err-commit_entry-clause-running : goal.returns-in_err-commit_entry-clause-running
+returns-in_err-commit_entry-clause-running g c = on_ok_none c.from_residual-in_err-commit_entry.result _ c.from_residual-in_err-commit_entry.ensures.0
+
+pub returns-clause-none_pending : goal.returns-clause-none_pending
+returns-clause-none_pending g c = ap (λ (v : StoreValue g.row.F.Denot). v.pending) c.self.view_is ∙ c.in_ok-commit_puts.ensures.none_pending
+
+pub returns-clause-runs : goal.returns-clause-runs
+returns-clause-runs g c =
+    (subst (λ (mid : StoreValue g.row.F.Denot). Runs g.F.FilePair.failures g.F.FilePair.shortages g.F.FilePair.is_honest c.args.self.now.file mid.file → Runs g.F.FilePair.failures g.F.FilePair.shortages g.F.FilePair.is_honest c.args.self.now.file c.commit_entry.new.file) c.self.view_is
+    (λ first. runs_then g.F.FilePair.failures g.F.FilePair.shortages g.F.FilePair.is_honest c.args.self.now.file c.self.inside.file c.commit_entry.new.file first c.commit_entry.ensures.calls.runs))
+    c.commit_puts.ensures.calls.runs
+
+pub returns-clause-running : goal.returns-clause-running
+returns-clause-running g c = c.in_ok-commit_entry.ensures.running
+
+pub invariant_of-self : goal.invariant_of-self
+invariant_of-self g c = c.self.invariant

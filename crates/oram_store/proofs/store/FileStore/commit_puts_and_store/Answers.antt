@@ -4,6 +4,9 @@ use Rattle.oram_store.specs.Answers.{answer_by}
 use Rattle.oram_store.specs.Crashes.{Serves, Settles}
 use Rattle.oram_store.specs.Keeping.{StoreValue}
 use Rattle.oram_wire.specs.declared.host_messages.HostRequest.TheVariants as request
+use Rattle.oram_store.specs.RecordFile.{Calls, Runs}
+use Rattle.oram_store.proofs.Finding.{calls_then}
+use Rattle.oram_store.proofs.Outcomes.{calls_passed, on_ok_holds, on_ok_none}
 use Rattle.oram_store.proofs.Served.{serves_err, serves_stored}
 use Rattle.oram_store.proofs.store.FileStore.commit_puts_and_store.Goals as goal
 
@@ -25,3 +28,35 @@ returns-clause-serves g c number there honest s =
     (λ sound. c.store_path.ensures.changes c.self.inside.trees.items number here sound.file honest)
     c.store_path.ensures.calls.runs.stays (g.met.F.FilePair.counts_now c.self.inside.file.files) (g.met.F.FilePair.whole c.self.inside.file.files)))
     (c.commit_puts.ensures.settles s) c.in_ok-commit_puts.ensures.none_pending c.commit_puts.ensures.trees
+
+pub returns-in_err-commit_puts-clause-none_pending : goal.returns-in_err-commit_puts-clause-none_pending
+returns-in_err-commit_puts-clause-none_pending g c = on_ok_none c.from_residual.result _ c.from_residual.ensures.0
+
+pub returns-in_err-commit_puts-clause-trees : goal.returns-in_err-commit_puts-clause-trees
+returns-in_err-commit_puts-clause-trees g c = c.commit_puts.ensures.trees
+
+pub returns-in_err-commit_puts-clause-calls : goal.returns-in_err-commit_puts-clause-calls
+returns-in_err-commit_puts-clause-calls g c =
+    calls_passed g.F.FilePair.failures g.F.FilePair.shortages g.F.FilePair.is_honest c.from_residual.result c.in_err-commit_puts.field-0.0 c.args.self.now.file c.commit_puts.new.self.file c.from_residual.ensures.1 c.in_err-commit_puts.ensures.calls
+
+pub returns-in_err-commit_puts-clause-running : goal.returns-in_err-commit_puts-clause-running
+returns-in_err-commit_puts-clause-running g c = on_ok_none c.from_residual.result _ c.from_residual.ensures.0
+
+pub returns-clause-none_pending : goal.returns-clause-none_pending
+returns-clause-none_pending g c = on_ok_holds c.store_path.result _ (ap (λ (v : StoreValue g.row.F.Denot). v.pending) c.self.view_is ∙ c.in_ok-commit_puts.ensures.none_pending)
+
+pub returns-clause-trees : goal.returns-clause-trees
+returns-clause-trees g c = ap (λ (v : StoreValue g.row.F.Denot). v.trees) c.self.view_is ∙ c.commit_puts.ensures.trees
+
+pub returns-clause-calls : goal.returns-clause-calls
+returns-clause-calls g c =
+    (subst (λ (mid : StoreValue g.row.F.Denot). Runs g.F.FilePair.failures g.F.FilePair.shortages g.F.FilePair.is_honest c.args.self.now.file mid.file → mid.file.has_stopped ≡ c.args.self.now.file.has_stopped
+    → Calls g.F.FilePair.failures g.F.FilePair.shortages g.F.FilePair.is_honest c.store_path.result c.args.self.now.file c.store_path.new.file) c.self.view_is
+    (λ first same. calls_then g.F.FilePair.failures g.F.FilePair.shortages g.F.FilePair.is_honest c.store_path.result c.args.self.now.file c.self.inside.file c.store_path.new.file first same c.store_path.ensures.calls))
+    c.commit_puts.ensures.calls.runs c.in_ok-commit_puts.ensures.calls.goes_on
+
+pub returns-clause-running : goal.returns-clause-running
+returns-clause-running g c = c.store_path.ensures.running
+
+pub invariant_of-self : goal.invariant_of-self
+invariant_of-self g c = c.self.invariant

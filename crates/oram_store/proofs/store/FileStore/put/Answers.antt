@@ -1,5 +1,10 @@
-use Rattle.std.proofs.Common.{Some, sym, ◌∙◌, arith}
+use Rattle.std.proofs.Common.{ℕ, ◌<◌, Some, inr, sym, ap, subst, ◌∙◌, arith}
+use Rattle.std.specs.Prelude.{IsSomeAnd}
 use Rattle.oram_wire.specs.declared.host_messages.HostRequest.TheVariants as request
+use Rattle.oram_store.specs.Keeping.{StoreValue}
+use Rattle.oram_store.specs.RecordFile.{IsReason, Runs}
+use Rattle.oram_store.specs.Refusals.{refusal_by}
+use Rattle.oram_store.proofs.Allowed.{not_refused, put_allowed}
 use Rattle.oram_store.proofs.Served.{serves_refused, serves_untouched}
 use Rattle.oram_store.proofs.store.FileStore.put.Goals as goal
 
@@ -25,3 +30,39 @@ pub returns-in-Err-clause-serves : goal.returns-in-Err-clause-serves
 returns-in-Err-clause-serves g c honest s =
     serves_refused g.F.FilePair.seen g.F.FilePair.may_leave g.F.FilePair.moment g.F.FilePair.left_since g.F.FilePair.is_honest (request.Put c.args.number c.args.node c.args.bytes.now) c.args.self.now c.put_record.new.self c.refuse.new.self c.refuse.result (Some c.in-Err.fault)
     c.refuse.ensures.why c.refuse.ensures.kept (λ was. c.in-Err.ensures.serves c.args.number (sym c.tree_of.ensures ∙ c.in-Some.is) was s) honest
+
+pub returns-in-Ok-clause-allowed : goal.returns-in-Ok-clause-allowed
+returns-in-Ok-clause-allowed g c =
+    put_allowed c.args.self.now.trees c.args.number c.args.node c.args.bytes.now c.in-Some.tree (sym c.tree_of.ensures ∙ c.in-Some.is) (subst (λ (n : ℕ). c.args.node < n) c.nodes.ensures c.if-node-nodes.false) c.if-bytes-tree.false
+
+pub returns-in-Ok-clause-untouched : goal.returns-in-Ok-clause-untouched
+returns-in-Ok-clause-untouched g c =
+    not_refused (refusal_by c.args.self.now.trees (request.Put c.args.number c.args.node c.args.bytes.now)) _ (put_allowed c.args.self.now.trees c.args.number c.args.node c.args.bytes.now c.in-Some.tree (sym c.tree_of.ensures ∙ c.in-Some.is) (subst (λ (n : ℕ). c.args.node < n) c.nodes.ensures c.if-node-nodes.false) c.if-bytes-tree.false)
+
+pub returns-in-Ok-clause-trees : goal.returns-in-Ok-clause-trees
+returns-in-Ok-clause-trees g c = c.put_record.ensures.trees
+
+pub returns-in-Ok-clause-runs : goal.returns-in-Ok-clause-runs
+returns-in-Ok-clause-runs g c = c.put_record.ensures.calls.runs
+
+pub returns-in-Ok-clause-running : goal.returns-in-Ok-clause-running
+returns-in-Ok-clause-running g c = c.in-Ok.ensures.running
+
+pub returns-in-Err-clause-refused : goal.returns-in-Err-clause-refused
+returns-in-Err-clause-refused g c =
+    inr (put_allowed c.args.self.now.trees c.args.number c.args.node c.args.bytes.now c.in-Some.tree (sym c.tree_of.ensures ∙ c.in-Some.is) (subst (λ (n : ℕ). c.args.node < n) c.nodes.ensures c.if-node-nodes.false) c.if-bytes-tree.false, c.refuse.ensures.why)
+
+pub returns-in-Err-clause-untouched : goal.returns-in-Err-clause-untouched
+returns-in-Err-clause-untouched g c =
+    not_refused (refusal_by c.args.self.now.trees (request.Put c.args.number c.args.node c.args.bytes.now)) _ (put_allowed c.args.self.now.trees c.args.number c.args.node c.args.bytes.now c.in-Some.tree (sym c.tree_of.ensures ∙ c.in-Some.is) (subst (λ (n : ℕ). c.args.node < n) c.nodes.ensures c.if-node-nodes.false) c.if-bytes-tree.false)
+
+pub returns-in-Err-clause-trees : goal.returns-in-Err-clause-trees
+returns-in-Err-clause-trees g c = ap (λ (v : StoreValue g.row.F.Denot). v.trees) c.refuse.ensures.kept ∙ c.put_record.ensures.trees
+
+pub returns-in-Err-clause-runs : goal.returns-in-Err-clause-runs
+returns-in-Err-clause-runs g c =
+    subst (λ (v : StoreValue g.row.F.Denot). Runs g.F.FilePair.failures g.F.FilePair.shortages g.F.FilePair.is_honest c.args.self.now.file v.file) (sym c.refuse.ensures.kept) c.put_record.ensures.calls.runs
+
+pub returns-in-Err-clause-failure : goal.returns-in-Err-clause-failure
+returns-in-Err-clause-failure g c full =
+    subst (λ (v : StoreValue g.row.F.Denot). IsSomeAnd v.failure (IsReason g.F.FilePair.failures g.F.FilePair.shortages c.args.self.now.file v.file)) (sym c.refuse.ensures.kept) c.in-Err.ensures.calls.reason

@@ -1,4 +1,4 @@
-use Rattle.std.proofs.Common.{◌≡◌, Err, ap, refl, sym, subst, rules}
+use Rattle.std.proofs.Common.{◌≡◌, Err, false, ap, refl, sym, subst, rules}
 use Rattle.oram_host.specs.declared.refusals.HostRefusal.{HostRefusal}
 use Rattle.oram_store.specs.Crashes.{Serves}
 use Rattle.oram_store.specs.Keeping.{StoreValue}
@@ -7,6 +7,7 @@ use Rattle.oram_wire.specs.HostReading.{request_of}
 use Rattle.oram_wire.specs.declared.host_messages.HostAnswer.TheVariants.{Done, Payload}
 use Rattle.oram_wire.specs.declared.host_messages.HostRequest.{HostRequest}
 use Rattle.oram_store.specs.Reasons.{TellsWhy}
+use Rattle.oram_store.proofs.Outcomes.{if_ok_none, on_err_holds, on_ok_none}
 use Rattle.oram_store.proofs.Told.{error_of, reason_for}
 use Rattle.oram_store.proofs.store.FileStore.serve.Goals.{in-Store+in_ok-store-in-Store, in-Put+in_ok-put-in-Put, in-Shape+in_ok-shape-in-Shape}
 use Rattle.oram_store.proofs.store.FileStore.serve.Goals as goal
@@ -69,3 +70,100 @@ returns-in_err-shape-in-Shape-clause-failure g c full =
     let is : HostRequest.Shape c.in-Shape.tree c.in-Shape.depth c.in-Shape.record_len ≡ request_of c.args.request = search rules in
     subst (λ (m : HostRequest). TellsWhy g.F.FilePair.failures g.F.FilePair.shortages c.args.self.now c.shape.new.self m) is
     (c.in_err-shape-in-Shape.ensures.failure (ap (λ (why : HostRefusal). Err why) same))
+
+pub returns-in_err-records-in-Fetch-clause-served : goal.returns-in_err-records-in-Fetch-clause-served
+returns-in_err-records-in-Fetch-clause-served g c = if_ok_none c.from_residual.result _ c.from_residual.ensures.0
+
+pub returns-in_err-records-in-Fetch-clause-allowed : goal.returns-in_err-records-in-Fetch-clause-allowed
+returns-in_err-records-in-Fetch-clause-allowed g c = on_ok_none c.from_residual.result _ c.from_residual.ensures.0
+
+pub returns-in_err-records-in-Fetch-clause-after : goal.returns-in_err-records-in-Fetch-clause-after
+returns-in_err-records-in-Fetch-clause-after g c = on_ok_none c.from_residual.result _ c.from_residual.ensures.0
+
+pub returns-in_err-records-in-Fetch-clause-settled : goal.returns-in_err-records-in-Fetch-clause-settled
+returns-in_err-records-in-Fetch-clause-settled g c = on_ok_none c.from_residual.result _ c.from_residual.ensures.0
+
+pub returns-in_err-records-in-Fetch-clause-running : goal.returns-in_err-records-in-Fetch-clause-running
+returns-in_err-records-in-Fetch-clause-running g c = on_ok_none c.from_residual.result _ c.from_residual.ensures.0
+
+pub returns-in_err-records-in-Fetch-clause-same : goal.returns-in_err-records-in-Fetch-clause-same
+returns-in_err-records-in-Fetch-clause-same g c = on_err_holds c.from_residual.result _ c.fetch.ensures.trees
+
+pub returns-in_err-records-in-Fetch-clause-runs : goal.returns-in_err-records-in-Fetch-clause-runs
+returns-in_err-records-in-Fetch-clause-runs g c = c.fetch.ensures.runs
+
+pub returns-in_err-store-in-Store-clause-served : goal.returns-in_err-store-in-Store-clause-served
+returns-in_err-store-in-Store-clause-served g c = if_ok_none c.from_residual-in_err-store-in-Store.result _ c.from_residual-in_err-store-in-Store.ensures.0
+
+pub returns-in_err-store-in-Store-clause-allowed : goal.returns-in_err-store-in-Store-clause-allowed
+returns-in_err-store-in-Store-clause-allowed g c = on_ok_none c.from_residual-in_err-store-in-Store.result _ c.from_residual-in_err-store-in-Store.ensures.0
+
+pub returns-in_err-store-in-Store-clause-after : goal.returns-in_err-store-in-Store-clause-after
+returns-in_err-store-in-Store-clause-after g c = on_ok_none c.from_residual-in_err-store-in-Store.result _ c.from_residual-in_err-store-in-Store.ensures.0
+
+pub returns-in_err-store-in-Store-clause-settled : goal.returns-in_err-store-in-Store-clause-settled
+returns-in_err-store-in-Store-clause-settled g c = on_ok_none c.from_residual-in_err-store-in-Store.result _ c.from_residual-in_err-store-in-Store.ensures.0
+
+pub returns-in_err-store-in-Store-clause-running : goal.returns-in_err-store-in-Store-clause-running
+returns-in_err-store-in-Store-clause-running g c = on_ok_none c.from_residual-in_err-store-in-Store.result _ c.from_residual-in_err-store-in-Store.ensures.0
+
+pub returns-in_err-store-in-Store-clause-same : goal.returns-in_err-store-in-Store-clause-same
+returns-in_err-store-in-Store-clause-same g c = on_err_holds c.from_residual-in_err-store-in-Store.result _ c.store.ensures.trees
+
+pub returns-in_err-store-in-Store-clause-runs : goal.returns-in_err-store-in-Store-clause-runs
+returns-in_err-store-in-Store-clause-runs g c = c.store.ensures.runs
+
+pub returns-in_err-put-in-Put-clause-served : goal.returns-in_err-put-in-Put-clause-served
+returns-in_err-put-in-Put-clause-served g c = if_ok_none c.from_residual-in_err-put-in-Put.result _ c.from_residual-in_err-put-in-Put.ensures.0
+
+pub returns-in_err-put-in-Put-clause-allowed : goal.returns-in_err-put-in-Put-clause-allowed
+returns-in_err-put-in-Put-clause-allowed g c = on_ok_none c.from_residual-in_err-put-in-Put.result _ c.from_residual-in_err-put-in-Put.ensures.0
+
+pub returns-in_err-put-in-Put-clause-after : goal.returns-in_err-put-in-Put-clause-after
+returns-in_err-put-in-Put-clause-after g c = on_ok_none c.from_residual-in_err-put-in-Put.result _ c.from_residual-in_err-put-in-Put.ensures.0
+
+pub returns-in_err-put-in-Put-clause-settled : goal.returns-in_err-put-in-Put-clause-settled
+returns-in_err-put-in-Put-clause-settled g c = on_ok_none c.from_residual-in_err-put-in-Put.result _ c.from_residual-in_err-put-in-Put.ensures.0
+
+pub returns-in_err-put-in-Put-clause-running : goal.returns-in_err-put-in-Put-clause-running
+returns-in_err-put-in-Put-clause-running g c = on_ok_none c.from_residual-in_err-put-in-Put.result _ c.from_residual-in_err-put-in-Put.ensures.0
+
+pub returns-in_err-put-in-Put-clause-same : goal.returns-in_err-put-in-Put-clause-same
+returns-in_err-put-in-Put-clause-same g c = on_err_holds c.from_residual-in_err-put-in-Put.result _ c.put.ensures.trees
+
+pub returns-in_err-put-in-Put-clause-runs : goal.returns-in_err-put-in-Put-clause-runs
+returns-in_err-put-in-Put-clause-runs g c = c.put.ensures.runs
+
+pub returns-in_err-shape-in-Shape-clause-served : goal.returns-in_err-shape-in-Shape-clause-served
+returns-in_err-shape-in-Shape-clause-served g c = if_ok_none c.from_residual-in_err-shape-in-Shape.result _ c.from_residual-in_err-shape-in-Shape.ensures.0
+
+pub returns-in_err-shape-in-Shape-clause-allowed : goal.returns-in_err-shape-in-Shape-clause-allowed
+returns-in_err-shape-in-Shape-clause-allowed g c = on_ok_none c.from_residual-in_err-shape-in-Shape.result _ c.from_residual-in_err-shape-in-Shape.ensures.0
+
+pub returns-in_err-shape-in-Shape-clause-after : goal.returns-in_err-shape-in-Shape-clause-after
+returns-in_err-shape-in-Shape-clause-after g c = on_ok_none c.from_residual-in_err-shape-in-Shape.result _ c.from_residual-in_err-shape-in-Shape.ensures.0
+
+pub returns-in_err-shape-in-Shape-clause-settled : goal.returns-in_err-shape-in-Shape-clause-settled
+returns-in_err-shape-in-Shape-clause-settled g c = on_ok_none c.from_residual-in_err-shape-in-Shape.result _ c.from_residual-in_err-shape-in-Shape.ensures.0
+
+pub returns-in_err-shape-in-Shape-clause-running : goal.returns-in_err-shape-in-Shape-clause-running
+returns-in_err-shape-in-Shape-clause-running g c = on_ok_none c.from_residual-in_err-shape-in-Shape.result _ c.from_residual-in_err-shape-in-Shape.ensures.0
+
+pub returns-in_err-shape-in-Shape-clause-same : goal.returns-in_err-shape-in-Shape-clause-same
+returns-in_err-shape-in-Shape-clause-same g c = on_err_holds c.from_residual-in_err-shape-in-Shape.result _ c.in_err-shape-in-Shape.ensures.same
+
+pub returns-in_err-shape-in-Shape-clause-runs : goal.returns-in_err-shape-in-Shape-clause-runs
+returns-in_err-shape-in-Shape-clause-runs g c = c.shape.ensures.runs
+
+pub returns-in-Fetch-clause-runs : goal.returns-in-Fetch-clause-runs
+returns-in-Fetch-clause-runs g c = c.fetch.ensures.runs
+
+pub returns-in-Fetch-clause-running : goal.returns-in-Fetch-clause-running
+returns-in-Fetch-clause-running g c = c.in_ok-records-in-Fetch.ensures.running
+
+pub returns-clause-running : goal.returns-clause-running
+returns-clause-running g c = elim c.match-request.branch [
+  | in-Store+in_ok-store-in-Store w ↦ subst (λ (v : StoreValue g.row.F.Denot). v.file.has_stopped ≡ false) (sym w.self-is) w.in_ok-store-in-Store.ensures.running
+  | in-Put+in_ok-put-in-Put w ↦ subst (λ (v : StoreValue g.row.F.Denot). v.file.has_stopped ≡ false) (sym w.self-is) w.in_ok-put-in-Put.ensures.running
+  | in-Shape+in_ok-shape-in-Shape w ↦ subst (λ (v : StoreValue g.row.F.Denot). v.file.has_stopped ≡ false) (sym w.self-is) w.in_ok-shape-in-Shape.ensures.running
+]
