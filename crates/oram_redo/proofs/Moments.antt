@@ -1,7 +1,7 @@
 -- How a run of calls on a pair goes on.
 use Rattle.std.proofs.Common.{◌≡◌, refl, ◌∙◌, inl, inr, ⊎_elim, ℕ, ◌≤◌, arith}
 use Rattle.oram_redo.specs.Content.{Content, Agrees}
-use Rattle.oram_redo.specs.FilePair.{Contents, Elapses, LeavesOnly, WritesNothing}
+use Rattle.oram_redo.specs.FilePair.{Contents, Elapses, LeavesOnly, Same, WritesNothing}
 
 module _ {D : Type 0} (moment : D → ℕ) (left_since : D → ℕ → Contents → Type 0) where
   -- before the first call
@@ -49,6 +49,11 @@ same_content c d agrees = λ i k. agrees k i
 module _ {D : Type 0} (seen : D → Contents) (may_leave : D → Contents → Type 0) (moment : D → ℕ) (left_since : D → ℕ → Contents → Type 0) where
   pub nothing_yet_written : (old : D) → ((c : Contents) → left_since old (moment old) c → may_leave old c) → WritesNothing seen may_leave moment left_since old old
   nothing_yet_written old only_now = record { seen_same = λ file i. refl; leaves = λ c now. now; moments = started moment left_since old (may_leave old) only_now }
+
+  -- one call that writes nothing
+  pub one_nothing : (old new : D) → ((c : Contents) → left_since old (moment old) c → may_leave old c) → Same (seen new) (seen old) → ((c : Contents) → may_leave new c → may_leave old c)
+      → Elapses (moment old) (moment new) (left_since old) (left_since new) (may_leave new) → WritesNothing seen may_leave moment left_since old new
+  one_nothing old new only_now same leaves time = record { seen_same = same; leaves = leaves; moments = one_call moment left_since old new (may_leave old) (may_leave new) only_now time leaves }
 
   pub nothing_more_written : (old mid new : D) → WritesNothing seen may_leave moment left_since old mid → WritesNothing seen may_leave moment left_since mid new → WritesNothing seen may_leave moment left_since old new
   nothing_more_written old mid new first second = record {

@@ -1,3 +1,4 @@
+use Rattle.oram_redo.proofs.Outcomes.{if_ok_none}
 use Rattle.std.proofs.Common.{rules, ◌≡◌, ◌≤◌, ◌+◌, ◌-◌, ℕ, List, ◌++◌, take, drop, replicate, length, ap, ◌∙◌, arith}
 use Rattle.std.proofs.lemmas.List.{take_rest}
 use Rattle.oram_redo.specs.Memory.{byte_of}
@@ -25,3 +26,15 @@ returns c i =
     c.in_ok-extend_from_slice-2.ensures.items ∙ ap (λ (l : List ℕ). c.extend_from_slice.new.self.items ++ l) (take_rest c.args.old.now c.len-end.result)
     ∙ ap (λ (l : List ℕ). l ++ drop c.len-end.result c.args.old.now) whole ∙ ap (λ (n : ℕ). front_of c.args.at c.args.old.now ++ c.args.bytes.now ++ drop n c.args.old.now) end
     ) ∙ overwritten_is c.args.old.now c.args.bytes.now c.args.at i
+
+pub returns-in_err-new : goal.returns-in_err-new
+returns-in_err-new c = if_ok_none c.from_residual.result _ c.from_residual.ensures.0
+
+pub returns-in_err-resize : goal.returns-in_err-resize
+returns-in_err-resize c = if_ok_none c.from_residual-in_err-resize.result _ c.from_residual-in_err-resize.ensures.0
+
+pub returns-in_err-extend_from_slice : goal.returns-in_err-extend_from_slice
+returns-in_err-extend_from_slice c = if_ok_none c.from_residual-in_err-extend_from_slice.result _ c.from_residual-in_err-extend_from_slice.ensures.0
+
+pub returns-in_err-extend_from_slice-2 : goal.returns-in_err-extend_from_slice-2
+returns-in_err-extend_from_slice-2 c = if_ok_none c.from_residual-in_err-extend_from_slice-2.result _ c.from_residual-in_err-extend_from_slice-2.ensures.0

@@ -1,3 +1,5 @@
+use Rattle.oram_redo.specs.declared.faults.RedoError.TheVariants.{Damaged, Failed}
+use Rattle.oram_redo.proofs.Outcomes.{after_then, failed_last, if_err_passed, if_of_passed, if_ok_none, no_error}
 use Rattle.std.proofs.Common.{◌++◌, ◌∷◌, [], IfSome, subst}
 use Rattle.std.proofs.lemmas.Result.{err_from_is_err_and}
 use Rattle.oram_redo.specs.Recovery.{IsEntryAt}
@@ -29,3 +31,33 @@ loop-found-preserved g c =
         short = λ n had. c.find_entry.ensures.after.short n (c.loop-found.invariant.after.short n had);
       };
     }
+
+pub returns-in_err-found-clause-nothing_written : goal.returns-in_err-found-clause-nothing_written
+returns-in_err-found-clause-nothing_written g c = nothing_more_written g.F.FilePair.seen g.F.FilePair.may_leave g.F.FilePair.moment g.F.FilePair.left_since c.args.files.now c.loop-found.files c.find_entry.new.files c.loop-found.invariant.nothing_written c.find_entry.ensures.nothing_written
+
+pub returns-in_err-found-clause-end : goal.returns-in_err-found-clause-end
+returns-in_err-found-clause-end g c = if_ok_none c.from_residual.result _ c.from_residual.ensures.0
+
+pub returns-in_err-found-clause-failed : goal.returns-in_err-found-clause-failed
+returns-in_err-found-clause-failed g c is = if_of_passed c.from_residual.result c.in_err-found.field-0.0 Failed _ c.from_residual.ensures.1 (λ of. failed_last g.F.FilePair.failures g.F.FilePair.shortages g.F.FilePair.is_honest c.args.files.now c.loop-found.files c.find_entry.new.files c.loop-found.invariant.after (c.in_err-found.ensures.failed of)) is
+
+pub returns-in_err-found-clause-after : goal.returns-in_err-found-clause-after
+returns-in_err-found-clause-after g c = after_then g.F.FilePair.failures g.F.FilePair.shortages g.F.FilePair.is_honest c.args.files.now c.loop-found.files c.find_entry.new.files c.loop-found.invariant.after c.find_entry.ensures.after
+
+pub returns-in_err-found-clause-errors : goal.returns-in_err-found-clause-errors
+returns-in_err-found-clause-errors g c = if_err_passed c.from_residual.result c.in_err-found.field-0.0 _ c.from_residual.ensures.1 c.in_err-found.ensures.errors
+
+pub returns-clause-nothing_written : goal.returns-clause-nothing_written
+returns-clause-nothing_written g c = nothing_more_written g.F.FilePair.seen g.F.FilePair.may_leave g.F.FilePair.moment g.F.FilePair.left_since c.args.files.now c.loop-found.files c.find_entry.new.files c.loop-found.invariant.nothing_written c.find_entry.ensures.nothing_written
+
+pub returns-clause-damaged : goal.returns-clause-damaged
+returns-clause-damaged g c honest is patches log = no_error _ Damaged ⊥ is
+
+pub returns-clause-failed : goal.returns-clause-failed
+returns-clause-failed g c is = no_error _ Failed _ is
+
+pub returns-clause-after : goal.returns-clause-after
+returns-clause-after g c = after_then g.F.FilePair.failures g.F.FilePair.shortages g.F.FilePair.is_honest c.args.files.now c.loop-found.files c.find_entry.new.files c.loop-found.invariant.after c.find_entry.ensures.after
+
+pub returns-clause-errors : goal.returns-clause-errors
+returns-clause-errors g c = tt

@@ -1,10 +1,12 @@
-use Rattle.std.proofs.Common.{◌⊎◌, inl, inr, ℕ, subst, sym, ◌∙◌}
+use Rattle.oram_redo.specs.declared.faults.RedoError.TheVariants.{Damaged, Failed}
+use Rattle.oram_redo.proofs.Outcomes.{after_then, failed_last, if_err_passed, if_of_passed, if_ok_none, no_error, on_ok_none}
+use Rattle.std.proofs.Common.{◌⊎◌, inl, inr, ℕ, subst, sym, ◌∙◌, refl}
 use Rattle.std.proofs.lemmas.Result.{err_from_is_err_and}
 use Rattle.oram_redo.specs.Content.{Content}
 use Rattle.oram_redo.specs.FilePair.{Contents, Same}
 use Rattle.oram_redo.specs.Log.{StandsAlike, IsLog}
 use Rattle.oram_redo.specs.declared.file_pair.FileKind.TheVariants.{Records, Log}
-use Rattle.oram_redo.proofs.Moments.{same_content, leads_to, then_leaves}
+use Rattle.oram_redo.proofs.Moments.{same_content, leads_to, then_leaves, nothing_more_written}
 use Rattle.oram_redo.proofs.Recovered.{alike, stands, settled}
 use Rattle.oram_redo.proofs.redo.recover.Goals as goal
 
@@ -80,3 +82,90 @@ returns-clause-any_moment g c honest =
     let at_end = then_leaves g.F.FilePair.moment g.F.FilePair.left_since c.args.files.now c.sync_both.new.files c.end_of_log.new.files P _ at_sync read.moments (λ f was. inl (synced.leaves f was)) in
     then_leaves g.F.FilePair.moment g.F.FilePair.left_since c.args.files.now c.end_of_log.new.files c.replay.new.files P _ at_end (c.replay.ensures.moments honest found.0 log_mid)
     (λ f smeared. inr (alike c.args.bounds found.0 seen mid _ same log sure_log sure_records f smeared))
+
+pub returns-in_err-sync_both-clause-records : goal.returns-in_err-sync_both-clause-records
+returns-in_err-sync_both-clause-records g c = on_ok_none c.from_residual.result _ c.from_residual.ensures.0
+
+pub returns-in_err-sync_both-clause-settled : goal.returns-in_err-sync_both-clause-settled
+returns-in_err-sync_both-clause-settled g c = if_ok_none c.from_residual.result _ c.from_residual.ensures.0
+
+pub returns-in_err-sync_both-clause-bounds : goal.returns-in_err-sync_both-clause-bounds
+returns-in_err-sync_both-clause-bounds g c = if_ok_none c.from_residual.result _ c.from_residual.ensures.0
+
+pub returns-in_err-end-clause-records : goal.returns-in_err-end-clause-records
+returns-in_err-end-clause-records g c = on_ok_none c.from_residual-in_err-end.result _ c.from_residual-in_err-end.ensures.0
+
+pub returns-in_err-end-clause-settled : goal.returns-in_err-end-clause-settled
+returns-in_err-end-clause-settled g c = if_ok_none c.from_residual-in_err-end.result _ c.from_residual-in_err-end.ensures.0
+
+pub returns-in_err-end-clause-bounds : goal.returns-in_err-end-clause-bounds
+returns-in_err-end-clause-bounds g c = if_ok_none c.from_residual-in_err-end.result _ c.from_residual-in_err-end.ensures.0
+
+pub returns-in_err-replay-clause-records : goal.returns-in_err-replay-clause-records
+returns-in_err-replay-clause-records g c = on_ok_none c.from_residual-in_err-replay.result _ c.from_residual-in_err-replay.ensures.0
+
+pub returns-in_err-replay-clause-settled : goal.returns-in_err-replay-clause-settled
+returns-in_err-replay-clause-settled g c = if_ok_none c.from_residual-in_err-replay.result _ c.from_residual-in_err-replay.ensures.0
+
+pub returns-in_err-replay-clause-bounds : goal.returns-in_err-replay-clause-bounds
+returns-in_err-replay-clause-bounds g c = if_ok_none c.from_residual-in_err-replay.result _ c.from_residual-in_err-replay.ensures.0
+
+pub returns-in_err-sync_both-clause-log : goal.returns-in_err-sync_both-clause-log
+returns-in_err-sync_both-clause-log g c i = c.sync_both.ensures.nothing_written.seen_same Log i
+
+pub returns-in_err-sync_both-clause-failed : goal.returns-in_err-sync_both-clause-failed
+returns-in_err-sync_both-clause-failed g c is = c.in_err-sync_both.ensures.failed.1
+
+pub returns-in_err-sync_both-clause-after : goal.returns-in_err-sync_both-clause-after
+returns-in_err-sync_both-clause-after g c = c.sync_both.ensures.after
+
+pub returns-in_err-sync_both-clause-errors : goal.returns-in_err-sync_both-clause-errors
+returns-in_err-sync_both-clause-errors g c = if_err_passed c.from_residual.result c.in_err-sync_both.field-0.0 _ c.from_residual.ensures.1 (inr (inl c.in_err-sync_both.ensures.failed.0))
+
+pub returns-in_err-end-clause-log : goal.returns-in_err-end-clause-log
+returns-in_err-end-clause-log g c i = c.end_of_log.ensures.nothing_written.seen_same Log i ∙ c.sync_both.ensures.nothing_written.seen_same Log i
+
+pub returns-in_err-end-clause-failed : goal.returns-in_err-end-clause-failed
+returns-in_err-end-clause-failed g c is = if_of_passed c.from_residual-in_err-end.result c.in_err-end.field-0.0 Failed _ c.from_residual-in_err-end.ensures.1 (λ of. failed_last g.F.FilePair.failures g.F.FilePair.shortages g.F.FilePair.is_honest c.args.files.now c.sync_both.new.files c.end_of_log.new.files c.sync_both.ensures.after (c.in_err-end.ensures.failed of)) is
+
+pub returns-in_err-end-clause-after : goal.returns-in_err-end-clause-after
+returns-in_err-end-clause-after g c = after_then g.F.FilePair.failures g.F.FilePair.shortages g.F.FilePair.is_honest c.args.files.now c.sync_both.new.files c.end_of_log.new.files c.sync_both.ensures.after c.end_of_log.ensures.after
+
+pub returns-in_err-end-clause-errors : goal.returns-in_err-end-clause-errors
+returns-in_err-end-clause-errors g c = if_err_passed c.from_residual-in_err-end.result c.in_err-end.field-0.0 _ c.from_residual-in_err-end.ensures.1 c.in_err-end.ensures.errors
+
+pub returns-in_err-end-clause-untouched : goal.returns-in_err-end-clause-untouched
+returns-in_err-end-clause-untouched g c honest is = nothing_more_written g.F.FilePair.seen g.F.FilePair.may_leave g.F.FilePair.moment g.F.FilePair.left_since c.args.files.now c.sync_both.new.files c.end_of_log.new.files c.sync_both.ensures.nothing_written c.end_of_log.ensures.nothing_written
+
+pub returns-in_err-replay-clause-log : goal.returns-in_err-replay-clause-log
+returns-in_err-replay-clause-log g c i = c.replay.ensures.log i ∙ c.end_of_log.ensures.nothing_written.seen_same Log i ∙ c.sync_both.ensures.nothing_written.seen_same Log i
+
+pub returns-in_err-replay-clause-failed : goal.returns-in_err-replay-clause-failed
+returns-in_err-replay-clause-failed g c is = if_of_passed c.from_residual-in_err-replay.result c.in_err-replay.field-0.0 Failed _ c.from_residual-in_err-replay.ensures.1 (λ of. failed_last g.F.FilePair.failures g.F.FilePair.shortages g.F.FilePair.is_honest c.args.files.now c.end_of_log.new.files c.replay.new.files (after_then g.F.FilePair.failures g.F.FilePair.shortages g.F.FilePair.is_honest c.args.files.now c.sync_both.new.files c.end_of_log.new.files c.sync_both.ensures.after c.end_of_log.ensures.after) (c.in_err-replay.ensures.failed of)) is
+
+pub returns-in_err-replay-clause-after : goal.returns-in_err-replay-clause-after
+returns-in_err-replay-clause-after g c = after_then g.F.FilePair.failures g.F.FilePair.shortages g.F.FilePair.is_honest c.args.files.now c.end_of_log.new.files c.replay.new.files (after_then g.F.FilePair.failures g.F.FilePair.shortages g.F.FilePair.is_honest c.args.files.now c.sync_both.new.files c.end_of_log.new.files c.sync_both.ensures.after c.end_of_log.ensures.after) c.replay.ensures.after
+
+pub returns-in_err-replay-clause-errors : goal.returns-in_err-replay-clause-errors
+returns-in_err-replay-clause-errors g c = if_err_passed c.from_residual-in_err-replay.result c.in_err-replay.field-0.0 _ c.from_residual-in_err-replay.ensures.1 c.in_err-replay.ensures.errors
+
+pub returns-clause-bounds : goal.returns-clause-bounds
+returns-clause-bounds g c = refl
+
+pub returns-clause-log : goal.returns-clause-log
+returns-clause-log g c i = c.replay.ensures.log i ∙ c.end_of_log.ensures.nothing_written.seen_same Log i ∙ c.sync_both.ensures.nothing_written.seen_same Log i
+
+pub returns-clause-damaged : goal.returns-clause-damaged
+returns-clause-damaged g c honest is records whole = no_error _ Damaged ⊥ is
+
+pub returns-clause-untouched : goal.returns-clause-untouched
+returns-clause-untouched g c honest is = no_error _ Damaged _ is
+
+pub returns-clause-failed : goal.returns-clause-failed
+returns-clause-failed g c is = no_error _ Failed _ is
+
+pub returns-clause-after : goal.returns-clause-after
+returns-clause-after g c = after_then g.F.FilePair.failures g.F.FilePair.shortages g.F.FilePair.is_honest c.args.files.now c.end_of_log.new.files c.replay.new.files (after_then g.F.FilePair.failures g.F.FilePair.shortages g.F.FilePair.is_honest c.args.files.now c.sync_both.new.files c.end_of_log.new.files c.sync_both.ensures.after c.end_of_log.ensures.after) c.replay.ensures.after
+
+pub returns-clause-errors : goal.returns-clause-errors
+returns-clause-errors g c = tt

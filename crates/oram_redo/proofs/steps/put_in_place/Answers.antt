@@ -1,4 +1,5 @@
-use Rattle.std.proofs.Common.{◌≡◌, Result, Ok, Err, OnOk, is_err, false, [], sym, ◌∙◌}
+use Rattle.oram_redo.proofs.Outcomes.{after_then, failed_last, has_failed}
+use Rattle.std.proofs.Common.{◌≡◌, Result, Ok, Err, OnOk, is_err, false, [], sym, ◌∙◌, refl}
 use Rattle.oram_redo.specs.Batch.{patches_of}
 use Rattle.oram_redo.specs.declared.batch.Patch.{Patch}
 use Rattle.oram_redo.proofs.Batches.{spares_each}
@@ -39,3 +40,24 @@ loop-patch-preserved g c =
         short = λ n had. c.write_at.ensures.after.short n (c.loop-patch.invariant.after.short n had);
       };
     }
+
+pub returns-then-is_err-clause-log : goal.returns-then-is_err-clause-log
+returns-then-is_err-clause-log g c i = c.write_at.ensures.torn.other i ∙ c.loop-patch.invariant.log i
+
+pub returns-then-is_err-clause-failed : goal.returns-then-is_err-clause-failed
+returns-then-is_err-clause-failed g c = (refl, failed_last g.F.FilePair.failures g.F.FilePair.shortages g.F.FilePair.is_honest c.args.files.now c.loop-patch.files c.write_at.new.self c.loop-patch.invariant.after (has_failed g.F.FilePair.failures g.F.FilePair.shortages g.F.FilePair.is_honest c.write_at.result c.loop-patch.files c.write_at.new.self (sym c.if-is_err.ensures.value) c.write_at.ensures.errors c.write_at.ensures.cause))
+
+pub returns-then-is_err-clause-after : goal.returns-then-is_err-clause-after
+returns-then-is_err-clause-after g c = after_then g.F.FilePair.failures g.F.FilePair.shortages g.F.FilePair.is_honest c.args.files.now c.loop-patch.files c.write_at.new.self c.loop-patch.invariant.after c.write_at.ensures.after
+
+pub returns-clause-log : goal.returns-clause-log
+returns-clause-log g c = c.loop-patch.invariant.log
+
+pub returns-clause-crash : goal.returns-clause-crash
+returns-clause-crash g c = c.loop-patch.invariant.crash
+
+pub returns-clause-moments : goal.returns-clause-moments
+returns-clause-moments g c = c.loop-patch.invariant.moments
+
+pub returns-clause-after : goal.returns-clause-after
+returns-clause-after g c = c.loop-patch.invariant.after
