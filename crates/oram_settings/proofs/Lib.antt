@@ -1,3 +1,4 @@
+mod Arguments
 mod Tables
 pub mod Program
 pub mod Asked

@@ -3,7 +3,7 @@
 ghost use Rattle.std.specs.Prelude.{◌≡◌, ◌≢◌, [], None, Some, false, IfErr, IfOk, option_map};
 ghost use Rattle.clap.specs.Faults.{fault_of};
 ghost use Rattle.clap.specs.Walk.{texts};
-ghost use Rattle.clap.specs.Words.{app_of, kind_of, rule_of, shape_of};
+ghost use Rattle.clap.specs.Words.{Shape, app_of, kind_of, rule_of, shape_of, with_rule, with_subcommand as subcommand_added};
 ghost use Rattle.clap.specs.declared.builder.command.Command.TheViews.{out-Command as fields_of};
 ghost use Rattle.oram_settings.specs.CommandLine as spec;
 ghost use Rattle.oram_settings.specs.CommandLine.{AnswersFaults, AnswersFault, bare, program, request_in, request_of, request_for};
@@ -62,6 +62,21 @@ fn word<'a>(alloc: Global, name: &'a str, help: &'a str) -> Arg<'a>
         .required(true)
 }
 
+/// Returns a subcommand with its word and one more argument.
+fn with_args<'a>(
+    command: Command<'a>,
+    word: Arg<'a>,
+    more: Arg<'a>,
+) -> Result<Command<'a>, AllocError>
+    requires word { word.global ≡ false }
+    requires more { more.global ≡ false }
+    requires local { (fields_of command).has_globals ≡ false }
+    ensures local { IfOk result (λ c. (fields_of c).has_globals ≡ false) }
+    ensures app { IfOk result (λ c. app_of c ≡ with_rule (with_rule (app_of command.entry) (rule_of word.entry)) (rule_of more.entry)) }
+{
+    command.arg(word)?.arg(more)
+}
+
 /// Returns the subcommand that makes a folder.
 fn folder_maker<'a>(alloc: Global) -> Result<Command<'a>, AllocError>
     ensures local { IfOk result (λ c. (fields_of c).has_globals ≡ false) }
@@ -72,11 +87,10 @@ fn folder_maker<'a>(alloc: Global) -> Result<Command<'a>, AllocError>
         .value_name("SIZE")
         .help(help::SIZE)
         .required(true);
-    Command::new(alloc, "new")
+    let new = Command::new(alloc, "new")
         .about(help::NEW)
-        .after_help(help::NEW_MORE)
-        .arg(word(alloc, "FOLDER", help::FOLDER))?
-        .arg(size)
+        .after_help(help::NEW_MORE);
+    with_args(new, word(alloc, "FOLDER", help::FOLDER), size)
 }
 
 /// Returns the subcommand that runs a host.
@@ -88,11 +102,10 @@ fn host_runner<'a>(alloc: Global) -> Result<Command<'a>, AllocError>
         .long("new")
         .help(help::NEW_FILE)
         .action(ArgAction::SetTrue);
-    Command::new(alloc, "host")
+    let host = Command::new(alloc, "host")
         .about(help::HOST)
-        .after_help(help::HOST_MORE)
-        .arg(word(alloc, "SETTINGS", help::HOST_SETTINGS))?
-        .arg(new)
+        .after_help(help::HOST_MORE);
+    with_args(host, word(alloc, "SETTINGS", help::HOST_SETTINGS), new)
 }
 
 /// Returns a subcommand that takes the name of a disk's settings file.
@@ -122,17 +135,32 @@ fn bare_command<'a>(alloc: Global) -> Command<'a>
         .subcommand_required(true)
 }
 
+/// Returns a command with one more subcommand, unless that couldn't be made.
+fn with_subcommand<'a>(
+    command: Command<'a>,
+    made: Result<Command<'a>, AllocError>,
+) -> Result<Command<'a>, AllocError>
+    requires { IfOk made (λ s. (fields_of s).has_globals ≡ false) }
+    ensures { (shape : Shape) → IfOk made.entry (λ s. shape_of s ≡ shape)
+        → IfOk result (λ c. app_of c ≡ subcommand_added (app_of command.entry) shape) }
+{
+    command.subcommand(made?)
+}
+
 /// Returns the command line as clap needs it.
 fn command<'a>(alloc: Global) -> Result<Command<'a>, AllocError>
     ensures { IfOk result (λ c. app_of c ≡ program) }
 {
-    bare_command(alloc)
-        .subcommand(folder_maker(alloc)?)?
-        .subcommand(host_runner(alloc)?)?
-        .subcommand(disk_command(alloc, "format", help::FORMAT, help::FORMAT_MORE)?)?
-        .subcommand(disk_command(alloc, "serve", help::SERVE, help::SERVE_MORE)?)?
-        .subcommand(disk_command(alloc, "status", help::STATUS, help::STATUS_MORE)?)?
-        .subcommand(disk_command(alloc, "retry", help::RETRY, help::RETRY_MORE)?)
+    let made = with_subcommand(bare_command(alloc), folder_maker(alloc))?;
+    let made = with_subcommand(made, host_runner(alloc))?;
+    let format = disk_command(alloc, "format", help::FORMAT, help::FORMAT_MORE);
+    let made = with_subcommand(made, format)?;
+    let serve = disk_command(alloc, "serve", help::SERVE, help::SERVE_MORE);
+    let made = with_subcommand(made, serve)?;
+    let status = disk_command(alloc, "status", help::STATUS, help::STATUS_MORE);
+    let made = with_subcommand(made, status)?;
+    let retry = disk_command(alloc, "retry", help::RETRY, help::RETRY_MORE);
+    with_subcommand(made, retry)
 }
 
 /// Returns whether a flag was given, by the text that clap has for it.

@@ -1,13 +1,14 @@
-use Rattle.std.proofs.Common.{◌∙◌, ap₂}
+use Rattle.std.proofs.Common.{◌∙◌, ap, codes}
 use Rattle.std.proofs.lemmas.Result.{IfOk-weaker}
-use Rattle.clap.specs.Words.{with_subcommand}
+use Rattle.clap.specs.Words.{App, with_subcommand}
+use Rattle.oram_settings.specs.CommandLine as spec
 use Rattle.oram_settings.proofs.command_line.command.Goals as goal
 
 pub returns : goal.returns
 returns c =
-    let one = c.in_ok-subcommand.ensures.shape c.in_ok-folder_maker.ensures.local ∙ ap₂ with_subcommand c.bare_command.ensures c.in_ok-folder_maker.ensures.shape in
-    let two = c.in_ok-subcommand-2.ensures.shape c.in_ok-host_runner.ensures.local ∙ ap₂ with_subcommand one c.in_ok-host_runner.ensures.shape in
-    let three = c.in_ok-subcommand-3.ensures.shape c.in_ok-disk_command.ensures.local ∙ ap₂ with_subcommand two c.in_ok-disk_command.ensures.shape in
-    let four = c.in_ok-subcommand-4.ensures.shape c.in_ok-disk_command-2.ensures.local ∙ ap₂ with_subcommand three c.in_ok-disk_command-2.ensures.shape in
-    let five = c.in_ok-subcommand-5.ensures.shape c.in_ok-disk_command-3.ensures.local ∙ ap₂ with_subcommand four c.in_ok-disk_command-3.ensures.shape in
-    IfOk-weaker c.subcommand-6.result _ _ (λ m h. h.shape c.in_ok-disk_command-4.ensures.local ∙ ap₂ with_subcommand five c.in_ok-disk_command-4.ensures.shape) c.subcommand-6.ensures
+    let one = c.in_ok-made.ensures spec.folder_maker c.folder_maker.ensures.shape ∙ ap (λ (a : App). with_subcommand a spec.folder_maker) c.bare_command.ensures in
+    let two = c.in_ok-made-2.ensures spec.host_runner c.host_runner.ensures.shape ∙ ap (λ (a : App). with_subcommand a spec.host_runner) one in
+    let three = c.in_ok-made-3.ensures (spec.disk_command (codes "format")) c.disk_command-format.ensures.shape ∙ ap (λ (a : App). with_subcommand a (spec.disk_command (codes "format"))) two in
+    let four = c.in_ok-made-4.ensures (spec.disk_command (codes "serve")) c.disk_command-serve.ensures.shape ∙ ap (λ (a : App). with_subcommand a (spec.disk_command (codes "serve"))) three in
+    let five = c.in_ok-made-5.ensures (spec.disk_command (codes "status")) c.disk_command-status.ensures.shape ∙ ap (λ (a : App). with_subcommand a (spec.disk_command (codes "status"))) four in
+    IfOk-weaker c.with_subcommand-6.result _ _ (λ m is. is ∙ ap (λ (a : App). with_subcommand a (spec.disk_command (codes "retry"))) five) (c.with_subcommand-6.ensures (spec.disk_command (codes "retry")) c.disk_command-retry.ensures.shape)

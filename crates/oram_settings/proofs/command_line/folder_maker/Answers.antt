@@ -1,0 +1,33 @@
+use Rattle.std.proofs.Common.{◌∙◌, ap, ap₂}
+use Rattle.std.proofs.lemmas.Result.{IfOk-weaker}
+use Rattle.clap.specs.Simple.{App, with_rule}
+use Rattle.oram_settings.proofs.Arguments.{about_local, after_help_local, help_local, long_local, name_local, need_local, with_about, with_after_help, with_help, with_long, with_name, with_need}
+use Rattle.oram_settings.proofs.command_line.folder_maker.Goals as goal
+
+pub with_args-requires-clause-word : goal.with_args-requires-clause-word
+with_args-requires-clause-word c = c.word.ensures.local
+
+pub with_args-requires-clause-more : goal.with_args-requires-clause-more
+with_args-requires-clause-more c =
+    let longer = long_local c.new.result c.long.result c.new.ensures.optional.1 _ c.long.ensures in
+    let named = name_local c.long.result c.value_name.result longer _ c.value_name.ensures in
+    let helped = help_local c.value_name.result c.help.result named _ c.help.ensures in
+    need_local c.help.result c.required-size.result helped _ c.required-size.ensures
+
+pub with_args-requires-clause-local : goal.with_args-requires-clause-local
+with_args-requires-clause-local c =
+    let about = about_local c.new-2.result c.about.result c.new-2.ensures.local _ c.about.ensures in
+    after_help_local c.about.result c.after_help-new.result about _ c.after_help-new.ensures
+
+pub returns-clause-local : goal.returns-clause-local
+returns-clause-local c = c.with_args.ensures.local
+
+pub returns-clause-shape : goal.returns-clause-shape
+returns-clause-shape c =
+    let longer = with_long c.new.result c.long.result _ c.new.ensures.rule _ c.long.ensures in
+    let named = with_name c.long.result c.value_name.result _ longer _ c.value_name.ensures in
+    let helped = with_help c.value_name.result c.help.result _ named _ c.help.ensures in
+    let size = with_need c.help.result c.required-size.result _ helped _ c.required-size.ensures in
+    let about = with_about c.new-2.result c.about.result _ c.new-2.ensures.app _ c.about.ensures in
+    let base = with_after_help c.about.result c.after_help-new.result _ about _ c.after_help-new.ensures in
+    IfOk-weaker c.with_args.result _ _ (λ m is. ap (λ (a : App). a.top) (is ∙ ap₂ with_rule (ap₂ with_rule base c.word.ensures.rule) size)) c.with_args.ensures.app

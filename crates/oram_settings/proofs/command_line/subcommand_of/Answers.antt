@@ -1,0 +1,27 @@
+use Rattle.std.proofs.Common.{refl}
+use Rattle.std.proofs.lemmas.Result.{IfOk-from_err}
+use Rattle.oram_settings.proofs.command_line.subcommand_of.Goals as goal
+
+pub returns-in_err-word : goal.returns-in_err-word
+returns-in_err-word c = IfOk-from_err c.from_residual.result _ c.from_residual.ensures.0
+
+pub returns-in_err-from_str-in-new : goal.returns-in_err-from_str-in-new
+returns-in_err-from_str-in-new c = IfOk-from_err c.from_residual-in_err-from_str-in-new.result _ c.from_residual-in_err-from_str-in-new.ensures.0
+
+pub returns-in-host : goal.returns-in-host
+returns-in-host c = rw (c.in-None.is, c.in-host.is, c.in_ok-word.ensures.ok) refl
+
+pub returns-in-format : goal.returns-in-format
+returns-in-format c = rw (c.in-None.is, c.in-format.is, c.in_ok-word.ensures.ok) refl
+
+pub returns-in-serve : goal.returns-in-serve
+returns-in-serve c = rw (c.in-None.is, c.in-serve.is, c.in_ok-word.ensures.ok) refl
+
+pub returns-in-status : goal.returns-in-status
+returns-in-status c = rw (c.in-None.is, c.in-status.is, c.in_ok-word.ensures.ok) refl
+
+pub returns-in-retry : goal.returns-in-retry
+returns-in-retry c = rw (c.in-None.is, c.in-retry.is, c.in_ok-word.ensures.ok) refl
+
+pub returns-in_ok-from_str-in-new : goal.returns-in_ok-from_str-in-new
+returns-in_ok-from_str-in-new c = rw (c.in-Some.is, c.in-new.is, c.in_ok-word.ensures.ok, c.in_ok-from_str-in-new.ensures.ok) refl
