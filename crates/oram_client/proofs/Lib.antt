@@ -1,7 +1,7 @@
 pub mod Answered
 pub mod Formatted
 pub mod Greeted
-pub mod Patient
+pub mod Tries
 pub mod Letters
 pub mod Whole
 pub mod Lasting

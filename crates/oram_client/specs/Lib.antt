@@ -1,7 +1,7 @@
 pub mod KeptFile
 pub mod Keys
 pub mod FileKeeping
-pub mod Patience
+pub mod Reconnect
 pub mod Dialing
 pub mod Ahead
 pub mod Faults

@@ -4,7 +4,7 @@
 //! [`keys_for`] returns the keys of the disk with a head, if it gets the key that the disk was formatted with.
 //! A [`FileKeeper`] keeps a core's state in such a file, in a [`FilePlace`]. It does so in steps ([`put_file`]), and
 //! wherever the process ends between them, the file is found whole; [`kept_bytes`] reads it back.
-//! A [`PatientLink`] tries until the host answers, for as long as its patience lasts. A [`TcpDialer`] opens its
+//! A [`ReconnectLink`] tries until the host answers or the reconnect timeout has passed. A [`TcpDialer`] opens its
 //! connections, and only to a host that keeps the disk. [`given_up`] says what is wrong with a host once a link has
 //! given up.
 //! [`format_ahead`] formats a disk over an [`Ahead`], a connection that sends messages ahead of their answers.
@@ -21,8 +21,8 @@ mod file_step;
 mod identity;
 mod kept_file;
 mod keys;
-mod patient_link;
 mod place;
+mod reconnect_link;
 mod refusals;
 mod tcp_dialer;
 mod timed_link;
@@ -41,7 +41,7 @@ pub use keys::{
     DiskKey, Identity, KeyCheck, Salt, SealerKey, TapeKey, disk_identity, key_check, sealer_key,
     tape_key,
 };
-pub use patient_link::PatientLink;
 pub use place::{Place, files_stay_whole, put_file, synced_files_last};
+pub use reconnect_link::ReconnectLink;
 pub use tcp_dialer::TcpDialer;
 pub use timed_link::TimedLink;

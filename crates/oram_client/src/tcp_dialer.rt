@@ -6,7 +6,7 @@ ghost use Rattle.oram_client.specs.Dialing.{Shows, IsGreetedOver, IsUngreetedOve
 
 use crate::dialer::{Dial, Limits, Trouble};
 use crate::identity::IDENTITY_TREE;
-use crate::patient_link::elapsed;
+use crate::reconnect_link::elapsed;
 use crate::timed_link::{TimedLink, milliseconds};
 use oram_cli::connect_within;
 use oram_host::HostRefusal;

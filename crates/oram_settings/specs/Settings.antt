@@ -17,28 +17,28 @@ pub record DiskValue : Type 0 where
   pub size : ℕ
   pub block : ℕ
   pub slots : ℕ
-  pub entries : ℕ  -- of the client's table
+  pub table : ℕ  -- the most entries that the client's own table may have, which a device calls `top`
   pub sealer : Sealing
   pub key : List ℕ
   pub host : List ℕ
   pub listen : List ℕ
   pub state : List ℕ
   pub sync : Bool
-  pub patience : ℕ
+  pub reconnect_timeout : ℕ
 
 abbrev pub settings_value : DiskSettings → DiskValue
 settings_value s = record {
   size = s.size;
   block = s.block;
   slots = s.slots;
-  entries = s.table;
+  table = s.table;
   sealer = s.sealer;
   key = s.key;
   host = string_bytes s.host;
   listen = string_bytes s.listen;
   state = string_bytes s.state;
   sync = s.sync;
-  patience = s.patience;
+  reconnect_timeout = s.reconnect_timeout;
 }
 
 abbrev pub HasFlag : Members → List ℕ → Bool → Type 0
@@ -63,20 +63,20 @@ pub record IsPlace (text : List ℕ) : Type 0 where
 abbrev pub OrDefault : {X : Type 0} → Members → List ℕ → X → (X → Type 0) → X → Type 0
 OrDefault table key default P x = MatchOption (get_member key table) (x ≡ default) (λ _. P x)
 
--- the table has these settings
-pub record IsDisk (table : Members) (s : DiskValue) : Type 0 where
-  pub only : HasOnly (codes "size" ∷ codes "block" ∷ codes "slots" ∷ codes "table" ∷ codes "sealer" ∷ codes "key" ∷ codes "host" ∷ codes "listen" ∷ codes "state" ∷ codes "sync" ∷ codes "patience" ∷ []) table
-  pub size : HasNumber table (codes "size") s.size
-  pub block : OrDefault table (codes "block") 4096 (HasNumber table (codes "block")) s.block
-  pub slots : OrDefault table (codes "slots") 4 (HasNumber table (codes "slots")) s.slots
-  pub entries : OrDefault table (codes "table") 1024 (HasNumber table (codes "table")) s.entries
-  pub sealer : OrDefault table (codes "sealer") ChaCha (HasSealing table (codes "sealer")) s.sealer
-  pub key : HasHex table (codes "key") s.key
-  pub host : HasText table (codes "host") s.host × IsAddress s.host
-  pub listen : OrDefault table (codes "listen") (codes "unix:disk.sock") (λ text. HasText table (codes "listen") text × IsPlace text) s.listen
-  pub state : OrDefault table (codes "state") (codes "disk.state") (λ text. HasText table (codes "state") text × IsName text) s.state
-  pub sync : OrDefault table (codes "sync") true (HasFlag table (codes "sync")) s.sync
-  pub patience : OrDefault table (codes "patience") 600 (λ n. HasNumber table (codes "patience") n × IsCount n) s.patience
+-- a document's table has these settings; `members` are its keys with their values
+pub record IsDisk (members : Members) (s : DiskValue) : Type 0 where
+  pub only : HasOnly (codes "size" ∷ codes "block" ∷ codes "slots" ∷ codes "table" ∷ codes "sealer" ∷ codes "key" ∷ codes "host" ∷ codes "listen" ∷ codes "state" ∷ codes "sync" ∷ codes "reconnect_timeout" ∷ []) members
+  pub size : HasNumber members (codes "size") s.size
+  pub block : OrDefault members (codes "block") 4096 (HasNumber members (codes "block")) s.block
+  pub slots : OrDefault members (codes "slots") 4 (HasNumber members (codes "slots")) s.slots
+  pub table : OrDefault members (codes "table") 1024 (HasNumber members (codes "table")) s.table
+  pub sealer : OrDefault members (codes "sealer") ChaCha (HasSealing members (codes "sealer")) s.sealer
+  pub key : HasHex members (codes "key") s.key
+  pub host : HasText members (codes "host") s.host × IsAddress s.host
+  pub listen : OrDefault members (codes "listen") (codes "unix:disk.sock") (λ text. HasText members (codes "listen") text × IsPlace text) s.listen
+  pub state : OrDefault members (codes "state") (codes "disk.state") (λ text. HasText members (codes "state") text × IsName text) s.state
+  pub sync : OrDefault members (codes "sync") true (HasFlag members (codes "sync")) s.sync
+  pub reconnect_timeout : OrDefault members (codes "reconnect_timeout") 600 (λ n. HasNumber members (codes "reconnect_timeout") n × IsCount n) s.reconnect_timeout
 
 -- the text is a TOML document whose table has these settings
 abbrev pub IsDocumentOf : List ℕ → DiskValue → Type 0
@@ -94,4 +94,4 @@ first_text size key =
     ∷ decimal size
     ∷ codes "\n\n# Whoever has this key can read the disk. Without it nobody can.\nkey = \""
     ∷ encode_lower key
-    ∷ codes "\"\n\n# Where the host is reached: your end of the tunnel.\nhost = \"127.0.0.1:7001\"\n\n# Each line below shows what holds without it. To set another value, take away the \"# \" that the line begins with.\n\n# These four are fixed once the disk is formatted.\n# block = 4096               # the bytes of a block\n# slots = 4                  # how many blocks a bucket has room for\n# table = 1024               # the most entries of the table that the client keeps\n# sealer = \"chacha\"          # how buckets are sealed; \"plain\" hides nothing, and is for tries\n\n# These may be changed at any time.\n# listen = \"unix:disk.sock\"  # where the disk is served: a socket in this folder, for you alone; or \"127.0.0.1:PORT\", for all users of this machine\n# state = \"disk.state\"       # the file of the disk's state, in this folder\n# sync = true                # each state is synced before it counts\n# patience = 600             # for how many seconds a host that is out of reach is waited for\n" ∷ [])
+    ∷ codes "\"\n\n# Where the host is reached: your end of the tunnel.\nhost = \"127.0.0.1:7001\"\n\n# Each line below shows what holds without it. To set another value, take away the \"# \" that the line begins with.\n\n# These four are fixed once the disk is formatted.\n# block = 4096               # the bytes of a block\n# slots = 4                  # how many blocks a bucket has room for\n# table = 1024               # the most entries of the table that the client keeps\n# sealer = \"chacha\"          # how buckets are sealed; \"plain\" hides nothing, and is for tries\n\n# These may be changed at any time.\n# listen = \"unix:disk.sock\"  # where the disk is served: a socket in this folder, for you alone; or \"127.0.0.1:PORT\", for all users of this machine\n# state = \"disk.state\"       # the file of the disk's state, in this folder\n# sync = true                # each state is synced before it counts\n# reconnect_timeout = 600    # for how many seconds a host that is out of reach is waited for\n" ∷ [])

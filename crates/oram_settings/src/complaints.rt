@@ -100,7 +100,7 @@ const DISK: [Setting; 11] = [
         is_required: false,
     },
     Setting {
-        key: "patience",
+        key: "reconnect_timeout",
         kind: Kind::Seconds,
         is_required: false,
     },
@@ -157,6 +157,14 @@ fn place_of(alloc: Global, name: &str, text: &str, key: &str) -> Result<String, 
     String::from_str(alloc, name)
 }
 
+/// Returns whether a word was meant for a key: it has few wrong letters, or it is what the key was called before.
+fn is_meant(alloc: Global, word: &str, key: &str) -> Result<bool, AllocError> {
+    if word == "patience" && key == "reconnect_timeout" {
+        return Ok(true);
+    }
+    Ok(levenshtein(alloc, word, key)? <= FEW_LETTERS)
+}
+
 /// Returns the key of a setting that a word was meant for.
 fn nearest_key(
     alloc: Global,
@@ -164,7 +172,7 @@ fn nearest_key(
     settings: &[Setting],
 ) -> Result<Option<&'static str>, AllocError> {
     for setting in settings {
-        if levenshtein(alloc, word, setting.key)? <= FEW_LETTERS {
+        if is_meant(alloc, word, setting.key)? {
             return Ok(Some(setting.key));
         }
     }

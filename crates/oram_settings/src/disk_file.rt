@@ -24,11 +24,11 @@ pub const DEFAULT_BLOCK: u64 = 4_096;
 /// The default number of slots of a bucket.
 pub const DEFAULT_SLOTS: u64 = 4;
 
-/// The default number of entries of the client's table.
+/// The default number of entries that the client's own table may have at most.
 pub const DEFAULT_TABLE: u64 = 1_024;
 
-/// The default number of seconds for which a disk waits for a host that is out of reach.
-const DEFAULT_PATIENCE: u64 = 600;
+/// The default reconnect timeout in seconds.
+const DEFAULT_RECONNECT_TIMEOUT: u64 = 600;
 
 /// How buckets are sealed.
 #[derive(Clone, Copy, Debug, PartialEq, Eq)]
@@ -48,7 +48,7 @@ pub struct DiskSettings {
     pub block: u64,
     /// The number of slots of a bucket.
     pub slots: u64,
-    /// The greatest number of entries of the client's table.
+    /// The most entries that the client's own table may have, which a device calls `top`.
     pub table: u64,
     pub sealer: Sealing,
     /// The key from which the disk's other keys are derived.
@@ -62,8 +62,8 @@ pub struct DiskSettings {
     pub state: String,
     /// Each state that is kept is synced before it counts.
     pub sync: bool,
-    /// For how many seconds the disk waits for a host that is out of reach.
-    pub patience: u64,
+    /// The reconnect timeout: for how many seconds the disk waits for a host that is out of reach.
+    pub reconnect_timeout: u64,
 }
 
 // No key is shown.
@@ -196,41 +196,50 @@ fn place_or<'a>(table: &'a Table, key: &str, default: &'a str) -> Result<&'a str
     }
 }
 
-fn disk_in(alloc: Global, table: &Table) -> Result<DiskSettings, InputFault>
-    ensures { Finds settings_value (IsDisk (table_view table.now)) result }
+fn disk_in(alloc: Global, document: &Table) -> Result<DiskSettings, InputFault>
+    ensures { Finds settings_value (IsDisk (table_view document.now)) result }
 {
     if !has_only(
-        table,
+        document,
         &[
-            "size", "block", "slots", "table", "sealer", "key", "host", "listen", "state", "sync",
-            "patience",
+            "size",
+            "block",
+            "slots",
+            "table",
+            "sealer",
+            "key",
+            "host",
+            "listen",
+            "state",
+            "sync",
+            "reconnect_timeout",
         ],
     ) {
         return Err(InputFault::Bad);
     }
-    let size = number_at(table, "size")?;
-    let block = number_or(table, "block", DEFAULT_BLOCK)?;
-    let slots = number_or(table, "slots", DEFAULT_SLOTS)?;
-    let entries = number_or(table, "table", DEFAULT_TABLE)?;
-    let sealer = sealing_or(table, "sealer", Sealing::ChaCha)?;
-    let key = key_at(table, "key")?;
-    let host = address_at(table, "host")?;
-    let listen = place_or(table, "listen", "unix:disk.sock")?;
-    let state = name_or(table, "state", "disk.state")?;
-    let sync = flag_or(table, "sync", true)?;
-    let patience = count_or(table, "patience", DEFAULT_PATIENCE)?;
+    let size = number_at(document, "size")?;
+    let block = number_or(document, "block", DEFAULT_BLOCK)?;
+    let slots = number_or(document, "slots", DEFAULT_SLOTS)?;
+    let table = number_or(document, "table", DEFAULT_TABLE)?;
+    let sealer = sealing_or(document, "sealer", Sealing::ChaCha)?;
+    let key = key_at(document, "key")?;
+    let host = address_at(document, "host")?;
+    let listen = place_or(document, "listen", "unix:disk.sock")?;
+    let state = name_or(document, "state", "disk.state")?;
+    let sync = flag_or(document, "sync", true)?;
+    let reconnect_timeout = count_or(document, "reconnect_timeout", DEFAULT_RECONNECT_TIMEOUT)?;
     Ok(DiskSettings {
         size,
         block,
         slots,
-        table: entries,
+        table,
         sealer,
         key,
         host: String::from_str(alloc, host)?,
         listen: String::from_str(alloc, listen)?,
         state: String::from_str(alloc, state)?,
         sync,
-        patience,
+        reconnect_timeout,
     })
 }
 
@@ -266,6 +275,6 @@ pub fn disk_text(alloc: Global, size: u64, key: &[u8; 32]) -> Result<String, All
     let key = encode(alloc, key)?;
     let key = key.as_str();
     format!(in alloc;
-        "# The disk's size in bytes. It is fixed once the disk is formatted.\nsize = {size}\n\n# Whoever has this key can read the disk. Without it nobody can.\nkey = \"{key}\"\n\n# Where the host is reached: your end of the tunnel.\nhost = \"127.0.0.1:7001\"\n\n# Each line below shows what holds without it. To set another value, take away the \"# \" that the line begins with.\n\n# These four are fixed once the disk is formatted.\n# block = 4096               # the bytes of a block\n# slots = 4                  # how many blocks a bucket has room for\n# table = 1024               # the most entries of the table that the client keeps\n# sealer = \"chacha\"          # how buckets are sealed; \"plain\" hides nothing, and is for tries\n\n# These may be changed at any time.\n# listen = \"unix:disk.sock\"  # where the disk is served: a socket in this folder, for you alone; or \"127.0.0.1:PORT\", for all users of this machine\n# state = \"disk.state\"       # the file of the disk's state, in this folder\n# sync = true                # each state is synced before it counts\n# patience = 600             # for how many seconds a host that is out of reach is waited for\n"
+        "# The disk's size in bytes. It is fixed once the disk is formatted.\nsize = {size}\n\n# Whoever has this key can read the disk. Without it nobody can.\nkey = \"{key}\"\n\n# Where the host is reached: your end of the tunnel.\nhost = \"127.0.0.1:7001\"\n\n# Each line below shows what holds without it. To set another value, take away the \"# \" that the line begins with.\n\n# These four are fixed once the disk is formatted.\n# block = 4096               # the bytes of a block\n# slots = 4                  # how many blocks a bucket has room for\n# table = 1024               # the most entries of the table that the client keeps\n# sealer = \"chacha\"          # how buckets are sealed; \"plain\" hides nothing, and is for tries\n\n# These may be changed at any time.\n# listen = \"unix:disk.sock\"  # where the disk is served: a socket in this folder, for you alone; or \"127.0.0.1:PORT\", for all users of this machine\n# state = \"disk.state\"       # the file of the disk's state, in this folder\n# sync = true                # each state is synced before it counts\n# reconnect_timeout = 600    # for how many seconds a host that is out of reach is waited for\n"
     )
 }

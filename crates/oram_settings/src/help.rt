@@ -32,7 +32,7 @@ disk.toml sets size, key and host, and may set more. What holds where it is left
   listen = \"unix:disk.sock\"  where the disk is served: a socket in its folder, for you alone; or \"127.0.0.1:PORT\", for all users
   state = \"disk.state\"       the file of the disk's state, in its folder
   sync = true                each state is synced before it counts
-  patience = 600             for how many seconds a host that is out of reach is waited for
+  reconnect_timeout = 600    for how many seconds a host that is out of reach is waited for
 
 Example:
   oramdisk new mydisk --size 1GiB";

@@ -8,7 +8,7 @@ use crate::failures::{keep_failure, kept_failure};
 use crate::watched_disk::{FailureKeeper, WatchedDisk};
 use oram_bucket::{ChaChaSeal, PlainSeal, Sealer};
 use oram_client::{
-    FileKeeper, FilePlace, Head, HostWatch, Keys, PatientLink, SealerKind, TcpDialer, given_up,
+    FileKeeper, FilePlace, Head, HostWatch, Keys, ReconnectLink, SealerKind, TcpDialer, given_up,
 };
 use oram_core::{Core, Reason};
 use oram_disk_host::{Fault, FaultKind, listen_at, not_accepted, time};
@@ -226,7 +226,7 @@ fn serve_clients<D: BlockDevice>(
 }
 
 /// The link to a disk's host.
-type HostLink<'a> = PatientLink<TcpDialer<&'a HostRuntime>, HostStatusPrinter<'a, HostRuntime>>;
+type HostLink<'a> = ReconnectLink<TcpDialer<&'a HostRuntime>, HostStatusPrinter<'a, HostRuntime>>;
 
 /// A core with the keeper of its file and the link to its host.
 type DiskVolume<'a, S> = Volume<
@@ -290,7 +290,7 @@ fn link_to<'a>(
         rt,
         host: String::from_str(alloc, host)?,
     };
-    Ok(PatientLink::new(alloc, dialer, watch, settings.patience))
+    Ok(ReconnectLink::new(alloc, dialer, watch, settings.reconnect_timeout))
 }
 
 /// Serves the disk of a core, until it stops.

@@ -1,6 +1,6 @@
 //! A link that tries until its host answers.
 
-use oram_client::{Dial, HostWatch, Limits, PatientLink, Trouble};
+use oram_client::{Dial, HostWatch, Limits, ReconnectLink, Trouble};
 use oram_host::HostRefusal;
 use oram_session::{Link, LinkFault};
 use oram_wire::REFUSED;
@@ -192,7 +192,7 @@ impl<'a> HostWatch for News<'a> {
 /// `idle` for a thousand seconds.
 fn ask<'a>(
     alloc: Global,
-    link: &mut PatientLink<Script<'a>, News<'a>>,
+    link: &mut ReconnectLink<Script<'a>, News<'a>>,
     play: &Play<'a>,
     word: &str,
     page: &mut Page,
@@ -227,7 +227,7 @@ fn perform(
     words: &mut RowWords,
     page: &mut Page,
 ) -> Result<(), RowFault> {
-    let mut link = PatientLink::new(alloc, Script(play), News(play), seconds);
+    let mut link = ReconnectLink::new(alloc, Script(play), News(play), seconds);
     for _ in 0..u64::MAX {
         if words.is_empty() {
             break;
@@ -238,16 +238,16 @@ fn perform(
     page.number(link.faults());
     match link.trouble() {
         Some(trouble) => page.show(&trouble),
-        None => page.word("patient"),
+        None => page.word("usable"),
     }
     Ok(())
 }
 
-/// `link plays SECONDS CLOCK LETTERS WORDS`: a link with `SECONDS` of patience does what the words say, with a clock
-/// that `ticks` or `fails`; the letters decide about its tries and calls. Writes the answers to the words, how many
-/// faults the link had, and why it gave up, or that it is `patient`; how many connections it tried to open and how many
-/// calls went over them; how many milliseconds it paused and how many passed; and how many times the host was lost, had
-/// no room, and was back.
+/// `link plays SECONDS CLOCK LETTERS WORDS`: a link with a reconnect timeout of `SECONDS` does what the words say, with a
+/// clock that `ticks` or `fails`; the letters decide about its tries and calls. Writes the answers to the words, how many
+/// faults the link had, and why it gave up, or that it is still `usable`; how many connections it tried to open and how
+/// many calls went over them; how many milliseconds it paused and how many passed; and how many times the host was lost,
+/// had no room, and was back.
 fn plays(alloc: Global, words: &mut RowWords, page: &mut Page) -> Result<(), RowFault> {
     let seconds = words.number();
     let has_clock = match words.text() {

@@ -8,7 +8,7 @@ use rows::{Page, RowFault, RowWords};
 use std::alloc::Global;
 
 /// `disk TEXT`: writes the settings in a document: size, block, slots, table, sealer, key, host, listen, state, sync
-/// and patience.
+/// and the reconnect timeout.
 pub fn disk(alloc: Global, words: &mut RowWords, page: &mut Page) -> Result<(), RowFault> {
     let text = words.lines(alloc);
     put_settings(alloc, text.as_str(), page)
@@ -41,7 +41,7 @@ fn put_names(settings: &DiskSettings, page: &mut Page) {
     page.word(settings.listen.as_str());
     page.word(settings.state.as_str());
     page.flag(settings.sync);
-    page.number(settings.patience);
+    page.number(settings.reconnect_timeout);
 }
 
 /// `device SIZE BLOCK SLOTS TABLE`: writes how many trees and blocks the device of such a disk has.
@@ -123,7 +123,7 @@ pub fn differs(alloc: Global, words: &mut RowWords, page: &mut Page) -> Result<(
         listen: String::new(alloc),
         state: String::new(alloc),
         sync: false,
-        patience: 1,
+        reconnect_timeout: 1,
     };
     let size = words.number();
     let block = words.number();

@@ -17,10 +17,10 @@ returns-in_err-slots c =
     let p = err_from_is_err_and c.from_residual-in_err-slots.result c.from_residual-in_err-slots.ensures.1 in
     rw (p.1, p.2) (no_disk _ _ c.in_err-slots.ensures (λ s. s.slots) (λ s h. h.slots))
 
-pub returns-in_err-entries : goal.returns-in_err-entries
-returns-in_err-entries c =
-    let p = err_from_is_err_and c.from_residual-in_err-entries.result c.from_residual-in_err-entries.ensures.1 in
-    rw (p.1, p.2) (no_disk _ _ c.in_err-entries.ensures (λ s. s.entries) (λ s h. h.entries))
+pub returns-in_err-table : goal.returns-in_err-table
+returns-in_err-table c =
+    let p = err_from_is_err_and c.from_residual-in_err-table.result c.from_residual-in_err-table.ensures.1 in
+    rw (p.1, p.2) (no_disk _ _ c.in_err-table.ensures (λ s. s.table) (λ s h. h.table))
 
 pub returns-in_err-sealer : goal.returns-in_err-sealer
 returns-in_err-sealer c =
@@ -52,7 +52,7 @@ returns-in_err-sync c =
     let p = err_from_is_err_and c.from_residual-in_err-sync.result c.from_residual-in_err-sync.ensures.1 in
     rw (p.1, p.2) (no_disk _ _ c.in_err-sync.ensures (λ s. s.sync) (λ s h. h.sync))
 
-pub returns-in_err-patience : goal.returns-in_err-patience
-returns-in_err-patience c =
-    let p = err_from_is_err_and c.from_residual-in_err-patience.result c.from_residual-in_err-patience.ensures.1 in
-    rw (p.1, p.2) (no_disk _ _ c.in_err-patience.ensures (λ s. s.patience) (λ s h. h.patience))
+pub returns-in_err-reconnect_timeout : goal.returns-in_err-reconnect_timeout
+returns-in_err-reconnect_timeout c =
+    let p = err_from_is_err_and c.from_residual-in_err-reconnect_timeout.result c.from_residual-in_err-reconnect_timeout.ensures.1 in
+    rw (p.1, p.2) (no_disk _ _ c.in_err-reconnect_timeout.ensures (λ s. s.reconnect_timeout) (λ s h. h.reconnect_timeout))

@@ -1,4 +1,4 @@
--- A link that tries until its host answers, for as long as its patience lasts.
+-- A link that tries until its host answers or its reconnect timeout has passed. All times are in milliseconds.
 use Rattle.std.specs.Prelude.{◌≡◌, ◌≢◌, ℕ, ◌-◌, ◌*◌, ◌<◌, min, max, cond, List, Option, None, Some, Result, Ok, Err, MatchOption, MatchResult, ◌⊎◌}
 use Rattle.std.specs.Global.{Vec}
 use Rattle.std.specs.List.{FoldsTo}
@@ -10,11 +10,11 @@ use Rattle.oram_client.specs.declared.dialer.Limits.{Limits}
 use Rattle.oram_client.specs.declared.dialer.Trouble.{Trouble}
 use Rattle.oram_client.specs.declared.dialer.Trouble.TheVariants.{OutOfReach, NoRoom}
 
--- a patient link: what opens its connections, the open connection, and times in milliseconds
-pub record Patient (D L : Type 0) : Type 0 where
+-- the state of such a link: what opens its connections, and the open connection
+pub record ReconnectState (D L : Type 0) : Type 0 where
   pub dialer : D
   pub line : Option L
-  pub patience : ℕ
+  pub reconnect_timeout : ℕ
   pub trouble : Option Trouble  -- why it gave up, once it has
   pub faults : ℕ  -- how many calls had a fault
 
@@ -45,9 +45,9 @@ first_pause = 100
 abbrev pub most_pause : ℕ
 most_pause = 5000
 
--- how long a try may take, given the whole patience and what is left of it
+-- how long a try may take, given the reconnect timeout and the time that is left of it
 abbrev pub limits : ℕ → ℕ → Limits
-limits patience left = record { opening = max left 1; silence = max 1000 (min patience 60000); answering = max patience 1000 }
+limits reconnect_timeout left = record { opening = max left 1; silence = max 1000 (min reconnect_timeout 60000); answering = max reconnect_timeout 1000 }
 
 -- the time between two readings of the clock, or 0 where one of them failed
 abbrev pub elapsed : Option ℕ → Option ℕ → ℕ
@@ -55,10 +55,10 @@ elapsed (Some from) (Some to) = to - from
 elapsed (Some from) None = 0
 elapsed None to = 0
 
--- What is left of the patience after a trouble, when the clock reads `now`. Pauses count even where the clock can't be
--- read, and nothing is left where the trouble won't pass.
-abbrev pub left_at : (patience : ℕ) (begin : Option ℕ) (left : ℕ) → Trouble → (now : Option ℕ) → ℕ
-left_at patience begin left trouble now = cond (may_pass trouble) (min left (patience - elapsed begin now)) 0
+-- The time that is left of the reconnect timeout after a trouble, when the clock reads `now`. Pauses count even where
+-- the clock can't be read, and no time is left where the trouble won't pass.
+abbrev pub time_left : (reconnect_timeout : ℕ) (begin : Option ℕ) (left : ℕ) → Trouble → (now : Option ℕ) → ℕ
+time_left reconnect_timeout begin left trouble now = cond (may_pass trouble) (min left (reconnect_timeout - elapsed begin now)) 0
 
 -- for dialers that open connections by `opens` or fail by `fails`, and connections with calls by `calls`
 module _ {D L : Type 0} (opens : D → Limits → L → D → Type 0) (fails : D → Limits → Trouble → D → Type 0) (calls : L → List ℕ → Outcome → L → Type 0) where
@@ -86,70 +86,70 @@ module _ {D L : Type 0} (opens : D → Limits → L → D → Type 0) (fails : D
   abbrev pub IsTried : D → Option L → Limits → List ℕ → Attempt → D → Option L → Type 0
   IsTried dialer line limits body came dialer' line' = IsUnopened dialer line limits came dialer' line' ⊎ IsCalled dialer line limits body came dialer' line'
 
--- for dialers that pause by `pauses` and read the clock by `reads`, with this much patience since the clock read
+-- for dialers that pause by `pauses` and read the clock by `reads`, with this reconnect timeout since the clock read
 -- `begin`
-module _ {D : Type 0} (pauses : D → ℕ → D → Type 0) (reads : D → Option ℕ → D → Type 0) (patience : ℕ) (begin : Option ℕ) where
-  -- There is a pause, which isn't longer than what is left. The next one is twice as long, up to the longest.
+module _ {D : Type 0} (pauses : D → ℕ → D → Type 0) (reads : D → Option ℕ → D → Type 0) (reconnect_timeout : ℕ) (begin : Option ℕ) where
+  -- There is a pause, which isn't longer than the time that is left. The next one is twice as long, up to the longest.
   pub record IsPaused (dialer : D) (pause left : ℕ) (trouble : Trouble) (dialer' : D) (pause' left' : ℕ) : Type 0 where
     pub now : Option ℕ
     pub mid : D
     pub read : reads dialer now mid
-    pub more : 0 < left_at patience begin left trouble now
-    pub paused : pauses mid (min pause (left_at patience begin left trouble now)) dialer'
+    pub more : 0 < time_left reconnect_timeout begin left trouble now
+    pub paused : pauses mid (min pause (time_left reconnect_timeout begin left trouble now)) dialer'
     pub next : pause' ≡ min (2 * pause) most_pause
-    pub less : left' ≡ left_at patience begin left trouble now - min pause (left_at patience begin left trouble now)
+    pub less : left' ≡ time_left reconnect_timeout begin left trouble now - min pause (time_left reconnect_timeout begin left trouble now)
 
-  -- No patience is left.
-  pub record IsUsedUp (dialer : D) (left : ℕ) (trouble : Trouble) (dialer' : D) : Type 0 where
+  -- No time is left.
+  pub record IsTimedOut (dialer : D) (left : ℕ) (trouble : Trouble) (dialer' : D) : Type 0 where
     pub now : Option ℕ
     pub read : reads dialer now dialer'
-    pub none_left : left_at patience begin left trouble now ≡ 0
+    pub none_left : time_left reconnect_timeout begin left trouble now ≡ 0
 
 -- what the next try starts with
 pub record Waiting (D L : Type 0) : Type 0 where
   pub dialer : D
   pub line : Option L
   pub pause : ℕ  -- the next one
-  pub left : ℕ  -- what is left of the patience
+  pub left : ℕ  -- what is left of the reconnect timeout
 
 -- for dialers and connections that do all of this by these relations
 module _ {D L : Type 0} (opens : D → Limits → L → D → Type 0) (fails : D → Limits → Trouble → D → Type 0) (pauses : D → ℕ → D → Type 0)
     (reads : D → Option ℕ → D → Type 0) (calls : L → List ℕ → Outcome → L → Type 0) where
   -- A try brings nothing to give, and there is a pause.
-  pub record IsDelayed (patience : ℕ) (begin : Option ℕ) (body : List ℕ) (w : Waiting D L) (trouble : Trouble) (x : Waiting D L) : Type 0 where
+  pub record IsDelayed (reconnect_timeout : ℕ) (begin : Option ℕ) (body : List ℕ) (w : Waiting D L) (trouble : Trouble) (x : Waiting D L) : Type 0 where
     pub came : Attempt
     pub mid : D
-    pub tried : IsTried opens fails calls w.dialer w.line (limits patience w.left) body came mid x.line
+    pub tried : IsTried opens fails calls w.dialer w.line (limits reconnect_timeout w.left) body came mid x.line
     pub shows : IsTroubleIn came (Some trouble)
-    pub paused : IsPaused pauses reads patience begin mid w.pause w.left trouble x.dialer x.pause x.left
+    pub paused : IsPaused pauses reads reconnect_timeout begin mid w.pause w.left trouble x.dialer x.pause x.left
 
   -- The same message is tried again and again, with a pause after each try but the last. The last one brings an answer
-  -- to give, or no patience is left after it.
-  pub record Persists (l : Patient D L) (body : List ℕ) (outcome : Outcome) (dialer : D) (line : Option L) (trouble : Option Trouble) : Type 0 where
+  -- to give, or no time is left after it.
+  pub record MakesTries (l : ReconnectState D L) (body : List ℕ) (outcome : Outcome) (dialer : D) (line : Option L) (trouble : Option Trouble) : Type 0 where
     pub begin : Option ℕ
     pub first : D
     pub read : reads l.dialer begin first
     pub troubles : List Trouble
     pub last : Waiting D L
-    pub delays : FoldsTo (IsDelayed l.patience begin body) (record { dialer = first; line = l.line; pause = first_pause; left = l.patience }) troubles last
+    pub delays : FoldsTo (IsDelayed l.reconnect_timeout begin body) (record { dialer = first; line = l.line; pause = first_pause; left = l.reconnect_timeout }) troubles last
     pub came : Attempt
     pub mid : D
-    pub tried : IsTried opens fails calls last.dialer last.line (limits l.patience last.left) body came mid line
+    pub tried : IsTried opens fails calls last.dialer last.line (limits l.reconnect_timeout last.left) body came mid line
     pub shows : IsTroubleIn came trouble
-    pub ends : MatchOption trouble (dialer ≡ mid) (λ why. IsUsedUp pauses reads l.patience begin mid last.left why dialer)
+    pub ends : MatchOption trouble (dialer ≡ mid) (λ why. IsTimedOut pauses reads l.reconnect_timeout begin mid last.left why dialer)
     pub says : outcome ≡ link_outcome came
 
   -- A link that has given up tries nothing.
-  pub record IsGivenUp (l : Patient D L) (outcome : Outcome) (dialer : D) (line : Option L) (trouble : Option Trouble) : Type 0 where
+  pub record IsGivenUp (l : ReconnectState D L) (outcome : Outcome) (dialer : D) (line : Option L) (trouble : Option Trouble) : Type 0 where
     pub says : outcome ≡ Err Closed
     pub same_dialer : dialer ≡ l.dialer
     pub same_line : line ≡ l.line
     pub same_trouble : trouble ≡ l.trouble
 
-  abbrev pub Passes : Patient D L → List ℕ → Outcome → Patient D L → Type 0
-  Passes l body outcome m = MatchOption l.trouble (Persists l body outcome m.dialer m.line m.trouble) (λ why. IsGivenUp l outcome m.dialer m.line m.trouble)
+  abbrev pub Passes : ReconnectState D L → List ℕ → Outcome → ReconnectState D L → Type 0
+  Passes l body outcome m = MatchOption l.trouble (MakesTries l body outcome m.dialer m.line m.trouble) (λ why. IsGivenUp l outcome m.dialer m.line m.trouble)
 
-  pub record PatientCall (l : Patient D L) (body : List ℕ) (outcome : Outcome) (m : Patient D L) : Type 0 where
+  pub record ReconnectCall (l : ReconnectState D L) (body : List ℕ) (outcome : Outcome) (m : ReconnectState D L) : Type 0 where
     pub answer : Passes l body outcome m
-    pub patience : m.patience ≡ l.patience
+    pub reconnect_timeout : m.reconnect_timeout ≡ l.reconnect_timeout
     pub faults : m.faults ≡ faults_after l.faults outcome

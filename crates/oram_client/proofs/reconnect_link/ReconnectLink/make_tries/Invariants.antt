@@ -1,12 +1,12 @@
 use Rattle.std.proofs.Common.{◌≡◌, ◌<◌, ◌≤◌, None}
-use Rattle.oram_client.proofs.Patient.{Delayed}
-use Rattle.oram_client.proofs.patient_link.PatientLink.persist.Given as goal
+use Rattle.oram_client.proofs.Tries.{Delayed}
+use Rattle.oram_client.proofs.reconnect_link.ReconnectLink.make_tries.Given as goal
 
 abbrev pub invariant-loop-trouble : goal.invariant-loop-trouble
 invariant-loop-trouble g l = record {
   delays : Delayed g.D.Dial.opens g.D.Dial.fails g.D.Dial.pauses g.D.Dial.reads g.D.Line.Link.calls
-      l.fn.self.patience l.begin l.fn.body l.initial.self.dialer l.fn.self.line l.self.dialer l.self.line l.wait.pause l.wait.left;
-  patience : l.self.patience ≡ l.fn.self.patience;
+      l.fn.self.reconnect_timeout l.begin l.fn.body l.initial.self.dialer l.fn.self.line l.self.dialer l.self.line l.wait.pause l.wait.left;
+  reconnect_timeout : l.self.reconnect_timeout ≡ l.fn.self.reconnect_timeout;
   trouble : l.self.trouble ≡ None;
   faults : l.self.faults ≡ l.fn.self.faults;
   some : 0 < l.wait.pause;

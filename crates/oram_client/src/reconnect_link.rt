@@ -1,7 +1,7 @@
 //! A link that tries until its host answers.
 ghost use Rattle.std.specs.Prelude.{◌≡◌, ◌*◌, ◌-◌, ◌<◌, ◌≤◌, ◌^◌, [], None, Some, min, IfOk, IfErr, IfSome, IsOk, MatchOption};
 ghost use Rattle.oram_session.specs.Outcome.{Outcome, outcome_of};
-ghost use Rattle.oram_client.specs.Patience.{HasLine, IsPaused, IsTried, IsTroubleIn, IsUsedUp, Passes, PatientCall, Persists, attempt_of, elapsed, left_at, limits, link_outcome};
+ghost use Rattle.oram_client.specs.Reconnect.{HasLine, IsPaused, IsTimedOut, IsTried, IsTroubleIn, MakesTries, Passes, ReconnectCall, attempt_of, elapsed, limits, link_outcome, time_left};
 
 use crate::dialer::{Dial, HostWatch, Limits, Trouble};
 use oram_host::HostRefusal;
@@ -63,36 +63,36 @@ impl<W: HostWatch> TroubleReporter<W> {
 struct Wait {
     /// The next pause.
     pause: u64,
-    /// How much patience is left.
+    /// How much time is left of the reconnect timeout.
     left: u64,
 }
 
 /// A link that opens its connection again after losing it.
 ///
-/// A call tries until it has an answer, or until its patience is used up. If a call over a connection has a fault, the
+/// A call tries until it has an answer, or until the reconnect timeout. If a call over a connection has a fault, the
 /// link closes that connection and sends the same message over a new one; if the host has no room, it sends the message
 /// again over the same one. It pauses before each try but the first. Sending a message again changes nothing at an
 /// honest host, which carries it out once more with the same result; a session repeats a message after a fault in the
-/// same manner. The patience is time by the clock from the beginning of the call, so a link that nobody uses loses
-/// none. Once it is used up, or the host turned out to keep another disk or none, later calls try nothing.
+/// same manner. The reconnect timeout is time by the clock from the beginning of the call: while nobody uses the link,
+/// it doesn't run. Once it has passed, or the host turned out to keep another disk or none, later calls try nothing.
 #[derive(Debug, Drop)]
-pub struct PatientLink<D: Dial, W> {
+pub struct ReconnectLink<D: Dial, W> {
     dialer: D,
     news: TroubleReporter<W>,
     line: Option<D::Line>,
     /// In milliseconds.
-    patience: u64,
+    reconnect_timeout: u64,
     /// Why the link gave up.
     trouble: Option<Trouble>,
     faults: u64,
 }
 
-impl<D: Dial, W> Model for PatientLink<D, W> {
-    ghost use Rattle.oram_client.specs.Patience.{Patient};
+impl<D: Dial, W> Model for ReconnectLink<D, W> {
+    ghost use Rattle.oram_client.specs.Reconnect.{ReconnectState};
 
-    ghost Value = { Patient D D.Line };
+    ghost Value = { ReconnectState D D.Line };
 
-    ghost view = { λ l. record { dialer = l.dialer; line = l.line; patience = l.patience; trouble = l.trouble; faults = l.faults } };
+    ghost view = { λ l. record { dialer = l.dialer; line = l.line; reconnect_timeout = l.reconnect_timeout; trouble = l.trouble; faults = l.faults } };
 }
 
 /// Returns why an attempt brought nothing to give to the caller; `None` if it brought an answer to give.
@@ -127,33 +127,39 @@ pub(crate) fn elapsed(begin: Option<u64>, now: Option<u64>) -> u64
     }
 }
 
-/// Returns how much patience is left after `trouble`: none if the trouble won't pass.
-fn left_at(patience: u64, begin: Option<u64>, left: u64, trouble: Trouble, now: Option<u64>) -> u64
-    ensures left { result ≡ left_at patience begin left trouble now }
+/// Returns how much time is left of the reconnect timeout after `trouble`: none if the trouble won't pass.
+fn time_left(
+    reconnect_timeout: u64,
+    begin: Option<u64>,
+    left: u64,
+    trouble: Trouble,
+    now: Option<u64>,
+) -> u64
+    ensures left { result ≡ time_left reconnect_timeout begin left trouble now }
     ensures most { result ≤ left }
 {
     if trouble.may_pass() {
-        left.min(patience.saturating_sub(elapsed(begin, now)))
+        left.min(reconnect_timeout.saturating_sub(elapsed(begin, now)))
     } else {
         0
     }
 }
 
-impl<D: Dial, W: HostWatch> PatientLink<D, W> {
-    /// Makes a link with no connection yet and with `seconds` of patience. Allocates nothing.
-    pub fn new(_alloc: Global, dialer: D, watch: W, seconds: u64) -> PatientLink<D, W>
-        ensures { result ≡ record { dialer = dialer; line = None; patience = min (seconds * 1000) (2 ^ 64 - 1); trouble = None; faults = 0 } }
+impl<D: Dial, W: HostWatch> ReconnectLink<D, W> {
+    /// Makes a link with no connection yet and with a reconnect timeout of `seconds`. Allocates nothing.
+    pub fn new(_alloc: Global, dialer: D, watch: W, seconds: u64) -> ReconnectLink<D, W>
+        ensures { result ≡ record { dialer = dialer; line = None; reconnect_timeout = min (seconds * 1000) (2 ^ 64 - 1); trouble = None; faults = 0 } }
     {
         let news = TroubleReporter {
             watch,
             lost: false,
             full: false,
         };
-        PatientLink {
+        ReconnectLink {
             dialer,
             news,
             line: None,
-            patience: seconds.saturating_mul(1_000),
+            reconnect_timeout: seconds.saturating_mul(1_000),
             trouble: None,
             faults: 0,
         }
@@ -170,7 +176,7 @@ impl<D: Dial, W: HostWatch> PatientLink<D, W> {
     /// disk. It sends a message of no bytes, which a host refuses. Fails with the trouble for which the link has given
     /// up.
     pub fn reach(&mut self, alloc: Global) -> Result<(), Trouble>
-        ensures called { (outcome : Outcome) × PatientCall D.opens D.fails D.pauses D.reads D.Line.calls self.old [] outcome self.new }
+        ensures called { (outcome : Outcome) × ReconnectCall D.opens D.fails D.pauses D.reads D.Line.calls self.old [] outcome self.new }
         ensures link_outcome { MatchOption self.new.trouble (IsOk result) (λ trouble. result ≡ Err trouble) }
     {
         let _answer = self.call(alloc, &[]);
@@ -183,9 +189,9 @@ impl<D: Dial, W: HostWatch> PatientLink<D, W> {
     /// Takes out the open connection, or opens a new one. Afterwards the link itself holds none.
     fn take_line(&mut self, alloc: Global, left: u64) -> Result<D::Line, Trouble>
         ensures ok { IfOk result (λ line. HasLine D.opens D.fails D.Line.calls
-            self.old.dialer self.old.line (limits self.old.patience left) line self.new.dialer) }
+            self.old.dialer self.old.line (limits self.old.reconnect_timeout left) line self.new.dialer) }
         ensures err { IfErr result (λ trouble. (self.old.line ≡ None)
-            × D.fails self.old.dialer (limits self.old.patience left) trouble self.new.dialer) }
+            × D.fails self.old.dialer (limits self.old.reconnect_timeout left) trouble self.new.dialer) }
         ensures same { self.new ≡ record self.old { dialer = self.new.dialer; line = None } }
     {
         match self.line.take() {
@@ -193,8 +199,8 @@ impl<D: Dial, W: HostWatch> PatientLink<D, W> {
             None => {
                 let limits = Limits {
                     opening: left.max(1),
-                    silence: self.patience.clamp(LEAST_LIMIT, MOST_SILENCE),
-                    answering: self.patience.max(LEAST_LIMIT),
+                    silence: self.reconnect_timeout.clamp(LEAST_LIMIT, MOST_SILENCE),
+                    answering: self.reconnect_timeout.max(LEAST_LIMIT),
                 };
                 self.dialer.dial(alloc, limits)
             }
@@ -204,7 +210,7 @@ impl<D: Dial, W: HostWatch> PatientLink<D, W> {
     /// Sends a message once, over the open connection or a new one. After a fault the connection is closed.
     fn attempt(&mut self, alloc: Global, body: &[u8], left: u64) -> Result<Vec<u8>, Trouble>
         ensures tried { IsTried D.opens D.fails D.Line.calls
-            self.old.dialer self.old.line (limits self.old.patience left) body.now (attempt_of result) self.new.dialer self.new.line }
+            self.old.dialer self.old.line (limits self.old.reconnect_timeout left) body.now (attempt_of result) self.new.dialer self.new.line }
         ensures same { self.new ≡ record self.old { dialer = self.new.dialer; line = self.new.line } }
     {
         let mut line = self.take_line(alloc, left)?;
@@ -217,18 +223,18 @@ impl<D: Dial, W: HostWatch> PatientLink<D, W> {
         }
     }
 
-    /// Pauses after `trouble`, and returns how the message goes on waiting; `None` if no patience is left.
+    /// Pauses after `trouble`, and returns how the message goes on waiting; `None` if no time is left.
     fn wait(&mut self, begin: Option<u64>, wait: Wait, trouble: Trouble) -> Option<Wait>
         requires some { 0 < wait.pause }
         requires most { wait.pause ≤ MOST_PAUSE }
-        ensures waits { MatchOption result (IsUsedUp D.pauses D.reads self.old.patience begin self.old.dialer wait.left trouble self.new.dialer)
-            (λ next. IsPaused D.pauses D.reads self.old.patience begin
+        ensures waits { MatchOption result (IsTimedOut D.pauses D.reads self.old.reconnect_timeout begin self.old.dialer wait.left trouble self.new.dialer)
+            (λ next. IsPaused D.pauses D.reads self.old.reconnect_timeout begin
             self.old.dialer wait.pause wait.left trouble self.new.dialer next.pause next.left) }
         ensures next { IfSome result (λ next. (next.left < wait.left) × (0 < next.pause) × (next.pause ≤ MOST_PAUSE)) }
         ensures same { self.new ≡ record self.old { dialer = self.new.dialer } }
     {
         let now = self.dialer.now();
-        let left = left_at(self.patience, begin, wait.left, trouble, now);
+        let left = time_left(self.reconnect_timeout, begin, wait.left, trouble, now);
         if left == 0 {
             return None;
         }
@@ -267,18 +273,18 @@ impl<D: Dial, W: HostWatch> PatientLink<D, W> {
         self.news.report_answer();
     }
 
-    /// Tries until there is an answer to give, or no patience is left. Doesn't count faults.
-    fn persist(&mut self, alloc: Global, body: &[u8]) -> Result<Vec<u8>, LinkFault>
+    /// Tries until there is an answer to give, or no time is left. Doesn't count faults.
+    fn make_tries(&mut self, alloc: Global, body: &[u8]) -> Result<Vec<u8>, LinkFault>
         requires { self.old.trouble ≡ None }
-        ensures answer { Persists D.opens D.fails D.pauses D.reads D.Line.calls
+        ensures answer { MakesTries D.opens D.fails D.pauses D.reads D.Line.calls
             self.old body.now (outcome_of result) self.new.dialer self.new.line self.new.trouble }
-        ensures patience { self.new.patience ≡ self.old.patience }
+        ensures reconnect_timeout { self.new.reconnect_timeout ≡ self.old.reconnect_timeout }
         ensures faults { self.new.faults ≡ self.old.faults }
     {
         let begin = self.now();
         let mut wait = Wait {
             pause: FIRST_PAUSE,
-            left: self.patience,
+            left: self.reconnect_timeout,
         };
         loop {
             let came = self.attempt(alloc, body, wait.left);
@@ -300,18 +306,18 @@ impl<D: Dial, W: HostWatch> PatientLink<D, W> {
     /// Passes a message on, unless the link has given up. Doesn't count faults.
     fn pass(&mut self, alloc: Global, body: &[u8]) -> Result<Vec<u8>, LinkFault>
         ensures answer { Passes D.opens D.fails D.pauses D.reads D.Line.calls self.old body.now (outcome_of result) self.new }
-        ensures patience { self.new.patience ≡ self.old.patience }
+        ensures reconnect_timeout { self.new.reconnect_timeout ≡ self.old.reconnect_timeout }
         ensures faults { self.new.faults ≡ self.old.faults }
     {
         match self.trouble {
-            None => self.persist(alloc, body),
+            None => self.make_tries(alloc, body),
             Some(_) => Err(LinkFault::Closed),
         }
     }
 }
 
-impl<D: Dial, W: HostWatch> Link for PatientLink<D, W> {
-    ghost calls = { λ l body outcome m. PatientCall D.opens D.fails D.pauses D.reads D.Line.calls l body outcome m };
+impl<D: Dial, W: HostWatch> Link for ReconnectLink<D, W> {
+    ghost calls = { λ l body outcome m. ReconnectCall D.opens D.fails D.pauses D.reads D.Line.calls l body outcome m };
 
     ghost fault_count = { λ l. l.faults };
 
