@@ -30,7 +30,7 @@ use Rattle.oram_client.specs.declared.refusals.Refusal.{Refusal}
 use Rattle.oram_client.specs.Ahead.{ToHost, ArePut, AreTaken, IsAsked, IsDrained, IsPut, IsStopped, IsUnput, dones}
 use Rattle.oram_client.specs.Formatting.{Collects, AreGenuine, AreSeen, AreTreesMade, AreTreesMadeInPart, IsFormattedAhead, IsUnheld, IsUnseen, fetches, paths}
 use Rattle.oram_client.specs.Faults.{format_told, sink_told}
-use Rattle.oram_client.specs.Naming.{identity_messages}
+use Rattle.oram_client.specs.Identity.{identity_messages}
 use Rattle.oram_client.proofs.Answered.{dones_more, puts_all}
 
 -- The root digest of a tree is that of its parts.

@@ -3,7 +3,7 @@ use Rattle.std.proofs.Common.{◌≡◌, ℕ, List, Option, Ok, Err, inr, refl, 
 use Rattle.oram_session.specs.Outcome.{Outcome}
 use Rattle.oram_session.specs.Streams.{StreamCall, ToStreams}
 use Rattle.oram_session.specs.declared.link.LinkFault.{LinkFault}
-use Rattle.oram_client.specs.Dialing.{Asks, IsUngreeted, IsUngreetedOver, Shows, greeting}
+use Rattle.oram_client.specs.Dialer.{Asks, IsUngreeted, IsUngreetedOver, Shows, greeting}
 use Rattle.oram_client.specs.declared.dialer.Trouble.{Trouble}
 use Rattle.oram_client.specs.declared.dialer.Trouble.TheVariants.{OutOfReach}
 

@@ -4,4 +4,4 @@ pub mod Greeted
 pub mod Tries
 pub mod Letters
 pub mod Whole
-pub mod Lasting
+pub mod PowerLoss

@@ -1,7 +1,7 @@
 -- The file that is found if a process ends while a file is replaced.
 use Rattle.std.proofs.Common.{◌≡◌, ◌⊎◌, inl, inr, ℕ, Bool, true, false, List, [], ◌∷◌, Option, Some, sym, ◌∙◌, ap}
 use Rattle.oram_client.specs.declared.file_step.FileStep.{FileStep}
-use Rattle.oram_client.specs.Placing.{Deed, Writes, SetsAside, Renames, SyncsFolder, Clears, deeds_of, IsBrokenOff, Names, first_of, found, Makes, Leaves, EndsIn, DoesToNames, FilesStayWhole, FilesOutlastFailures, FilesAreKept}
+use Rattle.oram_client.specs.Replacement.{Deed, Writes, SetsAside, Renames, SyncsFolder, Clears, deeds_of, IsBrokenOff, Names, first_of, found, Makes, Leaves, EndsIn, DoesToNames, FilesStayWhole, FilesOutlastFailures, FilesAreKept}
 
 -- The new file is whole, and the file that is found is still the same.
 record IsReady (n : Names) (file : List ℕ) (m : Names) : Type 0 where

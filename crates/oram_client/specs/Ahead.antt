@@ -3,7 +3,7 @@ use Rattle.std.specs.Prelude.{◌≡◌, ◌≢◌, ℕ, ◌+◌, ◌<◌, ◌�
 use Rattle.std.specs.Io.KnownBytes.{Appends, Consumes}
 use Rattle.std.specs.List.{flat_map}
 use Rattle.oram_wire.specs.FrameStream.{frame}
-use Rattle.oram_wire.specs.Streaming.{GivesBrokenHead, GivesHead, GivesPart, TakesPart}
+use Rattle.oram_wire.specs.FrameIo.{GivesBrokenHead, GivesHead, GivesPart, TakesPart}
 use Rattle.oram_wire.specs.declared.TheConstants.{LONGEST_BODY}
 use Rattle.oram_wire.specs.declared.sinks.SinkFault.{SinkFault}
 use Rattle.oram_wire.specs.declared.sinks.SinkFault.TheVariants.{Refused, Link, OutOfMemory}

@@ -17,7 +17,7 @@ use Rattle.oram_client.specs.declared.faults.FormattingFault.TheVariants.{NotSto
 use Rattle.oram_client.specs.declared.identity.TheConstants.{IDENTITY_TREE}
 use Rattle.oram_client.specs.Ahead.{ToHost, ArePut, AreTaken, IsAsked, IsDrained, IsStopped, IsUnasked, IsUnput, dones}
 use Rattle.oram_client.specs.Faults.{sink_told}
-use Rattle.oram_client.specs.Naming.{IsUnnamed, IsUnrecognized, identity_messages}
+use Rattle.oram_client.specs.Identity.{IsUnnamed, IsUnrecognized, identity_messages}
 
 -- one message more
 abbrev pub Collects : List (List ℕ) → List ℕ → List (List ℕ) → Type 0

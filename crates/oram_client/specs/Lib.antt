@@ -1,11 +1,11 @@
 pub mod KeptFile
 pub mod Keys
-pub mod FileKeeping
+pub mod FileKeeper
 pub mod Reconnect
-pub mod Dialing
+pub mod Dialer
 pub mod Ahead
 pub mod Faults
-pub mod Naming
+pub mod Identity
 pub mod Formatting
-pub mod Placing
+pub mod Replacement
 pub mod PowerLoss

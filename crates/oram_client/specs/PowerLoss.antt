@@ -1,6 +1,6 @@
 -- The file that is found after the machine has lost its power.
 use Rattle.std.specs.Prelude.{◌≡◌, ◌⊎◌, ℕ, Bool, true, false, List, [], ◌∷◌, Option, None, Some, ⊤, MatchBool}
-use Rattle.oram_client.specs.Placing.{Deed, Writes, SetsAside, Renames, SyncsFolder, Clears, Names, deeds_of, found}
+use Rattle.oram_client.specs.Replacement.{Deed, Writes, SetsAside, Renames, SyncsFolder, Clears, Names, deeds_of, found}
 
 -- a file: once it is synced, its bytes are on the disk
 pub record File : Type 0 where

@@ -5,7 +5,7 @@ use Rattle.std.specs.List.{FoldsTo}
 use Rattle.oram_wire.specs.HostMessages.{no_room_answer}
 use Rattle.oram_session.specs.Outcome.{Outcome, faults_after}
 use Rattle.oram_session.specs.declared.link.LinkFault.TheVariants.{Closed}
-use Rattle.oram_client.specs.Dialing.{may_pass, fault_of}
+use Rattle.oram_client.specs.Dialer.{may_pass, fault_of}
 use Rattle.oram_client.specs.declared.dialer.Limits.{Limits}
 use Rattle.oram_client.specs.declared.dialer.Trouble.{Trouble}
 use Rattle.oram_client.specs.declared.dialer.Trouble.TheVariants.{OutOfReach, NoRoom}

@@ -1,6 +1,6 @@
 //! How a connection to a host is opened, what can be wrong with a host, and who is notified of it.
 ghost use Rattle.std.specs.Prelude.{◌≡◌, ℕ, Option, IfOk, IfErr};
-ghost use Rattle.oram_client.specs.Dialing as spec;
+ghost use Rattle.oram_client.specs.Dialer as spec;
 
 use oram_cli::HostFault;
 use oram_session::{Link, LinkFault};
@@ -22,7 +22,7 @@ pub enum Trouble {
 
 impl Trouble {
     ghost use Rattle.std.specs.Prelude.{◌≡◌};
-    ghost use Rattle.oram_client.specs.Dialing.{fault_of, may_pass};
+    ghost use Rattle.oram_client.specs.Dialer.{fault_of, may_pass};
 
     /// Returns whether the trouble may pass if one waits. A host that keeps another disk goes on doing so.
     pub fn may_pass(self) -> bool

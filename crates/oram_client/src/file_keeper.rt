@@ -21,9 +21,9 @@ pub struct FileKeeper<P> {
 }
 
 impl<P> Model for FileKeeper<P> {
-    ghost use Rattle.oram_client.specs.FileKeeping.{FileKeeping};
+    ghost use Rattle.oram_client.specs.FileKeeper.{FileKeeperState};
 
-    ghost Value = { FileKeeping P };
+    ghost Value = { FileKeeperState P };
 
     ghost view = { λ k. record { place = k.place; head = k.head; sync = k.sync; failure = k.failure } };
 }
@@ -50,7 +50,7 @@ impl<P> FileKeeper<P> {
 }
 
 impl<P: Place> Keeper for FileKeeper<P> {
-    ghost use Rattle.oram_client.specs.FileKeeping.{KeepsFile};
+    ghost use Rattle.oram_client.specs.FileKeeper.{KeepsFile};
 
     ghost keeps = { λ k state done m. KeepsFile P.does k state done m };
 

@@ -2,7 +2,7 @@
 ghost use Rattle.std.specs.Prelude.{◌≡◌, ◌↔◌, [], ◌∷◌, IfErr, IfOk, IsTrue, OnOk};
 ghost use Rattle.oram_wire.specs.HostMessages.{fetch_body, payload_answer, put_body, shape_body};
 ghost use Rattle.oram_client.specs.Ahead.{AreTaken, AreUntaken, IsAsked};
-ghost use Rattle.oram_client.specs.Naming.{IsUnnamed, IsUnrecognized, identity_messages};
+ghost use Rattle.oram_client.specs.Identity.{IsUnnamed, IsUnrecognized, identity_messages};
 
 use crate::ahead::{Ahead, Progress};
 use crate::faults::FormattingFault;

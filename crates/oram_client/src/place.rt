@@ -1,7 +1,7 @@
 //! How a new file replaces an old one, so that whenever the process ends, the old one or the new one is found whole.
 ghost use Rattle.std.specs.Prelude.{true, false, OnOk, IfErr};
 ghost use Rattle.oram_client.specs.KeptFile.{kept_file};
-ghost use Rattle.oram_client.specs.Placing.{DoesAll, FilesAreKept, FilesOutlastFailures, FilesStayWhole, IsBrokenOff, deeds_of};
+ghost use Rattle.oram_client.specs.Replacement.{DoesAll, FilesAreKept, FilesOutlastFailures, FilesStayWhole, IsBrokenOff, deeds_of};
 ghost use Rattle.oram_client.specs.PowerLoss.{SyncedFilesLast, SyncsAreNeeded};
 
 use crate::file_step::FileFailure;
@@ -11,7 +11,7 @@ use crate::kept_file::Head;
 pub trait Place {
     ghost use Rattle.std.specs.Prelude.{Bool, true, false, OnOk, IfErr};
     ghost use Rattle.oram_client.specs.KeptFile.{kept_file};
-    ghost use Rattle.oram_client.specs.Placing.{Deed, IsStepOf, Writes, SetsAside, Renames, SyncsFolder, Clears};
+    ghost use Rattle.oram_client.specs.Replacement.{Deed, IsStepOf, Writes, SetsAside, Renames, SyncsFolder, Clears};
 
     /// `does old deed done new`: the deed may be done, or fail where `done` is false, and turns the place from `old`
     /// into `new`.

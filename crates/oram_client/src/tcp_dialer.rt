@@ -2,7 +2,7 @@
 ghost use Rattle.std.specs.Prelude.{◌≡◌, OnOk, IfOk, IfErr, string_bytes};
 ghost use Rattle.oram_wire.specs.HostMessages.{answer_body};
 ghost use Rattle.oram_wire.specs.declared.host_messages.HostAnswer.TheVariants.{Payload};
-ghost use Rattle.oram_client.specs.Dialing.{Shows, IsGreetedOver, IsUngreetedOver};
+ghost use Rattle.oram_client.specs.Dialer.{Shows, IsGreetedOver, IsUngreetedOver};
 
 use crate::dialer::{Dial, Limits, Trouble};
 use crate::identity::IDENTITY_TREE;
@@ -36,7 +36,7 @@ pub struct TcpDialer<R> {
 
 impl<R> Model for TcpDialer<R> {
     ghost use Rattle.std.specs.Prelude.{string_bytes};
-    ghost use Rattle.oram_client.specs.Dialing.{Destination};
+    ghost use Rattle.oram_client.specs.Dialer.{Destination};
 
     ghost Value = { Destination };
 
@@ -108,7 +108,7 @@ where
 
 impl<R: Net + Clock + Copy> Dial for TcpDialer<R> {
     ghost use Rattle.std.specs.Prelude.{◌≡◌};
-    ghost use Rattle.oram_client.specs.Dialing.{IsGreeted, IsUngreeted};
+    ghost use Rattle.oram_client.specs.Dialer.{IsGreeted, IsUngreeted};
 
     type Line = TimedLink<R::Stream, R>;
 

@@ -2,13 +2,13 @@
 use Rattle.std.specs.Prelude.{◌≡◌, ◌≢◌, ℕ, List, [], false, Bool, true, Option, Some, None}
 use Rattle.oram_redo.specs.FilePair.{Contents}
 use Rattle.oram_wire.specs.HostMessages.{answer_body, request_body}
-use Rattle.oram_wire.specs.HostReading.{HasNumbers, IsMisfit, names_request}
+use Rattle.oram_wire.specs.HostBodies.{HasNumbers, IsMisfit, names_request}
 use Rattle.oram_wire.specs.declared.host_messages.HostAnswer.{HostAnswer}
 use Rattle.oram_wire.specs.declared.host_messages.HostAnswer.TheVariants.{Refused}
 use Rattle.oram_wire.specs.declared.host_messages.HostRequest.{HostRequest}
 use Rattle.oram_store.specs.Answers.{IsGranted, IsKeptAtOnce}
 use Rattle.oram_store.specs.Crashes.{Serves as StoreServes}
-use Rattle.oram_store.specs.Keeping.{IsSound, StoreValue}
+use Rattle.oram_store.specs.KeptRecords.{IsSound, StoreValue}
 use Rattle.oram_store.specs.Refusals.{RespondsWith}
 use Rattle.oram_store.specs.declared.faults.StoreFault.{StoreFault}
 use Rattle.oram_store.specs.declared.faults.StoreFault.TheVariants as fault

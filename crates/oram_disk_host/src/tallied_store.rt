@@ -3,7 +3,7 @@
 ghost use Rattle.std.specs.Prelude.{◌≡◌, ◌≢◌, ◌⊎◌, [], false, IsSome};
 ghost use Rattle.oram_layout.specs.Records.{AreKept};
 ghost use Rattle.oram_store.specs.Crashes.{SettlesWhole};
-ghost use Rattle.oram_store.specs.Keeping.{IsSound, records_of};
+ghost use Rattle.oram_store.specs.KeptRecords.{IsSound, records_of};
 ghost use Rattle.oram_wire.specs.HostMessages.{answer_body};
 ghost use Rattle.oram_wire.specs.declared.host_messages.HostAnswer.{HostAnswer};
 ghost use Rattle.oram_disk_host.specs.Hosts.{Serves, is_lost};

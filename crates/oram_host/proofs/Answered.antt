@@ -7,8 +7,8 @@ use Rattle.std.proofs.lemmas.List.Elements.{All-push, All-nil}
 use Rattle.std.specs.Io.KnownBytes.{Appends, Consumes}
 use Rattle.std.proofs.KnownBytes.{Appends-nil, Consumes-nil, Appends-trans, Consumes-trans}
 use Rattle.oram_wire.specs.FrameStream.{IsBody, frame}
-use Rattle.oram_wire.specs.declared.streaming.FrameFault.{FrameFault}
-use Rattle.oram_wire.specs.declared.streaming.FrameFault.TheVariants as frames
+use Rattle.oram_wire.specs.declared.frame_io.FrameFault.{FrameFault}
+use Rattle.oram_wire.specs.declared.frame_io.FrameFault.TheVariants as frames
 use Rattle.oram_host.specs.Answered.{frames_of, HasAnswered}
 use Rattle.oram_host.specs.ServeFaults.{frame_fault}
 use Rattle.oram_host.specs.declared.serve_fault.ServeFault.TheVariants.{Read, Frame, OutOfMemory}

@@ -12,7 +12,7 @@ use Rattle.oram_host.specs.declared.images.ImageFault.{ImageFault}
 use Rattle.oram_host.specs.declared.images.ImageFault.TheVariants.{Length, Magic, Version}
 use Rattle.oram_host.specs.Host.{Host, IsHost, IsKept, IsKeptTree, IsRecordOf, Kept, RisesFrom}
 use Rattle.oram_host.specs.Image.{entries_text, image, kept_text, record_text, tree_text}
-use Rattle.oram_host.specs.ImageReading.{Reading, after_end, after_letters, after_version, host_in, is_shape, lawful, next_byte, next_bytes, next_entries, next_kept, next_number, next_record, next_rising, next_tree, ◌>>=◌}
+use Rattle.oram_host.specs.ImageReader.{Reading, after_end, after_letters, after_version, host_in, is_shape, lawful, next_byte, next_bytes, next_entries, next_kept, next_number, next_record, next_rising, next_tree, ◌>>=◌}
 use Rattle.oram_host.proofs.ReadImages.{both_held, host_again, is_passed}
 
 abbrev IsBytes : List ℕ → Type 0

@@ -6,7 +6,7 @@ pub mod Hosts
 pub mod ImageTexts
 pub mod Rows
 pub mod Swapped
-pub mod Rising
+pub mod RisingEntries
 pub mod Readings
 pub mod ReadImages
 pub mod LoadedHosts

@@ -11,7 +11,7 @@ use Rattle.std.proofs.lemmas.List.Elements.{All-from_recursion, recursion_from_A
 use Rattle.oram_host.specs.declared.trees.Tree.{Tree}
 use Rattle.oram_host.specs.Host.{Host, IsHost, IsKept, IsKeptTree, IsRecordOf, Kept, RisesFrom}
 use Rattle.oram_host.specs.Trees.{AreNodes, AreTrees, IsRecord, IsTree, host_of, is_there, kept_by}
-use Rattle.oram_host.proofs.Rising.{RisesFrom-filter, RisesFrom-values, insert_entry-last, least_after, least_after-values, rises_before, rises_from_sorted, rises_next}
+use Rattle.oram_host.proofs.RisingEntries.{RisesFrom-filter, RisesFrom-values, insert_entry-last, least_after, least_after-values, rises_before, rises_from_sorted, rises_next}
 
 -- ---- one entry more
 

@@ -14,8 +14,8 @@ use Rattle.oram_host.specs.declared.images.ImageFault.{ImageFault}
 use Rattle.oram_host.specs.declared.images.ImageFault.TheVariants.{Magic, Version, Length, Content, Io, OutOfMemory}
 use Rattle.oram_host.specs.Host.{RisesFrom}
 use Rattle.oram_host.specs.Image.{entries_text}
-use Rattle.oram_host.specs.ImageReading.{◌>>=◌, IsFirstFault, Reading, after_end, after_letters, after_version, next_byte, next_bytes, next_entries, next_number, next_rising}
-use Rattle.oram_host.proofs.Rising.{least_after}
+use Rattle.oram_host.specs.ImageReader.{◌>>=◌, IsFirstFault, Reading, after_end, after_letters, after_version, next_byte, next_bytes, next_entries, next_number, next_rising}
+use Rattle.oram_host.proofs.RisingEntries.{least_after}
 
 -- ---- faults
 

@@ -2,7 +2,7 @@
 use Rattle.std.specs.Prelude.{◌≡◌, ℕ, ◌≤◌, List, length, Option, ◌⊎◌}
 use Rattle.oram_wire.specs.FrameStream.{IsBody, frame, length_at}
 use Rattle.oram_wire.specs.HostMessages.{answer_body}
-use Rattle.oram_wire.specs.HostReading.{IsAnswer}
+use Rattle.oram_wire.specs.HostBodies.{IsAnswer}
 use Rattle.oram_wire.specs.declared.TheConstants.{LONGEST_BODY}
 use Rattle.oram_wire.specs.declared.host_messages.HostAnswer.{HostAnswer}
 use Rattle.oram_host.specs.Answered.{HasAnswered}

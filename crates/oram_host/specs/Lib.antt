@@ -1,10 +1,10 @@
 pub mod Host
 pub mod Image
-pub mod ImageReading
+pub mod ImageReader
 pub mod Path
 pub mod Refusals
 pub mod Answers
-pub mod Serving
+pub mod Service
 pub mod Flips
 pub mod Swaps
 pub mod Transfers
@@ -13,4 +13,4 @@ pub mod Answered
 pub mod Connections
 pub mod Trees
 pub use Rattle.oram_wire.specs.HostMessages
-pub use Rattle.oram_wire.specs.HostReading
+pub use Rattle.oram_wire.specs.HostBodies

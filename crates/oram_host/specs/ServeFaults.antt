@@ -1,6 +1,6 @@
 -- The fault of answering that a fault of reading a frame becomes.
-use Rattle.oram_wire.specs.declared.streaming.FrameFault.{FrameFault}
-use Rattle.oram_wire.specs.declared.streaming.FrameFault.TheVariants as frames
+use Rattle.oram_wire.specs.declared.frame_io.FrameFault.{FrameFault}
+use Rattle.oram_wire.specs.declared.frame_io.FrameFault.TheVariants as frames
 use Rattle.oram_host.specs.declared.serve_fault.ServeFault.{ServeFault}
 use Rattle.oram_host.specs.declared.serve_fault.ServeFault.TheVariants.{Read, Frame, Truncated, OutOfMemory}
 

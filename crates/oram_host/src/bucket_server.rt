@@ -2,7 +2,7 @@
 ghost use Rattle.std.specs.Prelude.{◌≡◌, ℕ, List, IfOk, OnErr};
 ghost use Rattle.oram_wire.specs.FrameStream.{IsBody};
 ghost use Rattle.oram_wire.specs.HostMessages.{answer_body};
-ghost use Rattle.oram_wire.specs.HostReading.{IsAnswer};
+ghost use Rattle.oram_wire.specs.HostBodies.{IsAnswer};
 ghost use Rattle.oram_wire.specs.declared.host_messages.HostAnswer.{HostAnswer};
 
 use crate::server::Server;
@@ -24,7 +24,7 @@ pub trait BucketServer {
 }
 
 impl BucketServer for Server {
-    ghost use Rattle.oram_host.specs.Serving.{Serves};
+    ghost use Rattle.oram_host.specs.Service.{Serves};
 
     ghost serves = { λ host body answer after. Serves host body answer after };
 

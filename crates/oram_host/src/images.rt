@@ -2,17 +2,17 @@
 
 ghost use Rattle.std.specs.Prelude.{◌≡◌, ◌↔◌, ◌<◌, ℕ, List, All, Ok};
 ghost use Rattle.oram_host.specs.declared.images.ImageFault.TheVariants.{OutOfMemory};
-ghost use Rattle.oram_host.specs.ImageReading.{fault_number, host_in};
+ghost use Rattle.oram_host.specs.ImageReader.{fault_number, host_in};
 ghost use Rattle.oram_host.specs.Host.{Host, IsHost};
 ghost use Rattle.oram_host.specs.Image.{image};
 
 mod fields;
-mod loading;
-mod saving;
+mod reader;
+mod writer;
 
-pub(crate) use loading::load_trees;
-pub(crate) use saving::save_trees;
+pub(crate) use reader::load_trees;
 use std::alloc::{AllocError, AllocFailed};
+pub(crate) use writer::save_trees;
 
 /// Why an image could not be saved or loaded.
 #[derive(Clone, Copy, Debug, PartialEq, Eq)]

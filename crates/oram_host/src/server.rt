@@ -3,18 +3,18 @@
 ghost use Rattle.std.specs.Prelude.{◌≡◌, ◌<◌, ◌≤◌, ◌^◌, ◌⊎◌, ◌↔◌, [], length, true, false, IfErr, IfOk, IsTrue, OnErr, OnOk, None, Some, MatchBool, MatchOption, MatchResult};
 ghost use Rattle.std.specs.Io.KnownBytes.{Appends, Consumes, IsAtEnd};
 ghost use Rattle.oram_host.specs.Image.{image};
-ghost use Rattle.oram_host.specs.ImageReading.{IsFirstFault, fault_number, host_in};
+ghost use Rattle.oram_host.specs.ImageReader.{IsFirstFault, fault_number, host_in};
 ghost use Rattle.oram_host.specs.Host.{Host, IsHost};
 ghost use Rattle.oram_host.specs.Flips.{IsByteless, IsFlipped};
 ghost use Rattle.oram_host.specs.Answers.{Answers, IsFetched, IsPut, IsShaped, IsStored};
 ghost use Rattle.oram_host.specs.Path.{FitsAnswer, IsBehind};
 ghost use Rattle.oram_host.specs.Refusals.{Refuses, code_of};
-ghost use Rattle.oram_host.specs.Serving.{Serves, StandsFor};
+ghost use Rattle.oram_host.specs.Service.{Serves, StandsFor};
 ghost use Rattle.oram_host.specs.Swaps.{IsSwapped, LacksPair};
 ghost use Rattle.oram_host.specs.Transfers.{Begins, TakesFrom};
 ghost use Rattle.oram_wire.specs.FrameStream.{IsBody};
 ghost use Rattle.oram_wire.specs.HostMessages.{answer_body, request_body};
-ghost use Rattle.oram_wire.specs.HostReading.{HasNumbers, IsAnswer, IsMisfit, names_request, request_of};
+ghost use Rattle.oram_wire.specs.HostBodies.{HasNumbers, IsAnswer, IsMisfit, names_request, request_of};
 
 use crate::images::{ImageFault, load_trees, save_trees};
 use crate::refusals::HostRefusal;

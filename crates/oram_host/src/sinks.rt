@@ -13,7 +13,7 @@ impl Sink for Server {
     ghost use Rattle.std.specs.Prelude.{◌≡◌, Some};
     ghost use Rattle.oram_wire.specs.declared.host_messages.HostAnswer.{HostAnswer};
     ghost use Rattle.oram_wire.specs.declared.host_messages.HostAnswer.TheVariants.{Done};
-    ghost use Rattle.oram_host.specs.Serving.{Serves, fault_by};
+    ghost use Rattle.oram_host.specs.Service.{Serves, fault_by};
 
     ghost putting = { λ old body new. Serves old body Done new };
 

@@ -31,7 +31,7 @@ use Rattle.oram_semantics.specs.State.{no_tree}
 use Rattle.oram_semantics.proofs.Bounds.{depth_small}
 use Rattle.oram_semantics.proofs.PostOrder.{Each, Some1, each_append, each_put, some_put, order_cut, order_leaf}
 use Rattle.oram_semantics.proofs.Formatting.{each_joined, some_joined, left_there}
-use Rattle.oram_host.specs.Serving.{Serves, fault_by}
+use Rattle.oram_host.specs.Service.{Serves, fault_by}
 use Rattle.oram_host_laws.specs.Honest.{Refusing, Takes, KeepsAll}
 use Rattle.oram_host_laws.proofs.Handed.{kept_same, IsFull}
 

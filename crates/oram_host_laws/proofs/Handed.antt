@@ -32,7 +32,7 @@ use Rattle.oram_semantics.specs.Answers.Outcome.{Good, NoRoom}
 use Rattle.oram_semantics.proofs.Judged.{good_is, bytes_same}
 use Rattle.oram_semantics.proofs.Outcomes.{no_room_is, stored_is}
 use Rattle.oram_semantics.proofs.Replaced.{store_replaces, store_leaves}
-use Rattle.oram_host.specs.Serving.{Serves}
+use Rattle.oram_host.specs.Service.{Serves}
 use Rattle.oram_host_laws.specs.Honest.{KeepsTree, KeepsAll}
 
 -- the two forms of a node, and of a record on a path

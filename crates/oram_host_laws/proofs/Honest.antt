@@ -23,12 +23,12 @@ use Rattle.oram_semantics.proofs.AgreeSteps.{agreeing_fits}
 use Rattle.oram_semantics.proofs.Bounds.{IsFit, fit_device}
 use Rattle.oram_semantics.proofs.Serving.{cores_serve, new_cores_serve}
 use Rattle.oram_host_laws.specs.Honest.{HeardOrNot, IsHonest}
-use Rattle.oram_host_laws.specs.Hosting.{GoesOnHosted, Hosts, HostsBy, HostsWork}
+use Rattle.oram_host_laws.specs.HostRecords.{GoesOnHosted, Hosts, HostsBy, HostsWork}
 use Rattle.oram_host_laws.specs.Law.{HonestHostsServe, NewHostsServe}
 use Rattle.oram_host_laws.proofs.FormattedHosts.{formatted_kept}
-use Rattle.oram_host_laws.proofs.Going.{Goes, goes_again, goes_good, goes_stalled, goes_submitted, goes_unchanged}
+use Rattle.oram_host_laws.proofs.HonestSteps.{Goes, goes_again, goes_good, goes_stalled, goes_submitted, goes_unchanged}
 use Rattle.oram_host_laws.proofs.Handed.{full_apart, full_outcome}
-use Rattle.oram_host_laws.proofs.Meeting.{Met, met, met_hosts}
+use Rattle.oram_host_laws.proofs.Receipt.{Met, met, met_hosts}
 
 -- a command is at work in a core that waits
 pub record IsBusy (v : Scheme) (s : State) (w : World) (host : Host) : Type 0 where

@@ -1,6 +1,6 @@
 pub mod Handed
 pub mod FormattedHosts
-pub mod Meeting
-pub mod Going
+pub mod Receipt
+pub mod HonestSteps
 pub mod Honest
-pub mod Lying
+pub mod AnyHost

@@ -5,7 +5,7 @@ use Rattle.oram_wire.specs.HostMessages.{answer_body}
 use Rattle.oram_wire.specs.declared.host_messages.HostAnswer.{HostAnswer}
 use Rattle.oram_wire.specs.declared.host_messages.HostAnswer.TheVariants.{Done}
 use Rattle.oram_wire.specs.declared.sinks.SinkFault.{SinkFault}
-use Rattle.oram_host.specs.Serving.{Serves, fault_by}
+use Rattle.oram_host.specs.Service.{Serves, fault_by}
 use Rattle.oram_host.specs.Host.{Host, Kept, record_of, tree_at}
 use Rattle.oram_tree.specs.Content.{node_count}
 use Rattle.oram_semantics.specs.Scheme.{Scheme, record_len}

@@ -12,7 +12,7 @@ use Rattle.oram_semantics.specs.Scheme.{Scheme}
 use Rattle.oram_semantics.specs.State.{State, World, status_in}
 use Rattle.oram_semantics.specs.declared.events.Event.{Event}
 use Rattle.oram_host_laws.specs.Honest.{IsHonest, Takes}
-use Rattle.oram_host_laws.specs.Hosting.{Hosts, GoesOnHosted}
+use Rattle.oram_host_laws.specs.HostRecords.{Hosts, GoesOnHosted}
 
 -- A core that serves an array over an honest host still serves it after any event, and never fails.
 abbrev pub HonestHostsServe : Type 0

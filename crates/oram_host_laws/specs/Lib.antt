@@ -1,4 +1,4 @@
 pub mod Honest
-pub mod Hosting
-pub mod Lying
+pub mod HostRecords
+pub mod AnyHost
 pub mod Law

@@ -1,6 +1,6 @@
 //! Laws about honest hosts.
 ghost use Rattle.oram_host_laws.specs.Law.{HonestHostsServe, NewHostsServe};
-ghost use Rattle.oram_host_laws.specs.Lying.{LyingHostsFail};
+ghost use Rattle.oram_host_laws.specs.AnyHost.{LyingHostsFail};
 
 /// A law about definitions: over an honest host, a core that serves an array still serves it after any event, and
 /// never fails.

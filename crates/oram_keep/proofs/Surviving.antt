@@ -5,13 +5,13 @@ use Rattle.std.specs.List.{All, FoldsTo}
 use Rattle.std.proofs.lemmas.List.Elements.{All-head, All-tail}
 use Rattle.oram_geometry.specs.Sizes.{IsDevice, trees_of, depth_of}
 use Rattle.oram_wire.specs.HostMessages.{fetch_body, store_body}
-use Rattle.oram_wire.specs.HostReading.{HasNumbers}
+use Rattle.oram_wire.specs.HostBodies.{HasNumbers}
 use Rattle.oram_wire.specs.declared.host_messages.HostAnswer.{HostAnswer}
 use Rattle.oram_wire.specs.declared.host_messages.HostAnswer.TheVariants as answer
 use Rattle.oram_wire.specs.declared.host_messages.HostRequest.TheVariants.{Fetch}
 use Rattle.oram_host.specs.Answers.{Answers}
 use Rattle.oram_host.specs.Host.{Host}
-use Rattle.oram_host.specs.Serving.{Serves}
+use Rattle.oram_host.specs.Service.{Serves}
 use Rattle.oram_semantics.specs.Content.{entry_tree}
 use Rattle.oram_semantics.specs.Messages.{requested}
 use Rattle.oram_semantics.specs.Events.{failed_reply}
@@ -33,9 +33,9 @@ use Rattle.oram_semantics.proofs.Bounds.{depth_small}
 use Rattle.oram_core.specs.Doing.{Done as Did, submitted_by}
 use Rattle.oram_core.specs.Steps.{Steps, did}
 use Rattle.oram_host_laws.specs.Honest.{IsHonest}
-use Rattle.oram_host_laws.specs.Hosting.{GoesOnHosted, Hosts, HostsBy, HostsWork}
+use Rattle.oram_host_laws.specs.HostRecords.{GoesOnHosted, Hosts, HostsBy, HostsWork}
 use Rattle.oram_host_laws.proofs.Honest.{honest_hosts_serve}
-use Rattle.oram_host_laws.proofs.Lying.{lying_hosts_fail}
+use Rattle.oram_host_laws.proofs.AnyHost.{lying_hosts_fail}
 use Rattle.oram_session.specs.Exchanges.{Runs, Delivery, IsSent, event_of, is_stall, outcomes_of, retried}
 use Rattle.oram_session.specs.Honesty.{HasFailed, IsBusy, IsHeardCall, IsHeardLink, IsHeld, IsHonestCall}
 use Rattle.oram_session.specs.Outcome.{Outcome}

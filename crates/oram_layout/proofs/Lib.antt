@@ -3,7 +3,7 @@ pub mod Contents
 pub mod Changes
 pub mod TreeEntries
 pub mod Added
-pub mod Fitting
+pub mod LogRoom
 pub mod Rows
 pub mod Apart
 pub mod Slots

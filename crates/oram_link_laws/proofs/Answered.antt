@@ -11,8 +11,8 @@ use Rattle.oram_host.specs.Answers.{Answers}
 use Rattle.oram_host.specs.Host.{Host, Kept, tree_at}
 use Rattle.oram_host.specs.Refusals.{RefusesStore, code_of}
 use Rattle.oram_host.specs.Swaps.{shape_at}
-use Rattle.oram_link_laws.specs.Resending.{AreStores, IsStore, ResentStoresAreTaken, TakesEach}
-use Rattle.oram_link_laws.proofs.Resending.{HasShapes, begun_shapes, is_stored, kept_shape, shapes_after, some_pair}
+use Rattle.oram_link_laws.specs.ResentStores.{AreStores, IsStore, ResentStoresAreTaken, TakesEach}
+use Rattle.oram_link_laws.proofs.ResentStores.{HasShapes, begun_shapes, is_stored, kept_shape, shapes_after, some_pair}
 
 -- the records fit a path of their tree
 record Fits (shapes : ℕ → Option (ℕ × ℕ)) (tree leaf : ℕ) (records : List ℕ) : Type 0 where

@@ -8,7 +8,7 @@ use Rattle.oram_geometry.specs.Least.{least_from}
 use Rattle.oram_geometry.specs.Sizes.{IsDevice, blocks_in, depth_of, level_for, record_len_of, trees_of}
 use Rattle.oram_bucket.specs.Bucket.{spelling}
 use Rattle.oram_wire.specs.HostMessages.{put_body, request_body, shape_body}
-use Rattle.oram_wire.specs.HostReading.{HasNumbers}
+use Rattle.oram_wire.specs.HostBodies.{HasNumbers}
 use Rattle.oram_wire.specs.declared.host_messages.HostRequest.{HostRequest}
 use Rattle.oram_wire.specs.declared.host_messages.HostRequest.TheVariants.{Fetch, Put, Shape, Store}
 use Rattle.oram_wire.specs.declared.host_messages.HostAnswer.TheVariants.{Done}

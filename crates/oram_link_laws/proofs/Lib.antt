@@ -1,4 +1,4 @@
-pub mod Resending
+pub mod ResentStores
 pub mod Answered
 pub mod Same
 pub mod Put

@@ -4,16 +4,16 @@ use Rattle.oram_wire.specs.declared.host_messages.HostRequest.TheVariants.{Store
 use Rattle.oram_wire.specs.declared.host_messages.HostAnswer.{HostAnswer}
 use Rattle.oram_wire.specs.declared.host_messages.HostAnswer.TheVariants.{Done, Payload, Refused}
 use Rattle.oram_host.specs.Host.{Host}
-use Rattle.oram_host.specs.Serving.{Serves}
+use Rattle.oram_host.specs.Service.{Serves}
 use Rattle.oram_host.specs.Swaps.{shape_at, stored_at}
 use Rattle.oram_semantics.specs.Scheme.{Scheme}
 use Rattle.oram_host_laws.specs.Honest.{HeardOrNot, Takes}
 use Rattle.oram_session.specs.Honesty.{IsHeardCall, IsHonestCall}
 use Rattle.oram_session.specs.Outcome.{Outcome}
-use Rattle.oram_link_laws.specs.Mending.{AreAmong, HearsEach, IsAmong, ResentStoresMend, ResentStoresMendRuns}
-use Rattle.oram_link_laws.specs.Resending.{AreStores, IsStore}
+use Rattle.oram_link_laws.specs.Repair.{AreAmong, HearsEach, IsAmong, ResentStoresMend, ResentStoresMendRuns}
+use Rattle.oram_link_laws.specs.ResentStores.{AreStores, IsStore}
 use Rattle.oram_link_laws.specs.Runs.{Exchange, HeardRun, bodies_of}
-use Rattle.oram_link_laws.proofs.Resending.{Agree, HasShapes, IsOff, IsOffAll, off_stays, resent, shapes_after}
+use Rattle.oram_link_laws.proofs.ResentStores.{Agree, HasShapes, IsOff, IsOffAll, off_stays, resent, shapes_after}
 
 -- a STORE that the host received was carried out, or changed nothing
 answered_so : (old new : Host) (body : List ℕ) (s : IsStore body) (answer : HostAnswer) → Serves old body answer new → (new ≡ old) ⊎ Takes old body new

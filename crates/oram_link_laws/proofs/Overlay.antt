@@ -7,8 +7,8 @@ use Rattle.oram_host.specs.Answers.{IsFetched, IsStored}
 use Rattle.oram_host.specs.Host.{Host, Kept, record_of, tree_at}
 use Rattle.oram_host.specs.Path.{IsPath, StoresPath, node_on, record_at}
 use Rattle.oram_link_laws.specs.Overlay.{IsLaidOver, LaidOverIsFetchedLater, LaysAllOver, LaysOver}
-use Rattle.oram_link_laws.specs.Resending.{AreStores, IsStore, TakesEach}
-use Rattle.oram_link_laws.proofs.Resending.{found_or_not, is_stored}
+use Rattle.oram_link_laws.specs.ResentStores.{AreStores, IsStore, TakesEach}
+use Rattle.oram_link_laws.proofs.ResentStores.{found_or_not, is_stored}
 
 -- the node of a path at a level has one of the level's numbers
 node_bounds : (depth leaf level : ℕ) → leaf < 2 ^ depth → level ≤ depth

@@ -7,7 +7,7 @@ use Rattle.std.proofs.lemmas.Bool.{cases_eq, le-leb}
 use Rattle.std.proofs.lemmas.List.{drop_at, length-append, take_at}
 use Rattle.std.proofs.lemmas.Nat.{from_be_bytes-to_be_bytes_4}
 use Rattle.oram_wire.specs.HostMessages.{request_body, store_body}
-use Rattle.oram_wire.specs.HostReading.{HasNumbers, IsMisfit}
+use Rattle.oram_wire.specs.HostBodies.{HasNumbers, IsMisfit}
 use Rattle.oram_wire.specs.declared.host_messages.HostRequest.{HostRequest}
 use Rattle.oram_wire.specs.declared.host_messages.HostRequest.TheVariants.{Fetch, Put, Shape, Store}
 use Rattle.oram_wire.specs.declared.host_messages.HostAnswer.TheVariants.{Done}
@@ -17,8 +17,8 @@ use Rattle.oram_host.specs.Path.{node_on, record_at}
 use Rattle.oram_host.specs.Swaps.{shape_at}
 use Rattle.oram_host.proofs.Nodes.{node_on-rises}
 use Rattle.oram_host_laws.specs.Honest.{Takes}
-use Rattle.oram_link_laws.specs.Resending.{AreStores, IsStore, ResentStoresGoThrough, TakesEach}
-use Rattle.oram_link_laws.proofs.Resending.{HasShapes, begun_shapes, is_stored, kept_shape, shapes_after, some_pair}
+use Rattle.oram_link_laws.specs.ResentStores.{AreStores, IsStore, ResentStoresGoThrough, TakesEach}
+use Rattle.oram_link_laws.proofs.ResentStores.{HasShapes, begun_shapes, is_stored, kept_shape, shapes_after, some_pair}
 use Rattle.oram_link_laws.proofs.Same.{look, look_self, look_past, shape_opened}
 
 look_here : {X : Type 0} (n : ℕ) (e : ℕ × X) (es : List (ℕ × X)) → e.0 ≡ n → look n (e ∷ es) ≡ Some e.1

@@ -13,7 +13,7 @@ use Rattle.oram_session.specs.Outcome.{Outcome}
 use Rattle.oram_session.proofs.Honesty.{direct_is_honest}
 use Rattle.oram_link_laws.specs.Examples.{DirectSessionsAreRun}
 use Rattle.oram_link_laws.specs.Runs.{BesideGivesInside, Exchange, HonestLinksAreRun, HostRun, IsHeldBy, LinkRun, NewDevicesHoldZerosBeside, SessionsBesideHeardHosts, exchanges_in}
-use Rattle.oram_link_laws.specs.Resending.{TakesEach}
+use Rattle.oram_link_laws.specs.ResentStores.{TakesEach}
 use Rattle.oram_link_laws.proofs.Exchanged.{turns_ran}
 use Rattle.oram_link_laws.proofs.Paired.{beside_is_heard, turns_beside}
 use Rattle.oram_link_laws.proofs.Same.{taken_each}

@@ -3,18 +3,18 @@ use Rattle.std.proofs.Common.{◌≡◌, ◌≢◌, ℕ, zero, suc, ◌≤◌, a
 use Rattle.std.specs.Int.{w32, to_be_bytes, from_be_bytes}
 use Rattle.std.proofs.lemmas.Nat.{from_be_bytes-to_be_bytes_4}
 use Rattle.oram_wire.specs.HostMessages.{fetch_body, request_body}
-use Rattle.oram_wire.specs.HostReading.{HasNumbers}
+use Rattle.oram_wire.specs.HostBodies.{HasNumbers}
 use Rattle.oram_wire.specs.declared.host_messages.HostRequest.{HostRequest}
 use Rattle.oram_wire.specs.declared.host_messages.HostRequest.TheVariants.{Fetch, Put, Shape, Store}
 use Rattle.oram_wire.specs.declared.host_messages.HostAnswer.TheVariants.{Done, Payload}
 use Rattle.oram_host.specs.Answers.{Answers, IsFetched, IsStored}
 use Rattle.oram_host.specs.Host.{Host, IsHost, Kept, record_of, tree_at}
 use Rattle.oram_host.specs.Path.{node_on, record_at}
-use Rattle.oram_host.specs.Serving.{Serves}
+use Rattle.oram_host.specs.Service.{Serves}
 use Rattle.oram_host_laws.specs.Honest.{Takes}
 use Rattle.oram_link_laws.specs.Examples.{MendingExample, OverlayExample, ResendingExample, StreamExample, both_stores, over_bytes, small_host, store_left, store_right}
 use Rattle.oram_link_laws.specs.Overlay.{IsLaidOver}
-use Rattle.oram_link_laws.specs.Resending.{IsStore, TakesEach}
+use Rattle.oram_link_laws.specs.ResentStores.{IsStore, TakesEach}
 use Rattle.oram_link_laws.specs.Runs.{HostRun, acknowledged}
 use Rattle.oram_link_laws.proofs.Put.{first, serves_so}
 use Rattle.oram_link_laws.proofs.Same.{look_past}

@@ -8,17 +8,17 @@ use Rattle.std.specs.Ordering.{is_eq, nat_cmp}
 use Rattle.std.specs.declared.cmp.Ordering.TheVariants.{Equal}
 use Rattle.std.proofs.lemmas.Bool.{cases_eq, cases_order}
 use Rattle.oram_wire.specs.HostMessages.{answer_body}
-use Rattle.oram_wire.specs.HostReading.{IsAnswer}
+use Rattle.oram_wire.specs.HostBodies.{IsAnswer}
 use Rattle.oram_wire.specs.declared.host_messages.HostAnswer.{HostAnswer}
 use Rattle.oram_wire.specs.declared.host_messages.HostAnswer.TheVariants.{Done, Payload, Refused}
 use Rattle.oram_host.specs.Host.{Host, IsHost, IsKept, Kept, RisesFrom, record_of, tree_at}
-use Rattle.oram_host.specs.Serving.{Serves}
+use Rattle.oram_host.specs.Service.{Serves}
 use Rattle.oram_host.specs.Swaps.{shape_at, stored_at}
 use Rattle.oram_host.proofs.Flipped.{tree_kept_at}
 use Rattle.oram_host.proofs.Records.{not_at}
-use Rattle.oram_link_laws.specs.Resending.{IsSameHost, ResentExchangesLeaveTheSame, ResentStoresLeaveOneHost, TakesEach}
+use Rattle.oram_link_laws.specs.ResentStores.{IsSameHost, ResentExchangesLeaveTheSame, ResentStoresLeaveOneHost, TakesEach}
 use Rattle.oram_link_laws.specs.Runs.{HostRun, acknowledged}
-use Rattle.oram_link_laws.proofs.Resending.{resent_stores_leave_the_same, some_pair}
+use Rattle.oram_link_laws.proofs.ResentStores.{resent_stores_leave_the_same, some_pair}
 
 at_self : (n : ℕ) → is_at (nat_cmp n) n ≡ true
 at_self n = ap is_eq (sym (nat_cmp_is n n Equal refl))

@@ -7,7 +7,7 @@ use Rattle.std.proofs.lemmas.List.{append_assoc, drop_at, take_at}
 use Rattle.byteorder.specs.Numbers.{big_number-reads_back}
 use Rattle.oram_wire.specs.FrameStream.{IsBody, frame, length_at}
 use Rattle.oram_wire.specs.HostMessages.{answer_body}
-use Rattle.oram_wire.specs.Streaming.{GivesFrame}
+use Rattle.oram_wire.specs.FrameIo.{GivesFrame}
 use Rattle.oram_host.specs.Host.{Host}
 use Rattle.oram_session.specs.Honesty.{IsHonestCall}
 use Rattle.oram_session.specs.Links.{DirectCall}

@@ -18,9 +18,9 @@ use Rattle.oram_session.specs.Links.{DirectCall, ToServer}
 use Rattle.oram_session.specs.Streams.{StreamCall, ToStreams}
 use Rattle.oram_session.specs.Turns.{Turn, IsTurn}
 use Rattle.oram_session.specs.declared.link.LinkFault.TheVariants.{Io}
-use Rattle.oram_link_laws.specs.Mending.{AreAmong, HearsEach}
+use Rattle.oram_link_laws.specs.Repair.{AreAmong, HearsEach}
 use Rattle.oram_link_laws.specs.Overlay.{LaysAllOver}
-use Rattle.oram_link_laws.specs.Resending.{AreStores, TakesEach}
+use Rattle.oram_link_laws.specs.ResentStores.{AreStores, TakesEach}
 use Rattle.oram_link_laws.specs.Runs.{Exchange, HeardRun, HostRun, IsHeldBy, LinkRun, acknowledged, bodies_of, exchanges_in}
 use Rattle.oram_link_laws.specs.Streamed.{Supplies}
 

@@ -1,6 +1,6 @@
 pub mod Runs
-pub mod Resending
+pub mod ResentStores
 pub mod Streamed
-pub mod Mending
+pub mod Repair
 pub mod Overlay
 pub mod Examples

@@ -4,7 +4,7 @@ use Rattle.std.specs.Prelude.{◌≡◌, ◌≢◌, ℕ, ◌+◌, ◌*◌, ◌�
 use Rattle.oram_host.specs.Answers.{IsFetched}
 use Rattle.oram_host.specs.Host.{Host}
 use Rattle.oram_host.specs.Path.{node_on, record_at}
-use Rattle.oram_link_laws.specs.Resending.{AreStores, IsStore, TakesEach}
+use Rattle.oram_link_laws.specs.ResentStores.{AreStores, IsStore, TakesEach}
 
 -- The records of one path are laid over those of another path of the same tree: `new` has the record from `records` at
 -- each level where the paths of `leaf` and `other` share their node, and the one from `bytes` at the others.

@@ -4,10 +4,10 @@ use Rattle.std.specs.List.{FoldsTo}
 use Rattle.oram_geometry.specs.Sizes.{IsDevice}
 use Rattle.oram_wire.specs.FrameStream.{IsBody, frame}
 use Rattle.oram_wire.specs.HostMessages.{answer_body}
-use Rattle.oram_wire.specs.HostReading.{IsAnswer}
+use Rattle.oram_wire.specs.HostBodies.{IsAnswer}
 use Rattle.oram_wire.specs.declared.host_messages.HostAnswer.{HostAnswer}
 use Rattle.oram_host.specs.Host.{Host}
-use Rattle.oram_host.specs.Serving.{Serves}
+use Rattle.oram_host.specs.Service.{Serves}
 use Rattle.oram_semantics.specs.Scheme.{Scheme}
 use Rattle.oram_semantics.specs.State.{State}
 use Rattle.oram_session.specs.Honesty.{IsArrayTurn}

@@ -1,8 +1,8 @@
 //! Laws about a host beside a link, about STOREs that are sent again, and about records that are laid over a path.
 ghost use Rattle.oram_link_laws.specs.Examples.{DirectSessionsAreRun, DirectSessionsAreStreamed, MendingExample, NewDeviceExample, OverlayExample, ResendingExample, SessionExample, StreamExample};
-ghost use Rattle.oram_link_laws.specs.Mending.{ResentStoresMend, ResentStoresMendRuns};
+ghost use Rattle.oram_link_laws.specs.Repair.{ResentStoresMend, ResentStoresMendRuns};
 ghost use Rattle.oram_link_laws.specs.Overlay.{LaidOverIsFetchedLater};
-ghost use Rattle.oram_link_laws.specs.Resending.{ResentExchangesLeaveTheSame, ResentStoresAreTaken, ResentStoresGoThrough, ResentStoresLeaveOneHost, ResentStoresLeaveTheSame};
+ghost use Rattle.oram_link_laws.specs.ResentStores.{ResentExchangesLeaveTheSame, ResentStoresAreTaken, ResentStoresGoThrough, ResentStoresLeaveOneHost, ResentStoresLeaveTheSame};
 ghost use Rattle.oram_link_laws.specs.Runs.{BesideGivesInside, HonestLinksAreRun, NewDevicesHoldZerosBeside, SessionsAreTheArraysBeside, SessionsBesideHeardHosts};
 ghost use Rattle.oram_link_laws.specs.Streamed.{StreamedSessionsAreTheArrays, StreamsAreRun};
 

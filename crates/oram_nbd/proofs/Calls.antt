@@ -1,7 +1,7 @@
 -- Calls of a device, one after another.
 use Rattle.std.proofs.Common.{◌≡◌, ℕ, Result, Ok, Err, refl, ◌∙◌}
 use Rattle.oram_nbd.specs.Calls.{IsCall, Stays}
-use Rattle.oram_nbd.specs.Holding.{IsStopped}
+use Rattle.oram_nbd.specs.HeldBytes.{IsStopped}
 use Rattle.oram_nbd.specs.declared.faults.DiskFault.{DiskFault}
 use Rattle.oram_nbd.specs.declared.faults.DiskFault.TheVariants.{Failed, OutOfMemory, Stopped}
 

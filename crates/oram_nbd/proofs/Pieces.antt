@@ -4,7 +4,7 @@ use Rattle.std.specs.Io.KnownBytes.{Appends, Consumes, IsAtEnd}
 use Rattle.std.proofs.KnownBytes.{Appends-trans, Consumes-trans}
 use Rattle.std.proofs.Math.Seq.{take-append-add}
 use Rattle.std.proofs.lemmas.List.{take-append-le}
-use Rattle.oram_wire.specs.Streaming.{TakesPart}
+use Rattle.oram_wire.specs.FrameIo.{TakesPart}
 use Rattle.oram_nbd.specs.Streams.{ComesShort, IsBegunText, IsSkip}
 use Rattle.oram_nbd.specs.declared.faults.NbdFault.TheVariants as fault
 

@@ -1,7 +1,7 @@
 -- Worked rows, by computing.
 use Rattle.std.proofs.Common.{◌≡◌, ℕ, List, [], ◌∷◌, ◌++◌, ◌^◌, Some, None, false, refl, arith}
 use lib.Count.{ones}
-use Rattle.oram_nbd.specs.Serving.{after, given, refusal_of, replies_text, Turn}
+use Rattle.oram_nbd.specs.Service.{after, given, refusal_of, replies_text, Turn}
 use Rattle.oram_nbd.specs.Messages.{reply_text, request_text}
 use Rattle.oram_nbd.specs.Options.{option_text, wanted_text, Wants}
 use Rattle.oram_nbd.specs.Handshake.{described, export_text, greeting, list_text, refused}

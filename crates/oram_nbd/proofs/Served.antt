@@ -5,10 +5,10 @@ use Rattle.std.proofs.lemmas.List.Elements.{All-push, All-nil}
 use Rattle.std.proofs.lemmas.Grind.{flat_map-append}
 use Rattle.std.specs.Io.KnownBytes.{Appends, Consumes}
 use Rattle.std.proofs.KnownBytes.{Appends-nil, Appends-trans, Consumes-nil, Consumes-trans}
-use Rattle.oram_nbd.specs.Holding.{GoesOnHolding}
+use Rattle.oram_nbd.specs.HeldBytes.{GoesOnHolding}
 use Rattle.oram_nbd.specs.Messages.{payload_len, request_text, IsRequest}
 use Rattle.oram_nbd.specs.Streams.{ComesShort, IsBegunText, Misses}
-use Rattle.oram_nbd.specs.Serving.{asking, refusal_of, replying, requests_text, replies_text, IsAnswer, IsPartly, IsReplied, IsReply, IsService, IsRefusal, IsTurn, NeverFails, FailsForGood, SaysFailed, Turn}
+use Rattle.oram_nbd.specs.Service.{asking, refusal_of, replying, requests_text, replies_text, IsAnswer, IsPartly, IsReplied, IsReply, IsService, IsRefusal, IsTurn, NeverFails, FailsForGood, SaysFailed, Turn}
 use Rattle.oram_nbd.specs.Transmission.{HasExchanged, HasServed, IsNoRequest, IsUnfinished, StopsServing}
 use Rattle.oram_nbd.specs.declared.faults.NbdError.{NbdError}
 use Rattle.oram_nbd.specs.declared.faults.NbdError.TheVariants.{Io, NoMemory}

@@ -1,7 +1,7 @@
 -- A whole connection: its handshake, and then its requests.
 use Rattle.std.specs.Prelude.{◌≡◌, ◌⊎◌, ℕ, List, Option, nat_le, ◌&&◌, if◌then◌else◌}
 use Rattle.std.specs.Int.{is_power_of_two}
-use Rattle.oram_nbd.specs.Holding.{StillHolds}
+use Rattle.oram_nbd.specs.HeldBytes.{StillHolds}
 use Rattle.oram_nbd.specs.Negotiation.{HasAgreed, StopsNegotiating}
 use Rattle.oram_nbd.specs.Transmission.{HasTransmitted, StopsServing}
 use Rattle.oram_nbd.specs.declared.faults.NbdFault.{NbdFault}

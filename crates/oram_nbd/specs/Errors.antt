@@ -1,7 +1,7 @@
 -- The protocol's numbers of errors, and the fault of a connection for a fault of reading.
 use Rattle.std.specs.Prelude.{ℕ}
-use Rattle.oram_wire.specs.declared.streaming.FrameFault.{FrameFault}
-use Rattle.oram_wire.specs.declared.streaming.FrameFault.TheVariants as frames
+use Rattle.oram_wire.specs.declared.frame_io.FrameFault.{FrameFault}
+use Rattle.oram_wire.specs.declared.frame_io.FrameFault.TheVariants as frames
 use Rattle.oram_nbd.specs.declared.faults.NbdError.{NbdError}
 use Rattle.oram_nbd.specs.declared.faults.NbdError.TheVariants.{Io, NoMemory, Invalid, NoSpace}
 use Rattle.oram_nbd.specs.declared.faults.NbdFault.{NbdFault}

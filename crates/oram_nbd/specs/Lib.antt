@@ -1,11 +1,11 @@
 pub mod Bytes
-pub mod Holding
+pub mod HeldBytes
 pub mod Calls
 pub mod MemBlocks
 pub mod Errors
 pub mod Streams
 pub mod Messages
-pub mod Serving
+pub mod Service
 pub mod Transmission
 pub mod Options
 pub mod Handshake

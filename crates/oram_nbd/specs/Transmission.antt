@@ -2,8 +2,8 @@
 use Rattle.std.specs.Prelude.{◌≡◌, ◌⊎◌, ℕ, ◌<◌, List, [], ◌∷◌, ◌++◌, length, take, Option, None, All}
 use Rattle.std.specs.Io.KnownBytes.{Appends, Consumes, IsAtEnd}
 use Rattle.oram_nbd.specs.Messages.{payload_len, request_text, IsRequest}
-use Rattle.oram_nbd.specs.Holding.{GoesOnHolding}
-use Rattle.oram_nbd.specs.Serving.{asking, refusal_of, replying, requests_text, replies_text, IsPartly, IsReplied, IsService, NeverFails, FailsForGood, Turn}
+use Rattle.oram_nbd.specs.HeldBytes.{GoesOnHolding}
+use Rattle.oram_nbd.specs.Service.{asking, refusal_of, replying, requests_text, replies_text, IsPartly, IsReplied, IsService, NeverFails, FailsForGood, Turn}
 use Rattle.oram_nbd.specs.declared.faults.NbdFault.{NbdFault}
 use Rattle.oram_nbd.specs.declared.faults.NbdFault.TheVariants.{Read, Truncated, Magic, Write, OldClient, UnknownExport, TooManyOptions, OutOfMemory, Stopped}
 use Rattle.oram_nbd.specs.declared.requests.Command.TheVariants.{Disconnect}

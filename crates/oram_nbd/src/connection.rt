@@ -3,7 +3,7 @@
 ghost use Rattle.std.specs.Prelude.{◌≡◌, ◌≤◌, ◌↔◌, length, Err, IfOk, IfErr, IsTrue};
 ghost use Rattle.oram_nbd.specs.Calls.{Stays};
 ghost use Rattle.oram_nbd.specs.Connection.{preferred_of, HasConnected, StopsConnection};
-ghost use Rattle.oram_nbd.specs.Holding.{IsStopped};
+ghost use Rattle.oram_nbd.specs.HeldBytes.{IsStopped};
 
 use crate::LONGEST_PAYLOAD;
 use crate::disk::BlockDevice;

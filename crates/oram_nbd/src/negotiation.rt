@@ -3,7 +3,7 @@
 ghost use Rattle.std.specs.Prelude.{◌≡◌, ℕ, [], ◌≤◌, Option, length, IfOk, IfErr, MatchOption, None};
 ghost use Rattle.std.specs.Int.{w32, to_be_bytes};
 ghost use Rattle.std.specs.Io.KnownBytes.{Appends, Consumes};
-ghost use Rattle.oram_wire.specs.Streaming.{GivesEnd};
+ghost use Rattle.oram_wire.specs.FrameIo.{GivesEnd};
 ghost use Rattle.oram_nbd.specs.Streams.{Misses};
 ghost use Rattle.oram_nbd.specs.Options.{option_head, IsHead};
 ghost use Rattle.oram_nbd.specs.Handshake.{greeting, IsFixed};

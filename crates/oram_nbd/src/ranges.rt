@@ -3,7 +3,7 @@
 ghost use Rattle.std.specs.Prelude.{◌≡◌, ◌⊎◌, ℕ, List, ◌+◌, ◌-◌, ◌*◌, ◌<◌, ◌≤◌, ◌++◌, length, take, IfOk, OnOk, OnErr};
 ghost use Rattle.oram_nbd.specs.Bytes.{bytes_at, written, zeroes, IsBegun};
 ghost use Rattle.oram_nbd.specs.Calls.{IsCall};
-ghost use Rattle.oram_nbd.specs.Holding.{IsStopped, GoesOnHolding, StillHolds};
+ghost use Rattle.oram_nbd.specs.HeldBytes.{IsStopped, GoesOnHolding, StillHolds};
 
 use crate::disk::BlockDevice;
 use crate::faults::DiskFault;

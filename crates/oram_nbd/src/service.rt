@@ -2,9 +2,9 @@
 
 ghost use Rattle.std.specs.Prelude.{◌≡◌, ℕ, List, ◌+◌, length, IfOk, IfSome, IfNone, OnOk, OnErr, None, nat_le};
 ghost use Rattle.oram_nbd.specs.Calls.{IsCall, Stays};
-ghost use Rattle.oram_nbd.specs.Holding.{IsStopped, GoesOnHolding};
+ghost use Rattle.oram_nbd.specs.HeldBytes.{IsStopped, GoesOnHolding};
 ghost use Rattle.oram_nbd.specs.Messages.{payload_len};
-ghost use Rattle.oram_nbd.specs.Serving.{after, given, given_len, refusal_of, IsAnswer, IsPartly, IsRefusal, IsReply};
+ghost use Rattle.oram_nbd.specs.Service.{after, given, given_len, refusal_of, IsAnswer, IsPartly, IsRefusal, IsReply};
 
 use crate::LONGEST_PAYLOAD;
 use crate::disk::BlockDevice;

@@ -3,7 +3,7 @@
 ghost use Rattle.std.specs.Prelude.{◌≡◌, ◌<◌, ◌++◌, length, IfOk, IfErr, OnOk};
 ghost use Rattle.std.specs.Bool.{MatchBool};
 ghost use Rattle.std.specs.Io.KnownBytes.{Appends, Consumes};
-ghost use Rattle.oram_wire.specs.Streaming.{GivesEnd};
+ghost use Rattle.oram_wire.specs.FrameIo.{GivesEnd};
 ghost use Rattle.oram_nbd.specs.Streams.{ComesShort, IsBegunText, IsSkip};
 
 use crate::faults::NbdFault;

@@ -2,9 +2,9 @@
 
 ghost use Rattle.std.specs.Prelude.{◌≡◌, ℕ, List, length, IfOk, IfErr, OnOk, IfSome, MatchOption};
 ghost use Rattle.std.specs.Io.KnownBytes.{Appends, Consumes};
-ghost use Rattle.oram_wire.specs.Streaming.{GivesEnd};
+ghost use Rattle.oram_wire.specs.FrameIo.{GivesEnd};
 ghost use Rattle.oram_nbd.specs.Calls.{Stays};
-ghost use Rattle.oram_nbd.specs.Holding.{IsStopped};
+ghost use Rattle.oram_nbd.specs.HeldBytes.{IsStopped};
 ghost use Rattle.oram_nbd.specs.Messages.{reply_text, request_text, IsRequest};
 ghost use Rattle.oram_nbd.specs.Streams.{ComesShort, IsBegunText, Misses};
 ghost use Rattle.oram_nbd.specs.Transmission.{HasTransmitted, IsNoRequest, IsUnfinished, StopsServing};

@@ -6,11 +6,11 @@ use Rattle.std.proofs.lemmas.List.Elements.{All-head, All-tail}
 use Rattle.oram_geometry.specs.declared.Sizes.{Sizes}
 use Rattle.oram_geometry.specs.Sizes.{IsDevice, trees_of}
 use Rattle.oram_wire.specs.HostMessages.{answer_body}
-use Rattle.oram_wire.specs.HostReading.{IsAnswer}
+use Rattle.oram_wire.specs.HostBodies.{IsAnswer}
 use Rattle.oram_wire.specs.declared.host_messages.HostAnswer.{HostAnswer}
 use Rattle.oram_wire.specs.declared.host_messages.HostAnswer.TheVariants.{Done, Payload, Refused}
 use Rattle.oram_host.specs.Host.{Host}
-use Rattle.oram_host.specs.Serving.{Serves}
+use Rattle.oram_host.specs.Service.{Serves}
 use Rattle.oram_tree.specs.Format.{PutsAll}
 use Rattle.oram_semantics.specs.Events.{failed_reply}
 use Rattle.oram_semantics.specs.Law.{new_state, world_of}
@@ -32,12 +32,12 @@ use Rattle.oram_semantics.specs.declared.events.Submission.{Submission}
 use Rattle.oram_core.specs.Doing.{Done as Did, submitted_by}
 use Rattle.oram_core.specs.Steps.{Steps, Heard, did}
 use Rattle.oram_host_laws.specs.Honest.{IsHonest, Takes}
-use Rattle.oram_host_laws.specs.Hosting.{GoesOnHosted, Hosts, HostsBy, HostsWork}
+use Rattle.oram_host_laws.specs.HostRecords.{GoesOnHosted, Hosts, HostsBy, HostsWork}
 use Rattle.oram_host_laws.specs.Law.{IsNewHosted}
-use Rattle.oram_host_laws.specs.Lying.{IsLie}
+use Rattle.oram_host_laws.specs.AnyHost.{IsLie}
 use Rattle.oram_host_laws.proofs.Honest.{honest_hosts_serve, new_hosts_serve}
-use Rattle.oram_host_laws.proofs.Lying.{lying_hosts_fail}
-use Rattle.oram_host_laws.proofs.Meeting.{met, met_hosts}
+use Rattle.oram_host_laws.proofs.AnyHost.{lying_hosts_fail}
+use Rattle.oram_host_laws.proofs.Receipt.{met, met_hosts}
 use Rattle.oram_session.specs.Exchanges.{Runs, Delivery, IsSent, IsAnswered, AllSent, event_of, is_stall, retried}
 use Rattle.oram_session.specs.Formatting.{TakesMessage}
 use Rattle.oram_session.specs.Honesty.{HasFailed, IsHeardCall, IsHeardLink, IsHonestCall, IsHonestLink, IsArrayTurn, IsBusy, IsHeld, NewDevicesHoldZeros, SessionsAreTheArrays}

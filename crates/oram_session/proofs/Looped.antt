@@ -5,7 +5,7 @@ use Rattle.std.specs.Result.{is_err}
 use Rattle.std.specs.Io.KnownBytes.{Appends}
 use Rattle.oram_wire.specs.FrameStream.{frame}
 use Rattle.oram_wire.specs.HostMessages.{answer_body}
-use Rattle.oram_wire.specs.Streaming.{GivesFrame}
+use Rattle.oram_wire.specs.FrameIo.{GivesFrame}
 use Rattle.oram_wire.specs.declared.host_messages.HostAnswer.{HostAnswer}
 use Rattle.oram_host.specs.Host.{Host}
 use Rattle.oram_session.specs.Loopback.{ToItself, IsAsked, IsReturned, Crosses, Carries, longest_frame}

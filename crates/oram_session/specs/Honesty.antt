@@ -4,13 +4,13 @@ use Rattle.std.specs.List.{FoldsTo}
 use Rattle.oram_geometry.specs.declared.Sizes.{Sizes}
 use Rattle.oram_geometry.specs.Sizes.{IsDevice}
 use Rattle.oram_wire.specs.HostMessages.{answer_body}
-use Rattle.oram_wire.specs.HostReading.{IsAnswer}
+use Rattle.oram_wire.specs.HostBodies.{IsAnswer}
 use Rattle.oram_wire.specs.declared.host_messages.HostAnswer.{HostAnswer}
 use Rattle.oram_wire.specs.declared.session_messages.SessionReply.{SessionReply}
 use Rattle.oram_wire.specs.declared.session_messages.SessionReply.TheVariants.{Refused}
 use Rattle.oram_wire.specs.declared.session_messages.SessionRequest.{SessionRequest}
 use Rattle.oram_host.specs.Host.{Host}
-use Rattle.oram_host.specs.Serving.{Serves}
+use Rattle.oram_host.specs.Service.{Serves}
 use Rattle.oram_semantics.specs.Blocks.{body_from}
 use Rattle.oram_semantics.specs.Events.{address_of, refusal_number}
 use Rattle.oram_semantics.specs.Law.{IsServing}
@@ -24,8 +24,8 @@ use Rattle.oram_semantics.specs.declared.events.Refusal.TheVariants.{Failed}
 use Rattle.oram_semantics.specs.declared.events.Submission.{Submission}
 use Rattle.oram_core.specs.Formatting.{IsNew}
 use Rattle.oram_host_laws.specs.Honest.{HeardOrNot}
-use Rattle.oram_host_laws.specs.Hosting.{Hosts}
-use Rattle.oram_host_laws.specs.Lying.{IsLie}
+use Rattle.oram_host_laws.specs.HostRecords.{Hosts}
+use Rattle.oram_host_laws.specs.AnyHost.{IsLie}
 use Rattle.oram_session.specs.Formatting.{TakesMessage}
 use Rattle.oram_session.specs.Outcome.{Outcome}
 use Rattle.oram_session.specs.Requests.{IsRequest, IsNoRequest, command_of, session_reply}

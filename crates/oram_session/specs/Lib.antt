@@ -8,6 +8,6 @@ pub mod Requests
 pub mod Settled
 pub mod Exchanges
 pub mod Turns
-pub mod Resuming
+pub mod Resumption
 pub mod Sessions
 pub mod Honesty

@@ -1,7 +1,7 @@
 -- What a session asks of the core, and what it replies to the user.
 use Rattle.std.specs.Prelude.{◌≡◌, ℕ, false, List, ◌⊎◌}
 use Rattle.oram_wire.specs.SessionMessages.{session_request_body}
-use Rattle.oram_wire.specs.SessionReading.{names_session_request, IsSessionMisfit, HasAddress}
+use Rattle.oram_wire.specs.SessionBodies.{names_session_request, IsSessionMisfit, HasAddress}
 use Rattle.oram_wire.specs.declared.session_messages.SessionRequest.{SessionRequest}
 use Rattle.oram_wire.specs.declared.session_messages.SessionRequest.TheVariants as request
 use Rattle.oram_wire.specs.declared.session_messages.SessionReply.{SessionReply}

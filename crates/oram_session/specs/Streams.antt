@@ -2,7 +2,7 @@
 use Rattle.std.specs.Prelude.{◌≡◌, ℕ, ◌<◌, nat_lt, Bool, List, length, take, Option, Ok, Err, MatchBool, ◌⊎◌}
 use Rattle.std.specs.Io.KnownBytes.{Appends}
 use Rattle.oram_wire.specs.FrameStream.{IsBody, frame}
-use Rattle.oram_wire.specs.Streaming.{GivesFrame, GivesEnd, GivesPart, GivesCutFrame, GivesBrokenHead, GivesHead}
+use Rattle.oram_wire.specs.FrameIo.{GivesFrame, GivesEnd, GivesPart, GivesCutFrame, GivesBrokenHead, GivesHead}
 use Rattle.oram_wire.specs.declared.TheConstants.{LONGEST_BODY}
 use Rattle.oram_session.specs.Outcome.{Outcome, faults_after}
 use Rattle.oram_session.specs.declared.link.LinkFault.{LinkFault}

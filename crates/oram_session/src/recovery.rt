@@ -8,7 +8,7 @@ ghost use Rattle.oram_core.specs.Core.{IsSameDevice, scheme_of};
 ghost use Rattle.oram_core.specs.Doing.{done};
 ghost use Rattle.oram_session.specs.Exchanges.{Runs, Delivery};
 ghost use Rattle.oram_session.specs.Settled.{IsSettled, IsUnderWay, is_settled_by};
-ghost use Rattle.oram_session.specs.Resuming.{HasGoneOn, HasStalled, IsCutShort};
+ghost use Rattle.oram_session.specs.Resumption.{HasGoneOn, HasStalled, IsCutShort};
 
 use crate::exchanges::{MOST_RETRIES, exchange_all};
 use crate::link::Link;

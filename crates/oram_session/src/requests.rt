@@ -2,7 +2,7 @@
 ghost use Rattle.std.specs.Prelude.{◌≡◌, IfOk, IfErr, MatchOption};
 ghost use Rattle.oram_session.specs.Requests.{IsRequest, IsNoRequest, command_of, session_reply};
 ghost use Rattle.oram_wire.specs.declared.session_messages.SessionRequest.{SessionRequest};
-ghost use Rattle.oram_wire.specs.SessionReading.{HasAddress};
+ghost use Rattle.oram_wire.specs.SessionBodies.{HasAddress};
 
 use oram_core::{Command, ReplyBody};
 use oram_host::ServeFault;

@@ -4,7 +4,7 @@ ghost use Rattle.std.specs.Io.KnownBytes.{Appends, IsAtEnd};
 ghost use Rattle.oram_geometry.specs.Sizes.{IsDevice, trees_of};
 ghost use Rattle.oram_wire.specs.FrameStream.{IsBody, IsBroken, IsUnfinished, frame};
 ghost use Rattle.oram_wire.specs.SessionMessages.{session_reply_body};
-ghost use Rattle.oram_wire.specs.SessionReading.{IsSessionReply};
+ghost use Rattle.oram_wire.specs.SessionBodies.{IsSessionReply};
 ghost use Rattle.oram_semantics.specs.Run.{shown_by};
 ghost use Rattle.oram_semantics.specs.State.{State};
 ghost use Rattle.oram_semantics.specs.declared.events.Event.TheVariants.{Submit};

@@ -14,10 +14,10 @@ use Rattle.oram_store.specs.Answers.{Answers}
 use Rattle.oram_wire.specs.declared.host_messages.HostAnswer.TheVariants as answer
 use Rattle.oram_wire.specs.declared.host_messages.HostRequest.TheVariants as request
 use Rattle.oram_layout.specs.Changes.{marks}
-use Rattle.oram_store.specs.Keeping.{Holds, IsSound, StoreValue, Stores, records_of, sure_records}
+use Rattle.oram_store.specs.KeptRecords.{Holds, IsSound, StoreValue, Stores, records_of, sure_records}
 use Rattle.oram_store.specs.Laws.{HoldsPath, no_records}
 use Rattle.oram_store.specs.RecordFile.{Finds, bounds}
-use Rattle.oram_store.proofs.Finding.{found_more, found_now}
+use Rattle.oram_store.proofs.Crashes.{found_more, found_now}
 use Rattle.oram_store.proofs.Sound.{holds_but}
 
 module _ {F : Type 0} (seen : F → Contents) (may_leave : F → Contents → Type 0) (moment : F → ℕ) (left_since : F → ℕ → Contents → Type 0) where

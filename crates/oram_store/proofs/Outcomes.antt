@@ -5,7 +5,7 @@ use Rattle.oram_redo.specs.FilePair.{ComesAfter}
 use Rattle.oram_store.specs.RecordFile.{Calls, FileValue, IsReason, Runs}
 use Rattle.oram_store.specs.declared.faults.StoreFault.{StoreFault}
 use Rattle.oram_store.specs.declared.faults.StoreFault.TheVariants.{Closed, OutOfMemory}
-use Rattle.oram_store.proofs.Finding.{calls_err, runs_none}
+use Rattle.oram_store.proofs.Crashes.{calls_err, runs_none}
 
 -- an error owes nothing that is said of success
 pub on_ok_none : {T E : Type 0} (result : Result T E) (P : Type 0) → IsErr result → OnOk result P

@@ -18,7 +18,7 @@ use Rattle.oram_redo.specs.Log.{put_all}
 use Rattle.oram_redo.specs.declared.file_pair.FileKind.TheVariants.{Records}
 use Rattle.oram_store.specs.Answers.{Answers, answer_by}
 use Rattle.oram_store.specs.Crashes.{IsCarriedOut, MayBeFound, MayHold, Serves, ServesWhole, Settles}
-use Rattle.oram_store.specs.Keeping.{Changes, Holds, IsSound, IsSoundFile, LeavesRecords, StoreValue, Stores, content_of, records_of, sure_records}
+use Rattle.oram_store.specs.KeptRecords.{Changes, Holds, IsSound, IsSoundFile, LeavesRecords, StoreValue, Stores, content_of, records_of, sure_records}
 use Rattle.oram_store.specs.Batches.{records_of_tree}
 use Rattle.oram_store.specs.RecordFile.{FileValue, Finds, OnlyIf, ReadsOnly}
 use Rattle.oram_store.specs.declared.faults.StoreFault.{StoreFault}
@@ -26,8 +26,8 @@ use Rattle.oram_wire.specs.declared.host_messages.HostAnswer.{HostAnswer}
 use Rattle.oram_wire.specs.declared.host_messages.HostAnswer.TheVariants as answer
 use Rattle.oram_wire.specs.declared.host_messages.HostRequest.{HostRequest}
 use Rattle.oram_wire.specs.declared.host_messages.HostRequest.TheVariants as request
-use Rattle.oram_store.proofs.Finding.{found_leads, found_then, same_front}
-use Rattle.oram_store.proofs.Settling.{settles_none}
+use Rattle.oram_store.proofs.Crashes.{found_leads, found_then, same_front}
+use Rattle.oram_store.proofs.SettledPuts.{settles_none}
 use Rattle.oram_store.proofs.Sound.{holds_then, puts_keep, reads_leave, stores_keep}
 
 path_keep : (one two : RecordsOf) (tree : ℕ) (s : TreeShape) (leaf : ℕ) (bytes : List ℕ) → AreKept one two → IsPathOf two tree s leaf bytes → IsPathOf one tree s leaf bytes

@@ -17,10 +17,10 @@ use Rattle.oram_redo.specs.declared.redo.Redo.{Redo}
 use Rattle.oram_redo.proofs.Moments.{leads_to, nothing_more_written, nothing_yet_written}
 use Rattle.oram_redo.proofs.Settled.{settled_same}
 use Rattle.oram_layout.specs.Limits.{TreeShape}
-use Rattle.oram_store.specs.Keeping.{Changes, Holds, IsSoundFile, LeavesRecords, Puts, Stores}
+use Rattle.oram_store.specs.KeptRecords.{Changes, Holds, IsSoundFile, LeavesRecords, Puts, Stores}
 use Rattle.oram_store.specs.declared.faults.StoreFault.{StoreFault}
 use Rattle.oram_store.specs.RecordFile.{Commits, FileValue, Finds, IsSteady, OnlyIf, Passes, ReadsOnly}
-use Rattle.oram_store.proofs.Finding.{found_leads, found_more, found_now, found_then, same_front}
+use Rattle.oram_store.proofs.Crashes.{found_leads, found_more, found_now, found_then, same_front}
 
 pub length-bytes_at : (n at : ℕ) (c : Content) → length (bytes_at n at c) ≡ n
 length-bytes_at zero at c = refl

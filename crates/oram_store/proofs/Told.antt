@@ -9,8 +9,8 @@ use Rattle.oram_host.specs.Path.{FitsAnswer, IsBehind}
 use Rattle.oram_host.specs.Refusals.{code_of}
 use Rattle.oram_host.specs.declared.refusals.HostRefusal.{HostRefusal}
 use Rattle.oram_host.specs.declared.refusals.HostRefusal.TheVariants as refusal
-use Rattle.oram_store.specs.Serving.{StandsBehind, StandsFor}
-use Rattle.oram_store.specs.Keeping.{StoreValue}
+use Rattle.oram_store.specs.AnswerBytes.{StandsBehind, StandsFor}
+use Rattle.oram_store.specs.KeptRecords.{StoreValue}
 use Rattle.oram_store.specs.Reasons.{IsReasonFor}
 use Rattle.oram_store.specs.RecordFile.{IsReason}
 use Rattle.oram_store.specs.Refusals.{RespondsWith, ChangesTrees, refusal_by}

@@ -7,7 +7,7 @@ use Rattle.oram_wire.specs.declared.host_messages.HostRequest.TheVariants as req
 use Rattle.oram_layout.specs.Limits.{TreeShape}
 use Rattle.oram_layout.specs.Records.{AreKept, IsPathOf, LacksOn, Records}
 use Rattle.oram_layout.specs.Trees.{Trees, shape_at}
-use Rattle.oram_store.specs.Keeping.{Puts, Stores}
+use Rattle.oram_store.specs.KeptRecords.{Puts, Stores}
 use Rattle.oram_store.specs.declared.faults.StoreFault.{StoreFault}
 
 -- The answer to a request, by the records before it and after it. A refused request changes none. The trees give all

@@ -11,7 +11,7 @@ use Rattle.oram_layout.specs.Limits.{TreeShape}
 use Rattle.oram_layout.specs.Records.{AreKept, Records, records_in}
 use Rattle.oram_layout.specs.Trees.{Trees, shape_at}
 use Rattle.oram_store.specs.Answers.{Answers}
-use Rattle.oram_store.specs.Keeping.{Holds, IsSound, Puts, StoreValue, Stores, records_of, sure_records}
+use Rattle.oram_store.specs.KeptRecords.{Holds, IsSound, Puts, StoreValue, Stores, records_of, sure_records}
 use Rattle.oram_store.specs.Refusals.{ChangesTrees}
 use Rattle.oram_store.specs.RecordFile.{Finds, OnlyIf}
 

@@ -5,7 +5,7 @@ use Rattle.oram_layout.specs.BucketFile.{IsBucketFile}
 use Rattle.oram_layout.specs.Limits.{TreeShape}
 use Rattle.oram_layout.specs.Records.{Records, records_in}
 use Rattle.oram_layout.specs.Trees.{Trees, shape_at}
-use Rattle.oram_store.specs.Keeping.{Stores}
+use Rattle.oram_store.specs.KeptRecords.{Stores}
 
 abbrev pub no_records : Records
 no_records tree node = None

@@ -1,5 +1,5 @@
-pub mod Opening
-pub mod Closing
+pub mod OpenOutcomes
+pub mod Close
 pub mod Laws
 pub mod Faults
 pub mod Reasons
@@ -7,7 +7,7 @@ pub mod RecordFile
 pub mod Batches
 pub mod Refusals
 pub mod Answers
-pub mod Pending
-pub mod Keeping
+pub mod PendingCells
+pub mod KeptRecords
 pub mod Crashes
-pub mod Serving
+pub mod AnswerBytes

@@ -4,7 +4,7 @@ use Rattle.oram_wire.specs.declared.host_messages.HostRequest.{HostRequest}
 use Rattle.oram_wire.specs.declared.host_messages.HostRequest.TheVariants as request
 use Rattle.oram_layout.specs.Limits.{cells_len}
 use Rattle.oram_layout.specs.Trees.{Trees, next_of}
-use Rattle.oram_store.specs.Keeping.{StoreValue}
+use Rattle.oram_store.specs.KeptRecords.{StoreValue}
 use Rattle.oram_store.specs.RecordFile.{IsReason}
 use Rattle.oram_store.specs.declared.faults.StoreFault.{StoreFault}
 use Rattle.oram_store.specs.declared.faults.StoreFault.TheVariants.{NoRoom}

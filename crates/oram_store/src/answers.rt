@@ -4,14 +4,14 @@ ghost use Rattle.oram_host.specs.Refusals.{code_of};
 ghost use Rattle.oram_redo.specs.FilePair.{Contents};
 ghost use Rattle.oram_store.specs.Answers.{IsGranted, IsKeptAtOnce};
 ghost use Rattle.oram_store.specs.Crashes.{Serves};
-ghost use Rattle.oram_store.specs.Keeping.{IsSound};
+ghost use Rattle.oram_store.specs.KeptRecords.{IsSound};
 ghost use Rattle.oram_store.specs.Reasons.{TellsWhy};
 ghost use Rattle.oram_store.specs.Refusals.{IsRefused, RespondsWith, ChangesTrees, refusal_by};
 ghost use Rattle.oram_store.specs.RecordFile.{Runs};
-ghost use Rattle.oram_store.specs.Serving.{StandsBehind, StandsFor};
+ghost use Rattle.oram_store.specs.AnswerBytes.{StandsBehind, StandsFor};
 ghost use Rattle.oram_wire.specs.FrameStream.{IsBody};
 ghost use Rattle.oram_wire.specs.HostMessages.{answer_body, request_body};
-ghost use Rattle.oram_wire.specs.HostReading.{HasNumbers, IsAnswer, IsMisfit, names_request, request_of};
+ghost use Rattle.oram_wire.specs.HostBodies.{HasNumbers, IsAnswer, IsMisfit, names_request, request_of};
 ghost use Rattle.oram_wire.specs.declared.host_messages.HostAnswer.{HostAnswer};
 ghost use Rattle.oram_wire.specs.declared.host_messages.HostRequest.{HostRequest};
 

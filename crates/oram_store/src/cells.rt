@@ -7,7 +7,7 @@ ghost use Rattle.oram_layout.specs.Trees.{Trees, cell_at, sizes_of, tree_at};
 ghost use Rattle.oram_redo.specs.FilePair.{Contents};
 ghost use Rattle.oram_redo.specs.declared.file_pair.FileKind.TheVariants.{Records};
 ghost use Rattle.oram_store.specs.Batches.{RecordOnto, records_of_tree};
-ghost use Rattle.oram_store.specs.Keeping.{IsSoundFile, LeavesRecords};
+ghost use Rattle.oram_store.specs.KeptRecords.{IsSoundFile, LeavesRecords};
 ghost use Rattle.oram_store.specs.RecordFile.{Calls, ReadsOnly};
 
 use crate::faults::StoreFault;

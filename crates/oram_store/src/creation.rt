@@ -10,8 +10,8 @@ ghost use Rattle.oram_redo.specs.FilePair.{ComesAfter, Contents, HasFailed, IsSu
 ghost use Rattle.oram_redo.specs.Log.{IsLog, StandsFor};
 ghost use Rattle.oram_redo.specs.Redo.{IsSettled, bounds_of};
 ghost use Rattle.oram_redo.specs.declared.file_pair.FileKind.TheVariants.{Log, Records};
-ghost use Rattle.oram_store.specs.Keeping.{IsSound, records_of};
-ghost use Rattle.oram_store.specs.Opening.{IsNotOpened, IsOpened, OpensAlike};
+ghost use Rattle.oram_store.specs.KeptRecords.{IsSound, records_of};
+ghost use Rattle.oram_store.specs.OpenOutcomes.{IsNotOpened, IsOpened, OpensAlike};
 ghost use Rattle.oram_store.specs.RecordFile.{bounds};
 
 use crate::faults::StoreFault;

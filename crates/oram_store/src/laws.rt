@@ -6,11 +6,11 @@ ghost use Rattle.oram_layout.specs.Trees.{sizes_of};
 ghost use Rattle.oram_redo.specs.FilePair.{Contents};
 ghost use Rattle.oram_store.specs.Answers.{IsKeptAtOnce};
 ghost use Rattle.oram_store.specs.Crashes.{Serves};
-ghost use Rattle.oram_store.specs.Keeping.{Holds, IsSound, records_of, sure_records};
+ghost use Rattle.oram_store.specs.KeptRecords.{Holds, IsSound, records_of, sure_records};
 ghost use Rattle.oram_store.specs.Laws.{HoldsPath, no_records};
 ghost use Rattle.oram_store.specs.RecordFile.{Finds, Runs};
 ghost use Rattle.oram_store.specs.Refusals.{RespondsWith};
-ghost use Rattle.oram_wire.specs.HostReading.{HasNumbers};
+ghost use Rattle.oram_wire.specs.HostBodies.{HasNumbers};
 ghost use Rattle.oram_wire.specs.declared.host_messages.HostAnswer.{HostAnswer};
 
 use crate::creation::create;

@@ -9,10 +9,10 @@ ghost use Rattle.oram_layout.specs.Records.{AreKept};
 ghost use Rattle.oram_layout.specs.Trees.{Trees, cell_at, next_of, sizes_of, tree_at};
 ghost use Rattle.oram_redo.specs.FilePair.{Contents, Rises};
 ghost use Rattle.oram_store.specs.Answers.{answer_by};
-ghost use Rattle.oram_store.specs.Closing.{Closes};
+ghost use Rattle.oram_store.specs.Close.{Closes};
 ghost use Rattle.oram_store.specs.Crashes.{Serves, Settles};
-ghost use Rattle.oram_store.specs.Keeping.{Changes, IsSound, IsSoundFile, Puts, Stores, records_of};
-ghost use Rattle.oram_store.specs.Pending.{AreCells};
+ghost use Rattle.oram_store.specs.KeptRecords.{Changes, IsSound, IsSoundFile, Puts, Stores, records_of};
+ghost use Rattle.oram_store.specs.PendingCells.{AreCells};
 ghost use Rattle.oram_store.specs.Reasons.{IsReasonFor, TellsWhy};
 ghost use Rattle.oram_store.specs.Refusals.{IsRefused, ChangesTrees, refusal_by};
 ghost use Rattle.oram_store.specs.RecordFile.{Calls, Commits, FileValue, IsReason, Runs};
@@ -46,8 +46,8 @@ pub struct FileStore<F: FilePair> {
 }
 
 impl<F: FilePair> Model for FileStore<F> {
-    ghost use Rattle.oram_store.specs.Keeping.{StoreValue};
-    ghost use Rattle.oram_store.specs.Pending.{AreCells};
+    ghost use Rattle.oram_store.specs.KeptRecords.{StoreValue};
+    ghost use Rattle.oram_store.specs.PendingCells.{AreCells};
     ghost use Rattle.std.specs.Prelude.{◌≡◌, length};
 
     ghost Value = { StoreValue F };

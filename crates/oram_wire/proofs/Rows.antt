@@ -7,10 +7,10 @@ use Rattle.oram_wire.specs.declared.session_messages.SessionReply.TheVariants as
 use Rattle.oram_wire.specs.declared.session_messages.SessionRequest.TheVariants as session
 use Rattle.oram_wire.specs.FrameStream.{frame, length_at}
 use Rattle.oram_wire.specs.HostMessages.{answer_body, fetch_body, put_body, request_body, shape_body, store_body}
-use Rattle.oram_wire.specs.HostReading.{is_request_length, names_answer, names_request}
-use Rattle.oram_wire.specs.Streaming.{GivesBrokenHead, GivesCutFrame, GivesEnd, GivesFrame, TakesPart}
+use Rattle.oram_wire.specs.HostBodies.{is_request_length, names_answer, names_request}
+use Rattle.oram_wire.specs.FrameIo.{GivesBrokenHead, GivesCutFrame, GivesEnd, GivesFrame, TakesPart}
 use Rattle.oram_wire.specs.SessionMessages.{session_reply_body, session_request_body}
-use Rattle.oram_wire.specs.SessionReading.{is_session_request_length, names_session_reply, names_session_request}
+use Rattle.oram_wire.specs.SessionBodies.{is_session_request_length, names_session_reply, names_session_request}
 
 fetch_row : request_body (request.Fetch 0 6) ≡ 1 ∷ 0 ∷ 0 ∷ 0 ∷ 0 ∷ 6 ∷ []
 fetch_row = refl

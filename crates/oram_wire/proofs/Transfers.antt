@@ -11,7 +11,7 @@ use lib.Seq.{take-add}
 use Rattle.byteorder.specs.Numbers.{big_number-reads_back}
 use Rattle.oram_wire.specs.declared.TheConstants.{LONGEST_BODY}
 use Rattle.oram_wire.specs.FrameStream.{IsUnfinished, length_at}
-use Rattle.oram_wire.specs.Streaming.{GivesCutFrame, GivesPart, TakesPart}
+use Rattle.oram_wire.specs.FrameIo.{GivesCutFrame, GivesPart, TakesPart}
 
 -- the error that a `?` passed on
 pub err_is : {T E : Type 0} (r : Result T E) (y f s : E) → r ≡ Err y → y ≡ f → r ≡ Err s → f ≡ s

@@ -1,8 +1,8 @@
 -- The front of a stream.
 use Rattle.std.specs.Prelude.{◌≡◌, ℕ, List, ◌++◌}
 use Rattle.oram_wire.specs.FrameStream.{IsBody, IsBroken, IsUnfinished, frame}
-use Rattle.oram_wire.specs.declared.framing.Front.{Front}
-use Rattle.oram_wire.specs.declared.framing.Front.TheVariants as front
+use Rattle.oram_wire.specs.declared.frames.Front.{Front}
+use Rattle.oram_wire.specs.declared.frames.Front.TheVariants as front
 
 -- the bytes begin as this reading of them says
 abbrev pub IsFront : List ℕ → Front → Type 0

@@ -1,8 +1,8 @@
 pub mod HostMessages
-pub mod HostReading
+pub mod HostBodies
 pub mod SessionMessages
-pub mod SessionReading
+pub mod SessionBodies
 pub mod FrameStream
-pub mod Streaming
+pub mod FrameIo
 pub mod ListOfBodies
 pub mod Fronts

@@ -8,21 +8,21 @@
 #![tactic(auto)]
 
 mod faults;
-mod framing;
+mod frame_io;
+mod frames;
 mod host_messages;
 mod session_messages;
 mod sinks;
-mod streaming;
 
 pub use faults::WireFault;
-pub use framing::{Fed, Frames};
+pub use frame_io::{FrameFault, WriteFault, fill, next_frame, put_frame, read_body, write};
+pub use frames::{Fed, Frames};
 pub use host_messages::{
     GOOD, HEADER_LEN, HostAnswer, HostRequest, HostView, REFUSED, fetch_header, is_done,
     store_header,
 };
 pub use session_messages::{BAD_REQUEST, DEVICE_FAILED, SessionReply, SessionRequest};
 pub use sinks::{ListSink, Sink, SinkFault};
-pub use streaming::{FrameFault, WriteFault, fill, next_frame, put_frame, read_body, write};
 
 /// The number of bytes of the longest body that a frame can have.
 pub const LONGEST_BODY: usize = 1_048_576;

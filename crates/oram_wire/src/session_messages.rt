@@ -3,7 +3,7 @@
 ghost use Rattle.std.specs.Prelude.{◌≡◌, ◌≢◌, ◌↔◌, ◌<◌, ◌^◌, ◌∷◌, ◌++◌, false, ℕ, length, IfOk, IfErr, IsErrOf, MatchResult};
 ghost use Rattle.std.specs.Int.{w32, to_be_bytes};
 ghost use Rattle.oram_wire.specs.SessionMessages.{session_request_body, session_reply_body};
-ghost use Rattle.oram_wire.specs.SessionReading.{names_session_request, names_session_reply, IsSessionMisfit, IsReplyMisfit, HasNoReplyCode, HasAddress, IsSessionReply};
+ghost use Rattle.oram_wire.specs.SessionBodies.{names_session_request, names_session_reply, IsSessionMisfit, IsReplyMisfit, HasNoReplyCode, HasAddress, IsSessionReply};
 
 use crate::faults::WireFault;
 use byteorder::{BigEndian, ByteOrder};

@@ -15,7 +15,7 @@ use Rattle.oram_session.specs.Turns.{Turn}
 use Rattle.oram_host.specs.declared.serve_fault.ServeFault.{ServeFault}
 use Rattle.oram_host.specs.declared.serve_fault.ServeFault.TheVariants as serve
 use Rattle.oramd.specs.Formatting.{IsFormatted}
-use Rattle.oramd.specs.Looping.{HasAnswered, after_frames, loop_scheme, loop_sizes, loop_words}
+use Rattle.oramd.specs.FrameLoop.{HasAnswered, after_frames, loop_scheme, loop_sizes, loop_words}
 use Rattle.oramd.specs.declared.faults.Fault.{Fault}
 use Rattle.oramd.specs.declared.faults.Fault.TheVariants.{Hex, OutOfMemory, Stalled}
 

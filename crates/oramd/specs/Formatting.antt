@@ -10,7 +10,7 @@ use Rattle.oram_session.specs.Formatting.{TakesMessage, RefusesMessage}
 use Rattle.oram_session.specs.Outcome.{Outcome}
 use Rattle.oramd.specs.declared.faults.Fault.{Fault}
 use Rattle.oramd.specs.declared.faults.Fault.TheVariants.{OutOfMemory}
-use Rattle.oramd.specs.Telling.{format_fault}
+use Rattle.oramd.specs.LibraryFaults.{format_fault}
 
 -- for a link with these calls
 module _ (v : Scheme) {L : Type 0} (calls : L → List ℕ → Outcome → L → Type 0) where

@@ -1,8 +1,8 @@
 pub mod CommandLine
 pub mod Settings
 pub mod Faults
-pub mod Telling
+pub mod LibraryFaults
 pub mod Endings
-pub mod Loading
+pub mod ImageFaults
 pub mod Formatting
-pub mod Looping
+pub mod FrameLoop

@@ -51,7 +51,7 @@ impl From<AllocError> for Fault {
 }
 
 impl From<FileFault> for Fault {
-    ghost use Rattle.oramd.specs.Telling.{file_fault};
+    ghost use Rattle.oramd.specs.LibraryFaults.{file_fault};
 
     ghost from_gives = { λ why fault. fault ≡ file_fault why };
 
@@ -64,7 +64,7 @@ impl From<FileFault> for Fault {
 }
 
 impl From<SocketFault> for Fault {
-    ghost use Rattle.oramd.specs.Telling.{socket_fault};
+    ghost use Rattle.oramd.specs.LibraryFaults.{socket_fault};
 
     ghost from_gives = { λ why fault. fault ≡ socket_fault why };
 
@@ -77,7 +77,7 @@ impl From<SocketFault> for Fault {
 }
 
 impl From<StateFault> for Fault {
-    ghost use Rattle.oramd.specs.Telling.{state_fault};
+    ghost use Rattle.oramd.specs.LibraryFaults.{state_fault};
 
     ghost from_gives = { λ why fault. fault ≡ state_fault why };
 
@@ -90,7 +90,7 @@ impl From<StateFault> for Fault {
 }
 
 impl From<ShapeFault> for Fault {
-    ghost use Rattle.oramd.specs.Telling.{shape_fault};
+    ghost use Rattle.oramd.specs.LibraryFaults.{shape_fault};
 
     ghost from_gives = { λ why fault. fault ≡ shape_fault why };
 
@@ -100,7 +100,7 @@ impl From<ShapeFault> for Fault {
 }
 
 impl From<FormatFault> for Fault {
-    ghost use Rattle.oramd.specs.Telling.{format_fault};
+    ghost use Rattle.oramd.specs.LibraryFaults.{format_fault};
 
     ghost from_gives = { λ why fault. fault ≡ format_fault why };
 

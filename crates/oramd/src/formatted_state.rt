@@ -6,7 +6,7 @@ ghost use Rattle.oram_semantics.specs.State.{State};
 ghost use Rattle.oram_core.specs.Core.{scheme_with};
 ghost use Rattle.oram_state.specs.Decoding.{IsSaved};
 ghost use Rattle.oramd.specs.Formatting.{GivesNoFile, IsFormatted};
-ghost use Rattle.oramd.specs.Telling as spec;
+ghost use Rattle.oramd.specs.LibraryFaults as spec;
 
 use crate::faults::Fault;
 use oram_bucket::Sealer;

@@ -4,8 +4,8 @@ ghost use Rattle.std.specs.Prelude.{◌≡◌, ◌⊎◌, ℕ, [], length, List,
 ghost use Rattle.hex.specs.Hex.{decode_of};
 ghost use Rattle.hex.specs.declared.error.FromHexError.{FromHexError};
 ghost use Rattle.oram_wire.specs.FrameStream.{IsBroken, IsUnfinished};
-ghost use Rattle.oramd.specs.Looping.{HasAnswered, IsUnansweredFor};
-ghost use Rattle.oramd.specs.Looping as spec;
+ghost use Rattle.oramd.specs.FrameLoop.{HasAnswered, IsUnansweredFor};
+ghost use Rattle.oramd.specs.FrameLoop as spec;
 
 use crate::faults::Fault;
 use crate::formatted_state::made_device;

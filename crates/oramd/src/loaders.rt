@@ -4,12 +4,12 @@ ghost use Rattle.std.specs.Prelude.{◌≡◌, IfErr, IfOk, OnOk};
 ghost use Rattle.std.specs.Io.KnownBytes.{Consumes, IsAtEnd};
 ghost use Rattle.oram_host.specs.Host.{IsHost};
 ghost use Rattle.oram_host.specs.Image.{image};
-ghost use Rattle.oram_host.specs.ImageReading.{IsFirstFault, host_in};
+ghost use Rattle.oram_host.specs.ImageReader.{IsFirstFault, host_in};
 ghost use Rattle.oram_host.specs.declared.images.ImageFault.{ImageFault};
 ghost use Rattle.oram_state.specs.Decoding.{IsFaultIn, IsSaved};
 ghost use Rattle.oram_state.specs.declared.fault.StateFault.{StateFault};
-ghost use Rattle.oramd.specs.Loading.{IsImageFault};
-ghost use Rattle.oramd.specs.Telling.{state_fault};
+ghost use Rattle.oramd.specs.ImageFaults.{IsImageFault};
+ghost use Rattle.oramd.specs.LibraryFaults.{state_fault};
 
 use crate::faults::{Fault, file_fault};
 use oram_bucket::Sealer;

@@ -17,8 +17,8 @@ use Rattle.oram_semantics.specs.declared.events.Refusal.TheVariants as refusal
 use Rattle.oram_semantics.specs.declared.events.Reply.{Reply}
 use Rattle.oram_semantics.specs.declared.events.ReplyBody.{ReplyBody}
 use Rattle.oram_semantics.specs.declared.events.ReplyBody.TheVariants as body
-use Rattle.oramsim.specs.Printing.{newline, space, refusal_text, note_text, body_text, reply_text, send_text, reaction_text, ready_text, shape_text, error_text, memory_text}
-use Rattle.oramsim.specs.Reading.{lines_of, onto_line}
+use Rattle.oramsim.specs.Printer.{newline, space, refusal_text, note_text, body_text, reply_text, send_text, reaction_text, ready_text, shape_text, error_text, memory_text}
+use Rattle.oramsim.specs.Lines.{lines_of, onto_line}
 use Rattle.oramsim.specs.Script.{HasNoFailure, IsBeginning, Turn}
 use Rattle.oramsim.proofs.Numbers.{both_true}
 

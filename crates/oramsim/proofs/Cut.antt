@@ -10,8 +10,8 @@ use Rattle.std.proofs.lemmas.Fn.{FoldsTo-push}
 use Rattle.oram_geometry.specs.declared.Sizes.{Sizes}
 use Rattle.oram_geometry.specs.declared.ShapeFault.{ShapeFault}
 use Rattle.oram_geometry.specs.Sizes.{device_of, trees_of}
-use Rattle.oramsim.specs.Printing.{error_text, memory_text, ready_text, shape_text}
-use Rattle.oramsim.specs.Reading.{lines_of, line_of}
+use Rattle.oramsim.specs.Printer.{error_text, memory_text, ready_text, shape_text}
+use Rattle.oramsim.specs.Lines.{lines_of, line_of}
 use Rattle.oramsim.specs.Script.{HasNoFailure, HasPassed, HasRun, IsBad, IsBeginning, IsCutText, IsDue, IsHarmless, IsHarmlessScript, IsNewRun, IsPassed, IsScriptText, IsWithin, Point, GetsTo, Running, Stage, Starts, start, text_at}
 use Rattle.oramsim.specs.Correspondence.{GivesUp, GivesUpAt, HasEnded, HasGivenUp, IsCalmAt, IsFaithful, IsFaithfulAt, IsGivingUp, IsCutAt, IsUnder, IsUntold, IsAtRun, StandsAt, told_at}
 use Rattle.oramsim.specs.declared.line.Line.{Line}
@@ -25,7 +25,7 @@ use Rattle.oramsim.proofs.Faithful.{run_right}
 use Rattle.oramsim.proofs.FirstLine.{lines_first}
 use Rattle.oramsim.proofs.Clean.{Clean, beginning_unfailed, clean_append, clean_text, error_clean, memory_clean}
 use Rattle.oramsim.proofs.GivenUp.{IsUnmeddled, none_told, told_behind}
-use Rattle.oramsim.proofs.Passing.{Came, all_split, came_clean, head_passed, passes_line, point_clean, read_rest, run_done}
+use Rattle.oramsim.proofs.Progress.{Came, all_split, came_clean, head_passed, passes_line, point_clean, read_rest, run_done}
 use Rattle.oramsim.proofs.Started.{nothing_shown}
 use Rattle.oramsim.proofs.Writes.{Appends-kept}
 

@@ -8,7 +8,7 @@ use Rattle.oram_semantics.specs.State.{State}
 use Rattle.oramsim.specs.Script.{IsAnswered, IsDrained, Running}
 use Rattle.oramsim.specs.Correspondence.{RunsOn, IsFaithful}
 use Rattle.oramsim.specs.declared.machine.Machine.{Machine}
-use Rattle.oramsim.proofs.Turning.{tells_more}
+use Rattle.oramsim.proofs.Turns.{tells_more}
 
 pub none_left : (o : Option (List ℕ)) → is_some o ≡ false → o ≡ None
 none_left None e = refl

@@ -4,7 +4,7 @@ use Rattle.std.specs.Prelude.{is_some}
 use Rattle.std.specs.List.{AllByRecursion, FoldsTo}
 use Rattle.oram_geometry.specs.Sizes.{IsDevice}
 use Rattle.oram_host.specs.Host.{Host}
-use Rattle.oram_host.specs.Serving.{Serves}
+use Rattle.oram_host.specs.Service.{Serves}
 use Rattle.oram_semantics.specs.Law.{StepsByRule, StepsAlong, new_state}
 use Rattle.oram_semantics.specs.Progress.{Setting, Status}
 use Rattle.oram_semantics.specs.Progress.Status.{Idle, Waiting, Stalling, Over}
@@ -22,7 +22,7 @@ use Rattle.oram_host_laws.proofs.Honest.{honest_hosts_serve}
 use Rattle.oramsim.specs.Script.{HostAnswers, Running, Turn, all_shown, events, is_answer, plain_scheme}
 use Rattle.oramsim.specs.Correspondence.{IsPlayed, IsAtRun, StaysFaithful}
 use Rattle.oramsim.specs.declared.machine.Machine.{Machine}
-use Rattle.oramsim.proofs.Turning.{moving}
+use Rattle.oramsim.proofs.Turns.{moving}
 
 -- the array that is served after an event
 served_now : (v : Scheme) (s t : State) (w : World) (array : ℕ → List ℕ) (replies : List Reply) → HasServed v s t w array replies → (now : ℕ → List ℕ) × ServesArray v t w now

@@ -4,7 +4,7 @@ use Rattle.std.specs.Prelude.{◌==◌, cond, position}
 use Rattle.std.specs.List.{onto_first, position_or_len}
 use Rattle.std.proofs.lemmas.Bool.{ltb-true, ltb-false}
 use Rattle.std.proofs.lemmas.List.Splits.{slice_split_first}
-use Rattle.oramsim.specs.Reading.{fields_of}
+use Rattle.oramsim.specs.Lines.{fields_of}
 
 abbrev is_space : ℕ → Bool
 is_space b = b == 32

@@ -4,7 +4,7 @@ use Rattle.std.specs.Prelude.{◌==◌, nat_lt, if◌then◌else◌}
 use Rattle.std.specs.Io.BufRead.{take_through, drop_through, ends_with_byte, strip_last}
 use Rattle.std.proofs.Math.Seq.{get_or-append_seam, take-append_seam}
 use Rattle.std.proofs.lemmas.Bool.{eqb-true, eqb-false, lt-ltb, ltb-true, false_from_ne_true}
-use Rattle.oramsim.specs.Reading.{lines_of, onto_line}
+use Rattle.oramsim.specs.Lines.{lines_of, onto_line}
 use Rattle.oramsim.proofs.Numbers.{both_true}
 
 -- the bytes before the first 10

@@ -10,7 +10,7 @@ use Rattle.oram_semantics.specs.Run.{Shown}
 use Rattle.oram_semantics.specs.State.{State, status_in}
 use Rattle.oram_semantics.specs.declared.events.Event.{Event}
 use Rattle.oram_semantics.specs.declared.events.Event.TheVariants as event
-use Rattle.oramsim.specs.Printing.{reaction_text}
+use Rattle.oramsim.specs.Printer.{reaction_text}
 use Rattle.oramsim.specs.Script.{AtEvent, IsAnswered, IsDrained, Obeys, Running, after_turn, is_answer, is_meddling, left_at, newest_of, stage_text, with_host}
 use Rattle.oramsim.specs.Correspondence.{GivesUp, RunsOn, IsCalm, IsFaithful, IsHalted, IsHonestAt, IsCutAt, IsUnder, IsAtRun, IsWholeMachine, Prints, TellsPart}
 use Rattle.oramsim.specs.declared.line.Line.{Line}
@@ -18,10 +18,10 @@ use Rattle.oramsim.specs.declared.line.Line.TheVariants as line
 use Rattle.oramsim.specs.declared.machine.Machine.{Machine}
 use Rattle.oramsim.specs.declared.script.SimFault.{SimFault}
 use Rattle.oramsim.specs.declared.script.SimFault.TheVariants.{OutOfMemory, Read, Write}
-use Rattle.oramsim.proofs.Answering.{IsHeard, honest_at, late_at, replies_as}
+use Rattle.oramsim.proofs.HostAnswers.{IsHeard, honest_at, late_at, replies_as}
 use Rattle.oramsim.proofs.Drained.{some_there}
 use Rattle.oramsim.proofs.Faithful.{run_right, stays_faithful, unheard}
-use Rattle.oramsim.proofs.Turning.{goes_on, turn_text}
+use Rattle.oramsim.proofs.Turns.{goes_on, turn_text}
 
 pub if_err : {T : Type 0} (P Q : SimFault → Type 0) (r : Result T SimFault) → ((e : SimFault) → P e → Q e) → IfErr r P → IfErr r Q
 if_err P Q (Ok x) f p = tt

@@ -3,17 +3,17 @@ pub mod Numbers
 pub mod Writes
 pub mod FirstLine
 pub mod Whole
-pub mod Turning
+pub mod Turns
 pub mod Faithful
-pub mod Answering
+pub mod HostAnswers
 pub mod Drained
-pub mod Meddling
+pub mod Interference
 pub mod Reopened
 pub mod Obeyed
 pub mod Formatted
 pub mod Started
 pub mod Clean
-pub mod Passing
+pub mod Progress
 pub mod GivenUp
 pub mod Cut
 mod Rows

@@ -14,7 +14,7 @@ use Rattle.oramsim.specs.declared.line.Line.TheVariants.{CoreEvent, Answer, Drai
 use Rattle.oramsim.specs.declared.machine.Machine.{Machine}
 use Rattle.oramsim.specs.declared.script.SimFault.{SimFault}
 use Rattle.oramsim.proofs.Faithful.{unheard}
-use Rattle.oramsim.proofs.Turning.{silent}
+use Rattle.oramsim.proofs.Turns.{silent}
 
 -- The run goes on as the line says.
 abbrev pub Obeyed : Running → State → Line → Machine → Option (List ℕ) → Option (List ℕ) → Type 0

@@ -10,8 +10,8 @@ use Rattle.oram_semantics.specs.declared.events.Note.TheVariants.{Accepted, Refu
 use Rattle.oram_semantics.specs.declared.events.Reason.TheVariants.{Malformed, Tampered}
 use Rattle.oram_semantics.specs.declared.events.Refusal.TheVariants.{Exhausted}
 use Rattle.oram_semantics.specs.declared.events.ReplyBody.TheVariants.{Data}
-use Rattle.oramsim.specs.Printing.{note_text, reply_text, send_text, error_text}
-use Rattle.oramsim.specs.Reading.{lines_of, line_of, line_from, device_from, addressed, read_from, discard_from, write_from, raw_from, tamper_from, swap_from, named_line, number_below, numbers_below, hex_bytes}
+use Rattle.oramsim.specs.Printer.{note_text, reply_text, send_text, error_text}
+use Rattle.oramsim.specs.Lines.{lines_of, line_of, line_from, device_from, addressed, read_from, discard_from, write_from, raw_from, tamper_from, swap_from, named_line, number_below, numbers_below, hex_bytes}
 use Rattle.oramsim.specs.declared.line.Line.TheVariants.{Device, CoreEvent, Drain, Reopen, Tamper, Swap, Restore}
 
 lines_ended : lines_of (97 ∷ 10 ∷ 10 ∷ 98 ∷ 10 ∷ []) ≡ (97 ∷ []) ∷ [] ∷ (98 ∷ []) ∷ []

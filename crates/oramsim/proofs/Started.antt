@@ -4,7 +4,7 @@ use Rattle.std.specs.Io.KnownBytes.{Appends}
 use Rattle.oram_geometry.specs.declared.Sizes.{Sizes}
 use Rattle.oram_geometry.specs.declared.ShapeFault.{ShapeFault}
 use Rattle.oram_geometry.specs.Sizes.{trees_of}
-use Rattle.oramsim.specs.Printing.{ready_text, shape_text}
+use Rattle.oramsim.specs.Printer.{ready_text, shape_text}
 use Rattle.oramsim.specs.Script.{IsNewRun, Point, Running, Starts, stage_text}
 use Rattle.oramsim.specs.Correspondence.{RunsOnAt, IsFaithful, IsFaithfulAt, IsAtRun}
 use Rattle.oramsim.specs.declared.machine.Machine.{Machine}

@@ -14,8 +14,8 @@ use Rattle.oram_semantics.specs.State.{State, World, status_in}
 use Rattle.oram_semantics.specs.declared.events.Event.{Event}
 use Rattle.oram_core.specs.Steps.{Steps}
 use Rattle.oram_host_laws.specs.Honest.{IsHonest}
-use Rattle.oram_host_laws.specs.Hosting.{Hosts}
-use Rattle.oramsim.specs.Printing.{memory_text, reaction_text}
+use Rattle.oram_host_laws.specs.HostRecords.{Hosts}
+use Rattle.oramsim.specs.Printer.{memory_text, reaction_text}
 use Rattle.oramsim.specs.Script.{HasNoFailure, HasRun, IsBeginning, IsCutText, IsDrained, IsHarmlessScript, IsScriptText, Obeys, Point, Running, Stage, Turn, after_turn, newest_of, plain_scheme, stage_text, text_at, with_host}
 use Rattle.oramsim.specs.declared.line.Line.{Line}
 use Rattle.oramsim.specs.declared.line.Line.TheVariants.{Drain}

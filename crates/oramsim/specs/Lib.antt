@@ -1,4 +1,4 @@
-pub mod Reading
-pub mod Printing
+pub mod Lines
+pub mod Printer
 pub mod Script
 pub mod Correspondence

@@ -10,7 +10,7 @@ use Rattle.oram_wire.specs.declared.host_messages.HostAnswer.{HostAnswer}
 use Rattle.oram_host.specs.Host.{Host}
 use Rattle.oram_host.specs.Flips.{IsFlipped, IsByteless}
 use Rattle.oram_host.specs.Swaps.{IsSwapped, LacksPair}
-use Rattle.oram_host.specs.Serving.{Serves}
+use Rattle.oram_host.specs.Service.{Serves}
 use Rattle.oram_tree.specs.Format.{PutsAll}
 use Rattle.oram_tree.specs.State.{State as Tree}
 use Rattle.oram_semantics.specs.Scheme.{Scheme}
@@ -20,8 +20,8 @@ use Rattle.oram_semantics.specs.Run.{Shown, AllRight}
 use Rattle.oram_semantics.specs.declared.events.Event.{Event}
 use Rattle.oram_semantics.specs.declared.events.Event.TheVariants as event
 use Rattle.oram_host_laws.specs.Honest.{Takes}
-use Rattle.oramsim.specs.Printing.{reaction_text, ready_text, shape_text, error_text, memory_text}
-use Rattle.oramsim.specs.Reading.{lines_of, line_of}
+use Rattle.oramsim.specs.Printer.{reaction_text, ready_text, shape_text, error_text, memory_text}
+use Rattle.oramsim.specs.Lines.{lines_of, line_of}
 use Rattle.oramsim.specs.declared.line.Line.{Line}
 use Rattle.oramsim.specs.declared.line.Line.TheVariants.{Device, CoreEvent, Answer, Drain, Late, Reopen, Tamper, Swap, Snapshot, Restore}
 use Rattle.oramsim.specs.declared.script.Ending.{Ending}

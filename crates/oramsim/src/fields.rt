@@ -1,7 +1,7 @@
 //! The fields of a line.
 ghost use Rattle.std.specs.Prelude.{◌≡◌, ◌==◌, ℕ, position, List, [], ◌∷◌, MatchOption};
 ghost use Rattle.std.specs.Option.{option_copied};
-ghost use Rattle.oramsim.specs.Reading.{fields_of, fields_left};
+ghost use Rattle.oramsim.specs.Lines.{fields_of, fields_left};
 
 use std::marker::Model;
 

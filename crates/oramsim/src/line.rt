@@ -2,8 +2,8 @@
 ghost use Rattle.std.specs.Prelude.{◌≡◌, ◌^◌, IfOk, Some};
 ghost use Rattle.std.specs.Char.{is_ascii_digit};
 ghost use Rattle.std.specs.List.{list_all};
-ghost use Rattle.oramsim.specs.Reading.{has_leading_zero, is_numeral, number_below, numbers_below, hex_bytes, device_from, addressed, read_from, discard_from, write_from, raw_from, tamper_from, swap_from, named_line, line_from, line_of};
-ghost use Rattle.oramsim.specs.Reading as spec;
+ghost use Rattle.oramsim.specs.Lines.{has_leading_zero, is_numeral, number_below, numbers_below, hex_bytes, device_from, addressed, read_from, discard_from, write_from, raw_from, tamper_from, swap_from, named_line, line_from, line_of};
+ghost use Rattle.oramsim.specs.Lines as spec;
 
 use crate::fields::Fields;
 use hex::FromHexError;
@@ -74,7 +74,7 @@ fn is_plain(field: &[u8]) -> bool
     is_of_digits(field)
 }
 
-#[tactic(auto, unfolding(crate::specs::Reading::number_below))]
+#[tactic(auto, unfolding(crate::specs::Lines::number_below))]
 fn long_number(field: &[u8]) -> Option<u64>
     ensures { result ≡ number_below (2 ^ 64) field.now }
 {
@@ -84,7 +84,7 @@ fn long_number(field: &[u8]) -> Option<u64>
     str::from_utf8(field).ok()?.parse::<u64>().ok()
 }
 
-#[tactic(auto, unfolding(crate::specs::Reading::number_below))]
+#[tactic(auto, unfolding(crate::specs::Lines::number_below))]
 fn short_number(field: &[u8]) -> Option<u32>
     ensures { result ≡ number_below (2 ^ 32) field.now }
 {
@@ -92,7 +92,7 @@ fn short_number(field: &[u8]) -> Option<u32>
 }
 
 /// Reads fields as words; `None` if one of them is not a number.
-#[tactic(auto, unfolding(crate::specs::Reading::numbers_below))]
+#[tactic(auto, unfolding(crate::specs::Lines::numbers_below))]
 fn words_in(alloc: Global, fields: Fields) -> Result<Option<Words>, AllocError>
     ensures { IfOk result (λ o. o ≡ numbers_below (2 ^ 64) fields.entry) }
 {
@@ -109,7 +109,7 @@ fn words_in(alloc: Global, fields: Fields) -> Result<Option<Words>, AllocError>
 }
 
 /// Decodes the hexadecimal digits of a field; `None` if it is empty or isn't hexadecimal.
-#[tactic(auto, unfolding(crate::specs::Reading::hex_bytes))]
+#[tactic(auto, unfolding(crate::specs::Lines::hex_bytes))]
 fn bytes_in(alloc: Global, field: &[u8]) -> Result<Option<Bytes>, AllocError>
     ensures { IfOk result (λ o. o ≡ hex_bytes field.now) }
 {
@@ -123,7 +123,7 @@ fn bytes_in(alloc: Global, field: &[u8]) -> Result<Option<Bytes>, AllocError>
     }
 }
 
-#[tactic(auto, unfolding(crate::specs::Reading::device_from))]
+#[tactic(auto, unfolding(crate::specs::Lines::device_from))]
 fn device_in(fields: Fields) -> Option<Line>
     ensures { result ≡ device_from fields.entry }
 {
@@ -145,7 +145,7 @@ fn device_in(fields: Fields) -> Option<Line>
 }
 
 /// Reads a session, an address and words, the fields of a command that brings no data.
-#[tactic(auto, unfolding(crate::specs::Reading::addressed))]
+#[tactic(auto, unfolding(crate::specs::Lines::addressed))]
 fn addressed_in(alloc: Global, fields: Fields) -> Result<Option<(u32, u32, Words)>, AllocError>
     ensures { IfOk result (λ o. o ≡ addressed fields.entry) }
 {
@@ -164,7 +164,7 @@ fn addressed_in(alloc: Global, fields: Fields) -> Result<Option<(u32, u32, Words
     Ok(Some((session, address, words)))
 }
 
-#[tactic(auto, unfolding(crate::specs::Reading::read_from))]
+#[tactic(auto, unfolding(crate::specs::Lines::read_from))]
 fn read_in(alloc: Global, fields: Fields) -> Result<Option<Line>, AllocError>
     ensures { IfOk result (λ o. o ≡ read_from fields.entry) }
 {
@@ -178,7 +178,7 @@ fn read_in(alloc: Global, fields: Fields) -> Result<Option<Line>, AllocError>
     })))
 }
 
-#[tactic(auto, unfolding(crate::specs::Reading::discard_from))]
+#[tactic(auto, unfolding(crate::specs::Lines::discard_from))]
 fn discard_in(alloc: Global, fields: Fields) -> Result<Option<Line>, AllocError>
     ensures { IfOk result (λ o. o ≡ discard_from fields.entry) }
 {
@@ -192,7 +192,7 @@ fn discard_in(alloc: Global, fields: Fields) -> Result<Option<Line>, AllocError>
     })))
 }
 
-#[tactic(auto, unfolding(crate::specs::Reading::write_from))]
+#[tactic(auto, unfolding(crate::specs::Lines::write_from))]
 fn write_in(alloc: Global, fields: Fields) -> Result<Option<Line>, AllocError>
     ensures { IfOk result (λ o. o ≡ write_from fields.entry) }
 {
@@ -221,7 +221,7 @@ fn write_in(alloc: Global, fields: Fields) -> Result<Option<Line>, AllocError>
     })))
 }
 
-#[tactic(auto, unfolding(crate::specs::Reading::raw_from))]
+#[tactic(auto, unfolding(crate::specs::Lines::raw_from))]
 fn raw_in(alloc: Global, fields: Fields) -> Result<Option<Line>, AllocError>
     ensures { IfOk result (λ o. o ≡ raw_from fields.entry) }
 {
@@ -237,7 +237,7 @@ fn raw_in(alloc: Global, fields: Fields) -> Result<Option<Line>, AllocError>
     Ok(Some(Line::CoreEvent(Event::Answer(bytes))))
 }
 
-#[tactic(auto, unfolding(crate::specs::Reading::tamper_from))]
+#[tactic(auto, unfolding(crate::specs::Lines::tamper_from))]
 fn tamper_in(fields: Fields) -> Option<Line>
     ensures { result ≡ tamper_from fields.entry }
 {
@@ -254,7 +254,7 @@ fn tamper_in(fields: Fields) -> Option<Line>
     })
 }
 
-#[tactic(auto, unfolding(crate::specs::Reading::swap_from))]
+#[tactic(auto, unfolding(crate::specs::Lines::swap_from))]
 fn swap_in(fields: Fields) -> Option<Line>
     ensures { result ≡ swap_from fields.entry }
 {
@@ -274,7 +274,7 @@ fn swap_in(fields: Fields) -> Option<Line>
 }
 
 /// Returns the line that consists of this word alone.
-#[tactic(auto, unfolding(crate::specs::Reading::named_line))]
+#[tactic(auto, unfolding(crate::specs::Lines::named_line))]
 fn word_line(word: &[u8]) -> Option<Line>
     ensures { result ≡ named_line word.now }
 {
@@ -310,7 +310,7 @@ fn alone(word: &[u8], fields: Fields) -> Option<Line>
 }
 
 /// Returns the line that a word and the fields after it make.
-#[tactic(auto, unfolding(crate::specs::Reading::line_from))]
+#[tactic(auto, unfolding(crate::specs::Lines::line_from))]
 fn command_in(alloc: Global, word: &[u8], fields: Fields) -> Result<Option<Line>, AllocError>
     ensures { IfOk result (λ o. o ≡ line_from word.now fields.entry) }
 {

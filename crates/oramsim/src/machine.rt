@@ -6,7 +6,7 @@ ghost use Rattle.oram_geometry.specs.Sizes.{IsDevice};
 ghost use Rattle.oram_host.specs.Flips.{IsByteless};
 ghost use Rattle.oram_host.specs.Swaps.{LacksPair};
 ghost use Rattle.oram_semantics.specs.Run.{Shown};
-ghost use Rattle.oramsim.specs.Printing as printing;
+ghost use Rattle.oramsim.specs.Printer as printing;
 ghost use Rattle.oramsim.specs.Script.{Point, Running, IsAnswered, IsDrained, IsNewRun, IsUnfit, Obeys, HostAnswers, Starts, after_turn};
 ghost use Rattle.oramsim.specs.Script as spec;
 ghost use Rattle.oramsim.specs.Correspondence.{AreWhole, GivesUp, GivesUpAt, RunsOn, RunsOnAt, IsFaithful, IsFaithfulAt, IsHalted, IsHonestAt, IsPlayed, IsUnder, IsWholeMachine, IsAtRun, StaysFaithful, still_wanted};

@@ -2,8 +2,8 @@
 ghost use Rattle.std.specs.Prelude.{◌≡◌, Some, IfOk};
 ghost use Rattle.std.specs.String.{string_bytes};
 ghost use Rattle.oram_semantics.specs.Run.{shown_by};
-ghost use Rattle.oramsim.specs.Printing.{refusal_text, reason_text, note_text, reply_line, send_text, ready_text, shape_text, error_text};
-ghost use Rattle.oramsim.specs.Printing as spec;
+ghost use Rattle.oramsim.specs.Printer.{refusal_text, reason_text, note_text, reply_line, send_text, ready_text, shape_text, error_text};
+ghost use Rattle.oramsim.specs.Printer as spec;
 
 use byteorder::{BigEndian, ByteOrder};
 use oram_geometry::ShapeFault;

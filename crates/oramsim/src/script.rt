@@ -3,8 +3,8 @@ ghost use Rattle.std.specs.Prelude.{◌≡◌, ◌≢◌, ◌⊎◌, ◌++◌, �
 ghost use Rattle.std.specs.Io.BufRead.{strip_last};
 ghost use Rattle.std.specs.Io.KnownBytes.{Appends, IsAtEnd};
 ghost use Rattle.oramsim.specs.declared.script.SimFault.TheVariants.{OutOfMemory};
-ghost use Rattle.oramsim.specs.Printing.{error_text};
-ghost use Rattle.oramsim.specs.Reading.{line_of};
+ghost use Rattle.oramsim.specs.Printer.{error_text};
+ghost use Rattle.oramsim.specs.Lines.{line_of};
 ghost use Rattle.oramsim.specs.Script.{Point, IsBad, IsHarmless, IsPassed, IsWithin};
 ghost use Rattle.oramsim.specs.Correspondence.{AreWhole, GivesUpAt, HasEnded, HasGivenUp, IsGivingUp, RunsOnAt, IsFaithfulAt, IsUntold, StandsAt};
 

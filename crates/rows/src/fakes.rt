@@ -1,6 +1,6 @@
 //! Readers and writers that give or take only a few bytes per call, are interrupted, and end or fail.
 
-use crate::reading::RowFault;
+use crate::table::RowFault;
 use crate::words::RowWords;
 use std::alloc::{AllocError, Global};
 use std::io;

@@ -9,11 +9,11 @@
 mod fakes;
 mod groups;
 mod page;
-mod reading;
+mod table;
 mod words;
 
 pub use fakes::{Pace, Source, Target, pace_in};
 pub use groups::Groups;
 pub use page::Page;
-pub use reading::{RowFault, Table, run_table};
+pub use table::{RowFault, Table, run_table};
 pub use words::RowWords;

@@ -2,7 +2,7 @@
 
 ghost use Rattle.std.specs.Prelude.{◌≤◌, length};
 
-use crate::reading::RowFault;
+use crate::table::RowFault;
 use std::alloc::{AllocError, Global};
 use std::fmt::{Debug, Display};
 

@@ -1,6 +1,6 @@
 //! The words of a row, read one by one.
 
-use crate::reading::RowFault;
+use crate::table::RowFault;
 use std::alloc::Global;
 
 /// The words of a call that are still to be read. If a word is missing or isn't what was asked for, that is remembered

@@ -1,7 +1,7 @@
 //! Connections to a device of four blocks of four bytes. Its export has the name `disk`.
 
 use crate::endings::{with_memory, write_ended};
-use crate::stopping;
+use crate::stopping_disk;
 use oram_nbd::{HandshakeWatch, MemDisk, NbdFault, serve, transmit};
 use rows::{Pace, Page, RowFault, RowWords, Source, Target};
 use std::alloc::Global;
@@ -204,7 +204,7 @@ impl Connections {
             "rooms" => self.rooms(alloc, words, page),
             "options" => options(alloc, words, page),
             "passes" => passes(alloc, words, page),
-            "stops" => stopping::stops(alloc, words, page),
+            "stops" => stopping_disk::stops(alloc, words, page),
             _ => Err(RowFault::NoRow),
         }
     }

@@ -10,7 +10,7 @@ mod far_end;
 mod heads;
 mod keepers;
 mod links;
-mod stopping;
+mod stopping_disk;
 mod volumes;
 
 use connections::Connections;

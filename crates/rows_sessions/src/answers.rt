@@ -32,7 +32,7 @@ impl WatchedServer {
 }
 
 impl BucketServer for WatchedServer {
-    ghost use Rattle.oram_host.specs.Serving.{Serves};
+    ghost use Rattle.oram_host.specs.Service.{Serves};
 
     ghost serves = { λ old body answer new. Serves old.server body answer new.server };
 

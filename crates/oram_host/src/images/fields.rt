@@ -3,7 +3,7 @@
 ghost use Rattle.std.specs.Prelude.{◌≡◌, ◌<◌, ◌≤◌, ◌∷◌, [], length, take, codes, IfErr, IfOk, OnOk};
 ghost use Rattle.std.specs.Int.{w32, to_be_bytes};
 ghost use Rattle.std.specs.Io.KnownBytes.{Consumes, IsAtEnd};
-ghost use Rattle.oram_host.specs.ImageReading.{IsFirstFault, after_end, after_letters, after_version, next_byte, next_bytes, next_number};
+ghost use Rattle.oram_host.specs.ImageReader.{IsFirstFault, after_end, after_letters, after_version, next_byte, next_bytes, next_number};
 ghost use Rattle.oram_host.specs.Transfers.{TakesFrom};
 
 use super::{ImageFault, MAGIC, VERSION};

@@ -3,7 +3,7 @@ ghost use Rattle.std.specs.Prelude.{◌≡◌, ◌≢◌, ◌<◌, ◌≤◌, le
 ghost use Rattle.std.specs.Io.KnownBytes.{Appends};
 ghost use Rattle.oram_wire.specs.FrameStream.{frame};
 ghost use Rattle.oram_wire.specs.HostMessages.{answer_body};
-ghost use Rattle.oram_wire.specs.Streaming.{GivesFrame};
+ghost use Rattle.oram_wire.specs.FrameIo.{GivesFrame};
 ghost use Rattle.oram_wire.specs.declared.host_messages.HostAnswer.{HostAnswer};
 ghost use Rattle.oram_session.specs.Outcome.{outcome_of};
 ghost use Rattle.oram_session.specs.Loopback.{AsksOnce, Carries, IsAsked, IsReturned, longest_frame};

@@ -1,6 +1,6 @@
 use Rattle.std.proofs.Common.{◌≡◌, ℕ, List, [], ◌∷◌, ◌∙◌, ap₂, inr, subst}
 use Rattle.oram_client.specs.Ahead.{AreUntaken}
-use Rattle.oram_client.specs.Naming.{identity_messages}
+use Rattle.oram_client.specs.Identity.{identity_messages}
 use Rattle.oram_client.proofs.identity.put_identity.Goals as goal
 
 pub returns-clause-err : goal.returns-clause-err

@@ -1,7 +1,7 @@
 use Rattle.std.proofs.Common.{true, false, inl, inr}
 use Rattle.std.proofs.lemmas.Result.{IfErr-weaker}
 use Rattle.oram_client.specs.KeptFile.{kept_file}
-use Rattle.oram_client.specs.Placing.{Clears, IsBrokenOff, IsStepOf, deeds_of}
+use Rattle.oram_client.specs.Replacement.{Clears, IsBrokenOff, IsStepOf, deeds_of}
 use Rattle.oram_client.proofs.place.put_synced.Goals as goal
 
 pub returns-clause-err : goal.returns-clause-err

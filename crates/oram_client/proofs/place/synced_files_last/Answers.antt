@@ -1,4 +1,4 @@
-use Rattle.oram_client.proofs.Lasting.{synced_files_last, syncs_are_needed}
+use Rattle.oram_client.proofs.PowerLoss.{synced_files_last, syncs_are_needed}
 use Rattle.oram_client.proofs.place.synced_files_last.Goals as goal
 
 pub returns-clause-last : goal.returns-clause-last

@@ -1,5 +1,5 @@
 use Rattle.std.proofs.Common.{ℕ, List, subst}
-use Rattle.oram_client.specs.Dialing.{Shows}
+use Rattle.oram_client.specs.Dialer.{Shows}
 use Rattle.oram_client.proofs.Greeted.{another, none}
 use Rattle.oram_client.proofs.tcp_dialer.greet.Goals as goal
 

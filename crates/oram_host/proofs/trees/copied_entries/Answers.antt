@@ -2,7 +2,7 @@ use Rattle.std.proofs.Common.{ℕ, List, rules}
 use Rattle.std.specs.Map.Iter.{deref_pair}
 use Rattle.std.proofs.lemmas.Map.Iter.{rest_more}
 use Rattle.oram_host.proofs.LoadedHosts.{copied_more}
-use Rattle.oram_host.proofs.Rising.{rises_from_sorted}
+use Rattle.oram_host.proofs.RisingEntries.{rises_from_sorted}
 use Rattle.oram_host.proofs.trees.copied_entries.Goals as goal
 
 pub loop-node-preserved-in_ok-insert : goal.loop-node-preserved-in_ok-insert

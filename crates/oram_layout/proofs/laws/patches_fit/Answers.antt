@@ -1,4 +1,4 @@
-use Rattle.oram_layout.proofs.Fitting.{patches_fit}
+use Rattle.oram_layout.proofs.LogRoom.{patches_fit}
 use Rattle.oram_layout.proofs.laws.patches_fit.Goals as goal
 
 pub returns : goal.returns

@@ -1,5 +1,5 @@
 use Rattle.std.proofs.Common.{◌≡◌, None, inl, inr, refl, rules}
-use Rattle.oram_nbd.specs.Serving.{refusal_of}
+use Rattle.oram_nbd.specs.Service.{refusal_of}
 use Rattle.oram_nbd.specs.declared.faults.NbdError.TheVariants.{Io, NoMemory}
 use Rattle.oram_nbd.proofs.Served.{refused_later}
 use Rattle.oram_nbd.proofs.service.answer.Goals as goal

@@ -2,7 +2,7 @@ use Rattle.std.proofs.Common.{◌≡◌, ℕ, [], None, inl, inr, refl, rules, �
 use Rattle.std.proofs.KnownBytes.{Appends-nil, Consumes-trans}
 use Rattle.std.proofs.lemmas.Result.{err_from_is_err_and}
 use Rattle.oram_nbd.specs.Messages.{request_text}
-use Rattle.oram_nbd.specs.Serving.{refusal_of}
+use Rattle.oram_nbd.specs.Service.{refusal_of}
 use Rattle.oram_nbd.specs.Streams.{ComesShort}
 use Rattle.oram_nbd.specs.declared.requests.Command.TheVariants.{Disconnect}
 use Rattle.oram_nbd.proofs.Calls.{at_rest, stays_on}

@@ -1,5 +1,5 @@
 use Rattle.oram_nbd.specs.Calls.{Stays}
-use Rattle.oram_nbd.specs.Serving.{SaysFailed}
+use Rattle.oram_nbd.specs.Service.{SaysFailed}
 use Rattle.oram_nbd.proofs.Served.{Served}
 use Rattle.oram_nbd.proofs.transmission.transmit.Given as goal
 

@@ -2,7 +2,7 @@ use Rattle.std.proofs.Common.{◌≡◌, Err, false, true, refl, sym, ap, ◌∙
 use Rattle.std.proofs.lemmas.Result.{err_from_is_err_and}
 use Rattle.oram_semantics.specs.Scheme.{Scheme}
 use Rattle.oram_session.specs.Exchanges.{IsSent, IsCutOff, AllSentFrom}
-use Rattle.oram_session.specs.Resuming.{first_retries, retries_now}
+use Rattle.oram_session.specs.Resumption.{first_retries, retries_now}
 use Rattle.oram_session.specs.Turns.{most_retries}
 use Rattle.oram_host.specs.declared.serve_fault.ServeFault.TheVariants.{Stalled, OutOfMemory}
 use Rattle.oram_session.proofs.Steppings.{same_scheme}

@@ -4,7 +4,7 @@ use Rattle.oram_host.specs.Path.{record_at}
 use Rattle.oram_layout.proofs.Changes.{length-record_at}
 use Rattle.oram_store.specs.Batches.{HoldsCells}
 use Rattle.oram_store.proofs.Outcomes.{if_ok_none}
-use Rattle.oram_store.proofs.Spelling.{cells_more}
+use Rattle.oram_store.proofs.BatchBytes.{cells_more}
 use Rattle.oram_store.proofs.batches.cells_of.Goals as goal
 
 pub returns-in_err-push-clause-len : goal.returns-in_err-push-clause-len

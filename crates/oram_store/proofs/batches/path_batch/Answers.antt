@@ -7,7 +7,7 @@ use Rattle.oram_layout.specs.Changes.{path_patches}
 use Rattle.oram_layout.specs.Trees.{cell_at}
 use Rattle.oram_redo.specs.Batch.{patch_of, patches_of}
 use Rattle.oram_redo.specs.Log as model
-use Rattle.oram_store.proofs.Spelling.{path_more}
+use Rattle.oram_store.proofs.BatchBytes.{path_more}
 use Rattle.oram_store.proofs.batches.path_batch.Goals as goal
 
 pub loop-level-preserved : goal.loop-level-preserved

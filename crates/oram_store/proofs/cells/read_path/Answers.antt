@@ -5,7 +5,7 @@ use Rattle.oram_layout.proofs.Contents.{content_is}
 use Rattle.oram_redo.specs.Content.{Content}
 use Rattle.oram_redo.specs.declared.file_pair.FileKind.TheVariants.{Records}
 use Rattle.oram_store.specs.Batches.{records_of_tree}
-use Rattle.oram_store.proofs.Finding.{calls_residual, runs_none, runs_then}
+use Rattle.oram_store.proofs.Crashes.{calls_residual, runs_none, runs_then}
 use Rattle.oram_store.proofs.Levels.{lacks_at, read_more}
 use Rattle.oram_store.proofs.Outcomes.{calls_memory, if_ok_none, on_ok_none}
 use Rattle.oram_store.proofs.Sound.{reads_nothing, reads_then}

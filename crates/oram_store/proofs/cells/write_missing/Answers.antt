@@ -1,5 +1,5 @@
 use Rattle.std.proofs.Common.{refl, ◌∙◌}
-use Rattle.oram_store.proofs.Finding.{calls_residual, runs_none, runs_then}
+use Rattle.oram_store.proofs.Crashes.{calls_residual, runs_none, runs_then}
 use Rattle.oram_store.proofs.Sound.{leaves_then, reads_leave, reads_nothing}
 use Rattle.oram_store.proofs.cells.write_missing.Goals as goal
 

@@ -1,6 +1,6 @@
 use Rattle.std.proofs.Common.{◌≡◌, ℕ, Some}
 use Rattle.oram_layout.specs.Trees.{Trees, tree_at}
-use Rattle.oram_store.specs.Keeping.{IsSoundFile, LeavesRecords}
+use Rattle.oram_store.specs.KeptRecords.{IsSoundFile, LeavesRecords}
 use Rattle.oram_store.specs.RecordFile.{Runs}
 use Rattle.oram_store.proofs.cells.write_missing.Given as goal
 

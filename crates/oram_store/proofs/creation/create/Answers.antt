@@ -3,7 +3,7 @@ use Rattle.oram_redo.specs.Content.{Agrees, Has, put}
 use Rattle.oram_redo.specs.declared.file_pair.FileKind.TheVariants.{Log, Records}
 use Rattle.oram_layout.specs.Header.{letters}
 use Rattle.oram_store.proofs.Outcomes.{on_ok_none}
-use Rattle.oram_store.proofs.Recovering.{first_file, front_stands, put_in_empty}
+use Rattle.oram_store.proofs.Recovery.{first_file, front_stands, put_in_empty}
 use Rattle.oram_store.proofs.creation.create.Goals as goal
 
 pub returns-clause-records : goal.returns-clause-records

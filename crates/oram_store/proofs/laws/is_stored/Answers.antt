@@ -1,7 +1,7 @@
 use Rattle.std.proofs.Common.{Bool, Err, Ok, Result, Some, ◌∙◌}
 use Rattle.std.specs.Prelude.{IfOk}
 use Rattle.oram_layout.specs.Trees.{shape_at, sizes_of}
-use Rattle.oram_store.proofs.Finding.{runs_then}
+use Rattle.oram_store.proofs.Crashes.{runs_then}
 use Rattle.oram_store.proofs.Lives.{path_found, shape_given}
 use Rattle.oram_store.proofs.Outcomes.{if_ok_none}
 use Rattle.oram_store.proofs.laws.is_stored.Goals as goal

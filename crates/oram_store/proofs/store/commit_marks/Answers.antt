@@ -4,9 +4,9 @@ use Rattle.oram_layout.specs.Changes.{marks}
 use Rattle.oram_redo.specs.Batch.{patches_of}
 use Rattle.oram_redo.specs.Log.{Fits, Patch, entries}
 use Rattle.oram_store.specs.RecordFile.{bounds}
-use Rattle.oram_store.proofs.Finding.{commits_none, runs_none}
+use Rattle.oram_store.proofs.Crashes.{commits_none, runs_none}
 use Rattle.oram_store.proofs.Outcomes.{calls_memory, on_ok_none}
-use Rattle.oram_store.proofs.Spelling.{length-marks, marks_fit}
+use Rattle.oram_store.proofs.BatchBytes.{length-marks, marks_fit}
 use Rattle.oram_store.proofs.store.commit_marks.Goals as goal
 
 pub returns-in_err-batch-clause-commits : goal.returns-in_err-batch-clause-commits

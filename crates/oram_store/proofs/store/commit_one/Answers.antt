@@ -1,6 +1,6 @@
 use Rattle.std.proofs.Common.{arith}
 use Rattle.oram_redo.specs.Log.{Patch}
-use Rattle.oram_store.proofs.Spelling.{length-one, one_fits}
+use Rattle.oram_store.proofs.BatchBytes.{length-one, one_fits}
 use Rattle.oram_store.proofs.store.commit_one.Goals as goal
 
 pub commit-requires-clause-short : goal.commit-requires-clause-short

@@ -1,14 +1,14 @@
 use Rattle.std.proofs.Common.{◌≡◌, ◌+◌, ℕ, length, List, sym, subst, ap, ◌∙◌, arith, refl}
 use Rattle.std.specs.Prelude.{All}
 use Rattle.oram_layout.specs.Changes.{path_patches}
-use Rattle.oram_layout.proofs.Fitting.{patches_fit}
+use Rattle.oram_layout.proofs.LogRoom.{patches_fit}
 use Rattle.oram_redo.specs.Batch.{patches_of}
 use Rattle.oram_redo.specs.Log.{Fits, Patch, entries}
 use Rattle.oram_store.specs.Batches.{HoldsCells}
 use Rattle.oram_store.specs.RecordFile.{Commits, bounds}
-use Rattle.oram_store.proofs.Finding.{commits_none, runs_none}
+use Rattle.oram_store.proofs.Crashes.{commits_none, runs_none}
 use Rattle.oram_store.proofs.Outcomes.{calls_memory, on_ok_none}
-use Rattle.oram_store.proofs.Spelling.{path_short}
+use Rattle.oram_store.proofs.BatchBytes.{path_short}
 use Rattle.oram_store.proofs.store.commit_path.Goals as goal
 
 pub returns-in_err-cells-clause-commits : goal.returns-in_err-cells-clause-commits

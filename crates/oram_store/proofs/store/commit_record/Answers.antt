@@ -1,6 +1,6 @@
 use Rattle.std.proofs.Common.{[], ◌∷◌}
 use Rattle.oram_layout.specs.Changes.{record_patch}
-use Rattle.oram_store.proofs.Finding.{commits_none, runs_none}
+use Rattle.oram_store.proofs.Crashes.{commits_none, runs_none}
 use Rattle.oram_store.proofs.Outcomes.{calls_memory, on_ok_none}
 use Rattle.oram_store.proofs.store.commit_record.Goals as goal
 

@@ -3,7 +3,7 @@ use Rattle.std.specs.Prelude.{replicate}
 use Rattle.oram_geometry.specs.declared.Sizes.{Sizes}
 use Rattle.oram_geometry.specs.Sizes.{trees_of}
 use Rattle.oramd.specs.Formatting.{IsFormatted}
-use Rattle.oramd.specs.Looping.{loop_sizes}
+use Rattle.oramd.specs.FrameLoop.{loop_sizes}
 use Rattle.oramd.specs.declared.faults.Fault.{Fault}
 use Rattle.oramd.proofs.Looped.{all_answered, at_end, front_answered, scheme_at}
 use Rattle.oramd.proofs.frame_loop.answer_frames.Goals as goal

@@ -1,5 +1,5 @@
 use Rattle.std.proofs.Common.{◌≡◌, ◌^◌, length}
-use Rattle.oramsim.specs.Reading.{numbers_below}
+use Rattle.oramsim.specs.Lines.{numbers_below}
 use Rattle.oramsim.proofs.Numbers.{with_front}
 use Rattle.oramsim.proofs.line.words_in.Given as goal
 

@@ -1,7 +1,7 @@
 use Rattle.std.proofs.Common.{◌≡◌, ◌++◌, take}
 use Rattle.std.specs.List.{flat_map}
 use Rattle.std.specs.String.{string_bytes}
-use Rattle.oramsim.specs.Printing.{note_text, reply_text, send_text}
+use Rattle.oramsim.specs.Printer.{note_text, reply_text, send_text}
 use Rattle.oramsim.proofs.printer.reaction_text.Given as goal
 
 abbrev pub invariant-loop-reply : goal.invariant-loop-reply

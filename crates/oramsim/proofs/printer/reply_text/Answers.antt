@@ -1,5 +1,5 @@
 use Rattle.std.proofs.Common.{◌≡◌, ℕ, List, IfOk, Result, Ok, Err, ap, ◌∙◌}
-use Rattle.oramsim.specs.Printing.{reply_line}
+use Rattle.oramsim.specs.Printer.{reply_line}
 use Rattle.oramsim.proofs.printer.reply_text.Goals as goal
 
 written : {T E : Type 0} (bytes : T → List ℕ) (r : Result T E) (a b : List ℕ) → IfOk r (λ t. bytes t ≡ a) → a ≡ b → IfOk r (λ t. bytes t ≡ b)

@@ -4,7 +4,7 @@ use Rattle.oramsim.specs.declared.line.Line.{Line}
 use Rattle.oramsim.specs.declared.script.SimFault.TheVariants.{OutOfMemory}
 use Rattle.oramsim.proofs.Cut.{obeyed_cut, started_cut, stays_at}
 use Rattle.oramsim.proofs.GivenUp.{raised}
-use Rattle.oramsim.proofs.Passing.{calm_at, empty_passed, passed_some, refused_some, started}
+use Rattle.oramsim.proofs.Progress.{calm_at, empty_passed, passed_some, refused_some, started}
 use Rattle.oramsim.proofs.script.pass.Goals as goal
 
 pub returns-then-is_empty-clause-ok : goal.returns-then-is_empty-clause-ok

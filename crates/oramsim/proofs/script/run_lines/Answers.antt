@@ -4,7 +4,7 @@ use Rattle.std.specs.Io.BufRead.{strip_last}
 use Rattle.oramsim.specs.declared.script.SimFault.TheVariants.{Read}
 use Rattle.oramsim.proofs.Cut.{came_kept, cut_error, cut_here, cut_within}
 use Rattle.oramsim.proofs.GivenUp.{raised}
-use Rattle.oramsim.proofs.Passing.{came_none, came_more, came_end, came_bad}
+use Rattle.oramsim.proofs.Progress.{came_none, came_more, came_end, came_bad}
 use Rattle.oramsim.proofs.script.run_lines.Goals as goal
 
 pub loop-number-init : goal.loop-number-init

@@ -1,6 +1,6 @@
 use Rattle.std.proofs.Common.{IfSome}
 use Rattle.oramsim.specs.Correspondence.{AreWhole}
-use Rattle.oramsim.proofs.Passing.{Came}
+use Rattle.oramsim.proofs.Progress.{Came}
 use Rattle.oramsim.proofs.script.run_lines.Given as goal
 
 abbrev pub invariant-loop-number : goal.invariant-loop-number

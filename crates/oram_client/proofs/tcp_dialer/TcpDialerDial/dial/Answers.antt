@@ -1,5 +1,5 @@
 use Rattle.std.proofs.Common.{◌≡◌, ◌∙◌, subst}
-use Rattle.oram_client.specs.Dialing.{Destination, IsUngreetedOver}
+use Rattle.oram_client.specs.Dialer.{Destination, IsUngreetedOver}
 use Rattle.oram_client.proofs.Greeted.{somewhere}
 use Rattle.oram_client.proofs.tcp_dialer.TcpDialerDial.dial.Goals as goal
 

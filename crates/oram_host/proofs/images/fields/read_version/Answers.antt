@@ -2,7 +2,7 @@ use Rattle.std.proofs.Common.{◌<◌, ◌^◌, ℕ, rules}
 use Rattle.std.specs.Int.{w32, to_be_bytes}
 use Rattle.std.proofs.lemmas.Result.{err_from_is_err_and}
 use Rattle.oram_host.specs.declared.images.ImageFault.TheVariants.{Version}
-use Rattle.oram_host.specs.ImageReading.{after_version, next_number}
+use Rattle.oram_host.specs.ImageReader.{after_version, next_number}
 use Rattle.oram_host.proofs.Readings.{fails_first, fails_here, other_version, version_first}
 use Rattle.oram_host.proofs.images.fields.read_version.Goals as goal
 

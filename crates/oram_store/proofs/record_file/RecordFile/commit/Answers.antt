@@ -1,5 +1,5 @@
 use Rattle.oram_redo.specs.Batch.{patches_of}
-use Rattle.oram_store.proofs.Finding.{calls_then, commits_err, commits_then}
+use Rattle.oram_store.proofs.Crashes.{calls_then, commits_err, commits_then}
 use Rattle.oram_store.proofs.Outcomes.{calls_passed, on_ok_none}
 use Rattle.oram_store.proofs.record_file.RecordFile.commit.Goals as goal
 

@@ -3,7 +3,7 @@ use Rattle.oram_redo.specs.Batch.{patches_of}
 use Rattle.oram_redo.specs.declared.faults.RedoError.{RedoError}
 use Rattle.oram_store.specs.RecordFile.{Calls, FileValue, MayHave}
 use Rattle.oram_store.specs.declared.faults.StoreFault.TheVariants as fault
-use Rattle.oram_store.proofs.Finding.{stopped_passes}
+use Rattle.oram_store.proofs.Crashes.{stopped_passes}
 use Rattle.oram_store.proofs.Outcomes.{calls_closed, calls_made}
 use Rattle.oram_store.proofs.record_file.RecordFile.commit_if_room.Goals as goal
 

@@ -2,7 +2,7 @@ use Rattle.std.proofs.Common.{ap, sym, ◌∙◌}
 use Rattle.oram_redo.specs.Log.{AgreesBut}
 use Rattle.oram_redo.specs.declared.file_pair.FileKind.TheVariants.{Records}
 use Rattle.oram_store.specs.RecordFile.{FileValue}
-use Rattle.oram_store.proofs.Finding.{not_begun}
+use Rattle.oram_store.proofs.Crashes.{not_begun}
 use Rattle.oram_store.proofs.record_file.RecordFile.make_sure.Goals as goal
 
 pub returns-else-self-clause-passes : goal.returns-else-self-clause-passes

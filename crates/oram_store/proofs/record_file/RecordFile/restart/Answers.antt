@@ -2,7 +2,7 @@ use Rattle.std.proofs.Common.{[], ap, sym, ◌∙◌, subst, List, false, inl, r
 use Rattle.oram_redo.specs.Log.{AgreesBut, Patch}
 use Rattle.oram_redo.specs.declared.file_pair.FileKind.TheVariants.{Records}
 use Rattle.oram_store.specs.RecordFile.{Calls, FileValue, IsSteady, Passes}
-use Rattle.oram_store.proofs.Finding.{failed_passes, found_by, restart_passes, stopped_passes}
+use Rattle.oram_store.proofs.Crashes.{failed_passes, found_by, restart_passes, stopped_passes}
 use Rattle.oram_store.proofs.Outcomes.{calls_closed, calls_made}
 use Rattle.oram_store.proofs.record_file.RecordFile.restart.Goals as goal
 

@@ -2,7 +2,7 @@ use Rattle.std.proofs.Common.{◌∷◌, ap, sym, ◌∙◌, subst, List, true, 
 use Rattle.oram_redo.specs.Log.{AgreesBut, Patch}
 use Rattle.oram_redo.specs.declared.file_pair.FileKind.TheVariants.{Records}
 use Rattle.oram_store.specs.RecordFile.{Calls, FileValue, IsSteady, Passes}
-use Rattle.oram_store.proofs.Finding.{loose_passes, stopped_passes}
+use Rattle.oram_store.proofs.Crashes.{loose_passes, stopped_passes}
 use Rattle.oram_store.proofs.Outcomes.{calls_closed, calls_made}
 use Rattle.oram_store.proofs.record_file.RecordFile.write_loose.Goals as goal
 

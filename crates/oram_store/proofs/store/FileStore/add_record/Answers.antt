@@ -6,13 +6,13 @@ use Rattle.oram_redo.specs.Content.{Agrees, put}
 use Rattle.oram_redo.specs.Log.{AgreesBut, Patch}
 use Rattle.oram_redo.specs.declared.file_pair.FileKind.TheVariants.{Records}
 use Rattle.oram_store.specs.Crashes.{Serves}
-use Rattle.oram_store.specs.Keeping.{IsSound, StoreValue}
+use Rattle.oram_store.specs.KeptRecords.{IsSound, StoreValue}
 use Rattle.oram_store.specs.RecordFile.{Calls, IsSteady, Passes}
 use Rattle.oram_wire.specs.declared.host_messages.HostAnswer.{HostAnswer}
 use Rattle.oram_wire.specs.declared.host_messages.HostAnswer.TheVariants as answer
 use Rattle.oram_wire.specs.declared.host_messages.HostRequest.TheVariants as request
-use Rattle.oram_store.proofs.Adding.{serves_added, serves_not_added}
-use Rattle.oram_store.proofs.Finding.{calls_ok}
+use Rattle.oram_store.proofs.AddedRecords.{serves_added, serves_not_added}
+use Rattle.oram_store.proofs.Crashes.{calls_ok}
 use Rattle.oram_store.proofs.Outcomes.{calls_memory, calls_passed, on_ok_none}
 use Rattle.oram_store.proofs.Served.{answer_of_err}
 use Rattle.oram_store.proofs.store.FileStore.add_record.Goals as goal

@@ -5,7 +5,7 @@ use Rattle.oram_host.specs.Refusals.{code_of}
 use Rattle.oram_host.specs.declared.refusals.HostRefusal.{HostRefusal}
 use Rattle.oram_host.specs.declared.refusals.HostRefusal.TheVariants as refusal
 use Rattle.oram_store.specs.Crashes.{Serves}
-use Rattle.oram_store.specs.Serving.{StandsBehind, StandsFor}
+use Rattle.oram_store.specs.AnswerBytes.{StandsBehind, StandsFor}
 use Rattle.oram_store.specs.declared.answers.Served.{Served}
 use Rattle.oram_store.proofs.Told.{no_room_is, payload_is, records_behind, told_done, told_records}
 use Rattle.oram_store.proofs.store.FileStore.answer.Goals.{in-Ok-Done+in_ok-extend_from_slice-in-Ok-Done, in-Err+in_ok-extend_from_slice-in-Err}

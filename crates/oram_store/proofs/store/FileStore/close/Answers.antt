@@ -1,9 +1,9 @@
 use Rattle.std.proofs.Common.{◌≡◌, [], subst}
-use Rattle.oram_store.specs.Closing.{Closes}
+use Rattle.oram_store.specs.Close.{Closes}
 use Rattle.oram_store.specs.Crashes.{Settles}
-use Rattle.oram_store.specs.Keeping.{IsSound, StoreValue}
+use Rattle.oram_store.specs.KeptRecords.{IsSound, StoreValue}
 use Rattle.oram_store.specs.RecordFile.{Runs}
-use Rattle.oram_store.proofs.Closing.{closes_by, closes_err}
+use Rattle.oram_store.proofs.Close.{closes_by, closes_err}
 use Rattle.oram_store.proofs.store.FileStore.close.Goals as goal
 
 pub returns-in_err-commit_puts : goal.returns-in_err-commit_puts

@@ -1,10 +1,10 @@
 use Rattle.std.proofs.Common.{List, ℕ, refl, ap, subst, Ok, Err, Some}
 use Rattle.oram_layout.specs.Changes.{marks}
 use Rattle.oram_store.specs.Crashes.{Settles}
-use Rattle.oram_store.specs.Keeping.{IsSound, StoreValue}
+use Rattle.oram_store.specs.KeptRecords.{IsSound, StoreValue}
 use Rattle.oram_store.specs.RecordFile.{Calls, Commits}
-use Rattle.oram_store.proofs.Finding.{runs_none}
-use Rattle.oram_store.proofs.Settling.{settles_by, settles_none}
+use Rattle.oram_store.proofs.Crashes.{runs_none}
+use Rattle.oram_store.proofs.SettledPuts.{settles_by, settles_none}
 use Rattle.oram_store.proofs.store.FileStore.commit_puts.Goals as goal
 
 pub returns-then-is_empty-clause-settles : goal.returns-then-is_empty-clause-settles

@@ -2,16 +2,16 @@ use Rattle.std.proofs.Common.{◌≡◌, inl, ℕ, [], Some, refl, subst, ap, �
 use Rattle.std.specs.Prelude.{slice_set}
 use Rattle.oram_layout.specs.Trees.{Trees, next_of, sizes_of, tree_at}
 use Rattle.oram_store.specs.Crashes.{Serves, Settles}
-use Rattle.oram_store.specs.Keeping.{StoreValue}
+use Rattle.oram_store.specs.KeptRecords.{StoreValue}
 use Rattle.oram_store.specs.RecordFile.{IsReason, Runs}
 use Rattle.oram_wire.specs.declared.host_messages.HostRequest.{HostRequest}
 use Rattle.oram_wire.specs.declared.host_messages.HostAnswer.{HostAnswer}
 use Rattle.oram_wire.specs.declared.host_messages.HostAnswer.TheVariants as answer
 use Rattle.oram_wire.specs.declared.host_messages.HostRequest.TheVariants as request
-use Rattle.oram_store.proofs.Finding.{error_is, reason_then, runs_then}
+use Rattle.oram_store.proofs.Crashes.{error_is, reason_then, runs_then}
 use Rattle.oram_store.proofs.Outcomes.{on_err_holds, on_ok_none}
 use Rattle.oram_store.proofs.Served.{answer_of_err, serves_after, serves_err}
-use Rattle.oram_store.proofs.Shaping.{adds_there, leads_there, serves_no_shape, serves_shape}
+use Rattle.oram_store.proofs.AddedTrees.{adds_there, leads_there, serves_no_shape, serves_shape}
 use Rattle.oram_store.proofs.store.FileStore.commit_puts_and_add.Goals as goal
 
 pub returns-in_err-commit_entry-clause-runs : goal.returns-in_err-commit_entry-clause-runs

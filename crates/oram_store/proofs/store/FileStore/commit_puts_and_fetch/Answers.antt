@@ -7,12 +7,12 @@ use Rattle.oram_redo.specs.Log.{put_all}
 use Rattle.oram_redo.specs.declared.file_pair.FileKind.TheVariants.{Records}
 use Rattle.oram_store.specs.Answers.{Answers}
 use Rattle.oram_store.specs.Crashes.{Serves, Settles}
-use Rattle.oram_store.specs.Keeping.{StoreValue}
+use Rattle.oram_store.specs.KeptRecords.{StoreValue}
 use Rattle.oram_wire.specs.declared.host_messages.HostAnswer.{HostAnswer}
 use Rattle.oram_wire.specs.declared.host_messages.HostAnswer.TheVariants as answer
 use Rattle.oram_wire.specs.declared.host_messages.HostRequest.TheVariants as request
 use Rattle.oram_store.specs.RecordFile.{Calls, Runs}
-use Rattle.oram_store.proofs.Finding.{calls_then}
+use Rattle.oram_store.proofs.Crashes.{calls_then}
 use Rattle.oram_store.proofs.Outcomes.{calls_passed, if_ok_none, on_ok_holds, on_ok_none}
 use Rattle.oram_store.proofs.Served.{lacks_of_tree, match_err, match_found, path_of_tree, serves_fetched, serves_settled}
 use Rattle.oram_store.proofs.store.FileStore.commit_puts_and_fetch.Goals as goal

@@ -1,7 +1,7 @@
 use Rattle.std.proofs.Common.{ℕ, ◌<◌, Some, inl, inr, refl, sym, ap, subst, ◌∙◌, arith}
 use Rattle.std.specs.Prelude.{IsSomeAnd}
 use Rattle.oram_wire.specs.declared.host_messages.HostRequest.TheVariants as request
-use Rattle.oram_store.specs.Keeping.{StoreValue}
+use Rattle.oram_store.specs.KeptRecords.{StoreValue}
 use Rattle.oram_store.specs.RecordFile.{IsReason, Runs}
 use Rattle.oram_store.specs.Refusals.{refusal_by}
 use Rattle.oram_store.proofs.Allowed.{fetch_allowed, not_refused}

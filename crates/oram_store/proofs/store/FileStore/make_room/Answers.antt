@@ -1,4 +1,4 @@
-use Rattle.oram_store.proofs.Settling.{settles_none}
+use Rattle.oram_store.proofs.SettledPuts.{settles_none}
 use Rattle.oram_store.proofs.store.FileStore.make_room.Goals as goal
 
 pub returns-clause-settles : goal.returns-clause-settles

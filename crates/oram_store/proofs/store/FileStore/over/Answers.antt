@@ -4,9 +4,9 @@ use Rattle.oram_redo.specs.Log.{StandsFor}
 use Rattle.oram_layout.specs.BucketFile.{IsBucketFile}
 use Rattle.oram_layout.specs.Records.{AreKept, records_in}
 use Rattle.oram_layout.specs.Trees.{Trees}
-use Rattle.oram_store.specs.Keeping.{IsSound, StoreValue, records_of}
+use Rattle.oram_store.specs.KeptRecords.{IsSound, StoreValue, records_of}
 use Rattle.oram_store.specs.RecordFile.{FileValue, bounds}
-use Rattle.oram_store.proofs.Recovering.{fresh, fresh_found}
+use Rattle.oram_store.proofs.Recovery.{fresh, fresh_found}
 use Rattle.oram_store.proofs.store.FileStore.over.Goals as goal
 
 pub returns-clause-found : goal.returns-clause-found

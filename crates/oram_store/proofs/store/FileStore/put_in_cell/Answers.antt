@@ -4,14 +4,14 @@ use Rattle.oram_layout.specs.Trees.{cell_at, tree_at}
 use Rattle.oram_redo.specs.declared.file_pair.FileKind.TheVariants.{Records}
 use Rattle.oram_store.specs.Answers.{answer_by}
 use Rattle.oram_store.specs.Crashes.{Serves}
-use Rattle.oram_store.specs.Keeping.{IsSound, StoreValue}
+use Rattle.oram_store.specs.KeptRecords.{IsSound, StoreValue}
 use Rattle.oram_wire.specs.declared.host_messages.HostAnswer.{HostAnswer}
 use Rattle.oram_wire.specs.declared.host_messages.HostAnswer.TheVariants as answer
 use Rattle.oram_wire.specs.declared.host_messages.HostRequest.TheVariants as request
 use Rattle.oram_store.specs.RecordFile.{Calls}
-use Rattle.oram_store.proofs.Finding.{calls_then}
+use Rattle.oram_store.proofs.Crashes.{calls_then}
 use Rattle.oram_store.proofs.Outcomes.{calls_passed, on_ok_none}
-use Rattle.oram_store.proofs.Putting.{serves_read, serves_unread}
+use Rattle.oram_store.proofs.Puts.{serves_read, serves_unread}
 use Rattle.oram_store.proofs.Served.{answer_of_err}
 use Rattle.oram_store.proofs.store.FileStore.put_in_cell.Goals as goal
 

@@ -2,8 +2,8 @@ use Rattle.std.proofs.Common.{ℕ, subst, ap, ◌∙◌}
 use Rattle.std.specs.Prelude.{Contains}
 use Rattle.oram_layout.specs.Trees.{Trees, tree_at}
 use Rattle.oram_wire.specs.declared.host_messages.HostRequest.TheVariants as request
-use Rattle.oram_store.proofs.Finding.{calls_then}
-use Rattle.oram_store.proofs.Putting.{serves_room}
+use Rattle.oram_store.proofs.Crashes.{calls_then}
+use Rattle.oram_store.proofs.Puts.{serves_room}
 use Rattle.oram_store.proofs.Served.{serves_err}
 use Rattle.oram_store.proofs.store.FileStore.put_record.Goals as goal
 

@@ -5,10 +5,10 @@ use Rattle.oram_layout.proofs.Changes.{record_put}
 use Rattle.oram_redo.specs.declared.file_pair.FileKind.TheVariants.{Records}
 use Rattle.oram_store.specs.Answers.{answer_by}
 use Rattle.oram_store.specs.Crashes.{Serves, Settles}
-use Rattle.oram_store.specs.Keeping.{Puts, StoreValue}
+use Rattle.oram_store.specs.KeptRecords.{Puts, StoreValue}
 use Rattle.oram_wire.specs.declared.host_messages.HostRequest.TheVariants as request
 use Rattle.oram_store.specs.RecordFile.{Calls, Runs}
-use Rattle.oram_store.proofs.Finding.{calls_then}
+use Rattle.oram_store.proofs.Crashes.{calls_then}
 use Rattle.oram_store.proofs.Outcomes.{calls_passed, on_ok_none}
 use Rattle.oram_store.proofs.Served.{serves_err, serves_made}
 use Rattle.oram_store.proofs.Sound.{commits_change}

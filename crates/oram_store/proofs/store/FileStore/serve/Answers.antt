@@ -1,9 +1,9 @@
 use Rattle.std.proofs.Common.{◌≡◌, Err, false, ap, refl, sym, subst, rules}
 use Rattle.oram_host.specs.declared.refusals.HostRefusal.{HostRefusal}
 use Rattle.oram_store.specs.Crashes.{Serves}
-use Rattle.oram_store.specs.Keeping.{StoreValue}
+use Rattle.oram_store.specs.KeptRecords.{StoreValue}
 use Rattle.oram_store.specs.RecordFile.{Runs}
-use Rattle.oram_wire.specs.HostReading.{request_of}
+use Rattle.oram_wire.specs.HostBodies.{request_of}
 use Rattle.oram_wire.specs.declared.host_messages.HostAnswer.TheVariants.{Done, Payload}
 use Rattle.oram_wire.specs.declared.host_messages.HostRequest.{HostRequest}
 use Rattle.oram_store.specs.Reasons.{TellsWhy}

@@ -4,7 +4,7 @@ use Rattle.oram_store.specs.Crashes.{Serves}
 use Rattle.oram_wire.specs.declared.host_messages.HostAnswer.TheVariants as answer
 use Rattle.oram_wire.specs.declared.host_messages.HostRequest.TheVariants as request
 use Rattle.oram_layout.specs.Trees.{tree_at}
-use Rattle.oram_store.specs.Keeping.{StoreValue}
+use Rattle.oram_store.specs.KeptRecords.{StoreValue}
 use Rattle.oram_store.specs.Reasons.{IsReasonFor, TellsWhy}
 use Rattle.oram_store.specs.RecordFile.{Runs}
 use Rattle.oram_store.specs.Refusals.{ChangesTrees, refusal_by}

@@ -1,6 +1,6 @@
 use Rattle.std.proofs.Common.{sym, ap, ◌∙◌}
 use Rattle.std.specs.Option.{option_copied}
-use Rattle.oramsim.specs.Reading.{fields_left}
+use Rattle.oramsim.specs.Lines.{fields_left}
 use Rattle.oramsim.proofs.FirstField.{first_field, one_field}
 use Rattle.oramsim.proofs.fields.Fields.split_first.Goals as goal
 

@@ -1,8 +1,8 @@
 use Rattle.std.proofs.Common.{inl, refl}
-use Rattle.oramsim.proofs.Answering.{answered, fewer_as, heard_stands, IsHeard}
+use Rattle.oramsim.proofs.HostAnswers.{answered, fewer_as, heard_stands, IsHeard}
 use Rattle.oramsim.specs.declared.script.SimFault.TheVariants.{OutOfMemory}
 use Rattle.oramsim.proofs.GivenUp.{if_err, answer_cut, raised, stays}
-use Rattle.oramsim.proofs.Turning.{on_ok}
+use Rattle.oramsim.proofs.Turns.{on_ok}
 use Rattle.oramsim.proofs.machine.Machine.answer.Goals as goal
 
 pub returns-clause-whole : goal.returns-clause-whole

@@ -1,7 +1,7 @@
 use Rattle.std.proofs.Common.{[], refl, sym, ◌∙◌}
 use Rattle.oramsim.proofs.Drained.{drained_more, none_left}
 use Rattle.oramsim.proofs.GivenUp.{drain_cut, raised}
-use Rattle.oramsim.proofs.Turning.{silent}
+use Rattle.oramsim.proofs.Turns.{silent}
 use Rattle.oramsim.proofs.machine.Machine.drain.Goals as goal
 
 pub loop-alloc-init : goal.loop-alloc-init

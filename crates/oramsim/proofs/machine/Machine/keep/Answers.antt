@@ -1,4 +1,4 @@
-use Rattle.oramsim.proofs.Meddling.{kept}
+use Rattle.oramsim.proofs.Interference.{kept}
 use Rattle.oramsim.proofs.machine.Machine.keep.Goals as goal
 
 pub returns-clause-ok : goal.returns-clause-ok

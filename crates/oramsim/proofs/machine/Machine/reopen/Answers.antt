@@ -1,7 +1,7 @@
 use Rattle.std.proofs.Common.{ap, inl, refl}
 use Rattle.oramsim.proofs.GivenUp.{if_err, raised, reopen_cut, stays}
 use Rattle.oramsim.proofs.Reopened.{reopened, same_stands}
-use Rattle.oramsim.proofs.Turning.{on_ok}
+use Rattle.oramsim.proofs.Turns.{on_ok}
 use Rattle.oramsim.specs.declared.script.SimFault.TheVariants.{OutOfMemory}
 use Rattle.oramsim.proofs.machine.Machine.reopen.Goals as goal
 

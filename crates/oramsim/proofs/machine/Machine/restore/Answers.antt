@@ -1,4 +1,4 @@
-use Rattle.oramsim.proofs.Meddling.{restored}
+use Rattle.oramsim.proofs.Interference.{restored}
 use Rattle.oramsim.proofs.machine.Machine.restore.Goals as goal
 
 pub returns-clause-ok : goal.returns-clause-ok

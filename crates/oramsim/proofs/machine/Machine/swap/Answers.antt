@@ -1,4 +1,4 @@
-use Rattle.oramsim.proofs.Meddling.{swapped}
+use Rattle.oramsim.proofs.Interference.{swapped}
 use Rattle.oramsim.proofs.machine.Machine.swap.Goals as goal
 
 pub returns-clause-ok : goal.returns-clause-ok

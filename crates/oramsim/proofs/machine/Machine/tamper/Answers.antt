@@ -1,4 +1,4 @@
-use Rattle.oramsim.proofs.Meddling.{tampered}
+use Rattle.oramsim.proofs.Interference.{tampered}
 use Rattle.oramsim.proofs.machine.Machine.tamper.Goals as goal
 
 pub returns-clause-ok : goal.returns-clause-ok

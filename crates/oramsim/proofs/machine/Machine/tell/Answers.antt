@@ -2,7 +2,7 @@ use Rattle.std.proofs.Common.{ap, ◌∙◌, refl}
 use Rattle.oramsim.specs.Script.{left_at, newest_of}
 use Rattle.oramsim.proofs.Faithful.{stays_faithful}
 use Rattle.oramsim.proofs.GivenUp.{raised, told_cut}
-use Rattle.oramsim.proofs.Turning.{goes_on, outstanding_is}
+use Rattle.oramsim.proofs.Turns.{goes_on, outstanding_is}
 use Rattle.oramsim.proofs.Whole.{whole_after, fewer}
 use Rattle.oramsim.proofs.machine.Machine.tell.Goals as goal
 
