@@ -9,8 +9,9 @@ use Rattle.oram_semantics.specs.Agree.{IsAllowed, TicketsFrom}
 use Rattle.oram_semantics.specs.Nonces.{next_nonce}
 use Rattle.oram_semantics.specs.State.{State, failed_state, no_tree}
 use Rattle.oram_semantics.specs.declared.events.Reason.{Reason}
+use Rattle.oram_tree.specs.declared.faults.PartsFault.{PartsFault}
 use Rattle.oram_core.specs.Core.{IsHealthy, IsWhole, IsTreeKept, IsReasonOf}
-use Rattle.oram_core.specs.Fitting.{AreTrees, IsEnded, IsFitting, IsWorking}
+use Rattle.oram_core.specs.Validity.{AreTrees, IsEnded, IsFitting, IsWorking}
 use Rattle.oram_core.specs.Parts.{Parts, AreParts, state_of, submission_at, submissions_from, trees_from}
 use Rattle.oram_core.specs.declared.parts.Pending.{Pending}
 
@@ -174,3 +175,7 @@ begun_waiting o p w = begun_by o p p.failure w
 -- a property of an error is one of the error that it equals
 pub told_err : {A E : Type 0} (r : Result A E) (P : E → Type 0) (e : E) → r ≡ Err e → IsErrAnd r P → P e
 told_err {A = A} {E = E} r P e is h = subst (λ (q : Result A E). IsErrAnd q P) is h
+
+-- memory ran out, which says nothing of the parts
+pub memory_apart : {A : Type 0} (r : Result A PartsFault) → IsErrAnd r (λ e. e ≡ PartsFault.OutOfMemory) → r ≡ Err PartsFault.Content → ⊥
+memory_apart r is same = let no_way : PartsFault.Content ≡ PartsFault.OutOfMemory = told_err r _ PartsFault.Content same is in cc

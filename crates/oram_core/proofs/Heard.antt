@@ -30,6 +30,10 @@ pub no_ok : {A E : Type 0} (P : Type 0) (r : Result A E) → IsErr r → IsOk r 
 no_ok P (Ok a) err ok = absurd (let no_way : false ≡ true = err in cc)
 no_ok P (Err e) err ok = absurd (let no_way : false ≡ true = ok in cc)
 
+-- an Ok is no Err
+pub ok_apart : {A E : Type 0} (a : A) (e : E) → Ok a ≡ Err e → ⊥
+ok_apart a e same = cc
+
 finished_heard : (v : Scheme) (s : State) (o : HasOldest v.device s) → s.entry_number + 1 ≡ 2 * trees_of v.device → Heard v s (finished_by v s o.oldest o.rest)
 finished_heard v s o end = inr (inr (record { oldest = o.oldest; rest = o.rest; queue = o.queue; does = refl; long = o.work.held_data end }))
 

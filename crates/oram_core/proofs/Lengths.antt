@@ -20,3 +20,7 @@ message_fits n depth len same deep long = omega (arith, path_small n depth len s
 -- which is a length that a message can have
 pub store_fits : (n depth len : ℕ) → n ≡ depth → depth ≤ 24 → len ≤ 32960 → (n + 1) * len + 6 < 2 ^ 32
 store_fits n depth len same deep long = omega (arith, path_small n depth len same deep long)
+
+-- the level of the root
+pub from_root : (depth : ℕ) → 0 ≤ depth
+from_root depth = omega arith

@@ -5,8 +5,9 @@ use Rattle.std.proofs.lemmas.Slice.Eq.{bytes_eq-Decides}
 use Rattle.std.proofs.lemmas.Bool.Decides.{nat_tests}
 use Rattle.oram_geometry.specs.Sizes.{trees_of}
 use Rattle.oram_semantics.specs.Answers.{Outcome, outcome_of, pair_in}
+use Rattle.oram_semantics.specs.Answers.Outcome.{NoRoom, Fails}
 use Rattle.oram_semantics.specs.Messages.{requested}
-use Rattle.oram_semantics.specs.Moves.{Moved, MovesTo, Fits, moved, goes_on, stays, on_answer, on_loss, on_retry, on_submission, finishes, fetches}
+use Rattle.oram_semantics.specs.Moves.{Moved, MovesTo, Fits, moved, goes_on, stays, stalls, fails, on_answer, on_loss, on_retry, on_submission, finishes, fetches}
 use Rattle.oram_semantics.specs.Progress.{Status}
 use Rattle.oram_semantics.specs.Progress.Status.{Idle, Waiting, Stalling, Over}
 use Rattle.oram_semantics.specs.Run.{shown_by, refusal_of, is_over, is_waiting}
@@ -21,10 +22,10 @@ use Rattle.oram_semantics.specs.declared.events.Reaction.{Reaction}
 use Rattle.oram_semantics.specs.declared.events.Reason.{Reason}
 use Rattle.oram_semantics.specs.declared.events.Refusal.{Refusal}
 use Rattle.oram_semantics.specs.declared.events.Submission.{Submission}
-use Rattle.oram_core.specs.Doing.{is_stalled, is_free_note, Done, done, noted, plain_step, submitted_by, lost_by, retried_by, unheard_by, accepted_by, finished_by, fetched_by, stalled_by, resent_by}
+use Rattle.oram_core.specs.Doing.{is_stalled, is_free_note, Done, done, noted, plain_step, submitted_by, lost_by, retried_by, unheard_by, accepted_by, finished_by, failed_by, fetched_by, stalled_by, resent_by}
 use Rattle.oram_core.specs.Judging.{IsVerdict}
 use Rattle.oram_core.specs.Steps.{Steps, Heard}
-use Rattle.oram_core.proofs.Quiet.{Meets, stays_met, accepts_met, stalls_met, resends_met, finishes_met, fetches_met}
+use Rattle.oram_core.proofs.Quiet.{Meets, stays_met, accepts_met, stalls_met, fails_met, resends_met, finishes_met, fetches_met}
 
 -- a command is at work, and its message is outstanding
 pub record Waits (s : State) : Type 0 where
@@ -220,6 +221,20 @@ hear_steps v s bytes (Ok y) t now moves heard verdict room = record {
 pub moves_by : {E : Type 0} (v : Scheme) (s : State) (w : World) (bytes : List ℕ) (o : Outcome) (r : Result Reaction E) (t : State) → outcome_of v w.records (requested s.message) bytes ≡ o →
     IfOk r (λ y. MovesTo v s w (on_answer v s w Waiting o) (shown_by y) t) → IfOk r (λ y. MovesTo v s w (on_answer v s w Waiting (outcome_of v w.records (requested s.message) bytes)) (shown_by y) t)
 moves_by v s w bytes o r t means h = subst (λ (p : Outcome). IfOk r (λ y. MovesTo v s w (on_answer v s w Waiting p) (shown_by y) t)) (sym means) h
+
+-- the answer means that the host has no room
+pub stall_moves : (v : Scheme) (s : State) (w : World) (bytes : List ℕ) (y : Reaction) (t : State) → Fits v s w → outcome_of v w.records (requested s.message) bytes ≡ NoRoom → done y t ≡ stalled_by s →
+    MovesTo v s w (on_answer v s w Waiting (outcome_of v w.records (requested s.message) bytes)) (shown_by y) t
+stall_moves v s w bytes y t fits means does =
+    subst (λ (p : Outcome). MovesTo v s w (on_answer v s w Waiting p) (shown_by y) t) (sym means)
+    (subst (λ (d : Done). Meets v s w (stalls s w) d) (sym does) (stalls_met v s w (holds_of v s w fits)))
+
+-- the answer fails the device
+pub fail_moves : (v : Scheme) (s : State) (w : World) (bytes : List ℕ) (e : Reason) (y : Reaction) (t : State) → outcome_of v w.records (requested s.message) bytes ≡ Fails e → done y t ≡ failed_by s e →
+    MovesTo v s w (on_answer v s w Waiting (outcome_of v w.records (requested s.message) bytes)) (shown_by y) t
+fail_moves v s w bytes e y t means does =
+    subst (λ (p : Outcome). MovesTo v s w (on_answer v s w Waiting p) (shown_by y) t) (sym means)
+    (subst (λ (d : Done). Meets v s w (fails s w e) d) (sym does) (fails_met v s w e))
 
 -- a reaction that is only a note
 pub only_noted : (s : State) (y : Reaction) (n : Note) → y.note ≡ n → y.replies.items ≡ [] → y.sends.items ≡ [] → done y s ≡ noted s n

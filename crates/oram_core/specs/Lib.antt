@@ -1,6 +1,6 @@
 pub mod Core
 pub mod Parts
-pub mod Fitting
+pub mod Validity
 pub mod Doing
 pub mod Rooms
 pub mod Judging

@@ -4,8 +4,8 @@ ghost use Rattle.oram_bucket.specs.Cell.{IsRising};
 ghost use Rattle.oram_tree.specs.Parts.{parts_of as tree_parts};
 ghost use Rattle.oram_core.specs.Parts.{AreParts, parts_of, pending_of, state_of};
 
-mod fitting;
-mod making;
+mod construction;
+mod validity;
 
 use crate::machine::Core;
 use oram_bucket::Sealer;

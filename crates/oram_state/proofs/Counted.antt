@@ -16,7 +16,7 @@ use Rattle.oram_semantics.specs.declared.events.Reason.{Reason}
 use Rattle.oram_semantics.specs.declared.events.Submission.{Submission}
 use Rattle.oram_semantics.proofs.Bounds.{depth_small}
 use Rattle.oram_core.specs.Core.{IsAtWork, IsStoreOf, AtWork}
-use Rattle.oram_core.specs.Fitting.{AreTrees, IsFitting}
+use Rattle.oram_core.specs.Validity.{AreTrees, IsFitting}
 use Rattle.oram_core.specs.Parts.{Parts, AreParts, state_of, submissions_from}
 use Rattle.oram_core.specs.declared.parts.Pending.{Pending}
 use Rattle.oram_core.proofs.Fits.{fits_of, trees_of_parts}

@@ -12,3 +12,6 @@ returns-in_err-copy-2 c = IfOk-from_err c.from_residual-in_err-copy-2.result _ c
 
 pub returns-in_err-push : goal.returns-in_err-push
 returns-in_err-push c = IfOk-from_err c.from_residual-in_err-push.result _ c.from_residual-in_err-push.ensures.0
+
+pub loop-at-init : goal.loop-at-init
+loop-at-init c = record { filled = c.in_ok-waiting.ensures.items }

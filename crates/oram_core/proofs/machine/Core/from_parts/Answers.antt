@@ -3,13 +3,13 @@ use mathlib.Core.Bool.{false≢true}
 use Rattle.oram_geometry.specs.Sizes.{IsDevice, trees_of}
 use Rattle.oram_geometry.proofs.Measuring.{trees_of-few}
 use Rattle.oram_core.specs.Core.{IsSound}
-use Rattle.oram_core.specs.Fitting.{AreTrees, IsFitting}
+use Rattle.oram_core.specs.Validity.{AreTrees, IsFitting}
 use Rattle.oram_core.specs.Parts.{Parts, AreParts, state_of}
 use Rattle.oram_tree.specs.declared.faults.PartsFault.{PartsFault}
-use Rattle.oram_core.proofs.Fits.{parts_by, fits_of, told_err, trees_of_parts}
+use Rattle.oram_core.proofs.Fits.{memory_apart, parts_by, fits_of, told_err, trees_of_parts}
 use Rattle.oram_core.proofs.Sound.{stage_within}
 use Rattle.std.proofs.lemmas.Result.{IfOk-from_err}
-use Rattle.oram_core.proofs.Heard.{no_ok}
+use Rattle.oram_core.proofs.Heard.{no_ok, ok_apart}
 use Rattle.oram_core.proofs.machine.Core.from_parts.Goals as goal
 
 pub returns-then-not-is_fitting-clause-content : goal.returns-then-not-is_fitting-clause-content
@@ -89,3 +89,39 @@ returns-then-parts-lifetime-clause-fits g c = λ ok. absurd (let no_way : false 
 
 pub returns-then-not-is_fitting-clause-fits : goal.returns-then-not-is_fitting-clause-fits
 returns-then-not-is_fitting-clause-fits g c = λ ok. absurd (let no_way : false ≡ true = ok in cc)
+
+pub returns-clause-state : goal.returns-clause-state
+returns-clause-state g c = rw (c.in_ok-trees.ensures.made, c.in_ok-queue_of.ensures) (ap state_of c.parts.view_is)
+
+pub returns-clause-device : goal.returns-clause-device
+returns-clause-device g c = ap (λ (p : Parts). p.device) c.parts.view_is
+
+pub returns-clause-sealer : goal.returns-clause-sealer
+returns-clause-sealer g c = refl
+
+pub returns-clause-content : goal.returns-clause-content
+returns-clause-content g c = λ same are. ok_apart _ _ same
+
+pub returns-in_err-queue_of-clause-content : goal.returns-in_err-queue_of-clause-content
+returns-in_err-queue_of-clause-content g c = λ same are. memory_apart c.from_residual-in_err-queue_of.result c.from_residual-in_err-queue_of.ensures.1 same
+
+pub returns-then-not-is_fitting-clause-device : goal.returns-then-not-is_fitting-clause-device
+returns-then-not-is_fitting-clause-device g c = tt
+
+pub is_fitting-requires-clause-overhead : goal.is_fitting-requires-clause-overhead
+is_fitting-requires-clause-overhead g c = rw c.overhead.ensures (g.met.S.Sealer.lawful c.args.sealer).small
+
+pub returns-then-not-is_fitting-clause-sealer : goal.returns-then-not-is_fitting-clause-sealer
+returns-then-not-is_fitting-clause-sealer g c = tt
+
+pub returns-then-not-is_fitting-clause-state : goal.returns-then-not-is_fitting-clause-state
+returns-then-not-is_fitting-clause-state g c = tt
+
+pub returns-then-parts-lifetime-clause-device : goal.returns-then-parts-lifetime-clause-device
+returns-then-parts-lifetime-clause-device g c = tt
+
+pub returns-then-parts-lifetime-clause-sealer : goal.returns-then-parts-lifetime-clause-sealer
+returns-then-parts-lifetime-clause-sealer g c = tt
+
+pub returns-then-parts-lifetime-clause-state : goal.returns-then-parts-lifetime-clause-state
+returns-then-parts-lifetime-clause-state g c = tt

@@ -31,7 +31,7 @@ use Rattle.oram_semantics.specs.Scheme.{record_len}
 use Rattle.std.proofs.lemmas.Result.{IfOk-from_err}
 use Rattle.oram_semantics.specs.Progress.Status.{Waiting}
 use Rattle.oram_semantics.specs.State.{status_in}
-use Rattle.oram_core.proofs.Lengths.{levels_fit, path_fits, message_fits, store_fits}
+use Rattle.oram_core.proofs.Lengths.{from_root, levels_fit, path_fits, message_fits, store_fits}
 use Rattle.oram_core.proofs.machine.Core.store.Goals as goal
 
 pub access_to-looked-requires-clause-old_leaf : goal.access_to-looked-requires-clause-old_leaf
@@ -316,3 +316,27 @@ pub access_to-looked-requires-clause-address : goal.access_to-looked-requires-cl
 access_to-looked-requires-clause-address g c =
     let h = lends g.S.Sealer.cipher _ c.args.self.now c.index_mut.result.now c.from.result c.path_access-path_access.result.tree c.self.view_is c.self.invariant c.requires.waiting c.from.ensures c.path_access-path_access.ensures.tree c.index_mut.ensures.value in
     subst (λ (u : CoreValue g.row.S.Denot). c.path_access-path_access.result.block < blocks_in u.device c.index_mut.result.now.number) (sym c.self.view_is) (rw h.number c.path_access-path_access.ensures.ranges.1)
+
+pub returns-in-Ok-clause-err : goal.returns-in-Ok-clause-err
+returns-in-Ok-clause-err g c = tt
+
+pub returns-in-Unreadable-clause-err : goal.returns-in-Unreadable-clause-err
+returns-in-Unreadable-clause-err g c = tt
+
+pub returns-in-OutOfMemory-clause-moves : goal.returns-in-OutOfMemory-clause-moves
+returns-in-OutOfMemory-clause-moves g c = λ w fits on_path. tt
+
+pub returns-in-OutOfMemory-clause-heard : goal.returns-in-OutOfMemory-clause-heard
+returns-in-OutOfMemory-clause-heard g c = tt
+
+pub returns-in-OutOfMemory-clause-uses : goal.returns-in-OutOfMemory-clause-uses
+returns-in-OutOfMemory-clause-uses g c = tt
+
+pub adopt_access-requires-clause-whole : goal.adopt_access-requires-clause-whole
+adopt_access-requires-clause-whole g c = c.in-Ok.ensures.data_len
+
+pub fail-requires-clause-replies : goal.fail-requires-clause-replies
+fail-requires-clause-replies g c = c.fail-replies.ensures
+
+pub fail-requires-clause-reason : goal.fail-requires-clause-reason
+fail-requires-clause-reason g c = (subst (λ (u : CoreValue g.row.S.Denot). c.path_access-path_access.result.tree < trees_of u.device) (sym c.self.view_is) c.path_access-path_access.ensures.ranges.0, from_root _)

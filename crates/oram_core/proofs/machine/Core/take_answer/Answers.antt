@@ -1,11 +1,14 @@
-use Rattle.std.proofs.Common.{sym, subst, refl}
+use Rattle.std.proofs.Common.{◌≡◌, ◌∙◌, ap, sym, subst, refl}
 use Rattle.oram_core.specs.Core.{scheme_of}
+use Rattle.oram_core.specs.Doing.{Done}
 use Rattle.oram_core.specs.Judging.{IsVerdict}
+use Rattle.oram_core.specs.Steps.{Heard}
 use Rattle.oram_core.specs.Verdicts.{Means, Tells}
+use Rattle.oram_core.specs.declared.verdicts.Verdict.TheVariants as verdict
 use Rattle.oram_semantics.specs.Answers.Outcome.{Good}
-use Rattle.oram_core.proofs.Heard.{if_ok, on_err}
+use Rattle.oram_core.proofs.Heard.{failed_heard, if_ok, on_err}
 use Rattle.oram_core.proofs.Judged.{use_told, stored_told}
-use Rattle.oram_core.proofs.Meeting.{moves_by}
+use Rattle.oram_core.proofs.Meeting.{fail_moves, moves_by, stall_moves}
 use Rattle.std.proofs.lemmas.Result.{IfOk-from_err}
 use Rattle.oram_core.proofs.machine.Core.take_answer.Goals as goal
 
@@ -108,3 +111,66 @@ returns-in-NoRoom-clause-no_room g c = λ is. c.stall.ensures.ok
 
 pub returns-in_ok-replies-in-Bad-clause-kept : goal.returns-in_ok-replies-in-Bad-clause-kept
 returns-in_ok-replies-in-Bad-clause-kept g c = c.fail.ensures.kept
+
+pub returns-in-Path-clause-no_room : goal.returns-in-Path-clause-no_room
+returns-in-Path-clause-no_room g c = λ is. absurd (let no_way : verdict.Path c.in-Path.path ≡ verdict.NoRoom = sym c.in-Path.is ∙ c.verdict.ensures.no_room.1 is in cc)
+
+pub returns-in-Path-clause-free : goal.returns-in-Path-clause-free
+returns-in-Path-clause-free g c = λ is. absurd (let no_way : verdict.Path c.in-Path.path ≡ verdict.NoRoom = sym c.in-Path.is ∙ c.verdict.ensures.no_room.1 is in cc)
+
+pub returns-in-Stored-clause-no_room : goal.returns-in-Stored-clause-no_room
+returns-in-Stored-clause-no_room g c = λ is. absurd (let no_way : verdict.Stored ≡ verdict.NoRoom = sym c.in-Stored.is ∙ c.verdict.ensures.no_room.1 is in cc)
+
+pub returns-in-Stored-clause-free : goal.returns-in-Stored-clause-free
+returns-in-Stored-clause-free g c = λ is. absurd (let no_way : verdict.Stored ≡ verdict.NoRoom = sym c.in-Stored.is ∙ c.verdict.ensures.no_room.1 is in cc)
+
+pub returns-in-NoRoom-clause-moves : goal.returns-in-NoRoom-clause-moves
+returns-in-NoRoom-clause-moves g c = λ w fits apart.
+    let v = scheme_of g.S.Sealer.cipher c.args.self.now in
+    let s = c.args.self.now.state in
+    let means = subst (Means v s w c.args.bytes.now) c.in-NoRoom.is (c.verdict.ensures.means w fits apart) in
+    stall_moves v s w c.args.bytes.now c.stall.result c.stall.new.self.state fits means c.stall.ensures.ok
+
+pub returns-in-NoRoom-clause-heard : goal.returns-in-NoRoom-clause-heard
+returns-in-NoRoom-clause-heard g c = λ other. absurd (other (c.verdict.ensures.no_room.0 c.in-NoRoom.is))
+
+pub returns-in-NoRoom-clause-verdict : goal.returns-in-NoRoom-clause-verdict
+returns-in-NoRoom-clause-verdict g c = λ other. absurd (other (c.verdict.ensures.no_room.0 c.in-NoRoom.is))
+
+pub returns-in-NoRoom-clause-free : goal.returns-in-NoRoom-clause-free
+returns-in-NoRoom-clause-free g c = λ is. refl
+
+pub returns-in-NoRoom-clause-err : goal.returns-in-NoRoom-clause-err
+returns-in-NoRoom-clause-err g c = tt
+
+pub returns-in_ok-replies-in-Bad-clause-moves : goal.returns-in_ok-replies-in-Bad-clause-moves
+returns-in_ok-replies-in-Bad-clause-moves g c = λ w fits apart.
+    let v = scheme_of g.S.Sealer.cipher c.args.self.now in
+    let s = c.args.self.now.state in
+    let means = subst (Means v s w c.args.bytes.now) c.in-Bad.is (c.verdict.ensures.means w fits apart) in
+    fail_moves v s w c.args.bytes.now c.in-Bad.reason c.fail.result c.fail.new.self.state means c.fail.ensures.ok
+
+pub returns-in_ok-replies-in-Bad-clause-heard : goal.returns-in_ok-replies-in-Bad-clause-heard
+returns-in_ok-replies-in-Bad-clause-heard g c = λ other.
+    let v = scheme_of g.S.Sealer.cipher c.args.self.now in
+    let s = c.args.self.now.state in
+    subst (Heard v s) (sym c.fail.ensures.ok) (failed_heard v s s c.in-Bad.reason refl refl refl)
+
+pub returns-in_ok-replies-in-Bad-clause-verdict : goal.returns-in_ok-replies-in-Bad-clause-verdict
+returns-in_ok-replies-in-Bad-clause-verdict g c = λ other.
+    let v = scheme_of g.S.Sealer.cipher c.args.self.now in
+    let s = c.args.self.now.state in
+    let told = subst (Tells v s c.args.bytes.now) c.in-Bad.is c.verdict.ensures.tells in
+    subst (IsVerdict v s c.args.bytes.now) (sym (ap (λ (d : Done). d.note) c.fail.ensures.ok)) told
+
+pub returns-in_ok-replies-in-Bad-clause-no_room : goal.returns-in_ok-replies-in-Bad-clause-no_room
+returns-in_ok-replies-in-Bad-clause-no_room g c = λ is. absurd (let no_way : verdict.Bad c.in-Bad.reason ≡ verdict.NoRoom = sym c.in-Bad.is ∙ c.verdict.ensures.no_room.1 is in cc)
+
+pub returns-in_ok-replies-in-Bad-clause-free : goal.returns-in_ok-replies-in-Bad-clause-free
+returns-in_ok-replies-in-Bad-clause-free g c = λ is. refl
+
+pub returns-in_ok-replies-in-Bad-clause-err : goal.returns-in_ok-replies-in-Bad-clause-err
+returns-in_ok-replies-in-Bad-clause-err g c = tt
+
+pub returns-in_err-replies-in-Bad-clause-free : goal.returns-in_err-replies-in-Bad-clause-free
+returns-in_err-replies-in-Bad-clause-free g c = λ is. absurd (let no_way : verdict.Bad c.in-Bad.reason ≡ verdict.NoRoom = sym c.in-Bad.is ∙ c.verdict.ensures.no_room.1 is in cc)

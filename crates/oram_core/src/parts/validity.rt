@@ -7,7 +7,7 @@ ghost use Rattle.oram_semantics.specs.Content.{entry_tree};
 ghost use Rattle.oram_semantics.specs.Nonces.{formatted, buckets_below, next_nonce};
 ghost use Rattle.oram_semantics.specs.State.{named_now};
 ghost use Rattle.oram_core.specs.Core.{IsAtWork, IsReasonOf, IsResting, IsStoreOf, most_named};
-ghost use Rattle.oram_core.specs.Fitting.{AreWaiting, HasMessage, HasTable, HoldsNothing, IsEnded, IsFitting, IsWorking};
+ghost use Rattle.oram_core.specs.Validity.{AreWaiting, HasMessage, HasTable, HoldsNothing, IsEnded, IsFitting, IsWorking};
 ghost use Rattle.oram_core.specs.Parts.{state_of, submission_at};
 
 use super::{Parts, Pending};

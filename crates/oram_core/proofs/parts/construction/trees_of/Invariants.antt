@@ -1,8 +1,8 @@
 use Rattle.std.proofs.Common.{◌≡◌, ◌+◌, ◌≤◌, ◌++◌, length}
 use Rattle.oram_geometry.specs.Sizes.{trees_of}
-use Rattle.oram_core.specs.Fitting.{AreTrees}
+use Rattle.oram_core.specs.Validity.{AreTrees}
 use Rattle.oram_core.specs.Parts.{trees_from}
-use Rattle.oram_core.proofs.parts.making.trees_of.Given as goal
+use Rattle.oram_core.proofs.parts.construction.trees_of.Given as goal
 
 abbrev pub invariant-loop-parts : goal.invariant-loop-parts
 invariant-loop-parts l = record {

@@ -1,10 +1,10 @@
 //! Makes a core from its parts.
 ghost use Rattle.std.specs.Prelude.{◌≡◌, ◌-◌, ◌≤◌, ◌<◌, ◌^◌, length, IfOk, IsOk, Err};
 ghost use Rattle.oram_geometry.specs.Sizes.{IsDevice, trees_of};
-ghost use Rattle.oram_core.specs.Fitting.{AreTrees};
+ghost use Rattle.oram_core.specs.Validity.{AreTrees};
 ghost use Rattle.oram_core.specs.Parts.{AreParts, state_of, submissions_from, trees_from};
 
-use super::fitting::is_fitting;
+use super::validity::is_fitting;
 use super::{Parts, Pending};
 use crate::machine::Core;
 use oram_bucket::Sealer;

@@ -5,7 +5,7 @@ use Rattle.oram_semantics.specs.Nonces.{formatted, buckets_below}
 use Rattle.oram_semantics.proofs.Nonces.{no_buckets}
 use Rattle.oram_semantics.proofs.NoncesApart.{formatted_small}
 use Rattle.oram_core.proofs.Sound.{buckets_small}
-use Rattle.oram_core.proofs.parts.fitting.next_nonce.Goals as goal
+use Rattle.oram_core.proofs.parts.validity.next_nonce.Goals as goal
 
 pub overflow_mul-result : goal.overflow_mul-result
 overflow_mul-result c =

@@ -5,7 +5,7 @@ use Rattle.oram_geometry.specs.Sizes.{depth_of}
 use Rattle.oram_tree.specs.Content.{node_count}
 use Rattle.oram_semantics.proofs.NoncesApart.{formatted_small}
 use Rattle.oram_core.proofs.Made.{below_none, below_next}
-use Rattle.oram_core.proofs.parts.fitting.formatted.Goals as goal
+use Rattle.oram_core.proofs.parts.validity.formatted.Goals as goal
 
 pub loop-tree-init : goal.loop-tree-init
 loop-tree-init c = record { sum = sym (below_none c.args.device.now) }

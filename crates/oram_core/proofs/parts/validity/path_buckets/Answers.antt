@@ -1,7 +1,7 @@
 use Rattle.std.proofs.Common.{◌+◌, ◌≤◌, refl, arith}
 use Rattle.oram_semantics.proofs.Nonces.{one_more, rises_to}
 use Rattle.oram_core.proofs.Sound.{buckets_small}
-use Rattle.oram_core.proofs.parts.fitting.path_buckets.Goals as goal
+use Rattle.oram_core.proofs.parts.validity.path_buckets.Goals as goal
 
 pub overflow_add-buckets-in-loop-tree : goal.overflow_add-buckets-in-loop-tree
 overflow_add-buckets-in-loop-tree c =

@@ -1,6 +1,6 @@
 use Rattle.std.proofs.Common.{◌≡◌, ◌-◌, ◌≤◌}
 use Rattle.oram_semantics.specs.Nonces.{buckets_below}
-use Rattle.oram_core.proofs.parts.fitting.path_buckets.Given as goal
+use Rattle.oram_core.proofs.parts.validity.path_buckets.Given as goal
 
 abbrev pub invariant-loop-tree : goal.invariant-loop-tree
 invariant-loop-tree l = record {

@@ -1,5 +1,5 @@
 use Rattle.std.proofs.lemmas.Result.{IfOk-from_err}
-use Rattle.oram_core.proofs.parts.making.queue_of.Goals as goal
+use Rattle.oram_core.proofs.parts.construction.queue_of.Goals as goal
 
 pub returns-in_err-queue : goal.returns-in_err-queue
 returns-in_err-queue c = IfOk-from_err c.from_residual.result _ c.from_residual.ensures.0

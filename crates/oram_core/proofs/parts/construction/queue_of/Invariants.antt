@@ -1,6 +1,6 @@
 use Rattle.std.proofs.Common.{◌≡◌, ◌+◌, ◌-◌, ◌<◌, ◌^◌, ◌++◌, length}
 use Rattle.oram_core.specs.Parts.{submissions_from}
-use Rattle.oram_core.proofs.parts.making.queue_of.Given as goal
+use Rattle.oram_core.proofs.parts.construction.queue_of.Given as goal
 
 abbrev pub invariant-loop-pending : goal.invariant-loop-pending
 invariant-loop-pending l = record {
