@@ -3,6 +3,7 @@ ghost use Rattle.std.specs.Prelude.{◌≡◌, ◌<◌, ◌+◌, ◌^◌, All, I
 ghost use Rattle.oram_geometry.specs.Sizes.{depth_of, record_len_of};
 ghost use Rattle.oram_hash.specs.Path.{path_of};
 
+use crate::leaves::has_leaf;
 use crate::lists;
 use crate::paths::{MadePath, made_path};
 use oram_geometry::Device;
@@ -17,14 +18,6 @@ pub struct Hashes {
     bytes: Vec<u8>,
 }
 
-/// Returns whether tree 0 of a device has this leaf.
-fn has_leaf(device: &Device, leaf: u32) -> bool
-    ensures { result ≡ true → leaf < 2 ^ depth_of device.now 0 }
-{
-    prove!(device.trees() > 0 && device.depth(0) <= 24);
-    leaf < 1u32 << device.depth(0)
-}
-
 /// Checks bytes as the path of a leaf with this root digest. Fails with [`RowFault::NoRow`] if the tree doesn't have
 /// the leaf.
 fn checked<'a>(
@@ -37,7 +30,7 @@ fn checked<'a>(
         view ≡ path_of device.now 0 leaf 0 bytes.now)) }
 {
     prove!(device.trees() > 0);
-    if !has_leaf(device, leaf) {
+    if !has_leaf(device, 0, leaf) {
         return Err(RowFault::NoRow);
     }
     Ok(check_path(device, 0, leaf, 0, root, bytes))

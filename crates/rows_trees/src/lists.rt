@@ -4,11 +4,27 @@
 use rows::{Page, RowFault, RowWords};
 use std::alloc::Global;
 
+/// Reads a part of a word as a decimal number.
+fn number_of(part: &str) -> Result<u64, RowFault> {
+    let mut words = RowWords::of(part);
+    let number = words.number();
+    words.check()?;
+    Ok(number)
+}
+
+/// Reads a part of a word as a decimal number below 2^32.
+pub fn short_of(part: &str) -> Result<u32, RowFault> {
+    let mut words = RowWords::of(part);
+    let number = words.short();
+    words.check()?;
+    Ok(number)
+}
+
 /// Adds one part of a list: a number, or a number and how many times it occurs.
 fn push_part(numbers: &mut Vec<u64>, part: &str) -> Result<(), RowFault> {
     let (number, count) = part.split_once('*').unwrap_or((part, "1"));
-    let number = number.parse::<u64>()?;
-    for _ in 0..count.parse::<u32>()? {
+    let number = number_of(number)?;
+    for _ in 0..short_of(count)? {
         numbers.push(number)?;
     }
     Ok(())
@@ -36,7 +52,10 @@ pub fn numbers(alloc: Global, words: &mut RowWords) -> Result<Vec<u64>, RowFault
 pub fn shorts(alloc: Global, words: &mut RowWords) -> Result<Vec<u32>, RowFault> {
     let mut shorts = Vec::new(alloc);
     for number in &numbers(alloc, words)? {
-        shorts.push(u32::try_from(*number)?)?;
+        if *number > 0xffff_ffff {
+            return Err(RowFault::NoRow);
+        }
+        shorts.push(*number as u32)?;
     }
     Ok(shorts)
 }
@@ -45,7 +64,10 @@ pub fn shorts(alloc: Global, words: &mut RowWords) -> Result<Vec<u32>, RowFault>
 pub fn fills(alloc: Global, words: &mut RowWords) -> Result<Vec<u8>, RowFault> {
     let mut fills = Vec::new(alloc);
     for number in &numbers(alloc, words)? {
-        fills.push(u8::try_from(*number)?)?;
+        if *number > 0xff {
+            return Err(RowFault::NoRow);
+        }
+        fills.push(*number as u8)?;
     }
     Ok(fills)
 }

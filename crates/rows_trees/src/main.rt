@@ -5,6 +5,7 @@
 #![tactic(auto)]
 
 mod hashes;
+mod leaves;
 mod lists;
 mod paths;
 mod stashes;

@@ -4,6 +4,8 @@ ghost use Rattle.oram_geometry.specs.Sizes.{depth_of};
 
 mod random;
 
+use crate::leaves::has_leaf;
+use crate::lists::short_of;
 use oram_bucket::Block;
 use oram_geometry::Device;
 use oram_stash::{Placement, Stash, StashFault, place};
@@ -25,7 +27,7 @@ fn block_of(alloc: Global, word: &str) -> Result<Block, RowFault> {
     let Some((address, leaf)) = word.split_once(':') else {
         return Err(RowFault::NoRow);
     };
-    Ok(bare_block(alloc, address.parse::<u32>()?, leaf.parse::<u32>()?))
+    Ok(bare_block(alloc, short_of(address)?, short_of(leaf)?))
 }
 
 /// Reads the blocks in all words that are left.
@@ -53,21 +55,12 @@ fn stash_of(alloc: Global, blocks: Vec<Block>) -> Result<Stash, RowFault> {
     Ok(stash)
 }
 
-/// Returns whether tree 0 of a device has this leaf.
-fn has_leaf(device: &Device, leaf: u32) -> bool
-    ensures { result ≡ true → leaf < 2 ^ depth_of device.now 0 }
-{
-    prove!(device.trees() > 0 && device.depth(0) <= 24);
-    leaf < 1u32 << device.depth(0)
-}
-
 /// Returns whether tree 0 has the leaves of all these blocks.
 fn all_have_leaves(device: &Device, blocks: &[Block]) -> bool
     ensures { result ≡ true → All (λ block. block.leaf < 2 ^ depth_of device.now 0) blocks.now }
 {
-    prove!(device.trees() > 0 && device.depth(0) <= 24);
-    let leaves = 1u32 << device.depth(0);
-    blocks.iter().all(|block| block.leaf < leaves)
+    prove!(device.trees() > 0);
+    blocks.iter().all(|block| has_leaf(device, 0, block.leaf))
 }
 
 /// Writes a block.
@@ -128,7 +121,7 @@ fn evicted(
 ) -> Result<Evicted, RowFault> {
     prove!(device.trees() > 0);
     let blocks = stash.list(alloc)?;
-    if !has_leaf(device, leaf) || !all_have_leaves(device, &blocks) {
+    if !has_leaf(device, 0, leaf) || !all_have_leaves(device, &blocks) {
         return Err(RowFault::NoRow);
     }
     let lists = stash.evict(alloc, device, 0, leaf)?;
@@ -287,10 +280,11 @@ impl Stashes {
     ) -> Result<Placement<'a>, RowFault>
         requires { other.now ≡ [] }
     {
-        prove!(device.trees() > 0 && device.depth(0) <= 24);
+        prove!(device.trees() > 0);
         let waiting = self.stash.waiting(alloc, other, stays)?;
-        let leaves = 1u32 << device.depth(0);
-        if !(leaf < leaves && waiting.iter().all(|block| block.leaf < leaves)) {
+        let are_leaves = has_leaf(device, 0, leaf)
+            && waiting.iter().all(|block| has_leaf(device, 0, block.leaf));
+        if !are_leaves {
             return Err(RowFault::NoRow);
         }
         Ok(place(alloc, device, 0, leaf, waiting)?)

@@ -6,6 +6,7 @@ ghost use Rattle.oram_bucket.specs.Bucket.{IsBlockOf};
 mod accesses;
 mod random;
 
+use crate::lists::short_of;
 use crate::paths::{MadePath, made_path};
 use crate::trees::accesses::{Asked, Target, access, told_host};
 use oram_bucket::{Block, PlainSeal};
@@ -86,8 +87,8 @@ fn block_of(alloc: Global, word: &str) -> Result<Block, RowFault> {
     let content = part.bytes(alloc);
     part.check()?;
     Ok(Block {
-        address: address.parse::<u32>()?,
-        leaf: leaf.parse::<u32>()?,
+        address: short_of(address)?,
+        leaf: short_of(leaf)?,
         content,
     })
 }

@@ -5,6 +5,7 @@ ghost use Rattle.oram_bucket.specs.Bucket.{IsBlockOf};
 ghost use Rattle.oram_tree.specs.Edits.{IsEditOf};
 
 use super::tree_of;
+use crate::leaves::has_leaf;
 use oram_bucket::Sealer;
 use oram_geometry::Device;
 use oram_host::Server;
@@ -93,9 +94,9 @@ fn is_asked(device: &Device, tree: u8, asked: Asked) -> bool
     ensures old_leaf { result ≡ true → asked.old_leaf < 2 ^ depth_of device.now tree }
     ensures new_leaf { result ≡ true → asked.new_leaf < 2 ^ depth_of device.now tree }
 {
-    prove!(device.depth(tree) <= 24);
-    let leaves = 1u32 << device.depth(tree);
-    asked.address < device.blocks_in(tree) && asked.old_leaf < leaves && asked.new_leaf < leaves
+    asked.address < device.blocks_in(tree)
+        && has_leaf(device, tree, asked.old_leaf)
+        && has_leaf(device, tree, asked.new_leaf)
 }
 
 /// Returns whether an edit is one for a block of this tree.
