@@ -40,7 +40,7 @@ pub node_same : (depth leaf level : ℕ) → host_node depth leaf level ≡ node
 unfolding host_node node_on
 node_same depth leaf level = refl
 
-record_same : (p : Path) (level : ℕ) → host_record p.record_len p.bytes level ≡ record_at p level
+pub record_same : (p : Path) (level : ℕ) → host_record p.record_len p.bytes level ≡ record_at p level
 unfolding record_at
 record_same p level =
     let size : (level + 1) * p.record_len - level * p.record_len ≡ p.record_len = omega arith in
@@ -95,18 +95,18 @@ module _ (v : Scheme) (i leaf : ℕ) (records : ℕ → List ℕ) (host : Host) 
   leaf_fits = subst (λ (n : ℕ). leaf < 2 ^ n) (sym k.depth) fits
 
   -- the record at a level of the path
-  on_level : (l : ℕ) → l ≤ k.kept.depth → record_of k.kept (host_node k.kept.depth leaf l) ≡ Some (records (node_on (depth_of v.device i) leaf l))
+  pub on_level : (l : ℕ) → l ≤ k.kept.depth → record_of k.kept (host_node k.kept.depth leaf l) ≡ Some (records (node_on (depth_of v.device i) leaf l))
   on_level l below =
       ap (λ n. record_of k.kept (host_node n leaf l)) k.depth
       ∙ ap (record_of k.kept) (node_same (depth_of v.device i) leaf l)
       ∙ k.each (node_on (depth_of v.device i) leaf l) (node_in (depth_of v.device i) leaf l fits (omega (arith, k.depth)))
 
-  fetch_refused : (why : HostRefusal) → Refuses host (request.Fetch i leaf) why → code_of why ≡ 8
+  pub fetch_refused : (why : HostRefusal) → Refuses host (request.Fetch i leaf) why → code_of why ≡ 8
   fetch_refused why r =
       fetch_room k.kept leaf why leaf_fits (λ l below. not_none _ _ (on_level l below))
       (subst (λ (o : Option Kept). MatchOption o (why ≡ NoShape) (λ kept. RefusesFetch kept leaf why)) k.there r)
 
-  store_refused : (bytes : List ℕ) (why : HostRefusal) → length bytes ≡ (depth_of v.device i + 1) * record_len v
+  pub store_refused : (bytes : List ℕ) (why : HostRefusal) → length bytes ≡ (depth_of v.device i + 1) * record_len v
       → Refuses host (request.Store i leaf bytes) why → code_of why ≡ 8
   store_refused bytes why long r =
       store_room k.kept leaf bytes why leaf_fits
@@ -118,11 +118,11 @@ module _ (v : Scheme) (i leaf : ℕ) (records : ℕ → List ℕ) (host : Host) 
     path : IsPath k.kept leaf bytes
     path = subst (λ (q : Kept). IsPath q leaf bytes) (kept_same (tree_at host i) f.kept k.kept f.shaped k.there) f.path
 
-    fetched_whole : length bytes ≡ (depth_of v.device i + 1) * record_len v
+    pub fetched_whole : length bytes ≡ (depth_of v.device i + 1) * record_len v
     fetched_whole =
         path.whole ∙ ap (λ n. (n + 1) * k.kept.record_len) k.depth ∙ ap (λ n. (depth_of v.device i + 1) * n) k.record_len
 
-    fetched_path : IsPathOf records (path_of v.device i leaf v.cipher.overhead bytes)
+    pub fetched_path : IsPathOf records (path_of v.device i leaf v.cipher.overhead bytes)
     fetched_path l below =
         let within : l ≤ k.kept.depth = omega (arith, k.depth, below) in
         sym (record_same (path_of v.device i leaf v.cipher.overhead bytes) l)

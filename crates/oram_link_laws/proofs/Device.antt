@@ -35,7 +35,7 @@ use Rattle.oram_link_laws.specs.Runs.{HostRun, IsHeldBy, acknowledged}
 use Rattle.oram_link_laws.proofs.Put.{first}
 use Rattle.oram_link_laws.proofs.Same.{look_past}
 
-is_device : IsDevice one_block.device
+pub is_device : IsDevice one_block.device
 is_device = record {
   some_blocks = omega arith;
   few_blocks = omega arith;
@@ -50,15 +50,15 @@ is_device = record {
   few_lifetime = omega arith;
 }
 
-no_depth : 0 ≡ depth_of one_block.device 0
+pub no_depth : 0 ≡ depth_of one_block.device 0
 unfolding level_for blocks_in least_from
 no_depth = refl
 
-one_tree : trees_of one_block.device ≡ 1
+pub one_tree : trees_of one_block.device ≡ 1
 unfolding trees_of blocks_in least_from
 one_tree = refl
 
-eighty_eight : 88 ≡ record_len_of one_block.device 0
+pub eighty_eight : 88 ≡ record_len_of one_block.device 0
 unfolding record_len_of
 eighty_eight = refl
 

@@ -25,7 +25,7 @@ higher i j n m below top bottom e =
     let most : 2 ^ (i + 1) ≤ 2 ^ j = pow-le-pow_right (omega arith) (omega (arith, below)) in
     omega (arith, pow_pos i, twice, most, top, bottom, e)
 
-one_level : (depth a b i j : ℕ) → a < 2 ^ depth → b < 2 ^ depth → i ≤ depth → j ≤ depth → node_on depth a i ≡ node_on depth b j → i ≡ j
+pub one_level : (depth a b i j : ℕ) → a < 2 ^ depth → b < 2 ^ depth → i ≤ depth → j ≤ depth → node_on depth a i ≡ node_on depth b j → i ≡ j
 one_level depth a b i j a_in b_in i_low j_low e =
     let at_i = node_bounds depth a i a_in i_low in
     let at_j = node_bounds depth b j b_in j_low in

@@ -32,11 +32,11 @@ nodes_apart depth leaf i j below low e =
     omega (arith, subst P k rises, e)
 
 module _ (depth leaf len : ℕ) (bytes : List ℕ) (old : List (ℕ × List ℕ)) where
-  abbrev entry : ℕ → ℕ × List ℕ
+  abbrev pub entry : ℕ → ℕ × List ℕ
   entry level = (node_on depth leaf level, record_at len bytes level)
 
   -- the records of the path's nodes down to a level, in front of the others
-  abbrev put_path : ℕ → List (ℕ × List ℕ)
+  abbrev pub put_path : ℕ → List (ℕ × List ℕ)
   put_path zero = entry 0 ∷ old
   put_path (suc m) = entry (suc m) ∷ put_path m
 
@@ -58,13 +58,13 @@ module _ (depth leaf len : ℕ) (bytes : List ℕ) (old : List (ℕ × List ℕ)
       look_past n (entry (suc m)) (put_path m) (λ e. off (suc m) (omega arith) (sym e))
       ∙ look_off m n (λ level low. off level (omega (arith, low)))
 
-abbrev stored_kept : Kept → ℕ → List ℕ → Kept
+abbrev pub stored_kept : Kept → ℕ → List ℕ → Kept
 stored_kept kept leaf bytes = record { depth = kept.depth; record_len = kept.record_len; records = put_path kept.depth leaf kept.record_len bytes kept.records kept.depth }
 
-abbrev stored_host : Host → ℕ → Kept → Host
+abbrev pub stored_host : Host → ℕ → Kept → Host
 stored_host host tree kept = (tree, kept) ∷ host
 
-is_stored_so : (host : Host) (tree leaf : ℕ) (bytes : List ℕ) (kept : Kept) → tree_at host tree ≡ Some kept → leaf < 2 ^ kept.depth
+pub is_stored_so : (host : Host) (tree leaf : ℕ) (bytes : List ℕ) (kept : Kept) → tree_at host tree ≡ Some kept → leaf < 2 ^ kept.depth
     → length bytes ≡ (kept.depth + 1) * kept.record_len → IsStored host tree leaf bytes (stored_host host tree (stored_kept kept leaf bytes))
 is_stored_so host tree leaf bytes kept shaped leaf_in whole =
     let e : ℕ × Kept = (tree, stored_kept kept leaf bytes) in

@@ -1,0 +1,158 @@
+-- A host that hears what waits, and one that has carried it out, catch up.
+use Rattle.std.proofs.Common.{◌≡◌, ◌⊎◌, ℕ, ◌+◌, ◌*◌, ◌^◌, ◌<◌, arith, Bool, true, false, List, [], ◌∷◌, ◌++◌, length, drop, Ok, Err, refl, sym, ap, ◌∙◌, subst, inl, inr}
+use Rattle.std.specs.List.{AllByRecursion}
+use Rattle.oram_geometry.specs.Sizes.{depth_of}
+use Rattle.oram_trace.specs.declared.entries.Entry.{Entry}
+use Rattle.oram_wire.specs.HostMessages.{answer_body, done_answer}
+use Rattle.oram_wire.specs.HostBodies.{IsAnswer}
+use Rattle.oram_wire.specs.declared.host_messages.HostAnswer.{HostAnswer}
+use Rattle.oram_wire.specs.declared.host_messages.HostAnswer.TheVariants.{Done, Payload, Refused}
+use Rattle.oram_host.specs.Host.{Host}
+use Rattle.oram_host.specs.Service.{Serves}
+use Rattle.oram_semantics.proofs.Bounds.{depth_small}
+use Rattle.oram_semantics.specs.Messages.{IsMessage}
+use Rattle.oram_semantics.specs.Moves.{records_after}
+use Rattle.oram_semantics.specs.Scheme.{Scheme, record_len}
+use Rattle.oram_host_laws.specs.Honest.{HeardOrNot, KeepsAll, KeepsTree, Takes}
+use Rattle.oram_host_laws.proofs.Handed.{IsFull, fetch_leaves, handed}
+use Rattle.oram_session.specs.Honesty.{IsHonestCall}
+use Rattle.oram_session.specs.Outcome.{Outcome}
+use Rattle.oram_link_laws.specs.Repair.{IsAmong}
+use Rattle.oram_link_laws.specs.ResentStores.{IsStore}
+use Rattle.oram_link_laws.specs.Runs.{Exchange, bodies_of}
+use Rattle.oram_link_laws.proofs.Put.{is_stored_so, serves_so, stored_host, stored_kept}
+use Rattle.oram_rounds.specs.Batches.{answered}
+use Rattle.oram_rounds.specs.CatchUp.{CatchesUp, IsPlainCall, PlainRun, left_by}
+use Rattle.oram_rounds.specs.PathMessages.{ArePathStores, IsPathFetch, IsPathStore}
+use Rattle.oram_rounds.specs.Rounds.{AreDone}
+use Rattle.oram_rounds.proofs.KeptPaths.{leaf_small}
+use Rattle.oram_rounds.proofs.LeftRecords.{absorbed, left_append}
+
+-- what a host that keeps these records does with a STORE or a FETCH of a path
+
+module _ (v : Scheme) (r : ℕ → ℕ → List ℕ) (host after : Host) (keeps : KeepsAll v r host) (answer : HostAnswer) (body : List ℕ) (serves : Serves host body answer after) where
+  pub store_served : IsPathStore v.device (record_len v) body → KeepsAll v (records_after v r (body ∷ [])) after ⊎ IsFull host answer after
+  store_served s =
+      let e : Entry = record { fetch = false; tree = s.tree; leaf = s.leaf } in
+      let message : IsMessage v e body = record { records = s.records; body = s.named; length_is = s.whole } in
+      elim (handed v r e body host after answer (depth_small v.device s.tree) s.tree_in s.leaf_in keeps message serves) [
+        | inl good ↦ inl good.keeps
+        | inr full ↦ inr full
+      ]
+
+  pub fetch_served : IsPathFetch v.device body → KeepsAll v r after
+  fetch_served f =
+      let e : Entry = record { fetch = true; tree = f.tree; leaf = f.leaf } in
+      let message : IsMessage v e body = record { records = []; body = f.named; length_is = refl } in
+      elim (handed v r e body host after answer (depth_small v.device f.tree) f.tree_in f.leaf_in keeps message serves) [
+        | inl good ↦
+            subst (λ (q : ℕ → ℕ → List ℕ). KeepsAll v q after)
+            (ap (λ (b : List ℕ). records_after v r (b ∷ [])) f.named ∙ fetch_leaves v r f.tree f.leaf) good.keeps
+        | inr full ↦ subst (KeepsAll v r) (sym full.unchanged) keeps
+      ]
+
+-- a message of a call is lost, or answered
+
+honest_hears : (host after : Host) (body : List ℕ) (o : Outcome) → IsHonestCall host body o after → HeardOrNot body host after
+honest_hears host after body (Ok bytes) call = inr (call.0, call.3)
+honest_hears host after body (Err fault) call = call
+
+pub hears : (may_lie : Bool) (v : Scheme) (host after : Host) (body : List ℕ) (o : Outcome) → IsPlainCall may_lie v host body o after → HeardOrNot body host after
+hears may_lie v host after body o (inl honest) = honest_hears host after body o honest
+hears may_lie v host after body o (inr lie) = inr (lie.3.answer, lie.3.heard)
+
+-- the path of a STORE among those that wait
+pub path_among : (v : Scheme) (body : List ℕ) (stores : List (List ℕ)) → ArePathStores v.device (record_len v) stores → IsAmong body stores
+    → IsPathStore v.device (record_len v) body
+path_among v body [] paths among = absurd among
+path_among v body (first ∷ stores) paths (inl same) = subst (IsPathStore v.device (record_len v)) (sym same) paths.0
+path_among v body (first ∷ stores) paths (inr later) = path_among v body stores paths.1 later
+
+-- a message that a host hears while STOREs wait is one of them, or a FETCH
+abbrev pub IsWaitingOrFetch : Scheme → List (List ℕ) → List ℕ → Type 0
+IsWaitingOrFetch v stores body = IsAmong body stores ⊎ IsPathFetch v.device body
+
+module _ (v : Scheme) (stores : List (List ℕ)) (later : Host) where
+  served_catches : (host after : Host) (answer : HostAnswer) (body : List ℕ) → IsWaitingOrFetch v stores body → Serves host body answer after
+      → CatchesUp v host stores later → CatchesUp v after stores later
+  served_catches host after answer body (inl among) serves c =
+      elim (store_served v c.records host after c.keeps answer body serves (path_among v body stores c.paths among)) [
+        | inl keeps ↦
+            let ahead : KeepsAll v (left_by v (records_after v c.records (body ∷ [])) stores) later =
+            subst (λ (q : ℕ → ℕ → List ℕ). KeepsAll v q later) (sym (absorbed v stores c.records body among)) c.ahead in
+            record { records = records_after v c.records (body ∷ []); keeps = keeps; paths = c.paths; ahead = ahead }
+        | inr full ↦ subst (λ (h : Host). CatchesUp v h stores later) (sym full.unchanged) c
+      ]
+  served_catches host after answer body (inr fetch) serves c =
+      record { records = c.records; keeps = fetch_served v c.records host after c.keeps answer body serves fetch; paths = c.paths; ahead = c.ahead }
+
+  pub heard_catches : (host after : Host) (body : List ℕ) → IsWaitingOrFetch v stores body → HeardOrNot body host after
+      → CatchesUp v host stores later → CatchesUp v after stores later
+  heard_catches host after body is (inl same) c = subst (λ (h : Host). CatchesUp v h stores later) (sym same) c
+  heard_catches host after body is (inr heard) c = served_catches host after heard.0 body is heard.1 c
+
+  pub run_catches : (may_lie : Bool) (exchanges : List Exchange) (host after : Host) → AllByRecursion (IsWaitingOrFetch v stores) (bodies_of exchanges)
+      → PlainRun may_lie v host exchanges after → CatchesUp v host stores later → CatchesUp v after stores later
+  run_catches may_lie [] host after are run c = subst (λ (h : Host). CatchesUp v h stores later) run c
+  run_catches may_lie (e ∷ exchanges) host after are run c =
+      run_catches may_lie exchanges run.0 after are.1 run.2 (heard_catches host run.0 e.0 are.0 (hears may_lie v host run.0 e.0 e.1 run.1) c)
+
+-- STOREs that were acknowledged don't wait any more
+
+done_by : (answer : HostAnswer) → IsAnswer answer → done_answer ≡ answer_body answer → answer ≡ Done
+done_by Done is e = refl
+done_by (Payload bytes) is e =
+    let none : [] ≡ bytes = ap (λ (b : List ℕ). drop 1 b) e in
+    absurd (let some : 0 < length bytes = is in let few : length bytes ≡ 0 = ap length (sym none) in omega arith)
+done_by (Refused code) is e = absurd cc
+
+-- an acknowledged STORE was carried out by the honest host, too
+taken : (may_lie : Bool) (v : Scheme) (r : ℕ → ℕ → List ℕ) (host after : Host) (body : List ℕ) → KeepsAll v r host → IsPathStore v.device (record_len v) body
+    → IsPlainCall may_lie v host body (Ok done_answer) after → KeepsAll v (records_after v r (body ∷ [])) after
+taken may_lie v r host after body keeps s (inl honest) =
+    let is : honest.0 ≡ Done = done_by honest.0 honest.1 honest.2 in
+    elim (store_served v r host after keeps honest.0 body honest.3 s) [
+      | inl good ↦ good
+      | inr full ↦ absurd (let both : Done ≡ Refused 8 = sym is ∙ full.refused in cc)
+    ]
+taken may_lie v r host after body keeps s (inr lie) =
+    elim (store_served v r host after keeps lie.3.answer body lie.3.heard s) [
+      | inl good ↦ good
+      | inr full ↦ absurd (lie.3.room full.refused)
+    ]
+
+pub acked_catches : (may_lie : Bool) (v : Scheme) (kept held acks : List (List ℕ)) (host after later : Host) → length acks ≡ length kept → AreDone acks
+    → PlainRun may_lie v host (answered kept acks) after → CatchesUp v host (kept ++ held) later → CatchesUp v after held later
+acked_catches may_lie v [] held acks host after later count done run c = subst (λ (h : Host). CatchesUp v h held later) run c
+acked_catches may_lie v (body ∷ kept) held [] host after later count done run c = absurd (omega (arith, count))
+acked_catches may_lie v (body ∷ kept) held (ack ∷ acks) host after later count done run c =
+    let P : List ℕ → Type 0 = λ a. IsPlainCall may_lie v host body (Ok a) run.0 in
+    let keeps = taken may_lie v c.records host run.0 body c.keeps c.paths.0 (subst P done.0 run.1) in
+    acked_catches may_lie v kept held acks run.0 after later (omega (arith, count)) done.1 run.2
+    (record { records = records_after v c.records (body ∷ []); keeps = keeps; paths = c.paths.1; ahead = c.ahead })
+
+-- a STORE that is put to those that wait
+
+paths_more : (v : Scheme) (stores : List (List ℕ)) (body : List ℕ) → ArePathStores v.device (record_len v) stores → IsPathStore v.device (record_len v) body
+    → ArePathStores v.device (record_len v) (stores ++ body ∷ [])
+paths_more v [] body paths s = (s, tt)
+paths_more v (first ∷ stores) body paths s = (paths.0, paths_more v stores body paths.1 s)
+
+pub put_catches : (v : Scheme) (stores : List (List ℕ)) (body : List ℕ) (host later : Host) → IsPathStore v.device (record_len v) body → CatchesUp v host stores later
+    → (next : Host) × CatchesUp v host (stores ++ body ∷ []) next × Takes later body next
+put_catches v stores body host later s c =
+    let k : KeepsTree v s.tree (left_by v c.records stores s.tree) later = c.ahead s.tree s.tree_in in
+    let P : ℕ → Type 0 = λ n. s.leaf < 2 ^ n in
+    let whole : length s.records ≡ (k.kept.depth + 1) * k.kept.record_len =
+    s.whole ∙ sym (ap (λ n. (n + 1) * k.kept.record_len) k.depth ∙ ap (λ n. (depth_of v.device s.tree + 1) * n) k.record_len) in
+    let next : Host = stored_host later s.tree (stored_kept k.kept s.leaf s.records) in
+    let is : IsStore body = record { tree = s.tree; leaf = s.leaf; records = s.records; fits = leaf_small v s.tree s.leaf s.leaf_in; named = s.named } in
+    let takes : Takes later body next = serves_so later next body is (is_stored_so later s.tree s.leaf s.records k.kept k.there (subst P (sym k.depth) s.leaf_in) whole) in
+    let keeps : KeepsAll v (records_after v (left_by v c.records stores) (body ∷ [])) next =
+    elim (store_served v (left_by v c.records stores) later next c.ahead Done body takes s) [
+      | inl good ↦ good
+      | inr full ↦ absurd (let none = full.refused in cc)
+    ] in
+    let ahead : KeepsAll v (left_by v c.records (stores ++ body ∷ [])) next =
+    subst (λ (q : ℕ → ℕ → List ℕ). KeepsAll v q next) (sym (left_append v stores (body ∷ []) c.records)) keeps in
+    (next, record { records = c.records; keeps = c.keeps; paths = paths_more v stores body c.paths s; ahead = ahead }, takes)

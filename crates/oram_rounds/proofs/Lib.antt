@@ -1,0 +1,15 @@
+pub mod Texts
+pub mod Folds
+pub mod LeftRecords
+pub mod KeptPaths
+pub mod CatchUp
+pub mod Calls
+pub mod Round
+pub mod LaidRecords
+pub mod Tries
+pub mod SentBodies
+pub mod Example
+pub mod Steps
+pub mod Safety
+pub mod Replies
+pub mod Start

@@ -1,0 +1,81 @@
+-- Lists of bodies, and the one at an index.
+use Rattle.std.proofs.Common.{◌≡◌, ℕ, ◌+◌, suc, ◌<◌, ◌≤◌, arith, inl, inr, List, [], ◌∷◌, ◌++◌, length, take, drop, get_or, refl, sym, ap, ◌∙◌, subst}
+use Rattle.std.specs.Global.{Vec}
+use Rattle.std.proofs.Math.ListN.{get_or-map}
+use Rattle.std.proofs.Math.Seq.{drop-cons, take-suc}
+use Rattle.std.proofs.lemmas.List.{drop_all, get_or_default, length-map, take_all, map-append, take-append-drop}
+use Rattle.oram_geometry.specs.declared.Sizes.{Sizes}
+use Rattle.oram_wire.specs.HostMessages.{done_answer}
+use Rattle.oram_link_laws.specs.Repair.{IsAmong}
+use Rattle.oram_rounds.specs.Batches.{texts}
+use Rattle.oram_rounds.specs.PathMessages.{ArePathStores}
+use Rattle.oram_rounds.specs.Rounds.{AreDone}
+
+module _ (xs : List (Vec ℕ)) (i : ℕ) (x : Vec ℕ) (low : i < length xs) (is : x ≡ get_or xs i x) where
+  inside : i < length (texts xs)
+  inside = omega (arith, low, length-map xs (λ (v : Vec ℕ). v.items))
+
+  here : get_or (texts xs) i x.items ≡ x.items
+  here = get_or-map (λ (v : Vec ℕ). v.items) xs i x ∙ ap (λ (v : Vec ℕ). v.items) (sym is)
+
+  pub drop_here : drop i (texts xs) ≡ x.items ∷ drop (i + 1) (texts xs)
+  drop_here =
+      let next : suc i ≡ i + 1 = omega arith in
+      drop-cons (texts xs) i x.items inside ∙ ap (λ (y : List ℕ). y ∷ drop (suc i) (texts xs)) here ∙ ap (λ (n : ℕ). x.items ∷ drop n (texts xs)) next
+
+  pub take_next : take (i + 1) (texts xs) ≡ take i (texts xs) ++ x.items ∷ []
+  take_next =
+      let next : i + 1 ≡ suc i = omega arith in
+      ap (λ (n : ℕ). take n (texts xs)) next ∙ take-suc (texts xs) i x.items inside ∙ ap (λ (y : List ℕ). take i (texts xs) ++ y ∷ []) here
+
+  pub split_here : take i (texts xs) ++ x.items ∷ drop (i + 1) (texts xs) ≡ texts xs
+  split_here = ap (λ (ys : List (List ℕ)). take i (texts xs) ++ ys) (sym drop_here) ∙ take-append-drop i (texts xs)
+
+pub texts_more : (xs : List (Vec ℕ)) (x : Vec ℕ) → texts (xs ++ x ∷ []) ≡ texts xs ++ x.items ∷ []
+texts_more xs x = map-append (λ (v : Vec ℕ). v.items) xs (x ∷ [])
+
+pub texts_by : (ys xs : List (Vec ℕ)) (x : Vec ℕ) → ys ≡ xs ++ x ∷ [] → texts ys ≡ texts xs ++ x.items ∷ []
+texts_by ys xs x e = ap texts e ∙ texts_more xs x
+
+-- each of the first bodies is that of an acknowledgement, and one more
+
+among_right : (front rest : List (List ℕ)) (body : List ℕ) → IsAmong body (front ++ body ∷ rest)
+among_right [] rest body = inl refl
+among_right (b ∷ front) rest body = inr (among_right front rest body)
+
+pub among_at : (xs : List (Vec ℕ)) (i : ℕ) (x : Vec ℕ) → i < length xs → x ≡ get_or xs i x → IsAmong x.items (texts xs)
+among_at xs i x low is =
+    subst (IsAmong x.items) (split_here xs i x low is) (among_right (take i (texts xs)) (drop (i + 1) (texts xs)) x.items)
+
+done_more : (front : List (List ℕ)) (body : List ℕ) → AreDone front → body ≡ done_answer → AreDone (front ++ body ∷ [])
+done_more [] body done is = (is, tt)
+done_more (b ∷ front) body done is = (done.0, done_more front body done.1 is)
+
+pub done_next : (xs : List (Vec ℕ)) (i : ℕ) (x : Vec ℕ) → i < length xs → x ≡ get_or xs i x → AreDone (take i (texts xs)) → x.items ≡ done_answer
+    → AreDone (take (i + 1) (texts xs))
+done_next xs i x low is done here = subst AreDone (sym (take_next xs i x low is)) (done_more (take i (texts xs)) x.items done here)
+
+pub done_all : (xs : List (Vec ℕ)) (n : ℕ) → length xs ≤ n → AreDone (take n (texts xs)) → AreDone (texts xs)
+done_all xs n all done = subst AreDone (take_all n (texts xs) (omega (arith, all, length-map xs (λ (v : Vec ℕ). v.items)))) done
+
+pub at_same : (xs : List (Vec ℕ)) (i : ℕ) (x y : Vec ℕ) → i < length xs → x ≡ get_or xs i x → y ≡ get_or xs i y → x ≡ y
+at_same xs i x y low of_x of_y = of_x ∙ get_or_default xs i x y low ∙ sym of_y
+
+-- a list that is divided at an index
+
+pub texts_whole : (xs : List (Vec ℕ)) (n m : ℕ) → m ≡ length xs → texts (take n xs) ++ texts (drop n xs) ≡ texts (take m xs)
+texts_whole xs n m all =
+    sym (map-append (λ (v : Vec ℕ). v.items) (take n xs) (drop n xs)) ∙ ap texts (take-append-drop n xs)
+    ∙ sym (ap texts (take_all m xs (omega (arith, all))))
+
+pub texts_none : (xs : List (Vec ℕ)) (m : ℕ) → m ≡ length xs → texts (drop m xs) ≡ []
+texts_none xs m all = ap texts (drop_all m xs (omega (arith, all)))
+
+paths_join : (d : Sizes) (len : ℕ) (xs ys : List (List ℕ)) → ArePathStores d len xs → ArePathStores d len ys → ArePathStores d len (xs ++ ys)
+paths_join d len [] ys first second = second
+paths_join d len (x ∷ xs) ys first second = (first.0, paths_join d len xs ys first.1 second)
+
+pub paths_whole : (d : Sizes) (len : ℕ) (xs : List (Vec ℕ)) (n m : ℕ) → m ≡ length xs → ArePathStores d len (texts (take n xs)) → ArePathStores d len (texts (drop n xs))
+    → ArePathStores d len (texts (take m xs))
+paths_whole d len xs n m all first second =
+    subst (ArePathStores d len) (texts_whole xs n m all) (paths_join d len (texts (take n xs)) (texts (drop n xs)) first second)

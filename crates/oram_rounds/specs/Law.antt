@@ -1,0 +1,33 @@
+-- What a link that holds STOREs back is to a core: a link to the host as it will be once it has carried them out.
+use Rattle.std.specs.Prelude.{◌≡◌, ℕ, ◌<◌, Bool, List, length}
+use Rattle.oram_geometry.specs.Sizes.{depth_of, trees_of}
+use Rattle.oram_host.specs.Host.{Host}
+use Rattle.oram_semantics.specs.Scheme.{Scheme, record_len}
+use Rattle.oram_tree.specs.Content.{node_count}
+use Rattle.oram_host_laws.specs.Honest.{KeepsAll}
+use Rattle.oram_session.specs.Honesty.{IsHeardCall}
+use Rattle.oram_session.specs.Outcome.{Outcome}
+use Rattle.oram_link_laws.specs.Runs.{Exchange}
+use Rattle.oram_rounds.specs.Batches.{BatchOutcome, IsBatch}
+use Rattle.oram_rounds.specs.CatchUp.{CatchesUp, PlainRun}
+use Rattle.oram_rounds.specs.PathMessages.{IsPathFetch}
+use Rattle.oram_rounds.specs.Rounds.{Round, RoundCall, waiting}
+
+-- each batch has the exchanges of a batch
+abbrev pub AreBatches : {B : Type 0} → (B → List (List ℕ) → BatchOutcome → List Exchange → B → Type 0) → Type 0
+AreBatches {B} batches = (l m : B) (bodies : List (List ℕ)) (o : BatchOutcome) (exchanges : List Exchange) → batches l bodies o exchanges m → IsBatch bodies o exchanges
+
+-- the host keeps a record of the right length at each node of the device's trees
+abbrev pub IsStocked : Scheme → Host → Type 0
+IsStocked v host = (records : ℕ → ℕ → List ℕ) × KeepsAll v records host
+    × ((i n : ℕ) → i < trees_of v.device → n < node_count (depth_of v.device i) → length (records i n) ≡ record_len v)
+
+-- A host is beside the exchanges of a call, honest or one that may lie, and catches up by the STOREs that wait. Then the
+-- call is one of the host as it will be: that host gives the answer, or tells the lie; and afterwards the host beside
+-- catches up again.
+abbrev pub CallsAreOfTheHostLater : {B : Type 0} → (B → List (List ℕ) → BatchOutcome → List Exchange → B → Type 0) → Type 0
+CallsAreOfTheHostLater {B} batches = AreBatches batches
+    → (may_lie : Bool) (v : Scheme) (l m : Round B) (body : List ℕ) (o : Outcome) (exchanges : List Exchange) (host after later : Host)
+    → l.device ≡ v.device → l.record_len ≡ record_len v → CatchesUp v host (waiting l) later → (IsPathFetch v.device body → IsStocked v later)
+    → RoundCall batches l body o exchanges m → PlainRun may_lie v host exchanges after
+    → (next : Host) × CatchesUp v after (waiting m) next × IsHeardCall may_lie v later body o next

@@ -1,0 +1,11 @@
+pub mod PathMessages
+pub mod Overlay
+pub mod CatchUp
+pub mod Batches
+pub mod Rounds
+pub mod Law
+pub mod Examples
+pub mod Service
+pub mod Files
+pub mod Process
+pub mod Start

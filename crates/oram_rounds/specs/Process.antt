@@ -1,0 +1,173 @@
+-- A process of the client: its core, its link, and where it keeps what has to outlive it.
+use Rattle.std.specs.Prelude.{◌≡◌, ◌⊎◌, ℕ, Bool, true, false, List, [], ◌∷◌, ◌++◌, Some, map}
+use Rattle.std.specs.List.{FoldsTo, flat_map}
+use Rattle.oram_geometry.specs.Sizes.{IsDevice}
+use Rattle.oram_host.specs.Host.{Host}
+use Rattle.oram_semantics.specs.Events.{failed_reply}
+use Rattle.oram_semantics.specs.Run.{Shown}
+use Rattle.oram_semantics.specs.Scheme.{Scheme, record_len}
+use Rattle.oram_semantics.specs.State.{State}
+use Rattle.oram_semantics.specs.declared.events.Event.{Event}
+use Rattle.oram_semantics.specs.declared.events.Event.TheVariants.{Reopen, Retry}
+use Rattle.oram_semantics.specs.declared.events.Reply.{Reply}
+use Rattle.oram_core.specs.Steps.{Steps}
+use Rattle.oram_session.specs.Exchanges.{event_of}
+use Rattle.oram_session.specs.Honesty.{HasFailed}
+use Rattle.oram_session.specs.Outcome.{Outcome}
+use Rattle.oram_session.specs.Settled.{outstanding}
+use Rattle.oram_link_laws.specs.Repair.{AreAmong, IsAmong}
+use Rattle.oram_link_laws.specs.Runs.{Exchange, bodies_of}
+use Rattle.oram_rounds.specs.Batches.{BatchOutcome}
+use Rattle.oram_rounds.specs.Files.{IsFile}
+use Rattle.oram_rounds.specs.CatchUp.{CatchesUp, PlainRun}
+use Rattle.oram_rounds.specs.Law.{AreBatches}
+use Rattle.oram_rounds.specs.PathMessages.{IsPathFetch}
+use Rattle.oram_rounds.specs.Rounds.{Round, RoundCall, waiting}
+use Rattle.oram_rounds.specs.Service.{AreReplied, IsServed, WillHoldAfter, Waiting as Waits}
+
+pub record Process (B K : Type 0) : Type 0 where
+  pub core : State
+  pub link : Round B
+  pub keeper : K
+
+-- What a process does next, once its commands are submitted.
+pub data Act : Type 0 where
+  -- the core learns that it was reopened, or sends its message again
+  Hears : Event → Shown → Act
+  -- the link is called with the outstanding message, and the core hears what came of it
+  Calls : Outcome → List Exchange → Shown → Act
+  -- the same, but memory runs out before the core hears of it
+  Misses : Outcome → List Exchange → Act
+  -- the STOREs that wait and the core are kept, or the keeper fails
+  Keeps : Bool → Act
+
+abbrev pub exchanges_of : Act → List Exchange
+exchanges_of (Hears event x) = []
+exchanges_of (Calls o exchanges x) = exchanges
+exchanges_of (Misses o exchanges) = exchanges
+exchanges_of (Keeps done) = []
+
+abbrev pub replies_of : Act → List Reply
+replies_of (Hears event x) = []
+replies_of (Calls o exchanges x) = x.replies
+replies_of (Misses o exchanges) = []
+replies_of (Keeps done) = []
+
+-- Nothing of a message has gone to the host, or it is a FETCH, and what the host has had of it are tries of the STOREs that are
+-- kept and of the FETCH behind them.
+abbrev pub IsSent : {B : Type 0} → Round B → List ℕ → List Exchange → Type 0
+IsSent l message exchanges = (exchanges ≡ []) ⊎ (IsPathFetch l.device message × AreAmong (bodies_of exchanges) (l.kept ++ message ∷ []))
+
+-- of a device, over a link that carries batches and a keeper of which some bytes may be read back
+module _ (v : Scheme) {B K : Type 0} (batches : B → List (List ℕ) → BatchOutcome → List Exchange → B → Type 0) (reads_back : K → List ℕ → Type 0) where
+  abbrev pub Does : Process B K → Act → Process B K → Type 0
+  Does p (Hears event x) q = ((event ≡ Reopen) ⊎ (event ≡ Retry)) × Steps v p.core event x q.core × (q.link ≡ p.link) × (q.keeper ≡ p.keeper)
+  Does p (Calls o exchanges x) q =
+      (message : List ℕ) × (outstanding p.core ≡ Some message) × RoundCall batches p.link message o exchanges q.link
+      × Steps v p.core (event_of o) x q.core × (q.keeper ≡ p.keeper)
+  Does p (Misses o exchanges) q =
+      (message : List ℕ) × (outstanding p.core ≡ Some message) × RoundCall batches p.link message o exchanges q.link
+      × (q.core ≡ p.core) × (q.keeper ≡ p.keeper)
+  -- once something is kept, nothing else is read back
+  Does p (Keeps true) q =
+      ((bytes : List ℕ) → reads_back q.keeper bytes → IsFile v bytes (waiting p.link) p.core)
+      × (q.core ≡ p.core) × (q.link ≡ record p.link { kept = waiting p.link; held = [] })
+  -- where the keeper fails, that or what was there before
+  Does p (Keeps false) q =
+      ((bytes : List ℕ) → reads_back q.keeper bytes → IsFile v bytes (waiting p.link) p.core ⊎ reads_back p.keeper bytes)
+      × (q.core ≡ p.core) × (q.link ≡ p.link)
+
+  abbrev pub DoesAll : Process B K → List Act → Process B K → Type 0
+  DoesAll p acts q = FoldsTo {P = Process B K} Does p acts q
+
+  -- The process ends while it does this. These bytes are read back, and the host has had these exchanges meanwhile.
+  abbrev pub EndsIn : Process B K → Act → List ℕ → List Exchange → Type 0
+  EndsIn p (Hears event x) bytes exchanges = reads_back p.keeper bytes × (exchanges ≡ [])
+  EndsIn p (Calls o xs x) bytes exchanges =
+      (message : List ℕ) × (outstanding p.core ≡ Some message) × reads_back p.keeper bytes × IsSent p.link message exchanges
+  EndsIn p (Misses o xs) bytes exchanges =
+      (message : List ℕ) × (outstanding p.core ≡ Some message) × reads_back p.keeper bytes × IsSent p.link message exchanges
+  EndsIn p (Keeps done) bytes exchanges = (IsFile v bytes (waiting p.link) p.core ⊎ reads_back p.keeper bytes) × (exchanges ≡ [])
+
+module _ (may_lie : Bool) (v : Scheme) where
+  -- The bytes have a core that will hold one of two arrays, once the host has carried out the STOREs that they have. All that
+  -- the host may still receive is among these.
+  pub record IsKept (sent : List (List ℕ)) (bytes : List ℕ) (host : Host) (before array : ℕ → List ℕ) : Type 0 where
+    pub stores : List (List ℕ)
+    pub core : State
+    pub file : IsFile v bytes stores core
+    pub covers : (body : List ℕ) → IsAmong body sent → IsAmong body stores
+    pub holds : WillHoldAfter may_lie v core stores host before ⊎ WillHoldAfter may_lie v core stores host array
+
+  -- The device will hold the array, and whatever is read back will hold it too, or the one before.
+  pub record IsSafe {B K : Type 0} (reads_back : K → List ℕ → Type 0) (p : Process B K) (host : Host) (before array : ℕ → List ℕ) : Type 0 where
+    pub device : p.link.device ≡ v.device
+    pub record_len_is : p.link.record_len ≡ record_len v
+    pub live : WillHoldAfter may_lie v p.core (waiting p.link) host array
+    pub kept : (bytes : List ℕ) → reads_back p.keeper bytes → IsKept p.link.kept bytes host before array
+
+-- the array that may still be read back beside the present one: none other once the process has kept itself
+abbrev pub earlier : List Act → (ℕ → List ℕ) → (ℕ → List ℕ) → ℕ → List ℕ
+earlier [] before array = before
+earlier (Keeps true ∷ acts) before array = earlier acts array array
+earlier (Keeps false ∷ acts) before array = earlier acts before array
+earlier (Hears event x ∷ acts) before array = earlier acts before array
+earlier (Calls o exchanges x ∷ acts) before array = earlier acts before array
+earlier (Misses o exchanges ∷ acts) before array = earlier acts before array
+
+-- Whatever a process does, over a host that is honest or may lie: the device will hold the array, and so will what is read
+-- back, or else it will hold the array from before the last keeping.
+abbrev pub ActsAreSafe : {B K : Type 0} → (B → List (List ℕ) → BatchOutcome → List Exchange → B → Type 0) → (K → List ℕ → Type 0) → Type 0
+ActsAreSafe {B} {K} batches reads_back = AreBatches batches
+    → (may_lie : Bool) (v : Scheme) (acts : List Act) (p q : Process B K) (host after : Host) (before array : ℕ → List ℕ) → IsDevice v.device
+    → IsSafe may_lie v reads_back p host before array → DoesAll v batches reads_back p acts q → PlainRun may_lie v host (flat_map exchanges_of acts) after
+    → IsSafe may_lie v reads_back q after (earlier acts before array) array
+
+-- And wherever it ends.
+abbrev pub EndsAreSafe : {B K : Type 0} → (B → List (List ℕ) → BatchOutcome → List Exchange → B → Type 0) → (K → List ℕ → Type 0) → Type 0
+EndsAreSafe {B} {K} batches reads_back = AreBatches batches
+    → (may_lie : Bool) (v : Scheme) (p : Process B K) (act : Act) (bytes : List ℕ) (exchanges : List Exchange) (host after : Host) (before array : ℕ → List ℕ) → IsDevice v.device
+    → IsSafe may_lie v reads_back p host before array → EndsIn v batches reads_back p act bytes exchanges → PlainRun may_lie v host exchanges after
+    → IsKept may_lie v [] bytes after before array
+
+-- A process that begins with what was read back: it has the core, and the STOREs are kept and wait.
+abbrev pub begun : {B K : Type 0} → B → Scheme → List (List ℕ) → State → K → Process B K
+begun inner v stores core keeper = record {
+  core = core;
+  link = record { inner = inner; device = v.device; record_len = record_len v; kept = stores; held = []; faults = 0 };
+  keeper = keeper;
+}
+
+-- Where nothing else is read back than what a process begins with, the device will hold the one array or the other, and so
+-- will what is read back.
+abbrev pub BegunIsSafe : (B : Type 0) {K : Type 0} → (K → List ℕ → Type 0) → Type 0
+BegunIsSafe B {K} reads_back = (may_lie : Bool) (v : Scheme) (inner : B) (stores : List (List ℕ)) (core : State) (keeper : K) (bytes : List ℕ) (host : Host) (before array : ℕ → List ℕ)
+    → (k : IsKept may_lie v [] bytes host before array) → k.stores ≡ stores → k.core ≡ core → ((other : List ℕ) → reads_back keeper other → other ≡ bytes)
+    → IsSafe may_lie v reads_back (begun inner v stores core keeper) host before before ⊎ IsSafe may_lie v reads_back (begun inner v stores core keeper) host array array
+
+-- The core goes on with the array, over the host as it will be.
+abbrev pub IsGoingOn : {B K : Type 0} → Scheme → Process B K → Host → (ℕ → List ℕ) → Type 0
+IsGoingOn v p host array = (later : Host) × CatchesUp v host (waiting p.link) later × IsServed v p.core later array
+
+-- The commands at work have the array's replies, in their order, as far as they have any.
+pub record HaveReplies {B K : Type 0} (v : Scheme) (p : Process B K) (array : ℕ → List ℕ) (replies : List Reply) (q : Process B K) (host : Host) : Type 0 where
+  pub now : ℕ → List ℕ
+  pub goes_on : IsGoingOn v q host now
+  pub replied : AreReplied v.device (array, p.core.queue) replies (now, q.core.queue)
+
+-- Or the device fails: some have the array's replies, and all others are answered as failed.
+pub record HaveFailed {B K : Type 0} (may_lie : Bool) (v : Scheme) (p : Process B K) (array : ℕ → List ℕ) (replies : List Reply) (q : Process B K) : Type 0 where
+  pub lies : may_lie ≡ true
+  pub failed : HasFailed q.core
+  pub given : List Reply
+  pub left : Waits
+  pub replied : AreReplied v.device (array, p.core.queue) given left
+  pub all : replies ≡ given ++ map failed_reply left.1
+
+-- The replies that a process gives are the array's, over an honest host; over one that may lie the device may fail.
+abbrev pub RepliesAreTheArrays : {B K : Type 0} → (B → List (List ℕ) → BatchOutcome → List Exchange → B → Type 0) → (K → List ℕ → Type 0) → Type 0
+RepliesAreTheArrays {B} {K} batches reads_back = AreBatches batches
+    → (may_lie : Bool) (v : Scheme) (acts : List Act) (p q : Process B K) (host after : Host) (array : ℕ → List ℕ) → IsDevice v.device
+    → p.link.device ≡ v.device → p.link.record_len ≡ record_len v → IsGoingOn v p host array → DoesAll v batches reads_back p acts q
+    → PlainRun may_lie v host (flat_map exchanges_of acts) after
+    → HaveReplies v p array (flat_map replies_of acts) q after ⊎ HaveFailed may_lie v p array (flat_map replies_of acts) q

@@ -1,0 +1,88 @@
+-- A link that holds STOREs back until they are kept.
+use Rattle.std.specs.Prelude.{◌≡◌, ◌≢◌, ◌⊎◌, ℕ, ◌==◌, ◌&&◌, Bool, if◌then◌else◌, List, [], ◌∷◌, ◌++◌, length, slice_index, Ok, Err, MatchResult}
+use Rattle.std.specs.List.{AllByRecursion}
+use Rattle.oram_geometry.specs.declared.Sizes.{Sizes}
+use Rattle.oram_wire.specs.HostMessages.{done_answer}
+use Rattle.oram_session.specs.Outcome.{Outcome, faults_after}
+use Rattle.oram_session.specs.declared.link.LinkFault.{LinkFault}
+use Rattle.oram_link_laws.specs.Repair.{IsAmong}
+use Rattle.oram_link_laws.specs.Runs.{Exchange}
+use Rattle.oram_rounds.specs.Batches.{BatchOutcome}
+use Rattle.oram_rounds.specs.Overlay.{IsOverlaid}
+use Rattle.oram_rounds.specs.PathMessages.{IsPathFetch, IsPathStore}
+
+-- a link over another one that carries batches, for a device whose records have this length
+pub record Round (B : Type 0) : Type 0 where
+  pub inner : B
+  pub device : Sizes
+  pub record_len : ℕ
+  pub kept : List (List ℕ)  -- STOREs that are kept, and that the host hasn't acknowledged
+  pub held : List (List ℕ)  -- STOREs since then
+  pub faults : ℕ  -- how many calls had a fault
+
+-- the STOREs that the host has still to carry out, the oldest first
+abbrev pub waiting : {B : Type 0} → Round B → List (List ℕ)
+waiting l = l.kept ++ l.held
+
+-- what the core receives where the host doesn't acknowledge a STORE: the host's refusal, or no bytes
+abbrev pub is_refusal_body : List ℕ → Bool
+is_refusal_body answer = (length answer == 2) && (slice_index answer 0 == 129)
+
+abbrev pub refused_with : List ℕ → List ℕ
+refused_with answer = if is_refusal_body answer then answer else []
+
+-- each of these answers says that the host has done what it was asked
+abbrev pub AreDone : List (List ℕ) → Type 0
+AreDone answers = AllByRecursion (λ answer. answer ≡ done_answer) answers
+
+-- over a link whose batches have this relation (the bodies, the outcome, and the exchanges with the host), for a device
+-- with records of this length
+module _ {B : Type 0} (batches : B → List (List ℕ) → BatchOutcome → List Exchange → B → Type 0) (d : Sizes) (record_len : ℕ) where
+  -- a STORE is put to those that wait, and answered at once
+  pub record Holds (l : Round B) (body : List ℕ) (o : Outcome) (exchanges : List Exchange) (m : Round B) : Type 0 where
+    pub path : IsPathStore d record_len body
+    pub answer : o ≡ Ok done_answer
+    pub none : exchanges ≡ []
+    pub same : m.inner ≡ l.inner
+    pub kept : m.kept ≡ l.kept
+    pub held : m.held ≡ l.held ++ body ∷ []
+
+  -- the answers to the STOREs that were kept, and the one to the FETCH behind them
+  pub record Gives (l : Round B) {body : List ℕ} (fetch : IsPathFetch d body) (answers : List (List ℕ)) (o : Outcome) (m : Round B) : Type 0 where
+    pub acks : List (List ℕ)
+    pub answer : List ℕ
+    pub all : answers ≡ acks ++ answer ∷ []
+    pub either :
+        (AreDone acks × (m.kept ≡ []) × (given : List ℕ) × (o ≡ Ok given) × IsOverlaid d record_len fetch.tree fetch.leaf l.held answer given)
+        ⊎ ((m.kept ≡ l.kept) × (refusal : List ℕ) × IsAmong refusal acks × (refusal ≢ done_answer) × (o ≡ Ok (refused_with refusal)))
+
+  -- a FETCH goes to the host behind the STOREs that are kept
+  pub record Fetches (l : Round B) (body : List ℕ) (o : Outcome) (exchanges : List Exchange) (m : Round B) : Type 0 where
+    pub path : IsPathFetch d body
+    pub outcome : BatchOutcome
+    pub batch : batches l.inner (l.kept ++ body ∷ []) outcome exchanges m.inner
+    pub held : m.held ≡ l.held
+    pub gives : MatchResult outcome (λ answers. Gives l path answers o m) (λ fault. (o ≡ Err fault) × (m.kept ≡ l.kept))
+
+  -- nothing goes to the host: memory ran out, or a core at work sends no such message
+  pub record Declines (l : Round B) (o : Outcome) (exchanges : List Exchange) (m : Round B) : Type 0 where
+    pub fault : LinkFault
+    pub answer : o ≡ Err fault
+    pub none : exchanges ≡ []
+    pub same : m.inner ≡ l.inner
+    pub kept : m.kept ≡ l.kept
+    pub held : m.held ≡ l.held
+
+  abbrev pub Does : Round B → List ℕ → Outcome → List Exchange → Round B → Type 0
+  Does l body o exchanges m = Holds l body o exchanges m ⊎ (Fetches l body o exchanges m ⊎ Declines l o exchanges m)
+
+pub record RoundCall {B : Type 0} (batches : B → List (List ℕ) → BatchOutcome → List Exchange → B → Type 0) (l : Round B) (body : List ℕ) (o : Outcome) (exchanges : List Exchange) (m : Round B) : Type 0 where
+  pub device : m.device ≡ l.device
+  pub record_len : m.record_len ≡ l.record_len
+  pub does : Does batches l.device l.record_len l body o exchanges m
+
+-- such a call, with some exchanges; the number of faults rises where the call has one
+pub record IsCounted {B : Type 0} (batches : B → List (List ℕ) → BatchOutcome → List Exchange → B → Type 0) (l : Round B) (body : List ℕ) (o : Outcome) (m : Round B) : Type 0 where
+  pub exchanges : List Exchange
+  pub call : RoundCall batches l body o exchanges m
+  pub faults : m.faults ≡ faults_after l.faults o

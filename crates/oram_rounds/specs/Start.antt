@@ -1,0 +1,56 @@
+-- How a process comes to what it does: it begins with a device that is held, and commands are submitted to it.
+use Rattle.std.specs.Prelude.{◌≡◌, ℕ, Bool, List, [], ◌∷◌}
+use Rattle.std.specs.List.{FoldsTo}
+use Rattle.oram_geometry.specs.declared.Sizes.{Sizes}
+use Rattle.oram_geometry.specs.Sizes.{IsDevice}
+use Rattle.oram_host.specs.Host.{Host}
+use Rattle.oram_semantics.specs.Run.{Shown}
+use Rattle.oram_semantics.specs.Scheme.{Scheme}
+use Rattle.oram_semantics.specs.Serving.{array_after}
+use Rattle.oram_semantics.specs.State.{State}
+use Rattle.oram_semantics.specs.declared.events.Command.{Command}
+use Rattle.oram_semantics.specs.declared.events.Event.TheVariants.{Submit}
+use Rattle.oram_semantics.specs.declared.events.Note.{Note}
+use Rattle.oram_semantics.specs.declared.events.Note.TheVariants.{Accepted, FailedNow, Refused, Resent, Stalled, Taken, Unexpected}
+use Rattle.oram_core.specs.Steps.{Steps}
+use Rattle.oram_link_laws.specs.Runs.{IsHeldBy}
+use Rattle.oram_rounds.specs.Files.{IsFile}
+use Rattle.oram_rounds.specs.Process.{IsSafe, Process, begun}
+
+-- a command that is submitted, and what the core shows then
+pub record Asked : Type 0 where
+  pub session : ℕ
+  pub command : Command
+  pub words : List ℕ
+  pub shown : Shown
+
+-- as the command leaves the array if the core has accepted it, and else as it was
+abbrev pub array_if : Note → Sizes → Command → (ℕ → List ℕ) → ℕ → List ℕ
+array_if (Accepted ticket) d c array = array_after d c array
+array_if (Refused e) d c array = array
+array_if Taken d c array = array
+array_if Stalled d c array = array
+array_if (FailedNow e) d c array = array
+array_if Resent d c array = array
+array_if Unexpected d c array = array
+
+-- the array after all of the commands that the core has accepted
+abbrev pub array_with : Sizes → List Asked → (ℕ → List ℕ) → ℕ → List ℕ
+array_with d [] array = array
+array_with d (a ∷ asked) array = array_with d asked (array_if a.shown.note d a.command array)
+
+abbrev pub Submits : {B K : Type 0} → Scheme → Process B K → Asked → Process B K → Type 0
+Submits v p a q = Steps v p.core (Submit a.session a.command a.words) a.shown q.core × (q.link ≡ p.link) × (q.keeper ≡ p.keeper)
+
+-- Where the device will hold an array, and whatever is read back will hold it too, commands are submitted. Then the device
+-- will hold the array after those that were accepted, and what is read back the array before them.
+abbrev pub SubmittedIsSafe : (B : Type 0) {K : Type 0} → (K → List ℕ → Type 0) → Type 0
+SubmittedIsSafe B {K} reads_back = (may_lie : Bool) (v : Scheme) (asked : List Asked) (p q : Process B K) (host : Host) (array : ℕ → List ℕ) → IsDevice v.device
+    → IsSafe may_lie v reads_back p host array array → FoldsTo {P = Process B K} (Submits v) p asked q
+    → IsSafe may_lie v reads_back q host array (array_with v.device asked array)
+
+-- Where a device is held by a host, as it is once it has been formatted, and its core is what is read back, a process
+-- that begins with this core is safe.
+abbrev pub HeldIsSafe : (B : Type 0) {K : Type 0} → (K → List ℕ → Type 0) → Type 0
+HeldIsSafe B {K} reads_back = (may_lie : Bool) (v : Scheme) (inner : B) (core : State) (keeper : K) (host : Host) (array : ℕ → List ℕ) → IsHeldBy v core host array
+    → ((bytes : List ℕ) → reads_back keeper bytes → IsFile v bytes [] core) → IsSafe may_lie v reads_back (begun inner v [] core keeper) host array array

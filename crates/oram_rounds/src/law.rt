@@ -1,0 +1,58 @@
+//! The law of links that hold STOREs back.
+ghost use Rattle.oram_rounds.specs.Start.{HeldIsSafe, SubmittedIsSafe};
+ghost use Rattle.oram_rounds.specs.Examples.{OneWaitsExample};
+ghost use Rattle.oram_rounds.specs.Law.{CallsAreOfTheHostLater};
+ghost use Rattle.oram_rounds.specs.Process.{ActsAreSafe, BegunIsSafe, EndsAreSafe, RepliesAreTheArrays};
+
+use crate::batch::BatchLink;
+use crate::keeper::Keeper;
+
+/// A law about definitions: a host stands beside the exchanges of a call, and has some STOREs still to carry out. Then the
+/// call is one of the host as it will be after them, honest or not as the host beside is, and afterwards the same holds of
+/// the STOREs that wait then. So what is proved of a core over a host holds over a link that holds STOREs back.
+pub fn calls_are_of_the_host_later<B: BatchLink>()
+    ensures { CallsAreOfTheHostLater B.batches }
+{}
+
+/// A server that keeps a record of zeros, and a STORE of ones that waits, meet the premises of
+/// [`calls_are_of_the_host_later`]: a FETCH is answered with the ones.
+pub fn one_waits_example()
+    ensures { OneWaitsExample }
+{}
+
+/// A law about definitions: a process is safe that begins with the core of a device that a host keeps, as a formatting
+/// leaves both (`new_devices_hold_zeros_beside` in `oram_link_laws`), if nothing but this core is read back.
+pub fn held_is_safe<B: BatchLink, K: Keeper>()
+    ensures { HeldIsSafe B K.reads_back }
+{}
+
+/// A law about definitions: commands are submitted to a process. Then the device will hold the array after those that the
+/// core has accepted, and what is read back will hold the array before them.
+pub fn submitted_is_safe<B: BatchLink, K: Keeper>()
+    ensures { SubmittedIsSafe B K.reads_back }
+{}
+
+/// A law about definitions: whatever a process does after its commands were submitted, over a host that is honest or may lie,
+/// the device will hold the array once the commands that wait are carried out, and so will what is read back; or that
+/// will hold the array from before the last keeping. Where the host may lie the device may fail instead.
+pub fn acts_are_safe<B: BatchLink, K: Keeper>()
+    ensures { ActsAreSafe B.batches K.reads_back }
+{}
+
+/// A law about definitions: wherever a process ends, what is read back will hold the one array or the other, whatever
+/// the host has received by then of the STOREs that are kept and of the FETCH behind them.
+pub fn ends_are_safe<B: BatchLink, K: Keeper>()
+    ensures { EndsAreSafe B.batches K.reads_back }
+{}
+
+/// A law about definitions: a process that begins with what was read back is as safe as the one before. With
+/// [`acts_are_safe`] and [`ends_are_safe`] this goes from process to process.
+pub fn begun_is_safe<B: BatchLink, K: Keeper>()
+    ensures { BegunIsSafe B K.reads_back }
+{}
+
+/// A law about definitions: the replies that a process gives are the array's, in the order of the commands. Where the host
+/// may lie the device may fail; then all other commands are answered as failed.
+pub fn replies_are_the_arrays<B: BatchLink, K: Keeper>()
+    ensures { RepliesAreTheArrays B.batches K.reads_back }
+{}

@@ -1,0 +1,56 @@
+//! A batch over a link that carries one message after the other.
+ghost use Rattle.std.specs.Prelude.{◌≡◌, [], ◌∷◌, ◌++◌, List, length, map, IfOk, OnErr};
+ghost use Rattle.oram_link_laws.specs.Repair.{AreAmong};
+ghost use Rattle.oram_link_laws.specs.Runs.{Exchange, LinkRun, bodies_of};
+ghost use Rattle.oram_rounds.specs.Batches.{IsBatch, answered, texts};
+
+use crate::batch::BatchLink;
+use crate::lists::push;
+use oram_session::{Link, LinkFault};
+use std::alloc::Global;
+
+/// Sends each message of a batch over a link once the one before it is answered. It saves no round trip. It stops at the
+/// first fault, and sends the messages behind it not at all.
+#[derive(Debug, Drop)]
+pub struct OneByOne<L> {
+    pub link: L,
+}
+
+/// Sends each of the bodies and returns their answers.
+fn call_each<L: Link>(
+    alloc: Global,
+    link: &mut L,
+    bodies: &[Vec<u8>],
+) -> Result<Vec<Vec<u8>>, LinkFault>
+    ensures count { IfOk result (λ answers. length (texts answers.items) ≡ length (texts bodies.now)) }
+    ensures ok { IfOk result (λ answers. LinkRun L.calls link.old (answered (texts bodies.now) (texts answers.items)) link.new) }
+    ensures err { OnErr result ((exchanges : List Exchange) × LinkRun L.calls link.old exchanges link.new × AreAmong (bodies_of exchanges) (texts bodies.now)) }
+{
+    let mut answers = Vec::with_capacity(alloc, bodies.len() + 1)?;
+    for body in bodies {
+        let answer = link.call(alloc, body)?;
+        push(&mut answers, answer)?;
+    }
+    Ok(answers)
+}
+
+impl<L: Link> BatchLink for OneByOne<L> {
+    ghost use Rattle.oram_link_laws.specs.Runs.{LinkRun};
+    ghost use Rattle.oram_rounds.specs.Batches.{IsBatch};
+
+    ghost batches = { λ l bodies o exchanges m. LinkRun L.calls l.link exchanges m.link × IsBatch bodies o exchanges };
+
+    fn call_all(
+        &mut self,
+        alloc: Global,
+        first: &[Vec<u8>],
+        last: &[u8],
+    ) -> Result<Vec<Vec<u8>>, LinkFault> {
+        let mut answers = call_each(alloc, &mut self.link, first)?;
+        let answer = self.link.call(alloc, last)?;
+        push(&mut answers, answer)?;
+        Ok(answers)
+    }
+
+    ghost are_batches = { λ l m bodies o exchanges h. h.1 };
+}

@@ -1,0 +1,229 @@
+//! A link that holds STOREs back.
+ghost use Rattle.std.specs.Prelude.{◌≡◌, ◌≢◌, ◌↔◌, ◌+◌, ◌*◌, ◌^◌, ◌<◌, [], ◌∷◌, ◌++◌, List, IsTrue, MatchOption, MatchResult, OnOk, OnErr};
+ghost use Rattle.oram_geometry.specs.Sizes.{depth_of, trees_of};
+ghost use Rattle.oram_wire.specs.HostMessages.{done_answer, fetch_body};
+ghost use Rattle.oram_session.specs.Outcome.{outcome_of};
+ghost use Rattle.oram_link_laws.specs.Repair.{IsAmong};
+ghost use Rattle.oram_link_laws.specs.Runs.{Exchange};
+ghost use Rattle.oram_rounds.specs.Batches.{texts};
+ghost use Rattle.oram_rounds.specs.Overlay.{IsOverlaid};
+ghost use Rattle.oram_rounds.specs.PathMessages.{IsPathStore};
+ghost use Rattle.oram_rounds.specs.Rounds.{AreDone, Does, Fetches, Holds, refused_with};
+
+use crate::batch::BatchLink;
+use crate::lists::push;
+use crate::overlay::{laid_over, path_len};
+use oram_geometry::Device;
+use oram_session::{Link, LinkFault};
+use oram_wire::{GOOD, HostView, REFUSED, is_done};
+use std::alloc::Global;
+use std::marker::Model;
+
+/// A link for one device, over a link that carries batches.
+///
+/// It answers a STORE at once and holds it back. A FETCH takes the STOREs along that are kept ([`RoundLink::keep`]), and is
+/// answered by what the host has there once it has carried out all STOREs so far. If the host refuses a STORE, the core
+/// receives that refusal as the answer to its FETCH. A core at work sends no other messages; the link declines them.
+#[derive(Drop)]
+pub struct RoundLink<B> {
+    inner: B,
+    device: Device,
+    record_len: usize,
+    /// The STOREs that the host hasn't acknowledged, the oldest first.
+    stores: Vec<Vec<u8>>,
+    /// How many of them are kept; those are the oldest.
+    kept: usize,
+    faults: u64,
+}
+
+impl<B> Model for RoundLink<B> {
+    ghost use Rattle.std.specs.Prelude.{◌<◌, ◌≤◌, ◌^◌, drop, length, take};
+    ghost use Rattle.oram_rounds.specs.Batches.{texts};
+    ghost use Rattle.oram_rounds.specs.PathMessages.{ArePathStores};
+    ghost use Rattle.oram_rounds.specs.Rounds.{Round};
+
+    ghost Value = { Round B };
+
+    ghost view = { λ l. record { inner = l.inner; device = l.device; record_len = l.record_len; kept = texts (take l.kept l.stores.items); held = texts (drop l.kept l.stores.items); faults = l.faults } };
+
+    ghost invariant = { λ l. (l.record_len < 2 ^ 32) × (l.kept ≤ length l.stores.items) × ArePathStores l.device l.record_len (texts (take l.kept l.stores.items)) × ArePathStores l.device l.record_len (texts (drop l.kept l.stores.items)) };
+}
+
+/// Returns whether a tree of the device has this leaf.
+fn has_leaf(device: &Device, tree: u8, leaf: u32) -> bool
+    ensures { IsTrue result ↔ ((tree < trees_of device.now) × (leaf < 2 ^ depth_of device.now tree)) }
+{
+    tree < device.trees() && leaf < 1 << device.depth(tree)
+}
+
+/// Returns the first answer that doesn't say that the host has done what it was asked.
+fn first_refusal(mut answers: Vec<Vec<u8>>) -> Option<Vec<u8>>
+    ensures { MatchOption result (AreDone (texts answers.items)) (λ refusal. IsAmong refusal.items (texts answers.items) × (refusal.items ≢ done_answer)) }
+{
+    for i in 0..answers.len() {
+        if !is_done(&answers[i]) {
+            return Some(answers.swap_remove(i));
+        }
+    }
+    None
+}
+
+/// Returns what the core receives if the host answers a STORE so: a refusal as it is, and for anything else no bytes.
+fn refused_with(mut answer: Vec<u8>) -> Vec<u8>
+    ensures { result.items ≡ refused_with answer.items }
+{
+    if answer.len() != 2 || answer[0] != REFUSED {
+        answer.clear();
+    }
+    answer
+}
+
+impl<B> RoundLink<B> {
+    /// Makes a link for a device whose records have `record_len` bytes, at which no STOREs wait.
+    pub fn new(alloc: Global, inner: B, device: Device, record_len: usize) -> RoundLink<B>
+        requires { record_len < 2 ^ 32 }
+        ensures { result ≡ record { inner = inner; device = device; record_len = record_len; kept = []; held = []; faults = 0 } }
+    {
+        RoundLink {
+            inner,
+            device,
+            record_len,
+            stores: Vec::new(alloc),
+            kept: 0,
+            faults: 0,
+        }
+    }
+
+    /// Returns the STOREs that are kept and that the host hasn't acknowledged, the oldest first.
+    pub fn kept(&self) -> &[Vec<u8>]
+        ensures { texts result.now ≡ self.now.kept }
+    {
+        let kept = self.kept;
+        &self.stores[..kept]
+    }
+
+    /// Returns the STOREs that aren't kept yet, the oldest first.
+    pub fn held(&self) -> &[Vec<u8>]
+        ensures { texts result.now ≡ self.now.held }
+    {
+        let kept = self.kept;
+        &self.stores[kept..]
+    }
+
+    /// Notes that all STOREs that wait are kept, so they leave with the next FETCH.
+    pub fn keep(&mut self)
+        ensures { self.new ≡ record self.old { kept = self.old.kept ++ self.old.held; held = [] } }
+    {
+        self.kept = self.stores.len();
+    }
+
+    /// Forgets the STOREs that are kept, since the host has carried them out.
+    fn forget_kept(&mut self)
+        ensures { self.new ≡ record self.old { kept = [] } }
+    {
+        self.stores.rotate_left(self.kept);
+        self.stores.truncate(self.stores.len() - self.kept);
+        self.kept = 0;
+    }
+
+    /// Returns the answer to a FETCH with the STOREs laid over it that aren't kept yet.
+    fn overlaid(&self, tree: u8, leaf: u32, answer: Vec<u8>) -> Vec<u8>
+        requires tree { tree < trees_of self.now.device }
+        requires leaf { leaf < 2 ^ depth_of self.now.device tree }
+        ensures { IsOverlaid self.now.device self.now.record_len tree leaf self.now.held answer.items result.items }
+    {
+        let kept = self.kept;
+        laid_over(
+            &self.device,
+            self.record_len,
+            tree,
+            leaf,
+            &self.stores[kept..],
+            answer,
+        )
+    }
+
+    /// Puts a STORE to those that wait.
+    fn hold(&mut self, alloc: Global, body: &[u8]) -> Result<Vec<u8>, LinkFault>
+        requires { IsPathStore self.old.device self.old.record_len body.now }
+        ensures { MatchResult result (λ answer. (answer.items ≡ done_answer) × (self.new ≡ record self.old { held = self.old.held ++ body.now ∷ [] })) (λ fault. self.new ≡ self.old) }
+    {
+        let answer = [GOOD].to_vec(alloc)?;
+        push(&mut self.stores, body.to_vec(alloc)?)?;
+        Ok(answer)
+    }
+}
+
+impl<B: BatchLink> RoundLink<B> {
+    /// Sends a FETCH behind the STOREs that are kept.
+    fn fetch(
+        &mut self,
+        alloc: Global,
+        tree: u8,
+        leaf: u32,
+        body: &[u8],
+    ) -> Result<Vec<u8>, LinkFault>
+        requires tree { tree < trees_of self.old.device }
+        requires leaf { leaf < 2 ^ depth_of self.old.device tree }
+        requires body { body.now ≡ fetch_body tree leaf }
+        ensures same { self.new ≡ record self.old { inner = self.new.inner; kept = self.new.kept } }
+        ensures call { (exchanges : List Exchange) × Fetches B.batches self.old.device self.old.record_len self.old body.now (outcome_of result) exchanges self.new }
+    {
+        let kept = self.kept;
+        let mut answers = self.inner.call_all(alloc, &self.stores[..kept], body)?;
+        let Some(answer) = answers.pop() else {
+            unreachable!()
+        };
+        if let Some(refusal) = first_refusal(answers) {
+            return Ok(refused_with(refusal));
+        }
+        self.forget_kept();
+        Ok(self.overlaid(tree, leaf, answer))
+    }
+
+    /// Passes a message on, without counting faults.
+    fn pass(&mut self, alloc: Global, body: &[u8]) -> Result<Vec<u8>, LinkFault>
+        ensures same { self.new ≡ record self.old { inner = self.new.inner; kept = self.new.kept; held = self.new.held } }
+        ensures call { (exchanges : List Exchange) × Does B.batches self.old.device self.old.record_len self.old body.now (outcome_of result) exchanges self.new }
+    {
+        match HostView::read(body) {
+            Ok(HostView::Fetch { tree, leaf }) if has_leaf(&self.device, tree, leaf) => {
+                self.fetch(alloc, tree, leaf, body)
+            }
+            Ok(
+                HostView::Store {
+                    tree,
+                    leaf,
+                    records,
+                },
+            ) if has_leaf(&self.device, tree, leaf)
+                && records.len() == path_len(&self.device, self.record_len, tree) => {
+                self.hold(alloc, body)
+            }
+            _ => Err(LinkFault::Closed),
+        }
+    }
+}
+
+impl<B: BatchLink> Link for RoundLink<B> {
+    ghost use Rattle.oram_link_laws.specs.Runs.{Exchange};
+    ghost use Rattle.oram_rounds.specs.Rounds.{IsCounted};
+
+    ghost calls = { λ l body outcome m. IsCounted B.batches l body outcome m };
+
+    ghost fault_count = { λ l. l.faults };
+
+    fn call(&mut self, alloc: Global, body: &[u8]) -> Result<Vec<u8>, LinkFault> {
+        let outcome = self.pass(alloc, body);
+        if outcome.is_err() {
+            self.faults = self.faults.saturating_add(1);
+        }
+        outcome
+    }
+
+    fn faults(&self) -> u64 {
+        self.faults
+    }
+
+    ghost counts = { λ l m body outcome h. h.faults };
+}
