@@ -14,11 +14,11 @@
 
 ghost use Rattle.std.specs.Prelude.{◌≤◌};
 
-mod filling;
+mod filled_store;
 mod system;
 mod times;
 
-pub(crate) use filling::{fill, reopen, scatter};
+pub(crate) use filled_store::{fill, reopen, scatter};
 use oram_bytes::Bytes;
 use oram_geometry::Device;
 use oram_host::Server;

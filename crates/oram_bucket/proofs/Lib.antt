@@ -1,6 +1,6 @@
 pub mod KeystreamLemmas
-pub mod Spelling
+pub mod UniqueEncoding
 pub mod Slots
 pub mod SlotBySlot
-pub mod Decoding
+pub mod Decoder
 mod Rows

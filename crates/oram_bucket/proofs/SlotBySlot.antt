@@ -17,7 +17,7 @@ use Rattle.oram_bucket.specs.Cell.{Cell, IsRising}
 use Rattle.oram_bucket.specs.Bucket.{IsBlockOf, IsSpelling, spelling, slot_of, slot_len}
 use Rattle.oram_bucket.specs.Slots.{number_of, leaf_of, block_in, slot_at}
 use Rattle.oram_bucket.specs.Fault.{may_follow}
-use Rattle.oram_bucket.proofs.Spelling.{bytes_taken}
+use Rattle.oram_bucket.proofs.UniqueEncoding.{bytes_taken}
 use Rattle.oram_bucket.proofs.Slots.{IsRealSlot, IsDummySlot}
 
 -- the first k slots hold these blocks and then dummies, and `before` is the number of the last of these slots

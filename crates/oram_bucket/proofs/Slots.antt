@@ -16,7 +16,7 @@ use Rattle.oram_bucket.specs.Cell.{Cell}
 use Rattle.oram_bucket.specs.Bucket.{IsBlockOf, IsBucketOf, IsSpelling, spelling, slot_of, slot_len}
 use Rattle.oram_bucket.specs.Slots.{number_of, leaf_of, slot_at, number_before}
 use Rattle.oram_bucket.specs.Fault.{may_follow, fault_behind, slot_fault, first_fault}
-use Rattle.oram_bucket.proofs.Spelling.{IsSmall, length-slot, length-slots, small_blocks, HasFew}
+use Rattle.oram_bucket.proofs.UniqueEncoding.{IsSmall, length-slot, length-slots, small_blocks, HasFew}
 
 -- ---- the first of the faults
 

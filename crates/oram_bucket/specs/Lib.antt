@@ -8,5 +8,5 @@ pub mod Fault
 pub mod Keystream
 pub mod ChaChaLaws
 pub mod Cipher
-pub mod Reading
-pub mod Opening
+pub mod SealedBlocks
+pub mod OpenedBytes

@@ -3,8 +3,8 @@ ghost use Rattle.std.specs.Prelude.{◌≡◌, ◌+◌, ◌<◌, ◌++◌, lengt
 ghost use Rattle.oram_geometry.specs.Sizes.{trees_of, bucket_len};
 ghost use Rattle.oram_bucket.specs.Cell.{Cell};
 ghost use Rattle.oram_bucket.specs.Bucket.{IsBucketOf, spelling};
-ghost use Rattle.oram_bucket.specs.Reading.{Reads};
-ghost use Rattle.oram_bucket.specs.Opening.{IsOpened};
+ghost use Rattle.oram_bucket.specs.SealedBlocks.{Reads};
+ghost use Rattle.oram_bucket.specs.OpenedBytes.{IsOpened};
 
 use crate::block::Block;
 use crate::codec::{BucketFault, decode_bucket, encode_bucket, write_bucket};

@@ -11,7 +11,7 @@ use Rattle.oram_semantics.specs.declared.events.Reaction.{Reaction}
 use Rattle.oram_semantics.specs.declared.events.Reason.{Reason}
 use Rattle.oram_semantics.specs.declared.events.Submission.{Submission}
 use Rattle.oram_core.specs.Core.{IsSound}
-use Rattle.oram_core.specs.Doing.{done, failed_by, fetched_by, finished_by, stored_by, is_misled}
+use Rattle.oram_core.specs.PlainSteps.{done, failed_by, fetched_by, finished_by, stored_by, is_misled}
 use Rattle.oram_core.specs.Steps.{Heard}
 use Rattle.oram_core.proofs.Sound.{HasOldest, has_oldest}
 

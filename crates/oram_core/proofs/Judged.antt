@@ -3,7 +3,7 @@ use Rattle.std.proofs.Common.{◌≡◌, ◌≢◌, ℕ, ◌+◌, ◌*◌, ◌%�
 use Rattle.std.proofs.lemmas.Bool.Decides.{nat_tests}
 use Rattle.oram_geometry.specs.Sizes.{depth_of}
 use Rattle.oram_hash.specs.Path.{Path, HasLength, IsAccepted, IsTamperedAt}
-use Rattle.oram_bucket.specs.Reading.{Reads}
+use Rattle.oram_bucket.specs.SealedBlocks.{Reads}
 use Rattle.oram_tree.specs.Access.{IsLookup, IsNear, IsReadable}
 use Rattle.oram_tree.specs.State.{State as Tree}
 use Rattle.oram_semantics.specs.Answers.{is_refusal}
@@ -15,12 +15,12 @@ use Rattle.oram_semantics.specs.declared.events.Note.TheVariants.{Accepted, Refu
 use Rattle.oram_semantics.specs.declared.events.Reaction.{Reaction}
 use Rattle.oram_semantics.specs.declared.events.Reason.TheVariants.{Malformed, Tampered, HostRefused}
 use Rattle.oram_semantics.specs.declared.events.Submission.{Submission}
-use Rattle.oram_core.specs.Doing.{Done, done, failed_by, stored_by, is_misled}
-use Rattle.oram_core.specs.Judging.{IsReadableNow, IsReasonFor, IsUseless, IsUseOf, IsVerdict, LooksUp, answer_len, is_formed, path_now, reads_now, tree_now}
+use Rattle.oram_core.specs.PlainSteps.{Done, done, failed_by, stored_by, is_misled}
+use Rattle.oram_core.specs.AnswerMeaning.{IsReadableNow, IsReasonFor, IsUseless, IsUseOf, IsVerdict, LooksUp, answer_len, is_formed, path_now, reads_now, tree_now}
 use Rattle.oram_core.specs.Verdicts.{Tells, refusal_in}
 use Rattle.oram_core.specs.declared.verdicts.Verdict.{Verdict}
 use Rattle.oram_core.specs.declared.verdicts.Verdict.TheVariants as verdict
-use Rattle.oram_core.proofs.Hearing.{IsRefused, IsTreeAt, refused_so, not_refused}
+use Rattle.oram_core.proofs.AnswerVerdicts.{IsRefused, IsTreeAt, refused_so, not_refused}
 
 -- from the use of a path to the verdict on the answer
 pub use_told : (v : Scheme) (s : State) (bytes : List ℕ) (p : Path) (n : Note) → Tells v s bytes (verdict.Path p) → IsUseOf v s p n → IsVerdict v s bytes n

@@ -6,7 +6,7 @@ use Rattle.std.proofs.lemmas.List.Elements.{All-nil, All-replicate}
 use Rattle.std.proofs.lemmas.List.{append-nil, get_or_at, get_or_append_left, length-replicate}
 use Rattle.oram_geometry.specs.declared.Sizes.{Sizes}
 use Rattle.oram_geometry.specs.Sizes.{IsDevice, trees_of, depth_of, blocks_in}
-use Rattle.oram_geometry.proofs.Measuring.{trees_of-few}
+use Rattle.oram_geometry.proofs.DeviceSizes.{trees_of-few}
 use Rattle.oram_bucket.specs.Cipher.{Cipher, IsCipher}
 use Rattle.oram_bucket.specs.Bucket.{IsBlockOf}
 use Rattle.oram_bucket.specs.Cell.{Cell}
@@ -22,7 +22,7 @@ use Rattle.oram_semantics.specs.Nonces.{formatted, formatted_below, buckets_belo
 use Rattle.oram_semantics.specs.Scheme.{Scheme}
 use Rattle.oram_semantics.specs.State.{State, no_tree}
 use Rattle.oram_semantics.specs.declared.events.Submission.{Submission}
-use Rattle.oram_semantics.proofs.Beginnings.{begun_between, begun_within}
+use Rattle.oram_semantics.proofs.BrokenOffFormats.{begun_between, begun_within}
 use Rattle.oram_semantics.proofs.Bounds.{some_trees}
 use Rattle.oram_semantics.proofs.Formatting.{no_trees_made, one_more_made}
 use Rattle.oram_semantics.specs.Agree.{IsAllowed, TicketsFrom}

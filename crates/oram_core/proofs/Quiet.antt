@@ -16,7 +16,7 @@ use Rattle.oram_semantics.specs.declared.events.Note.TheVariants.{Accepted}
 use Rattle.oram_semantics.specs.declared.events.Reason.{Reason}
 use Rattle.oram_semantics.specs.declared.events.Submission.{Submission}
 use Rattle.oram_semantics.proofs.Others.{all_none, all_one}
-use Rattle.oram_core.specs.Doing.{Done, noted, fetch_of, first_message, sent_if_idle, accepted_by, stalled_by, resent_by, failed_by, fetched_by, finished_by}
+use Rattle.oram_core.specs.PlainSteps.{Done, noted, fetch_of, first_message, sent_if_idle, accepted_by, stalled_by, resent_by, failed_by, fetched_by, finished_by}
 
 -- what it shows of a step
 abbrev pub shown_by : Done → Shown

@@ -19,7 +19,7 @@ use Rattle.oram_semantics.specs.declared.events.Command.TheVariants.{Read, Write
 use Rattle.oram_semantics.specs.declared.events.Reason.{Reason}
 use Rattle.oram_semantics.specs.declared.events.Refusal.TheVariants as refusal
 use Rattle.oram_semantics.specs.declared.events.Submission.{Submission}
-use Rattle.oram_geometry.proofs.Measuring.{blocks_in-zero}
+use Rattle.oram_geometry.proofs.DeviceSizes.{blocks_in-zero}
 use Rattle.oram_semantics.specs.Agree.{IsAllowed}
 
 -- a block of tree 0 has no map entries

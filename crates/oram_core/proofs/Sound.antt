@@ -11,7 +11,7 @@ use Rattle.std.proofs.Math.Nat.{mod-lt, mul-le-mul}
 use Rattle.std.proofs.Math.Pow.{pow_mono}
 use Rattle.oram_geometry.specs.declared.Sizes.{Sizes}
 use Rattle.oram_geometry.specs.Sizes.{IsDevice, trees_of, depth_of, blocks_in, record_len_of}
-use Rattle.oram_geometry.proofs.Measuring.{trees_of-few}
+use Rattle.oram_geometry.proofs.DeviceSizes.{trees_of-few}
 use Rattle.oram_wire.specs.HostMessages.{fetch_body, store_body}
 use Rattle.oram_tree.specs.State.{State as Tree}
 use Rattle.oram_trace.specs.declared.entries.Entry.{Entry}
@@ -32,7 +32,7 @@ use Rattle.oram_semantics.specs.Agree.{IsAllowed, TicketsFrom}
 use Rattle.oram_semantics.specs.Progress.{Setting}
 use Rattle.oram_core.specs.Core.{IsTreeKept, IsStoreOf, IsAtWork, IsResting, AtWork, IsHealthy, IsReasonOf, IsWhole, IsSound, most_named}
 use Rattle.oram_core.proofs.Small.{named_none}
-use Rattle.oram_core.specs.Doing.{fetch_of, first_message, first_messages}
+use Rattle.oram_core.specs.PlainSteps.{fetch_of, first_message, first_messages}
 
 -- the leaf that a command fetches is one of the tree
 pub leaf_for-range : (d : Sizes) (i named : ℕ) (x : Submission) → named ≤ 2 ^ depth_of d i → leaf_for d i named x < 2 ^ depth_of d i

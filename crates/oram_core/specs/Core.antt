@@ -16,7 +16,7 @@ use Rattle.oram_semantics.specs.State.{State, failed_state, named_now, no_tree}
 use Rattle.oram_semantics.specs.declared.events.Reason.{Reason}
 use Rattle.oram_semantics.specs.declared.events.Reason.TheVariants.{Malformed, Tampered, HostRefused}
 use Rattle.oram_semantics.specs.declared.events.Submission.{Submission}
-use Rattle.oram_core.specs.Doing.{fetch_of}
+use Rattle.oram_core.specs.PlainSteps.{fetch_of}
 
 -- a core, as clauses see it
 pub record CoreValue (S : Type 0) : Type 0 where

@@ -1,9 +1,9 @@
 pub mod Core
 pub mod Parts
 pub mod Validity
-pub mod Doing
+pub mod PlainSteps
 pub mod Rooms
-pub mod Judging
+pub mod AnswerMeaning
 pub mod Verdicts
 pub mod Steps
 pub mod Formatting

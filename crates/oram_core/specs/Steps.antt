@@ -12,8 +12,8 @@ use Rattle.oram_semantics.specs.declared.events.Event.TheVariants.{Answer}
 use Rattle.oram_semantics.specs.declared.events.Note.TheVariants.{Taken, FailedNow}
 use Rattle.oram_semantics.specs.declared.events.Reason.{Reason}
 use Rattle.oram_semantics.specs.declared.events.Submission.{Submission}
-use Rattle.oram_core.specs.Doing.{Done, plain_step, fetched_by, finished_by}
-use Rattle.oram_core.specs.Judging.{IsVerdict}
+use Rattle.oram_core.specs.PlainSteps.{Done, plain_step, fetched_by, finished_by}
+use Rattle.oram_core.specs.AnswerMeaning.{IsVerdict}
 use Rattle.oram_wire.specs.HostMessages.{no_room_answer}
 
 abbrev pub did : Shown → State → Done

@@ -12,7 +12,7 @@ use Rattle.oram_semantics.specs.State.{State, named_now}
 use Rattle.oram_semantics.specs.declared.events.Submission.{Submission}
 use Rattle.oram_semantics.specs.declared.events.Reason.{Reason}
 use Rattle.oram_core.specs.Core.{AtWork, IsReasonOf, IsResting, IsStoreOf}
-use Rattle.oram_core.specs.Doing.{fetch_of}
+use Rattle.oram_core.specs.PlainSteps.{fetch_of}
 use Rattle.oram_core.specs.Parts.{Parts, state_of, submission_at, submissions_from}
 
 -- the table has an entry for each block of the last tree, and none that is too great for its leaves

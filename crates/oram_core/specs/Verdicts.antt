@@ -8,7 +8,7 @@ use Rattle.oram_semantics.specs.Content.{entry_tree}
 use Rattle.oram_semantics.specs.Messages.{requested}
 use Rattle.oram_semantics.specs.Scheme.{Scheme}
 use Rattle.oram_semantics.specs.State.{State, World}
-use Rattle.oram_core.specs.Judging.{path_now, tree_now, IsReasonFor}
+use Rattle.oram_core.specs.AnswerMeaning.{path_now, tree_now, IsReasonFor}
 use Rattle.oram_core.specs.declared.verdicts.Verdict.{Verdict}
 use Rattle.oram_core.specs.declared.verdicts.Verdict.TheVariants as verdict
 use Rattle.oram_wire.specs.HostMessages.{done_answer, no_room_answer, payload_answer}

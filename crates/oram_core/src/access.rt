@@ -17,8 +17,8 @@ ghost use Rattle.oram_semantics.specs.State.{World, status_in};
 ghost use Rattle.oram_semantics.specs.declared.events.Submission.{Submission};
 ghost use Rattle.oram_core.specs.Core.{IsPathStore, IsSameDevice, scheme_of};
 ghost use Rattle.oram_core.specs.Steps.{Heard};
-ghost use Rattle.oram_core.specs.Judging.{IsUseOf};
-ghost use Rattle.oram_core.specs.Doing.{done, failed_by, stored_by, is_misled};
+ghost use Rattle.oram_core.specs.AnswerMeaning.{IsUseOf};
+ghost use Rattle.oram_core.specs.PlainSteps.{done, failed_by, stored_by, is_misled};
 ghost use Rattle.oram_core.specs.Rooms.{IsRoom};
 
 use crate::machine::Core;

@@ -9,8 +9,8 @@ ghost use Rattle.oram_semantics.specs.Run.{shown_by};
 ghost use Rattle.oram_semantics.specs.State.{World, status_in};
 ghost use Rattle.oram_core.specs.Core.{IsReasonOf, IsSameDevice, scheme_of};
 ghost use Rattle.oram_core.specs.Steps.{Heard};
-ghost use Rattle.oram_core.specs.Judging.{IsVerdict};
-ghost use Rattle.oram_core.specs.Doing.{done, stalled_by, failed_by};
+ghost use Rattle.oram_core.specs.AnswerMeaning.{IsVerdict};
+ghost use Rattle.oram_core.specs.PlainSteps.{done, stalled_by, failed_by};
 ghost use Rattle.oram_wire.specs.HostMessages.{no_room_answer};
 
 use crate::machine::Core;

@@ -10,7 +10,7 @@ ghost use Rattle.oram_semantics.specs.Moves.{Fits, Moves, shows_in, fetch_at, le
 ghost use Rattle.oram_semantics.specs.Agree.{IsAllowed};
 ghost use Rattle.oram_core.specs.Core.{CoreValue, IsSound, IsSameDevice, scheme_of};
 ghost use Rattle.oram_core.specs.Steps.{Steps};
-ghost use Rattle.oram_core.specs.Doing.{is_idle, is_stalled, Done, plain_step, is_free_note, done, accepted_by, stalled_by, resent_by, noted, first_message};
+ghost use Rattle.oram_core.specs.PlainSteps.{is_idle, is_stalled, Done, plain_step, is_free_note, done, accepted_by, stalled_by, resent_by, noted, first_message};
 
 use crate::messages::MessageCopies;
 use crate::path_access::leaf_for;

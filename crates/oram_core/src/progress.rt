@@ -11,7 +11,7 @@ ghost use Rattle.oram_semantics.specs.State.{World, status_in};
 ghost use Rattle.oram_semantics.specs.declared.events.Submission.{Submission};
 ghost use Rattle.oram_core.specs.Core.{IsSameDevice, scheme_of};
 ghost use Rattle.oram_core.specs.Steps.{Heard};
-ghost use Rattle.oram_core.specs.Doing.{done, fetched_by, finished_by, first_message, fetch_of};
+ghost use Rattle.oram_core.specs.PlainSteps.{done, fetched_by, finished_by, first_message, fetch_of};
 
 use crate::machine::Core;
 use crate::messages::MessageCopies;

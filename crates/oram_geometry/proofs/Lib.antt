@@ -1,5 +1,5 @@
 pub mod Least
-pub mod Measuring
+pub mod DeviceSizes
 pub mod Meet
 pub mod Nodes
 pub mod Ranges

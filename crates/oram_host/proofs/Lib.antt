@@ -7,7 +7,7 @@ pub mod ImageTexts
 pub mod Rows
 pub mod Swapped
 pub mod RisingEntries
-pub mod Readings
+pub mod FieldReads
 pub mod ReadImages
 pub mod LoadedHosts
 pub mod Flipped

@@ -13,7 +13,7 @@ use Rattle.oram_host.specs.declared.images.ImageFault.TheVariants.{Content, Io, 
 use Rattle.oram_host.specs.Host.{Host, IsHost, IsKept, IsKeptTree, IsRecordOf, IsShape, Kept}
 use Rattle.oram_host.specs.Image.{entries_text, image, kept_text, record_text, tree_text}
 use Rattle.oram_host.specs.ImageReader.{after_end, after_letters, after_version, fault_number, IsFirstFault, host_in, is_shape, next_byte, next_bytes, next_entries, next_kept, next_number, next_record, next_tree, ◌>>=◌}
-use Rattle.oram_host.proofs.Readings.{ReadsAgain, bytes_again, entries_again, letters_again, number_again, version_again}
+use Rattle.oram_host.proofs.FieldReads.{ReadsAgain, bytes_again, entries_again, letters_again, number_again, version_again}
 use Rattle.oram_host.proofs.RisingEntries.{few_rising}
 
 both_hold : (a b : Bool) → a ≡ true → b ≡ true → (a && b) ≡ true

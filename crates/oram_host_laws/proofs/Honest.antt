@@ -21,7 +21,7 @@ use Rattle.oram_semantics.specs.declared.events.Reason.{Reason}
 use Rattle.oram_semantics.specs.declared.events.Submission.{Submission}
 use Rattle.oram_semantics.proofs.AgreeSteps.{agreeing_fits}
 use Rattle.oram_semantics.proofs.Bounds.{IsFit, fit_device}
-use Rattle.oram_semantics.proofs.Serving.{cores_serve, new_cores_serve}
+use Rattle.oram_semantics.proofs.ArrayService.{cores_serve, new_cores_serve}
 use Rattle.oram_host_laws.specs.Honest.{HeardOrNot, IsHonest}
 use Rattle.oram_host_laws.specs.HostRecords.{GoesOnHosted, Hosts, HostsBy, HostsWork}
 use Rattle.oram_host_laws.specs.Law.{HonestHostsServe, NewHostsServe}

@@ -13,15 +13,15 @@ use Rattle.oram_semantics.specs.declared.events.Reason.{Reason}
 use Rattle.oram_semantics.specs.declared.events.Reply.{Reply}
 use Rattle.oram_semantics.specs.declared.events.Submission.{Submission}
 use Rattle.oram_core.specs.Core.{CoreValue, IsSameDevice}
-use Rattle.oram_core.specs.Doing.{Done, finished_by}
+use Rattle.oram_core.specs.PlainSteps.{Done, finished_by}
 use Rattle.oram_core.specs.Steps.{Heard, IsNextFetched}
-use Rattle.oram_state.specs.Decoding.{IsSaved}
+use Rattle.oram_state.specs.DecodedCore.{IsSaved}
 use Rattle.oram_session.specs.Exchanges.{Delivery, IsAnswered, IsCutOff, IsGivenUp, IsSent}
 use Rattle.oram_session.specs.Outcome.{Outcome}
 use Rattle.oram_session.specs.Settled.{outstanding}
 use Rattle.oram_session.specs.Turns.{most_retries}
 use Rattle.oram_session.proofs.Resumed.{heard_count}
-use Rattle.oram_session.proofs.Steppings.{waits_outstanding}
+use Rattle.oram_session.proofs.CoreSteps.{waits_outstanding}
 use Rattle.oram_keep.specs.Keeping.{Deed, Does, DoesAll, IsCovered, IsHanded, at, replies_in, replies_of}
 use Rattle.oram_keep.specs.Keeping.Deed.{Keeps, Sends}
 use Rattle.oram_keep.specs.Ends.{HasRunOut, HasStalled, IsUnkept}

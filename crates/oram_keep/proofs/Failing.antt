@@ -11,7 +11,7 @@ use Rattle.oram_semantics.specs.declared.events.Command.TheVariants.{Read, Write
 use Rattle.oram_semantics.specs.declared.events.Reply.{Reply}
 use Rattle.oram_semantics.specs.declared.events.ReplyBody.TheVariants.{Failed}
 use Rattle.oram_semantics.specs.declared.events.Submission.{Submission}
-use Rattle.oram_core.specs.Doing.{Done, finished_by}
+use Rattle.oram_core.specs.PlainSteps.{Done, finished_by}
 use Rattle.oram_core.specs.Steps.{Heard}
 use Rattle.oram_session.specs.Honesty.{HasFailed}
 

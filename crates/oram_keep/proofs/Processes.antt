@@ -11,15 +11,15 @@ use Rattle.oram_semantics.specs.declared.events.Event.TheVariants.{Answer}
 use Rattle.oram_semantics.specs.declared.events.Note.TheVariants.{Taken}
 use Rattle.oram_semantics.specs.declared.events.Reply.{Reply}
 use Rattle.oram_semantics.specs.declared.events.Submission.{Submission}
-use Rattle.oram_semantics.proofs.Going.{steps_are_right}
-use Rattle.oram_core.specs.Doing.{Done as Did, fetched_by}
+use Rattle.oram_semantics.proofs.WholeRuns.{steps_are_right}
+use Rattle.oram_core.specs.PlainSteps.{Done as Did, fetched_by}
 use Rattle.oram_core.specs.Steps.{Heard, Steps, did}
 use Rattle.oram_session.specs.Exchanges.{Runs, events_of}
 use Rattle.oram_session.specs.Outcome.{Outcome}
 use Rattle.oram_session.specs.Settled.{IsUnderWay}
 use Rattle.oram_session.proofs.Honesty.{first_or}
 use Rattle.oram_session.proofs.Resumed.{reopened, resent, resent_under_way}
-use Rattle.oram_session.proofs.Steppings.{stalled}
+use Rattle.oram_session.proofs.CoreSteps.{stalled}
 use Rattle.oram_keep.specs.Keeping.{Deed, Does, DoesAll, IsFollowing, Moment}
 use Rattle.oram_keep.specs.Keeping.Deed.{Keeps, Sends}
 use Rattle.oram_keep.specs.Surviving.{EndsAmid, EndsIn}

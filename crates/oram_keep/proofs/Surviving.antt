@@ -19,7 +19,7 @@ use Rattle.oram_semantics.specs.Moves.{fetch_at, moved, world_after}
 use Rattle.oram_semantics.specs.Progress.{Status}
 use Rattle.oram_semantics.specs.Progress.Status.{Idle, Waiting, Stalling, Over}
 use Rattle.oram_semantics.specs.Run.{Shown, is_over, refusal_of}
-use Rattle.oram_semantics.specs.Serving.{ServesArray, array_after, reply_by}
+use Rattle.oram_semantics.specs.ArrayReplies.{ServesArray, array_after, reply_by}
 use Rattle.oram_semantics.specs.Scheme.{Scheme}
 use Rattle.oram_semantics.specs.State.{State, World, status_by, status_in}
 use Rattle.oram_semantics.specs.declared.events.Command.{Command}
@@ -30,7 +30,7 @@ use Rattle.oram_semantics.specs.declared.events.Refusal.{Refusal}
 use Rattle.oram_semantics.specs.declared.events.Reply.{Reply}
 use Rattle.oram_semantics.specs.declared.events.Submission.{Submission}
 use Rattle.oram_semantics.proofs.Bounds.{depth_small}
-use Rattle.oram_core.specs.Doing.{Done as Did, submitted_by}
+use Rattle.oram_core.specs.PlainSteps.{Done as Did, submitted_by}
 use Rattle.oram_core.specs.Steps.{Steps, did}
 use Rattle.oram_host_laws.specs.Honest.{IsHonest}
 use Rattle.oram_host_laws.specs.HostRecords.{GoesOnHosted, Hosts, HostsBy, HostsWork}
@@ -42,7 +42,7 @@ use Rattle.oram_session.specs.Outcome.{Outcome}
 use Rattle.oram_session.specs.Settled.{IsSettled, is_settled_by, outstanding}
 use Rattle.oram_session.specs.Turns.{most_retries}
 use Rattle.oram_session.proofs.Resumed.{reopened, resent}
-use Rattle.oram_session.proofs.Steppings.{retried_is, stalled}
+use Rattle.oram_session.proofs.CoreSteps.{retried_is, stalled}
 use Rattle.oram_session.proofs.Honesty.{Next, accepted, call_keeps, first_or, resting, sent_on, unsettled, waits_by}
 use Rattle.oram_keep.specs.Keeping.{Deed, Does, DoesAll, IsCovered, Moment, at, replies_of}
 use Rattle.oram_keep.specs.Keeping.Deed.{Keeps, Sends}

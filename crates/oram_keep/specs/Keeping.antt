@@ -6,8 +6,8 @@ use Rattle.oram_semantics.specs.Scheme.{Scheme}
 use Rattle.oram_semantics.specs.State.{State}
 use Rattle.oram_semantics.specs.declared.events.Reply.{Reply}
 use Rattle.oram_semantics.specs.declared.events.Submission.{Submission}
-use Rattle.oram_core.specs.Doing.{fetched_by}
-use Rattle.oram_state.specs.Decoding.{IsSaved}
+use Rattle.oram_core.specs.PlainSteps.{fetched_by}
+use Rattle.oram_state.specs.DecodedCore.{IsSaved}
 use Rattle.oram_session.specs.Exchanges.{Delivery, IsSent, IsAnswered}
 use Rattle.oram_session.specs.Outcome.{Outcome}
 use Rattle.oram_session.specs.Turns.{most_retries}

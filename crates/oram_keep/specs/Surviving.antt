@@ -5,7 +5,7 @@ use Rattle.oram_geometry.specs.Sizes.{IsDevice}
 use Rattle.oram_host.specs.Host.{Host}
 use Rattle.oram_semantics.specs.Blocks.{body_from}
 use Rattle.oram_semantics.specs.Events.{address_of}
-use Rattle.oram_semantics.specs.Serving.{array_after}
+use Rattle.oram_semantics.specs.ArrayReplies.{array_after}
 use Rattle.oram_semantics.specs.Scheme.{Scheme}
 use Rattle.oram_semantics.specs.State.{State}
 use Rattle.oram_semantics.specs.declared.events.Command.{Command}

@@ -4,7 +4,7 @@ ghost use Rattle.oram_semantics.specs.State.{State};
 ghost use Rattle.oram_semantics.specs.declared.events.Reply.{Reply};
 ghost use Rattle.oram_semantics.specs.declared.events.ReplyBody.{ReplyBody};
 ghost use Rattle.oram_core.specs.Core.{IsSameDevice, scheme_of};
-ghost use Rattle.oram_core.specs.Doing.{done};
+ghost use Rattle.oram_core.specs.PlainSteps.{done};
 ghost use Rattle.oram_session.specs.Honesty.{HasFailed};
 ghost use Rattle.oram_session.specs.Settled.{IsBodyOf, IsSettled, IsUnderWay};
 ghost use Rattle.oram_keep.specs.Asking.{HasRunOutAt, HasStalledAt, IsAccepted, HasGivenAll, IsCarriedOut, IsSame, IsUnkeptAt};

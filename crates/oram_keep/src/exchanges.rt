@@ -5,7 +5,7 @@ ghost use Rattle.oram_semantics.specs.State.{State, status_in};
 ghost use Rattle.oram_semantics.specs.declared.events.Reply.{Reply};
 ghost use Rattle.oram_semantics.specs.declared.events.ReplyBody.{ReplyBody};
 ghost use Rattle.oram_core.specs.Core.{IsSameDevice, scheme_of};
-ghost use Rattle.oram_core.specs.Doing.{done};
+ghost use Rattle.oram_core.specs.PlainSteps.{done};
 ghost use Rattle.oram_core.specs.Steps.{Heard};
 ghost use Rattle.oram_session.specs.Exchanges.{Delivery, IsAnswered, IsCutOff, IsGivenUp, IsSent};
 ghost use Rattle.oram_session.specs.Honesty.{HasFailed};

@@ -1,6 +1,6 @@
 //! A core is kept.
 ghost use Rattle.std.specs.Prelude.{◌≡◌, ◌⊎◌, ◌%◌, ◌<◌, ◌==◌, ◌&&◌, ◌||◌, not, false, true, [], ℕ, List, length, IfErr, IsErrOf, OnOk};
-ghost use Rattle.oram_state.specs.Decoding.{IsSaved};
+ghost use Rattle.oram_state.specs.DecodedCore.{IsSaved};
 
 use crate::faults::KeepFault;
 use crate::keeper::{Keeper, Unkept};

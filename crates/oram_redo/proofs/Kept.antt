@@ -7,7 +7,7 @@ use Rattle.oram_redo.specs.declared.file_pair.FileKind.{FileKind}
 use Rattle.oram_redo.specs.declared.file_pair.FileKind.TheVariants.{Records, Log}
 use Rattle.oram_redo.specs.declared.memory.Range.{Range}
 use Rattle.oram_redo.specs.declared.memory.Snapshot.{Snapshot}
-use Rattle.oram_redo.proofs.Tearing.{torn_not, wrote_torn, leaves_torn}
+use Rattle.oram_redo.proofs.TornWrites.{torn_not, wrote_torn, leaves_torn}
 
 pub outside_more : (rs : List Range) (r : Range) (file : FileKind) (i : ℕ) → IsOutside rs file i → (r.file ≡ file → (i < r.at ⊎ r.at + r.len ≤ i)) → IsOutside (rs ++ r ∷ []) file i
 outside_more [] r file i out here = (here, tt)

@@ -9,7 +9,7 @@ use Rattle.oram_redo.specs.declared.file_pair.FileKind.TheVariants.{Records, Log
 use Rattle.oram_redo.proofs.Bytes.{has_front}
 use Rattle.oram_redo.proofs.Heal.{put_all_heals}
 use Rattle.oram_redo.proofs.Logs.{entry_gate}
-use Rattle.oram_redo.proofs.Reading.{all_read}
+use Rattle.oram_redo.proofs.LogReads.{all_read}
 
 pub logs_are_one : (bounds : Bounds) (ps qs : List Patch) (log : Content) → IsLog bounds ps log → IsLog bounds qs log → ps ≡ qs
 logs_are_one bounds ps qs log p q =

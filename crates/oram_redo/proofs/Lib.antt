@@ -7,12 +7,12 @@ mod Outcomes
 pub mod Smears
 pub mod Settled
 pub mod Commit
-pub mod Reading
+pub mod LogReads
 pub mod Replay
 pub mod Recovered
 pub mod Memories
 pub mod Kept
 pub mod LawProofs
-pub mod Tearing
+pub mod TornWrites
 pub mod Recorded
 pub mod Rows

@@ -8,7 +8,7 @@ use Rattle.oram_redo.specs.System.{put_in, seen_after, is_same, ranges_of_other,
 use Rattle.oram_redo.specs.declared.file_pair.FileKind.{FileKind}
 use Rattle.oram_redo.specs.declared.file_pair.FileKind.TheVariants.{Records, Log}
 use Rattle.oram_redo.specs.declared.memory.Range.{Range}
-use Rattle.oram_redo.proofs.Tearing.{torn_not, wrote_torn, leaves_torn}
+use Rattle.oram_redo.proofs.TornWrites.{torn_not, wrote_torn, leaves_torn}
 
 pub wrote_put : (file : FileKind) (at : ℕ) (bytes : List ℕ) (seen : Contents) → Wrote file at bytes seen (put_in file at bytes seen)
 wrote_put Records at bytes seen = record { there = λ i. refl; other = λ i. refl }

@@ -10,7 +10,7 @@ use Rattle.oram_redo.specs.declared.recovery.Entry.{Entry}
 use Rattle.oram_redo.specs.declared.file_pair.FileKind.TheVariants.{Records, Log}
 use Rattle.oram_redo.proofs.Heal.{put_heals, put_all-append, spares-append}
 use Rattle.oram_redo.proofs.Moments.{same_content, goes_on, then_leaves}
-use Rattle.oram_redo.proofs.Reading.{Replayed, patch_at, next_patch, opens_more, entry_along}
+use Rattle.oram_redo.proofs.LogReads.{Replayed, patch_at, next_patch, opens_more, entry_along}
 use Rattle.oram_redo.proofs.Smears.{smears_more}
 
 module _ (bounds : Bounds) (seen0 seen1 : Contents) (at : ℕ) (found : Entry) (bytes : List ℕ) (log_same : Agrees (seen1 Log) (seen0 Log)) (so_far : Replayed bounds seen0 seen1 at)

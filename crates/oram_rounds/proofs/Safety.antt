@@ -17,7 +17,7 @@ use Rattle.oram_semantics.specs.declared.events.Reason.{Reason}
 use Rattle.oram_semantics.specs.declared.events.Reply.{Reply}
 use Rattle.oram_semantics.specs.declared.events.Submission.{Submission}
 use Rattle.oram_tree.specs.Content.{node_count}
-use Rattle.oram_core.specs.Doing.{Done as Did, lost_by, plain_step, retried_by}
+use Rattle.oram_core.specs.PlainSteps.{Done as Did, lost_by, plain_step, retried_by}
 use Rattle.oram_core.specs.Steps.{Steps, did}
 use Rattle.oram_host_laws.specs.Honest.{IsHonest, KeepsAll}
 use Rattle.oram_host_laws.specs.HostRecords.{HostsBy, HostsWork}

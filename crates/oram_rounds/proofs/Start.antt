@@ -8,7 +8,7 @@ use Rattle.oram_semantics.specs.Progress.{Status}
 use Rattle.oram_semantics.specs.Progress.Status.{Idle, Over, Stalling, Waiting}
 use Rattle.oram_semantics.specs.Run.{is_over, refusal_of}
 use Rattle.oram_semantics.specs.Scheme.{Scheme}
-use Rattle.oram_semantics.specs.Serving.{array_after}
+use Rattle.oram_semantics.specs.ArrayReplies.{array_after}
 use Rattle.oram_semantics.specs.State.{State, status_by, status_in}
 use Rattle.oram_semantics.specs.declared.events.Command.{Command}
 use Rattle.oram_semantics.specs.declared.events.Event.TheVariants.{Submit}
@@ -16,7 +16,7 @@ use Rattle.oram_semantics.specs.declared.events.Note.{Note}
 use Rattle.oram_semantics.specs.declared.events.Refusal.{Refusal}
 use Rattle.oram_semantics.specs.declared.events.Reason.{Reason}
 use Rattle.oram_semantics.specs.declared.events.Submission.{Submission}
-use Rattle.oram_core.specs.Doing.{Done as Did, submitted_by}
+use Rattle.oram_core.specs.PlainSteps.{Done as Did, submitted_by}
 use Rattle.oram_core.specs.Steps.{Steps, did}
 use Rattle.oram_host_laws.specs.Honest.{IsHonest, KeepsAll}
 use Rattle.oram_host_laws.specs.HostRecords.{HostsBy}
@@ -69,8 +69,8 @@ module _ (may_lie : Bool) (v : Scheme) (device : IsDevice v.device) where
               before,
               served,
               ap (λ (e : Did). after_all v.device e.state.queue before) same ∙ is.queue before
-              ∙ ap (λ (n : Note). array_if n v.device a.command (after_all v.device s.queue before)) (sym (ap (λ (e : Did). e.note) same))
-              ∙ ap (array_if a.shown.note v.device a.command) held.2,
+                  ∙ ap (λ (n : Note). array_if n v.device a.command (after_all v.device s.queue before)) (sym (ap (λ (e : Did). e.note) same))
+                  ∙ ap (array_if a.shown.note v.device a.command) held.2,
             )
         | inr failed ↦ inr (failed.0, (failed.1.0, ap (λ (e : Did). e.state.failure) same ∙ is.failure ∙ failed.1.1))
       ]
@@ -80,12 +80,11 @@ module _ (may_lie : Bool) (v : Scheme) (device : IsDevice v.device) where
     all_submitted : (asked : List Asked) (p q : Process B K) (host : Host) (array : ℕ → List ℕ) → FoldsTo {P = Process B K} (Submits v) p asked q
         → WillHoldAfter may_lie v p.core (waiting p.link) host array
         → WillHoldAfter may_lie v q.core (waiting q.link) host (array_with v.device asked array) × (q.link ≡ p.link) × (q.keeper ≡ p.keeper)
-    all_submitted [] p q host array same live =
-        (
-          subst (λ (r : Process B K). WillHoldAfter may_lie v r.core (waiting r.link) host array) same live,
-          sym (ap (λ (r : Process B K). r.link) same),
-          sym (ap (λ (r : Process B K). r.keeper) same),
-        )
+    all_submitted [] p q host array same live = (
+      subst (λ (r : Process B K). WillHoldAfter may_lie v r.core (waiting r.link) host array) same live,
+      sym (ap (λ (r : Process B K). r.link) same),
+      sym (ap (λ (r : Process B K). r.keeper) same),
+    )
     all_submitted (a ∷ asked) p q host array all live =
         let mid : Process B K = all.0 in
         let now : ℕ → List ℕ = array_if a.shown.note v.device a.command array in

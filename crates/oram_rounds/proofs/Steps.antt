@@ -7,12 +7,12 @@ use Rattle.oram_semantics.specs.Progress.{Status}
 use Rattle.oram_semantics.specs.Progress.Status.{Waiting}
 use Rattle.oram_semantics.specs.Run.{Shown}
 use Rattle.oram_semantics.specs.Scheme.{Scheme}
-use Rattle.oram_semantics.specs.Serving.{ServesArray, array_after}
+use Rattle.oram_semantics.specs.ArrayReplies.{ServesArray, array_after}
 use Rattle.oram_semantics.specs.State.{State, World, status_in}
 use Rattle.oram_semantics.specs.declared.events.Event.{Event}
 use Rattle.oram_semantics.specs.declared.events.Reply.{Reply}
 use Rattle.oram_semantics.specs.declared.events.Submission.{Submission}
-use Rattle.oram_core.specs.Doing.{Done as Did, plain_step, stalled_by}
+use Rattle.oram_core.specs.PlainSteps.{Done as Did, plain_step, stalled_by}
 use Rattle.oram_core.specs.Steps.{Heard, Steps, did}
 use Rattle.oram_host_laws.specs.Honest.{IsHonest}
 use Rattle.oram_host_laws.specs.HostRecords.{GoesOnHosted}
@@ -22,7 +22,7 @@ use Rattle.oram_host_laws.proofs.AnyHost.{lying_hosts_fail}
 use Rattle.oram_session.specs.Exchanges.{event_of, is_stall}
 use Rattle.oram_session.specs.Honesty.{IsHeardCall, IsHonestCall}
 use Rattle.oram_session.specs.Outcome.{Outcome}
-use Rattle.oram_session.proofs.Steppings.{heard_is, stalled}
+use Rattle.oram_session.proofs.CoreSteps.{heard_is, stalled}
 use Rattle.oram_rounds.specs.Service.{AreReplied, IsServed, Waiting as Waits}
 
 rests_same : (x y : Submission) (p q : List Submission) → x ∷ p ≡ y ∷ q → (x ≡ y) × (p ≡ q)

@@ -5,7 +5,7 @@ use Rattle.std.specs.List.{flat_map}
 use Rattle.oram_wire.specs.FrameStream.{frame}
 use Rattle.oram_semantics.specs.Scheme.{Scheme}
 use Rattle.oram_semantics.specs.State.{State}
-use Rattle.oram_state.specs.Decoding.{IsSaved}
+use Rattle.oram_state.specs.DecodedCore.{IsSaved}
 
 -- the number of STOREs in four bytes, and each STORE as a frame
 abbrev pub stores_text : List (List ℕ) → List ℕ

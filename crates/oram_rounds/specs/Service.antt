@@ -5,7 +5,7 @@ use Rattle.oram_geometry.specs.declared.Sizes.{Sizes}
 use Rattle.oram_host.specs.Host.{Host}
 use Rattle.oram_semantics.specs.Law.{IsServing}
 use Rattle.oram_semantics.specs.Scheme.{Scheme}
-use Rattle.oram_semantics.specs.Serving.{array_after, reply_by}
+use Rattle.oram_semantics.specs.ArrayReplies.{array_after, reply_by}
 use Rattle.oram_semantics.specs.State.{State, World}
 use Rattle.oram_semantics.specs.declared.events.Reply.{Reply}
 use Rattle.oram_semantics.specs.declared.events.Submission.{Submission}

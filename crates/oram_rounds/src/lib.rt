@@ -18,7 +18,7 @@ mod overlay;
 mod round_link;
 
 pub use batch::BatchLink;
-pub use keeper::{Keeper, Unkept};
+pub use keeper::{KeepError, Keeper};
 pub use law::{
     acts_are_safe, begun_is_safe, calls_are_of_the_host_later, ends_are_safe, held_is_safe,
     one_waits_example, replies_are_the_arrays, submitted_is_safe,

@@ -18,7 +18,7 @@ use Rattle.oram_semantics.specs.declared.events.Command.TheVariants.{Read, Write
 use Rattle.oram_semantics.specs.declared.events.Submission.{Submission}
 use Rattle.oram_semantics.proofs.Bounds.{HasEntries}
 use Rattle.oram_semantics.proofs.Maps.{block_after-suc, above, leaf_small}
-use Rattle.oram_semantics.proofs.Agreeing.{next_is_named}
+use Rattle.oram_semantics.proofs.AgreedFetches.{next_is_named}
 use Rattle.oram_semantics.proofs.MapEntries.{entry_here, entry_there, length-edit}
 
 -- a good answer to the fetch of tree i, at the block a, with what was found there

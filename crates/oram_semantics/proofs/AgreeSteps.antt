@@ -23,9 +23,9 @@ use Rattle.oram_semantics.specs.declared.events.Event.TheVariants.{Submit, Answe
 use Rattle.oram_semantics.specs.declared.events.Refusal.{Refusal}
 use Rattle.oram_semantics.specs.declared.events.Note.TheVariants.{Refused, Unexpected}
 use Rattle.oram_semantics.specs.declared.events.Submission.{Submission}
-use Rattle.oram_geometry.proofs.Measuring.{blocks_in-zero}
+use Rattle.oram_geometry.proofs.DeviceSizes.{blocks_in-zero}
 use Rattle.oram_semantics.proofs.Bounds.{IsFit, address_small}
-use Rattle.oram_semantics.proofs.Agreeing.{agreeing_ready}
+use Rattle.oram_semantics.proofs.AgreedFetches.{agreeing_ready}
 use Rattle.oram_semantics.proofs.AgreeOn.{agrees_on}
 use Rattle.oram_semantics.proofs.AgreeKept.{agrees_kept, agrees_finished, agrees_fetched, named_kept}
 use Rattle.oram_semantics.proofs.Submitted.{passed}

@@ -3,7 +3,7 @@ use Rattle.std.proofs.Common.{◌≡◌, ℕ, zero, suc, Bool, true, false, cond
 use Rattle.oram_geometry.specs.declared.Sizes.{Sizes}
 use Rattle.oram_geometry.specs.Sizes.{IsDevice, trees_of, blocks_in, level_for, depth_of, fanout, address_in}
 use Rattle.oram_geometry.specs.Least.{least_from}
-use Rattle.oram_geometry.proofs.Measuring.{address_in-below, address_in-zero, blocks_in-zero}
+use Rattle.oram_geometry.proofs.DeviceSizes.{address_in-below, address_in-zero, blocks_in-zero}
 
 least_low : (p : ℕ → Bool) (at fuel : ℕ) → at ≤ least_from p at fuel
 unfolding least_from

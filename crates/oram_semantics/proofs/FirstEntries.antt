@@ -6,9 +6,9 @@ use Rattle.std.proofs.lemmas.Nat.{div_below}
 use Rattle.oram_geometry.specs.declared.Sizes.{Sizes}
 use Rattle.oram_geometry.specs.Sizes.{trees_of, leaf_of, address_in}
 use Rattle.oram_trace.specs.Tape.{entry, greatest_below, place_after, same_block, place, tree_at, ticket_at}
-use Rattle.oram_trace.specs.Rearranging.{tape_len}
+use Rattle.oram_trace.specs.TapeRearrangement.{tape_len}
 use Rattle.oram_trace.proofs.Search.{greatest_below-zero, greatest_below-suc}
-use Rattle.oram_trace.proofs.Placing.{place-within}
+use Rattle.oram_trace.proofs.TreePlaces.{place-within}
 use Rattle.oram_semantics.proofs.Bounds.{some_trees}
 
 -- the first n of two lists are the same

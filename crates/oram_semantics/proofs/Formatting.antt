@@ -16,7 +16,7 @@ use Rattle.sha2.specs.Sha256.{sha256}
 use Rattle.oram_hash.specs.Record.{HoldsDigests, no_digest, sealed_part}
 use Rattle.oram_hash.specs.Tree.{IsStored}
 use Rattle.oram_bucket.specs.Cell.{Cell}
-use Rattle.oram_bucket.specs.Reading.{Reads}
+use Rattle.oram_bucket.specs.SealedBlocks.{Reads}
 use Rattle.oram_tree.specs.Content.{Map, HasContent, Holds, no_blocks, node_count}
 use Rattle.oram_tree.specs.State.{State as Tree, IsStoredWith}
 use Rattle.oram_semantics.specs.Scheme.{Scheme}

@@ -8,7 +8,7 @@ use Rattle.std.proofs.lemmas.Nat.{from_be_bytes-to_be_bytes_4, div-add-mod', mod
 use Rattle.std.proofs.lemmas.Bool.Decides.{nat_tests, eqb_tells}
 use Rattle.oram_geometry.specs.declared.Sizes.{Sizes}
 use Rattle.oram_geometry.specs.Sizes.{fanout, leaf_of, depth_of}
-use Rattle.oram_geometry.proofs.Measuring.{address_in-next, address_in-zero}
+use Rattle.oram_geometry.proofs.DeviceSizes.{address_in-next, address_in-zero}
 use Rattle.oram_semantics.proofs.Bounds.{HasEntries, depth_small}
 use Rattle.oram_semantics.specs.Events.{address_of, array_at, bytes_left, bytes_of, changes}
 use Rattle.oram_semantics.specs.Content.{block_of, new_leaf, newest_in, named_in, data_in, content_after}

@@ -5,7 +5,7 @@ use Rattle.oram_geometry.specs.Path.{node_on}
 use Rattle.oram_geometry.specs.Sizes.{trees_of, level_for, blocks_in, record_len_of}
 use Rattle.oram_geometry.specs.Least.{least_from}
 use Rattle.oram_trace.specs.Tape.{greatest_below}
-use Rattle.oram_trace.specs.Rearranging.{nth_place, places_of, shown_places, rest_places, arranged_places, ShowsAlike}
+use Rattle.oram_trace.specs.TapeRearrangement.{nth_place, places_of, shown_places, rest_places, arranged_places, ShowsAlike}
 use Rattle.oram_trace.proofs.Rearranged.{IsRearrangement-from, ShowsAlike-from}
 use Rattle.oram_wire.specs.HostMessages.{fetch_body, put_body, store_body}
 use Rattle.oram_hash.specs.Path.{record_at}

@@ -10,7 +10,7 @@ use Rattle.oram_semantics.specs.declared.events.Reason.{Reason}
 use Rattle.oram_semantics.specs.declared.events.Submission.{Submission}
 use Rattle.oram_semantics.proofs.Bounds.{IsFit, fit_device}
 use Rattle.oram_semantics.proofs.Formatting.{formatted_holds}
-use Rattle.oram_semantics.proofs.Going.{new_follows, one_step}
+use Rattle.oram_semantics.proofs.WholeRuns.{new_follows, one_step}
 use Rattle.oram_semantics.proofs.Follows.{FollowsAt, Follows, stage_few}
 use Rattle.oram_semantics.proofs.Counts.{accepted_len, answered_is, status_ends, status_is}
 

@@ -5,7 +5,7 @@ use Rattle.std.proofs.lemmas.List.{map-append, length-map}
 use Rattle.oram_geometry.specs.declared.Sizes.{Sizes}
 use Rattle.oram_geometry.specs.Sizes.{trees_of}
 use Rattle.oram_trace.specs.Tape.{entry}
-use Rattle.oram_trace.specs.Rearranging.{tape_len, rearranged_tape, ShowsAlike}
+use Rattle.oram_trace.specs.TapeRearrangement.{tape_len, rearranged_tape, ShowsAlike}
 use Rattle.oram_semantics.specs.Events.{address_of, addresses, tape}
 use Rattle.oram_semantics.specs.Progress.{Setting, Step, accepted, sent, progress, entries, entry_at, submission_of}
 use Rattle.oram_semantics.specs.Run.{Shown, step_of, AllRight, IsRight, AskFor, SendsRight, entries_sent, from_to, is_resent}
@@ -16,7 +16,7 @@ use Rattle.oram_semantics.specs.declared.events.Submission.{Submission}
 use Rattle.oram_semantics.proofs.Counts.{accepted_cons, sent_cons}
 use Rattle.oram_semantics.proofs.FirstEntries.{AgreeBelow, entry_same, start_short, start_agrees}
 use Rattle.oram_semantics.proofs.Alike.{AreOneScheme, asks_alike, newest_alike}
-use Rattle.oram_semantics.proofs.Rising.{takes, good_rises, brings, Adds, adds}
+use Rattle.oram_semantics.proofs.Pasts.{takes, good_rises, brings, Adds, adds}
 
 one_more_by : (b : Bool) (xs ys : List Submission) → (more : List Submission) × ((if b then xs ++ ys else xs) ≡ xs ++ more)
 one_more_by true xs ys = (ys, refl)

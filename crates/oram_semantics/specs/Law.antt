@@ -11,7 +11,7 @@ use Rattle.oram_semantics.specs.State.{State, World, AllStand, status_in}
 use Rattle.oram_semantics.specs.Formatting.{IsFormatted}
 use Rattle.oram_semantics.specs.Moves.{Moves, Fits, shows_in, moved, world_after}
 use Rattle.oram_semantics.specs.Agree.{Agrees, IsOrderly}
-use Rattle.oram_semantics.specs.Serving.{ServesArray, HasServed}
+use Rattle.oram_semantics.specs.ArrayReplies.{ServesArray, HasServed}
 use Rattle.oram_semantics.specs.declared.events.Event.{Event}
 
 -- The promise of one step: in each world that the core fits, and unless the answer shows two records with the same

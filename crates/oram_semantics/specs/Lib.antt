@@ -12,6 +12,6 @@ pub mod Formatting
 pub mod Blocks
 pub mod Moves
 pub mod Agree
-pub mod Serving
+pub mod ArrayReplies
 pub mod Law
 pub mod TwoWorlds

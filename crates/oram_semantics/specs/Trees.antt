@@ -5,7 +5,7 @@ use Rattle.oram_geometry.specs.Path.{node_on}
 use Rattle.oram_hash.specs.Record.{sealed_part}
 use Rattle.oram_bucket.specs.Cell.{Cell}
 use Rattle.oram_bucket.specs.Bucket.{spelling}
-use Rattle.oram_bucket.specs.Reading.{Reads}
+use Rattle.oram_bucket.specs.SealedBlocks.{Reads}
 use Rattle.oram_stash.specs.Eviction.{IsGreedy, listed}
 use Rattle.oram_tree.specs.Content.{Map, HasContent}
 use Rattle.oram_tree.specs.State.{State as Tree, IsStoredWith}

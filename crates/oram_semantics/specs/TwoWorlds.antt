@@ -1,7 +1,7 @@
 -- Two runs whose commands go to different addresses, and what the host sees of them.
 use Rattle.std.specs.Prelude.{◌≡◌, ℕ, false, List, [], ◌∷◌, length, take, map}
 use Rattle.std.specs.Io.{StartsWith}
-use Rattle.oram_trace.specs.Rearranging.{tape_len, rearranged_tape, ShowsAlike}
+use Rattle.oram_trace.specs.TapeRearrangement.{tape_len, rearranged_tape, ShowsAlike}
 use Rattle.oram_semantics.specs.Events.{addresses, tape}
 use Rattle.oram_semantics.specs.Progress.{Setting, Step, accepted}
 use Rattle.oram_semantics.specs.Run.{Shown, step_of, shows_pair, AllRight}

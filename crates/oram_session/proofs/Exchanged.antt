@@ -11,11 +11,11 @@ use Rattle.oram_semantics.specs.State.{State, status_in}
 use Rattle.oram_semantics.specs.declared.events.Event.{Event}
 use Rattle.oram_semantics.specs.declared.events.Event.TheVariants.{Retry}
 use Rattle.oram_semantics.specs.declared.events.Reply.{Reply}
-use Rattle.oram_core.specs.Doing.{Done}
+use Rattle.oram_core.specs.PlainSteps.{Done}
 use Rattle.oram_core.specs.Steps.{Steps}
 use Rattle.oram_session.specs.Exchanges.{Delivery, Runs, event_of, is_stall, retried, IsSent, IsCutOff}
 use Rattle.oram_session.specs.Outcome.{Outcome}
-use Rattle.oram_session.proofs.Steppings.{stalled, retried_is, waits_outstanding}
+use Rattle.oram_session.proofs.CoreSteps.{stalled, retried_is, waits_outstanding}
 
 pub Runs-append : (v : Scheme) (s t u : State) (es fs : List Event) (rs qs : List Reply) → Runs v s es rs t → Runs v t fs qs u → Runs v s (es ++ fs) (rs ++ qs) u
 Runs-append v s t u [] fs rs qs a b = subst (λ (xs : List Reply). Runs v s fs (xs ++ qs) u) (sym a.0) (subst (λ (w : State). Runs v w fs qs u) (sym a.1) b)

@@ -18,7 +18,7 @@ use Rattle.oram_semantics.specs.Moves.{moved, world_after}
 use Rattle.oram_semantics.specs.Progress.{Setting, Status}
 use Rattle.oram_semantics.specs.Progress.Status.{Idle, Waiting, Stalling, Over}
 use Rattle.oram_semantics.specs.Run.{Shown, is_over, is_waiting, refusal_of}
-use Rattle.oram_semantics.specs.Serving.{ServesArray, array_after, reply_by}
+use Rattle.oram_semantics.specs.ArrayReplies.{ServesArray, array_after, reply_by}
 use Rattle.oram_semantics.specs.Scheme.{Scheme}
 use Rattle.oram_semantics.specs.State.{State, World, status_by, status_in}
 use Rattle.oram_semantics.specs.declared.events.Command.{Command}
@@ -29,7 +29,7 @@ use Rattle.oram_semantics.specs.declared.events.Refusal.{Refusal}
 use Rattle.oram_semantics.specs.declared.events.Refusal.TheVariants.{BadAddress, BadLength, BadWords, Busy, Exhausted, Failed}
 use Rattle.oram_semantics.specs.declared.events.Reply.{Reply}
 use Rattle.oram_semantics.specs.declared.events.Submission.{Submission}
-use Rattle.oram_core.specs.Doing.{Done as Did, submitted_by}
+use Rattle.oram_core.specs.PlainSteps.{Done as Did, submitted_by}
 use Rattle.oram_core.specs.Steps.{Steps, Heard, did}
 use Rattle.oram_host_laws.specs.Honest.{IsHonest, Takes}
 use Rattle.oram_host_laws.specs.HostRecords.{GoesOnHosted, Hosts, HostsBy, HostsWork}
@@ -47,7 +47,7 @@ use Rattle.oram_session.specs.Requests.{command_of, session_reply}
 use Rattle.oram_session.specs.Settled.{IsSettled, is_settled_by}
 use Rattle.oram_session.specs.Turns.{Turn, IsReply, IsServed, IsTurn, most_retries}
 use Rattle.oram_session.specs.declared.link.LinkFault.TheVariants.{Io}
-use Rattle.oram_session.proofs.Steppings.{heard_is, retried_is, stalled}
+use Rattle.oram_session.proofs.CoreSteps.{heard_is, retried_is, stalled}
 
 -- the first of a list, or else this
 abbrev pub first_or : {X : Type 0} → List X → X → X

@@ -1,7 +1,7 @@
 pub mod Words
 pub mod Formatted
 pub mod Looped
-pub mod Steppings
+pub mod CoreSteps
 pub mod Exchanged
 pub mod Resumed
 pub mod Turned

@@ -20,12 +20,12 @@ use Rattle.oram_semantics.specs.declared.events.Note.TheVariants.{Unexpected}
 use Rattle.oram_semantics.specs.declared.events.Reason.{Reason}
 use Rattle.oram_semantics.specs.declared.events.Reply.{Reply}
 use Rattle.oram_semantics.specs.declared.events.Submission.{Submission}
-use Rattle.oram_core.specs.Doing.{Done, plain_step, noted, lost_by, stalled_by, resent_by, finished_by, is_free_note}
+use Rattle.oram_core.specs.PlainSteps.{Done, plain_step, noted, lost_by, stalled_by, resent_by, finished_by, is_free_note}
 use Rattle.oram_core.specs.Steps.{Steps, Heard, did}
 use Rattle.oram_session.specs.Exchanges.{Delivery, Runs, IsSent, IsAnswered, AllSent, AllSentFrom, retries_after}
 use Rattle.oram_session.specs.Outcome.{Outcome}
 use Rattle.oram_session.specs.Settled.{is_settled_by, IsSettled, IsUnderWay, IsBodyOf}
-use Rattle.oram_session.proofs.Steppings.{still_waits, settled_over}
+use Rattle.oram_session.proofs.CoreSteps.{still_waits, settled_over}
 
 -- the core learns that it was reopened, and sends its message again
 

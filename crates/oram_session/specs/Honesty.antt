@@ -14,7 +14,7 @@ use Rattle.oram_host.specs.Service.{Serves}
 use Rattle.oram_semantics.specs.Blocks.{body_from}
 use Rattle.oram_semantics.specs.Events.{address_of, refusal_number}
 use Rattle.oram_semantics.specs.Law.{IsServing}
-use Rattle.oram_semantics.specs.Serving.{array_after}
+use Rattle.oram_semantics.specs.ArrayReplies.{array_after}
 use Rattle.oram_semantics.specs.Scheme.{Scheme}
 use Rattle.oram_semantics.specs.State.{State, World}
 use Rattle.oram_semantics.specs.declared.events.Command.{Command}

@@ -10,7 +10,7 @@ use Rattle.oram_semantics.specs.declared.events.Note.{Note}
 use Rattle.oram_semantics.specs.declared.events.Note.TheVariants as note
 use Rattle.oram_semantics.specs.declared.events.ReplyBody.{ReplyBody}
 use Rattle.oram_semantics.specs.declared.events.ReplyBody.TheVariants.{Data, Done, Failed}
-use Rattle.oram_core.specs.Doing.{Done as Did}
+use Rattle.oram_core.specs.PlainSteps.{Done as Did}
 
 -- whether no command waits for an answer: the core is idle, or the device has failed
 abbrev pub is_settled_by : Status → Bool

@@ -6,7 +6,7 @@ ghost use Rattle.oram_semantics.specs.State.{State, status_in};
 ghost use Rattle.oram_semantics.specs.Progress.Status.{Waiting, Stalling};
 ghost use Rattle.oram_semantics.specs.declared.events.Reply.{Reply};
 ghost use Rattle.oram_core.specs.Core.{IsSameDevice, scheme_of};
-ghost use Rattle.oram_core.specs.Doing.{done};
+ghost use Rattle.oram_core.specs.PlainSteps.{done};
 ghost use Rattle.oram_core.specs.Steps.{Steps, Heard};
 ghost use Rattle.oram_session.specs.Outcome.{Outcome};
 ghost use Rattle.oram_session.specs.Settled.{IsSettled, IsUnderWay, IsBodyOf};

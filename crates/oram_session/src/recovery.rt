@@ -5,7 +5,7 @@ ghost use Rattle.oram_semantics.specs.Progress.Status.{Stalling};
 ghost use Rattle.oram_semantics.specs.State.{status_in};
 ghost use Rattle.oram_semantics.specs.declared.events.Event.TheVariants.{Reopen, Retry};
 ghost use Rattle.oram_core.specs.Core.{IsSameDevice, scheme_of};
-ghost use Rattle.oram_core.specs.Doing.{done};
+ghost use Rattle.oram_core.specs.PlainSteps.{done};
 ghost use Rattle.oram_session.specs.Exchanges.{Runs, Delivery};
 ghost use Rattle.oram_session.specs.Settled.{IsSettled, IsUnderWay, is_settled_by};
 ghost use Rattle.oram_session.specs.Resumption.{HasGoneOn, HasStalled, IsCutShort};

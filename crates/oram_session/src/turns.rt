@@ -9,7 +9,7 @@ ghost use Rattle.oram_semantics.specs.Run.{shown_by};
 ghost use Rattle.oram_semantics.specs.State.{State};
 ghost use Rattle.oram_semantics.specs.declared.events.Event.TheVariants.{Submit};
 ghost use Rattle.oram_core.specs.Core.{IsSameDevice, scheme_of};
-ghost use Rattle.oram_core.specs.Doing.{done};
+ghost use Rattle.oram_core.specs.PlainSteps.{done};
 ghost use Rattle.oram_core.specs.Steps.{Steps};
 ghost use Rattle.oram_session.specs.Settled.{IsSettled, IsBegun};
 ghost use Rattle.oram_session.specs.Turns.{Turn, IsTurn, IsStuck, IsCutTurn};

@@ -8,7 +8,7 @@ use Rattle.oram_bucket.specs.declared.block.Block.{Block}
 use Rattle.oram_bucket.specs.Cell.{IsRising}
 use Rattle.oram_stash.specs.Plan.{list_at, joined, is_level, stays, picked, IsPlan, Reaches}
 use Rattle.oram_stash.specs.Eviction.{listed, all_listed, IsEviction}
-use Rattle.oram_stash.proofs.Moving.{items_of}
+use Rattle.oram_stash.proofs.Moves.{items_of}
 use Rattle.oram_stash.proofs.Outcome.{carried_out}
 
 -- the borrowed blocks in vectors

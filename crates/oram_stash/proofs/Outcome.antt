@@ -10,8 +10,8 @@ use Rattle.oram_geometry.specs.Path.{MeetsAt}
 use Rattle.oram_bucket.specs.Cell.{IsRising}
 use Rattle.oram_stash.specs.Plan.{level_at, is_level, stays, picked, IsAbove, IsPlan, Reaches}
 use Rattle.oram_stash.specs.Eviction.{listed, all_listed, IsNearer, IsEviction}
-use Rattle.oram_stash.proofs.Filling.{level_is}
-use Rattle.oram_stash.proofs.Picking.{length-picked, All-picked, AllPairs-picked, StandsAt-picked}
+use Rattle.oram_stash.proofs.FilledLevels.{level_is}
+use Rattle.oram_stash.proofs.Picks.{length-picked, All-picked, AllPairs-picked, StandsAt-picked}
 
 -- the blocks' own leaves
 abbrev pub leaves_of : List Block → List ℕ

@@ -12,7 +12,7 @@ use Rattle.oram_bucket.specs.Cell.{IsRising}
 use Rattle.oram_stash.specs.Eviction.{listed, all_listed, IsNearer, IsEviction, OneOutcome}
 use Rattle.oram_stash.proofs.Fewest.{some_or_none, list_of_listed}
 use Rattle.oram_stash.proofs.Tight.{Contains-all_listed}
-use Rattle.oram_stash.proofs.Rising.{length-le, same_rising, AreApart, AreApart-permuted, AreApart-left, apart_parts, apart_lists, Contains-cases, Contains-first, Contains-later}
+use Rattle.oram_stash.proofs.SortedBlocks.{length-le, same_rising, AreApart, AreApart-permuted, AreApart-left, apart_parts, apart_lists, Contains-cases, Contains-first, Contains-later}
 
 -- blocks of a rising list with the same address are equal
 pub same_block : (xs : List Block) → IsRising xs → (b c : Block) → Contains xs b → Contains xs c → b.address ≡ c.address → b ≡ c

@@ -6,7 +6,7 @@ use Rattle.std.proofs.lemmas.List.Elements.{All-nil, All-head, All-tail, All-con
 use Rattle.std.proofs.Math.Nat.{mul-le-mul}
 use Rattle.oram_geometry.specs.declared.Sizes.{Sizes}
 use Rattle.oram_geometry.specs.Sizes.{IsDevice, blocks_in, depth_of, record_len_of}
-use Rattle.oram_geometry.proofs.Measuring.{blocks_in-range}
+use Rattle.oram_geometry.proofs.DeviceSizes.{blocks_in-range}
 use Rattle.oram_bucket.specs.Bucket.{IsBlockOf}
 use Rattle.oram_bucket.specs.Cell.{Cell, IsRising}
 use Rattle.oram_tree.specs.Parts.{Parts as TreeParts, ArePartsOf}

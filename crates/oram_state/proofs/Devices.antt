@@ -11,9 +11,9 @@ use Rattle.oram_state.specs.declared.fault.StateFault.TheVariants.{Content}
 use Rattle.oram_state.specs.declared.mode.Mode.{Mode}
 use Rattle.oram_state.specs.declared.mode.Mode.TheVariants.{Idle, Failed, Waiting, Stalled}
 use Rattle.oram_state.specs.declared.saved.Head.{Head}
-use Rattle.oram_state.specs.Spelling.{short, long, device_text, mode_number}
+use Rattle.oram_state.specs.StateBytes.{short, long, device_text, mode_number}
 use Rattle.oram_state.specs.WellSized.{IsShort, IsLong}
-use Rattle.oram_state.specs.Reading.{known, mode_in, next_byte, next_device, next_head, next_number}
+use Rattle.oram_state.specs.Parser.{known, mode_in, next_byte, next_device, next_head, next_number}
 use Rattle.oram_state.proofs.Tools.{IsBytes, Took, took_both, then_ok, goes, byte_takes, byte_again, short_takes, short_again, long_takes, long_again}
 
 -- ---- the device

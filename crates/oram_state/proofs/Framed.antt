@@ -16,9 +16,9 @@ use Rattle.oram_core.specs.declared.parts.Pending.{Pending}
 use Rattle.oram_state.specs.declared.fault.StateFault.{StateFault}
 use Rattle.oram_state.specs.declared.fault.StateFault.TheVariants.{Magic, Version, Length, Digest}
 use Rattle.oram_state.specs.declared.saved.Saved.{Saved}
-use Rattle.oram_state.specs.Spelling.{Work, short, long, body, with_digest, fields_text, mode_by, mode_of, work_of}
+use Rattle.oram_state.specs.StateBytes.{Work, short, long, body, with_digest, fields_text, mode_by, mode_of, work_of}
 use Rattle.oram_state.specs.WellSized.{IsWellSized, IsWorkBy, HasFile, IsFileOf}
-use Rattle.oram_state.specs.Reading.{◌>>=◌, Gives, ends_with_digest, fields_in, saved_in, state_in, unless}
+use Rattle.oram_state.specs.Parser.{◌>>=◌, Gives, ends_with_digest, fields_in, saved_in, state_in, unless}
 use Rattle.oram_state.proofs.Tools.{IsBytes, IsBytes-take, IsBytes-drop, is_short, is_long, then_ok, goes, unless_ok}
 use Rattle.oram_state.proofs.Devices.{IsModeOf, both_true}
 use Rattle.oram_state.proofs.Whole.{MayTell, all_takes, all_again}

@@ -3,7 +3,7 @@ use Rattle.std.proofs.Common.{◌≡◌, ℕ, suc, ◌-◌, ◌+◌, ◌≤◌, 
 use Rattle.std.proofs.lemmas.List.{append-nil}
 use Rattle.oram_state.specs.declared.fault.StateFault.{StateFault}
 use Rattle.oram_state.specs.declared.fault.StateFault.TheVariants.{Magic, Version, Length, Digest, Content, OutOfMemory}
-use Rattle.oram_state.specs.Reading.{◌>>=◌, Fails, Reading, many}
+use Rattle.oram_state.specs.Parser.{◌>>=◌, Fails, Reading, many}
 
 -- the values read before, and those still to read
 abbrev pub with_front : {X : Type 0} → List X → Reading (List X) → Reading (List X)

@@ -11,9 +11,9 @@ use Rattle.oram_semantics.specs.declared.events.Reason.TheVariants.{Malformed, T
 use Rattle.oram_core.specs.Parts.{Parts}
 use Rattle.oram_state.specs.declared.fault.StateFault.TheVariants.{Magic, Length}
 use Rattle.oram_state.specs.declared.mode.Mode.TheVariants.{Idle, Failed, Stalled}
-use Rattle.oram_state.specs.Spelling.{short, long, body, command_text, fields_text, mode_of, reason_text, state_file}
+use Rattle.oram_state.specs.StateBytes.{short, long, body, command_text, fields_text, mode_of, reason_text, state_file}
 use Rattle.oram_state.specs.WellSized.{held_len, table_len, tree_count}
-use Rattle.oram_state.specs.Reading.{fields_in, reason_in}
+use Rattle.oram_state.specs.Parser.{fields_in, reason_in}
 
 abbrev device : Sizes
 device = record { blocks = 8; block_bytes = 16; slots = 4; top = 8; lifetime = 100 }

@@ -3,7 +3,7 @@ use Rattle.std.proofs.Common.{◌≡◌, ℕ, zero, suc, List, [], ◌∷◌, �
 use Rattle.std.specs.Prelude.{IfOk}
 use Rattle.std.specs.List.{flat_map, AllByRecursion}
 use Rattle.std.proofs.lemmas.List.Concat.{flat_map-cons}
-use Rattle.oram_state.specs.Reading.{Reading, many}
+use Rattle.oram_state.specs.Parser.{Reading, many}
 use Rattle.oram_state.proofs.Tools.{IsBytes, Took, took_both, then_ok, goes}
 
 -- a reader takes only such values, and takes each of them again

@@ -6,7 +6,7 @@ use Rattle.std.proofs.lemmas.List.Elements.{All-head, All-tail, recursion_from_A
 use Rattle.std.proofs.Math.Nat.{pow-le-pow_right}
 use Rattle.oram_geometry.specs.declared.Sizes.{Sizes}
 use Rattle.oram_geometry.specs.Sizes.{IsDevice, blocks_in, depth_of, trees_of}
-use Rattle.oram_geometry.proofs.Measuring.{blocks_in-range}
+use Rattle.oram_geometry.proofs.DeviceSizes.{blocks_in-range}
 use Rattle.oram_bucket.specs.Bucket.{IsBlockOf}
 use Rattle.oram_bucket.specs.Cell.{Cell}
 use Rattle.oram_tree.specs.Parts.{Parts as TreeParts}
@@ -26,9 +26,9 @@ use Rattle.oram_core.specs.declared.parts.Pending.{Pending}
 use Rattle.oram_core.proofs.Fits.{fits_of, trees_of_parts}
 use Rattle.oram_state.specs.declared.fault.StateFault.{StateFault}
 use Rattle.oram_state.specs.declared.saved.Saved.{Saved}
-use Rattle.oram_state.specs.Decoding.{IsSaved}
-use Rattle.oram_state.specs.Reading.{state_in}
-use Rattle.oram_state.specs.Spelling.{state_file, work_of}
+use Rattle.oram_state.specs.DecodedCore.{IsSaved}
+use Rattle.oram_state.specs.Parser.{state_in}
+use Rattle.oram_state.specs.StateBytes.{state_file, work_of}
 use Rattle.oram_state.specs.WellSized.{CommandFits, FitsFields, IsLong, IsNoWork, IsShort, IsSizedBlock, IsSizedCommand, IsSizedPending, IsSizedTree, IsWellSized, IsWorkBy, table_len, tree_count}
 use Rattle.oram_state.proofs.Counted.{counted}
 use Rattle.oram_state.proofs.Framed.{state_again}

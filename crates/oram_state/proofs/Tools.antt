@@ -7,9 +7,9 @@ use Rattle.std.proofs.lemmas.List.{take_at, drop_at, take-append-drop, length-ap
 use Rattle.std.proofs.lemmas.Nat.{be_bytes_4, be_bytes_8, from_be_bytes-to_be_bytes_4, from_be_bytes-to_be_bytes_8}
 use Rattle.oram_state.specs.declared.fault.StateFault.{StateFault}
 use Rattle.oram_state.specs.declared.fault.StateFault.TheVariants.{Content}
-use Rattle.oram_state.specs.Spelling.{short, long}
+use Rattle.oram_state.specs.StateBytes.{short, long}
 use Rattle.oram_state.specs.WellSized.{IsShort, IsLong}
-use Rattle.oram_state.specs.Reading.{◌>>=◌, next_byte, next_bytes, next_number, unless}
+use Rattle.oram_state.specs.Parser.{◌>>=◌, next_byte, next_bytes, next_number, unless}
 
 abbrev pub IsBytes : List ℕ → Type 0
 IsBytes bytes = (i : ℕ) → get_or bytes i 0 < 256

@@ -12,9 +12,9 @@ use Rattle.oram_semantics.specs.declared.events.Reason.TheVariants.{Malformed, T
 use Rattle.oram_state.specs.declared.fault.StateFault.TheVariants.{Content}
 use Rattle.oram_state.specs.declared.mode.Mode.{Mode}
 use Rattle.oram_state.specs.declared.mode.Mode.TheVariants.{Idle, Failed, Waiting, Stalled}
-use Rattle.oram_state.specs.Spelling.{short, block_text, tree_text, reason_text, failure_text}
+use Rattle.oram_state.specs.StateBytes.{short, block_text, tree_text, reason_text, failure_text}
 use Rattle.oram_state.specs.WellSized.{IsSizedBlock, IsSizedTree}
-use Rattle.oram_state.specs.Reading.{many, next_block, next_byte, next_bytes, next_failure, next_number, next_reason, next_tree, reason_in}
+use Rattle.oram_state.specs.Parser.{many, next_block, next_byte, next_bytes, next_failure, next_number, next_reason, next_tree, reason_in}
 use Rattle.oram_state.proofs.Tools.{IsBytes, Took, took_both, then_ok, goes, byte_takes, bytes_takes, bytes_again, short_takes, short_again}
 use Rattle.oram_state.proofs.Several.{Law, many_takes, many_again}
 use Rattle.oram_state.proofs.Devices.{both_true}

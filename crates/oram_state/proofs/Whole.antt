@@ -14,9 +14,9 @@ use Rattle.oram_state.specs.declared.mode.Mode.{Mode}
 use Rattle.oram_state.specs.declared.mode.Mode.TheVariants.{Idle, Failed, Waiting, Stalled}
 use Rattle.oram_state.specs.declared.saved.Head.{Head}
 use Rattle.oram_state.specs.declared.saved.Saved.{Saved}
-use Rattle.oram_state.specs.Spelling.{Work, short, tree_text, failure_text, work_text, work_of, mode_by, mode_of, rest_text, fields_text}
+use Rattle.oram_state.specs.StateBytes.{Work, short, tree_text, failure_text, work_text, work_of, mode_by, mode_of, rest_text, fields_text}
 use Rattle.oram_state.specs.WellSized.{IsShort, IsSizedTree, IsNoWork, IsWorkBy, IsWellSized, table_len, tree_count}
-use Rattle.oram_state.specs.Reading.{is_stalled, many, next_failure, next_head, next_number, next_saved, next_tree, next_work_in, saved_in, saved_of, unless}
+use Rattle.oram_state.specs.Parser.{is_stalled, many, next_failure, next_head, next_number, next_saved, next_tree, next_work_in, saved_in, saved_of, unless}
 use Rattle.oram_state.proofs.Tools.{IsBytes, Took, took_both, then_ok, goes, unless_ok, short_takes, short_again}
 use Rattle.oram_state.proofs.Several.{Law, many_takes, many_again}
 use Rattle.oram_state.proofs.Devices.{IsModeOf, IsHead, head_fields, head_takes, head_again}

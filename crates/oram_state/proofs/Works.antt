@@ -6,7 +6,7 @@ use Rattle.std.proofs.lemmas.Bool.{eqb-true, lt-ltb, le-leb, ltb-true, leb-true}
 use Rattle.std.specs.Int.{w32, w64}
 use Rattle.oram_geometry.specs.declared.Sizes.{Sizes}
 use Rattle.oram_geometry.specs.Sizes.{IsDevice, is_between, trees_of}
-use Rattle.oram_geometry.proofs.Measuring.{trees_of-few}
+use Rattle.oram_geometry.proofs.DeviceSizes.{trees_of-few}
 use Rattle.oram_semantics.specs.declared.events.Command.{Command}
 use Rattle.oram_semantics.specs.declared.events.Command.TheVariants.{Read, Write, Discard}
 use Rattle.oram_core.specs.declared.parts.Pending.{Pending}
@@ -14,9 +14,9 @@ use Rattle.oram_state.specs.declared.fault.StateFault.{StateFault}
 use Rattle.oram_state.specs.declared.fault.StateFault.TheVariants.{Content}
 use Rattle.oram_state.specs.declared.mode.Mode.{Mode}
 use Rattle.oram_state.specs.declared.mode.Mode.TheVariants.{Idle, Failed, Waiting, Stalled}
-use Rattle.oram_state.specs.Spelling.{Work, short, long, command_text, pending_text, text_unless_idle, work_fields, work_text}
+use Rattle.oram_state.specs.StateBytes.{Work, short, long, command_text, pending_text, text_unless_idle, work_fields, work_text}
 use Rattle.oram_state.specs.WellSized.{IsShort, IsLong, IsSizedCommand, IsSizedPending, IsSizedWork, held_len, no_work}
-use Rattle.oram_state.specs.Reading.{◌>>=◌, Reading, many, next_byte, next_bytes, next_command, next_data, next_message, next_number, next_pending, next_step, next_waiting, next_work, next_work_in, unless}
+use Rattle.oram_state.specs.Parser.{◌>>=◌, Reading, many, next_byte, next_bytes, next_command, next_data, next_message, next_number, next_pending, next_step, next_waiting, next_work, next_work_in, unless}
 use Rattle.oram_state.proofs.Tools.{IsBytes, Took, took_both, then_ok, goes, unless_ok, byte_takes, bytes_takes, bytes_again, short_takes, short_again, long_takes, long_again}
 use Rattle.oram_state.proofs.Several.{Law, many_takes, many_again}
 use Rattle.oram_state.proofs.Devices.{both_true}

@@ -1,7 +1,7 @@
 -- A file whose length was written last.
 use Rattle.std.proofs.Common.{◌≡◌, ℕ, ◌+◌, List, ◌++◌, length, take, drop, refl, sym, ap, arith, length-append, append_assoc, ◌∙◌}
 use Rattle.std.specs.Prelude.{codes}
-use Rattle.oram_state.specs.Spelling.{short, long, body}
+use Rattle.oram_state.specs.StateBytes.{short, long, body}
 
 -- the bytes before the length
 abbrev pub unmeasured : List ℕ → List ℕ

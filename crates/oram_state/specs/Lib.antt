@@ -1,4 +1,4 @@
-pub mod Spelling
+pub mod StateBytes
 pub mod WellSized
-pub mod Reading
-pub mod Decoding
+pub mod Parser
+pub mod DecodedCore

@@ -11,7 +11,7 @@ use Rattle.oram_semantics.specs.declared.events.Command.TheVariants.{Read, Write
 use Rattle.oram_semantics.specs.declared.events.Reason.{Reason}
 use Rattle.oram_core.specs.Parts.{Parts}
 use Rattle.oram_core.specs.declared.parts.Pending.{Pending}
-use Rattle.oram_state.specs.Spelling.{Work, work_of, state_file}
+use Rattle.oram_state.specs.StateBytes.{Work, work_of, state_file}
 
 -- the number fits in four bytes, or in eight
 abbrev pub IsShort : ℕ → Type 0

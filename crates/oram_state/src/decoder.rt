@@ -3,7 +3,7 @@
 ghost use Rattle.std.specs.Prelude.{◌≡◌, IfOk, IfErr};
 ghost use Rattle.oram_geometry.specs.declared.Sizes.{Sizes};
 ghost use Rattle.oram_semantics.specs.State.{State};
-ghost use Rattle.oram_state.specs.Decoding.{IsFaultIn, IsSaved};
+ghost use Rattle.oram_state.specs.DecodedCore.{IsFaultIn, IsSaved};
 
 use crate::fault::StateFault;
 use crate::reader::read_state;

@@ -2,8 +2,8 @@
 
 ghost use Rattle.std.specs.Prelude.{◌≡◌, IfOk};
 ghost use Rattle.oram_core.specs.Parts.{parts_of};
-ghost use Rattle.oram_state.specs.Decoding.{IsSaved};
-ghost use Rattle.oram_state.specs.Spelling.{state_file};
+ghost use Rattle.oram_state.specs.DecodedCore.{IsSaved};
+ghost use Rattle.oram_state.specs.StateBytes.{state_file};
 
 use crate::writer::write_state;
 use oram_bucket::Sealer;

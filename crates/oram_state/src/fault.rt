@@ -2,7 +2,7 @@
 
 ghost use Rattle.std.specs.Prelude.{◌≡◌};
 ghost use Rattle.oram_state.specs.declared.fault.StateFault.TheVariants.{Content, OutOfMemory};
-ghost use Rattle.oram_state.specs.Reading.{fault_number, fault_of_parts};
+ghost use Rattle.oram_state.specs.Parser.{fault_number, fault_of_parts};
 
 use oram_core::PartsFault;
 use oram_geometry::ShapeFault;

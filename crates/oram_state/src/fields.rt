@@ -2,14 +2,14 @@
 
 ghost use Rattle.std.specs.Prelude.{◌≡◌, length, IfOk};
 ghost use Rattle.std.specs.Int.{w32, w64};
-ghost use Rattle.oram_state.specs.Reading.{Gives, many, next_byte, next_bytes, next_number};
+ghost use Rattle.oram_state.specs.Parser.{Gives, many, next_byte, next_bytes, next_number};
 
 use crate::fault::StateFault;
 use byteorder::{BigEndian, ByteOrder};
 use std::alloc::Global;
 
 /// Reads `len` bytes.
-#[tactic(auto, unfolding(crate::specs::Reading::next_bytes))]
+#[tactic(auto, unfolding(crate::specs::Parser::next_bytes))]
 pub(crate) fn read_bytes(bytes: &[u8], len: usize) -> Result<(&[u8], &[u8]), StateFault>
     ensures exact { Gives (λ x. (x.0.now, x.1.now)) result (next_bytes len bytes.now) }
     ensures whole { IfOk result (λ x. length x.0.now ≡ len) }
@@ -20,7 +20,7 @@ pub(crate) fn read_bytes(bytes: &[u8], len: usize) -> Result<(&[u8], &[u8]), Sta
     Ok(bytes.split_at(len))
 }
 
-#[tactic(auto, unfolding(crate::specs::Reading::next_byte))]
+#[tactic(auto, unfolding(crate::specs::Parser::next_byte))]
 pub(crate) fn read_byte(bytes: &[u8]) -> Result<(u8, &[u8]), StateFault>
     ensures { Gives (λ x. (x.0, x.1.now)) result (next_byte bytes.now) }
 {
@@ -30,7 +30,7 @@ pub(crate) fn read_byte(bytes: &[u8]) -> Result<(u8, &[u8]), StateFault>
     }
 }
 
-#[tactic(auto, unfolding(crate::specs::Reading::next_number))]
+#[tactic(auto, unfolding(crate::specs::Parser::next_number))]
 pub(crate) fn read_short(bytes: &[u8]) -> Result<(u32, &[u8]), StateFault>
     ensures { Gives (λ x. (x.0, x.1.now)) result (next_number w32 bytes.now) }
 {
@@ -41,7 +41,7 @@ pub(crate) fn read_short(bytes: &[u8]) -> Result<(u32, &[u8]), StateFault>
     Ok((BigEndian::read_u32(front), rest))
 }
 
-#[tactic(auto, unfolding(crate::specs::Reading::next_number))]
+#[tactic(auto, unfolding(crate::specs::Parser::next_number))]
 pub(crate) fn read_long(bytes: &[u8]) -> Result<(u64, &[u8]), StateFault>
     ensures { Gives (λ x. (x.0, x.1.now)) result (next_number w64 bytes.now) }
 {

@@ -3,7 +3,7 @@
 ghost use Rattle.std.specs.Prelude.{◌≡◌, ◌≤◌, length, slice_range};
 ghost use Rattle.std.specs.Int.{w32, w64, from_be_bytes};
 ghost use Rattle.oram_state.specs.declared.frame.TheConstants.{LENGTH_END, VERSION_END};
-ghost use Rattle.oram_state.specs.Reading.{Gives, fields_in};
+ghost use Rattle.oram_state.specs.Parser.{Gives, fields_in};
 
 use crate::fault::StateFault;
 use byteorder::{BigEndian, ByteOrder};
@@ -21,7 +21,7 @@ pub(crate) const LENGTH_END: usize = 20;
 pub(crate) const FRAME_LEN: usize = LENGTH_END + DIGEST_LEN;
 
 /// Checks a file's frame, and returns the file's version and its fields.
-#[tactic(auto, unfolding(crate::specs::Reading::fields_in))]
+#[tactic(auto, unfolding(crate::specs::Parser::fields_in))]
 pub(crate) fn open(file: &[u8]) -> Result<(u32, &[u8]), StateFault>
     ensures { Gives (λ x. (x.0, x.1.now)) result (fields_in file.now) }
 {

@@ -1,7 +1,7 @@
 //! Reads the fields of a core that isn't at work: the device and the trees, or why the core failed.
 
 ghost use Rattle.std.specs.Prelude.{◌≡◌};
-ghost use Rattle.oram_state.specs.Reading.{Gives, many, next_block, next_device, next_failure, next_reason, next_tree, reason_in};
+ghost use Rattle.oram_state.specs.Parser.{Gives, many, next_block, next_device, next_failure, next_reason, next_tree, reason_in};
 
 use crate::fault::StateFault;
 use crate::fields::{read_byte, read_bytes, read_long, read_short};
@@ -13,7 +13,7 @@ use oram_hash::DIGEST_LEN;
 use oram_tree::TreeParts;
 use std::alloc::Global;
 
-#[tactic(auto, unfolding(crate::specs::Reading::next_device))]
+#[tactic(auto, unfolding(crate::specs::Parser::next_device))]
 pub(crate) fn read_device(bytes: &[u8]) -> Result<(Device, &[u8]), StateFault>
     ensures { Gives (λ x. (x.0, x.1.now)) result (next_device bytes.now) }
 {
@@ -44,7 +44,7 @@ fn reason_of(kind: u8, tree: u8, level: u8, code: u8) -> Result<Reason, StateFau
     }
 }
 
-#[tactic(auto, unfolding(crate::specs::Reading::next_reason))]
+#[tactic(auto, unfolding(crate::specs::Parser::next_reason))]
 fn read_reason(bytes: &[u8]) -> Result<(Reason, &[u8]), StateFault>
     ensures { Gives (λ x. (x.0, x.1.now)) result (next_reason bytes.now) }
 {
@@ -57,7 +57,7 @@ fn read_reason(bytes: &[u8]) -> Result<(Reason, &[u8]), StateFault>
 }
 
 /// Reads why a core failed, if it did.
-#[tactic(auto, unfolding(crate::specs::Reading::next_failure))]
+#[tactic(auto, unfolding(crate::specs::Parser::next_failure))]
 pub(crate) fn read_failure(bytes: &[u8], mode: Mode) -> Result<(Option<Reason>, &[u8]), StateFault>
     ensures { Gives (λ x. (x.0, x.1.now)) result (next_failure mode bytes.now) }
 {
@@ -70,7 +70,7 @@ pub(crate) fn read_failure(bytes: &[u8], mode: Mode) -> Result<(Option<Reason>, 
     }
 }
 
-#[tactic(auto, unfolding(crate::specs::Reading::next_block))]
+#[tactic(auto, unfolding(crate::specs::Parser::next_block))]
 fn read_block<'a>(
     alloc: Global,
     bytes: &'a [u8],
@@ -110,7 +110,7 @@ fn read_blocks<'a>(
     Ok((stash, rest))
 }
 
-#[tactic(auto, unfolding(crate::specs::Reading::next_tree))]
+#[tactic(auto, unfolding(crate::specs::Parser::next_tree))]
 fn read_tree<'a>(
     alloc: Global,
     bytes: &'a [u8],

@@ -8,8 +8,8 @@ ghost use Rattle.std.specs.Prelude.{◌≡◌, ◌↔◌, ◌<◌, ◌^◌, ℕ,
 ghost use Rattle.oram_geometry.specs.declared.Sizes.{Sizes};
 ghost use Rattle.oram_semantics.specs.State.{State};
 ghost use Rattle.oram_core.specs.Parts.{Parts};
-ghost use Rattle.oram_state.specs.Decoding.{IsSaved};
-ghost use Rattle.oram_state.specs.Reading.{state_in};
+ghost use Rattle.oram_state.specs.DecodedCore.{IsSaved};
+ghost use Rattle.oram_state.specs.Parser.{state_in};
 ghost use Rattle.oram_state.specs.WellSized.{IsFileOf};
 
 mod decoder;

@@ -1,8 +1,8 @@
 //! The mode of a core: idle, failed, waiting or stalled.
 
 ghost use Rattle.std.specs.Prelude.{◌≡◌};
-ghost use Rattle.oram_state.specs.Reading.{Gives, mode_in};
-ghost use Rattle.oram_state.specs.Spelling.{mode_number, mode_of};
+ghost use Rattle.oram_state.specs.Parser.{Gives, mode_in};
+ghost use Rattle.oram_state.specs.StateBytes.{mode_number, mode_of};
 
 use crate::fault::StateFault;
 use oram_core::Parts;

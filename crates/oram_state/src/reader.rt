@@ -3,7 +3,7 @@
 ghost use Rattle.std.specs.Prelude.{◌≡◌, ℕ, IfOk, Ok};
 ghost use Rattle.oram_core.specs.Parts.{Parts as PartsValue};
 ghost use Rattle.oram_state.specs.WellSized.{IsFileOf};
-ghost use Rattle.oram_state.specs.Reading.{Gives, next_head, next_saved, saved_in, state_in};
+ghost use Rattle.oram_state.specs.Parser.{Gives, next_head, next_saved, saved_in, state_in};
 
 use crate::fault::StateFault;
 use crate::fields::{read_byte, read_long, read_short, read_shorts};
@@ -15,7 +15,7 @@ use crate::work::read_work_in;
 use oram_core::Parts;
 use std::alloc::Global;
 
-#[tactic(auto, unfolding(crate::specs::Reading::next_head))]
+#[tactic(auto, unfolding(crate::specs::Parser::next_head))]
 fn read_head(bytes: &[u8], version: u32) -> Result<(Head, &[u8]), StateFault>
     ensures { Gives (λ x. (x.0, x.1.now)) result (next_head version bytes.now) }
 {
@@ -37,7 +37,7 @@ fn read_head(bytes: &[u8], version: u32) -> Result<(Head, &[u8]), StateFault>
     ))
 }
 
-#[tactic(auto, unfolding(crate::specs::Reading::next_saved))]
+#[tactic(auto, unfolding(crate::specs::Parser::next_saved))]
 fn read_saved(alloc: Global, bytes: &[u8], version: u32) -> Result<(Saved, &[u8]), StateFault>
     ensures { Gives (λ x. (x.0, x.1.now)) result (next_saved version bytes.now) }
 {
@@ -70,7 +70,7 @@ fn read_saved(alloc: Global, bytes: &[u8], version: u32) -> Result<(Saved, &[u8]
 }
 
 /// Reads the fields of a file of this version, with nothing after them.
-#[tactic(auto, unfolding(crate::specs::Reading::saved_in))]
+#[tactic(auto, unfolding(crate::specs::Parser::saved_in))]
 fn read_fields(alloc: Global, bytes: &[u8], version: u32) -> Result<Saved, StateFault>
     ensures { Gives (λ saved. saved) result (saved_in version bytes.now) }
 {
@@ -82,7 +82,7 @@ fn read_fields(alloc: Global, bytes: &[u8], version: u32) -> Result<Saved, State
 }
 
 /// Reads a file: its frame and then its fields.
-#[tactic(auto, unfolding(crate::specs::Reading::state_in))]
+#[tactic(auto, unfolding(crate::specs::Parser::state_in))]
 fn read_file(alloc: Global, file: &[u8]) -> Result<Saved, StateFault>
     ensures { Gives (λ saved. saved) result (state_in file.now) }
 {

@@ -35,7 +35,7 @@ pub(crate) struct Work {
 }
 
 impl Model for Work {
-    ghost use Rattle.oram_state.specs.Spelling.{Work as WorkValue};
+    ghost use Rattle.oram_state.specs.StateBytes.{Work as WorkValue};
 
     ghost Value = { WorkValue };
 

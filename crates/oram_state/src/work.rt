@@ -3,7 +3,7 @@
 ghost use Rattle.std.specs.Prelude.{◌≡◌, ◌<◌, ◌*◌, IfOk};
 ghost use Rattle.oram_geometry.specs.Sizes.{trees_of};
 ghost use Rattle.oram_state.specs.WellSized as specs;
-ghost use Rattle.oram_state.specs.Reading.{Gives, many, next_command, next_data, next_message, next_pending, next_step, next_waiting, next_work, next_work_in};
+ghost use Rattle.oram_state.specs.Parser.{Gives, many, next_command, next_data, next_message, next_pending, next_step, next_waiting, next_work, next_work_in};
 
 use crate::fault::StateFault;
 use crate::fields::{read_byte, read_bytes, read_longs, read_short};
@@ -22,7 +22,7 @@ pub(crate) const WRITE: u8 = 0x12;
 pub(crate) const DISCARD: u8 = 0x13;
 
 /// Reads the rest of the command with this first byte and address: a WRITE has data after the address.
-#[tactic(auto, unfolding(crate::specs::Reading::next_data))]
+#[tactic(auto, unfolding(crate::specs::Parser::next_data))]
 fn read_data<'a>(
     alloc: Global,
     bytes: &'a [u8],
@@ -44,7 +44,7 @@ fn read_data<'a>(
     }
 }
 
-#[tactic(auto, unfolding(crate::specs::Reading::next_command))]
+#[tactic(auto, unfolding(crate::specs::Parser::next_command))]
 fn read_command<'a>(
     alloc: Global,
     bytes: &'a [u8],
@@ -57,7 +57,7 @@ fn read_command<'a>(
     read_data(alloc, rest, device, op, address)
 }
 
-#[tactic(auto, unfolding(crate::specs::Reading::next_pending))]
+#[tactic(auto, unfolding(crate::specs::Parser::next_pending))]
 fn read_pending<'a>(
     alloc: Global,
     bytes: &'a [u8],
@@ -98,7 +98,7 @@ fn read_pendings<'a>(
 }
 
 /// Reads the commands without a reply, from 1 to 64.
-#[tactic(auto, unfolding(crate::specs::Reading::next_waiting))]
+#[tactic(auto, unfolding(crate::specs::Parser::next_waiting))]
 fn read_waiting<'a>(
     alloc: Global,
     bytes: &'a [u8],
@@ -114,7 +114,7 @@ fn read_waiting<'a>(
 }
 
 /// Reads which of the first command's messages is outstanding, counted from 0.
-#[tactic(auto, unfolding(crate::specs::Reading::next_step))]
+#[tactic(auto, unfolding(crate::specs::Parser::next_step))]
 fn read_step<'a>(bytes: &'a [u8], device: &Device) -> Result<(u32, &'a [u8]), StateFault>
     ensures exact { Gives (λ x. (x.0, x.1.now)) result (next_step device.now bytes.now) }
     ensures below { IfOk result (λ x. x.0 < 2 * trees_of device.now) }
@@ -126,7 +126,7 @@ fn read_step<'a>(bytes: &'a [u8], device: &Device) -> Result<(u32, &'a [u8]), St
     Ok((r, rest))
 }
 
-#[tactic(auto, unfolding(crate::specs::Reading::next_message))]
+#[tactic(auto, unfolding(crate::specs::Parser::next_message))]
 fn read_message(alloc: Global, bytes: &[u8]) -> Result<(Bytes, &[u8]), StateFault>
     ensures { Gives (λ x. (x.0, x.1.now)) result (next_message bytes.now) }
 {
@@ -135,7 +135,7 @@ fn read_message(alloc: Global, bytes: &[u8]) -> Result<(Bytes, &[u8]), StateFaul
     Ok((Bytes::copy(alloc, message)?, rest))
 }
 
-#[tactic(auto, unfolding(crate::specs::Reading::next_work))]
+#[tactic(auto, unfolding(crate::specs::Parser::next_work))]
 fn read_work<'a>(
     alloc: Global,
     bytes: &'a [u8],
@@ -162,7 +162,7 @@ fn read_work<'a>(
 }
 
 /// Reads the work of a core in this mode. A core that is idle or failed has none.
-#[tactic(auto, unfolding(crate::specs::Reading::next_work_in))]
+#[tactic(auto, unfolding(crate::specs::Parser::next_work_in))]
 pub(crate) fn read_work_in<'a>(
     alloc: Global,
     bytes: &'a [u8],

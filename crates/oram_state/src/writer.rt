@@ -3,7 +3,7 @@
 ghost use Rattle.std.specs.Prelude.{◌≡◌, ◌≢◌, ◌≤◌, ◌<◌, ◌^◌, ◌++◌, [], length, take, drop, All, IfOk, OnOk};
 ghost use Rattle.std.specs.List.{flat_map};
 ghost use Rattle.oram_state.specs.declared.frame.TheConstants.{LENGTH_END};
-ghost use Rattle.oram_state.specs.Spelling.{block_text, body, command_text, device_text, fields_text, head_text, long, pending_text, reason_text, rest_text, short, state_file, tree_text, work_fields, work_of};
+ghost use Rattle.oram_state.specs.StateBytes.{block_text, body, command_text, device_text, fields_text, head_text, long, pending_text, reason_text, rest_text, short, state_file, tree_text, work_fields, work_of};
 ghost use Rattle.oram_state.specs.WellSized.{CommandFits, FitsFields, HasCounts, IsLong, IsShort};
 
 use crate::frame::{FRAME_LEN, LENGTH_END, MAGIC, VERSION_END};
@@ -81,14 +81,14 @@ fn room(parts: &Parts) -> usize {
         .saturating_add(parts.message.len())
 }
 
-#[tactic(auto, unfolding(crate::specs::Spelling::short))]
+#[tactic(auto, unfolding(crate::specs::StateBytes::short))]
 fn push_short(out: &mut Vec<u8>, number: u32) -> Result<(), AllocError>
     ensures { OnOk result (out.new.items ≡ out.old.items ++ short number) }
 {
     out.extend_from_slice(&number.to_be_bytes())
 }
 
-#[tactic(auto, unfolding(crate::specs::Spelling::long))]
+#[tactic(auto, unfolding(crate::specs::StateBytes::long))]
 fn push_long(out: &mut Vec<u8>, number: u64) -> Result<(), AllocError>
     ensures { OnOk result (out.new.items ≡ out.old.items ++ long number) }
 {

@@ -5,7 +5,7 @@
 //! has the same distribution for both lists.
 ghost use Rattle.std.specs.Prelude.{◌≡◌, ◌≢◌, ℕ, ◌+◌, ◌*◌, ◌<◌, ◌≤◌, length, map, slice_index, All, AllPairs, Contains, IfOk, MatchOption, IsOkUnless, Err};
 ghost use Rattle.oram_geometry.specs.Sizes.{trees_of, blocks_in};
-ghost use Rattle.oram_trace.specs.Rearranging.{tape_len, tree_of_place, shown_places, rest_without, places_of, arranged_places, IsRearrangement, NamesEachOnce, KeepsTrees, ShowsAlike, are_addresses, rearrange_fault, fault_number};
+ghost use Rattle.oram_trace.specs.TapeRearrangement.{tape_len, tree_of_place, shown_places, rest_without, places_of, arranged_places, IsRearrangement, NamesEachOnce, KeepsTrees, ShowsAlike, are_addresses, rearrange_fault, fault_number};
 
 use oram_geometry::Device;
 use std::alloc::{AllocError, Global};

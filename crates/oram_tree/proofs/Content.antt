@@ -13,8 +13,8 @@ use Rattle.oram_hash.specs.Tree.{IsPathOf, IsReplaced}
 use Rattle.oram_geometry.specs.declared.Sizes.{Sizes}
 use Rattle.oram_geometry.specs.Sizes.{IsDevice}
 use Rattle.oram_bucket.specs.Cell.{Cell, IsRising}
-use Rattle.oram_bucket.specs.Reading.{Reads}
-use Rattle.oram_bucket.proofs.Spelling.{reads_once}
+use Rattle.oram_bucket.specs.SealedBlocks.{Reads}
+use Rattle.oram_bucket.proofs.UniqueEncoding.{reads_once}
 use Rattle.oram_stash.specs.Eviction.{listed}
 use Rattle.oram_tree.proofs.Evicted.{IsEvicted}
 

@@ -8,7 +8,7 @@ use Rattle.oram_tree.specs.Content.{IsOnPath}
 use Rattle.oram_bucket.specs.Cell.{Cell, IsRising}
 use Rattle.oram_stash.specs.Eviction.{IsEviction, listed, all_listed}
 use Rattle.oram_stash.proofs.Tight.{Contains-all_listed}
-use Rattle.oram_stash.proofs.Rising.{AreApart, AreApart-permuted, AreApart-left, apart_parts, apart_lists}
+use Rattle.oram_stash.proofs.SortedBlocks.{AreApart, AreApart-permuted, AreApart-left, apart_parts, apart_lists}
 use Rattle.oram_stash.proofs.Fewest.{list_of_listed}
 
 -- each block is there once: in one of the path's lists, on its own path, or in the rest

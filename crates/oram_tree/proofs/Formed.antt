@@ -15,7 +15,7 @@ use Rattle.oram_bucket.specs.Cipher.{Cipher, IsCipher}
 use Rattle.oram_bucket.specs.Cell.{Cell}
 use Rattle.oram_bucket.specs.Bytes.{IsBytes}
 use Rattle.oram_bucket.specs.Bucket.{IsBucketOf, spelling}
-use Rattle.oram_bucket.specs.Reading.{Reads}
+use Rattle.oram_bucket.specs.SealedBlocks.{Reads}
 use Rattle.oram_tree.specs.Content.{Holds, node_count, no_blocks, HasContent}
 use Rattle.oram_tree.specs.State.{State}
 use Rattle.oram_tree.specs.Format.{PutsAll, post_order, IsFormat, IsBegun}

@@ -9,7 +9,7 @@ use Rattle.oram_bucket.specs.Cell.{Cell, IsRising}
 use Rattle.oram_bucket.specs.Bucket.{IsBlockOf, IsBucketOf}
 use Rattle.oram_stash.specs.Blocks.{block_at}
 use Rattle.oram_stash.specs.Eviction.{IsEviction, all_listed}
-use Rattle.oram_stash.proofs.Rising.{same_rising}
+use Rattle.oram_stash.proofs.SortedBlocks.{same_rising}
 use Rattle.oram_stash.proofs.Unique.{same_block}
 use Rattle.oram_tree.specs.Access.{IsNear, IsInBucket, IsReadable, IsLookup, IsWaiting, content_in}
 use Rattle.oram_tree.proofs.Gathered.{block_at-address, block_at-contains, block_at-none}

@@ -15,11 +15,11 @@ use Rattle.oram_hash.specs.Tree.{IsPathOf}
 use Rattle.oram_hash.specs.Rebuild.{StandsRebuilt}
 use Rattle.oram_bucket.specs.Cell.{Cell, IsRising}
 use Rattle.oram_bucket.specs.Bucket.{IsBlockOf, IsBucketOf, spelling}
-use Rattle.oram_bucket.specs.Reading.{Reads}
+use Rattle.oram_bucket.specs.SealedBlocks.{Reads}
 use Rattle.oram_stash.specs.Blocks.{block_at}
 use Rattle.oram_stash.specs.Eviction.{IsEviction, listed, all_listed}
 use Rattle.oram_stash.proofs.Tight.{All-of_list, All-of_rest}
-use Rattle.oram_stash.proofs.Rising.{Contains-cases, Contains-first, Contains-later}
+use Rattle.oram_stash.proofs.SortedBlocks.{Contains-cases, Contains-first, Contains-later}
 use Rattle.oram_tree.specs.declared.edits.Edit.{Edit}
 use Rattle.oram_tree.specs.declared.edits.Edit.TheVariants.{Keep, Replace, Entry}
 use Rattle.oram_tree.specs.declared.faults.TreeFault.{TreeFault}

@@ -4,7 +4,7 @@ use Rattle.oram_geometry.specs.declared.Sizes.{Sizes}
 use Rattle.oram_geometry.specs.Sizes.{depth_of, record_len_of}
 use Rattle.oram_hash.specs.Tree.{IsStored}
 use Rattle.oram_bucket.specs.Cell.{Cell}
-use Rattle.oram_bucket.specs.Reading.{Reads}
+use Rattle.oram_bucket.specs.SealedBlocks.{Reads}
 use Rattle.oram_tree.specs.Content.{Map, HasContent}
 
 -- a tree, as clauses see it: its number, the digest of its root's record, and its stash

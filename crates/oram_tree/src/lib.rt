@@ -11,7 +11,7 @@ ghost use Rattle.oram_hash.specs.Path.{path_of, with_bytes, HasLength, IsAccepte
 ghost use Rattle.oram_hash.specs.Tree.{Collides, IsPathOf, IsStored};
 ghost use Rattle.oram_hash.specs.Verdict.{IsFaultOf};
 ghost use Rattle.oram_bucket.specs.Bucket.{IsBlockOf};
-ghost use Rattle.oram_bucket.specs.Reading.{Reads};
+ghost use Rattle.oram_bucket.specs.SealedBlocks.{Reads};
 ghost use Rattle.oram_tree.specs.Content.{Map, node_count};
 ghost use Rattle.oram_tree.specs.State.{IsStoredWith};
 ghost use Rattle.oram_tree.specs.Edits.{edited_block, IsEditOf};

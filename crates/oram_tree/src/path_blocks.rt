@@ -3,7 +3,7 @@ ghost use Rattle.std.specs.Prelude.{◌≡◌, ◌≢◌, ◌⊎◌, ◌↔◌, 
 ghost use Rattle.oram_geometry.specs.Sizes.{trees_of, depth_of};
 ghost use Rattle.oram_bucket.specs.Cell.{Cell, IsRising};
 ghost use Rattle.oram_bucket.specs.Bucket.{IsBlockOf};
-ghost use Rattle.oram_bucket.specs.Reading.{Reads};
+ghost use Rattle.oram_bucket.specs.SealedBlocks.{Reads};
 ghost use Rattle.oram_tree.specs.Access.{IsInBucket, IsReadable};
 
 use crate::faults::TreeFault;

@@ -5,7 +5,7 @@ ghost use Rattle.oram_hash.specs.Path.{path_of, with_bytes, HasLength};
 ghost use Rattle.oram_hash.specs.Rebuild.{StandsRebuilt};
 ghost use Rattle.oram_bucket.specs.Cell.{Cell, IsRising};
 ghost use Rattle.oram_bucket.specs.Bucket.{IsBlockOf, IsBucketOf};
-ghost use Rattle.oram_bucket.specs.Reading.{Reads};
+ghost use Rattle.oram_bucket.specs.SealedBlocks.{Reads};
 ghost use Rattle.oram_stash.specs.Blocks.{block_at};
 ghost use Rattle.oram_stash.specs.Eviction.{IsEviction};
 ghost use Rattle.oram_tree.specs.Edits.{edited_block, IsEditOf, HasRoomFor};

@@ -4,7 +4,7 @@ use Rattle.oram_bucket.specs.Cipher.{Cipher}
 use Rattle.oram_host.specs.Host.{Host}
 use Rattle.oram_semantics.specs.Blocks.{body_from}
 use Rattle.oram_semantics.specs.Events.{address_of}
-use Rattle.oram_semantics.specs.Serving.{array_after}
+use Rattle.oram_semantics.specs.ArrayReplies.{array_after}
 use Rattle.oram_semantics.specs.Scheme.{Scheme}
 use Rattle.oram_semantics.specs.State.{State, status_in}
 use Rattle.oram_semantics.specs.declared.events.Command.{Command}
@@ -21,7 +21,7 @@ use Rattle.oram_session.specs.Honesty.{IsHeld}
 use Rattle.oram_session.specs.Outcome.{Outcome}
 use Rattle.oram_session.specs.Settled.{IsSettled, is_settled_by}
 use Rattle.oram_session.proofs.Honesty.{resting}
-use Rattle.oram_session.proofs.Steppings.{same_scheme}
+use Rattle.oram_session.proofs.CoreSteps.{same_scheme}
 use Rattle.oram_keep.specs.Asking.{HasGivenAll, HasRunOutAt, HasStalledAt, IsAccepted, IsCarriedOut, IsRefused, IsReopened, IsUnkeptAt}
 use Rattle.oram_keep.specs.Keeping.{at}
 use Rattle.oram_keep.specs.Surviving.{Holds, IsLasting, IsResuming, Recovers}

@@ -4,7 +4,7 @@ use Rattle.std.proofs.lemmas.Bool.Decides.{nat_tests}
 use Rattle.std.proofs.lemmas.List.{take_at, drop-drop, length-replicate}
 use Rattle.std.proofs.Math.Nat.{lt_of_mul-lt-mul_left, mul-suc}
 use Rattle.oram_geometry.specs.declared.Sizes.{Sizes}
-use Rattle.oram_semantics.specs.Serving.{array_after}
+use Rattle.oram_semantics.specs.ArrayReplies.{array_after}
 use Rattle.oram_semantics.specs.declared.events.Command.TheVariants.{Read, Write, Discard}
 use Rattle.oram_nbd.specs.Bytes.{bytes_at, written, zeroes}
 use Rattle.oram_volume.specs.Blocks.{IsLaidOut, blocks_from}

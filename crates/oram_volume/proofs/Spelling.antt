@@ -1,14 +1,14 @@
 -- What a volume holds of bytes, after a command.
 use Rattle.std.proofs.Common.{◌⊎◌, ℕ, Bool, false, List, [], Result, Ok, Err, OnErr, sym, subst, inl, inr}
 use Rattle.oram_bucket.specs.Cipher.{Cipher}
-use Rattle.oram_semantics.specs.Serving.{array_after}
+use Rattle.oram_semantics.specs.ArrayReplies.{array_after}
 use Rattle.oram_semantics.specs.Scheme.{Scheme}
 use Rattle.oram_semantics.specs.declared.events.Command.{Command}
 use Rattle.oram_semantics.specs.declared.events.ReplyBody.{ReplyBody}
 use Rattle.oram_semantics.specs.declared.events.ReplyBody.TheVariants.{Data, Done, Failed}
 use Rattle.oram_core.specs.Core.{CoreValue, IsSameDevice, scheme_of}
 use Rattle.oram_session.specs.Outcome.{Outcome}
-use Rattle.oram_session.proofs.Steppings.{same_scheme}
+use Rattle.oram_session.proofs.CoreSteps.{same_scheme}
 use Rattle.oram_volume.specs.Blocks.{IsLaidOut}
 use Rattle.oram_volume.specs.Holding.{HoldsArray, HoldsBytes, IsSound, Keeps}
 

@@ -3,7 +3,7 @@
 ghost use Rattle.std.specs.Prelude.{◌≡◌, ◌≢◌, ◌⊎◌, ◌+◌, ◌*◌, ◌<◌, ◌≤◌, ℕ, Bool, false, List, IsOk, IfOk, IfErr, IsErrOf, OnOk, OnErr};
 ghost use Rattle.oram_semantics.specs.Blocks.{body_from};
 ghost use Rattle.oram_semantics.specs.Events.{address_of as address_in};
-ghost use Rattle.oram_semantics.specs.Serving.{array_after};
+ghost use Rattle.oram_semantics.specs.ArrayReplies.{array_after};
 ghost use Rattle.oram_core.specs.Core.{IsSameDevice, scheme_of};
 ghost use Rattle.oram_session.specs.Honesty.{HasFailed};
 ghost use Rattle.oram_session.specs.Settled.{IsBodyOf, IsSettled};

@@ -11,7 +11,7 @@ use Rattle.oram_geometry.specs.Sizes as sizes
 use Rattle.oram_wire.specs.declared.sinks.SinkFault.TheVariants as sink
 use Rattle.oram_tree.specs.declared.faults.FormatFault.{FormatFault}
 use Rattle.oram_tree.specs.declared.faults.FormatFault.TheVariants as format
-use Rattle.oram_state.specs.Reading as state
+use Rattle.oram_state.specs.Parser as state
 use Rattle.oram_state.specs.declared.fault.StateFault.{StateFault}
 use Rattle.oramd.specs.declared.faults.Fault.{Fault}
 use Rattle.oramd.specs.declared.faults.Fault.TheVariants.{File, HostRefused, OutOfMemory, Shape, Socket, State}

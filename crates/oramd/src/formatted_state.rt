@@ -4,7 +4,7 @@ ghost use Rattle.std.specs.Prelude.{◌≡◌, IfErr, IfOk};
 ghost use Rattle.oram_geometry.specs.Sizes.{device_of};
 ghost use Rattle.oram_semantics.specs.State.{State};
 ghost use Rattle.oram_core.specs.Core.{scheme_with};
-ghost use Rattle.oram_state.specs.Decoding.{IsSaved};
+ghost use Rattle.oram_state.specs.DecodedCore.{IsSaved};
 ghost use Rattle.oramd.specs.Formatting.{GivesNoFile, IsFormatted};
 ghost use Rattle.oramd.specs.LibraryFaults as spec;
 

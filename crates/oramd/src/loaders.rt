@@ -6,7 +6,7 @@ ghost use Rattle.oram_host.specs.Host.{IsHost};
 ghost use Rattle.oram_host.specs.Image.{image};
 ghost use Rattle.oram_host.specs.ImageReader.{IsFirstFault, host_in};
 ghost use Rattle.oram_host.specs.declared.images.ImageFault.{ImageFault};
-ghost use Rattle.oram_state.specs.Decoding.{IsFaultIn, IsSaved};
+ghost use Rattle.oram_state.specs.DecodedCore.{IsFaultIn, IsSaved};
 ghost use Rattle.oram_state.specs.declared.fault.StateFault.{StateFault};
 ghost use Rattle.oramd.specs.ImageFaults.{IsImageFault};
 ghost use Rattle.oramd.specs.LibraryFaults.{state_fault};

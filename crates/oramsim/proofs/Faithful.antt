@@ -10,13 +10,13 @@ use Rattle.oram_semantics.specs.Progress.{Setting, Status}
 use Rattle.oram_semantics.specs.Progress.Status.{Idle, Waiting, Stalling, Over}
 use Rattle.oram_semantics.specs.Moves.{moved, world_after}
 use Rattle.oram_semantics.specs.Run.{AllRight, Shown, fails_now, is_waiting}
-use Rattle.oram_semantics.specs.Serving.{HasServed, ServesArray, array_after}
+use Rattle.oram_semantics.specs.ArrayReplies.{HasServed, ServesArray, array_after}
 use Rattle.oram_semantics.specs.Scheme.{Scheme}
 use Rattle.oram_semantics.specs.State.{State, World, status_in}
 use Rattle.oram_semantics.specs.declared.events.Event.{Event}
 use Rattle.oram_semantics.specs.declared.events.Event.TheVariants.{Submit, Answer, Lost, Reopen, Retry}
 use Rattle.oram_semantics.specs.declared.events.Reply.{Reply}
-use Rattle.oram_semantics.proofs.Going.{steps_are_right}
+use Rattle.oram_semantics.proofs.WholeRuns.{steps_are_right}
 use Rattle.oram_host_laws.specs.Honest.{IsHonest}
 use Rattle.oram_host_laws.proofs.Honest.{honest_hosts_serve}
 use Rattle.oramsim.specs.Script.{HostAnswers, Running, Turn, all_shown, events, is_answer, plain_scheme}

@@ -18,7 +18,7 @@ use Rattle.oram_semantics.specs.declared.events.Reason.{Reason}
 use Rattle.oram_semantics.specs.declared.events.Refusal.{Refusal}
 use Rattle.oram_semantics.specs.declared.events.Submission.{Submission}
 use Rattle.oram_semantics.proofs.Judged.{bytes_same}
-use Rattle.oram_core.specs.Doing.{Done, noted, stalled_by, finished_by, first_message, first_messages, sent_if_idle, submitted_by, lost_by, retried_by}
+use Rattle.oram_core.specs.PlainSteps.{Done, noted, stalled_by, finished_by, first_message, first_messages, sent_if_idle, submitted_by, lost_by, retried_by}
 use Rattle.oram_core.specs.Steps.{Steps, Heard, did}
 use Rattle.oramsim.specs.Script.{is_answer, left_at, newest_of, plain_scheme}
 use Rattle.oramsim.specs.Correspondence.{IsWhole, answers_left}

@@ -5,8 +5,8 @@
 
 mod changed;
 mod hostile;
+mod interference;
 mod machine;
-mod meddling;
 mod seen;
 
 use crate::cores::machine::Machine;

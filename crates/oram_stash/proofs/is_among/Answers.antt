@@ -1,5 +1,5 @@
 use Rattle.std.proofs.Common.{◌∙◌}
-use Rattle.oram_stash.proofs.Settling.{among}
+use Rattle.oram_stash.proofs.StayingBlocks.{among}
 use Rattle.oram_stash.proofs.is_among.Goals as goal
 
 pub returns : goal.returns

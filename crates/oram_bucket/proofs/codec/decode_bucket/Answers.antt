@@ -6,9 +6,9 @@ use Rattle.oram_bucket.specs.Bytes.{IsBytes}
 use Rattle.oram_bucket.specs.Bucket.{IsSpelling}
 use Rattle.oram_bucket.specs.Cell.{Cell}
 use Rattle.oram_bucket.specs.Slots.{block_in}
-use Rattle.oram_bucket.proofs.Spelling.{few_of_depth, length-spelling}
+use Rattle.oram_bucket.proofs.UniqueEncoding.{few_of_depth, length-spelling}
 use Rattle.oram_bucket.proofs.Slots.{wrong_length}
-use Rattle.oram_bucket.proofs.Decoding.{size_of, piece, more_held, moved, at_real, at_dummy, at_fault, at_end, not_spelled, only_spelled}
+use Rattle.oram_bucket.proofs.Decoder.{size_of, piece, more_held, moved, at_real, at_dummy, at_fault, at_end, not_spelled, only_spelled}
 use Rattle.oram_bucket.proofs.codec.decode_bucket.Goals as goal
 
 pub returns-then-bytes-slots-clause-only : goal.returns-then-bytes-slots-clause-only

@@ -1,6 +1,6 @@
 use Rattle.std.proofs.Common.{◌≡◌, length, IfOk}
 use Rattle.std.specs.Slice.Iter.{chunks_exact_rest, chunks_exact_size}
-use Rattle.oram_bucket.proofs.Decoding.{IsAt}
+use Rattle.oram_bucket.proofs.Decoder.{IsAt}
 use Rattle.oram_bucket.proofs.codec.decode_bucket.Given as goal
 
 abbrev pub invariant-loop-slot : goal.invariant-loop-slot

@@ -4,7 +4,7 @@ use Rattle.std.specs.List.{flat_map}
 use Rattle.oram_bucket.specs.Cell.{Cell}
 use Rattle.oram_bucket.specs.Bytes.{IsBytes}
 use Rattle.oram_bucket.specs.Bucket.{slot_of}
-use Rattle.oram_bucket.proofs.Spelling.{few_of_device, small_block, filled_up, slots_more, bytes_and_zeros, bytes_taken}
+use Rattle.oram_bucket.proofs.UniqueEncoding.{few_of_device, small_block, filled_up, slots_more, bytes_and_zeros, bytes_taken}
 use Rattle.oram_bucket.proofs.codec.encode_bucket.Goals as goal
 
 pub append_slot-requires : goal.append_slot-requires

@@ -5,7 +5,7 @@ use Rattle.oram_bucket.specs.declared.block.Block.{Block}
 use Rattle.oram_bucket.specs.Cell.{Cell}
 use Rattle.oram_bucket.specs.Bytes.{IsBytes}
 use Rattle.oram_bucket.specs.Bucket.{slot_of}
-use Rattle.oram_bucket.proofs.Spelling.{few_of_device, small_block, filled_up, slots_more, bytes_and_zeros, bytes_taken}
+use Rattle.oram_bucket.proofs.UniqueEncoding.{few_of_device, small_block, filled_up, slots_more, bytes_and_zeros, bytes_taken}
 use Rattle.oram_bucket.proofs.codec.write_bucket.Goals as goal
 
 -- the borrowed block at an index

@@ -4,7 +4,7 @@ use Rattle.oram_semantics.proofs.NoncesApart.{nonces_apart}
 use Rattle.oram_semantics.specs.Run.{shown_by}
 use Rattle.oram_wire.specs.ListOfBodies.{bodies_in}
 use Rattle.oram_core.specs.Core.{scheme_of, scheme_with}
-use Rattle.oram_core.proofs.Running.{cut_short, right_along, whole_along, new_scheme, all_carried, fewer_carried}
+use Rattle.oram_core.proofs.WholeRuns.{cut_short, right_along, whole_along, new_scheme, all_carried, fewer_carried}
 use Rattle.oram_core.proofs.whole.run.Goals as goal
 
 pub returns-in_default-clause-places : goal.returns-in_default-clause-places

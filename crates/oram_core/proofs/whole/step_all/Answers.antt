@@ -4,7 +4,7 @@ use Rattle.oram_semantics.specs.Run.{shown_by}
 use Rattle.oram_semantics.specs.Scheme.{Scheme}
 use Rattle.oram_semantics.specs.declared.events.Reaction.{Reaction}
 use Rattle.oram_core.specs.Core.{scheme_of}
-use Rattle.oram_core.proofs.Running.{along_none, along_next, along_all, same_scheme}
+use Rattle.oram_core.proofs.WholeRuns.{along_none, along_next, along_all, same_scheme}
 use Rattle.std.proofs.lemmas.Result.{IfOk-from_err}
 use Rattle.oram_core.proofs.whole.step_all.Goals as goal
 

@@ -1,7 +1,7 @@
 use Rattle.std.proofs.Common.{◌≡◌, length, drop, map}
 use Rattle.oram_semantics.specs.Run.{shown_by}
 use Rattle.oram_core.specs.Core.{IsSameDevice, scheme_of}
-use Rattle.oram_core.proofs.Running.{Along}
+use Rattle.oram_core.proofs.WholeRuns.{Along}
 use Rattle.oram_core.proofs.whole.step_all.Given as goal
 
 abbrev pub invariant-loop-event : goal.invariant-loop-event

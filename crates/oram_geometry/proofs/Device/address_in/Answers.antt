@@ -1,6 +1,6 @@
 use Rattle.std.proofs.Common.{◌≡◌, ◌<◌, ◌/◌, ◌+◌, ap, sym, ◌∙◌, subst, arith}
 use Rattle.oram_geometry.specs.Sizes.{fanout, address_in, blocks_in}
-use Rattle.oram_geometry.proofs.Measuring.{address_in-zero, address_in-next, address_in-below}
+use Rattle.oram_geometry.proofs.DeviceSizes.{address_in-zero, address_in-next, address_in-below}
 use Rattle.oram_geometry.proofs.Device.address_in.Goals as goal
 
 pub loop-init : goal.loop-init

@@ -2,7 +2,7 @@ use Rattle.std.proofs.Common.{ap, ◌∙◌, subst, arith}
 use Rattle.oram_geometry.specs.declared.Sizes.{Sizes}
 use Rattle.oram_geometry.specs.Sizes.{blocks_in}
 use Rattle.oram_geometry.specs.Measures.{IsMeasured}
-use Rattle.oram_geometry.proofs.Measuring.{trees_of-few, blocks_in-range, blocks_in-zero}
+use Rattle.oram_geometry.proofs.DeviceSizes.{trees_of-few, blocks_in-range, blocks_in-zero}
 use Rattle.oram_geometry.proofs.Device.blocks_in.Goals as goal
 
 pub bounds-self-inside-tree : goal.bounds-self-inside-tree

@@ -2,7 +2,7 @@ use Rattle.std.proofs.Common.{subst, arith}
 use Rattle.oram_geometry.specs.declared.Sizes.{Sizes}
 use Rattle.oram_geometry.specs.Sizes.{blocks_in}
 use Rattle.oram_geometry.specs.Measures.{IsMeasured}
-use Rattle.oram_geometry.proofs.Measuring.{trees_of-few, blocks_in-range, level_for-least, level_for-range}
+use Rattle.oram_geometry.proofs.DeviceSizes.{trees_of-few, blocks_in-range, level_for-least, level_for-range}
 use Rattle.oram_geometry.proofs.Device.depth.Goals as goal
 
 pub bounds-self-inside-tree : goal.bounds-self-inside-tree

@@ -1,7 +1,7 @@
 use Rattle.std.proofs.Common.{ap, sym, ◌∙◌}
 use Rattle.oram_geometry.specs.declared.Sizes.{Sizes}
 use Rattle.oram_geometry.specs.Sizes.{IsDevice, level_for}
-use Rattle.oram_geometry.proofs.Measuring.{blocks_in-range}
+use Rattle.oram_geometry.proofs.DeviceSizes.{blocks_in-range}
 use Rattle.oram_geometry.proofs.Ranges.{in_ranges}
 use Rattle.oram_geometry.proofs.Device.new.Goals as goal
 

@@ -1,7 +1,7 @@
 use Rattle.std.proofs.Common.{subst}
 use Rattle.oram_geometry.specs.declared.Sizes.{Sizes}
 use Rattle.oram_geometry.specs.Measures.{IsMeasured}
-use Rattle.oram_geometry.proofs.Measuring.{trees_of-few, trees_of-least}
+use Rattle.oram_geometry.proofs.DeviceSizes.{trees_of-few, trees_of-least}
 use Rattle.oram_geometry.proofs.Device.trees.Goals as goal
 
 pub returns : goal.returns

@@ -2,7 +2,7 @@ use Rattle.std.proofs.Common.{◌≡◌, ◌≢◌, ◌<◌, ◌+◌, ◌-◌, l
 use Rattle.std.proofs.Math.ListN.{length-set}
 use Rattle.std.specs.Int.{div_ceil}
 use Rattle.oram_geometry.specs.Sizes.{fanout, blocks_in}
-use Rattle.oram_geometry.proofs.Measuring.{blocks_in-zero, blocks_in-next}
+use Rattle.oram_geometry.proofs.DeviceSizes.{blocks_in-zero, blocks_in-next}
 use Rattle.oram_geometry.proofs.counts.block_counts.Goals as goal
 
 pub loop-tree-init : goal.loop-tree-init

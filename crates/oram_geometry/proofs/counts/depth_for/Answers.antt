@@ -1,6 +1,6 @@
 use Rattle.std.proofs.Common.{◌≡◌, ◌^◌, ◌*◌, ◌%◌, arith}
 use Rattle.std.proofs.lemmas.Nat.{one_shl}
-use Rattle.oram_geometry.proofs.Measuring.{first_level}
+use Rattle.oram_geometry.proofs.DeviceSizes.{first_level}
 use Rattle.oram_geometry.proofs.counts.depth_for.Goals as goal
 
 pub returns : goal.returns

@@ -1,6 +1,6 @@
 use Rattle.std.proofs.Common.{◌≡◌, ◌≤◌, ◌-◌, false, get_or, ap, ◌∙◌, arith, below_more}
 use Rattle.oram_geometry.specs.Sizes.{fits_table, blocks_in}
-use Rattle.oram_geometry.proofs.Measuring.{more_trees, first_trees}
+use Rattle.oram_geometry.proofs.DeviceSizes.{more_trees, first_trees}
 use Rattle.oram_geometry.proofs.counts.tree_count.Goals as goal
 
 pub loop-trees-smaller : goal.loop-trees-smaller

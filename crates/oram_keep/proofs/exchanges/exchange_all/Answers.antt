@@ -7,13 +7,13 @@ use Rattle.oram_semantics.specs.Progress.Status.{Waiting}
 use Rattle.oram_semantics.specs.Scheme.{Scheme}
 use Rattle.oram_semantics.specs.State.{status_in}
 use Rattle.oram_core.specs.Core.{scheme_of}
-use Rattle.oram_core.specs.Doing.{done}
+use Rattle.oram_core.specs.PlainSteps.{done}
 use Rattle.oram_core.specs.Steps.{Heard}
 use Rattle.oram_session.specs.Exchanges.{IsCutOff, IsSent}
 use Rattle.oram_session.specs.Settled.{answers_left}
 use Rattle.oram_session.specs.Turns.{most_retries}
 use Rattle.oram_session.proofs.Resumed.{HasBody, heard_bodies, heard_going, some_at_work}
-use Rattle.oram_session.proofs.Steppings.{left_heard, same_scheme, same_trans}
+use Rattle.oram_session.proofs.CoreSteps.{left_heard, same_scheme, same_trans}
 use Rattle.oram_keep.specs.Ends.{HasRunOut}
 use Rattle.oram_keep.specs.Keeping.{at, replies_of}
 use Rattle.oram_keep.specs.declared.faults.KeepFault.TheVariants.{Stalled, Unkept, OutOfMemory}

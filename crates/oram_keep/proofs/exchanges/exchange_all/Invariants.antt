@@ -2,7 +2,7 @@ use Rattle.std.proofs.Common.{length}
 use Rattle.std.specs.List.{All}
 use Rattle.oram_semantics.specs.State.{State}
 use Rattle.oram_core.specs.Core.{IsSameDevice, scheme_of}
-use Rattle.oram_core.specs.Doing.{done}
+use Rattle.oram_core.specs.PlainSteps.{done}
 use Rattle.oram_session.specs.Settled.{answers_left}
 use Rattle.oram_session.proofs.Resumed.{HasBody, IsGoing}
 use Rattle.oram_keep.proofs.Deeds.{SoFar}

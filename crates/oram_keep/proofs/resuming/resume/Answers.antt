@@ -1,7 +1,7 @@
 use Rattle.std.proofs.Common.{◌≡◌, Err, length, sym, ap, ◌∙◌, inr}
 use Rattle.std.proofs.lemmas.Result.{err_from_is_err_and}
 use Rattle.oram_core.specs.Core.{scheme_of}
-use Rattle.oram_session.proofs.Steppings.{same_scheme}
+use Rattle.oram_session.proofs.CoreSteps.{same_scheme}
 use Rattle.oram_keep.specs.Asking.{IsReopened}
 use Rattle.oram_keep.specs.declared.faults.KeepFault.TheVariants.{Stalled, Unkept, OutOfMemory}
 use Rattle.oram_keep.proofs.Begun.{given_from, out_from, stalled_from, unkept_from}

@@ -5,7 +5,7 @@ use Rattle.std.proofs.lemmas.Result.{err_from_is_err_and}
 use Rattle.oram_redo.specs.Recovery.{IsEntryAt}
 use Rattle.oram_redo.specs.declared.file_pair.FileKind.TheVariants.{Log}
 use Rattle.oram_redo.proofs.Moments.{nothing_more_written}
-use Rattle.oram_redo.proofs.Reading.{patch_at, opens_more, opens_damaged, entry_along, damaged_along}
+use Rattle.oram_redo.proofs.LogReads.{patch_at, opens_more, opens_damaged, entry_along, damaged_along}
 use Rattle.oram_redo.proofs.recovery.end_of_log.Goals as goal
 
 pub returns-in_err-found-clause-damaged : goal.returns-in_err-found-clause-damaged

@@ -2,7 +2,7 @@ use Rattle.std.proofs.Common.{List, ◌-◌}
 use Rattle.oram_redo.specs.FilePair.{ComesAfter, WritesNothing}
 use Rattle.oram_redo.specs.Log.{Patch}
 use Rattle.oram_redo.specs.declared.file_pair.FileKind.TheVariants.{Log}
-use Rattle.oram_redo.proofs.Reading.{Opens}
+use Rattle.oram_redo.proofs.LogReads.{Opens}
 use Rattle.oram_redo.proofs.recovery.end_of_log.Given as goal
 
 abbrev pub invariant-loop-found : goal.invariant-loop-found

@@ -1,7 +1,7 @@
 use Rattle.oram_redo.specs.declared.faults.RedoError.TheVariants.{Failed}
 use Rattle.oram_redo.proofs.Outcomes.{if_err_passed, if_of_passed, if_ok_none, not_damaged}
 use Rattle.std.proofs.Common.{sym, ◌∙◌, ⊎_elim, inl, inr}
-use Rattle.oram_redo.proofs.Reading.{damaged_head}
+use Rattle.oram_redo.proofs.LogReads.{damaged_head}
 use Rattle.oram_redo.proofs.recovery.find_entry.Goals as goal
 
 pub returns-clause-damaged : goal.returns-clause-damaged

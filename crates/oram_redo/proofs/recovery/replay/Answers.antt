@@ -7,7 +7,7 @@ use Rattle.std.proofs.lemmas.Result.{err_from_is_err_and}
 use Rattle.oram_redo.specs.Log.{put_all}
 use Rattle.oram_redo.specs.Recovery.{IsEntryAt}
 use Rattle.oram_redo.specs.declared.file_pair.FileKind.TheVariants.{Records, Log}
-use Rattle.oram_redo.proofs.Reading.{opens_damaged, all_read, damaged_along, end_along}
+use Rattle.oram_redo.proofs.LogReads.{opens_damaged, all_read, damaged_along, end_along}
 use Rattle.oram_redo.proofs.Replay.{spared, replayed_more, crash_more, moments_more}
 use Rattle.oram_redo.proofs.recovery.replay.Goals as goal
 

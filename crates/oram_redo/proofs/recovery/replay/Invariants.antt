@@ -4,7 +4,7 @@ use Rattle.oram_redo.specs.FilePair.{Follows, ComesAfter, LeavesOnly}
 use Rattle.oram_redo.specs.Log.{Patch, IsLog, Smeared}
 use Rattle.oram_redo.specs.Steps.{Smears}
 use Rattle.oram_redo.specs.declared.file_pair.FileKind.TheVariants.{Log}
-use Rattle.oram_redo.proofs.Reading.{Replayed}
+use Rattle.oram_redo.proofs.LogReads.{Replayed}
 use Rattle.oram_redo.proofs.recovery.replay.Given as goal
 
 abbrev pub invariant-loop-found : goal.invariant-loop-found

@@ -1,4 +1,4 @@
-use Rattle.oram_redo.proofs.Tearing.{torn_not}
+use Rattle.oram_redo.proofs.TornWrites.{torn_not}
 use Rattle.oram_redo.proofs.Moments.{goes_on, one_call}
 use Rattle.oram_redo.proofs.Outcomes.{after_then, cause_last, cause_passed, either_failed, if_err_passed, on_ok_holds, on_ok_none}
 use Rattle.oram_redo.specs.Steps.{Tears}

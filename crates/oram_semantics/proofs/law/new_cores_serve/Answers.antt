@@ -1,4 +1,4 @@
-use Rattle.oram_semantics.proofs.Serving.{new_cores_serve}
+use Rattle.oram_semantics.proofs.ArrayService.{new_cores_serve}
 use Rattle.oram_semantics.proofs.law.new_cores_serve.Goals as goal
 
 pub returns : goal.returns

@@ -7,7 +7,7 @@ use Rattle.oram_semantics.specs.declared.events.Note.TheVariants.{Stalled}
 use Rattle.oram_core.specs.Core.{scheme_of}
 use Rattle.oram_core.specs.Steps.{Heard, did}
 use Rattle.oram_session.specs.Exchanges.{Delivery, event_of, IsCutOff}
-use Rattle.oram_session.proofs.Steppings.{steps_under, same_trans, answer_noted, stall_noted, stalled_status, heard_is}
+use Rattle.oram_session.proofs.CoreSteps.{steps_under, same_trans, answer_noted, stall_noted, stalled_status, heard_is}
 use Rattle.oram_session.proofs.Exchanged.{tried_more, sent, untold, told_then}
 use Rattle.oram_session.proofs.exchanges.exchange.Goals as goal
 use Rattle.oram_session.proofs.exchanges.exchange.Goals.{in-Stalled, in_default}

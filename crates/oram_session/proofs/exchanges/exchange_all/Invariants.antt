@@ -2,7 +2,7 @@ use Rattle.std.proofs.Common.{◌≡◌, ◌+◌, ◌++◌, List, length}
 use Rattle.std.specs.List.{All}
 use Rattle.oram_semantics.specs.declared.events.Reply.{Reply}
 use Rattle.oram_core.specs.Core.{IsSameDevice, scheme_of}
-use Rattle.oram_core.specs.Doing.{done}
+use Rattle.oram_core.specs.PlainSteps.{done}
 use Rattle.oram_session.specs.Exchanges.{Delivery, AllSentFrom, retries_after}
 use Rattle.oram_session.specs.Settled.{answers_left}
 use Rattle.oram_session.specs.Turns.{most_retries}

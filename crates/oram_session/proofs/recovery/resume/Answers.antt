@@ -5,7 +5,7 @@ use Rattle.oram_session.specs.Exchanges.{IsSent, IsCutOff, AllSentFrom}
 use Rattle.oram_session.specs.Resumption.{first_retries, retries_now}
 use Rattle.oram_session.specs.Turns.{most_retries}
 use Rattle.oram_host.specs.declared.serve_fault.ServeFault.TheVariants.{Stalled, OutOfMemory}
-use Rattle.oram_session.proofs.Steppings.{same_scheme}
+use Rattle.oram_session.proofs.CoreSteps.{same_scheme}
 use Rattle.oram_session.proofs.Turned.{err_is}
 use Rattle.oram_session.proofs.recovery.resume.Goals as goal
 

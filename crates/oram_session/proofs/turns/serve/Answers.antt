@@ -12,7 +12,7 @@ use Rattle.oram_session.specs.Turns.{IsTurn, IsStuck, IsCutTurn}
 use Rattle.oram_host.specs.declared.serve_fault.ServeFault.TheVariants.{Write, Stalled, OutOfMemory}
 use Rattle.oram_host.proofs.Answered.{was_read, was_frame, was_memory}
 use Rattle.oram_session.proofs.Served.{served_more, served_then, under, same_pair}
-use Rattle.oram_session.proofs.Steppings.{same_scheme, same_trans}
+use Rattle.oram_session.proofs.CoreSteps.{same_scheme, same_trans}
 use Rattle.oram_session.proofs.Turned.{err_is}
 use Rattle.oram_session.proofs.turns.serve.Goals as goal
 

@@ -9,7 +9,7 @@ use Rattle.oram_session.specs.Exchanges.{AllSent, IsSent, IsCutOff}
 use Rattle.oram_session.specs.Requests.{session_reply}
 use Rattle.oram_session.specs.Turns.{most_retries}
 use Rattle.oram_host.specs.declared.serve_fault.ServeFault.TheVariants.{Stalled, OutOfMemory}
-use Rattle.oram_session.proofs.Steppings.{same_scheme}
+use Rattle.oram_session.proofs.CoreSteps.{same_scheme}
 use Rattle.oram_session.proofs.Turned.{err_is, bad_turn, asked_so, refused_turn, accepted_turn, at_work}
 use Rattle.oram_session.proofs.turns.take_turn.Goals as goal
 

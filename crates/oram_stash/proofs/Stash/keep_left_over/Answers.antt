@@ -4,7 +4,7 @@ use Rattle.std.proofs.lemmas.Fn.{filter_same}
 use Rattle.std.proofs.lemmas.List.Sorted.{IsNonDecreasingBy-from_sort_by_key}
 use Rattle.oram_bucket.specs.declared.block.Block.{Block}
 use Rattle.oram_bucket.specs.Cell.{IsRising}
-use Rattle.oram_stash.proofs.Settling.{sorted_blocks_rise, settled, settled_apart}
+use Rattle.oram_stash.proofs.StayingBlocks.{sorted_blocks_rise, settled, settled_apart}
 use Rattle.oram_stash.proofs.Stash.keep_left_over.Goals as goal
 
 -- those that stay, in the order in which they came

@@ -3,7 +3,7 @@ use Rattle.std.proofs.lemmas.List.{get_or-map}
 use Rattle.oram_geometry.specs.Sizes.{depth_of as depth}
 use Rattle.oram_bucket.specs.declared.block.Block.{Block}
 use Rattle.oram_stash.specs.Eviction.{listed}
-use Rattle.oram_stash.proofs.Moving.{items_of}
+use Rattle.oram_stash.proofs.Moves.{items_of}
 use Rattle.oram_stash.proofs.Tight.{EndsAt, ReachesTo, TightTo-rest, TightTo-more, All-of_list, All-of_rest, at_read_of, ReachesTo-either}
 use Rattle.oram_stash.proofs.Stash.tight_level.Goals as goal
 

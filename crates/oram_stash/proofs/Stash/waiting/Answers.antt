@@ -3,8 +3,8 @@ use Rattle.std.specs.List.{filter}
 use Rattle.std.specs.List.Sorted.{IsPermutation}
 use Rattle.std.proofs.lemmas.List.Sorted.{IsPermutation-map, IsNonDecreasingBy-from_sort_by_key}
 use Rattle.oram_bucket.specs.declared.block.Block.{Block}
-use Rattle.oram_stash.proofs.Rising.{AreApart}
-use Rattle.oram_stash.proofs.Settling.{sorted_rises, waiting_apart, waiting_are}
+use Rattle.oram_stash.proofs.SortedBlocks.{AreApart}
+use Rattle.oram_stash.proofs.StayingBlocks.{sorted_rises, waiting_apart, waiting_are}
 use Rattle.oram_stash.proofs.Stash.waiting.Goals as goal
 
 pub returns-clause-rising : goal.returns-clause-rising

@@ -2,7 +2,7 @@ use Rattle.std.proofs.Common.{◌≡◌, ℕ, ◌+◌, ◌-◌, ◌<◌, ◌≤�
 use Rattle.std.proofs.lemmas.List.{with_items_is}
 use Rattle.oram_geometry.specs.Sizes.{depth_of as depth}
 use Rattle.oram_stash.specs.Plan.{Reaches}
-use Rattle.oram_stash.proofs.Popping.{one_round}
+use Rattle.oram_stash.proofs.Pops.{one_round}
 use Rattle.oram_stash.proofs.levels.chosen_levels.Goals as goal
 use Rattle.oram_stash.proofs.levels.chosen_levels.Goals.{then-loop-level-test+in_ok-admit+else-level-gt0, else-loop-level-test}
 

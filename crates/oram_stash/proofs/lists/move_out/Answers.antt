@@ -5,7 +5,7 @@ use Rattle.std.proofs.lemmas.Iterator.Consumers.{YieldsList-turn}
 use Rattle.std.proofs.lemmas.List.{length_push}
 use Rattle.std.proofs.lemmas.List.Elements.{All-set}
 use Rattle.oram_stash.specs.Plan.{is_level}
-use Rattle.oram_stash.proofs.Moving.{Moved-none, zip_read, room_in_list, room_in_rest, Moved-pushed, Moved-kept}
+use Rattle.oram_stash.proofs.Moves.{Moved-none, zip_read, room_in_list, room_in_rest, Moved-pushed, Moved-kept}
 use Rattle.oram_stash.proofs.lists.move_out.Goals as goal
 
 pub loop-block-init : goal.loop-block-init

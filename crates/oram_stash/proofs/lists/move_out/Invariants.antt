@@ -1,6 +1,6 @@
 use Rattle.std.proofs.Common.{ℕ, ◌≤◌, length, map, All, count_by, vec_capacity, vec_len, Vec, Global}
 use Rattle.oram_stash.specs.Plan.{is_level}
-use Rattle.oram_stash.proofs.Picking.{Moved}
+use Rattle.oram_stash.proofs.Picks.{Moved}
 use Rattle.oram_stash.proofs.lists.move_out.Given as goal
 
 abbrev pub invariant-loop-block : goal.invariant-loop-block

@@ -1,6 +1,6 @@
 use Rattle.std.proofs.lemmas.Result.{err_from_is_err_and}
 use Rattle.std.specs.Int.{w64}
-use Rattle.oram_state.specs.Reading.{many, next_number}
+use Rattle.oram_state.specs.Parser.{many, next_number}
 use Rattle.oram_state.proofs.Loops.{goes_on, ends, is_done}
 use Rattle.oram_state.proofs.fields.read_longs.Goals as goal
 

@@ -1,6 +1,6 @@
 use Rattle.std.proofs.Common.{◌≡◌, ◌-◌}
 use Rattle.std.specs.Int.{w64}
-use Rattle.oram_state.specs.Reading.{many, next_number}
+use Rattle.oram_state.specs.Parser.{many, next_number}
 use Rattle.oram_state.proofs.Loops.{with_front}
 use Rattle.oram_state.proofs.fields.read_longs.Given as goal
 

@@ -1,5 +1,5 @@
 use Rattle.std.proofs.lemmas.Result.{err_from_is_err_and}
-use Rattle.oram_state.specs.Reading.{many, next_tree}
+use Rattle.oram_state.specs.Parser.{many, next_tree}
 use Rattle.oram_state.proofs.Loops.{goes_on, ends, is_done}
 use Rattle.oram_state.proofs.kept.read_trees.Goals as goal
 

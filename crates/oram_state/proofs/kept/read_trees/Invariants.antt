@@ -1,5 +1,5 @@
 use Rattle.std.proofs.Common.{◌≡◌, ◌-◌}
-use Rattle.oram_state.specs.Reading.{many, next_tree}
+use Rattle.oram_state.specs.Parser.{many, next_tree}
 use Rattle.oram_state.proofs.Loops.{with_front}
 use Rattle.oram_state.proofs.kept.read_trees.Given as goal
 

@@ -1,5 +1,5 @@
 use Rattle.std.proofs.Common.{arith, subst}
-use Rattle.oram_state.specs.Reading.{Gives}
+use Rattle.oram_state.specs.Parser.{Gives}
 use Rattle.oram_state.proofs.Framed.{found, state_again}
 use Rattle.oram_state.proofs.reader.read_state.Goals as goal
 

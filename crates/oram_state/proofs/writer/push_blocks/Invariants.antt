@@ -1,6 +1,6 @@
 use Rattle.std.proofs.Common.{◌≡◌, ◌++◌, take}
 use Rattle.std.specs.List.{flat_map}
-use Rattle.oram_state.specs.Spelling.{block_text}
+use Rattle.oram_state.specs.StateBytes.{block_text}
 use Rattle.oram_state.proofs.writer.push_blocks.Given as goal
 
 abbrev pub invariant-loop-block : goal.invariant-loop-block

@@ -1,6 +1,6 @@
 use Rattle.std.proofs.Common.{◌≡◌, ◌++◌, All, take}
 use Rattle.std.specs.List.{flat_map}
-use Rattle.oram_state.specs.Spelling.{pending_text}
+use Rattle.oram_state.specs.StateBytes.{pending_text}
 use Rattle.oram_state.specs.WellSized.{CommandFits}
 use Rattle.oram_state.proofs.writer.push_pendings.Given as goal
 

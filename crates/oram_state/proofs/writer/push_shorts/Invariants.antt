@@ -1,6 +1,6 @@
 use Rattle.std.proofs.Common.{◌≡◌, ◌++◌, take}
 use Rattle.std.specs.List.{flat_map}
-use Rattle.oram_state.specs.Spelling.{short}
+use Rattle.oram_state.specs.StateBytes.{short}
 use Rattle.oram_state.proofs.writer.push_shorts.Given as goal
 
 abbrev pub invariant-loop-number : goal.invariant-loop-number

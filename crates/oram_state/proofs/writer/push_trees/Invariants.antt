@@ -1,6 +1,6 @@
 use Rattle.std.proofs.Common.{◌≡◌, ◌++◌, All, length, take}
 use Rattle.std.specs.List.{flat_map}
-use Rattle.oram_state.specs.Spelling.{tree_text}
+use Rattle.oram_state.specs.StateBytes.{tree_text}
 use Rattle.oram_state.proofs.writer.push_trees.Given as goal
 
 abbrev pub invariant-loop-tree : goal.invariant-loop-tree

@@ -1,6 +1,6 @@
 use Rattle.std.proofs.Common.{◌≡◌, ◌++◌, List, ℕ, take, drop, ap, ◌∙◌}
 use Rattle.std.proofs.lemmas.List.{drop-drop}
-use Rattle.oram_state.specs.Spelling.{long}
+use Rattle.oram_state.specs.StateBytes.{long}
 use Rattle.oram_state.proofs.writer.set_length.Goals as goal
 
 pub returns : goal.returns

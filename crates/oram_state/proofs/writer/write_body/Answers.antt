@@ -1,6 +1,6 @@
 use Rattle.std.proofs.Common.{◌≡◌, ◌+◌, ◌++◌, List, ℕ, length, take, drop, ap, arith, rules, ◌∙◌}
 use Rattle.std.proofs.lemmas.List.{take_at}
-use Rattle.oram_state.specs.Spelling.{head_text, rest_text, fields_text, long, body}
+use Rattle.oram_state.specs.StateBytes.{head_text, rest_text, fields_text, long, body}
 use Rattle.oram_state.proofs.Written.{unmeasured, pieced, measured, length-unmeasured, length-body}
 use Rattle.oram_state.proofs.writer.write_body.Goals as goal
 

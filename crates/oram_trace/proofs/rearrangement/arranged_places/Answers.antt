@@ -1,6 +1,6 @@
 use Rattle.std.proofs.Common.{◌≡◌, ◌<◌, length, ap, sym, subst, ◌∙◌, arith}
 use Rattle.std.specs.List.{All}
-use Rattle.oram_trace.specs.Rearranging.{tape_len, tree_of_place, shown_places, places_of, rest_without}
+use Rattle.oram_trace.specs.TapeRearrangement.{tape_len, tree_of_place, shown_places, places_of, rest_without}
 use Rattle.oram_trace.proofs.Arranged.{shown_places-length, shown_places-within, shown_places-tree, arranged_places-from}
 use Rattle.oram_trace.proofs.rearrangement.arranged_places.Goals as goal
 

@@ -1,9 +1,9 @@
 use Rattle.std.proofs.Common.{◌≡◌, ℕ, ◌+◌, ◌*◌, ◌/◌, ◌%◌, ◌<◌, Bool, true, false, [], ◌∷◌, ◌++◌, length, get_or, refl, ap, sym, subst, ◌∙◌, arith, Vec, Global}
 use Rattle.std.proofs.lemmas.Grind.{common_steps}
 use Rattle.oram_geometry.specs.Sizes.{trees_of}
-use Rattle.oram_trace.specs.Rearranging.{is_among, nth_place}
-use Rattle.oram_trace.proofs.Placing.{nth_place-of_rank, rank_of}
-use Rattle.oram_trace.proofs.Keeping.{kept_places-none, kept_places-one_more, kept_places-no_more, kept_places-all, marked-more, marked-all, nth_place-from}
+use Rattle.oram_trace.specs.TapeRearrangement.{is_among, nth_place}
+use Rattle.oram_trace.proofs.TreePlaces.{nth_place-of_rank, rank_of}
+use Rattle.oram_trace.proofs.OtherPlaces.{kept_places-none, kept_places-one_more, kept_places-no_more, kept_places-all, marked-more, marked-all, nth_place-from}
 use Rattle.oram_trace.proofs.rearrangement.places_without.Goals as goal
 use Rattle.oram_trace.proofs.rearrangement.places_without.Goals.{then-not-is_among+in_ok-push, else-not-is_among, Joined-not-is_among}
 

@@ -1,6 +1,6 @@
 use Rattle.std.proofs.Common.{◌≡◌, ℕ, ◌*◌, ◌<◌, false, take, length, get_or}
-use Rattle.oram_trace.specs.Rearranging.{is_among, nth_place}
-use Rattle.oram_trace.proofs.Keeping.{kept_places}
+use Rattle.oram_trace.specs.TapeRearrangement.{is_among, nth_place}
+use Rattle.oram_trace.proofs.OtherPlaces.{kept_places}
 use Rattle.oram_trace.proofs.rearrangement.places_without.Given as goal
 
 -- the places so far are marked

@@ -2,9 +2,9 @@ use Rattle.std.proofs.Common.{◌≡◌, ◌*◌, ◌<◌, ◌++◌, length, map
 use Rattle.std.proofs.lemmas.List.{take_at}
 use Rattle.std.specs.List.{All, AllPairs}
 use Rattle.oram_geometry.specs.Sizes.{trees_of}
-use Rattle.oram_trace.specs.Rearranging.{tape_len, arranged_places}
+use Rattle.oram_trace.specs.TapeRearrangement.{tape_len, arranged_places}
 use Rattle.oram_trace.proofs.Arranged.{arranged_places-length, arranged_places-within, arranged_places-apart}
-use Rattle.oram_trace.proofs.Sending.{sent_more, length-no_fault}
+use Rattle.oram_trace.proofs.WrittenTrees.{sent_more, length-no_fault}
 use Rattle.oram_trace.proofs.Rearranged.{IsRearrangement-from, NamesEachOnce-from, KeepsTrees-from, ShowsAlike-from}
 use Rattle.oram_trace.proofs.rearrangement.rearrange.Goals as goal
 use Rattle.oram_trace.proofs.rearrangement.rearrange.Goals.{After-deref-in-loop-tree}

@@ -1,5 +1,5 @@
 use Rattle.std.proofs.Common.{◌≡◌, ℕ, ◌<◌, length, map, slice_index}
-use Rattle.oram_trace.specs.Rearranging.{tape_len, arranged_places}
+use Rattle.oram_trace.specs.TapeRearrangement.{tape_len, arranged_places}
 use Rattle.oram_trace.proofs.rearrangement.rearrange.Given as goal
 
 -- the trees so far are done

@@ -2,7 +2,7 @@ use Rattle.std.proofs.Common.{◌≡◌, ◌+◌, ◌*◌, ◌<◌, ◌^◌, Som
 use Rattle.std.proofs.lemmas.List.FromFn.{map-range_with_len_more}
 use Rattle.std.specs.List.{range_with_len}
 use Rattle.oram_trace.specs.Tape.{place, place_after}
-use Rattle.oram_trace.specs.Rearranging.{shown_places}
+use Rattle.oram_trace.specs.TapeRearrangement.{shown_places}
 use Rattle.oram_trace.proofs.Uses.{last_with-none, last_with-below, last_with-put, place-last_with, place_fits}
 use Rattle.oram_trace.proofs.rearrangement.shown_places.Goals as goal
 use Rattle.oram_trace.proofs.rearrangement.shown_places.Goals.{in-Some, in-None, In-Some, In_ok-push}

@@ -2,7 +2,7 @@ use Rattle.std.proofs.Common.{◌≡◌, ℕ, List, Err, sym, ap, subst, ◌∙�
 use Rattle.std.proofs.lemmas.Result.{err_from_is_err_and}
 use Rattle.oram_hash.specs.Path.{with_bytes}
 use Rattle.oram_bucket.specs.Cell.{Cell}
-use Rattle.oram_bucket.specs.Reading.{Reads}
+use Rattle.oram_bucket.specs.SealedBlocks.{Reads}
 use Rattle.oram_tree.specs.State.{State}
 use Rattle.oram_tree.specs.Edits.{edited_block}
 use Rattle.oram_tree.specs.Access.{IsNear, IsReadable, IsLookup, IsRewritten, IsUpdate}

@@ -1,7 +1,7 @@
 use Rattle.std.proofs.Common.{◌≡◌, ◌++◌, ◌+◌, ◌≤◌, ℕ, List, Err, refl, sym, ap, subst, ◌∙◌, arith}
 use Rattle.std.proofs.lemmas.Result.{err_from_is_err_and}
 use Rattle.oram_bucket.specs.Cell.{Cell, IsRising}
-use Rattle.oram_bucket.specs.Reading.{Reads}
+use Rattle.oram_bucket.specs.SealedBlocks.{Reads}
 use Rattle.oram_tree.proofs.Content.{reads_uniquely}
 use Rattle.oram_tree.proofs.Gathered.{HasFetched, IsReadableTo, one_fault, levels_over, fetched_more, fetched_whole, fetched_blocks, readable_none, readable_more, readable_whole, not_readable, not_once, unread}
 use Rattle.oram_tree.proofs.path_blocks.gather.Goals as goal

@@ -1,5 +1,5 @@
 use Rattle.oram_bucket.specs.Cell.{IsRising}
-use Rattle.oram_bucket.specs.Reading.{Reads}
+use Rattle.oram_bucket.specs.SealedBlocks.{Reads}
 use Rattle.oram_tree.proofs.Gathered.{IsReadableTo, HasFetched}
 use Rattle.oram_tree.proofs.path_blocks.gather.Given as goal
 

@@ -1,6 +1,6 @@
 use Rattle.std.proofs.Common.{◌≡◌, ◌-◌, length, take, drop, refl, ◌∙◌, rules}
 use Rattle.oram_hash.specs.Rebuild.{joined_from}
-use Rattle.oram_bucket.specs.Reading.{Reads}
+use Rattle.oram_bucket.specs.SealedBlocks.{Reads}
 use Rattle.oram_tree.proofs.Sealed.{lent, cut_back, gained_part, written_back, joined_whole, appended}
 use Rattle.oram_tree.proofs.path_rewrite.append_path.Goals as goal
 

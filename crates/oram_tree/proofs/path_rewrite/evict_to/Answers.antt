@@ -4,7 +4,7 @@ use Rattle.oram_geometry.specs.Sizes.{depth_of}
 use Rattle.oram_hash.specs.Path.{Path}
 use Rattle.oram_bucket.specs.Cell.{Cell}
 use Rattle.oram_bucket.specs.Bucket.{IsBlockOf, IsBucketOf}
-use Rattle.oram_bucket.specs.Reading.{Reads}
+use Rattle.oram_bucket.specs.SealedBlocks.{Reads}
 use Rattle.oram_stash.specs.Eviction.{IsEviction}
 use Rattle.oram_tree.specs.Access.{IsAppended}
 use Rattle.oram_tree.proofs.Sealed.{lent}

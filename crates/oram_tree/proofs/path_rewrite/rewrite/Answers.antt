@@ -2,7 +2,7 @@ use Rattle.std.proofs.Common.{◌≡◌, ℕ, List, All, refl, sym, subst, arith
 use Rattle.oram_hash.specs.Path.{with_bytes}
 use Rattle.oram_bucket.specs.Cell.{Cell}
 use Rattle.oram_bucket.specs.Bucket.{IsBlockOf}
-use Rattle.oram_bucket.specs.Reading.{Reads}
+use Rattle.oram_bucket.specs.SealedBlocks.{Reads}
 use Rattle.oram_tree.specs.Edits.{edited_block}
 use Rattle.oram_tree.specs.Access.{IsNear, IsRewritten}
 use Rattle.oram_tree.proofs.Gathered.{near_block}

@@ -3,7 +3,7 @@ use Rattle.std.proofs.lemmas.List.{length-append}
 use Rattle.oram_geometry.specs.Sizes.{record_len_of}
 use Rattle.oram_bucket.specs.Cell.{Cell}
 use Rattle.oram_bucket.specs.Bucket.{spelling}
-use Rattle.oram_bucket.specs.Reading.{Reads}
+use Rattle.oram_bucket.specs.SealedBlocks.{Reads}
 use Rattle.oram_stash.specs.Eviction.{listed}
 use Rattle.oram_tree.specs.Access.{IsSealedTo}
 use Rattle.oram_tree.proofs.Sealed.{lent, lent_at, sealed_none, sealed_more}

@@ -1,6 +1,6 @@
 use Rattle.std.proofs.Common.{map, Bor, Vec, Global}
 use Rattle.oram_bucket.specs.Cell.{Cell}
-use Rattle.oram_bucket.specs.Reading.{Reads}
+use Rattle.oram_bucket.specs.SealedBlocks.{Reads}
 use Rattle.oram_tree.specs.Access.{IsSealedTo}
 use Rattle.oram_tree.proofs.path_rewrite.seal_path.Given as goal
 

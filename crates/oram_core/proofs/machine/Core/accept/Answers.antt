@@ -2,7 +2,7 @@ use Rattle.oram_core.proofs.Small.{copied, fine_allowed, granted, unfailed}
 use Rattle.std.proofs.Common.{ap, refl, rules}
 use Rattle.std.proofs.lemmas.Result.{IfOk-from_err}
 use Rattle.oram_core.specs.Core.{CoreValue, scheme_of}
-use Rattle.oram_core.proofs.Closing.{begun_so, enqueued_so}
+use Rattle.oram_core.proofs.MethodEnds.{begun_so, enqueued_so}
 use Rattle.oram_core.proofs.Heard.{on_err}
 use Rattle.oram_core.proofs.machine.Core.accept.Goals as goal
 

@@ -6,9 +6,9 @@ use Rattle.oram_wire.specs.HostMessages.{store_body}
 use Rattle.oram_semantics.specs.declared.events.Reason.TheVariants as reason
 use Rattle.oram_semantics.specs.declared.events.Submission.{Submission}
 use Rattle.oram_core.specs.Core.{CoreValue, scheme_of}
-use Rattle.oram_core.specs.Doing.{failed_by, stored_by, is_misled}
-use Rattle.oram_core.proofs.Meeting.{Waits, waits}
-use Rattle.oram_core.proofs.Closing.{stored_so, led_right}
+use Rattle.oram_core.specs.PlainSteps.{failed_by, stored_by, is_misled}
+use Rattle.oram_core.proofs.LocalRule.{Waits, waits}
+use Rattle.oram_core.proofs.MethodEnds.{stored_so, led_right}
 use Rattle.oram_geometry.specs.Sizes.{trees_of}
 use Rattle.oram_core.proofs.machine.Core.adopt_access.Goals as goal
 

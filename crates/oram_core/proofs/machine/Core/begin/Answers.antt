@@ -1,7 +1,7 @@
 use Rattle.std.proofs.Common.{◌≡◌, ◌<◌, length, None, sym, subst, ap, refl}
 use Rattle.oram_semantics.specs.Agree.{IsAllowed}
 use Rattle.oram_core.specs.Core.{CoreValue}
-use Rattle.oram_core.specs.Doing.{first_message}
+use Rattle.oram_core.specs.PlainSteps.{first_message}
 use Rattle.oram_core.proofs.Sound.{begun_as}
 use Rattle.std.proofs.lemmas.Result.{IfOk-from_err}
 use Rattle.oram_core.proofs.Heard.{on_err}

@@ -4,8 +4,8 @@ use Rattle.oram_hash.specs.Path.{Path}
 use Rattle.oram_semantics.specs.Messages.{requested, message_place}
 use Rattle.oram_core.specs.Core.{CoreValue, scheme_of, IsSound}
 use Rattle.oram_core.proofs.Small.{asked_leaf}
-use Rattle.oram_core.proofs.Closing.{leaf_here}
-use Rattle.oram_core.proofs.Hearing.{lends, path_same, checked_as, lent_within}
+use Rattle.oram_core.proofs.MethodEnds.{leaf_here}
+use Rattle.oram_core.proofs.AnswerVerdicts.{lends, path_same, checked_as, lent_within}
 use Rattle.oram_core.proofs.Sound.{has_oldest}
 use Rattle.oram_core.proofs.machine.Core.checked.Goals as goal
 

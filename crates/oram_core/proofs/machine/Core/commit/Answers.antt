@@ -2,10 +2,10 @@ use Rattle.std.proofs.Common.{◌≡◌, ◌+◌, ◌^◌, ◌<◌, ◌==◌, if
 use Rattle.oram_geometry.specs.Sizes.{depth_of}
 use Rattle.oram_core.specs.Core.{CoreValue, IsSound, scheme_of}
 use Rattle.oram_semantics.proofs.Bounds.{depth_small}
-use Rattle.oram_core.proofs.Meeting.{waits}
+use Rattle.oram_core.proofs.LocalRule.{waits}
 use Rattle.oram_core.proofs.Small.{leaf_fits}
 use Rattle.oram_core.proofs.Sound.{nonce_low}
-use Rattle.oram_core.proofs.Closing.{commit_sound}
+use Rattle.oram_core.proofs.MethodEnds.{commit_sound}
 use Rattle.oram_core.proofs.machine.Core.commit.Goals as goal
 
 pub name_block-requires-clause-leaf : goal.name_block-requires-clause-leaf

@@ -5,8 +5,8 @@ use Rattle.oram_semantics.specs.Progress.Status.{Waiting}
 use Rattle.oram_semantics.specs.State.{status_in}
 use Rattle.oram_semantics.specs.declared.events.Submission.{Submission}
 use Rattle.oram_core.specs.Core.{CoreValue, scheme_with}
-use Rattle.oram_core.specs.Doing.{fetch_of}
-use Rattle.oram_core.proofs.Closing.{stage_small, fetch_sound, fetched_so}
+use Rattle.oram_core.specs.PlainSteps.{fetch_of}
+use Rattle.oram_core.proofs.MethodEnds.{stage_small, fetch_sound, fetched_so}
 use Rattle.std.proofs.lemmas.Result.{IfOk-from_err}
 use Rattle.oram_core.proofs.Heard.{on_err}
 use Rattle.oram_core.proofs.machine.Core.fetch_next.Goals as goal

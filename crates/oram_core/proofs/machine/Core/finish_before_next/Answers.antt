@@ -4,8 +4,8 @@ use Rattle.oram_semantics.specs.Progress.Status.{Waiting}
 use Rattle.oram_semantics.specs.State.{status_in}
 use Rattle.oram_semantics.specs.declared.events.Submission.{Submission}
 use Rattle.oram_core.specs.Core.{CoreValue, scheme_with}
-use Rattle.oram_core.specs.Doing.{first_message}
-use Rattle.oram_core.proofs.Closing.{pass_sound, passed_by}
+use Rattle.oram_core.specs.PlainSteps.{first_message}
+use Rattle.oram_core.proofs.MethodEnds.{pass_sound, passed_by}
 use Rattle.std.proofs.lemmas.Result.{IfOk-from_err}
 use Rattle.oram_core.proofs.machine.Core.finish_before_next.Goals as goal
 

@@ -3,7 +3,7 @@ use Rattle.oram_geometry.specs.Sizes.{trees_of}
 use Rattle.oram_semantics.specs.Progress.Status.{Waiting}
 use Rattle.oram_semantics.specs.State.{status_in}
 use Rattle.oram_core.specs.Core.{CoreValue, scheme_with}
-use Rattle.oram_core.proofs.Closing.{end_sound, ended_by}
+use Rattle.oram_core.proofs.MethodEnds.{end_sound, ended_by}
 use Rattle.std.proofs.lemmas.Result.{IfOk-from_err}
 use Rattle.oram_core.proofs.machine.Core.finish_last.Goals as goal
 

@@ -1,7 +1,7 @@
 use Rattle.std.proofs.Common.{◌≡◌, ◌≤◌, ◌<◌, ◌*◌, ℕ, Err, refl, ap, sym, ◌∙◌, subst, arith, true, false}
 use mathlib.Core.Bool.{false≢true}
 use Rattle.oram_geometry.specs.Sizes.{IsDevice, trees_of}
-use Rattle.oram_geometry.proofs.Measuring.{trees_of-few}
+use Rattle.oram_geometry.proofs.DeviceSizes.{trees_of-few}
 use Rattle.oram_core.specs.Core.{IsSound}
 use Rattle.oram_core.specs.Validity.{AreTrees, IsFitting}
 use Rattle.oram_core.specs.Parts.{Parts, AreParts, state_of}

@@ -6,7 +6,7 @@ use Rattle.oram_semantics.specs.Progress.Status.{Waiting}
 use Rattle.oram_semantics.specs.State.{status_in}
 use Rattle.oram_core.specs.Core.{CoreValue}
 use Rattle.oram_core.proofs.Small.{asked_leaf}
-use Rattle.oram_core.proofs.Closing.{leaf_here}
+use Rattle.oram_core.proofs.MethodEnds.{leaf_here}
 use Rattle.oram_core.proofs.machine.Core.path_access.Goals as goal
 
 pub returns-clause-leaf : goal.returns-clause-leaf

@@ -5,7 +5,7 @@ use Rattle.oram_semantics.specs.Answers.{outcome_by}
 use Rattle.oram_semantics.specs.Content.{entry_tree}
 use Rattle.oram_core.specs.Core.{scheme_of}
 use Rattle.oram_core.proofs.Judged.{forged_tells, path_tells, short_tells}
-use Rattle.oram_core.proofs.Hearing.{path_means, path_stands}
+use Rattle.oram_core.proofs.AnswerVerdicts.{path_means, path_stands}
 use Rattle.oram_core.proofs.machine.Core.path_verdict.Goals as goal
 
 pub returns-in-Ok-clause-means : goal.returns-in-Ok-clause-means

@@ -1,7 +1,7 @@
 use Rattle.std.proofs.Common.{◌≡◌, ◌<◌, ◌%◌, length, subst, arith, rules}
 use Rattle.std.proofs.lemmas.Grind.{common_steps}
 use Rattle.oram_core.specs.Core.{CoreValue, IsSound, scheme_of}
-use Rattle.oram_core.proofs.Hearing.{stored_means, longer_means}
+use Rattle.oram_core.proofs.AnswerVerdicts.{stored_means, longer_means}
 use Rattle.oram_core.proofs.Judged.{stored_tells, longer_tells}
 use Rattle.oram_core.proofs.machine.Core.payload_verdict.Goals as goal
 

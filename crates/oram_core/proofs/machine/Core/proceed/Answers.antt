@@ -2,8 +2,8 @@ use Rattle.std.proofs.Common.{◌≡◌, ◌≢◌, ◌+◌, ◌*◌, ◌<◌, a
 use Rattle.oram_geometry.specs.Sizes.{trees_of}
 use Rattle.oram_core.specs.Core.{CoreValue, IsSound, scheme_of}
 use Rattle.oram_core.proofs.Sound.{stage_within}
-use Rattle.oram_core.specs.Doing.{Done}
-use Rattle.oram_core.proofs.Meeting.{Waits, waits, finish_moves, fetch_moves}
+use Rattle.oram_core.specs.PlainSteps.{Done}
+use Rattle.oram_core.proofs.LocalRule.{Waits, waits, finish_moves, fetch_moves}
 use Rattle.oram_core.proofs.Heard.{if_ok, finish_heard, fetch_heard}
 use Rattle.oram_core.proofs.machine.Core.proceed.Goals as goal
 

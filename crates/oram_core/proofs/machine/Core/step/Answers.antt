@@ -3,9 +3,9 @@ use Rattle.oram_semantics.specs.Run.{shown_by}
 use Rattle.oram_semantics.specs.declared.events.Event.{Event}
 use Rattle.oram_semantics.specs.declared.events.Note.TheVariants as note
 use Rattle.oram_core.specs.Core.{scheme_of}
-use Rattle.oram_core.specs.Doing.{done, noted, plain_step}
+use Rattle.oram_core.specs.PlainSteps.{done, noted, plain_step}
 use Rattle.oram_core.specs.Steps.{Steps}
-use Rattle.oram_core.proofs.Meeting.{accept_steps, refuse_steps, hear_steps, means_loss, stall_steps, resend_steps, answer_ignored, loss_ignored, retry_ignored, only_noted, waiting_by, stalling_by, accept_bound, resend_bound, plain_refusal}
+use Rattle.oram_core.proofs.LocalRule.{accept_steps, refuse_steps, hear_steps, means_loss, stall_steps, resend_steps, answer_ignored, loss_ignored, retry_ignored, only_noted, waiting_by, stalling_by, accept_bound, resend_bound, plain_refusal}
 use Rattle.oram_core.proofs.machine.Core.step.Goals.{in-Answer+else-is_waiting, in-Lost+else-is_waiting-2, in-Retry+else-is_stalled}
 use Rattle.oram_core.proofs.machine.Core.step.Goals as goal
 

@@ -8,16 +8,16 @@ use Rattle.oram_core.specs.Core.{CoreValue, IsSound, scheme_of}
 use Rattle.oram_core.proofs.Sound.{nonce_small, stage_within}
 use Rattle.oram_semantics.specs.Content.{entry_tree}
 use Rattle.oram_semantics.specs.declared.events.Reason.TheVariants as reason
-use Rattle.oram_core.specs.Doing.{done, failed_by, stored_by, is_misled}
+use Rattle.oram_core.specs.PlainSteps.{done, failed_by, stored_by, is_misled}
 use Rattle.oram_core.specs.Steps.{Heard}
 use Rattle.oram_core.proofs.Heard.{taken_heard, failed_heard, on_err}
 use Rattle.oram_core.proofs.Judged.{access_used, unreadable_used, readable_now, readable_told, looked_now}
-use Rattle.oram_core.proofs.Meeting.{Waits, waits}
-use Rattle.oram_core.proofs.Hearing.{lends, gives_back, lent_within}
-use Rattle.oram_core.proofs.Accessing.{access_moves, ready_tree}
+use Rattle.oram_core.proofs.LocalRule.{Waits, waits}
+use Rattle.oram_core.proofs.AnswerVerdicts.{lends, gives_back, lent_within}
+use Rattle.oram_core.proofs.Accesses.{access_moves, ready_tree}
 use Rattle.oram_hash.specs.Path.{Path, with_bytes}
 use Rattle.oram_bucket.specs.Cell.{Cell}
-use Rattle.oram_bucket.specs.Reading.{Reads}
+use Rattle.oram_bucket.specs.SealedBlocks.{Reads}
 use Rattle.oram_hash.specs.Tree.{IsPathOf}
 use Rattle.oram_tree.specs.Content.{Map}
 use Rattle.oram_tree.specs.State.{IsStoredWith}

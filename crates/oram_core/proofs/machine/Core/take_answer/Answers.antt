@@ -1,14 +1,14 @@
 use Rattle.std.proofs.Common.{◌≡◌, ◌∙◌, ap, sym, subst, refl}
 use Rattle.oram_core.specs.Core.{scheme_of}
-use Rattle.oram_core.specs.Doing.{Done}
-use Rattle.oram_core.specs.Judging.{IsVerdict}
+use Rattle.oram_core.specs.PlainSteps.{Done}
+use Rattle.oram_core.specs.AnswerMeaning.{IsVerdict}
 use Rattle.oram_core.specs.Steps.{Heard}
 use Rattle.oram_core.specs.Verdicts.{Means, Tells}
 use Rattle.oram_core.specs.declared.verdicts.Verdict.TheVariants as verdict
 use Rattle.oram_semantics.specs.Answers.Outcome.{Good}
 use Rattle.oram_core.proofs.Heard.{failed_heard, if_ok, on_err}
 use Rattle.oram_core.proofs.Judged.{use_told, stored_told}
-use Rattle.oram_core.proofs.Meeting.{fail_moves, moves_by, stall_moves}
+use Rattle.oram_core.proofs.LocalRule.{fail_moves, moves_by, stall_moves}
 use Rattle.std.proofs.lemmas.Result.{IfOk-from_err}
 use Rattle.oram_core.proofs.machine.Core.take_answer.Goals as goal
 

@@ -2,7 +2,7 @@ use Rattle.std.proofs.Common.{◌≡◌, ◌≢◌, ◌∷◌, [], length, slice
 use Rattle.std.proofs.lemmas.Grind.{common_steps}
 use Rattle.oram_semantics.proofs.Outcomes.{no_room_is, refused_is}
 use Rattle.oram_core.specs.Core.{scheme_of}
-use Rattle.oram_core.proofs.Hearing.{IsRefused, refused_so, not_refused, other_means, empty_means, payload_means}
+use Rattle.oram_core.proofs.AnswerVerdicts.{IsRefused, refused_so, not_refused, other_means, empty_means, payload_means}
 use Rattle.oram_core.proofs.Judged.{refused_tells, other_tells, empty_tells, payload_tells}
 use Rattle.oram_core.proofs.machine.Core.verdict.Goals as goal
 

@@ -1,7 +1,7 @@
 use Rattle.std.proofs.Common.{◌≡◌, ◌≤◌, ◌<◌, ◌-◌, ◌∙◌, ap, sym, subst, arith, ℕ, List, length}
 use borrow.Rule.Slice.PartMut.{put_mid}
 use Rattle.oram_hash.specs.Path.{Path, HasLength}
-use Rattle.oram_hash.proofs.Linking.{link_left, link_right}
+use Rattle.oram_hash.proofs.Links.{link_left, link_right}
 use Rattle.oram_hash.proofs.view.PathView.link.Goals.{then-goes_left, else-goes_left}
 use Rattle.oram_hash.proofs.view.PathView.link.Goals as goal
 

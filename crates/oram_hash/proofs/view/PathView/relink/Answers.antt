@@ -6,7 +6,7 @@ use Rattle.oram_hash.specs.Rebuild.{IsJoined, IsRebuilt}
 use Rattle.oram_hash.proofs.Joins.{HasDigests, length-digests_at, joined_whole}
 use Rattle.oram_hash.proofs.Paths.{record_at-slice}
 use Rattle.oram_hash.proofs.Rebuilds.{place_within, length-record_at, rebuilt_stands}
-use Rattle.oram_hash.proofs.Linking.{IsLinkedFrom, linked_leaf, linked_more, linked_whole}
+use Rattle.oram_hash.proofs.Links.{IsLinkedFrom, linked_leaf, linked_more, linked_whole}
 use Rattle.oram_hash.proofs.view.PathView.relink.Goals as goal
 
 pub slice_bounds-node_digest-count : goal.slice_bounds-node_digest-count

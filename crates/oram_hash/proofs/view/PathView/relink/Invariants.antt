@@ -1,6 +1,6 @@
 use Rattle.std.proofs.Common.{ℕ, List}
 use Rattle.oram_hash.specs.Rebuild.{IsJoined}
-use Rattle.oram_hash.proofs.Linking.{IsLinkedFrom}
+use Rattle.oram_hash.proofs.Links.{IsLinkedFrom}
 use Rattle.oram_hash.proofs.view.PathView.relink.Given as goal
 
 abbrev pub invariant-loop-level : goal.invariant-loop-level

@@ -1,6 +1,6 @@
 use Rattle.std.proofs.Common.{◌≡◌, length, rules}
 use Rattle.std.proofs.lemmas.Result.{err_from_is_err_and}
-use Rattle.oram_host.proofs.Readings.{byte_first}
+use Rattle.oram_host.proofs.FieldReads.{byte_first}
 use Rattle.oram_host.proofs.images.fields.read_byte.Goals as goal
 
 pub returns-in_err-read_bytes-clause-fault : goal.returns-in_err-read_bytes-clause-fault

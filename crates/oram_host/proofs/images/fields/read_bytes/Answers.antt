@@ -1,6 +1,6 @@
 use Rattle.std.proofs.Common.{length, take, arith}
 use Rattle.std.proofs.lemmas.List.{length-take}
-use Rattle.oram_host.proofs.Readings.{ends_inside}
+use Rattle.oram_host.proofs.FieldReads.{ends_inside}
 use Rattle.oram_host.proofs.images.fields.read_bytes.Goals as goal
 
 pub returns-then-branch-buf-clause-fault : goal.returns-then-branch-buf-clause-fault

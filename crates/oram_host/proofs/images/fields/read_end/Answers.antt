@@ -2,7 +2,7 @@ use Rattle.std.proofs.Common.{◌≡◌, ◌<◌, length, take, rules, arith}
 use Rattle.std.proofs.lemmas.List.{length-take}
 use Rattle.oram_host.specs.declared.images.ImageFault.TheVariants.{Length}
 use Rattle.oram_host.specs.ImageReader.{after_end}
-use Rattle.oram_host.proofs.Readings.{fails_here, goes_on}
+use Rattle.oram_host.proofs.FieldReads.{fails_here, goes_on}
 use Rattle.oram_host.proofs.images.fields.read_end.Goals as goal
 
 pub returns-then-branch-gt0-clause-fault : goal.returns-then-branch-gt0-clause-fault

@@ -5,7 +5,7 @@ use Rattle.std.proofs.lemmas.List.{length-take, take_at}
 use Rattle.std.specs.Cmp.Lexicographic.{other_text}
 use Rattle.oram_host.specs.declared.images.ImageFault.TheVariants.{Magic}
 use Rattle.oram_host.specs.ImageReader.{after_letters}
-use Rattle.oram_host.proofs.Readings.{fails_here, other_letters}
+use Rattle.oram_host.proofs.FieldReads.{fails_here, other_letters}
 use Rattle.oram_host.proofs.images.fields.read_letters.Goals as goal
 use Rattle.oram_host.proofs.images.fields.read_letters.Goals.{then-branch-lt8-via-then-branch-lt8, then-branch-lt8-via-else-branch-lt8+then-ne}
 

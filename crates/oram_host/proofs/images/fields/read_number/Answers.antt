@@ -1,7 +1,7 @@
 use Rattle.std.proofs.Common.{◌≡◌, length, rules}
 use Rattle.std.proofs.lemmas.Result.{err_from_is_err_and}
 use Rattle.oram_host.specs.ImageReader.{next_bytes, next_number}
-use Rattle.oram_host.proofs.Readings.{fails_first, number_first}
+use Rattle.oram_host.proofs.FieldReads.{fails_first, number_first}
 use Rattle.oram_host.proofs.images.fields.read_number.Goals as goal
 
 pub returns-in_err-read_bytes-clause-fault : goal.returns-in_err-read_bytes-clause-fault

@@ -3,7 +3,7 @@ use Rattle.std.specs.Int.{w32, to_be_bytes}
 use Rattle.std.proofs.lemmas.Result.{err_from_is_err_and}
 use Rattle.oram_host.specs.declared.images.ImageFault.TheVariants.{Version}
 use Rattle.oram_host.specs.ImageReader.{after_version, next_number}
-use Rattle.oram_host.proofs.Readings.{fails_first, fails_here, other_version, version_first}
+use Rattle.oram_host.proofs.FieldReads.{fails_first, fails_here, other_version, version_first}
 use Rattle.oram_host.proofs.images.fields.read_version.Goals as goal
 
 pub returns-in_err-read_number-clause-fault : goal.returns-in_err-read_number-clause-fault

@@ -12,7 +12,7 @@ use Rattle.oram_host.specs.ImageReader.{next_entries, next_number, next_tree}
 use Rattle.oram_host.specs.Trees.{host_of, kept_by}
 use Rattle.oram_host.proofs.Hosts.{trees_added}
 use Rattle.oram_host.proofs.LoadedHosts.{flat_map-push, host_grown, is_host}
-use Rattle.oram_host.proofs.Readings.{entries_fail, entries_first, fails_after, fails_first, fails_here, too_many}
+use Rattle.oram_host.proofs.FieldReads.{entries_fail, entries_first, fails_after, fails_first, fails_here, too_many}
 use Rattle.oram_host.proofs.ReadImages.{tree_again}
 use Rattle.oram_host.proofs.RisingEntries.{least_after, least_after-push}
 use Rattle.oram_host.proofs.Transfers.{taken_twice}

@@ -9,7 +9,7 @@ use Rattle.oram_host.specs.Host.{IsRecordOf, IsShape}
 use Rattle.oram_host.specs.Image.{entries_text, record_text}
 use Rattle.oram_host.specs.ImageReader.{IsFirstFault, next_byte, next_entries, next_kept, next_number, next_record}
 use Rattle.oram_host.proofs.LoadedHosts.{all_there, are_nodes, are_whole}
-use Rattle.oram_host.proofs.Readings.{fails_after, fails_first, fails_here}
+use Rattle.oram_host.proofs.FieldReads.{fails_after, fails_first, fails_here}
 use Rattle.oram_host.proofs.ReadImages.{kept_first, kept_length, kept_misshaped, kept_records}
 use Rattle.oram_host.proofs.Transfers.{taken_twice}
 use Rattle.oram_host.proofs.images.reader.load_kept.Goals as goal

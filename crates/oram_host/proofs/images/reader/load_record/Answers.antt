@@ -3,7 +3,7 @@ use Rattle.std.specs.Int.{w32, to_be_bytes}
 use Rattle.std.proofs.lemmas.Result.{err_from_is_err_and}
 use Rattle.oram_host.specs.declared.images.ImageFault.TheVariants.{Content}
 use Rattle.oram_host.specs.ImageReader.{next_bytes, next_number, next_record}
-use Rattle.oram_host.proofs.Readings.{fails_after, fails_first, fails_here}
+use Rattle.oram_host.proofs.FieldReads.{fails_after, fails_first, fails_here}
 use Rattle.oram_host.proofs.ReadImages.{other_node, record_bytes, record_first}
 use Rattle.oram_host.proofs.Transfers.{taken_twice}
 use Rattle.oram_host.proofs.images.reader.load_record.Goals as goal

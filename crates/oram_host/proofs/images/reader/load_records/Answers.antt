@@ -9,7 +9,7 @@ use Rattle.oram_host.specs.Host.{IsRecordOf, RisesFrom}
 use Rattle.oram_host.specs.Image.{record_text}
 use Rattle.oram_host.specs.ImageReader.{next_entries, next_number, next_record}
 use Rattle.oram_host.proofs.LoadedHosts.{all_push, flat_map-push, grown}
-use Rattle.oram_host.proofs.Readings.{entries_fail, entries_first, fails_after, fails_first, fails_here, too_many}
+use Rattle.oram_host.proofs.FieldReads.{entries_fail, entries_first, fails_after, fails_first, fails_here, too_many}
 use Rattle.oram_host.proofs.ReadImages.{record_again}
 use Rattle.oram_host.proofs.RisingEntries.{RisesFrom-push, least_after, least_after-push}
 use Rattle.oram_host.proofs.Transfers.{taken_twice}

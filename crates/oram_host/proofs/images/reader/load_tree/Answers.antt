@@ -2,7 +2,7 @@ use Rattle.std.proofs.Common.{◌∷◌, [], ◌<◌, ◌≤◌, ℕ, rules}
 use Rattle.std.proofs.lemmas.Result.{err_from_is_err_and}
 use Rattle.oram_host.specs.declared.images.ImageFault.TheVariants.{Content}
 use Rattle.oram_host.specs.ImageReader.{next_byte, next_kept, next_tree}
-use Rattle.oram_host.proofs.Readings.{fails_after, fails_first, fails_here}
+use Rattle.oram_host.proofs.FieldReads.{fails_after, fails_first, fails_here}
 use Rattle.oram_host.proofs.ReadImages.{other_tree, tree_first, tree_kept}
 use Rattle.oram_host.proofs.Transfers.{taken_twice}
 use Rattle.oram_host.proofs.images.reader.load_tree.Goals as goal

@@ -7,7 +7,7 @@ use Rattle.oram_host.specs.Image.{image}
 use Rattle.oram_host.specs.ImageReader.{after_end, after_letters, after_version, host_in, next_entries, next_tree}
 use Rattle.oram_host.specs.Trees.{host_of}
 use Rattle.oram_host.proofs.LoadedHosts.{is_host}
-use Rattle.oram_host.proofs.Readings.{fails_after, fails_first}
+use Rattle.oram_host.proofs.FieldReads.{fails_after, fails_first}
 use Rattle.oram_host.proofs.ReadImages.{host_first, host_longer, host_trees, host_version}
 use Rattle.oram_host.proofs.Transfers.{taken_twice}
 use Rattle.oram_host.proofs.images.reader.load_trees.Goals as goal

@@ -3,7 +3,7 @@ use Rattle.oram_redo.specs.FilePair.{Torn}
 use Rattle.oram_redo.specs.Memory.{contents_of}
 use Rattle.oram_redo.specs.declared.memory.Snapshot.{Snapshot}
 use Rattle.oram_redo.proofs.Kept.{nothing_left, write_leaves, elapses_to}
-use Rattle.oram_redo.proofs.Tearing.{wrote_torn}
+use Rattle.oram_redo.proofs.TornWrites.{wrote_torn}
 use Rattle.oram_redo.proofs.memory.MemoryPairFilePair.write_at.Goals as goal
 
 pub returns-in-Ok-replace-clause-torn : goal.returns-in-Ok-replace-clause-torn

@@ -5,7 +5,7 @@ use Rattle.oram_semantics.specs.Events.{address_of}
 use Rattle.oram_semantics.specs.declared.events.ReplyBody.{ReplyBody}
 use Rattle.oram_core.specs.Core.{scheme_of}
 use Rattle.oram_session.specs.Settled.{IsBodyOf}
-use Rattle.oram_session.proofs.Steppings.{same_trans}
+use Rattle.oram_session.proofs.CoreSteps.{same_trans}
 use Rattle.oram_keep.specs.declared.asking.Asked.TheVariants.{Replied}
 use Rattle.oram_nbd.specs.declared.faults.DiskFault.TheVariants.{Stopped}
 use Rattle.oram_volume.proofs.Holding.{alive, held_up, never_failed, told_fault, told_right, turned_away}

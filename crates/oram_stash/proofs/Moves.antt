@@ -8,7 +8,7 @@ use Rattle.std.proofs.lemmas.Slice.Zip.{length-zip, get_or-zip}
 use Rattle.std.proofs.lemmas.List.Sorted.{IsPermutation-refl}
 use Rattle.std.proofs.lemmas.Bool.{eq-eqb}
 use Rattle.oram_stash.specs.Plan.{level_at, list_at, joined, is_level, stays, picked}
-use Rattle.oram_stash.proofs.Picking.{Moved, Moved-listed, Moved-rest, length-picked}
+use Rattle.oram_stash.proofs.Picks.{Moved, Moved-listed, Moved-rest, length-picked}
 
 -- the lists in vectors
 abbrev pub items_of : {X : Type 0} → List (Vec X Global) → List (List X)

@@ -3,7 +3,7 @@ use Rattle.std.proofs.Common.{◌≡◌, ℕ, zero, suc, ◌+◌, ◌-◌, ◌^�
 use Rattle.std.proofs.lemmas.List.{append-nil}
 use Rattle.sha2.specs.Sha256.{sha256}
 use Rattle.oram_geometry.specs.Sizes.{IsDevice, trees_of, depth_of, record_len_of}
-use Rattle.oram_geometry.proofs.Measuring.{trees_of-few}
+use Rattle.oram_geometry.proofs.DeviceSizes.{trees_of-few}
 use Rattle.oram_wire.specs.HostMessages.{shape_body}
 use Rattle.oram_bucket.specs.Cipher.{IsCipher}
 use Rattle.oram_bucket.specs.Bucket.{spelling}

@@ -3,7 +3,7 @@
 use Rattle.std.specs.Prelude.{◌≡◌, ℕ, ◌+◌, ◌*◌, ◌%◌, ◌≤◌, ◌⊎◌, ◌↔◌, ◌==◌, ◌&&◌, Bool, true, false, if◌then◌else◌, List, [], ◌∷◌, length, slice_index_or, Result, Err, IsOk, MatchResult}
 use Rattle.oram_geometry.specs.Sizes.{depth_of}
 use Rattle.oram_bucket.specs.Cell.{Cell}
-use Rattle.oram_bucket.specs.Reading.{Reads}
+use Rattle.oram_bucket.specs.SealedBlocks.{Reads}
 use Rattle.oram_hash.specs.declared.HashFault.{HashFault}
 use Rattle.oram_hash.specs.declared.HashFault.TheVariants as fault
 use Rattle.oram_hash.specs.Path.{Path, path_of, HasLength, IsAccepted, IsTamperedAt}
@@ -21,7 +21,7 @@ use Rattle.oram_semantics.specs.declared.events.Note.TheVariants.{Accepted, Refu
 use Rattle.oram_semantics.specs.declared.events.Reason.{Reason}
 use Rattle.oram_semantics.specs.declared.events.Reason.TheVariants.{Malformed, Tampered, HostRefused}
 use Rattle.oram_semantics.specs.declared.events.Submission.{Submission}
-use Rattle.oram_core.specs.Doing.{is_misled}
+use Rattle.oram_core.specs.PlainSteps.{is_misled}
 use Rattle.oram_wire.specs.HostMessages.{done_answer, payload_answer, refusal_answer}
 
 -- the tree of the outstanding path, as the core has it

@@ -8,7 +8,7 @@ use Rattle.oram_trace.specs.declared.entries.Entry.{Entry}
 use Rattle.oram_wire.specs.HostMessages.{store_body}
 use Rattle.oram_hash.specs.Path.{Path, path_of, with_bytes}
 use Rattle.oram_bucket.specs.Cell.{Cell}
-use Rattle.oram_bucket.specs.Reading.{Reads}
+use Rattle.oram_bucket.specs.SealedBlocks.{Reads}
 use Rattle.oram_tree.specs.Content.{Map, entry_of, put}
 use Rattle.oram_tree.specs.State.{State as Tree}
 use Rattle.oram_tree.specs.Access.{IsRewritten, IsUpdate}
@@ -22,10 +22,10 @@ use Rattle.oram_semantics.specs.Trees.{Stands, IsPlaced}
 use Rattle.oram_semantics.specs.declared.events.Submission.{Submission}
 use Rattle.oram_semantics.proofs.Others.{all_one}
 use Rattle.oram_semantics.proofs.Bounds.{some_trees, depth_small}
-use Rattle.oram_semantics.proofs.Placing.{IsMade, store_stands, store_places, holds_stored, there_if_named}
+use Rattle.oram_semantics.proofs.PlacedStores.{IsMade, store_stands, store_places, holds_stored, there_if_named}
 use Rattle.oram_core.specs.Core.{IsSound}
 use Rattle.oram_core.proofs.Sound.{Outstanding, healthy_of}
-use Rattle.oram_core.specs.Doing.{stored_by, is_misled}
+use Rattle.oram_core.specs.PlainSteps.{stored_by, is_misled}
 use Rattle.oram_core.proofs.Quiet.{Meets}
 use Rattle.oram_core.proofs.Sound.{asked_store}
 

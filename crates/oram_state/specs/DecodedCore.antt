@@ -6,7 +6,7 @@ use Rattle.oram_core.specs.Parts.{Parts, AreParts, state_of}
 use Rattle.oram_state.specs.declared.fault.StateFault.{StateFault}
 use Rattle.oram_state.specs.declared.fault.StateFault.TheVariants.{Magic, Version, Length, Digest, Content, OutOfMemory}
 use Rattle.oram_state.specs.declared.saved.Saved.{Saved}
-use Rattle.oram_state.specs.Reading.{state_in}
+use Rattle.oram_state.specs.Parser.{state_in}
 use Rattle.oram_state.specs.WellSized.{IsFileOf}
 
 -- the text is the file of parts that can be a core's under this overhead, and this is the core that they make

@@ -18,7 +18,7 @@ use Rattle.oram_semantics.specs.Scheme.{Scheme}
 use Rattle.oram_semantics.specs.State.{State}
 use Rattle.oram_semantics.specs.declared.events.Event.{Event}
 use Rattle.oram_semantics.specs.declared.events.Reaction.{Reaction}
-use Rattle.oram_semantics.proofs.Going.{steps_are_right}
+use Rattle.oram_semantics.proofs.WholeRuns.{steps_are_right}
 use Rattle.oram_core.specs.Core.{CoreValue, IsSameDevice, scheme_of, scheme_with}
 use Rattle.oram_core.specs.Formatting.{IsNew}
 use Rattle.oram_core.specs.Runs.{IsCutShort, MakeAllTrees}

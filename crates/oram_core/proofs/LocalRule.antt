@@ -22,8 +22,8 @@ use Rattle.oram_semantics.specs.declared.events.Reaction.{Reaction}
 use Rattle.oram_semantics.specs.declared.events.Reason.{Reason}
 use Rattle.oram_semantics.specs.declared.events.Refusal.{Refusal}
 use Rattle.oram_semantics.specs.declared.events.Submission.{Submission}
-use Rattle.oram_core.specs.Doing.{is_stalled, is_free_note, Done, done, noted, plain_step, submitted_by, lost_by, retried_by, unheard_by, accepted_by, finished_by, failed_by, fetched_by, stalled_by, resent_by}
-use Rattle.oram_core.specs.Judging.{IsVerdict}
+use Rattle.oram_core.specs.PlainSteps.{is_stalled, is_free_note, Done, done, noted, plain_step, submitted_by, lost_by, retried_by, unheard_by, accepted_by, finished_by, failed_by, fetched_by, stalled_by, resent_by}
+use Rattle.oram_core.specs.AnswerMeaning.{IsVerdict}
 use Rattle.oram_core.specs.Steps.{Steps, Heard}
 use Rattle.oram_core.proofs.Quiet.{Meets, stays_met, accepts_met, stalls_met, fails_met, resends_met, finishes_met, fetches_met}
 

@@ -9,10 +9,10 @@ use Rattle.std.specs.List.{flat_map}
 use Rattle.std.specs.Int.{w32, to_be_bytes, from_be_bytes}
 use Rattle.oram_geometry.specs.declared.Sizes.{Sizes}
 use Rattle.oram_geometry.specs.Sizes.{IsDevice, blocks_in, depth_of, bucket_len}
-use Rattle.oram_geometry.proofs.Measuring.{blocks_in-range, level_for-range}
+use Rattle.oram_geometry.proofs.DeviceSizes.{blocks_in-range, level_for-range}
 use Rattle.oram_bucket.specs.Bytes.{IsBytes}
 use Rattle.oram_bucket.specs.Cell.{Cell}
-use Rattle.oram_bucket.specs.Reading.{Reads}
+use Rattle.oram_bucket.specs.SealedBlocks.{Reads}
 use Rattle.oram_bucket.specs.Bucket.{IsBlockOf, IsBucketOf, spelling, slot_of, slot_len}
 
 -- if two joined lists are equal and their first parts are equally long, their parts are equal

@@ -17,7 +17,7 @@ use Rattle.oram_semantics.specs.Run.{Shown, refusal_of, is_over}
 use Rattle.oram_semantics.specs.State.{State, World, status_in}
 use Rattle.oram_semantics.specs.Moves.{Moved, MovesTo, Moves, moved, stays, stalls, resends, accepts, stores, fetches, finishes, goes_on, on_submission, on_answer, on_loss, on_retry, world_after}
 use Rattle.oram_semantics.specs.Agree.{IsOrderly}
-use Rattle.oram_semantics.specs.Serving.{array_in, array_after, ServesAmid, ServesBy, ServesArray, HasServed}
+use Rattle.oram_semantics.specs.ArrayReplies.{array_in, array_after, ServesAmid, ServesBy, ServesArray, HasServed}
 use Rattle.oram_semantics.specs.declared.events.Command.{Command}
 use Rattle.oram_semantics.specs.declared.events.Command.TheVariants.{Read, Write, Discard}
 use Rattle.oram_semantics.specs.declared.events.Event.{Event}

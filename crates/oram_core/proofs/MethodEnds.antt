@@ -4,7 +4,7 @@ use Rattle.std.proofs.lemmas.Bool.{cases_eq}
 use Rattle.std.proofs.lemmas.Bool.Decides.{nat_tests}
 use Rattle.oram_geometry.specs.declared.Sizes.{Sizes}
 use Rattle.oram_geometry.specs.Sizes.{trees_of, depth_of, record_len_of}
-use Rattle.oram_geometry.proofs.Measuring.{trees_of-few}
+use Rattle.oram_geometry.proofs.DeviceSizes.{trees_of-few}
 use Rattle.oram_wire.specs.HostMessages.{store_body}
 use Rattle.oram_semantics.specs.Content.{block_of, new_leaf, entry_tree}
 use Rattle.oram_semantics.specs.Messages.{requested}
@@ -18,7 +18,7 @@ use Rattle.oram_semantics.specs.declared.events.Reaction.{Reaction}
 use Rattle.oram_semantics.specs.declared.events.Reply.{Reply}
 use Rattle.oram_semantics.specs.declared.events.Submission.{Submission}
 use Rattle.oram_core.specs.Core.{IsSound, IsPathStore}
-use Rattle.oram_core.specs.Doing.{Done, done, accepted_by, sent_if_idle, fetch_of, first_message, first_messages, fetched_by, finished_by, stored_by, is_misled}
+use Rattle.oram_core.specs.PlainSteps.{Done, done, accepted_by, sent_if_idle, fetch_of, first_message, first_messages, fetched_by, finished_by, stored_by, is_misled}
 use Rattle.oram_core.proofs.Heard.{if_ok}
 use Rattle.oram_core.proofs.Small.{named_none}
 use Rattle.oram_core.proofs.Sound.{HasOldest, has_oldest, stage_within, fetched_as, finished_as, stored_as}

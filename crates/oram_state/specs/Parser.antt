@@ -22,7 +22,7 @@ use Rattle.oram_state.specs.declared.mode.Mode.{Mode}
 use Rattle.oram_state.specs.declared.mode.Mode.TheVariants.{Idle, Failed, Waiting, Stalled}
 use Rattle.oram_state.specs.declared.saved.Head.{Head}
 use Rattle.oram_state.specs.declared.saved.Saved.{Saved}
-use Rattle.oram_state.specs.Spelling.{Work}
+use Rattle.oram_state.specs.StateBytes.{Work}
 use Rattle.oram_state.specs.WellSized.{held_len, no_work, table_len, tree_count}
 
 -- the number by which messages name a fault of a state file; want of memory has none

@@ -28,10 +28,10 @@ use Rattle.oram_semantics.proofs.Judged.{pair_is}
 use Rattle.oram_semantics.specs.declared.events.Reason.TheVariants.{Malformed}
 use Rattle.oram_semantics.proofs.Outcomes.{fetched_is, stored_is, malformed_store, malformed_is}
 use Rattle.oram_core.specs.Core.{CoreValue, IsSound, IsTreeKept, scheme_of}
-use Rattle.oram_core.specs.Judging.{IsChecked, path_now, tree_now}
+use Rattle.oram_core.specs.AnswerMeaning.{IsChecked, path_now, tree_now}
 use Rattle.oram_core.specs.Verdicts.{Means, refusal_in}
 use Rattle.oram_core.specs.declared.verdicts.Verdict.{Verdict}
-use Rattle.oram_core.proofs.Meeting.{waits, holds_of}
+use Rattle.oram_core.proofs.LocalRule.{waits, holds_of}
 use Rattle.oram_core.proofs.Sound.{Outstanding, at_hand, healthy_of, sound_accessed, tree_within}
 
 -- a checked path of the right length is the tree's, unless it shows two records with the same digest

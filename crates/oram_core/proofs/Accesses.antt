@@ -5,7 +5,7 @@ use Rattle.oram_geometry.specs.Sizes.{depth_of}
 use Rattle.oram_trace.specs.declared.entries.Entry.{Entry}
 use Rattle.oram_hash.specs.Path.{Path, path_of, with_bytes}
 use Rattle.oram_bucket.specs.Cell.{Cell}
-use Rattle.oram_bucket.specs.Reading.{Reads}
+use Rattle.oram_bucket.specs.SealedBlocks.{Reads}
 use Rattle.oram_tree.specs.State.{State as Tree, IsStoredWith}
 use Rattle.oram_tree.specs.Access.{IsAtOrAbsent, IsRewritten, IsUpdate}
 use Rattle.oram_semantics.specs.Answers.Outcome.{Good}
@@ -21,14 +21,14 @@ use Rattle.oram_semantics.specs.Trees.{Stands}
 use Rattle.oram_semantics.specs.declared.events.Reaction.{Reaction}
 use Rattle.oram_semantics.specs.declared.events.Reason.{Reason}
 use Rattle.oram_semantics.specs.declared.events.Submission.{Submission}
-use Rattle.oram_semantics.proofs.Placing.{at_leaf}
+use Rattle.oram_semantics.proofs.PlacedStores.{at_leaf}
 use Rattle.oram_core.specs.Core.{IsSound}
-use Rattle.oram_core.specs.Doing.{Done, done, failed_by, stored_by, is_misled}
+use Rattle.oram_core.specs.PlainSteps.{Done, done, failed_by, stored_by, is_misled}
 use Rattle.oram_core.proofs.Quiet.{Meets}
-use Rattle.oram_core.proofs.Rewriting.{IsAccess, not_misled, stores_met}
+use Rattle.oram_core.proofs.TakenPaths.{IsAccess, not_misled, stores_met}
 use Rattle.oram_core.proofs.Sound.{Outstanding, at_hand, tree_within}
-use Rattle.oram_core.proofs.Meeting.{Waits}
-use Rattle.oram_core.proofs.Hearing.{IsTreeAt}
+use Rattle.oram_core.proofs.LocalRule.{Waits}
+use Rattle.oram_core.proofs.AnswerVerdicts.{IsTreeAt}
 
 -- the tree at work stands in the world, and has the command's block at the leaf whose path was fetched, or not at all
 pub record IsReadyTree (v : Scheme) (s : State) (w : World) (x : Submission) (t : Tree) : Type 0 where

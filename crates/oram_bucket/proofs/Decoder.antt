@@ -9,7 +9,7 @@ use Rattle.oram_bucket.specs.Cell.{Cell}
 use Rattle.oram_bucket.specs.Bucket.{IsSpelling, slot_len}
 use Rattle.oram_bucket.specs.Slots.{number_of, block_in, slot_at, number_before}
 use Rattle.oram_bucket.specs.Fault.{fault_behind, slot_fault, first_fault}
-use Rattle.oram_bucket.proofs.Spelling.{HasFew, length-spelling, one_spelling, bytes_taken}
+use Rattle.oram_bucket.proofs.UniqueEncoding.{HasFew, length-spelling, one_spelling, bytes_taken}
 use Rattle.oram_bucket.proofs.Slots.{no_fault, first_of_slots, spelled_without_fault, slot_without_fault}
 use Rattle.oram_bucket.proofs.SlotBySlot.{IsReadTo, read_real, read_dummy, read_all, next_slot, last_slot, bytes_dropped}
 

@@ -12,7 +12,7 @@ use Rattle.std.proofs.lemmas.List.Kept.{AllPairs-filter}
 use Rattle.std.proofs.lemmas.List.Sorted.{IsPermutation-map, IsPermutation-sym, Contains-permutation, searched}
 use Rattle.oram_bucket.specs.declared.block.Block.{Block}
 use Rattle.oram_bucket.specs.Cell.{IsRising}
-use Rattle.oram_stash.proofs.Rising.{AreApart, AreApart-moved, Contains-cases, Contains-first, Contains-later}
+use Rattle.oram_stash.proofs.SortedBlocks.{AreApart, AreApart-moved, Contains-cases, Contains-first, Contains-later}
 
 -- two rising lists without a common address
 pub AreApart-joined : (xs ys : List Block) → IsRising xs → IsRising ys → ((c d : Block) → Contains xs c → Contains ys d → c.address ≢ d.address) → AreApart (xs ++ ys)

@@ -10,7 +10,7 @@ use Rattle.oram_hash.specs.Path.{Path, path_of, with_bytes, record_at, node_at}
 use Rattle.oram_hash.specs.Record.{sealed_part}
 use Rattle.oram_hash.specs.Tree.{IsReplaced}
 use Rattle.oram_bucket.specs.Cell.{Cell}
-use Rattle.oram_bucket.specs.Reading.{Reads}
+use Rattle.oram_bucket.specs.SealedBlocks.{Reads}
 use Rattle.oram_stash.specs.Eviction.{IsGreedy, listed}
 use Rattle.oram_tree.specs.Content.{Map, Entry as Held, HasContent, entry_of, put}
 use Rattle.oram_tree.specs.State.{State as Tree, IsStoredWith}

@@ -17,7 +17,7 @@ use Rattle.oram_semantics.specs.declared.events.Refusal.{Refusal}
 use Rattle.oram_semantics.specs.declared.events.Refusal.TheVariants as refusal
 use Rattle.oram_semantics.specs.declared.events.Submission.{Submission}
 use Rattle.oram_core.specs.Core.{AtWork, CoreValue, IsHealthy, IsResting, IsSameDevice, IsSound, IsWhole, scheme_of, scheme_with}
-use Rattle.oram_core.specs.Doing.{Done, plain_step, stalled_by, resent_by, submitted_by}
+use Rattle.oram_core.specs.PlainSteps.{Done, plain_step, stalled_by, resent_by, submitted_by}
 use Rattle.oram_core.specs.Steps.{Steps, Heard, did}
 use Rattle.oram_session.specs.Exchanges.{event_of, is_stall}
 use Rattle.oram_session.specs.Outcome.{Outcome}
