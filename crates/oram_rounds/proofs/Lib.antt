@@ -13,3 +13,6 @@ pub mod Steps
 pub mod Safety
 pub mod Replies
 pub mod Start
+pub mod Talk
+pub mod Results
+pub mod NewProcess

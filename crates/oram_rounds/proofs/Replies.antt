@@ -72,13 +72,13 @@ module _ {B K : Type 0} (batches : B → List (List ℕ) → BatchOutcome → Li
   goes_on : (act : Act) (p q : Process B K) (host after : Host) (array : ℕ → List ℕ) → p.link.device ≡ v.device → p.link.record_len ≡ record_len v → IsGoingOn v p host array
       → Does v batches reads_back p act q → PlainRun may_lie v host (exchanges_of act) after → Outcomes p array (replies_of act) q after
   goes_on (Hears event x) p q host after array dev len on does run =
-      let t = told p q on.0 array event x does.0 does.1 on.2 in
+      let t = told p q on.0 array event x does.0.0 does.0.1 on.2 in
       let catches : CatchesUp v after (waiting q.link) on.0 =
-      subst (λ (h : Host). CatchesUp v h (waiting q.link) on.0) run (subst (λ (l : Round B). CatchesUp v host (waiting l) on.0) (sym does.2) on.1) in
+      subst (λ (h : Host). CatchesUp v h (waiting q.link) on.0) run (subst (λ (l : Round B). CatchesUp v host (waiting l) on.0) (sym does.0.2) on.1) in
       inl (record { now = array; goes_on = (on.0, catches, t.0); replied = same_queue array p.core.queue q.core.queue t.2 })
   goes_on (Calls o exchanges x) p q host after array dev len on does run =
-      let c = called batches reads_back are may_lie v device p q.link host after on.0 array does.0 o exchanges dev len on.1 on.2 does.1 does.2 run in
-      elim (step_call may_lie v device p.core q.core on.0 c.next array x on.2 o c.waits does.3 c.heard) [
+      let c = called batches reads_back are may_lie v device p q.link host after on.0 array does.0.0 o exchanges dev len on.1 on.2 does.0.1 does.0.2 run in
+      elim (step_call may_lie v device p.core q.core on.0 c.next array x on.2 o c.waits does.0.3 c.heard) [
         | inl went ↦ inl (record { now = went.now; goes_on = (c.next, c.catches, went.served); replied = went.replied })
         | inr failed ↦ inr (record {
           lies = failed.0;
@@ -90,10 +90,10 @@ module _ {B K : Type 0} (batches : B → List (List ℕ) → BatchOutcome → Li
         })
       ]
   goes_on (Misses o exchanges) p q host after array dev len on does run =
-      let c = called batches reads_back are may_lie v device p q.link host after on.0 array does.0 o exchanges dev len on.1 on.2 does.1 does.2 run in
+      let c = called batches reads_back are may_lie v device p q.link host after on.0 array does.0.0 o exchanges dev len on.1 on.2 does.0.1 does.0.2 run in
       let served : IsServed v q.core c.next array =
-      subst (λ (s : State). IsServed v s c.next array) (sym does.3) (served_on batches reads_back are may_lie v device p.core on.0 c.next array o c.waits on.2 c.heard) in
-      inl (record { now = array; goes_on = (c.next, c.catches, served); replied = same_queue array p.core.queue q.core.queue (ap (λ (s : State). s.queue) does.3) })
+      subst (λ (s : State). IsServed v s c.next array) (sym does.0.3) (served_on batches reads_back are may_lie v device p.core on.0 c.next array o c.waits on.2 c.heard) in
+      inl (record { now = array; goes_on = (c.next, c.catches, served); replied = same_queue array p.core.queue q.core.queue (ap (λ (s : State). s.queue) does.0.3) })
   goes_on (Keeps true) p q host after array dev len on does run =
       let all : waiting q.link ≡ waiting p.link = ap (λ (l : Round B). waiting l) does.2 ∙ append-nil (waiting p.link) in
       kept_on p q host after array on (sym all) does.1 run
@@ -116,20 +116,20 @@ module _ {B K : Type 0} (batches : B → List (List ℕ) → BatchOutcome → Li
   stays_failed : (acts : List Act) (p q : Process B K) → HasFailed p.core → DoesAll v batches reads_back p acts q → HasFailed q.core × (flat_map replies_of acts ≡ [])
   stays_failed [] p q failed does = (subst (λ (r : Process B K). HasFailed r.core) does failed, refl)
   stays_failed (Hears event x ∷ acts) p q failed does =
-      let told : HasFailed does.0.core × (x.replies ≡ []) = elim does.1.0 [
-        | inl is ↦ failed_told p.core does.0.core Reopen x (lost_by p.core (status_in p.core)) (subst (λ (e : Event). Steps v p.core e x does.0.core) is does.1.1) refl (lost_idles p.core (status_in p.core)) failed
-        | inr is ↦ failed_told p.core does.0.core Retry x (retried_by p.core (status_in p.core)) (subst (λ (e : Event). Steps v p.core e x does.0.core) is does.1.1) refl (retried_idles p.core (status_in p.core)) failed
+      let told : HasFailed does.0.core × (x.replies ≡ []) = elim does.1.0.0 [
+        | inl is ↦ failed_told p.core does.0.core Reopen x (lost_by p.core (status_in p.core)) (subst (λ (e : Event). Steps v p.core e x does.0.core) is does.1.0.1) refl (lost_idles p.core (status_in p.core)) failed
+        | inr is ↦ failed_told p.core does.0.core Retry x (retried_by p.core (status_in p.core)) (subst (λ (e : Event). Steps v p.core e x does.0.core) is does.1.0.1) refl (retried_idles p.core (status_in p.core)) failed
       ] in
       stays_failed acts does.0 q told.0 does.2
-  stays_failed (Calls o exchanges x ∷ acts) p q failed does = absurd (failed_out p.core does.1.0 failed does.1.1)
-  stays_failed (Misses o exchanges ∷ acts) p q failed does = absurd (failed_out p.core does.1.0 failed does.1.1)
+  stays_failed (Calls o exchanges x ∷ acts) p q failed does = absurd (failed_out p.core does.1.0.0 failed does.1.0.1)
+  stays_failed (Misses o exchanges ∷ acts) p q failed does = absurd (failed_out p.core does.1.0.0 failed does.1.0.1)
   stays_failed (Keeps true ∷ acts) p q failed does = stays_failed acts does.0 q (subst HasFailed (sym does.1.1) failed) does.2
   stays_failed (Keeps false ∷ acts) p q failed does = stays_failed acts does.0 q (subst HasFailed (sym does.1.1) failed) does.2
 
   same_device : (act : Act) (p q : Process B K) → Does v batches reads_back p act q → (q.link.device ≡ p.link.device) × (q.link.record_len ≡ p.link.record_len)
-  same_device (Hears event x) p q does = (ap (λ (l : Round B). l.device) does.2, ap (λ (l : Round B). l.record_len) does.2)
-  same_device (Calls o exchanges x) p q does = (does.2.device, does.2.record_len)
-  same_device (Misses o exchanges) p q does = (does.2.device, does.2.record_len)
+  same_device (Hears event x) p q does = (ap (λ (l : Round B). l.device) does.0.2, ap (λ (l : Round B). l.record_len) does.0.2)
+  same_device (Calls o exchanges x) p q does = (does.0.2.device, does.0.2.record_len)
+  same_device (Misses o exchanges) p q does = (does.0.2.device, does.0.2.record_len)
   same_device (Keeps true) p q does = (ap (λ (l : Round B). l.device) does.2, ap (λ (l : Round B). l.record_len) does.2)
   same_device (Keeps false) p q does = (ap (λ (l : Round B). l.device) does.2, ap (λ (l : Round B). l.record_len) does.2)
 

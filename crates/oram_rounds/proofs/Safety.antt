@@ -279,38 +279,38 @@ module _ {B K : Type 0} (batches : B → List (List ℕ) → BatchOutcome → Li
   act_safe : (act : Act) (p q : Process B K) (host after : Host) (before array : ℕ → List ℕ) → Safe p host before array → Does v batches reads_back p act q
       → PlainRun may_lie v host (exchanges_of act) after → Safe q after (earlier (act ∷ []) before array) array
   act_safe (Hears event x) p q host after before array safe does run = record {
-    device = ap (λ (l : Round B). l.device) does.2 ∙ safe.device;
-    record_len_is = ap (λ (l : Round B). l.record_len) does.2 ∙ safe.record_len_is;
+    device = ap (λ (l : Round B). l.device) does.0.2 ∙ safe.device;
+    record_len_is = ap (λ (l : Round B). l.record_len) does.0.2 ∙ safe.record_len_is;
     live =
-        let will : WillHoldAfter may_lie v q.core (waiting p.link) host array = (safe.live.0, safe.live.1, told p.core q.core safe.live.0 array event x does.0 does.1 safe.live.2) in
+        let will : WillHoldAfter may_lie v q.core (waiting p.link) host array = (safe.live.0, safe.live.1, told p.core q.core safe.live.0 array event x does.0.0 does.0.1 safe.live.2) in
         subst (λ (h : Host). WillHoldAfter may_lie v q.core (waiting q.link) h array) run
-        (subst (λ (l : Round B). WillHoldAfter may_lie v q.core (waiting l) host array) (sym does.2) will);
+        (subst (λ (l : Round B). WillHoldAfter may_lie v q.core (waiting l) host array) (sym does.0.2) will);
     kept = λ bytes back.
-        let k : IsKept may_lie v p.link.kept bytes host before array = safe.kept bytes (subst (λ (j : K). reads_back j bytes) does.3 back) in
+        let k : IsKept may_lie v p.link.kept bytes host before array = safe.kept bytes (subst (λ (j : K). reads_back j bytes) does.1 back) in
         subst (λ (h : Host). IsKept may_lie v q.link.kept bytes h before array) run
-        (subst (λ (l : Round B). IsKept may_lie v l.kept bytes host before array) (sym does.2) k);
+        (subst (λ (l : Round B). IsKept may_lie v l.kept bytes host before array) (sym does.0.2) k);
   }
   act_safe (Calls o exchanges x) p q host after before array safe does run =
       let live = safe.live in
-      let work = at_work p.core live.0 array does.0 does.1 live.2 in
+      let work = at_work p.core live.0 array does.0.0 does.0.1 live.2 in
       let before_it : ℕ → List ℕ = work.2.0 in
-      let c = called p q.link host after live.0 before_it does.0 o exchanges safe.device safe.record_len_is live.1 work.2.1 does.1 does.2 run in
+      let c = called p q.link host after live.0 before_it does.0.0 o exchanges safe.device safe.record_len_is live.1 work.2.1 does.0.1 does.0.2 run in
       record {
-        device = does.2.device ∙ safe.device;
-        record_len_is = does.2.record_len ∙ safe.record_len_is;
-        live = (c.next, c.catches, will_after p.core q.core c.next before_it array x work.2.2 (step_call may_lie v device p.core q.core live.0 c.next before_it x work.2.1 o c.waits does.3 c.heard));
-        kept = λ bytes back. kept_after p q.link host after before array does.0 o exchanges safe does.2 run bytes (subst (λ (j : K). reads_back j bytes) does.4 back);
+        device = does.0.2.device ∙ safe.device;
+        record_len_is = does.0.2.record_len ∙ safe.record_len_is;
+        live = (c.next, c.catches, will_after p.core q.core c.next before_it array x work.2.2 (step_call may_lie v device p.core q.core live.0 c.next before_it x work.2.1 o c.waits does.0.3 c.heard));
+        kept = λ bytes back. kept_after p q.link host after before array does.0.0 o exchanges safe does.0.2 run bytes (subst (λ (j : K). reads_back j bytes) does.1 back);
       }
   act_safe (Misses o exchanges) p q host after before array safe does run =
       let live = safe.live in
-      let work = at_work p.core live.0 array does.0 does.1 live.2 in
-      let c = called p q.link host after live.0 work.2.0 does.0 o exchanges safe.device safe.record_len_is live.1 work.2.1 does.1 does.2 run in
+      let work = at_work p.core live.0 array does.0.0 does.0.1 live.2 in
+      let c = called p q.link host after live.0 work.2.0 does.0.0 o exchanges safe.device safe.record_len_is live.1 work.2.1 does.0.1 does.0.2 run in
       let will : WillHold may_lie v p.core c.next array = inl (work.2.0, served_on p.core live.0 c.next work.2.0 o c.waits work.2.1 c.heard, work.2.2) in
       record {
-        device = does.2.device ∙ safe.device;
-        record_len_is = does.2.record_len ∙ safe.record_len_is;
-        live = (c.next, c.catches, subst (λ (s : State). WillHold may_lie v s c.next array) (sym does.3) will);
-        kept = λ bytes back. kept_after p q.link host after before array does.0 o exchanges safe does.2 run bytes (subst (λ (j : K). reads_back j bytes) does.4 back);
+        device = does.0.2.device ∙ safe.device;
+        record_len_is = does.0.2.record_len ∙ safe.record_len_is;
+        live = (c.next, c.catches, subst (λ (s : State). WillHold may_lie v s c.next array) (sym does.0.3) will);
+        kept = λ bytes back. kept_after p q.link host after before array does.0.0 o exchanges safe does.0.2 run bytes (subst (λ (j : K). reads_back j bytes) does.1 back);
       }
   act_safe (Keeps true) p q host after before array safe does run =
       let all : waiting q.link ≡ waiting p.link = ap (λ (l : Round B). waiting l) does.2 ∙ append-nil (waiting p.link) in

@@ -22,10 +22,12 @@ use Rattle.oram_host_laws.specs.Honest.{IsHonest, KeepsAll}
 use Rattle.oram_host_laws.specs.HostRecords.{HostsBy}
 use Rattle.oram_session.specs.Settled.{IsSettled, is_settled_by}
 use Rattle.oram_link_laws.specs.Repair.{IsAmong}
+use Rattle.oram_link_laws.specs.Runs.{IsHeldBy}
+use Rattle.oram_rounds.specs.CatchUp.{CatchesUp}
 use Rattle.oram_rounds.specs.Start.{Asked, HeldIsSafe, SubmittedIsSafe, Submits, array_if, array_with}
 use Rattle.oram_rounds.specs.Process.{IsKept, Process}
 use Rattle.oram_rounds.specs.Rounds.{Round, waiting}
-use Rattle.oram_rounds.specs.Service.{WillHold, WillHoldAfter, after_all}
+use Rattle.oram_rounds.specs.Service.{IsServed, WillHold, WillHoldAfter, after_all}
 use Rattle.oram_rounds.proofs.Steps.{step_quiet}
 
 -- the host receives nothing when a command is submitted
@@ -119,19 +121,20 @@ resting_by (x ∷ q) false e = absurd cc
 resting : (s : State) → IsSettled s → s.failure ≡ None → s.queue ≡ []
 resting s settled alive = resting_by s.queue s.lost (sym (ap (λ (f : Option Reason). is_settled_by (status_by f s.queue s.lost)) alive) ∙ settled)
 
+-- the host of a device that is held has nothing to catch up
+pub held_goes_on : (v : Scheme) (core : State) (host : Host) (array : ℕ → List ℕ) → IsHeldBy v core host array → CatchesUp v host [] host × IsServed v core host array
+held_goes_on v core host array held =
+    let idle : core.queue ≡ [] = resting core held.settled held.alive in
+    let keeps : KeepsAll v held.world.records host = subst (HostsBy v core held.world host) idle held.hosts in (
+      record { records = held.world.records; keeps = keeps; paths = tt; ahead = keeps },
+      record { alive = held.alive; world = held.world; serving = held.serving; hosts = held.hosts },
+    )
+
 pub held_is_safe : (B : Type 0) {K : Type 0} (reads_back : K → List ℕ → Type 0) → HeldIsSafe B reads_back
 held_is_safe B {K} reads_back may_lie v inner core keeper host array held files =
+    let on = held_goes_on v core host array held in
     let idle : core.queue ≡ [] = resting core held.settled held.alive in
-    let keeps : KeepsAll v held.world.records host = subst (HostsBy v core held.world host) idle held.hosts in
-    let will : WillHoldAfter may_lie v core [] host array = (
-      host,
-      record { records = held.world.records; keeps = keeps; paths = tt; ahead = keeps },
-      inl (
-        array,
-        record { alive = held.alive; world = held.world; serving = held.serving; hosts = held.hosts },
-        ap (λ (queue : List Submission). after_all v.device queue array) idle,
-      ),
-    ) in
+    let will : WillHoldAfter may_lie v core [] host array = (host, on.0, inl (array, on.1, ap (λ (queue : List Submission). after_all v.device queue array) idle)) in
     record {
       device = refl;
       record_len_is = refl;

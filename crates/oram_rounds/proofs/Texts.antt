@@ -1,13 +1,16 @@
 -- Lists of bodies, and the one at an index.
-use Rattle.std.proofs.Common.{◌≡◌, ℕ, ◌+◌, suc, ◌<◌, ◌≤◌, arith, inl, inr, List, [], ◌∷◌, ◌++◌, length, take, drop, get_or, refl, sym, ap, ◌∙◌, subst}
+use Rattle.std.proofs.Common.{◌≡◌, ℕ, ◌+◌, suc, ◌<◌, ◌≤◌, arith, inl, inr, List, [], ◌∷◌, ◌++◌, length, take, drop, get_or, refl, sym, ap, ◌∙◌, subst, append_assoc, append-nil}
 use Rattle.std.specs.Global.{Vec}
+use Rattle.std.specs.List.{flat_map}
 use Rattle.std.proofs.Math.ListN.{get_or-map}
+use Rattle.std.proofs.lemmas.Grind.{flat_map-append}
 use Rattle.std.proofs.Math.Seq.{drop-cons, take-suc}
 use Rattle.std.proofs.lemmas.List.{drop_all, get_or_default, length-map, take_all, map-append, take-append-drop}
 use Rattle.oram_geometry.specs.declared.Sizes.{Sizes}
 use Rattle.oram_wire.specs.HostMessages.{done_answer}
 use Rattle.oram_link_laws.specs.Repair.{IsAmong}
 use Rattle.oram_rounds.specs.Batches.{texts}
+use Rattle.oram_rounds.specs.Files.{store_text}
 use Rattle.oram_rounds.specs.PathMessages.{ArePathStores}
 use Rattle.oram_rounds.specs.Rounds.{AreDone}
 
@@ -79,3 +82,13 @@ pub paths_whole : (d : Sizes) (len : ℕ) (xs : List (Vec ℕ)) (n m : ℕ) → 
     → ArePathStores d len (texts (take m xs))
 paths_whole d len xs n m all first second =
     subst (ArePathStores d len) (texts_whole xs n m all) (paths_join d len (texts (take n xs)) (texts (drop n xs)) first second)
+
+-- one more STORE at the end of a file
+pub written_more : (start count : List ℕ) (front : List (List ℕ)) (body file new : List ℕ) → file ≡ start ++ (count ++ flat_map store_text front) → new ≡ file ++ store_text body
+    → new ≡ start ++ (count ++ flat_map store_text (front ++ body ∷ []))
+written_more start count front body file new before is =
+    let f : List ℕ = flat_map store_text front in
+    let more : f ++ store_text body ≡ flat_map store_text (front ++ body ∷ []) =
+    sym (flat_map-append store_text front (body ∷ []) ∙ ap (λ (t : List ℕ). f ++ t) (append-nil (store_text body))) in
+    is ∙ ap (λ (t : List ℕ). t ++ store_text body) before ∙ append_assoc start (count ++ f) (store_text body)
+    ∙ ap (λ (t : List ℕ). start ++ t) (append_assoc count f (store_text body)) ∙ ap (λ (t : List ℕ). start ++ (count ++ t)) more

@@ -1,13 +1,17 @@
--- An example that meets the premises of the law: a device of one block, whose tree has one node, over a server in memory.
-use Rattle.std.specs.Prelude.{ℕ, Bool, List, [], ◌∷◌, replicate, Ok}
+-- Examples that meet the premises of the laws: a device of one block, whose tree has one node, over a server in memory.
+use Rattle.std.specs.Prelude.{ℕ, Bool, List, [], ◌∷◌, replicate, Ok, ⊤, true}
+use Rattle.oram_geometry.specs.Sizes.{IsDevice}
 use Rattle.oram_wire.specs.HostMessages.{fetch_body, payload_answer, store_body}
 use Rattle.oram_host.specs.Host.{Host}
 use Rattle.oram_session.specs.Links.{DirectCall, ToServer}
-use Rattle.oram_link_laws.specs.Examples.{new_host, new_server, one_block}
-use Rattle.oram_link_laws.specs.Runs.{Exchange, LinkRun}
+use Rattle.oram_link_laws.specs.Examples.{new_core, new_host, new_server, one_block}
+use Rattle.oram_link_laws.specs.Runs.{Exchange, IsHeldBy, LinkRun}
 use Rattle.oram_rounds.specs.Batches.{BatchOutcome, IsBatch}
 use Rattle.oram_rounds.specs.CatchUp.{CatchesUp, PlainRun}
+use Rattle.oram_rounds.specs.Files.{IsFile}
 use Rattle.oram_rounds.specs.Law.{AreBatches, IsStocked}
+use Rattle.oram_rounds.specs.Process.{DoesAll, IsGoingOn, IsSafe, Process, begun}
+use Rattle.oram_rounds.specs.Process.Act.{Keeps}
 use Rattle.oram_rounds.specs.Rounds.{Round, RoundCall, waiting}
 
 -- batches over a server in memory, one message after the other
@@ -35,3 +39,21 @@ OneWaitsExample = AreBatches DirectBatches
     × ((later : Host) × CatchesUp one_block new_host (waiting one_waits) later × IsStocked one_block later)
     × RoundCall DirectBatches one_waits (fetch_body 0 0) (Ok (payload_answer (replicate 88 1))) zeros_fetched one_waits
     × ((may_lie : Bool) → PlainRun may_lie one_block new_host zeros_fetched new_host)
+
+-- what may be read back is a file of the new core
+abbrev pub is_new_file : ⊤ → List ℕ → Type 0
+is_new_file keeper bytes = IsFile one_block bytes [] new_core
+
+-- a process that begins with the core of the device as it was formatted
+abbrev pub new_process : Process ToServer ⊤
+new_process = begun new_server one_block [] new_core tt
+
+abbrev pub zero_array : ℕ → List ℕ
+zero_array a = replicate 16 0
+
+-- It is safe, the server keeps what its core holds, and it keeps itself.
+abbrev pub NewProcessExample : Type 0
+NewProcessExample = AreBatches DirectBatches × IsDevice one_block.device × IsHeldBy one_block new_core new_host zero_array
+    × ((may_lie : Bool) → IsSafe may_lie one_block is_new_file new_process new_host zero_array zero_array) × IsGoingOn one_block new_process new_host zero_array
+    × DoesAll one_block DirectBatches is_new_file new_process (Keeps true ∷ []) new_process
+    × ((may_lie : Bool) → PlainRun may_lie one_block new_host [] new_host)

@@ -58,16 +58,32 @@ replies_of (Keeps done) = []
 abbrev pub IsSent : {B : Type 0} → Round B → List ℕ → List Exchange → Type 0
 IsSent l message exchanges = (exchanges ≡ []) ⊎ (IsPathFetch l.device message × AreAmong (bodies_of exchanges) (l.kept ++ message ∷ []))
 
+-- of a device, over a link that carries batches
+module _ (v : Scheme) {B : Type 0} (batches : B → List (List ℕ) → BatchOutcome → List Exchange → B → Type 0) where
+  -- a core and its link do this, and need no keeper for it
+  abbrev pub Talks : State × Round B → Act → State × Round B → Type 0
+  Talks p (Hears event x) q = ((event ≡ Reopen) ⊎ (event ≡ Retry)) × Steps v p.0 event x q.0 × (q.1 ≡ p.1)
+  Talks p (Calls o exchanges x) q =
+      (message : List ℕ) × (outstanding p.0 ≡ Some message) × RoundCall batches p.1 message o exchanges q.1 × Steps v p.0 (event_of o) x q.0
+  Talks p (Misses o exchanges) q =
+      (message : List ℕ) × (outstanding p.0 ≡ Some message) × RoundCall batches p.1 message o exchanges q.1 × (q.0 ≡ p.0)
+  Talks p (Keeps done) q = ⊥
+
+  abbrev pub TalksAll : State × Round B → List Act → State × Round B → Type 0
+  TalksAll p acts q = FoldsTo {P = State × Round B} Talks p acts q
+
+  -- they do some of this, and the core replies so meanwhile
+  pub record HasTalked (p : State × Round B) (replies : List Reply) (q : State × Round B) : Type 0 where
+    pub acts : List Act
+    pub talks : TalksAll p acts q
+    pub replied : flat_map replies_of acts ≡ replies
+
 -- of a device, over a link that carries batches and a keeper of which some bytes may be read back
 module _ (v : Scheme) {B K : Type 0} (batches : B → List (List ℕ) → BatchOutcome → List Exchange → B → Type 0) (reads_back : K → List ℕ → Type 0) where
   abbrev pub Does : Process B K → Act → Process B K → Type 0
-  Does p (Hears event x) q = ((event ≡ Reopen) ⊎ (event ≡ Retry)) × Steps v p.core event x q.core × (q.link ≡ p.link) × (q.keeper ≡ p.keeper)
-  Does p (Calls o exchanges x) q =
-      (message : List ℕ) × (outstanding p.core ≡ Some message) × RoundCall batches p.link message o exchanges q.link
-      × Steps v p.core (event_of o) x q.core × (q.keeper ≡ p.keeper)
-  Does p (Misses o exchanges) q =
-      (message : List ℕ) × (outstanding p.core ≡ Some message) × RoundCall batches p.link message o exchanges q.link
-      × (q.core ≡ p.core) × (q.keeper ≡ p.keeper)
+  Does p (Hears event x) q = Talks v batches (p.core, p.link) (Hears event x) (q.core, q.link) × (q.keeper ≡ p.keeper)
+  Does p (Calls o exchanges x) q = Talks v batches (p.core, p.link) (Calls o exchanges x) (q.core, q.link) × (q.keeper ≡ p.keeper)
+  Does p (Misses o exchanges) q = Talks v batches (p.core, p.link) (Misses o exchanges) (q.core, q.link) × (q.keeper ≡ p.keeper)
   -- once something is kept, nothing else is read back
   Does p (Keeps true) q =
       ((bytes : List ℕ) → reads_back q.keeper bytes → IsFile v bytes (waiting p.link) p.core)

@@ -1,6 +1,6 @@
 //! The law of links that hold STOREs back.
 ghost use Rattle.oram_rounds.specs.Start.{HeldIsSafe, SubmittedIsSafe};
-ghost use Rattle.oram_rounds.specs.Examples.{OneWaitsExample};
+ghost use Rattle.oram_rounds.specs.Examples.{NewProcessExample, OneWaitsExample};
 ghost use Rattle.oram_rounds.specs.Law.{CallsAreOfTheHostLater};
 ghost use Rattle.oram_rounds.specs.Process.{ActsAreSafe, BegunIsSafe, EndsAreSafe, RepliesAreTheArrays};
 
@@ -55,4 +55,10 @@ pub fn begun_is_safe<B: BatchLink, K: Keeper>()
 /// may lie the device may fail; then all other commands are answered as failed.
 pub fn replies_are_the_arrays<B: BatchLink, K: Keeper>()
     ensures { RepliesAreTheArrays B.batches K.reads_back }
+{}
+
+/// A process that begins with a device as it was formatted, over a server in memory, meets the premises of the laws about
+/// processes: it is safe, and keeps itself.
+pub fn new_process_example()
+    ensures { NewProcessExample }
 {}

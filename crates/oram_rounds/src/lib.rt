@@ -7,21 +7,32 @@
 //!
 //! The client keeps the STOREs that wait in a file before they leave. If its process ends, the next one sends them again.
 //! A [`BatchLink`] carries the STOREs and the FETCH behind them; [`OneByOne`] makes one of any link.
+//!
+//! A round is one keeping and then the work of all commands that were submitted ([`perform`], [`resume`]). Their replies may
+//! be given at once, since what is kept has the commands.
 #![tactic(auto)]
 
 mod batch;
+mod exchanges;
 mod keeper;
+mod kept_file;
 mod law;
 mod lists;
 mod one_by_one;
 mod overlay;
+mod round_fault;
 mod round_link;
+mod rounds;
 
 pub use batch::BatchLink;
+pub use exchanges::carry_out_all;
 pub use keeper::{KeepError, Keeper};
+pub use kept_file::encode_kept;
 pub use law::{
     acts_are_safe, begun_is_safe, calls_are_of_the_host_later, ends_are_safe, held_is_safe,
-    one_waits_example, replies_are_the_arrays, submitted_is_safe,
+    new_process_example, one_waits_example, replies_are_the_arrays, submitted_is_safe,
 };
 pub use one_by_one::OneByOne;
+pub use round_fault::RoundFault;
 pub use round_link::RoundLink;
+pub use rounds::{keep, perform, resume};

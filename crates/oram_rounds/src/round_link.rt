@@ -8,7 +8,7 @@ ghost use Rattle.oram_link_laws.specs.Runs.{Exchange};
 ghost use Rattle.oram_rounds.specs.Batches.{texts};
 ghost use Rattle.oram_rounds.specs.Overlay.{IsOverlaid};
 ghost use Rattle.oram_rounds.specs.PathMessages.{IsPathStore};
-ghost use Rattle.oram_rounds.specs.Rounds.{AreDone, Does, Fetches, Holds, refused_with};
+ghost use Rattle.oram_rounds.specs.Rounds.{AreDone, Does, Fetches, Holds, refused_with, waiting};
 
 use crate::batch::BatchLink;
 use crate::lists::push;
@@ -108,6 +108,13 @@ impl<B> RoundLink<B> {
     {
         let kept = self.kept;
         &self.stores[kept..]
+    }
+
+    /// Returns all STOREs that the host hasn't acknowledged, the oldest first.
+    pub fn waiting(&self) -> &[Vec<u8>]
+        ensures { texts result.now ≡ waiting self.now }
+    {
+        &self.stores
     }
 
     /// Notes that all STOREs that wait are kept, so they leave with the next FETCH.

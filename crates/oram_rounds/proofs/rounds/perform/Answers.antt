@@ -1,0 +1,67 @@
+use Rattle.std.proofs.Common.{[], ◌∷◌, false, true, refl, inl, inr}
+use Rattle.std.proofs.lemmas.Result.{err_from_is_err_and}
+use Rattle.oram_core.specs.Core.{scheme_of}
+use Rattle.oram_rounds.specs.Process.Act.{Keeps}
+use Rattle.oram_rounds.proofs.Talk.{talks_beside}
+use Rattle.oram_rounds.proofs.rounds.perform.Goals as goal
+
+pub returns-in_err-keep-clause-err : goal.returns-in_err-keep-clause-err
+returns-in_err-keep-clause-err g c =
+    let p = err_from_is_err_and c.from_residual.result c.from_residual.ensures.1 in
+    let failed = c.in_err-keep.ensures.err in
+    rw p.1 (
+      Keeps false ∷ [],
+      inl refl,
+      (record { core = c.args.core.now.state; link = c.keep.new.link; keeper = c.keep.new.keeper }, (failed.0, refl, failed.1), refl),
+    )
+
+pub returns-in-Ok-clause-ok : goal.returns-in-Ok-clause-ok
+returns-in-Ok-clause-ok g c =
+    let v = scheme_of g.S.Sealer.cipher c.args.core.now in
+    let kept = c.in_ok-keep.ensures.ok in
+    let talked = c.in-Ok.ensures.ok in (
+      talked.acts,
+      talked.replied,
+      (
+        record { core = c.args.core.now.state; link = c.keep.new.link; keeper = c.keep.new.keeper },
+        (kept.0, refl, kept.1),
+        talks_beside g.B.BatchLink.batches v g.K.Keeper.reads_back c.keep.new.keeper talked.acts _ _ talked.talks,
+      ),
+    )
+
+pub returns-in-Err-Stalled-clause-err : goal.returns-in-Err-Stalled-clause-err
+returns-in-Err-Stalled-clause-err g c =
+    let v = scheme_of g.S.Sealer.cipher c.args.core.now in
+    let kept = c.in_ok-keep.ensures.ok in
+    let talked = c.in-Err-Stalled.ensures.err.1 in (
+      Keeps true ∷ talked.acts,
+      inr (talked.acts, refl),
+      (
+        record { core = c.args.core.now.state; link = c.keep.new.link; keeper = c.keep.new.keeper },
+        (kept.0, refl, kept.1),
+        talks_beside g.B.BatchLink.batches v g.K.Keeper.reads_back c.keep.new.keeper talked.acts _ _ talked.talks,
+      ),
+    )
+
+pub returns-in-Err : goal.returns-in-Err
+returns-in-Err g c =
+    let v = scheme_of g.S.Sealer.cipher c.args.core.now in
+    let kept = c.in_ok-keep.ensures.ok in
+    let talked = c.in-Err.ensures.err.1 in
+    record {
+      kept = c.in-Err.ensures.kept;
+      ok = tt;
+      count = tt;
+      settled = tt;
+      block = tt;
+      err = (
+        Keeps true ∷ talked.acts,
+        inr (talked.acts, refl),
+        (
+          record { core = c.args.core.now.state; link = c.keep.new.link; keeper = c.keep.new.keeper },
+          (kept.0, refl, kept.1),
+          talks_beside g.B.BatchLink.batches v g.K.Keeper.reads_back c.keep.new.keeper talked.acts _ _ talked.talks,
+        ),
+      );
+      not_kept = λ e. absurd cc;
+    }

@@ -1,0 +1,37 @@
+use Rattle.std.proofs.Common.{◌∷◌, ◌∙◌, true}
+use Rattle.std.proofs.lemmas.Result.{err_from_is_err_and}
+use Rattle.oram_core.specs.Core.{scheme_of}
+use Rattle.oram_session.proofs.CoreSteps.{same_scheme}
+use Rattle.oram_rounds.specs.Process.Act.{Keeps}
+use Rattle.oram_rounds.proofs.Results.{if_ok, on_err}
+use Rattle.oram_rounds.proofs.Talk.{done_after, lost_talks, reopened_talks, talks_beside}
+use Rattle.oram_rounds.proofs.rounds.resume.Goals as goal
+
+pub returns-in_err-reaction-clause-err : goal.returns-in_err-reaction-clause-err
+returns-in_err-reaction-clause-err g c =
+    let p = err_from_is_err_and c.from_residual.result c.from_residual.ensures.1 in
+    let v = scheme_of g.S.Sealer.cipher c.args.core.now in
+    let lost = lost_talks g.B.BatchLink.batches v c.args.core.now.state c.reopen.new.core.state c.args.link.now c.in_err-reaction.ensures.err in
+    rw p.1 (lost.acts, talks_beside g.B.BatchLink.batches v g.K.Keeper.reads_back c.args.keeper.now lost.acts _ _ lost.talks)
+
+pub returns-clause-ok : goal.returns-clause-ok
+returns-clause-ok g c =
+    let batches = g.B.BatchLink.batches in
+    let v = scheme_of g.S.Sealer.cipher c.args.core.now in
+    let u = scheme_of g.S.Sealer.cipher c.reopen.new.core in
+    let same = same_scheme g.S.Sealer.cipher c.args.core.now c.reopen.new.core c.reopen.ensures.kept in
+    let told = reopened_talks batches v c.args.core.now.state c.reopen.new.core.state c.args.link.now c.in_ok-reaction.ensures.ok in
+    if_ok _ _ c.perform.result (λ replies done.
+    let all = done_after batches v g.K.Keeper.reads_back c.args.keeper.now u _ _ _ (Keeps true ∷ done.0) same told done.2 in
+    (all.0, all.1 ∙ done.1, all.2)) c.perform.ensures.ok
+
+pub returns-clause-err : goal.returns-clause-err
+returns-clause-err g c =
+    let batches = g.B.BatchLink.batches in
+    let v = scheme_of g.S.Sealer.cipher c.args.core.now in
+    let u = scheme_of g.S.Sealer.cipher c.reopen.new.core in
+    let same = same_scheme g.S.Sealer.cipher c.args.core.now c.reopen.new.core c.reopen.ensures.kept in
+    let told = reopened_talks batches v c.args.core.now.state c.reopen.new.core.state c.args.link.now c.in_ok-reaction.ensures.ok in
+    on_err c.perform.result (λ done.
+    let all = done_after batches v g.K.Keeper.reads_back c.args.keeper.now u _ _ _ done.0 same told done.2 in
+    (all.0, all.2)) c.perform.ensures.err

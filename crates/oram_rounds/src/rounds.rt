@@ -1,0 +1,111 @@
+//! A round: commands are kept, and then carried out together.
+ghost use Rattle.std.specs.Prelude.{◌≡◌, ◌⊎◌, [], ◌∷◌, ℕ, List, All, true, false, length, IfErr, IfOk, IsErrOf, OnErr, OnOk};
+ghost use Rattle.std.specs.List.{flat_map};
+ghost use Rattle.oram_core.specs.Core.{IsSameDevice, scheme_of};
+ghost use Rattle.oram_core.specs.PlainSteps.{done};
+ghost use Rattle.oram_session.specs.Settled.{IsBodyOf, IsSettled, IsUnderWay};
+ghost use Rattle.oram_rounds.specs.Files.{IsFile};
+ghost use Rattle.oram_rounds.specs.Process.{Act, DoesAll, replies_of};
+ghost use Rattle.oram_rounds.specs.Process.Act.{Keeps};
+ghost use Rattle.oram_rounds.specs.Rounds.{waiting};
+
+use crate::batch::BatchLink;
+use crate::exchanges::carry_out_all;
+use crate::keeper::Keeper;
+use crate::kept_file::encode_kept;
+use crate::round_fault::RoundFault;
+use crate::round_link::RoundLink;
+use oram_bucket::Sealer;
+use oram_core::{Core, Reaction, Reply};
+use oram_host::ServeFault;
+use oram_session::{is_settled, reopen};
+use std::alloc::Global;
+
+/// Keeps the core and the STOREs that wait, which may leave from then on.
+pub fn keep<S: Sealer, B, K: Keeper>(
+    alloc: Global,
+    core: &Core<S>,
+    link: &mut RoundLink<B>,
+    keeper: &mut K,
+) -> Result<(), RoundFault>
+    // Whatever is read back then is the file of the core and of these STOREs.
+    ensures ok { let v = scheme_of S.cipher core.now in
+        OnOk result (((bytes : List ℕ) → K.reads_back keeper.new bytes → IsFile v bytes (waiting link.old) core.now.state)
+        × (link.new ≡ record link.old { kept = waiting link.old; held = [] })) }
+    // After a fault it is that file, or what was there before.
+    ensures err { let v = scheme_of S.cipher core.now in
+        OnErr result (((bytes : List ℕ) → K.reads_back keeper.new bytes → IsFile v bytes (waiting link.old) core.now.state ⊎ K.reads_back keeper.old bytes)
+        × (link.new ≡ link.old)) }
+    ensures memory { IsErrOf result RoundFault.OutOfMemory → keeper.new ≡ keeper.old }
+    ensures fault { IfErr result (λ e. (e ≡ RoundFault.NotKept) ⊎ (e ≡ RoundFault.OutOfMemory)) }
+{
+    let file = encode_kept(alloc, link.waiting(), core)?;
+    keeper.keep(&file)?;
+    link.keep();
+    Ok(())
+}
+
+/// Keeps the commands that are at work, carries them out, and returns their replies in order. These may be given at once:
+/// what is kept has the commands, so a process that begins with it carries them out again, with the same effect.
+pub fn perform<S: Sealer, B: BatchLink, K: Keeper>(
+    alloc: Global,
+    core: &mut Core<S>,
+    link: &mut RoundLink<B>,
+    keeper: &mut K,
+    reaction: Reaction,
+) -> Result<Vec<Reply>, RoundFault>
+    requires { IsUnderWay (done reaction core.old.state) }
+    ensures kept { IsSameDevice core.old core.new }
+    ensures ok { let v = scheme_of S.cipher core.old in
+        IfOk result (λ replies. (acts : List Act) × (flat_map replies_of acts ≡ replies.items)
+        × DoesAll v B.batches K.reads_back (record { core = core.old.state; link = link.old; keeper = keeper.old }) (Keeps true ∷ acts)
+        (record { core = core.new.state; link = link.new; keeper = keeper.new })) }
+    ensures count { IfOk result (λ replies. length replies.items ≡ length core.old.state.queue) }
+    ensures settled { OnOk result (IsSettled core.new.state) }
+    ensures block { IfOk result (λ replies. All (λ reply. IsBodyOf core.old.device reply.body) replies.items) }
+    // After a fault either nothing was kept and nothing sent, or the commands are kept, and messages were exchanged.
+    ensures err { let v = scheme_of S.cipher core.old in
+        OnErr result ((acts : List Act) × ((acts ≡ Keeps false ∷ []) ⊎ ((rest : List Act) × (acts ≡ Keeps true ∷ rest)))
+        × DoesAll v B.batches K.reads_back (record { core = core.old.state; link = link.old; keeper = keeper.old }) acts
+        (record { core = core.new.state; link = link.new; keeper = keeper.new })) }
+    ensures not_kept { IsErrOf result RoundFault.NotKept → (core.new ≡ core.old) × (link.new ≡ link.old) }
+{
+    keep(alloc, core, link, keeper)?;
+    match carry_out_all(alloc, core, link, reaction) {
+        Ok(replies) => Ok(replies),
+        Err(ServeFault::Stalled) => Err(RoundFault::Stalled),
+        Err(_) => Err(RoundFault::OutOfMemory),
+    }
+}
+
+/// Carries out the commands that wait in a core that was read back, or was left by a fault, and returns their replies in
+/// order. Its message counts as lost and is sent again, once the core is kept anew.
+pub fn resume<S: Sealer, B: BatchLink, K: Keeper>(
+    alloc: Global,
+    core: &mut Core<S>,
+    link: &mut RoundLink<B>,
+    keeper: &mut K,
+) -> Result<Vec<Reply>, RoundFault>
+    ensures kept { IsSameDevice core.old core.new }
+    ensures settled { OnOk result (IsSettled core.new.state) }
+    // In an idle or failed core nothing waits.
+    ensures none { IsSettled core.old.state → IfOk result (λ replies. replies.items ≡ [])
+        × (core.new ≡ core.old) × (link.new ≡ link.old) × (keeper.new ≡ keeper.old) }
+    // In any other each command has its reply.
+    ensures count { ¬ IsSettled core.old.state → IfOk result (λ replies. length replies.items ≡ length core.old.state.queue) }
+    ensures ok { let v = scheme_of S.cipher core.old in
+        IfOk result (λ replies. (acts : List Act) × (flat_map replies_of acts ≡ replies.items)
+        × DoesAll v B.batches K.reads_back (record { core = core.old.state; link = link.old; keeper = keeper.old }) acts
+        (record { core = core.new.state; link = link.new; keeper = keeper.new })) }
+    ensures block { IfOk result (λ replies. All (λ reply. IsBodyOf core.old.device reply.body) replies.items) }
+    ensures err { let v = scheme_of S.cipher core.old in
+        OnErr result ((acts : List Act)
+        × DoesAll v B.batches K.reads_back (record { core = core.old.state; link = link.old; keeper = keeper.old }) acts
+        (record { core = core.new.state; link = link.new; keeper = keeper.new })) }
+{
+    if is_settled(core) {
+        return Ok(Vec::new(alloc));
+    }
+    let reaction = reopen(alloc, core)?;
+    perform(alloc, core, link, keeper, reaction)
+}
