@@ -65,7 +65,8 @@ module _ {B : Type 0} (batches : B → List (List ℕ) → BatchOutcome → List
       let first : HasTalked v batches (s, l) [] (u, m) = subst (λ (rs : List Reply). HasTalked v batches (s, l) rs (u, m)) none (called_once s u l m message o x out call step) in
       (talked_more (s, l) (u, m) (s, m) [] [] first retry, none, back.0, back.1)
 
-  -- stalls, each followed by a retry, and then one more call of which the core hears, or not
+  -- Calls stall, and the core sends its message again after each. Then there is one more call. The core hears of it, or
+  -- memory runs out first.
 
   told : (stalls : List Outcome) (o : Outcome) (s t : State) (l m : Round B) (message : List ℕ) (replies : List Reply) → status_in s ≡ Waiting → outstanding s ≡ Some message
       → All (λ k. is_stall k ≡ true) stalls → FoldsTo {P = Round B} {A = Outcome} (Asks message) l (stalls ++ o ∷ []) m → Runs v s (retried stalls ++ event_of o ∷ []) replies t

@@ -58,7 +58,7 @@ replies_of (Keeps done) = []
 abbrev pub IsSent : {B : Type 0} → Round B → List ℕ → List Exchange → Type 0
 IsSent l message exchanges = (exchanges ≡ []) ⊎ (IsPathFetch l.device message × AreAmong (bodies_of exchanges) (l.kept ++ message ∷ []))
 
--- of a device, over a link that carries batches
+-- for a device, and a link that carries batches
 module _ (v : Scheme) {B : Type 0} (batches : B → List (List ℕ) → BatchOutcome → List Exchange → B → Type 0) where
   -- a core and its link do this, and need no keeper for it
   abbrev pub Talks : State × Round B → Act → State × Round B → Type 0
@@ -78,7 +78,7 @@ module _ (v : Scheme) {B : Type 0} (batches : B → List (List ℕ) → BatchOut
     pub talks : TalksAll p acts q
     pub replied : flat_map replies_of acts ≡ replies
 
--- of a device, over a link that carries batches and a keeper of which some bytes may be read back
+-- for a device, a link that carries batches, and a keeper that says which bytes may be read back
 module _ (v : Scheme) {B K : Type 0} (batches : B → List (List ℕ) → BatchOutcome → List Exchange → B → Type 0) (reads_back : K → List ℕ → Type 0) where
   abbrev pub Does : Process B K → Act → Process B K → Type 0
   Does p (Hears event x) q = Talks v batches (p.core, p.link) (Hears event x) (q.core, q.link) × (q.keeper ≡ p.keeper)
