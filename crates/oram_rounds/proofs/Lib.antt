@@ -15,4 +15,6 @@ pub mod Replies
 pub mod Start
 pub mod Talk
 pub mod Results
+pub mod Failing
 pub mod NewProcess
+pub mod KeptText

@@ -13,6 +13,7 @@ use Rattle.oram_semantics.specs.State.{State, status_by, status_in}
 use Rattle.oram_semantics.specs.declared.events.Command.{Command}
 use Rattle.oram_semantics.specs.declared.events.Event.TheVariants.{Submit}
 use Rattle.oram_semantics.specs.declared.events.Note.{Note}
+use Rattle.oram_semantics.specs.declared.events.Note.TheVariants.{Accepted}
 use Rattle.oram_semantics.specs.declared.events.Refusal.{Refusal}
 use Rattle.oram_semantics.specs.declared.events.Reason.{Reason}
 use Rattle.oram_semantics.specs.declared.events.Submission.{Submission}
@@ -52,6 +53,20 @@ submitted : (v : Scheme) (s : State) (y : Submission) (refusal : Option Refusal)
 submitted v s y (Some e) = record { replies = refl; failure = refl; queue = λ array. refl }
 submitted v s y None = record { replies = refl; failure = refl; queue = λ array. after_one_more v.device s.queue y array }
 
+-- a command that is accepted stands at the end of the queue
+pub queue_accepted : (v : Scheme) (s t : State) (a : Asked) (ticket : ℕ) → a.shown.note ≡ Accepted ticket → Steps v s (Submit a.session a.command a.words) a.shown t
+    → (y : Submission) × (y.command ≡ a.command) × (t.queue ≡ s.queue ++ y ∷ [])
+queue_accepted v s t a ticket accepted step =
+    let y : Submission = record { session = a.session; ticket = s.next; command = a.command; words = a.words } in
+    let refusal = refusal_of v.device (is_over (status_in s)) (length s.queue) s.next a.command a.words in
+    let same : did a.shown t ≡ submitted_by v s y refusal = step.plain (submitted_by v s y refusal) refl in
+    by y refusal refl same
+  where
+    by : (y : Submission) (refusal : Option Refusal) → y.command ≡ a.command → did a.shown t ≡ submitted_by v s y refusal
+        → (z : Submission) × (z.command ≡ a.command) × (t.queue ≡ s.queue ++ z ∷ [])
+    by y (Some e) is same = absurd (let both = sym accepted ∙ ap (λ (d : Did). d.note) same in cc)
+    by y None is same = (y, is, ap (λ (d : Did). d.state.queue) same)
+
 module _ (may_lie : Bool) (v : Scheme) (device : IsDevice v.device) where
   -- what a core will hold once a command was submitted to it
   will_hold : (s t : State) (a : Asked) (host : Host) (array : ℕ → List ℕ) → Steps v s (Submit a.session a.command a.words) a.shown t → WillHold may_lie v s host array
@@ -76,6 +91,15 @@ module _ (may_lie : Bool) (v : Scheme) (device : IsDevice v.device) where
             )
         | inr failed ↦ inr (failed.0, (failed.1.0, ap (λ (e : Did). e.state.failure) same ∙ is.failure ∙ failed.1.1))
       ]
+
+  -- a core that serves its trees still serves them once a command was submitted
+  pub served_submitted : (s t : State) (a : Asked) (host : Host) (array : ℕ → List ℕ) → Steps v s (Submit a.session a.command a.words) a.shown t → IsServed v s host array
+      → IsServed v t host array
+  served_submitted s t a host array step served =
+      let y : Submission = record { session = a.session; ticket = s.next; command = a.command; words = a.words } in
+      let refusal = refusal_of v.device (is_over (status_in s)) (length s.queue) s.next a.command a.words in
+      step_quiet may_lie v device s t host host array a.shown served (Submit a.session a.command a.words) (submitted_by v s y refusal) step
+      (submit_honest (status_in s) s.message a.session a.command a.words host) refl (submitted v s y refusal).replies
 
   module _ {B K : Type 0} where
     -- once commands were submitted, one after the other
@@ -118,7 +142,7 @@ resting_by [] l e = refl
 resting_by (x ∷ q) true e = absurd cc
 resting_by (x ∷ q) false e = absurd cc
 
-resting : (s : State) → IsSettled s → s.failure ≡ None → s.queue ≡ []
+pub resting : (s : State) → IsSettled s → s.failure ≡ None → s.queue ≡ []
 resting s settled alive = resting_by s.queue s.lost (sym (ap (λ (f : Option Reason). is_settled_by (status_by f s.queue s.lost)) alive) ∙ settled)
 
 -- the host of a device that is held has nothing to catch up

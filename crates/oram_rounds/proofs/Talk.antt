@@ -1,5 +1,5 @@
 -- What a core and its link do while messages are exchanged, as acts.
-use Rattle.std.proofs.Common.{◌≡◌, ℕ, true, List, [], ◌∷◌, ◌++◌, Some, refl, sym, ap, ◌∙◌, subst, inl, inr, append-nil}
+use Rattle.std.proofs.Common.{◌≡◌, ℕ, true, false, List, [], ◌∷◌, ◌++◌, Some, refl, sym, ap, ◌∙◌, subst, inl, inr, append-nil}
 use Rattle.std.proofs.lemmas.Grind.{flat_map-append}
 use Rattle.std.proofs.lemmas.List.Elements.{All-head, All-tail}
 use Rattle.std.specs.List.{All, FoldsTo, flat_map}
@@ -163,3 +163,14 @@ module _ {B : Type 0} (batches : B → List (List ℕ) → BatchOutcome → List
         flat_map-append replies_of told.acts acts ∙ ap (λ (rs : List Reply). rs ++ flat_map replies_of acts) told.replied,
         folds_join {P = Process B K} {A = Act} (Does v batches reads_back) start mid r told.acts acts first second,
       )
+
+  -- the keeper fails after that
+  pub kept_not : {K : Type 0} (reads_back : K → List ℕ → Type 0) (keeper : K) (u : Scheme) (p q : Side) (r : Process B K) → u ≡ v → HasTalked v batches p [] q
+      → DoesAll u batches reads_back (record { core = q.0; link = q.1; keeper = keeper }) (Keeps false ∷ []) r
+      → (acts : List Act) × DoesAll v batches reads_back (record { core = p.0; link = p.1; keeper = keeper }) (acts ++ Keeps false ∷ []) r
+  kept_not {K} reads_back keeper u p q r same told does =
+      let start : Process B K = record { core = p.0; link = p.1; keeper = keeper } in
+      let mid : Process B K = record { core = q.0; link = q.1; keeper = keeper } in
+      let first : DoesAll v batches reads_back start told.acts mid = talks_beside reads_back keeper told.acts p q told.talks in
+      let second : DoesAll v batches reads_back mid (Keeps false ∷ []) r = subst (λ (w : Scheme). DoesAll w batches reads_back mid (Keeps false ∷ []) r) same does in
+      (told.acts, folds_join {P = Process B K} {A = Act} (Does v batches reads_back) start mid r told.acts (Keeps false ∷ []) first second)

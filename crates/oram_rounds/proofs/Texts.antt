@@ -11,7 +11,7 @@ use Rattle.oram_wire.specs.HostMessages.{done_answer}
 use Rattle.oram_link_laws.specs.Repair.{IsAmong}
 use Rattle.oram_rounds.specs.Batches.{texts}
 use Rattle.oram_rounds.specs.Files.{store_text}
-use Rattle.oram_rounds.specs.PathMessages.{ArePathStores}
+use Rattle.oram_rounds.specs.PathMessages.{ArePathStores, IsPathStore}
 use Rattle.oram_rounds.specs.Rounds.{AreDone}
 
 module _ (xs : List (Vec ℕ)) (i : ℕ) (x : Vec ℕ) (low : i < length xs) (is : x ≡ get_or xs i x) where
@@ -73,6 +73,27 @@ texts_whole xs n m all =
 
 pub texts_none : (xs : List (Vec ℕ)) (m : ℕ) → m ≡ length xs → texts (drop m xs) ≡ []
 texts_none xs m all = ap texts (drop_all m xs (omega (arith, all)))
+
+-- each of the first bodies is a STORE of a path, and one more is
+
+path_more : (d : Sizes) (len : ℕ) (front : List (List ℕ)) (body : List ℕ) → ArePathStores d len front → IsPathStore d len body → ArePathStores d len (front ++ body ∷ [])
+path_more d len [] body are is = (is, tt)
+path_more d len (b ∷ front) body are is = (are.0, path_more d len front body are.1 is)
+
+path_inside : (d : Sizes) (len : ℕ) (front rest : List (List ℕ)) (body : List ℕ) → ArePathStores d len (front ++ body ∷ rest) → IsPathStore d len body
+path_inside d len [] rest body are = are.0
+path_inside d len (b ∷ front) rest body are = path_inside d len front rest body are.1
+
+pub paths_next : (d : Sizes) (len : ℕ) (xs : List (Vec ℕ)) (i : ℕ) (x : Vec ℕ) → i < length xs → x ≡ get_or xs i x → ArePathStores d len (take i (texts xs)) → IsPathStore d len x.items
+    → ArePathStores d len (take (i + 1) (texts xs))
+paths_next d len xs i x low is are here = subst (ArePathStores d len) (sym (take_next xs i x low is)) (path_more d len (take i (texts xs)) x.items are here)
+
+pub path_at : (d : Sizes) (len : ℕ) (xs : List (Vec ℕ)) (i : ℕ) (x : Vec ℕ) → i < length xs → x ≡ get_or xs i x → ArePathStores d len (texts xs) → IsPathStore d len x.items
+path_at d len xs i x low is are =
+    path_inside d len (take i (texts xs)) (drop (i + 1) (texts xs)) x.items (subst (ArePathStores d len) (sym (split_here xs i x low is)) are)
+
+pub paths_all : (d : Sizes) (len : ℕ) (xs : List (Vec ℕ)) (n : ℕ) → length xs ≤ n → ArePathStores d len (take n (texts xs)) → ArePathStores d len (texts xs)
+paths_all d len xs n all are = subst (ArePathStores d len) (take_all n (texts xs) (omega (arith, all, length-map xs (λ (v : Vec ℕ). v.items)))) are
 
 paths_join : (d : Sizes) (len : ℕ) (xs ys : List (List ℕ)) → ArePathStores d len xs → ArePathStores d len ys → ArePathStores d len (xs ++ ys)
 paths_join d len [] ys first second = second

@@ -1,5 +1,5 @@
 -- Messages that went over a link one after the other.
-use Rattle.std.proofs.Common.{◌≡◌, ℕ, List, [], ◌∷◌, ◌++◌, length, Result, Ok, Err, refl, sym, subst, inl, inr}
+use Rattle.std.proofs.Common.{◌≡◌, ℕ, arith, List, [], ◌∷◌, ◌++◌, length, Result, Ok, Err, refl, sym, ap, subst, inl, inr}
 use Rattle.std.specs.Prelude.{OnErr}
 use Rattle.oram_session.specs.Outcome.{Outcome}
 use Rattle.oram_link_laws.specs.Repair.{AreAmong, IsAmong}
@@ -25,6 +25,25 @@ among_front [] rest x among = absurd among
 among_front (b ∷ front) rest x (inl same) = inl same
 among_front (b ∷ front) rest x (inr later) = inr (among_front front rest x later)
 
+among_back : (front rest : List (List ℕ)) (x : List ℕ) → IsAmong x rest → IsAmong x (front ++ rest)
+among_back [] rest x among = among
+among_back (b ∷ front) rest x among = inr (among_back front rest x among)
+
+among_behind : (bodies front rest : List (List ℕ)) → AreAmong bodies rest → AreAmong bodies (front ++ rest)
+among_behind [] front rest are = tt
+among_behind (b ∷ bodies) front rest are = (among_back front rest b are.0, among_behind bodies front rest are.1)
+
+among_answered : (bodies answers all : List (List ℕ)) → ((x : List ℕ) → IsAmong x bodies → IsAmong x all) → AreAmong (bodies_of (answered bodies answers)) all
+among_answered [] answers all inside = tt
+among_answered (b ∷ bodies) [] all inside = tt
+among_answered (b ∷ bodies) (a ∷ answers) all inside = (inside b (inl refl), among_answered bodies answers all (λ x k. inside x (inr k)))
+
+pub answered_join : (xs as' ys bs : List (List ℕ)) → length as' ≡ length xs → answered (xs ++ ys) (as' ++ bs) ≡ answered xs as' ++ answered ys bs
+answered_join [] [] ys bs count = refl
+answered_join [] (a ∷ as') ys bs count = absurd (omega (arith, count))
+answered_join (x ∷ xs) [] ys bs count = absurd (omega (arith, count))
+answered_join (x ∷ xs) (a ∷ as') ys bs count = ap (λ (es : List Exchange). (x, Ok a) ∷ es) (answered_join xs as' ys bs (omega (arith, count)))
+
 module _ {L : Type 0} (calls : L → List ℕ → Outcome → L → Type 0) where
   abbrev Runs : L → Exchange → L → Type 0
   Runs a e b = calls a e.0 e.1 b
@@ -46,6 +65,23 @@ module _ {L : Type 0} (calls : L → List ℕ → Outcome → L → Type 0) wher
     folds_join {P = L} {A = Exchange} Runs l m n (answered front answers) ((body, o) ∷ []) run (n, call, refl),
     among_so_far (front ++ body ∷ rest) front answers ((body, o) ∷ []) (λ x k. among_front front (body ∷ rest) x k) (among_here front rest body, tt),
   )
+
+  pub answered_tried : (bodies answers : List (List ℕ)) (l m : L) → LinkRun calls l (answered bodies answers) m → HasTried bodies l m
+  answered_tried bodies answers l m run = (answered bodies answers, run, among_answered bodies answers bodies (λ x k. k))
+
+  -- messages behind others that were answered
+  pub more_tried : (front last answers : List (List ℕ)) (l m n : L) → LinkRun calls l (answered front answers) m → HasTried last m n → HasTried (front ++ last) l n
+  more_tried front last answers l m n run tried = (
+    answered front answers ++ tried.0,
+    folds_join {P = L} {A = Exchange} Runs l m n (answered front answers) tried.0 run tried.1,
+    among_so_far (front ++ last) front answers tried.0 (λ x k. among_front front last x k) (among_behind (bodies_of tried.0) front last tried.2),
+  )
+
+  pub both_run : (xs as' ys bs : List (List ℕ)) (l m n : L) → length as' ≡ length xs → LinkRun calls l (answered xs as') m → LinkRun calls m (answered ys bs) n
+      → LinkRun calls l (answered (xs ++ ys) (as' ++ bs)) n
+  both_run xs as' ys bs l m n count first second =
+      subst (λ (es : List Exchange). LinkRun calls l es n) (sym (answered_join xs as' ys bs count))
+      (folds_join {P = L} {A = Exchange} Runs l m n (answered xs as') (answered ys bs) first second)
 
   pub none_tried : (bodies : List (List ℕ)) (l m : L) → l ≡ m → HasTried bodies l m
   none_tried bodies l m same = ([], same, tt)

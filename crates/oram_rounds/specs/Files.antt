@@ -1,7 +1,9 @@
 -- What is kept of a process: the STOREs that wait, and the core's state file behind them.
-use Rattle.std.specs.Prelude.{◌≡◌, ℕ, List, ◌++◌, length}
+use Rattle.std.specs.Prelude.{◌≡◌, ℕ, ◌<◌, ◌^◌, List, ◌++◌, length}
+use Rattle.std.specs.Hash.DefaultHasher as sip
 use Rattle.std.specs.Int.{w64, to_be_bytes}
-use Rattle.std.specs.List.{flat_map}
+use Rattle.std.specs.List.{AllByRecursion, flat_map}
+use Rattle.oram_geometry.specs.declared.Sizes.{Sizes}
 use Rattle.oram_semantics.specs.Scheme.{Scheme}
 use Rattle.oram_semantics.specs.State.{State}
 use Rattle.oram_state.specs.DecodedCore.{IsSaved}
@@ -14,8 +16,29 @@ store_text store = to_be_bytes w64 (length store) ++ store
 abbrev pub stores_text : List (List ℕ) → List ℕ
 stores_text stores = to_be_bytes w64 (length stores) ++ flat_map store_text stores
 
--- the bytes have these STOREs and this core
-pub record IsFile (v : Scheme) (bytes : List ℕ) (stores : List (List ℕ)) (core : State) : Type 0 where
+-- SipHash-1-3 with keys of zeros. It tells STOREs that were torn or cut short.
+unfoldable pub checksum : List ℕ → ℕ
+checksum text = sip.finish (sip.write sip.initial text)
+
+-- the STOREs, their checksum in eight bytes, and the core's state file
+abbrev pub kept_text : List (List ℕ) → List ℕ → List ℕ
+kept_text stores state = stores_text stores ++ (to_be_bytes w64 (checksum (stores_text stores)) ++ state)
+
+-- the number of STOREs and their lengths fit into eight bytes
+abbrev pub AreCounted : List (List ℕ) → Type 0
+AreCounted stores = (length stores < 2 ^ 64) × AllByRecursion (λ store. length store < 2 ^ 64) stores
+
+-- the bytes have these STOREs and this core, of a device whose sealed buckets have this overhead
+pub record IsFileOf (overhead : ℕ) (device : Sizes) (bytes : List ℕ) (stores : List (List ℕ)) (core : State) : Type 0 where
+  pub counted : AreCounted stores
   pub state : List ℕ
-  pub saved : IsSaved state v.cipher.overhead v.device core
-  pub all : bytes ≡ stores_text stores ++ state
+  pub saved : IsSaved state overhead device core
+  pub all : bytes ≡ kept_text stores state
+
+abbrev pub IsFile : Scheme → List ℕ → List (List ℕ) → State → Type 0
+IsFile v bytes stores core = IsFileOf v.cipher.overhead v.device bytes stores core
+
+-- A file has one list of STOREs and one core.
+abbrev pub FilesTellOfOneProcess : Type 0
+FilesTellOfOneProcess = (overhead : ℕ) (d d' : Sizes) (bytes : List ℕ) (stores stores' : List (List ℕ)) (core core' : State) → length bytes < 2 ^ 64
+    → IsFileOf overhead d bytes stores core → IsFileOf overhead d' bytes stores' core' → (stores ≡ stores') × (d ≡ d') × (core ≡ core')

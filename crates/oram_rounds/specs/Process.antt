@@ -30,6 +30,9 @@ pub record Process (B K : Type 0) : Type 0 where
   pub link : Round B
   pub keeper : K
 
+abbrev pub process : {B K : Type 0} → State → Round B → K → Process B K
+process core link keeper = record { core = core; link = link; keeper = keeper }
+
 -- What a process does next, once its commands are submitted.
 pub data Act : Type 0 where
   -- the core learns that it was reopened, or sends its message again

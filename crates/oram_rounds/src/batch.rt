@@ -1,5 +1,5 @@
 //! Links that carry several messages at once.
-ghost use Rattle.std.specs.Prelude.{ℕ, List, [], ◌∷◌, ◌++◌};
+ghost use Rattle.std.specs.Prelude.{ℕ, List, ◌++◌};
 ghost use Rattle.oram_link_laws.specs.Runs.{Exchange};
 ghost use Rattle.oram_rounds.specs.Batches.{BatchOutcome, batch_outcome_of, texts};
 ghost use Rattle.oram_rounds.specs.Law.{AreBatches};
@@ -13,15 +13,15 @@ pub trait BatchLink {
     /// lead to the second value.
     ghost batches: { Self → List (List ℕ) → BatchOutcome → List Exchange → Self → Type 0 };
 
-    /// Sends the bodies of `first` and then `last` to the host, in this order, and returns their answers in the same order.
+    /// Sends the bodies of `first` and then those of `last` to the host, in this order, and returns their answers in the same order.
     /// Fails if an answer is missing; the host may then have received any of the bodies, and some of them more than once.
     fn call_all(
         &mut self,
         alloc: Global,
         first: &[Vec<u8>],
-        last: &[u8],
+        last: &[Vec<u8>],
     ) -> Result<Vec<Vec<u8>>, LinkFault>
-        ensures { (exchanges : List Exchange) × batches self.old (texts first.now ++ last.now ∷ []) (batch_outcome_of result) exchanges self.new };
+        ensures { (exchanges : List Exchange) × batches self.old (texts first.now ++ texts last.now) (batch_outcome_of result) exchanges self.new };
 
     // The exchanges are those of the bodies, and the last ones have the answers.
     ghost are_batches: { AreBatches batches };

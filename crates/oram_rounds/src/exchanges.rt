@@ -3,8 +3,10 @@ ghost use Rattle.std.specs.Prelude.{◌≡◌, ◌⊎◌, List, All, length, IfE
 ghost use Rattle.oram_semantics.specs.Progress.Status.{Stalling};
 ghost use Rattle.oram_semantics.specs.State.{status_in};
 ghost use Rattle.oram_semantics.specs.declared.events.Reply.{Reply};
+ghost use Rattle.oram_semantics.specs.declared.events.ReplyBody.{ReplyBody};
 ghost use Rattle.oram_core.specs.Core.{IsSameDevice, scheme_of};
 ghost use Rattle.oram_core.specs.PlainSteps.{done};
+ghost use Rattle.oram_session.specs.Honesty.{HasFailed};
 ghost use Rattle.oram_session.specs.Settled.{IsBodyOf, IsSettled, IsUnderWay};
 ghost use Rattle.oram_rounds.specs.Process.{HasTalked};
 
@@ -33,6 +35,7 @@ pub fn carry_out_all<S: Sealer, B: BatchLink>(
     ensures count { IfOk result (λ replies. length replies.items ≡ length core.old.state.queue) }
     ensures settled { OnOk result (IsSettled core.new.state) }
     ensures block { IfOk result (λ replies. All (λ reply. IsBodyOf core.old.device reply.body) replies.items) }
+    ensures failed { IfOk result (λ replies. All (λ reply. reply.body ≡ ReplyBody.Failed → HasFailed core.new.state) replies.items) }
     ensures err { let v = scheme_of S.cipher core.old in
         OnErr result ((replies : List Reply) × HasTalked v B.batches (core.old.state, link.old) replies (core.new.state, link.new)) }
     ensures stalled { IsErrOf result ServeFault.Stalled → status_in core.new.state ≡ Stalling }

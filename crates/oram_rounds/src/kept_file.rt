@@ -1,17 +1,95 @@
 //! What is kept of a process, as bytes.
-ghost use Rattle.std.specs.Prelude.{◌≡◌, ◌++◌, IfOk, OnOk};
+//!
+//! A file has the STOREs that wait, the oldest first, and the core's state file behind them: the number of STOREs in eight
+//! bytes, each STORE behind its length in eight bytes, a checksum of all this in eight bytes, and the state file. All
+//! numbers are big-endian.
+ghost use Rattle.std.specs.Prelude.{◌≡◌, ◌≢◌, ◌⊎◌, ◌++◌, ◌<◌, ◌^◌, ℕ, List, None, length, IfErr, IfOk, IfSome, IsErrOf, OnOk};
+ghost use Rattle.std.specs.Int.{w64, to_be_bytes};
+ghost use Rattle.oram_geometry.specs.declared.Sizes.{Sizes};
+ghost use Rattle.oram_semantics.specs.State.{State};
 ghost use Rattle.oram_core.specs.Core.{scheme_of};
 ghost use Rattle.oram_rounds.specs.Batches.{texts};
-ghost use Rattle.oram_rounds.specs.Files.{IsFile, store_text, stores_text};
+ghost use Rattle.oram_rounds.specs.Files.{AreCounted, IsFile, IsFileOf, checksum, kept_text, store_text, stores_text};
 
+use crate::lists::push;
 use oram_bucket::Sealer;
 use oram_core::Core;
-use oram_state::encode_state;
+use oram_state::{StateFault, decode_state, encode_state};
 use std::alloc::{AllocError, Global};
+use std::fmt;
+use std::hash::{DefaultHasher, Hasher};
+
+/// The number of bytes of a number in a file.
+const NUMBER_LEN: usize = 8;
+
+/// The parts of a kept file.
+#[derive(Drop)]
+pub struct KeptCore<S: Sealer> {
+    /// The STOREs that the host may not have yet, the oldest first.
+    pub stores: Vec<Vec<u8>>,
+    pub core: Core<S>,
+}
+
+/// Why bytes can't be read as a kept file.
+#[derive(Clone, Copy, Debug, PartialEq, Eq)]
+pub enum KeptCoreFault {
+    /// The STOREs were cut short, or aren't those that were written.
+    Torn,
+    /// The core's state file can't be read.
+    State(StateFault),
+    /// Memory ran out.
+    OutOfMemory,
+}
+
+impl fmt::Display for KeptCoreFault {
+    fn fmt<W: fmt::Write>(&self, f: &mut fmt::Formatter<W>) -> fmt::Result {
+        f.write_str(match self {
+            KeptCoreFault::Torn => "the file is torn",
+            KeptCoreFault::State(_) => "the state file can't be read",
+            KeptCoreFault::OutOfMemory => "out of memory",
+        })
+    }
+}
+
+impl From<AllocError> for KeptCoreFault {
+    ghost use Rattle.oram_rounds.specs.declared.kept_file.KeptCoreFault.TheVariants.{OutOfMemory};
+
+    ghost from_gives = { λ _ f. f ≡ OutOfMemory };
+
+    fn from(_error: AllocError) -> KeptCoreFault {
+        KeptCoreFault::OutOfMemory
+    }
+}
+
+impl From<StateFault> for KeptCoreFault {
+    ghost use Rattle.oram_state.specs.declared.fault.StateFault.TheVariants as state;
+    ghost use Rattle.oram_rounds.specs.declared.kept_file.KeptCoreFault.TheVariants.{OutOfMemory};
+
+    ghost from_gives = { λ fault f. fault ≡ state.OutOfMemory → f ≡ OutOfMemory };
+
+    fn from(fault: StateFault) -> KeptCoreFault {
+        match fault {
+            StateFault::OutOfMemory => KeptCoreFault::OutOfMemory,
+            fault => KeptCoreFault::State(fault),
+        }
+    }
+}
+
+/// Computes the checksum of STOREs as they stand in a file.
+#[tactic(auto, unfolding(crate::specs::Files::checksum))]
+fn checksum(text: &[u8]) -> u64
+    ensures value { result ≡ checksum text.now }
+    ensures small { result < 2 ^ 64 }
+{
+    let mut hasher = DefaultHasher::new();
+    hasher.write(text);
+    hasher.finish()
+}
 
 /// Adds a STORE to a file, behind its length.
 fn push_store(file: &mut Vec<u8>, store: &[u8]) -> Result<(), AllocError>
-    ensures { OnOk result (file.new.items ≡ file.old.items ++ store_text store.now) }
+    ensures written { OnOk result (file.new.items ≡ file.old.items ++ store_text store.now) }
+    ensures short { length store.now < 2 ^ 64 }
 {
     file.extend_from_slice(&(store.len() as u64).to_be_bytes())?;
     file.extend_from_slice(store)?;
@@ -20,13 +98,23 @@ fn push_store(file: &mut Vec<u8>, store: &[u8]) -> Result<(), AllocError>
 
 /// Adds the number of STOREs to a file, and the STOREs.
 fn push_stores(file: &mut Vec<u8>, stores: &[Vec<u8>]) -> Result<(), AllocError>
-    ensures { OnOk result (file.new.items ≡ file.old.items ++ stores_text (texts stores.now)) }
+    ensures written { OnOk result (file.new.items ≡ file.old.items ++ stores_text (texts stores.now)) }
+    ensures counted { OnOk result (AreCounted (texts stores.now)) }
 {
     file.extend_from_slice(&(stores.len() as u64).to_be_bytes())?;
     for store in stores {
         push_store(file, store)?;
     }
     Ok(())
+}
+
+/// Returns how many bytes the file of these STOREs and of a state file has.
+fn file_len(stores: &[Vec<u8>], state: &[u8]) -> usize {
+    let mut len = (2 * NUMBER_LEN).saturating_add(state.len());
+    for store in stores {
+        len = len.saturating_add(NUMBER_LEN).saturating_add(store.len());
+    }
+    len
 }
 
 /// Returns the file of the STOREs that wait and of the core above them. Fails only if memory runs out.
@@ -38,8 +126,95 @@ pub fn encode_kept<S: Sealer>(
     ensures { let v = scheme_of S.cipher core.now in IfOk result (λ file. IsFile v file.items (texts stores.now) core.now.state) }
 {
     let state = encode_state(alloc, core)?;
-    let mut file = Vec::new(alloc);
+    let mut file = Vec::with_capacity(alloc, file_len(stores, &state))?;
     push_stores(&mut file, stores)?;
+    let check = checksum(&file);
+    file.extend_from_slice(&check.to_be_bytes())?;
     file.extend_from_slice(&state)?;
     Ok(file)
+}
+
+/// Reads the number at the front of some bytes, and returns the bytes behind it.
+fn next_number(bytes: &[u8]) -> Option<(u64, &[u8])>
+    ensures some { IfSome result (λ x. bytes.now ≡ to_be_bytes w64 x.0 ++ x.1.now) }
+    ensures small { IfSome result (λ x. x.0 < 2 ^ 64) }
+    ensures none { result ≡ None → length bytes.now < 8 }
+{
+    let (number, rest) = bytes.split_first_chunk::<NUMBER_LEN>()?;
+    Some((u64::from_be_bytes(*number), rest))
+}
+
+/// Reads the STORE at the front of some bytes, and returns the bytes behind it.
+fn next_store(bytes: &[u8]) -> Option<(&[u8], &[u8])>
+    ensures some { IfSome result (λ x. bytes.now ≡ store_text x.0.now ++ x.1.now) }
+    ensures none { result ≡ None → (store rest : List ℕ) → length store < 2 ^ 64 → bytes.now ≢ store_text store ++ rest }
+{
+    let (len, rest) = next_number(bytes)?;
+    if len > rest.len() as u64 {
+        return None;
+    }
+    Some(rest.split_at(len as usize))
+}
+
+/// Reads the STOREs at the front of a file, and returns the bytes behind them.
+fn read_stores(alloc: Global, bytes: &[u8]) -> Result<(Vec<Vec<u8>>, &[u8]), KeptCoreFault>
+    ensures counted { IfOk result (λ x. AreCounted (texts x.0.items)) }
+    ensures ok { IfOk result (λ x. bytes.now ≡ stores_text (texts x.0.items) ++ x.1.now) }
+    ensures torn { IsErrOf result KeptCoreFault.Torn → (stores : List (List ℕ)) (rest : List ℕ) → AreCounted stores → bytes.now ≢ stores_text stores ++ rest }
+    ensures fault { IfErr result (λ e. (e ≡ KeptCoreFault.Torn) ⊎ (e ≡ KeptCoreFault.OutOfMemory)) }
+{
+    let Some((count, mut rest)) = next_number(bytes) else {
+        return Err(KeptCoreFault::Torn);
+    };
+    let mut stores = Vec::new(alloc);
+    for _ in 0..count {
+        let Some((store, behind)) = next_store(rest) else {
+            return Err(KeptCoreFault::Torn);
+        };
+        push(&mut stores, store.to_vec(alloc)?)?;
+        rest = behind;
+    }
+    Ok((stores, rest))
+}
+
+/// Reads the STOREs of a file, and returns the core's state file behind their checksum, unread.
+fn split_kept(alloc: Global, file: &[u8]) -> Result<(Vec<Vec<u8>>, &[u8]), KeptCoreFault>
+    ensures counted { IfOk result (λ x. AreCounted (texts x.0.items)) }
+    ensures ok { IfOk result (λ x. file.now ≡ kept_text (texts x.0.items) x.1.now) }
+    ensures torn { IsErrOf result KeptCoreFault.Torn → (stores : List (List ℕ)) (state : List ℕ) → AreCounted stores → file.now ≢ kept_text stores state }
+    ensures fault { IfErr result (λ e. (e ≡ KeptCoreFault.Torn) ⊎ (e ≡ KeptCoreFault.OutOfMemory)) }
+{
+    let (stores, rest) = read_stores(alloc, file)?;
+    let check = checksum(&file[..file.len() - rest.len()]);
+    let Some((number, state)) = next_number(rest) else {
+        return Err(KeptCoreFault::Torn);
+    };
+    if number != check {
+        return Err(KeptCoreFault::Torn);
+    }
+    Ok((stores, state))
+}
+
+/// Reads the file of a process whose core has this sealer.
+///
+/// Fails with `Torn` if the STOREs aren't whole, with `State` if the state file behind them isn't one of a core with this
+/// sealer, and with `OutOfMemory` if memory runs out.
+pub fn decode_kept<S: Sealer>(
+    alloc: Global,
+    sealer: S,
+    file: &[u8],
+) -> Result<KeptCore<S>, KeptCoreFault>
+    ensures sealer { IfOk result (λ kept. kept.core.sealer ≡ sealer) }
+    ensures ok { IfOk result (λ kept. IsFile (scheme_of S.cipher kept.core) file.now (texts kept.stores.items) kept.core.state) }
+    // It returns the process that was kept, unless memory runs out.
+    ensures same { (d : Sizes) (stores : List (List ℕ)) (core : State) → IsFileOf (S.cipher sealer).overhead d file.now stores core
+        → IfOk result (λ kept. (texts kept.stores.items ≡ stores) × (kept.core.device ≡ d) × (kept.core.state ≡ core)) }
+    ensures only { (d : Sizes) (stores : List (List ℕ)) (core : State) → IsFileOf (S.cipher sealer).overhead d file.now stores core
+        → IfErr result (λ fault. fault ≡ KeptCoreFault.OutOfMemory) }
+{
+    let (stores, state) = split_kept(alloc, file)?;
+    match decode_state(alloc, sealer, state) {
+        Ok(core) => Ok(KeptCore { stores, core }),
+        Err(fault) => Err(KeptCoreFault::from(fault)),
+    }
 }

@@ -1,6 +1,7 @@
 //! The law of links that hold STOREs back.
 ghost use Rattle.oram_rounds.specs.Start.{HeldIsSafe, SubmittedIsSafe};
 ghost use Rattle.oram_rounds.specs.Examples.{NewProcessExample, OneWaitsExample};
+ghost use Rattle.oram_rounds.specs.Files.{FilesTellOfOneProcess};
 ghost use Rattle.oram_rounds.specs.Law.{CallsAreOfTheHostLater};
 ghost use Rattle.oram_rounds.specs.Process.{ActsAreSafe, BegunIsSafe, EndsAreSafe, RepliesAreTheArrays};
 
@@ -18,6 +19,12 @@ pub fn calls_are_of_the_host_later<B: BatchLink>()
 /// [`calls_are_of_the_host_later`]: a FETCH is answered with the ones.
 pub fn one_waits_example()
     ensures { OneWaitsExample }
+{}
+
+/// A law about definitions: a kept file has one list of STOREs and one core. So [`decode_kept`](crate::decode_kept) gives
+/// back the process that was kept, and no other.
+pub fn files_tell_of_one_process()
+    ensures { FilesTellOfOneProcess }
 {}
 
 /// A law about definitions: a process is safe that begins with the core of a device that a host keeps, as a formatting

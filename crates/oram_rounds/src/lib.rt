@@ -20,6 +20,7 @@ mod law;
 mod lists;
 mod one_by_one;
 mod overlay;
+mod records;
 mod round_fault;
 mod round_link;
 mod rounds;
@@ -27,12 +28,14 @@ mod rounds;
 pub use batch::BatchLink;
 pub use exchanges::carry_out_all;
 pub use keeper::{KeepError, Keeper};
-pub use kept_file::encode_kept;
+pub use kept_file::{KeptCore, KeptCoreFault, decode_kept, encode_kept};
 pub use law::{
-    acts_are_safe, begun_is_safe, calls_are_of_the_host_later, ends_are_safe, held_is_safe,
-    new_process_example, one_waits_example, replies_are_the_arrays, submitted_is_safe,
+    acts_are_safe, begun_is_safe, calls_are_of_the_host_later, ends_are_safe,
+    files_tell_of_one_process, held_is_safe, new_process_example, one_waits_example,
+    replies_are_the_arrays, submitted_is_safe,
 };
 pub use one_by_one::OneByOne;
+pub use records::record_len;
 pub use round_fault::RoundFault;
 pub use round_link::RoundLink;
 pub use rounds::{keep, perform, resume};

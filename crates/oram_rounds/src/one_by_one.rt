@@ -44,11 +44,11 @@ impl<L: Link> BatchLink for OneByOne<L> {
         &mut self,
         alloc: Global,
         first: &[Vec<u8>],
-        last: &[u8],
+        last: &[Vec<u8>],
     ) -> Result<Vec<Vec<u8>>, LinkFault> {
         let mut answers = call_each(alloc, &mut self.link, first)?;
-        let answer = self.link.call(alloc, last)?;
-        push(&mut answers, answer)?;
+        let mut later = call_each(alloc, &mut self.link, last)?;
+        answers.append(&mut later)?;
         Ok(answers)
     }
 

@@ -7,8 +7,8 @@ ghost use Rattle.oram_link_laws.specs.Repair.{IsAmong};
 ghost use Rattle.oram_link_laws.specs.Runs.{Exchange};
 ghost use Rattle.oram_rounds.specs.Batches.{texts};
 ghost use Rattle.oram_rounds.specs.Overlay.{IsOverlaid};
-ghost use Rattle.oram_rounds.specs.PathMessages.{IsPathStore};
-ghost use Rattle.oram_rounds.specs.Rounds.{AreDone, Does, Fetches, Holds, refused_with, waiting};
+ghost use Rattle.oram_rounds.specs.PathMessages.{ArePathStores, IsPathStore};
+ghost use Rattle.oram_rounds.specs.Rounds.{AreDone, Does, refused_with, waiting};
 
 use crate::batch::BatchLink;
 use crate::lists::push;
@@ -56,6 +56,36 @@ fn has_leaf(device: &Device, tree: u8, leaf: u32) -> bool
     tree < device.trees() && leaf < 1 << device.depth(tree)
 }
 
+/// Returns whether a message is a STORE of a whole path of the device.
+fn is_path_store(device: &Device, record_len: usize, body: &[u8]) -> bool
+    requires { record_len < 2 ^ 32 }
+    ensures { IsTrue result ↔ IsPathStore device.now record_len body.now }
+{
+    match HostView::read(body) {
+        Ok(
+            HostView::Store {
+                tree,
+                leaf,
+                records,
+            },
+        ) => { has_leaf(device, tree, leaf) && records.len() == path_len(device, record_len, tree) }
+        _ => false,
+    }
+}
+
+/// Returns whether all messages are STOREs of whole paths of the device.
+fn are_path_stores(device: &Device, record_len: usize, bodies: &[Vec<u8>]) -> bool
+    requires { record_len < 2 ^ 32 }
+    ensures { IsTrue result ↔ ArePathStores device.now record_len (texts bodies.now) }
+{
+    for body in bodies {
+        if !is_path_store(device, record_len, body) {
+            return false;
+        }
+    }
+    true
+}
+
 /// Returns the first answer that doesn't say that the host has done what it was asked.
 fn first_refusal(mut answers: Vec<Vec<u8>>) -> Option<Vec<u8>>
     ensures { MatchOption result (AreDone (texts answers.items)) (λ refusal. IsAmong refusal.items (texts answers.items) × (refusal.items ≢ done_answer)) }
@@ -92,6 +122,41 @@ impl<B> RoundLink<B> {
             kept: 0,
             faults: 0,
         }
+    }
+
+    /// Makes a link at which these STOREs wait and are kept, the oldest first. Returns `None` if one of them isn't a STORE
+    /// of a whole path of the device.
+    pub fn with_kept(
+        inner: B,
+        device: Device,
+        record_len: usize,
+        stores: Vec<Vec<u8>>,
+    ) -> Option<RoundLink<B>>
+    where
+        B: Drop,
+        requires { record_len < 2 ^ 32 }
+        ensures { MatchOption result (¬ ArePathStores device record_len (texts stores.items))
+            (λ l. l ≡ record { inner = inner; device = device; record_len = record_len; kept = texts stores.items; held = []; faults = 0 }) }
+    {
+        if !are_path_stores(&device, record_len, &stores) {
+            return None;
+        }
+        let kept = stores.len();
+        Some(RoundLink {
+            inner,
+            device,
+            record_len,
+            stores,
+            kept,
+            faults: 0,
+        })
+    }
+
+    /// Returns the link below, which carries the batches.
+    pub fn inner(&self) -> &B
+        ensures { result.now ≡ self.now.inner }
+    {
+        &self.inner
     }
 
     /// Returns the STOREs that are kept and that the host hasn't acknowledged, the oldest first.
@@ -174,10 +239,11 @@ impl<B: BatchLink> RoundLink<B> {
         requires leaf { leaf < 2 ^ depth_of self.old.device tree }
         requires body { body.now ≡ fetch_body tree leaf }
         ensures same { self.new ≡ record self.old { inner = self.new.inner; kept = self.new.kept } }
-        ensures call { (exchanges : List Exchange) × Fetches B.batches self.old.device self.old.record_len self.old body.now (outcome_of result) exchanges self.new }
+        ensures call { (exchanges : List Exchange) × Does B.batches self.old.device self.old.record_len self.old body.now (outcome_of result) exchanges self.new }
     {
         let kept = self.kept;
-        let mut answers = self.inner.call_all(alloc, &self.stores[..kept], body)?;
+        let last = [body.to_vec(alloc)?];
+        let mut answers = self.inner.call_all(alloc, &self.stores[..kept], &last)?;
         let Some(answer) = answers.pop() else {
             unreachable!()
         };

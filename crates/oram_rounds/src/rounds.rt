@@ -1,11 +1,15 @@
 //! A round: commands are kept, and then carried out together.
-ghost use Rattle.std.specs.Prelude.{◌≡◌, ◌⊎◌, [], ◌∷◌, ℕ, List, All, true, false, length, IfErr, IfOk, IsErrOf, OnErr, OnOk};
+ghost use Rattle.std.specs.Prelude.{◌≡◌, ◌⊎◌, [], ◌∷◌, ◌++◌, ℕ, List, All, true, false, length, IfErr, IfOk, IsErrOf, IsOkAnd, OnErr, OnOk};
 ghost use Rattle.std.specs.List.{flat_map};
+ghost use Rattle.oram_semantics.specs.Progress.Status.{Stalling};
+ghost use Rattle.oram_semantics.specs.State.{status_in};
+ghost use Rattle.oram_semantics.specs.declared.events.ReplyBody.{ReplyBody};
 ghost use Rattle.oram_core.specs.Core.{IsSameDevice, scheme_of};
 ghost use Rattle.oram_core.specs.PlainSteps.{done};
+ghost use Rattle.oram_session.specs.Honesty.{HasFailed};
 ghost use Rattle.oram_session.specs.Settled.{IsBodyOf, IsSettled, IsUnderWay};
 ghost use Rattle.oram_rounds.specs.Files.{IsFile};
-ghost use Rattle.oram_rounds.specs.Process.{Act, DoesAll, replies_of};
+ghost use Rattle.oram_rounds.specs.Process.{Act, DoesAll, process, replies_of};
 ghost use Rattle.oram_rounds.specs.Process.Act.{Keeps};
 ghost use Rattle.oram_rounds.specs.Rounds.{waiting};
 
@@ -58,17 +62,22 @@ pub fn perform<S: Sealer, B: BatchLink, K: Keeper>(
     ensures kept { IsSameDevice core.old core.new }
     ensures ok { let v = scheme_of S.cipher core.old in
         IfOk result (λ replies. (acts : List Act) × (flat_map replies_of acts ≡ replies.items)
-        × DoesAll v B.batches K.reads_back (record { core = core.old.state; link = link.old; keeper = keeper.old }) (Keeps true ∷ acts)
-        (record { core = core.new.state; link = link.new; keeper = keeper.new })) }
+        × DoesAll v B.batches K.reads_back (process core.old.state link.old keeper.old) (Keeps true ∷ acts)
+        (process core.new.state link.new keeper.new)) }
     ensures count { IfOk result (λ replies. length replies.items ≡ length core.old.state.queue) }
     ensures settled { OnOk result (IsSettled core.new.state) }
     ensures block { IfOk result (λ replies. All (λ reply. IsBodyOf core.old.device reply.body) replies.items) }
+    ensures failed { IfOk result (λ replies. All (λ reply. reply.body ≡ ReplyBody.Failed → HasFailed core.new.state) replies.items) }
     // After a fault either nothing was kept and nothing sent, or the commands are kept, and messages were exchanged.
     ensures err { let v = scheme_of S.cipher core.old in
         OnErr result ((acts : List Act) × ((acts ≡ Keeps false ∷ []) ⊎ ((rest : List Act) × (acts ≡ Keeps true ∷ rest)))
-        × DoesAll v B.batches K.reads_back (record { core = core.old.state; link = link.old; keeper = keeper.old }) acts
-        (record { core = core.new.state; link = link.new; keeper = keeper.new })) }
-    ensures not_kept { IsErrOf result RoundFault.NotKept → (core.new ≡ core.old) × (link.new ≡ link.old) }
+        × DoesAll v B.batches K.reads_back (process core.old.state link.old keeper.old) acts
+        (process core.new.state link.new keeper.new)) }
+    ensures not_kept { let v = scheme_of S.cipher core.old in
+        IsErrOf result RoundFault.NotKept → (core.new ≡ core.old) × (link.new ≡ link.old)
+        × DoesAll v B.batches K.reads_back (process core.old.state link.old keeper.old) (Keeps false ∷ [])
+        (process core.new.state link.new keeper.new) }
+    ensures stalled { IsErrOf result RoundFault.Stalled → status_in core.new.state ≡ Stalling }
 {
     keep(alloc, core, link, keeper)?;
     match carry_out_all(alloc, core, link, reaction) {
@@ -89,19 +98,24 @@ pub fn resume<S: Sealer, B: BatchLink, K: Keeper>(
     ensures kept { IsSameDevice core.old core.new }
     ensures settled { OnOk result (IsSettled core.new.state) }
     // In an idle or failed core nothing waits.
-    ensures none { IsSettled core.old.state → IfOk result (λ replies. replies.items ≡ [])
+    ensures none { IsSettled core.old.state → IsOkAnd result (λ replies. replies.items ≡ [])
         × (core.new ≡ core.old) × (link.new ≡ link.old) × (keeper.new ≡ keeper.old) }
     // In any other each command has its reply.
     ensures count { ¬ IsSettled core.old.state → IfOk result (λ replies. length replies.items ≡ length core.old.state.queue) }
     ensures ok { let v = scheme_of S.cipher core.old in
         IfOk result (λ replies. (acts : List Act) × (flat_map replies_of acts ≡ replies.items)
-        × DoesAll v B.batches K.reads_back (record { core = core.old.state; link = link.old; keeper = keeper.old }) acts
-        (record { core = core.new.state; link = link.new; keeper = keeper.new })) }
+        × DoesAll v B.batches K.reads_back (process core.old.state link.old keeper.old) acts
+        (process core.new.state link.new keeper.new)) }
     ensures block { IfOk result (λ replies. All (λ reply. IsBodyOf core.old.device reply.body) replies.items) }
     ensures err { let v = scheme_of S.cipher core.old in
         OnErr result ((acts : List Act)
-        × DoesAll v B.batches K.reads_back (record { core = core.old.state; link = link.old; keeper = keeper.old }) acts
-        (record { core = core.new.state; link = link.new; keeper = keeper.new })) }
+        × DoesAll v B.batches K.reads_back (process core.old.state link.old keeper.old) acts
+        (process core.new.state link.new keeper.new)) }
+    ensures not_kept { let v = scheme_of S.cipher core.old in
+        IsErrOf result RoundFault.NotKept → (acts : List Act)
+        × DoesAll v B.batches K.reads_back (process core.old.state link.old keeper.old) (acts ++ Keeps false ∷ [])
+        (process core.new.state link.new keeper.new) }
+    ensures stalled { IsErrOf result RoundFault.Stalled → status_in core.new.state ≡ Stalling }
 {
     if is_settled(core) {
         return Ok(Vec::new(alloc));

@@ -15,6 +15,7 @@ use Rattle.oram_session.proofs.CoreSteps.{left_heard, same_scheme, same_trans}
 use Rattle.oram_session.proofs.Resumed.{HasBody, heard_bodies, heard_count, heard_going, some_at_work}
 use Rattle.oram_rounds.specs.Process.{HasTalked}
 use Rattle.oram_rounds.specs.Rounds.{IsCounted}
+use Rattle.oram_rounds.proofs.Failing.{IsOfFailed, heard_failures, still_of_failed}
 use Rattle.oram_rounds.proofs.Talk.{cut_talks, sent_talks, talked_more}
 use Rattle.oram_rounds.proofs.exchanges.carry_out_all.Goals as goal
 
@@ -80,6 +81,9 @@ loop-message-preserved g c =
           let left = heard_count u now.state (done c.in_ok-reaction.reaction after.state) heard in
           let before = k.count in
           omega arith;
+      failed = subst (All (IsOfFailed after.state)) (sym c.in_ok-append.ensures.items)
+          (All-append (IsOfFailed after.state) c.loop-message.replies.items replies (still_of_failed now.state after.state c.loop-message.replies.items waits k.failed)
+          (heard_failures u now.state (done c.in_ok-reaction.reaction after.state) heard));
       talked = subst (λ (rs : List Reply). HasTalked v batches (c.args.core.now.state, c.args.link.now) rs (after.state, c.exchange.new.link)) all more;
     }
 

@@ -6,6 +6,7 @@ use Rattle.oram_core.specs.Core.{IsSameDevice, scheme_of}
 use Rattle.oram_session.specs.Settled.{IsSettled, answers_left}
 use Rattle.oram_session.proofs.Resumed.{HasBody}
 use Rattle.oram_rounds.specs.Process.{HasTalked}
+use Rattle.oram_rounds.proofs.Failing.{IsOfFailed}
 use Rattle.oram_rounds.proofs.exchanges.carry_out_all.Given as goal
 
 abbrev pub invariant-loop-message : goal.invariant-loop-message
@@ -15,6 +16,7 @@ invariant-loop-message g l = record {
       ⊎ (IsSettled l.core.state × (l.core.state.queue ≡ []) × (l.reaction.sends.items ≡ []));
   block : All (HasBody l.fn.core.device) l.replies.items;
   count : length l.replies.items + length l.core.state.queue ≡ length l.fn.core.state.queue;
+  failed : All (IsOfFailed l.core.state) l.replies.items;
   talked : HasTalked (scheme_of g.S.Sealer.cipher l.fn.core) g.B.BatchLink.batches (l.fn.core.state, l.fn.link) l.replies.items (l.core.state, l.link);
 }
 

@@ -15,6 +15,14 @@ returns-in_err-keep-clause-err g c =
       (record { core = c.args.core.now.state; link = c.keep.new.link; keeper = c.keep.new.keeper }, (failed.0, refl, failed.1), refl),
     )
 
+pub returns-in_err-keep-clause-not_kept : goal.returns-in_err-keep-clause-not_kept
+returns-in_err-keep-clause-not_kept g c = λ e.
+    let failed = c.in_err-keep.ensures.err in (
+      refl,
+      failed.1,
+      (record { core = c.args.core.now.state; link = c.keep.new.link; keeper = c.keep.new.keeper }, (failed.0, refl, failed.1), refl),
+    )
+
 pub returns-in-Ok-clause-ok : goal.returns-in-Ok-clause-ok
 returns-in-Ok-clause-ok g c =
     let v = scheme_of g.S.Sealer.cipher c.args.core.now in
@@ -54,6 +62,7 @@ returns-in-Err g c =
       count = tt;
       settled = tt;
       block = tt;
+      failed = tt;
       err = (
         Keeps true ∷ talked.acts,
         inr (talked.acts, refl),
@@ -64,4 +73,5 @@ returns-in-Err g c =
         ),
       );
       not_kept = λ e. absurd cc;
+      stalled = λ e. absurd cc;
     }

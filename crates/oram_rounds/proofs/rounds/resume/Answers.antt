@@ -4,7 +4,7 @@ use Rattle.oram_core.specs.Core.{scheme_of}
 use Rattle.oram_session.proofs.CoreSteps.{same_scheme}
 use Rattle.oram_rounds.specs.Process.Act.{Keeps}
 use Rattle.oram_rounds.proofs.Results.{if_ok, on_err}
-use Rattle.oram_rounds.proofs.Talk.{done_after, lost_talks, reopened_talks, talks_beside}
+use Rattle.oram_rounds.proofs.Talk.{done_after, kept_not, lost_talks, reopened_talks, talks_beside}
 use Rattle.oram_rounds.proofs.rounds.resume.Goals as goal
 
 pub returns-in_err-reaction-clause-err : goal.returns-in_err-reaction-clause-err
@@ -35,3 +35,12 @@ returns-clause-err g c =
     on_err c.perform.result (λ done.
     let all = done_after batches v g.K.Keeper.reads_back c.args.keeper.now u _ _ _ done.0 same told done.2 in
     (all.0, all.2)) c.perform.ensures.err
+
+pub returns-clause-not_kept : goal.returns-clause-not_kept
+returns-clause-not_kept g c = λ e.
+    let batches = g.B.BatchLink.batches in
+    let v = scheme_of g.S.Sealer.cipher c.args.core.now in
+    let u = scheme_of g.S.Sealer.cipher c.reopen.new.core in
+    let same = same_scheme g.S.Sealer.cipher c.args.core.now c.reopen.new.core c.reopen.ensures.kept in
+    let told = reopened_talks batches v c.args.core.now.state c.reopen.new.core.state c.args.link.now c.in_ok-reaction.ensures.ok in
+    kept_not batches v g.K.Keeper.reads_back c.args.keeper.now u _ _ _ same told (c.perform.ensures.not_kept e).2
