@@ -1,0 +1,4 @@
+pub mod Sends
+pub mod Lives
+pub mod TwoLives
+pub mod KeptCommands

@@ -1,0 +1,35 @@
+//! Laws about all processes of a device, one after the other.
+ghost use Rattle.oram_process_laws.specs.KeptCommands.{KeptCommandsFixMessages};
+ghost use Rattle.oram_process_laws.specs.Lives.{LivesAreOneRun, MessagesAreOfOneRun};
+ghost use Rattle.oram_process_laws.specs.LivesExample.{TwoLivesExample};
+
+use oram_rounds::{BatchLink, Keeper};
+
+/// A law about definitions: whatever processes there are, each begun with what is read back where the one before ended, and
+/// wherever each ends, one run leads from the formatted core to the core at each moment of each process. All that it
+/// shows is right, so each reply that a process gives is one of this run, also one since the last keeping.
+pub fn lives_are_one_run<B: BatchLink, K: Keeper>()
+    ensures { LivesAreOneRun B.batches K.reads_back }
+{}
+
+/// A law about definitions: each message that leaves one of these processes is one that this run has sent by then: a STORE
+/// that is kept, or the FETCH that is outstanding. Each STORE that has left any of them is one that this run has sent. What
+/// is read back is a core that the run has led to on its way, with all STOREs that may leave.
+pub fn messages_are_of_one_run<B: BatchLink, K: Keeper>()
+    ensures { MessagesAreOfOneRun B.batches K.reads_back }
+{}
+
+/// A law about definitions: if a run has no submission since some moment, all its messages are for the paths that the
+/// commands from before and the tape fix, and a run that goes on from that moment has the same paths for these commands.
+/// In a round nothing is submitted since the keeping. So what a process has fetched when it ends in a round are paths of
+/// the commands that are read back, and the next process has the same ones to fetch.
+pub fn kept_commands_fix_messages()
+    ensures { KeptCommandsFixMessages }
+{}
+
+/// Two processes over a server in memory meet the premises of the laws about lives. The first one begins with a device as it
+/// was formatted, is asked to read its block, keeps itself and ends while its FETCH is sent. The second one begins with its
+/// file and sends the FETCH again.
+pub fn two_lives_example()
+    ensures { TwoLivesExample }
+{}

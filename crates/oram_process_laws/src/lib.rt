@@ -1,0 +1,11 @@
+//! Laws about all processes of a device, one after the other, as `oram_rounds` has them.
+//!
+//! Each process begins with the file that is read back where the one before ended. One run of the core goes through all of
+//! them, and all messages that leave are of this run.
+#![tactic(auto)]
+
+mod law;
+
+pub use law::{
+    kept_commands_fix_messages, lives_are_one_run, messages_are_of_one_run, two_lives_example,
+};
