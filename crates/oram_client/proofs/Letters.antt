@@ -10,10 +10,10 @@ joined rest salt behind check others first after second last =
     let inner : check ++ others ≡ behind = ap (λ l. l ++ others) second ∙ ap (λ l. take 32 behind ++ l) last ∙ take-append-drop 32 behind in
     sym (ap (λ l. salt ++ l) (inner ∙ after) ∙ ap (λ l. l ++ drop 32 rest) first ∙ take-append-drop 32 rest)
 
--- The byte of the sealer and the state follow the salt and the key check.
-pub parted : (head : Head) (state rest behind others : List ℕ) → IsHead head → rest ≡ behind_letters head state → behind ≡ drop 32 rest → others ≡ drop 32 behind
-    → others ≡ sealer_byte head.sealer ∷ state
-parted head state rest behind others is whole after last =
-    let tail = sealer_byte head.sealer ∷ state in
+-- The byte of the sealer and the process follow the salt and the key check.
+pub parted : (head : Head) (process rest behind others : List ℕ) → IsHead head → rest ≡ behind_letters head process → behind ≡ drop 32 rest → others ≡ drop 32 behind
+    → others ≡ sealer_byte head.sealer ∷ process
+parted head process rest behind others is whole after last =
+    let tail = sealer_byte head.sealer ∷ process in
     let one : behind ≡ head.key_check.0 ++ tail = after ∙ ap (drop 32) whole ∙ drop_at head.salt.0 (head.key_check.0 ++ tail) 32 is.salt in
     last ∙ ap (drop 32) one ∙ drop_at head.key_check.0 tail 32 is.key_check

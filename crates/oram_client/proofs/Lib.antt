@@ -1,7 +1,14 @@
 pub mod Answered
+pub mod Carried
+pub mod Frames
+pub mod OneHost
+pub mod Streamed
 pub mod Formatted
 pub mod Greeted
 pub mod Tries
+pub mod TwoTries
 pub mod Letters
 pub mod Whole
 pub mod PowerLoss
+pub mod NamesNow
+pub mod ReadBack

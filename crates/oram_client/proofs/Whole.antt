@@ -1,5 +1,5 @@
 -- The file that is found if a process ends while a file is replaced.
-use Rattle.std.proofs.Common.{◌≡◌, ◌⊎◌, inl, inr, ℕ, Bool, true, false, List, [], ◌∷◌, Option, Some, sym, ◌∙◌, ap}
+use Rattle.std.proofs.Common.{◌≡◌, ◌⊎◌, inl, inr, ℕ, Bool, true, false, List, [], ◌∷◌, Option, Some, ◌∙◌, ap}
 use Rattle.oram_client.specs.declared.file_step.FileStep.{FileStep}
 use Rattle.oram_client.specs.Replacement.{Deed, Writes, SetsAside, Renames, SyncsFolder, Clears, deeds_of, IsBrokenOff, Names, first_of, found, Makes, Leaves, EndsIn, DoesToNames, FilesStayWhole, FilesOutlastFailures, FilesAreKept}
 
@@ -21,7 +21,7 @@ set_aside : (file : List ℕ) (n k m : Names) → IsReady n file k → Makes k S
 set_aside file n k m ready made = record { same = ap found made ∙ ready.same; fresh = ap (λ (k : Names). k.fresh) made ∙ ready.fresh }
 
 settled : (file : List ℕ) (n k m : Names) → IsReady n file k → Makes k Renames m → IsPlaced file m
-settled file n k m ready made = ap (λ (k : Names). k.kept) made.2 ∙ sym made.1 ∙ ready.fresh
+settled file n k m ready made = ap (λ (k : Names). k.kept) made ∙ ap (λ (fresh : Option (List ℕ)). first_of fresh k.kept) ready.fresh
 
 cleared : (file : List ℕ) (k m : Names) → IsPlaced file k → Makes k Clears m → IsPlaced file m
 cleared file k m placed made = ap (λ (k : Names). k.kept) made ∙ placed

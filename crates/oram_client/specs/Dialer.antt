@@ -3,10 +3,11 @@ use Rattle.std.specs.Prelude.{◌≡◌, ◌≢◌, ℕ, Bool, true, false, List
 use Rattle.oram_wire.specs.HostMessages.{fetch_body, no_room_answer, payload_answer}
 use Rattle.oram_cli.specs.declared.hosts.HostFault.{HostFault}
 use Rattle.oram_cli.specs.declared.hosts.HostFault.TheVariants as host
-use Rattle.oram_session.specs.Outcome.{Outcome}
-use Rattle.oram_session.specs.Streams.{StreamCall, ToStreams}
 use Rattle.oram_session.specs.declared.link.LinkFault.{LinkFault}
 use Rattle.oram_session.specs.declared.link.LinkFault.TheVariants.{Io, Closed, OutOfMemory}
+use Rattle.oram_link_laws.specs.Runs.{Exchange}
+use Rattle.oram_rounds.specs.Batches.{BatchOutcome}
+use Rattle.oram_client.specs.StreamBatches.{Connection, StreamBatch, connection}
 use Rattle.oram_client.specs.declared.dialer.Trouble.{Trouble}
 use Rattle.oram_client.specs.declared.dialer.Trouble.TheVariants.{OutOfReach, NoRoom, AnotherDisk, NoDisk}
 
@@ -50,22 +51,23 @@ Shows identity answer NoDisk = (rest : List ℕ) × (answer ≡ 129 ∷ rest) ×
 
 -- for streams whose bytes `remaining` and `contents` give
 module _ {S : Type 0} (remaining contents : S → Option (List ℕ)) where
-  -- The first call over a connection asks for the identity.
-  abbrev pub Asks : S → S → Outcome → ToStreams S S → Type 0
-  Asks reader writer outcome line = StreamCall remaining contents (record { reader = reader; writer = writer; faults = 0 }) greeting outcome line
+  -- The first batch over a connection is the greeting alone.
+  abbrev pub Asks : S → S → BatchOutcome → List Exchange → Connection S S → Type 0
+  Asks reader writer outcome exchanges line = StreamBatch remaining contents (connection reader writer) (greeting ∷ []) outcome exchanges line
 
   -- The host answered with this identity.
-  abbrev pub IsGreetedOver : S → S → List ℕ → ToStreams S S → Type 0
-  IsGreetedOver reader writer identity line = Asks reader writer (Ok (payload_answer identity)) line
+  abbrev pub IsGreetedOver : S → S → List ℕ → Connection S S → Type 0
+  IsGreetedOver reader writer identity line = (exchanges : List Exchange) × Asks reader writer (Ok (payload_answer identity ∷ [])) exchanges line
 
-  -- Memory ran out before the host was asked, or the call had a fault, or the host gave another
+  -- Memory ran out before the host was asked, or the batch had a fault, or the host gave another
   -- answer.
   abbrev pub IsUngreetedOver : S → S → List ℕ → Trouble → Type 0
   IsUngreetedOver reader writer identity trouble = (trouble ≡ OutOfReach OutOfMemory)
-      ⊎ ((outcome : Outcome) × (line : ToStreams S S) × Asks reader writer outcome line × MatchResult outcome (λ answer. Shows identity answer trouble) (λ fault. trouble ≡ OutOfReach fault))
+      ⊎ ((outcome : BatchOutcome) × (exchanges : List Exchange) × (line : Connection S S) × Asks reader writer outcome exchanges line
+      × MatchResult outcome (λ answers. (answer : List ℕ) × (answers ≡ answer ∷ []) × Shows identity answer trouble) (λ fault. trouble ≡ OutOfReach fault))
 
   -- The host answered with this identity over some connection.
-  abbrev pub IsGreeted : List ℕ → ToStreams S S → Type 0
+  abbrev pub IsGreeted : List ℕ → Connection S S → Type 0
   IsGreeted identity line = (reader : S) × (writer : S) × IsGreetedOver reader writer identity line
 
   -- There was no connection, or the host didn't answer with this identity over one.

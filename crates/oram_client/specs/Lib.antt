@@ -2,6 +2,9 @@ pub mod KeptFile
 pub mod Keys
 pub mod FileKeeper
 pub mod Reconnect
+pub mod StreamBatches
+pub mod BatchExchanges
+pub mod OneHost
 pub mod Dialer
 pub mod Ahead
 pub mod Faults
@@ -9,3 +12,5 @@ pub mod Identity
 pub mod Formatting
 pub mod Replacement
 pub mod PowerLoss
+pub mod DeedHistory
+pub mod FilePlace

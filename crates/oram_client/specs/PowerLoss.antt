@@ -18,6 +18,14 @@ pub record FolderHistory : Type 0 where
   pub now : Folder
   pub before : List Folder
 
+abbrev pub bytes_of : Option File → Option (List ℕ)
+bytes_of None = None
+bytes_of (Some file) = Some file.bytes
+
+-- what processes read by the names now
+abbrev pub names_now : FolderHistory → Names
+names_now d = record { kept = bytes_of d.now.kept; fresh = bytes_of d.now.fresh; aside = bytes_of d.now.aside }
+
 -- what may be read of a file after a loss of power: if it wasn't synced, anything, even nothing
 abbrev pub MayRead : Option File → Option (List ℕ) → Type 0
 MayRead None read = read ≡ None
@@ -50,13 +58,30 @@ first_file (Some file) aside = Some file
 abbrev pub after_deed : FolderHistory → Deed → FolderHistory
 after_deed d (Writes sync bytes) = changed d (record d.now { fresh = Some (record { synced = sync; bytes = bytes }) })
 after_deed d SetsAside = changed d (record d.now { kept = None; aside = first_file d.now.kept d.now.aside })
-after_deed d Renames = changed d (record d.now { kept = d.now.fresh; fresh = None })
+after_deed d Renames = changed d (record d.now { kept = first_file d.now.fresh d.now.kept; fresh = None })
 after_deed d SyncsFolder = record d { before = [] }
 after_deed d Clears = changed d (record d.now { aside = None })
 
 abbrev pub after_deeds : FolderHistory → List Deed → FolderHistory
 after_deeds d [] = d
 after_deeds d (deed ∷ deeds) = after_deeds (after_deed d deed) deeds
+
+-- What a deed leaves that fails. The new file may be torn, and isn't synced; each other deed is done at once, or not at
+-- all.
+abbrev pub LeavesFolder : FolderHistory → Deed → FolderHistory → Type 0
+LeavesFolder d (Writes sync bytes) e = (e ≡ d) ⊎ ((torn : List ℕ) × (e ≡ after_deed d (Writes false torn)))
+LeavesFolder d SetsAside e = (e ≡ d) ⊎ (e ≡ after_deed d SetsAside)
+LeavesFolder d Renames e = (e ≡ d) ⊎ (e ≡ after_deed d Renames)
+LeavesFolder d SyncsFolder e = e ≡ d
+LeavesFolder d Clears e = (e ≡ d) ⊎ (e ≡ after_deed d Clears)
+
+-- a deed is done, or fails
+abbrev pub DoesToFolder : FolderHistory → Deed → Bool → FolderHistory → Type 0
+DoesToFolder d deed done e = MatchBool done (e ≡ after_deed d deed) (LeavesFolder d deed e)
+
+-- what a deed makes of the folders that were possible before it
+abbrev pub FoldersAfter : (FolderHistory → Type 0) → Deed → Bool → FolderHistory → Type 0
+FoldersAfter before deed done e = (d : FolderHistory) × before d × DoesToFolder d deed done e
 
 -- a disk during a deed: a file isn't synced before it is whole
 abbrev pub during_deed : FolderHistory → Deed → FolderHistory

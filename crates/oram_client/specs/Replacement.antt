@@ -7,7 +7,7 @@ use Rattle.oram_client.specs.declared.file_step.FileStep.TheVariants as step
 pub data Deed : Type 0 where
   Writes : Bool → List ℕ → Deed  -- the new one; true where it is synced too
   SetsAside : Deed  -- the file, if there is one
-  Renames : Deed  -- the new one takes the file's place
+  Renames : Deed  -- the new one takes the file's place, if there is one
   SyncsFolder : Deed
   Clears : Deed  -- the one that was set aside goes
 
@@ -56,7 +56,7 @@ found n = first_of n.kept n.aside
 abbrev pub Makes : Names → Deed → Names → Type 0
 Makes n (Writes sync file) m = m ≡ record n { fresh = Some file }
 Makes n SetsAside m = m ≡ record n { kept = None; aside = first_of n.kept n.aside }
-Makes n Renames m = (file : List ℕ) × (n.fresh ≡ Some file) × (m ≡ record n { kept = Some file; fresh = None })
+Makes n Renames m = m ≡ record n { kept = first_of n.fresh n.kept; fresh = None }
 Makes n SyncsFolder m = m ≡ n
 Makes n Clears m = m ≡ record n { aside = None }
 

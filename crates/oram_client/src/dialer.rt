@@ -3,7 +3,8 @@ ghost use Rattle.std.specs.Prelude.{◌≡◌, ℕ, Option, IfOk, IfErr};
 ghost use Rattle.oram_client.specs.Dialer as spec;
 
 use oram_cli::HostFault;
-use oram_session::{Link, LinkFault};
+use oram_rounds::BatchLink;
+use oram_session::LinkFault;
 use std::alloc::Global;
 use std::io;
 
@@ -96,8 +97,8 @@ pub trait Dial {
     ghost use Rattle.oram_client.specs.declared.dialer.Limits.{Limits};
     ghost use Rattle.oram_client.specs.declared.dialer.Trouble.{Trouble};
 
-    /// A connection. It is used until a call over it has a fault.
-    type Line: Link + Drop;
+    /// A connection. It is used until a batch over it has a fault.
+    type Line: BatchLink + Drop;
 
     /// `opens old limits line new`: a try within `limits` may open `line`, and turns the dialer from `old` into `new`.
     ghost opens: { Self → Limits → Self.Line → Self → Type 0 };

@@ -1,17 +1,17 @@
-//! A keeper that writes a core's states to a file.
-ghost use Rattle.std.specs.Prelude.{◌≡◌, None};
+//! A keeper that writes what is kept of a process to a file.
+ghost use Rattle.std.specs.Prelude.{◌≡◌, ◌⊎◌, ℕ, List, None, OnErr, OnOk, is_ok, true};
 
 use crate::file_step::FileFailure;
 use crate::kept_file::Head;
 use crate::place::{Place, put_file};
-use oram_keep::{Keeper, Unkept};
+use oram_rounds::{KeepError, Keeper};
 use std::marker::Model;
 
-/// Keeps each state in a file, after the disk's head. It writes a new file beside the old one, and renames it into
-/// place once it is whole.
+/// Keeps a process in a file, after the disk's head. It writes a new file beside the old one, and renames it into place
+/// once it is whole.
 ///
-/// With `sync`, a kept state is on the disk, so that it outlives the machine and not only the process. After a failure
-/// the keeper keeps nothing more, since the file may then hold the failed state or the one before it.
+/// With `sync`, a kept process is on the disk, so that it outlives the machine. After a failure the keeper keeps nothing
+/// more, since the file may then hold the process that failed or the one before it.
 #[derive(Debug, Drop)]
 pub struct FileKeeper<P> {
     place: P,
@@ -41,7 +41,7 @@ impl<P> FileKeeper<P> {
         }
     }
 
-    /// Returns why a state was not kept, once one wasn't.
+    /// Returns why a process was not kept, once one wasn't.
     pub fn failure(&self) -> Option<FileFailure>
         ensures { result ≡ self.now.failure }
     {
@@ -49,21 +49,43 @@ impl<P> FileKeeper<P> {
     }
 }
 
-impl<P: Place> Keeper for FileKeeper<P> {
+impl<P: Place> FileKeeper<P> {
     ghost use Rattle.oram_client.specs.FileKeeper.{KeepsFile};
 
-    ghost keeps = { λ k state done m. KeepsFile P.does k state done m };
-
-    fn keep(&mut self, file: &[u8]) -> Result<(), Unkept> {
+    /// Puts the file with this process, unless an earlier one could not be put.
+    fn put(&mut self, process: &[u8]) -> Result<(), KeepError>
+        ensures { KeepsFile P.does self.old process.now (is_ok result) self.new }
+    {
         if self.failure.is_some() {
-            return Err(Unkept);
+            return Err(KeepError);
         }
-        match put_file(&mut self.place, &self.head, file, self.sync) {
+        match put_file(&mut self.place, &self.head, process, self.sync) {
             Ok(()) => Ok(()),
             Err(failure) => {
                 self.failure = Some(failure);
-                Err(Unkept)
+                Err(KeepError)
             }
         }
+    }
+}
+
+impl<P: Place> Keeper for FileKeeper<P> {
+    ghost use Rattle.oram_client.specs.FileKeeper.{IsEitherLasting, IsLasting, KeepsFile, MayReadBack};
+
+    ghost reads_back = { MayReadBack P.may_be };
+
+    /// Keeps the process in the file. Once a call has failed, each later one fails and does nothing.
+    ///
+    /// With `sync`, what is kept also outlives a loss of power (`lasts`). If it can't be kept and the one before would
+    /// have outlived it, a loss of power leaves one of the two (`either_lasts`).
+    fn keep(&mut self, file: &[u8]) -> Result<(), KeepError>
+        ensures there { OnOk result (MayReadBack P.may_be self.new file.now) }
+        ensures only { OnOk result ((bytes : List ℕ) → MayReadBack P.may_be self.new bytes → bytes ≡ file.now) }
+        ensures failed { OnErr result ((bytes : List ℕ) → MayReadBack P.may_be self.new bytes → (bytes ≡ file.now) ⊎ MayReadBack P.may_be self.old bytes) }
+        ensures lasts { OnOk result (self.old.sync ≡ true → IsLasting P.may_be self.new file.now) }
+        ensures either_lasts { OnErr result (self.old.sync ≡ true → (before : List ℕ) → IsLasting P.may_be self.old before → IsEitherLasting P.may_be self.new before file.now) }
+        ensures deeds { KeepsFile P.does self.old file.now (is_ok result) self.new }
+    {
+        self.put(file)
     }
 }

@@ -1,6 +1,13 @@
 //! A place for a file in a folder.
-ghost use Rattle.std.specs.Prelude.{◌≡◌, ◌⊎◌, ◌++◌, codes, string_bytes, IfOk, IfSome};
+//!
+//! No contract says what the system does to its files. So each method notes its deed, and whether it was done, in a
+//! record that only contracts read, and that record defines what a reader may find. The prover can't check that a method
+//! really makes the calls of the deed that it notes: for that, read the code here.
+ghost use Rattle.std.specs.Prelude.{◌≡◌, ◌⊎◌, ◌++◌, [], codes, string_bytes, IfErr, IfOk, IfSome};
+ghost use Rattle.oram_client.specs.KeptFile.{kept_file};
+ghost use Rattle.oram_client.specs.Replacement.{IsStepOf, Writes};
 
+use crate::deed_history::DeedHistory;
 use crate::file_step::{FileFailure, FileStep, step_result};
 use crate::kept_file::{Head, put_kept_file};
 use crate::place::Place;
@@ -51,15 +58,16 @@ pub struct FilePlace<R> {
     new_name: String,
     aside_name: String,
     folder: String,
+    history: DeedHistory,
 }
 
 impl<R> Model for FilePlace<R> {
-    ghost use Rattle.std.specs.Prelude.{◌≡◌, ◌++◌, List, ℕ, codes, string_bytes};
+    ghost use Rattle.std.specs.Prelude.{◌≡◌, ◌++◌, codes, string_bytes};
+    ghost use Rattle.oram_client.specs.FilePlace.{FilePlaceState};
 
-    /// Modelled by the name alone.
-    ghost Value = { List ℕ };
+    ghost Value = { FilePlaceState };
 
-    ghost view = { λ p. string_bytes p.name };
+    ghost view = { λ p. record { name = string_bytes p.name; deeds = p.history.deeds } };
 
     ghost invariant = { λ p. (string_bytes p.new_name ≡ string_bytes p.name ++ codes ".new")
         × (string_bytes p.aside_name ≡ string_bytes p.name ++ codes ".aside") };
@@ -70,7 +78,7 @@ impl<R> FilePlace<R> {
     pub fn new(rt: R, alloc: Global, name: &str) -> Result<FilePlace<R>, AllocError>
     where
         R: Drop,
-        ensures { IfOk result (λ place. place ≡ name.now) }
+        ensures { IfOk result (λ place. place ≡ record { name = name.now; deeds = [] }) }
     {
         Ok(FilePlace {
             rt,
@@ -78,6 +86,7 @@ impl<R> FilePlace<R> {
             new_name: new_name(alloc, name)?,
             aside_name: aside_name(alloc, name)?,
             folder: String::from_str(alloc, folder_of(name))?,
+            history: DeedHistory::new(),
         })
     }
 }
@@ -86,6 +95,19 @@ impl<R: Files> FilePlace<R> {
     /// Creates the new file, for the owner alone.
     fn create(&self) -> io::Result<R::File> {
         create_for_owner(&self.rt, self.new_name.as_str())
+    }
+
+    /// Creates the new file and writes it, and syncs it if `sync` is set.
+    fn write_new(&self, head: &Head, process: &[u8], sync: bool) -> Result<(), FileFailure>
+        ensures { IfErr result (λ why. IsStepOf (Writes sync (kept_file head.now process.now)) why.step) }
+    {
+        let mut file = step_result(FileStep::Create, self.create())?;
+        let written = put_kept_file(&mut file, head, process);
+        step_result(FileStep::Write, written)?;
+        if sync {
+            step_result(FileStep::Sync, file.sync_all())?;
+        }
+        Ok(())
     }
 
     fn rename(&self, from: &str, to: &str) -> io::Result<()> {
@@ -98,38 +120,48 @@ impl<R: Files> FilePlace<R> {
 }
 
 impl<R: Files> Place for FilePlace<R> {
-    ghost use Rattle.std.specs.Prelude.{◌≡◌};
+    ghost use Rattle.oram_client.specs.DeedHistory.{IsPossible, possible_after, some_possible};
+    ghost use Rattle.oram_client.specs.FilePlace.{NotesDeed};
 
-    // The model doesn't know what the system does to its files.
-    ghost does = { λ p _ _ q. q ≡ p };
+    ghost does = { NotesDeed };
 
-    fn write(&mut self, head: &Head, state: &[u8], sync: bool) -> Result<(), FileFailure> {
-        let mut file = step_result(FileStep::Create, self.create())?;
-        let written = put_kept_file(&mut file, head, state);
-        step_result(FileStep::Write, written)?;
-        if sync {
-            step_result(FileStep::Sync, file.sync_all())?;
-        }
-        Ok(())
+    ghost may_be = { λ p. IsPossible p.deeds };
+
+    ghost some_folder = { λ p. some_possible p.deeds };
+
+    ghost folders_after = { λ p deed done q does. possible_after p.deeds deed done q.deeds does.noted };
+
+    fn write(&mut self, head: &Head, process: &[u8], sync: bool) -> Result<(), FileFailure> {
+        let result = self.write_new(head, process, sync);
+        self.history.note_write(head, process, sync, result.is_ok());
+        result
     }
 
     fn set_aside(&mut self) -> Result<(), FileFailure> {
         let moved = self.rename(self.name.as_str(), self.aside_name.as_str());
-        step_result(FileStep::SetAside, ignore_missing(moved))
+        let result = step_result(FileStep::SetAside, ignore_missing(moved));
+        self.history.note_set_aside(result.is_ok());
+        result
     }
 
     fn rename_into_place(&mut self) -> Result<(), FileFailure> {
         let moved = self.rename(self.new_name.as_str(), self.name.as_str());
-        step_result(FileStep::Rename, moved)
+        let result = step_result(FileStep::Rename, moved);
+        self.history.note_rename(result.is_ok());
+        result
     }
 
     fn sync_folder(&mut self) -> Result<(), FileFailure> {
-        step_result(FileStep::SyncFolder, self.sync_all())
+        let result = step_result(FileStep::SyncFolder, self.sync_all());
+        self.history.note_sync_folder(result.is_ok());
+        result
     }
 
     fn clear(&mut self) -> Result<(), FileFailure> {
         let removed = fs::remove_file(&self.rt, self.aside_name.as_str());
-        step_result(FileStep::Clear, ignore_missing(removed))
+        let result = step_result(FileStep::Clear, ignore_missing(removed));
+        self.history.note_clear(result.is_ok());
+        result
     }
 }
 

@@ -12,10 +12,13 @@ use std::io::Write;
 use thiserror::Error;
 
 /// The letters that each file begins with.
-const LETTERS: &[u8; 8] = b"VIDLAQE2";
+const LETTERS: &[u8; 8] = b"VIDLAQE3";
 
-/// The letters that files of the older format begin with.
-const OLDER_LETTERS: &[u8; 8] = b"VIDLAQE1";
+/// The letters that files of the first format begin with.
+const FIRST_LETTERS: &[u8; 8] = b"VIDLAQE1";
+
+/// The letters that files of the second format begin with.
+const SECOND_LETTERS: &[u8; 8] = b"VIDLAQE2";
 
 /// How the buckets of a disk are sealed.
 #[derive(Clone, Copy, Debug, PartialEq, Eq)]
@@ -28,7 +31,7 @@ pub enum SealerKind {
 
 impl SealerKind {
     /// Returns the byte for this sealer in a file.
-    fn byte(self) -> u8
+    pub(crate) fn byte(self) -> u8
         ensures { result ≡ sealer_byte self }
     {
         match self {
@@ -50,7 +53,7 @@ impl SealerKind {
     }
 }
 
-/// What a kept file says of a disk before the core's state.
+/// What a kept file says of a disk, in front of what is kept of its process.
 #[derive(Clone, Copy, Debug, PartialEq, Eq)]
 pub struct Head {
     pub salt: Salt,
@@ -77,61 +80,63 @@ impl Head {
 #[derive(Clone, Copy, Debug)]
 pub struct KeptFile<'a> {
     pub head: Head,
-    /// The core's state file.
-    pub state: &'a [u8],
+    /// What is kept of the process: the STOREs that wait and the core's state file, as `oram_rounds::encode_kept` writes
+    /// them.
+    pub process: &'a [u8],
 }
 
 /// Why some bytes are not a kept file.
 #[derive(Clone, Copy, Debug, PartialEq, Eq, Error)]
 pub enum KeptFault {
-    /// They have the older format, which had no key check and no sealer.
+    /// They have an older format. Files of the first one had no key check and no sealer; files of the second one had no
+    /// STOREs that wait.
     #[error("a file of an older disk")]
     Older,
     #[error("no file of a disk")]
     NotOurs,
 }
 
-/// Writes a kept file, without copying the state. If the writer fails, it is unknown how much of the file it
-/// took.
-pub fn put_kept_file<W: Write>(writer: &mut W, head: &Head, state: &[u8]) -> io::Result<()>
-    ensures { OnOk result (Appends (W.contents writer.old) (W.contents writer.new) (kept_file head.now state.now)) }
+/// Writes a kept file, without copying what is kept of the process. If the writer fails, it is unknown how much of the
+/// file it took.
+pub fn put_kept_file<W: Write>(writer: &mut W, head: &Head, process: &[u8]) -> io::Result<()>
+    ensures { OnOk result (Appends (W.contents writer.old) (W.contents writer.new) (kept_file head.now process.now)) }
 {
     writer.write_all(LETTERS)?;
     writer.write_all(&head.salt.0)?;
     writer.write_all(&head.key_check.0)?;
     writer.write_all(&[head.sealer.byte()])?;
-    writer.write_all(state)
+    writer.write_all(process)
 }
 
-/// Returns whether a file begins with the letters of the older format.
+/// Returns whether a file begins with the letters of an older format.
 fn is_older(file: &[u8]) -> bool
     ensures { IsTrue result ↔ IsOlder file.now }
 {
-    file.starts_with(OLDER_LETTERS)
+    file.starts_with(FIRST_LETTERS) || file.starts_with(SECOND_LETTERS)
 }
 
-/// Reads the head and the state that follow the letters.
+/// Reads the head and the process that follow the letters.
 fn read_parts(rest: &[u8]) -> Option<KeptFile<'_>>
-    ensures some { IfSome result (λ kept. rest.now ≡ behind_letters kept.head kept.state.now) }
-    ensures none { result ≡ None → (head : Head) (state : List ℕ) → IsHead head → rest.now ≢ behind_letters head state }
+    ensures some { IfSome result (λ kept. rest.now ≡ behind_letters kept.head kept.process.now) }
+    ensures none { result ≡ None → (head : Head) (process : List ℕ) → IsHead head → rest.now ≢ behind_letters head process }
 {
     let (salt, rest) = rest.split_first_chunk::<32>()?;
     let (check, rest) = rest.split_first_chunk::<32>()?;
-    let (byte, state) = rest.split_first()?;
+    let (byte, process) = rest.split_first()?;
     let head = Head {
         salt: Salt(*salt),
         key_check: KeyCheck(*check),
         sealer: SealerKind::of(*byte)?,
     };
-    Some(KeptFile { head, state })
+    Some(KeptFile { head, process })
 }
 
-/// Reads a kept file. It takes the rest after the head as the state, unchecked. Fails with [`KeptFault::Older`]
-/// if the file has the older format, and with [`KeptFault::NotOurs`] if it is no kept file at all.
+/// Reads a kept file. It takes the rest after the head as what is kept of the process, unchecked. Fails with
+/// [`KeptFault::Older`] if the file has an older format, and with [`KeptFault::NotOurs`] if it is no kept file at all.
 pub fn read_kept_file(file: &[u8]) -> Result<KeptFile<'_>, KeptFault>
-    ensures ok { IfOk result (λ kept. file.now ≡ kept_file kept.head kept.state.now) }
+    ensures ok { IfOk result (λ kept. file.now ≡ kept_file kept.head kept.process.now) }
     ensures older { IsErrOf result KeptFault.Older ↔ IsOlder file.now }
-    ensures not_ours { IsErrOf result KeptFault.NotOurs → (head : Head) (state : List ℕ) → IsHead head → file.now ≢ kept_file head state }
+    ensures not_ours { IsErrOf result KeptFault.NotOurs → (head : Head) (process : List ℕ) → IsHead head → file.now ≢ kept_file head process }
 {
     let parts = match file.strip_prefix(LETTERS) {
         Some(rest) => read_parts(rest),

@@ -1,16 +1,18 @@
 //! What a client keeps of a disk, and how it reaches the disk's host.
 //!
-//! [`put_kept_file`] and [`read_kept_file`] write and read the kept file of a disk: a [`Head`] and the core's state.
+//! [`put_kept_file`] and [`read_kept_file`] write and read the kept file of a disk: a [`Head`], and what is kept of the
+//! process.
 //! [`keys_for`] returns the keys of the disk with a head, if it gets the key that the disk was formatted with.
-//! A [`FileKeeper`] keeps a core's state in such a file, in a [`FilePlace`]. It does so in steps ([`put_file`]), and
-//! wherever the process ends between them, the file is found whole; [`kept_bytes`] reads it back.
-//! A [`ReconnectLink`] tries until the host answers or the reconnect timeout has passed. A [`TcpDialer`] opens its
-//! connections, and only to a host that keeps the disk. [`given_up`] says what is wrong with a host once a link has
-//! given up.
+//! A [`FileKeeper`] keeps a process in such a file, in a [`FilePlace`]. It does so in steps ([`put_file`]), and wherever
+//! the process ends between them, the file is found whole; [`kept_bytes`] reads it back.
+//! A [`ReconnectLink`] carries batches of messages, and tries until the host answers all of them or the reconnect timeout
+//! has passed. A [`TcpDialer`] opens its connections, and only to a host that keeps the disk. [`given_up`] says what is
+//! wrong with a host once a link has given up.
 //! [`format_ahead`] formats a disk over an [`Ahead`], a connection that sends messages ahead of their answers.
 #![tactic(auto)]
 
 mod ahead;
+mod deed_history;
 mod dialer;
 mod disk_format;
 mod disk_keys;
@@ -21,13 +23,16 @@ mod file_step;
 mod identity;
 mod kept_file;
 mod keys;
+mod law;
 mod place;
 mod reconnect_link;
 mod refusals;
+mod stream_batches;
 mod tcp_dialer;
 mod timed_link;
 
 pub use ahead::{Ahead, Progress};
+pub use deed_history::DeedHistory;
 pub use dialer::{Dial, HostWatch, Limits, Trouble, given_up};
 pub use disk_format::format_ahead;
 pub use disk_keys::{Keys, WrongKey, keys_for};
@@ -41,7 +46,11 @@ pub use keys::{
     DiskKey, Identity, KeyCheck, Salt, SealerKey, TapeKey, disk_identity, key_check, sealer_key,
     tape_key,
 };
+pub use law::{
+    answers_are_the_hosts, exchanges_are_of_the_tries, stream_batches_are_run, two_tries_example,
+};
 pub use place::{Place, files_stay_whole, put_file, synced_files_last};
 pub use reconnect_link::ReconnectLink;
+pub use stream_batches::StreamBatches;
 pub use tcp_dialer::TcpDialer;
 pub use timed_link::TimedLink;

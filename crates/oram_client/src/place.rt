@@ -9,18 +9,22 @@ use crate::kept_file::Head;
 
 /// A file, with a name beside it for a new file and another for an old file that is set aside.
 pub trait Place {
-    ghost use Rattle.std.specs.Prelude.{Bool, true, false, OnOk, IfErr};
+    ghost use Rattle.std.specs.Prelude.{◌↔◌, Bool, true, false, OnOk, IfErr};
     ghost use Rattle.oram_client.specs.KeptFile.{kept_file};
     ghost use Rattle.oram_client.specs.Replacement.{Deed, IsStepOf, Writes, SetsAside, Renames, SyncsFolder, Clears};
+    ghost use Rattle.oram_client.specs.PowerLoss.{FolderHistory, FoldersAfter};
 
     /// `does old deed done new`: the deed may be done, or fail where `done` is false, and turns the place from `old`
     /// into `new`.
     ghost does: { Self → Deed → Bool → Self → Type 0 };
 
-    /// Writes the new file with this head and state, and syncs it if `sync` is set.
-    fn write(&mut self, head: &Head, state: &[u8], sync: bool) -> Result<(), FileFailure>
-        ensures ok { OnOk result (does self.old (Writes sync (kept_file head.now state.now)) true self.new) }
-        ensures err { IfErr result (λ why. does self.old (Writes sync (kept_file head.now state.now)) false self.new × IsStepOf (Writes sync (kept_file head.now state.now)) why.step) };
+    /// `may_be place folder`: the folder may be so now. It says what readers find, and what a loss of power would leave.
+    ghost may_be: { Self → FolderHistory → Type 0 };
+
+    /// Writes the new file with this head and process, and syncs it if `sync` is set.
+    fn write(&mut self, head: &Head, process: &[u8], sync: bool) -> Result<(), FileFailure>
+        ensures ok { OnOk result (does self.old (Writes sync (kept_file head.now process.now)) true self.new) }
+        ensures err { IfErr result (λ why. does self.old (Writes sync (kept_file head.now process.now)) false self.new × IsStepOf (Writes sync (kept_file head.now process.now)) why.step) };
 
     /// Sets the file aside, if there is one.
     fn set_aside(&mut self) -> Result<(), FileFailure>
@@ -41,14 +45,21 @@ pub trait Place {
     fn clear(&mut self) -> Result<(), FileFailure>
         ensures ok { OnOk result (does self.old Clears true self.new) }
         ensures err { IfErr result (λ why. does self.old Clears false self.new × IsStepOf Clears why.step) };
+
+    /// There is always some folder, be it without files.
+    ghost some_folder: { (place : Self) → (folder : FolderHistory) × may_be place folder };
+
+    /// After a deed, done or failed, the folder may be what the deed makes of one that there might have been before, and
+    /// nothing else.
+    ghost folders_after: { (old : Self) (deed : Deed) (done : Bool) (new : Self) → does old deed done new → (folder : FolderHistory) → may_be new folder ↔ FoldersAfter (may_be old) deed done folder };
 }
 
 /// Replaces the old file by the new one in a single rename. The new one is on the disk afterwards.
-fn put_synced<P: Place>(place: &mut P, head: &Head, state: &[u8]) -> Result<(), FileFailure>
-    ensures ok { OnOk result (DoesAll P.does place.old (deeds_of true (kept_file head.now state.now)) place.new) }
-    ensures err { IfErr result (λ why. IsBrokenOff P.does place.old (deeds_of true (kept_file head.now state.now)) why.step place.new) }
+fn put_synced<P: Place>(place: &mut P, head: &Head, process: &[u8]) -> Result<(), FileFailure>
+    ensures ok { OnOk result (DoesAll P.does place.old (deeds_of true (kept_file head.now process.now)) place.new) }
+    ensures err { IfErr result (λ why. IsBrokenOff P.does place.old (deeds_of true (kept_file head.now process.now)) why.step place.new) }
 {
-    place.write(head, state, true)?;
+    place.write(head, process, true)?;
     place.rename_into_place()?;
     place.sync_folder()?;
     place.clear()
@@ -56,32 +67,32 @@ fn put_synced<P: Place>(place: &mut P, head: &Head, state: &[u8]) -> Result<(), 
 
 /// Sets the old file aside before it renames the new one. If the new one were renamed over the old one, some file
 /// systems would write it to the disk at once, and each keeping would wait for that.
-fn put_unsynced<P: Place>(place: &mut P, head: &Head, state: &[u8]) -> Result<(), FileFailure>
-    ensures ok { OnOk result (DoesAll P.does place.old (deeds_of false (kept_file head.now state.now)) place.new) }
-    ensures err { IfErr result (λ why. IsBrokenOff P.does place.old (deeds_of false (kept_file head.now state.now)) why.step place.new) }
+fn put_unsynced<P: Place>(place: &mut P, head: &Head, process: &[u8]) -> Result<(), FileFailure>
+    ensures ok { OnOk result (DoesAll P.does place.old (deeds_of false (kept_file head.now process.now)) place.new) }
+    ensures err { IfErr result (λ why. IsBrokenOff P.does place.old (deeds_of false (kept_file head.now process.now)) why.step place.new) }
 {
-    place.write(head, state, false)?;
+    place.write(head, process, false)?;
     place.set_aside()?;
     place.rename_into_place()?;
     place.clear()
 }
 
-/// Writes the file with this head and state and renames it into place. With `sync`, it is on the disk afterwards
+/// Writes the file with this head and process and renames it into place. With `sync`, it is on the disk afterwards
 /// ([`synced_files_last`]). After an error, or if the process ends meanwhile, the file that is found is the old one or
 /// the new one.
 pub fn put_file<P: Place>(
     place: &mut P,
     head: &Head,
-    state: &[u8],
+    process: &[u8],
     sync: bool,
 ) -> Result<(), FileFailure>
-    ensures ok { OnOk result (DoesAll P.does place.old (deeds_of sync (kept_file head.now state.now)) place.new) }
-    ensures err { IfErr result (λ why. IsBrokenOff P.does place.old (deeds_of sync (kept_file head.now state.now)) why.step place.new) }
+    ensures ok { OnOk result (DoesAll P.does place.old (deeds_of sync (kept_file head.now process.now)) place.new) }
+    ensures err { IfErr result (λ why. IsBrokenOff P.does place.old (deeds_of sync (kept_file head.now process.now)) why.step place.new) }
 {
     if sync {
-        put_synced(place, head, state)
+        put_synced(place, head, process)
     } else {
-        put_unsynced(place, head, state)
+        put_unsynced(place, head, process)
     }
 }
 

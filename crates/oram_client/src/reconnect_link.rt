@@ -1,11 +1,15 @@
 //! A link that tries until its host answers.
-ghost use Rattle.std.specs.Prelude.{◌≡◌, ◌*◌, ◌-◌, ◌<◌, ◌≤◌, ◌^◌, [], None, Some, min, IfOk, IfErr, IfSome, IsOk, MatchOption};
-ghost use Rattle.oram_session.specs.Outcome.{Outcome, outcome_of};
-ghost use Rattle.oram_client.specs.Reconnect.{HasLine, IsPaused, IsTimedOut, IsTried, IsTroubleIn, MakesTries, Passes, ReconnectCall, attempt_of, elapsed, limits, link_outcome, time_left};
+ghost use Rattle.std.specs.Prelude.{◌≡◌, ◌≢◌, ◌++◌, ◌*◌, ◌-◌, ◌<◌, ◌≤◌, ◌^◌, [], ◌∷◌, List, None, Some, min, IfOk, IfErr, IfSome, IsOk, MatchBool, MatchOption};
+ghost use Rattle.oram_wire.specs.HostMessages.{no_room_answer};
+ghost use Rattle.oram_link_laws.specs.Repair.{IsAmong};
+ghost use Rattle.oram_link_laws.specs.Runs.{Exchange};
+ghost use Rattle.oram_rounds.specs.Batches.{BatchOutcome, batch_outcome_of, texts};
+ghost use Rattle.oram_client.specs.Reconnect.{HasLine, IsPaused, IsTimedOut, IsTried, IsTroubleIn, MakesTries, ReconnectBatch, attempt_of, elapsed, limits, link_outcome, time_left};
 
 use crate::dialer::{Dial, HostWatch, Limits, Trouble};
 use oram_host::HostRefusal;
-use oram_session::{Link, LinkFault};
+use oram_rounds::BatchLink;
+use oram_session::LinkFault;
 use oram_wire::REFUSED;
 use std::alloc::Global;
 use std::marker::Model;
@@ -58,7 +62,7 @@ impl<W: HostWatch> TroubleReporter<W> {
     }
 }
 
-/// How a message without an answer goes on waiting, in milliseconds.
+/// How messages without their answers go on waiting, in milliseconds.
 #[derive(Clone, Copy, Debug)]
 struct Wait {
     /// The next pause.
@@ -69,12 +73,14 @@ struct Wait {
 
 /// A link that opens its connection again after losing it.
 ///
-/// A call tries until it has an answer, or until the reconnect timeout. If a call over a connection has a fault, the
-/// link closes that connection and sends the same message over a new one; if the host has no room, it sends the message
-/// again over the same one. It pauses before each try but the first. Sending a message again changes nothing at an
-/// honest host, which carries it out once more with the same result; a session repeats a message after a fault in the
-/// same manner. The reconnect timeout is time by the clock from the beginning of the call: while nobody uses the link,
-/// it doesn't run. Once it has passed, or the host turned out to keep another disk or none, later calls try nothing.
+/// A batch is tried until all of it is answered, or until the reconnect timeout. If a batch over a connection has a
+/// fault, the link closes that connection and sends the whole batch over a new one; if the host has no room for one of
+/// the messages, it sends the whole batch again over the same one. So a STORE that was refused is sent again before the
+/// messages behind it count. The link pauses before each try but the first. Sending a batch again changes nothing at an
+/// honest host, which carries it out once more, in the same order and with the same result; a session repeats a message
+/// after a fault in the same manner. The reconnect timeout is time by the clock from the beginning of the batch: while
+/// nobody uses the link, it doesn't run. Once it has passed, or the host turned out to keep another disk or none, later
+/// batches try nothing.
 #[derive(Debug, Drop)]
 pub struct ReconnectLink<D: Dial, W> {
     dialer: D,
@@ -84,7 +90,6 @@ pub struct ReconnectLink<D: Dial, W> {
     reconnect_timeout: u64,
     /// Why the link gave up.
     trouble: Option<Trouble>,
-    faults: u64,
 }
 
 impl<D: Dial, W> Model for ReconnectLink<D, W> {
@@ -92,27 +97,44 @@ impl<D: Dial, W> Model for ReconnectLink<D, W> {
 
     ghost Value = { ReconnectState D D.Line };
 
-    ghost view = { λ l. record { dialer = l.dialer; line = l.line; reconnect_timeout = l.reconnect_timeout; trouble = l.trouble; faults = l.faults } };
+    ghost view = { λ l. record { dialer = l.dialer; line = l.line; reconnect_timeout = l.reconnect_timeout; trouble = l.trouble } };
 }
 
-/// Returns why an attempt brought nothing to give to the caller; `None` if it brought an answer to give.
-fn trouble_in(came: &Result<Vec<u8>, Trouble>) -> Option<Trouble>
+/// Returns whether an answer says that the host has no room.
+fn is_no_room(answer: &[u8]) -> bool
+    ensures { MatchBool result (answer.now ≡ no_room_answer) (answer.now ≢ no_room_answer) }
+{
+    answer == [REFUSED, HostRefusal::OutOfMemory.code()].as_slice()
+}
+
+/// Returns whether one of the answers says that the host has no room.
+fn has_no_room(answers: &[Vec<u8>]) -> bool
+    ensures { MatchBool result (IsAmong no_room_answer (texts answers.now)) (¬ IsAmong no_room_answer (texts answers.now)) }
+{
+    for answer in answers {
+        if is_no_room(answer) {
+            return true;
+        }
+    }
+    false
+}
+
+/// Returns why an attempt brought nothing to give to the caller; `None` if it brought answers to give.
+fn trouble_in(came: &Result<Vec<Vec<u8>>, Trouble>) -> Option<Trouble>
     ensures { IsTroubleIn (attempt_of came.now) result }
 {
     match came {
-        Ok(answer) if answer.as_slice() == [REFUSED, HostRefusal::OutOfMemory.code()].as_slice() =>
-            { Some(Trouble::NoRoom) }
-        Ok(_) => None,
+        Ok(answers) => has_no_room(answers).then_some(Trouble::NoRoom),
         Err(trouble) => Some(*trouble),
     }
 }
 
 /// Returns what the caller receives for an attempt.
-fn link_outcome(came: Result<Vec<u8>, Trouble>) -> Result<Vec<u8>, LinkFault>
-    ensures { outcome_of result ≡ link_outcome (attempt_of came) }
+fn link_outcome(came: Result<Vec<Vec<u8>>, Trouble>) -> Result<Vec<Vec<u8>>, LinkFault>
+    ensures { batch_outcome_of result ≡ link_outcome (attempt_of came) }
 {
     match came {
-        Ok(answer) => Ok(answer),
+        Ok(answers) => Ok(answers),
         Err(trouble) => Err(trouble.fault()),
     }
 }
@@ -148,7 +170,7 @@ fn time_left(
 impl<D: Dial, W: HostWatch> ReconnectLink<D, W> {
     /// Makes a link with no connection yet and with a reconnect timeout of `seconds`. Allocates nothing.
     pub fn new(_alloc: Global, dialer: D, watch: W, seconds: u64) -> ReconnectLink<D, W>
-        ensures { result ≡ record { dialer = dialer; line = None; reconnect_timeout = min (seconds * 1000) (2 ^ 64 - 1); trouble = None; faults = 0 } }
+        ensures { result ≡ record { dialer = dialer; line = None; reconnect_timeout = min (seconds * 1000) (2 ^ 64 - 1); trouble = None } }
     {
         let news = TroubleReporter {
             watch,
@@ -161,7 +183,6 @@ impl<D: Dial, W: HostWatch> ReconnectLink<D, W> {
             line: None,
             reconnect_timeout: seconds.saturating_mul(1_000),
             trouble: None,
-            faults: 0,
         }
     }
 
@@ -176,10 +197,11 @@ impl<D: Dial, W: HostWatch> ReconnectLink<D, W> {
     /// disk. It sends a message of no bytes, which a host refuses. Fails with the trouble for which the link has given
     /// up.
     pub fn reach(&mut self, alloc: Global) -> Result<(), Trouble>
-        ensures called { (outcome : Outcome) × ReconnectCall D.opens D.fails D.pauses D.reads D.Line.calls self.old [] outcome self.new }
+        ensures called { (outcome : BatchOutcome) × (exchanges : List Exchange)
+            × ReconnectBatch D.opens D.fails D.pauses D.reads D.Line.batches self.old ([] ∷ []) outcome exchanges self.new }
         ensures link_outcome { MatchOption self.new.trouble (IsOk result) (λ trouble. result ≡ Err trouble) }
     {
-        let _answer = self.call(alloc, &[]);
+        let _answer = self.call_all(alloc, &[], &[Vec::new(alloc)]);
         match self.trouble {
             None => Ok(()),
             Some(trouble) => Err(trouble),
@@ -188,7 +210,7 @@ impl<D: Dial, W: HostWatch> ReconnectLink<D, W> {
 
     /// Takes out the open connection, or opens a new one. Afterwards the link itself holds none.
     fn take_line(&mut self, alloc: Global, left: u64) -> Result<D::Line, Trouble>
-        ensures ok { IfOk result (λ line. HasLine D.opens D.fails D.Line.calls
+        ensures ok { IfOk result (λ line. HasLine D.opens D.fails D.Line.batches
             self.old.dialer self.old.line (limits self.old.reconnect_timeout left) line self.new.dialer) }
         ensures err { IfErr result (λ trouble. (self.old.line ≡ None)
             × D.fails self.old.dialer (limits self.old.reconnect_timeout left) trouble self.new.dialer) }
@@ -207,23 +229,30 @@ impl<D: Dial, W: HostWatch> ReconnectLink<D, W> {
         }
     }
 
-    /// Sends a message once, over the open connection or a new one. After a fault the connection is closed.
-    fn attempt(&mut self, alloc: Global, body: &[u8], left: u64) -> Result<Vec<u8>, Trouble>
-        ensures tried { IsTried D.opens D.fails D.Line.calls
-            self.old.dialer self.old.line (limits self.old.reconnect_timeout left) body.now (attempt_of result) self.new.dialer self.new.line }
+    /// Sends all messages once, over the open connection or a new one. After a fault the connection is closed.
+    fn attempt(
+        &mut self,
+        alloc: Global,
+        first: &[Vec<u8>],
+        last: &[Vec<u8>],
+        left: u64,
+    ) -> Result<Vec<Vec<u8>>, Trouble>
+        ensures tried { (exchanges : List Exchange) × IsTried D.opens D.fails D.Line.batches
+            self.old.dialer self.old.line (limits self.old.reconnect_timeout left) (texts first.now ++ texts last.now) (attempt_of result) exchanges
+            self.new.dialer self.new.line }
         ensures same { self.new ≡ record self.old { dialer = self.new.dialer; line = self.new.line } }
     {
         let mut line = self.take_line(alloc, left)?;
-        match line.call(alloc, body) {
-            Ok(answer) => {
+        match line.call_all(alloc, first, last) {
+            Ok(answers) => {
                 self.line = Some(line);
-                Ok(answer)
+                Ok(answers)
             }
             Err(fault) => Err(Trouble::OutOfReach(fault)),
         }
     }
 
-    /// Pauses after `trouble`, and returns how the message goes on waiting; `None` if no time is left.
+    /// Pauses after `trouble`, and returns how the messages go on waiting; `None` if no time is left.
     fn wait(&mut self, begin: Option<u64>, wait: Wait, trouble: Trouble) -> Option<Wait>
         requires some { 0 < wait.pause }
         requires most { wait.pause ≤ MOST_PAUSE }
@@ -273,13 +302,17 @@ impl<D: Dial, W: HostWatch> ReconnectLink<D, W> {
         self.news.report_answer();
     }
 
-    /// Tries until there is an answer to give, or no time is left. Doesn't count faults.
-    fn make_tries(&mut self, alloc: Global, body: &[u8]) -> Result<Vec<u8>, LinkFault>
+    /// Tries until there are answers to give, or no time is left.
+    fn make_tries(
+        &mut self,
+        alloc: Global,
+        first: &[Vec<u8>],
+        last: &[Vec<u8>],
+    ) -> Result<Vec<Vec<u8>>, LinkFault>
         requires { self.old.trouble ≡ None }
-        ensures answer { MakesTries D.opens D.fails D.pauses D.reads D.Line.calls
-            self.old body.now (outcome_of result) self.new.dialer self.new.line self.new.trouble }
+        ensures tried { (exchanges : List Exchange) × MakesTries D.opens D.fails D.pauses D.reads D.Line.batches
+            self.old (texts first.now ++ texts last.now) (batch_outcome_of result) exchanges self.new.dialer self.new.line self.new.trouble }
         ensures reconnect_timeout { self.new.reconnect_timeout ≡ self.old.reconnect_timeout }
-        ensures faults { self.new.faults ≡ self.old.faults }
     {
         let begin = self.now();
         let mut wait = Wait {
@@ -287,7 +320,7 @@ impl<D: Dial, W: HostWatch> ReconnectLink<D, W> {
             left: self.reconnect_timeout,
         };
         loop {
-            let came = self.attempt(alloc, body, wait.left);
+            let came = self.attempt(alloc, first, last, wait.left);
             let Some(trouble) = trouble_in(&came) else {
                 self.report_answer();
                 return link_outcome(came);
@@ -302,36 +335,25 @@ impl<D: Dial, W: HostWatch> ReconnectLink<D, W> {
             }
         }
     }
+}
 
-    /// Passes a message on, unless the link has given up. Doesn't count faults.
-    fn pass(&mut self, alloc: Global, body: &[u8]) -> Result<Vec<u8>, LinkFault>
-        ensures answer { Passes D.opens D.fails D.pauses D.reads D.Line.calls self.old body.now (outcome_of result) self.new }
-        ensures reconnect_timeout { self.new.reconnect_timeout ≡ self.old.reconnect_timeout }
-        ensures faults { self.new.faults ≡ self.old.faults }
-    {
+impl<D: Dial, W: HostWatch> BatchLink for ReconnectLink<D, W> {
+    ghost use Rattle.oram_client.specs.BatchExchanges.{reconnects_are_batches};
+
+    ghost batches = { λ l bodies o exchanges m. ReconnectBatch D.opens D.fails D.pauses D.reads D.Line.batches l bodies o exchanges m };
+
+    fn call_all(
+        &mut self,
+        alloc: Global,
+        first: &[Vec<u8>],
+        last: &[Vec<u8>],
+    ) -> Result<Vec<Vec<u8>>, LinkFault> {
         match self.trouble {
-            None => self.make_tries(alloc, body),
+            None => self.make_tries(alloc, first, last),
             Some(_) => Err(LinkFault::Closed),
         }
     }
-}
 
-impl<D: Dial, W: HostWatch> Link for ReconnectLink<D, W> {
-    ghost calls = { λ l body outcome m. ReconnectCall D.opens D.fails D.pauses D.reads D.Line.calls l body outcome m };
-
-    ghost fault_count = { λ l. l.faults };
-
-    fn call(&mut self, alloc: Global, body: &[u8]) -> Result<Vec<u8>, LinkFault> {
-        let outcome = self.pass(alloc, body);
-        if outcome.is_err() {
-            self.faults = self.faults.saturating_add(1);
-        }
-        outcome
-    }
-
-    fn faults(&self) -> u64 {
-        self.faults
-    }
-
-    ghost counts = { λ l m body outcome h. h.faults };
+    ghost are_batches = { λ l m bodies o exchanges h.
+        reconnects_are_batches D.opens D.fails D.pauses D.reads D.Line.batches D.Line.are_batches l m bodies o exchanges h };
 }

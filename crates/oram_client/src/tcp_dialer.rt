@@ -1,6 +1,7 @@
 //! Connections over TCP to the host of a disk.
 ghost use Rattle.std.specs.Prelude.{◌≡◌, OnOk, IfOk, IfErr, string_bytes};
 ghost use Rattle.oram_wire.specs.HostMessages.{answer_body};
+ghost use Rattle.oram_client.specs.Dialer as spec;
 ghost use Rattle.oram_wire.specs.declared.host_messages.HostAnswer.TheVariants.{Payload};
 ghost use Rattle.oram_client.specs.Dialer.{Shows, IsGreetedOver, IsUngreetedOver};
 
@@ -10,7 +11,8 @@ use crate::reconnect_link::elapsed;
 use crate::timed_link::{TimedLink, milliseconds};
 use oram_cli::connect_within;
 use oram_host::HostRefusal;
-use oram_session::{Link, LinkFault};
+use oram_rounds::BatchLink;
+use oram_session::LinkFault;
 use oram_wire::{GOOD, REFUSED, fetch_header};
 use std::alloc::Global;
 use std::io::{Read, Write};
@@ -81,6 +83,14 @@ fn judge(answer: &[u8], identity: &[u8; 32]) -> Result<(), Trouble>
     }
 }
 
+/// Returns the message that asks for the identity of a disk.
+fn greeting(alloc: Global) -> Result<Vec<u8>, LinkFault>
+    ensures ok { IfOk result (λ message. message.items ≡ spec.greeting) }
+    ensures err { IfErr result (λ fault. fault ≡ LinkFault.OutOfMemory) }
+{
+    Ok(fetch_header(IDENTITY_TREE, 0).to_vec(alloc)?)
+}
+
 /// Asks the host over a new connection for the identity of its disk. The host has `limit` milliseconds to answer.
 /// Returns a link over the connection if the answer is `identity`.
 fn greet<S: Read + Write, C: Clock + Copy>(
@@ -97,8 +107,8 @@ where
     ensures err { IfErr result (λ trouble. IsUngreetedOver S.remaining S.contents reader writer identity.now trouble) }
 {
     let mut line = TimedLink::new(alloc, reader, writer, clock, limit)?;
-    match line.call(alloc, &fetch_header(IDENTITY_TREE, 0)) {
-        Ok(answer) => match judge(&answer, identity) {
+    match line.call_all(alloc, &[], &[greeting(alloc)?]) {
+        Ok(answers) => match judge(&answers[0], identity) {
             Ok(()) => Ok(line),
             Err(trouble) => Err(trouble),
         },

@@ -1,7 +1,10 @@
-//! A connection on which each call has a time limit.
+//! A connection on which each batch has a time limit.
 ghost use Rattle.std.specs.Prelude.{◌≡◌, IfOk, IfErr};
+ghost use Rattle.oram_client.specs.StreamBatches.{connection};
 
-use oram_session::{Link, LinkFault, StreamLink};
+use crate::stream_batches::StreamBatches;
+use oram_rounds::BatchLink;
+use oram_session::LinkFault;
 use std::alloc::Global;
 use std::cell::Cell;
 use std::io;
@@ -16,12 +19,12 @@ pub(crate) fn milliseconds<C: Clock>(clock: &C) -> Option<u64> {
     u64::try_from(since_start.as_millis()).ok()
 }
 
-/// One half of a connection. Once the time of a call is over, reads and writes fail.
+/// One half of a connection. Once the time of a batch is over, reads and writes fail.
 #[derive(Drop)]
 pub(crate) struct Timed<S, C> {
     stream: S,
     clock: C,
-    /// When the time of the call ends, in milliseconds by the clock.
+    /// When the time of the batch ends, in milliseconds by the clock.
     ends: Rc<Cell<u64>>,
 }
 
@@ -67,27 +70,27 @@ impl<S: Write, C: Clock> Write for Timed<S, C> {
     }
 }
 
-/// A link over both halves of a connection, with a time limit for each call. A host that sends its answer byte by byte
-/// can't hold a call for longer than the limit, except for the time that it may be silent before the last byte.
+/// Batches over both halves of a connection, with a time limit for each batch. A host that sends its answers byte by
+/// byte can't hold a batch for longer than the limit, except for the time that it may be silent before the last byte.
 #[derive(Drop)]
 pub struct TimedLink<S, C> {
-    line: StreamLink<Timed<S, C>, Timed<S, C>>,
+    line: StreamBatches<Timed<S, C>, Timed<S, C>>,
     clock: C,
-    /// How long a call may take, in milliseconds.
+    /// How long a batch may take, in milliseconds.
     limit: u64,
     ends: Rc<Cell<u64>>,
 }
 
 impl<S, C> Model for TimedLink<S, C> {
-    ghost use Rattle.oram_session.specs.Streams.{ToStreams};
+    ghost use Rattle.oram_client.specs.StreamBatches.{Connection};
 
-    ghost Value = { ToStreams S S };
+    ghost Value = { Connection S S };
 
     ghost view = { λ l. l.line };
 }
 
 impl<S, C: Copy> TimedLink<S, C> {
-    /// Makes a link over the two halves of a connection. Each call may take `limit` milliseconds, and fails after that.
+    /// Makes a link over the two halves of a connection. Each batch may take `limit` milliseconds, and fails after that.
     /// Fails if memory runs out.
     pub fn new(
         alloc: Global,
@@ -98,7 +101,7 @@ impl<S, C: Copy> TimedLink<S, C> {
     ) -> Result<TimedLink<S, C>, LinkFault>
     where
         S: Drop,
-        ensures ok { IfOk result (λ l. l ≡ record { reader = reader; writer = writer; faults = 0 }) }
+        ensures ok { IfOk result (λ l. l ≡ connection reader writer) }
         ensures err { IfErr result (λ fault. fault ≡ LinkFault.OutOfMemory) }
     {
         let Ok(ends) = Rc::new(alloc, Cell::new(u64::MAX)) else {
@@ -115,14 +118,14 @@ impl<S, C: Copy> TimedLink<S, C> {
             ends: ends.clone()?,
         };
         Ok(TimedLink {
-            line: StreamLink::new(alloc, reader, writer),
+            line: StreamBatches::new(alloc, reader, writer),
             clock,
             limit,
             ends,
         })
     }
 
-    /// Sets how many milliseconds a call may take.
+    /// Sets how many milliseconds a batch may take.
     pub fn set_limit(&mut self, limit: u64)
         ensures { self.new ≡ self.old }
     {
@@ -130,25 +133,25 @@ impl<S, C: Copy> TimedLink<S, C> {
     }
 }
 
-impl<S: Read + Write, C: Clock> Link for TimedLink<S, C> {
-    ghost use Rattle.oram_session.specs.Streams.{StreamCall};
+impl<S: Read + Write, C: Clock> BatchLink for TimedLink<S, C> {
+    ghost use Rattle.oram_client.specs.StreamBatches.{StreamBatch};
+    ghost use Rattle.oram_client.specs.BatchExchanges.{streams_are_batches};
 
-    ghost calls = { λ l body outcome m. StreamCall S.remaining S.contents l body outcome m };
+    ghost batches = { λ l bodies o exchanges m. StreamBatch S.remaining S.contents l bodies o exchanges m };
 
-    ghost fault_count = { λ l. l.faults };
-
-    fn call(&mut self, alloc: Global, body: &[u8]) -> Result<Vec<u8>, LinkFault> {
+    fn call_all(
+        &mut self,
+        alloc: Global,
+        first: &[Vec<u8>],
+        last: &[Vec<u8>],
+    ) -> Result<Vec<Vec<u8>>, LinkFault> {
         let ends = match milliseconds(&self.clock) {
             Some(now) => now.saturating_add(self.limit),
             None => u64::MAX,
         };
         self.ends.set(ends);
-        self.line.call(alloc, body)
+        self.line.call_all(alloc, first, last)
     }
 
-    fn faults(&self) -> u64 {
-        self.line.faults()
-    }
-
-    ghost counts = { λ l m body outcome h. h.faults };
+    ghost are_batches = { λ l m bodies o exchanges h. streams_are_batches S.remaining S.contents l m bodies o exchanges h };
 }

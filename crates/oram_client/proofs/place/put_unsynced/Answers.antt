@@ -8,5 +8,5 @@ pub returns-clause-err : goal.returns-clause-err
 returns-clause-err g c =
     let does = g.P.Place.does in
     IfErr-weaker c.clear.result (λ why. does c.rename_into_place.new.self Clears false c.clear.new.self × IsStepOf Clears why.step)
-    (λ why. IsBrokenOff does c.args.place.now (deeds_of false (kept_file c.args.head.now c.args.state.now)) why.step c.clear.new.self)
+    (λ why. IsBrokenOff does c.args.place.now (deeds_of false (kept_file c.args.head.now c.args.process.now)) why.step c.clear.new.self)
     (λ why failed. inr (c.write.new.self, c.in_ok-write.ensures.ok, inr (c.set_aside.new.self, c.in_ok-set_aside.ensures.ok, inr (c.rename_into_place.new.self, c.in_ok-rename_into_place.ensures.ok, inl failed)))) c.clear.ensures.err

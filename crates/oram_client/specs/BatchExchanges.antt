@@ -1,0 +1,120 @@
+-- The exchanges of a batch over a connection, and over a link that tries until its host answers, are those of a batch.
+use Rattle.std.proofs.Common.{◌≡◌, ℕ, Bool, true, false, List, [], ◌∷◌, ◌++◌, Option, None, Some, Ok, Err, MatchOption, MatchResult, inl, inr, refl, sym, ap, ◌∙◌, subst, append_assoc}
+use Rattle.std.specs.List.{FoldsTo, flat_map}
+use Rattle.std.specs.Prelude.{MatchBool}
+use Rattle.oram_session.specs.declared.link.LinkFault.{LinkFault}
+use Rattle.oram_link_laws.specs.Repair.{AreAmong, IsAmong}
+use Rattle.oram_link_laws.specs.Runs.{Exchange, bodies_of}
+use Rattle.oram_rounds.specs.Batches.{BatchOutcome, IsBatch, answered}
+use Rattle.oram_rounds.specs.Law.{AreBatches}
+use Rattle.oram_session.specs.declared.link.LinkFault.TheVariants.{Closed}
+use Rattle.oram_client.specs.Dialer.{fault_of}
+use Rattle.oram_client.specs.declared.dialer.Limits.{Limits}
+use Rattle.oram_client.specs.declared.dialer.Trouble.{Trouble}
+use Rattle.oram_client.specs.declared.dialer.Trouble.TheVariants.{OutOfReach}
+use Rattle.oram_client.specs.Reconnect.{Attempt, IsDelayed, IsGivenUp, IsTried, MakesTries, ReconnectBatch, ReconnectState, VainTry, Waiting, link_outcome}
+use Rattle.oram_client.specs.StreamBatches.{Carries, Connection, IsClosed, StreamBatch, cut_short}
+
+-- the messages of two lists of exchanges
+pub among_both : (bodies : List (List ℕ)) (first second : List Exchange) → AreAmong (bodies_of first) bodies → AreAmong (bodies_of second) bodies
+    → AreAmong (bodies_of (first ++ second)) bodies
+among_both bodies [] second one two = two
+among_both bodies (e ∷ first) second one two = (one.0, among_both bodies first second one.1 two)
+
+answered_among : (all bodies answers : List (List ℕ)) → ((x : List ℕ) → IsAmong x bodies → IsAmong x all) → AreAmong (bodies_of (answered bodies answers)) all
+answered_among all [] answers inside = tt
+answered_among all (b ∷ bodies) [] inside = tt
+answered_among all (b ∷ bodies) (a ∷ answers) inside = (inside b (inl refl), answered_among all bodies answers (λ x k. inside x (inr k)))
+
+cut_among : (all bodies answers : List (List ℕ)) (fault : LinkFault) → ((x : List ℕ) → IsAmong x bodies → IsAmong x all)
+    → AreAmong (bodies_of (cut_short bodies answers fault)) all
+cut_among all [] answers fault inside = tt
+cut_among all (b ∷ bodies) [] fault inside = (inside b (inl refl), cut_among all bodies [] fault (λ x k. inside x (inr k)))
+cut_among all (b ∷ bodies) (a ∷ answers) fault inside = (inside b (inl refl), cut_among all bodies answers fault (λ x k. inside x (inr k)))
+
+-- the messages of a batch's exchanges
+pub batch_among : (bodies : List (List ℕ)) (o : BatchOutcome) (exchanges : List Exchange) → IsBatch bodies o exchanges → AreAmong (bodies_of exchanges) bodies
+batch_among bodies (Ok answers) exchanges h =
+    subst (λ (es : List Exchange). AreAmong (bodies_of es) bodies) (sym h.3)
+    (among_both bodies h.1 (answered bodies answers) h.2 (answered_among bodies bodies answers (λ x k. k)))
+batch_among bodies (Err fault) exchanges h = h
+
+-- a fault, and exchanges with these messages
+faulty : (bodies : List (List ℕ)) (o : BatchOutcome) (fault : LinkFault) (exchanges heard : List Exchange) → o ≡ Err fault → exchanges ≡ heard
+    → AreAmong (bodies_of heard) bodies → IsBatch bodies o exchanges
+faulty bodies o fault exchanges heard says all among =
+    subst (λ (k : BatchOutcome). IsBatch bodies k exchanges) (sym says) (subst (λ (es : List Exchange). AreAmong (bodies_of es) bodies) (sym all) among)
+
+module _ {R W : Type 0} (remaining : R → Option (List ℕ)) (contents : W → Option (List ℕ)) where
+  carried : (closed : Bool) (l m : Connection R W) (bodies : List (List ℕ)) (o : BatchOutcome) (exchanges : List Exchange)
+      → MatchBool closed (IsClosed l o exchanges m) (Carries remaining contents l.reader l.writer bodies o exchanges m.reader m.writer) → IsBatch bodies o exchanges
+  carried true l m bodies o exchanges h = faulty bodies o Closed exchanges [] h.says h.none tt
+  carried false l m bodies (Ok answers) exchanges h = (h.0.count, [], tt, h.1)
+  carried false l m bodies (Err fault) exchanges h =
+      faulty bodies (Err fault) fault exchanges (cut_short bodies h.0 fault) refl h.1 (cut_among bodies bodies h.0 fault (λ x k. k))
+
+  -- A batch over a connection has the exchanges of a batch.
+  pub streams_are_batches : (l m : Connection R W) (bodies : List (List ℕ)) (o : BatchOutcome) (exchanges : List Exchange)
+      → StreamBatch remaining contents l bodies o exchanges m → IsBatch bodies o exchanges
+  streams_are_batches l m bodies o exchanges h = carried l.closed l m bodies o exchanges h.carried
+
+module _ {D L : Type 0} (opens : D → Limits → L → D → Type 0) (fails : D → Limits → Trouble → D → Type 0) (pauses : D → ℕ → D → Type 0)
+    (reads : D → Option ℕ → D → Type 0) (batches : L → List (List ℕ) → BatchOutcome → List Exchange → L → Type 0) (law : AreBatches batches) where
+  tried_among : (dialer dialer' : D) (line line' : Option L) (limits : Limits) (bodies : List (List ℕ)) (came : Attempt) (exchanges : List Exchange)
+      → IsTried opens fails batches dialer line limits bodies came exchanges dialer' line' → AreAmong (bodies_of exchanges) bodies
+  tried_among dialer dialer' line line' limits bodies came exchanges (inl unopened) =
+      subst (λ (es : List Exchange). AreAmong (bodies_of es) bodies) (sym unopened.unsent) tt
+  tried_among dialer dialer' line line' limits bodies came exchanges (inr called) =
+      batch_among bodies called.outcome exchanges (law called.way called.way' bodies called.outcome exchanges called.called)
+
+  -- the messages of all tries in vain
+  pub vain_among : (reconnect_timeout : ℕ) (begin : Option ℕ) (bodies : List (List ℕ)) (w x : Waiting D L) (vain : List VainTry)
+      → FoldsTo (IsDelayed opens fails pauses reads batches reconnect_timeout begin bodies) w vain x → AreAmong (bodies_of (flat_map (λ v. v.exchanges) vain)) bodies
+  vain_among reconnect_timeout begin bodies w x [] folds = tt
+  vain_among reconnect_timeout begin bodies w x (v ∷ vain) folds =
+      let one = folds.1 in
+      among_both bodies v.exchanges (flat_map (λ (u : VainTry). u.exchanges) vain)
+      (tried_among w.dialer one.mid w.line folds.0.line _ bodies one.came v.exchanges one.tried)
+      (vain_among reconnect_timeout begin bodies folds.0 x vain folds.2)
+
+  -- the last try, after tries in vain with these exchanges
+  last_try : (bodies : List (List ℕ)) (o outcome : BatchOutcome) (came : Attempt) (before heard exchanges : List Exchange) (line' : Option L) (way' : L)
+      → AreAmong (bodies_of before) bodies → IsBatch bodies outcome heard
+      → MatchResult outcome (λ answers. (came ≡ Ok answers) × (line' ≡ Some way')) (λ fault. (came ≡ Err (OutOfReach fault)) × (line' ≡ None))
+      → o ≡ link_outcome came → exchanges ≡ before ++ heard → IsBatch bodies o exchanges
+  last_try bodies o (Ok answers) came before heard exchanges line' way' among batch after says all =
+      let answers_are : o ≡ Ok answers = says ∙ ap link_outcome after.0 in
+      subst (λ (k : BatchOutcome). IsBatch bodies k exchanges) (sym answers_are) (
+        batch.0,
+        before ++ batch.1,
+        among_both bodies before batch.1 among batch.2,
+        all ∙ ap (λ (es : List Exchange). before ++ es) batch.3 ∙ sym (append_assoc before batch.1 (answered bodies answers)),
+      )
+  last_try bodies o (Err fault) came before heard exchanges line' way' among batch after says all =
+      let fault_is : o ≡ Err fault = says ∙ ap link_outcome after.0 in
+      faulty bodies o fault exchanges (before ++ heard) fault_is all (among_both bodies before heard among batch)
+
+  made : (l : ReconnectState D L) (bodies : List (List ℕ)) (o : BatchOutcome) (exchanges : List Exchange) (dialer : D) (line : Option L) (trouble : Option Trouble)
+      → MakesTries opens fails pauses reads batches l bodies o exchanges dialer line trouble → IsBatch bodies o exchanges
+  made l bodies o exchanges dialer line trouble h =
+      let before = flat_map (λ (v : VainTry). v.exchanges) h.vain in
+      let among : AreAmong (bodies_of before) bodies = vain_among l.reconnect_timeout h.begin bodies _ h.last h.vain h.delays in
+      elim h.tried [
+        | inl unopened ↦
+            faulty bodies o (fault_of unopened.why) exchanges (before ++ h.heard) (h.says ∙ ap link_outcome unopened.says) h.all
+            (among_both bodies before h.heard among (subst (λ (es : List Exchange). AreAmong (bodies_of es) bodies) (sym unopened.unsent) tt))
+        | inr called ↦
+            last_try bodies o called.outcome h.came before h.heard exchanges line called.way' among
+            (law called.way called.way' bodies called.outcome h.heard called.called) called.after h.says h.all
+      ]
+
+  passed : (gave_up : Option Trouble) (l m : ReconnectState D L) (bodies : List (List ℕ)) (o : BatchOutcome) (exchanges : List Exchange)
+      → MatchOption gave_up (MakesTries opens fails pauses reads batches l bodies o exchanges m.dialer m.line m.trouble) (λ why. IsGivenUp opens fails pauses reads batches l o exchanges m.dialer m.line m.trouble)
+      → IsBatch bodies o exchanges
+  passed None l m bodies o exchanges h = made l bodies o exchanges m.dialer m.line m.trouble h
+  passed (Some why) l m bodies o exchanges h = faulty bodies o Closed exchanges [] h.says h.unsent tt
+
+  -- A batch over a link that tries again has the exchanges of a batch: those of its earlier tries may have come to anything.
+  pub reconnects_are_batches : (l m : ReconnectState D L) (bodies : List (List ℕ)) (o : BatchOutcome) (exchanges : List Exchange)
+      → ReconnectBatch opens fails pauses reads batches l bodies o exchanges m → IsBatch bodies o exchanges
+  reconnects_are_batches l m bodies o exchanges h = passed l.trouble l m bodies o exchanges h.passed

@@ -1,0 +1,94 @@
+//! A list of deeds that only contracts read.
+ghost use Rattle.std.specs.Prelude.{◌≡◌, ◌∷◌, List, []};
+ghost use Rattle.std.specs.Borrow.{ftrue};
+ghost use Rattle.oram_client.specs.DeedHistory.{IsNoted, NotedDeed, noted_of};
+ghost use Rattle.oram_client.specs.KeptFile.{kept_file};
+ghost use Rattle.oram_client.specs.Replacement.{Clears, Renames, SetsAside, SyncsFolder, Writes};
+
+use crate::kept_file::Head;
+use std::fmt;
+use std::marker::{Model, PhantomData};
+
+const WRITE: u64 = 1;
+
+const SET_ASIDE: u64 = 2;
+
+const RENAME: u64 = 3;
+
+const SYNC_FOLDER: u64 = 4;
+
+const CLEAR: u64 = 5;
+
+/// The deeds that were done in a place, and those that failed there, the newest first. It takes no bytes at run time.
+///
+/// A [`Place`](crate::Place) whose files no contract knows notes its deeds here, so that they define what its folder may
+/// be.
+#[derive(Drop)]
+pub struct DeedHistory {
+    marker: PhantomData<u8>,
+    pub ghost deeds: { List NotedDeed },
+}
+
+impl Model for DeedHistory {
+    ghost also_owns = { λ _. ftrue };
+}
+
+// No code can read the deeds.
+impl fmt::Debug for DeedHistory {
+    fn fmt<W: fmt::Write>(&self, f: &mut fmt::Formatter<W>) -> fmt::Result {
+        f.write_str("DeedHistory")
+    }
+}
+
+impl DeedHistory {
+    /// Makes the history of a place in which nothing was done yet.
+    pub fn new() -> DeedHistory
+        ensures { result.deeds ≡ [] }
+    {
+        DeedHistory {
+            marker: PhantomData,
+        }
+    }
+
+    /// Notes that the new file was written with this head and process, or that it failed.
+    pub fn note_write(&mut self, head: &Head, process: &[u8], sync: bool, is_done: bool)
+        ensures { IsNoted self.old.deeds (Writes sync (kept_file head.now process.now)) is_done self.new.deeds }
+    {
+        let sealer = u64::from(head.sealer.byte());
+        let numbers = [WRITE, u64::from(is_done), u64::from(sync), sealer];
+        self.note(&numbers, &head.salt.0, &head.key_check.0, process);
+    }
+
+    /// Notes that the file was set aside, or that it failed.
+    pub fn note_set_aside(&mut self, is_done: bool)
+        ensures { IsNoted self.old.deeds SetsAside is_done self.new.deeds }
+    {
+        self.note(&[SET_ASIDE, u64::from(is_done)], &[], &[], &[]);
+    }
+
+    /// Notes that the new file took the file's place, or that it failed.
+    pub fn note_rename(&mut self, is_done: bool)
+        ensures { IsNoted self.old.deeds Renames is_done self.new.deeds }
+    {
+        self.note(&[RENAME, u64::from(is_done)], &[], &[], &[]);
+    }
+
+    /// Notes that the folder was synced, or that it failed.
+    pub fn note_sync_folder(&mut self, is_done: bool)
+        ensures { IsNoted self.old.deeds SyncsFolder is_done self.new.deeds }
+    {
+        self.note(&[SYNC_FOLDER, u64::from(is_done)], &[], &[], &[]);
+    }
+
+    /// Notes that the file that was set aside was removed, or that it failed.
+    pub fn note_clear(&mut self, is_done: bool)
+        ensures { IsNoted self.old.deeds Clears is_done self.new.deeds }
+    {
+        self.note(&[CLEAR, u64::from(is_done)], &[], &[], &[]);
+    }
+
+    /// Notes a deed: `noted_of` says what the numbers and the bytes stand for.
+    fn note(&mut self, _numbers: &[u64], _salt: &[u8], _key_check: &[u8], _process: &[u8])
+        ensures { self.new.deeds ≡ noted_of _numbers.now _salt.now _key_check.now _process.now ∷ self.old.deeds }
+    {}
+}

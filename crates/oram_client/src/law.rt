@@ -1,0 +1,30 @@
+//! Laws about batches over connections that lead to one host.
+ghost use Rattle.oram_client.specs.OneHost.{AnswersAreTheHosts, ExchangesAreOfTheTries, StreamBatchesAreRun, TwoTriesExample};
+
+use crate::dialer::Dial;
+use std::io::{Read, Write};
+
+/// A law about definitions: the exchanges of a batch over a [`ReconnectLink`](crate::ReconnectLink) are those of its tries,
+/// each a batch over one connection. So if all connections lead to one host, which stands beside the tries one after the
+/// other, that host stands beside the whole batch, and the laws about links and their hosts hold of it.
+pub fn exchanges_are_of_the_tries<D: Dial>()
+    ensures { ExchangesAreOfTheTries D.opens D.fails D.pauses D.reads D.Line.batches }
+{}
+
+/// A law about definitions: the answers that such a link gives are those of the host beside it, to all messages of the
+/// batch in their order. In the tries before, the host may have received any of these messages, and no others. No answer
+/// is that the host has no room, unless the link has given up.
+pub fn answers_are_the_hosts<D: Dial>()
+    ensures { AnswersAreTheHosts D.opens D.fails D.pauses D.reads D.Line.batches }
+{}
+
+/// A law about definitions: a batch goes over a [`StreamBatches`](crate::StreamBatches) whose reader is known to give a
+/// server's answers to the messages. Then that server is honest in the exchanges of the batch, also if it has a fault.
+pub fn stream_batches_are_run<R: Read, W: Write>()
+    ensures { StreamBatchesAreRun R.remaining W.contents }
+{}
+
+/// A batch of two messages whose first connection breaks after one answer: both messages go over the second one.
+pub fn two_tries_example()
+    ensures { TwoTriesExample }
+{}

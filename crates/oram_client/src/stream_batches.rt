@@ -1,0 +1,211 @@
+//! Batches of messages over a reader and a writer.
+ghost use Rattle.std.specs.Prelude.{◌≡◌, ◌++◌, ◌∷◌, [], ℕ, List, length, IfOk, IfErr, OnOk};
+ghost use Rattle.std.specs.List.{All, flat_map};
+ghost use Rattle.oram_wire.specs.FrameStream.{IsBody, frame};
+ghost use Rattle.oram_session.specs.Outcome.{outcome_of};
+ghost use Rattle.oram_session.specs.Streams.{Receives};
+ghost use Rattle.oram_link_laws.specs.Runs.{Exchange};
+ghost use Rattle.oram_rounds.specs.Batches.{batch_outcome_of, texts};
+ghost use Rattle.oram_client.specs.StreamBatches.{AreSent, AreUnframed, Carries, FailsToSendAll, GivesFrames, StopsAfter, connection};
+
+use oram_rounds::BatchLink;
+use oram_session::LinkFault;
+use oram_wire::{FrameFault, LONGEST_BODY, WriteFault, next_frame, write};
+use std::alloc::Global;
+use std::io::{Read, Write};
+use std::marker::Model;
+
+/// A connection to a host at the other end of a reader and a writer. A batch is written at once, each message as a
+/// frame, and flushed; then its answers are read, a frame each. Any fault closes the connection: from then on each
+/// batch fails with `Closed`, and nothing is read or written.
+///
+/// All messages are written before the first answer is read. This doesn't block both sides: of a client's messages only
+/// the STOREs are long, and a host answers each of them with a frame of five or six bytes, which its socket holds for
+/// it while it reads on. A FETCH, whose answer is long, is a short message. So no STORE should stand behind a FETCH in
+/// a batch.
+#[derive(Debug, Drop)]
+pub struct StreamBatches<R, W> {
+    reader: R,
+    writer: W,
+    closed: bool,
+}
+
+impl<R, W> Model for StreamBatches<R, W> {
+    ghost use Rattle.oram_client.specs.StreamBatches.{Connection};
+
+    ghost Value = { Connection R W };
+
+    ghost view = { λ l. record { reader = l.reader; writer = l.writer; closed = l.closed } };
+}
+
+impl<R, W> StreamBatches<R, W> {
+    /// Makes a connection that sends messages to `writer` and receives answers from `reader`. Allocates nothing.
+    pub fn new(_alloc: Global, reader: R, writer: W) -> StreamBatches<R, W>
+        ensures { result ≡ connection reader writer }
+    {
+        StreamBatches {
+            reader,
+            writer,
+            closed: false,
+        }
+    }
+
+    /// Returns whether a fault has closed the connection.
+    fn is_closed(&self) -> bool
+        ensures { result ≡ self.now.closed }
+    {
+        self.closed
+    }
+}
+
+/// The length in bytes of the number before a frame's body.
+const HEAD_LEN: usize = 4;
+
+/// Returns how many bytes the frames of bodies take, or the greatest number.
+fn frames_len(bodies: &[Vec<u8>]) -> usize {
+    let mut len: usize = 0;
+    for body in bodies {
+        len = len.saturating_add(HEAD_LEN).saturating_add(body.len());
+    }
+    len
+}
+
+/// Adds a body as a frame. Fails with `TooLong` or `OutOfMemory`.
+fn add_frame(frames: &mut Vec<u8>, body: &[u8]) -> Result<(), LinkFault>
+    ensures fits { OnOk result (IsBody body.now) }
+    ensures ok { OnOk result (frames.new.items ≡ frames.old.items ++ frame body.now) }
+    ensures err { IfErr result (λ fault. AreUnframed (body.now ∷ []) fault) }
+{
+    if body.len() > LONGEST_BODY {
+        return Err(LinkFault::TooLong);
+    }
+    frames.extend_from_slice(&(body.len() as u32).to_be_bytes())?;
+    frames.extend_from_slice(body)?;
+    Ok(())
+}
+
+/// Adds each of the bodies as a frame. Fails with `TooLong` or `OutOfMemory`.
+fn add_frames(frames: &mut Vec<u8>, bodies: &[Vec<u8>]) -> Result<(), LinkFault>
+    ensures fit { OnOk result (All IsBody (texts bodies.now)) }
+    ensures ok { OnOk result (frames.new.items ≡ frames.old.items ++ flat_map frame (texts bodies.now)) }
+    ensures err { IfErr result (λ fault. AreUnframed (texts bodies.now) fault) }
+{
+    for body in bodies {
+        add_frame(frames, body)?;
+    }
+    Ok(())
+}
+
+/// Returns the frames of the bodies of `first` and then those of `last`, in one piece.
+fn framed(alloc: Global, first: &[Vec<u8>], last: &[Vec<u8>]) -> Result<Vec<u8>, LinkFault>
+    ensures fit { OnOk result (All IsBody (texts first.now ++ texts last.now)) }
+    ensures ok { IfOk result (λ frames. frames.items ≡ flat_map frame (texts first.now ++ texts last.now)) }
+    ensures err { IfErr result (λ fault. AreUnframed (texts first.now ++ texts last.now) fault) }
+{
+    let len = frames_len(first).saturating_add(frames_len(last));
+    let mut frames = Vec::with_capacity(alloc, len)?;
+    add_frames(&mut frames, first)?;
+    add_frames(&mut frames, last)?;
+    Ok(frames)
+}
+
+/// Sends the bodies as frames, in one write, and flushes them. So they leave in as few packets as they fit into, and
+/// each is copied once.
+fn send_all<W: Write>(
+    alloc: Global,
+    writer: &mut W,
+    first: &[Vec<u8>],
+    last: &[Vec<u8>],
+) -> Result<(), LinkFault>
+    ensures ok { OnOk result (AreSent W.contents writer.old (texts first.now ++ texts last.now) writer.new) }
+    ensures err { IfErr result (λ fault. FailsToSendAll W.contents writer.old (texts first.now ++ texts last.now) fault writer.new) }
+{
+    let frames = framed(alloc, first, last)?;
+    if let Err(WriteFault) = write(writer, &frames) {
+        return Err(LinkFault::Io);
+    }
+    if writer.flush().is_err() {
+        return Err(LinkFault::Io);
+    }
+    Ok(())
+}
+
+/// Receives the next frame and returns its body.
+fn receive<R: Read>(alloc: Global, reader: &mut R) -> Result<Vec<u8>, LinkFault>
+    ensures { Receives (R.remaining reader.old) (R.remaining reader.new) (outcome_of result) }
+{
+    match next_frame(alloc, reader) {
+        Ok(Some(body)) => Ok(body),
+        Ok(None) | Err(FrameFault::Truncated) => Err(LinkFault::Closed),
+        Err(FrameFault::Read) => Err(LinkFault::Io),
+        Err(FrameFault::Frame) => Err(LinkFault::TooLong),
+        Err(FrameFault::OutOfMemory) => Err(LinkFault::OutOfMemory),
+    }
+}
+
+/// Adds an answer to a list.
+fn push(answers: &mut Vec<Vec<u8>>, answer: Vec<u8>) -> Result<(), LinkFault>
+    ensures ok { OnOk result (texts answers.new.items ≡ texts answers.old.items ++ answer.items ∷ []) }
+    ensures err { IfErr result (λ fault. fault ≡ LinkFault.OutOfMemory) }
+{
+    match answers.push(answer) {
+        Ok(()) => Ok(()),
+        Err(_) => Err(LinkFault::OutOfMemory),
+    }
+}
+
+/// Receives `count` frames and returns their bodies.
+fn receive_all<R: Read>(
+    alloc: Global,
+    reader: &mut R,
+    count: usize,
+) -> Result<Vec<Vec<u8>>, LinkFault>
+    ensures count { IfOk result (λ answers. length (texts answers.items) ≡ count) }
+    ensures ok { IfOk result (λ answers. GivesFrames (R.remaining reader.old) (R.remaining reader.new) (texts answers.items)) }
+    ensures err { IfErr result (λ fault. (answers : List (List ℕ)) × StopsAfter (R.remaining reader.old) (R.remaining reader.new) count answers fault) }
+{
+    let mut answers = Vec::new(alloc);
+    for _ in 0..count {
+        let answer = receive(alloc, reader)?;
+        push(&mut answers, answer)?;
+    }
+    Ok(answers)
+}
+
+/// Sends the bodies of `first` and then those of `last`, and receives their answers.
+fn carry<R: Read, W: Write>(
+    alloc: Global,
+    reader: &mut R,
+    writer: &mut W,
+    first: &[Vec<u8>],
+    last: &[Vec<u8>],
+) -> Result<Vec<Vec<u8>>, LinkFault>
+    ensures { (exchanges : List Exchange) × Carries R.remaining W.contents
+        reader.old writer.old (texts first.now ++ texts last.now) (batch_outcome_of result) exchanges reader.new writer.new }
+{
+    send_all(alloc, writer, first, last)?;
+    receive_all(alloc, reader, first.len() + last.len())
+}
+
+impl<R: Read, W: Write> BatchLink for StreamBatches<R, W> {
+    ghost use Rattle.oram_client.specs.StreamBatches.{StreamBatch};
+    ghost use Rattle.oram_client.specs.BatchExchanges.{streams_are_batches};
+
+    ghost batches = { λ l bodies o exchanges m. StreamBatch R.remaining W.contents l bodies o exchanges m };
+
+    fn call_all(
+        &mut self,
+        alloc: Global,
+        first: &[Vec<u8>],
+        last: &[Vec<u8>],
+    ) -> Result<Vec<Vec<u8>>, LinkFault> {
+        if self.is_closed() {
+            return Err(LinkFault::Closed);
+        }
+        let outcome = carry(alloc, &mut self.reader, &mut self.writer, first, last);
+        self.closed = outcome.is_err();
+        outcome
+    }
+
+    ghost are_batches = { λ l m bodies o exchanges h. streams_are_batches R.remaining W.contents l m bodies o exchanges h };
+}
