@@ -1,21 +1,21 @@
-//! What it costs a disk to keep its state: requests of 4 KiB with nothing kept, with each state kept in a file, and
-//! with that file synced.
+//! What it costs a disk to keep its state: requests of 4 KiB with each state kept in memory, kept in a file, and with
+//! that file synced.
 //!
 //! It formats a disk of 16 MiB in memory, with two trees of blocks of 4,096 bytes, sealed. In one run it makes the same
-//! reads and writes with the core alone, as NBD requests with nothing kept, and as NBD requests with each state kept in
-//! a file of a folder, without sync and with it. The host is a server in memory, and there is no socket in between, so
-//! it measures the client's own work.
+//! reads and writes as rounds of one command and as NBD requests, with each state kept in memory, and as NBD requests
+//! with each state kept in a file of a folder, without sync and with it. The host is a server in memory, and there is no
+//! socket in between, so it measures the client's own work.
 
 mod requests;
 
 use oram_bucket::ChaChaSeal;
 use oram_client::{DiskKey, FileKeeper, FilePlace, Head, Salt, SealerKind};
-use oram_core::Core;
+use oram_core::{Command, Core, Note};
 use oram_geometry::Device;
 use oram_host::Server;
-use oram_keep::{Keeper, Unkept, ask};
 use oram_nbd::transmit;
-use oram_session::{ChaChaTape, Direct, is_settled};
+use oram_rounds::{KeepError, Keeper, OneByOne, RoundLink, perform, record_len};
+use oram_session::{ChaChaTape, Direct, is_settled, submit};
 use oram_volume::Volume;
 use requests::{Access, BLOCK_BYTES, BLOCKS, REQUESTS, said, some_accesses};
 use std::alloc::Global;
@@ -23,21 +23,40 @@ use std::rt::{Clock, Files};
 use std::time::{Duration, Instant};
 use std::{fs, io};
 
-/// A keeper that keeps nothing.
-#[derive(Clone, Copy, Drop)]
-struct NullKeeper;
+/// A keeper that keeps the newest file in memory.
+#[derive(Drop)]
+struct MemoryKeeper {
+    alloc: Global,
+    newest: Vec<u8>,
+}
 
-impl Keeper for NullKeeper {
-    ghost use Rattle.std.specs.Prelude.{⊤};
-
-    ghost keeps = { λ _ _ _ _. ⊤ };
-
-    fn keep(&mut self, _file: &[u8]) -> Result<(), Unkept> {
-        Ok(())
+impl MemoryKeeper {
+    /// Makes a keeper that has no file yet.
+    fn new(alloc: Global) -> MemoryKeeper {
+        MemoryKeeper {
+            alloc,
+            newest: Vec::new(alloc),
+        }
     }
 }
 
-type KeptVolume<K> = Volume<ChaChaSeal, Direct, K, ChaChaTape>;
+impl Keeper for MemoryKeeper {
+    ghost use Rattle.std.specs.Prelude.{◌≡◌};
+
+    ghost reads_back = { λ k bytes. bytes ≡ k.newest.items };
+
+    fn keep(&mut self, file: &[u8]) -> Result<(), KeepError> {
+        match file.to_vec(self.alloc) {
+            Ok(newest) => {
+                self.newest = newest;
+                Ok(())
+            }
+            Err(_) => Err(KeepError),
+        }
+    }
+}
+
+type KeptVolume<K> = Volume<ChaChaSeal, OneByOne<Direct>, K, ChaChaTape>;
 
 fn failed() -> io::Error {
     io::ErrorKind::Other.into()
@@ -55,9 +74,14 @@ fn formatted<K: Keeper + Drop>(alloc: Global, keeper: K) -> io::Result<KeptVolum
     let Ok(core) = Core::format(alloc, device, sealer, &mut server) else {
         return Err(failed());
     };
+    let device = core.device().copy();
+    let record_len = record_len(&core);
+    let link = OneByOne {
+        link: Direct::new(alloc, server),
+    };
     Ok(Volume {
         core,
-        link: Direct::new(alloc, server),
+        link: RoundLink::new(alloc, link, device, record_len),
         keeper,
         tape: ChaChaTape {
             key: [3; 32],
@@ -66,27 +90,42 @@ fn formatted<K: Keeper + Drop>(alloc: Global, keeper: K) -> io::Result<KeptVolum
     })
 }
 
-/// Returns how long the accesses take as commands of the core, with nothing kept.
-fn by_the_core(rt: &(impl Alloc<A = Global> + Clock), accesses: &[Access]) -> io::Result<Duration> {
+/// Carries out a command in a round of its own.
+fn carry_out<K: Keeper + Drop>(
+    alloc: Global,
+    disk: &mut KeptVolume<K>,
+    command: Command,
+) -> io::Result<()> {
+    if !is_settled(&disk.core) {
+        return Err(failed());
+    }
+    let reaction = submit(alloc, &mut disk.core, &mut disk.tape, 0, command)?;
+    match reaction.note {
+        Note::Accepted(_) => {
+            let replies = perform(
+                alloc,
+                &mut disk.core,
+                &mut disk.link,
+                &mut disk.keeper,
+                reaction,
+            );
+            if replies.is_ok() {
+                Ok(())
+            } else {
+                Err(failed())
+            }
+        }
+        _ => Err(failed()),
+    }
+}
+
+/// Returns how long the accesses take as rounds of one command.
+fn by_rounds(rt: &(impl Alloc<A = Global> + Clock), accesses: &[Access]) -> io::Result<Duration> {
     let alloc = rt.alloc();
-    let mut disk = formatted(alloc, NullKeeper)?;
+    let mut disk = formatted(alloc, MemoryKeeper::new(alloc))?;
     let start = Instant::now(rt)?;
     for access in accesses {
-        if !is_settled(&disk.core) {
-            return Err(failed());
-        }
-        let command = access.command(alloc)?;
-        let asked = ask(
-            alloc,
-            &mut disk.core,
-            &mut disk.link,
-            &mut disk.keeper,
-            &mut disk.tape,
-            command,
-        );
-        if asked.is_err() {
-            return Err(failed());
-        }
+        carry_out(alloc, &mut disk, access.command(alloc)?)?;
     }
     start.elapsed(rt)
 }
@@ -111,12 +150,12 @@ fn by_requests<K: Keeper + Drop>(
     }
 }
 
-/// Prints the time of a request, and how many times that of the core it is.
-fn report(rt: &impl Print, name: &str, time: Duration, core: Duration) -> io::Result<()> {
+/// Prints the time of a request, and how many times that of a round it is.
+fn report(rt: &impl Print, name: &str, time: Duration, round: Duration) -> io::Result<()> {
     let each = time.as_micros() / u128::from(REQUESTS);
-    let ratio = time.as_micros().saturating_mul(100) / core.as_micros().max(1);
+    let ratio = time.as_micros().saturating_mul(100) / round.as_micros().max(1);
     println!(rt;
-        "  {name}: {each} us a request, {}.{:02} times the core alone",
+        "  {name}: {each} us a request, {}.{:02} times a round",
         ratio / 100,
         ratio % 100
     )
@@ -134,13 +173,13 @@ pub(crate) fn measure<R: Files + Clock + Print + Alloc<A = Global>>(
     println!(rt;
         "{REQUESTS} requests of {BLOCK_BYTES} bytes, reads and writes, of a disk of {BLOCKS} blocks"
     )?;
-    let core = by_the_core(rt, &accesses)?;
-    report(rt, "the core alone", core, core)?;
+    let round = by_rounds(rt, &accesses)?;
+    report(rt, "rounds of one command, kept in memory", round, round)?;
     report(
         rt,
-        "requests, nothing kept",
-        by_requests(rt, NullKeeper, &said)?,
-        core,
+        "requests, kept in memory",
+        by_requests(rt, MemoryKeeper::new(alloc), &said)?,
+        round,
     )?;
     for (line, sync) in [
         ("requests, kept without sync", false),
@@ -149,7 +188,7 @@ pub(crate) fn measure<R: Files + Clock + Print + Alloc<A = Global>>(
         let place = FilePlace::new(rt, alloc, name.as_str())?;
         let head = Head::new(&DiskKey([4; 32]), Salt([4; 32]), SealerKind::ChaCha20);
         let keeper = FileKeeper::new(place, head, sync);
-        report(rt, line, by_requests(rt, keeper, &said)?, core)?;
+        report(rt, line, by_requests(rt, keeper, &said)?, round)?;
     }
     fs::remove_file(rt, name.as_str())
 }

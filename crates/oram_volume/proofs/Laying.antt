@@ -9,7 +9,7 @@ use Rattle.oram_semantics.specs.declared.events.Command.TheVariants.{Read, Write
 use Rattle.oram_nbd.specs.Bytes.{bytes_at, written, zeroes}
 use Rattle.oram_volume.specs.Blocks.{IsLaidOut, blocks_from}
 
--- the array's blocks before so many are as long as blocks are
+-- the array's first blocks, as many as `most`, are as long as blocks are
 abbrev IsLong : ℕ → (ℕ → List ℕ) → ℕ → Type 0
 IsLong b array most = (a : ℕ) → a < most → length (array a) ≡ b
 

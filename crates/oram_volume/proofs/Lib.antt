@@ -1,3 +1,4 @@
 pub mod Laying
-pub mod Holding
+pub mod HeldArrays
 pub mod Spelling
+pub mod Submitted

@@ -2,7 +2,7 @@
 use Rattle.std.specs.Prelude.{◌≡◌, ℕ, zero, suc, ◌<◌, List, [], ◌++◌, length}
 use Rattle.oram_geometry.specs.declared.Sizes.{Sizes}
 
--- so many blocks, one after the other, from this one on
+-- n blocks, one after the other, from the first one on
 abbrev pub blocks_from : (ℕ → List ℕ) → ℕ → ℕ → List ℕ
 blocks_from array first zero = []
 blocks_from array first (suc n) = array first ++ blocks_from array (suc first) n

@@ -1,3 +1,3 @@
 pub mod Blocks
-pub mod Holding
-pub mod Stopping
+pub mod HeldArrays
+pub mod CarriedOut

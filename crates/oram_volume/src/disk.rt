@@ -6,30 +6,31 @@ use crate::volume::Volume;
 use oram_bucket::Sealer;
 use oram_bytes::Bytes;
 use oram_core::{Command, ReplyBody};
-use oram_keep::Keeper;
 use oram_nbd::{BlockDevice, DiskFault};
-use oram_session::{Link, Tape};
+use oram_rounds::{BatchLink, Keeper};
+use oram_session::Tape;
 use std::alloc::Global;
 
-impl<S: Sealer, L: Link, K: Keeper, T: Tape> BlockDevice for Volume<S, L, K, T> {
+impl<S: Sealer, B: BatchLink, K: Keeper, T: Tape> BlockDevice for Volume<S, B, K, T> {
     ghost use Rattle.oram_core.specs.Core.{scheme_of};
     ghost use Rattle.oram_semantics.specs.declared.events.Command.{Command};
     ghost use Rattle.oram_session.specs.Honesty.{HasFailed};
-    ghost use Rattle.oram_volume.specs.Holding.{IsSound, Keeps};
-    ghost use Rattle.oram_volume.specs.Stopping.{StopsAt};
+    ghost use Rattle.oram_volume.specs.HeldArrays.{IsSound, Keeps};
+    ghost use Rattle.oram_rounds.specs.Process.{process};
+    ghost use Rattle.oram_volume.specs.CarriedOut.{Stops};
 
     ghost block_len = { λ d. d.core.device.block_bytes };
 
     ghost size = { λ d. d.core.device.block_bytes * d.core.device.blocks };
 
-    ghost holds = { λ d bytes. Keeps (scheme_of S.cipher d.core) L.calls d.core.state d.link bytes };
+    ghost holds = { λ d bytes. Keeps (scheme_of S.cipher d.core) B.batches d.core.state d.link bytes };
 
-    ghost is_sound = { λ d. IsSound (scheme_of S.cipher d.core) L.calls d.core.state d.link };
+    ghost is_sound = { λ d. IsSound (scheme_of S.cipher d.core) B.batches d.core.state d.link };
 
     ghost failed = { λ d. HasFailed d.core.state };
 
-    ghost stops = { λ d e. (command : Command) × StopsAt (scheme_of S.cipher d.core) L.calls K.keeps (T.words d.tape) command
-        d.core.state d.link d.keeper e.core.state e.link e.keeper };
+    ghost stops = { λ d e. (command : Command) × Stops (scheme_of S.cipher d.core) B.batches K.reads_back (T.words d.tape) command
+        (process d.core.state d.link d.keeper) (process e.core.state e.link e.keeper) };
 
     fn has_failed(&self) -> bool {
         self.core.failure().is_some()

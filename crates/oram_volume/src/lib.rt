@@ -1,7 +1,8 @@
-//! A kept core as a disk.
+//! A process of a device as a disk.
 //!
-//! A [`Volume`] is a core with the link to its host, the keeper of its state and the tape of its words. It answers block commands one
-//! after the other, as `oram_nbd` asks them of a disk. What waits in it from before is carried out first.
+//! A [`Volume`] is a core with the link to its host, the keeper of what has to outlive the process, and the tape of its
+//! words. It carries out block commands one after the other, as `oram_nbd` asks them of a disk; each is a round of its
+//! own. It first carries out what waits from before.
 #![tactic(auto)]
 
 mod disk;

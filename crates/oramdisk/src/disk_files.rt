@@ -6,13 +6,12 @@ use oram_client::{
     DiskKey, Head, KeptFault, KeptFile, Keys, SealerKind, WrongKey, kept_bytes, kept_name,
     keys_for, read_kept_file,
 };
-use oram_core::Core;
 use oram_disk_host::{Fault, FaultKind, FileReason, settings_bytes, text_of};
 use oram_geometry::Device;
+use oram_rounds::{KeptCore, KeptCoreFault, decode_kept};
 use oram_settings::{
     DiskSettings, Sealing, disk_complaint, first_difference, read_disk_settings, relative_to,
 };
-use oram_state::{StateFault, decode_state};
 use std::alloc::Global;
 use std::rt::Files;
 
@@ -66,24 +65,26 @@ pub(crate) fn take_lock(rt: &HostRuntime, state: &str) -> Result<StateLock, Faul
 }
 
 /// Makes a fault of this kind about `name`.
-fn named(alloc: Global, kind: FaultKind, name: &str) -> Fault {
+pub(crate) fn named(alloc: Global, kind: FaultKind, name: &str) -> Fault {
     match String::from_str(alloc, name) {
         Ok(name) => Fault::About(kind, name),
         Err(_) => Fault::OutOfMemory,
     }
 }
 
-/// Decodes the core in `state`, which the file `name` holds.
-pub(crate) fn core_in<S: Sealer>(
+/// Decodes the core and the STOREs that wait in `process`, which the file `name` holds.
+pub(crate) fn process_in<S: Sealer>(
     alloc: Global,
     sealer: S,
-    state: &[u8],
+    process: &[u8],
     name: &str,
-) -> Result<Core<S>, Fault> {
-    match decode_state(alloc, sealer, state) {
-        Ok(core) => Ok(core),
-        Err(StateFault::OutOfMemory) => Err(Fault::OutOfMemory),
-        Err(_) => Err(named(alloc, FaultKind::NotADisk, name)),
+) -> Result<KeptCore<S>, Fault> {
+    match decode_kept(alloc, sealer, process) {
+        Ok(kept) => Ok(kept),
+        Err(KeptCoreFault::OutOfMemory) => Err(Fault::OutOfMemory),
+        Err(KeptCoreFault::Torn | KeptCoreFault::State(_)) => {
+            Err(named(alloc, FaultKind::NotADisk, name))
+        }
     }
 }
 

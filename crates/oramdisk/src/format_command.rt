@@ -11,11 +11,10 @@ use oram_client::{
 use oram_core::Core;
 use oram_disk_host::{Fault, FaultKind};
 use oram_geometry::Device;
-use oram_keep::Keeper;
+use oram_rounds::{Keeper, encode_kept};
 use oram_settings::{
     DiskSettings, Meter, begun_text, device_of, percent, progress_text, stored_bytes,
 };
-use oram_state::encode_state;
 use std::alloc::{AllocError, Global};
 use std::io;
 use std::io::{ErrorKind, IsTerminal};
@@ -142,8 +141,8 @@ fn format_with<S: Sealer>(
     let mut keeper = FileKeeper::new(place, head, settings.sync);
     let stored = stored_bytes(&device, settings.sealer);
     let core = formatted(rt, device, sealer, identity, settings.host, stored)?;
-    let state = encode_state(alloc, &core)?;
-    match keeper.keep(state.as_slice()) {
+    let file = encode_kept(alloc, &[], &core)?;
+    match keeper.keep(file.as_slice()) {
         Ok(()) => Ok(()),
         Err(_) => Err(Fault::About(FaultKind::StateNotKept, settings.state)),
     }

@@ -2,7 +2,7 @@
 
 use crate::clients::{ClientAttendant, Dismissal};
 use crate::disk_files::{
-    check_settings, core_in, disk_settings_in, kept_in, keys_in, state_bytes, take_lock,
+    check_settings, disk_settings_in, kept_in, keys_in, named, process_in, state_bytes, take_lock,
 };
 use crate::failures::{keep_failure, kept_failure};
 use crate::watched_disk::{FailureKeeper, WatchedDisk};
@@ -12,9 +12,9 @@ use oram_client::{
 };
 use oram_core::{Core, Reason};
 use oram_disk_host::{Fault, FaultKind, listen_at, not_accepted, time};
-use oram_keep::Keeper;
 use oram_nbd::{BlockDevice, DiskFault, NbdFault, is_stop, serve};
-use oram_session::{ChaChaTape, Link, Tape};
+use oram_rounds::{BatchLink, Keeper, KeptCore, RoundLink, record_len};
+use oram_session::{ChaChaTape, Tape};
 use oram_settings::{DiskSettings, counted, failure_text, relative_to, serving_text};
 use oram_sockets::{Connection, Listener, Peer, listen_at_path, watch};
 use oram_volume::Volume;
@@ -164,9 +164,9 @@ impl<'a> FailureFile<'a> {
     }
 }
 
-impl<'a, S: Sealer, L: Link, K: Keeper, T: Tape> FailureKeeper<Volume<S, L, K, T>>
+impl<'a, S: Sealer, B: BatchLink, K: Keeper, T: Tape> FailureKeeper<Volume<S, B, K, T>>
     for FailureFile<'a> {
-    fn keep_failure(&mut self, volume: &Volume<S, L, K, T>) {
+    fn keep_failure(&mut self, volume: &Volume<S, B, K, T>) {
         if let Some(reason) = volume.core.failure() {
             // If it can't be kept, the next process finds the failure again.
             let _found_again = self.keep(reason);
@@ -243,13 +243,12 @@ fn stopped<S: Sealer>(volume: &DiskVolume<'_, S>, settings: DiskSettings) -> Fau
     } else if volume.core.next_ticket() >= volume.core.device().lifetime() {
         Fault::About(FaultKind::UsedUp, settings.state)
     } else {
-        let why = given_up(volume.link.trouble());
+        let why = given_up(volume.link.inner().trouble());
         Fault::About(FaultKind::Host(why), settings.host)
     }
 }
 
-/// Serves a disk until it stops, and returns why. It first asks the host whether it keeps this disk, and then carries
-/// out the commands that wait from before.
+/// Serves a disk until it stops, and returns why. It first carries out the commands that wait from before.
 fn serve_volume<S: Sealer>(
     rt: &HostRuntime,
     settings: DiskSettings,
@@ -257,11 +256,7 @@ fn serve_volume<S: Sealer>(
     mut volume: DiskVolume<'_, S>,
 ) -> Result<(), Fault> {
     let alloc = rt.alloc();
-    if let Err(trouble) = volume.link.reach(alloc) {
-        let why = FaultKind::Host(given_up(Some(trouble)));
-        return Err(Fault::About(why, settings.host));
-    }
-    let settled = volume.settle(alloc);
+    let resumed = volume.resume(alloc);
     let state = String::from_str(alloc, settings.state.as_str())?;
     let mut disk = WatchedDisk {
         disk: volume,
@@ -269,7 +264,7 @@ fn serve_volume<S: Sealer>(
         is_kept: false,
     };
     disk.watch();
-    match settled {
+    match resumed {
         Ok(()) => serve_clients(rt, clients, &mut disk)?,
         Err(DiskFault::Failed | DiskFault::Stopped) => {}
         Err(DiskFault::OutOfMemory) => return Err(Fault::OutOfMemory),
@@ -293,17 +288,39 @@ fn link_to<'a>(
     Ok(ReconnectLink::new(alloc, dialer, watch, settings.reconnect_timeout))
 }
 
-/// Serves the disk of a core, until it stops.
-fn serve_core<S: Sealer>(
+/// Returns the link of a process to its host, at which its STOREs wait. It first asks the host whether it keeps this
+/// disk.
+fn reached<'a, S: Sealer>(
+    rt: &'a HostRuntime,
+    settings: &DiskSettings,
+    keys: &Keys,
+    kept: KeptCore<S>,
+) -> Result<(Core<S>, RoundLink<HostLink<'a>>), Fault> {
+    let alloc = rt.alloc();
+    let mut link = link_to(rt, settings, keys)?;
+    if let Err(trouble) = link.reach(alloc) {
+        let why = FaultKind::Host(given_up(Some(trouble)));
+        return Err(named(alloc, why, settings.host.as_str()));
+    }
+    let KeptCore { stores, core } = kept;
+    let device = core.device().copy();
+    match RoundLink::with_kept(link, device, record_len(&core), stores) {
+        Some(link) => Ok((core, link)),
+        None => Err(named(alloc, FaultKind::NotADisk, settings.state.as_str())),
+    }
+}
+
+/// Serves the disk of a process that was kept, until it stops.
+fn serve_process<S: Sealer>(
     rt: &HostRuntime,
     settings: DiskSettings,
     clients: &Clients,
     head: Head,
     keys: &Keys,
-    core: Core<S>,
+    kept: KeptCore<S>,
 ) -> Result<(), Fault> {
     let alloc = rt.alloc();
-    let link = link_to(rt, &settings, keys)?;
+    let (core, link) = reached(rt, &settings, keys, kept)?;
     let place = FilePlace::new(rt, alloc, settings.state.as_str())?;
     let keeper = FileKeeper::new(place, head, settings.sync);
     let trees = core.device().trees();
@@ -380,15 +397,15 @@ fn serve_kept(
     let state = settings.state.as_str();
     match kept.head.sealer {
         SealerKind::Plain => {
-            let core = core_in(alloc, PlainSeal, kept.state, state)?;
-            check_settings(&settings, core.device(), kept.head.sealer, name)?;
-            serve_core(rt, settings, clients, kept.head, &keys, core)
+            let process = process_in(alloc, PlainSeal, kept.process, state)?;
+            check_settings(&settings, process.core.device(), kept.head.sealer, name)?;
+            serve_process(rt, settings, clients, kept.head, &keys, process)
         }
         SealerKind::ChaCha20 => {
             let sealer = ChaChaSeal { key: keys.sealer.0 };
-            let core = core_in(alloc, sealer, kept.state, state)?;
-            check_settings(&settings, core.device(), kept.head.sealer, name)?;
-            serve_core(rt, settings, clients, kept.head, &keys, core)
+            let process = process_in(alloc, sealer, kept.process, state)?;
+            check_settings(&settings, process.core.device(), kept.head.sealer, name)?;
+            serve_process(rt, settings, clients, kept.head, &keys, process)
         }
     }
 }

@@ -1,6 +1,6 @@
 //! Reports how a disk is, and lets a failed one be tried again.
 
-use crate::disk_files::{core_in, disk_settings_in, kept_in, state_bytes, take_lock};
+use crate::disk_files::{disk_settings_in, kept_in, process_in, state_bytes, take_lock};
 use crate::failures::{forget_failure, kept_failure};
 use oram_bucket::{ChaChaSeal, PlainSeal};
 use oram_client::SealerKind;
@@ -29,11 +29,11 @@ pub(crate) fn print_status(rt: &HostRuntime, name: String) -> Result<(), Fault> 
     let name = settings.state.as_str();
     let kept = kept_in(alloc, file.as_slice(), name)?;
     let status = match kept.head.sealer {
-        SealerKind::Plain => status_of(&core_in(alloc, PlainSeal, kept.state, name)?),
+        SealerKind::Plain => { status_of(&process_in(alloc, PlainSeal, kept.process, name)?.core) }
         // No bucket is opened, so any key will do.
         SealerKind::ChaCha20 => {
             let sealer = ChaChaSeal { key: [0; 32] };
-            status_of(&core_in(alloc, sealer, kept.state, name)?)
+            status_of(&process_in(alloc, sealer, kept.process, name)?.core)
         }
     };
     let text = report(alloc, &status)?;

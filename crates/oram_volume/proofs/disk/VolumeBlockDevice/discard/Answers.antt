@@ -12,7 +12,7 @@ pub returns-in_err-carry_out-clause-err : goal.returns-in_err-carry_out-clause-e
 returns-in_err-carry_out-clause-err g c =
     let now = c.args.self.now in
     let new = c.carry_out.new.self in
-    OnErr_of c.from_residual.result (bytes_left g.S.Sealer.cipher now.core new.core c.carry_out.ensures.kept g.L.Link.calls now.link new.link
+    OnErr_of c.from_residual.result (bytes_left g.S.Sealer.cipher now.core new.core c.carry_out.ensures.kept g.B.BatchLink.batches now.link new.link
     (Discard c.address_of-address.result) (λ bytes. written bytes (now.core.device.block_bytes * c.args.block) (zeroes now.core.device.block_bytes))
     (laid_after_discard now.core.device c.address_of-address.result c.args.block c.address_of-address.ensures.value c.address_of-address.ensures.within) c.in_err-carry_out.ensures.err)
 
@@ -26,7 +26,7 @@ returns-in_err-carry_out-clause-call g c =
       stays = record {
         same_block_len = search rules;
         same_size = search rules;
-        still_sound = sound_left g.S.Sealer.cipher now.core new.core c.carry_out.ensures.kept g.L.Link.calls now.link new.link
+        still_sound = sound_left g.S.Sealer.cipher now.core new.core c.carry_out.ensures.kept g.B.BatchLink.batches now.link new.link
             (Discard c.address_of-address.result) (λ bytes. written bytes (now.core.device.block_bytes * c.args.block) (zeroes now.core.device.block_bytes))
             (laid_after_discard now.core.device c.address_of-address.result c.args.block c.address_of-address.ensures.value c.address_of-address.ensures.within) c.in_err-carry_out.ensures.err;
         still_failed = search rules;
@@ -40,7 +40,7 @@ pub returns-clause-ok : goal.returns-clause-ok
 returns-clause-ok g c =
     let now = c.args.self.now in
     let new = c.carry_out.new.self in
-    bytes_made g.S.Sealer.cipher now.core new.core c.carry_out.ensures.kept g.L.Link.calls now.link new.link
+    bytes_made g.S.Sealer.cipher now.core new.core c.carry_out.ensures.kept g.B.BatchLink.batches now.link new.link
     (Discard c.address_of-address.result) (λ bytes. written bytes (now.core.device.block_bytes * c.args.block) (zeroes now.core.device.block_bytes))
     (laid_after_discard now.core.device c.address_of-address.result c.args.block c.address_of-address.ensures.value c.address_of-address.ensures.within) (λ lie array hold. (c.in_ok-carry_out.ensures.ok lie array hold).1)
 
@@ -51,7 +51,7 @@ returns-clause-call g c =
     done (record {
       same_block_len = search rules;
       same_size = search rules;
-      still_sound = sound_made g.S.Sealer.cipher now.core new.core c.carry_out.ensures.kept g.L.Link.calls now.link new.link
+      still_sound = sound_made g.S.Sealer.cipher now.core new.core c.carry_out.ensures.kept g.B.BatchLink.batches now.link new.link
           (Discard c.address_of-address.result) (λ bytes. written bytes (now.core.device.block_bytes * c.args.block) (zeroes now.core.device.block_bytes))
           (laid_after_discard now.core.device c.address_of-address.result c.args.block c.address_of-address.ensures.value c.address_of-address.ensures.within) (λ lie array hold. (c.in_ok-carry_out.ensures.ok lie array hold).1);
       still_failed = search rules;

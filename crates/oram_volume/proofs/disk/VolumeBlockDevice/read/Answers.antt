@@ -12,7 +12,7 @@ pub returns-in_err-bytes-clause-same : goal.returns-in_err-bytes-clause-same
 returns-in_err-bytes-clause-same g c =
     let now = c.args.self.now in
     let new = c.carry_out.new.self in
-    λ bytes h. elim (bytes_left g.S.Sealer.cipher now.core new.core c.carry_out.ensures.kept g.L.Link.calls now.link new.link
+    λ bytes h. elim (bytes_left g.S.Sealer.cipher now.core new.core c.carry_out.ensures.kept g.B.BatchLink.batches now.link new.link
     (Read c.address_of-address.result) (λ bytes. bytes) (laid_after_read now.core.device c.address_of-address.result) c.in_err-bytes.ensures.err bytes h) [ inl before ↦ before | inr behind ↦ behind ]
 
 pub returns-in_err-bytes-clause-call : goal.returns-in_err-bytes-clause-call
@@ -25,7 +25,7 @@ returns-in_err-bytes-clause-call g c =
       stays = record {
         same_block_len = search rules;
         same_size = search rules;
-        still_sound = sound_left g.S.Sealer.cipher now.core new.core c.carry_out.ensures.kept g.L.Link.calls now.link new.link
+        still_sound = sound_left g.S.Sealer.cipher now.core new.core c.carry_out.ensures.kept g.B.BatchLink.batches now.link new.link
             (Read c.address_of-address.result) (λ bytes. bytes) (laid_after_read now.core.device c.address_of-address.result) c.in_err-bytes.ensures.err;
         still_failed = search rules;
       };
@@ -46,7 +46,7 @@ pub returns-in-Data-clause-same : goal.returns-in-Data-clause-same
 returns-in-Data-clause-same g c =
     let now = c.args.self.now in
     let new = c.carry_out.new.self in
-    bytes_made g.S.Sealer.cipher now.core new.core c.carry_out.ensures.kept g.L.Link.calls now.link new.link
+    bytes_made g.S.Sealer.cipher now.core new.core c.carry_out.ensures.kept g.B.BatchLink.batches now.link new.link
     (Read c.address_of-address.result) (λ bytes. bytes) (laid_after_read now.core.device c.address_of-address.result) (λ lie array hold. (c.in_ok-bytes.ensures.ok lie array hold).1)
 
 pub returns-in-Data-clause-call : goal.returns-in-Data-clause-call
@@ -56,7 +56,7 @@ returns-in-Data-clause-call g c =
     done (record {
       same_block_len = search rules;
       same_size = search rules;
-      still_sound = sound_made g.S.Sealer.cipher now.core new.core c.carry_out.ensures.kept g.L.Link.calls now.link new.link
+      still_sound = sound_made g.S.Sealer.cipher now.core new.core c.carry_out.ensures.kept g.B.BatchLink.batches now.link new.link
           (Read c.address_of-address.result) (λ bytes. bytes) (laid_after_read now.core.device c.address_of-address.result) (λ lie array hold. (c.in_ok-bytes.ensures.ok lie array hold).1);
       still_failed = search rules;
     })
@@ -68,13 +68,13 @@ returns-in-Done g c =
     record {
       len = tt;
       ok = tt;
-      same = bytes_made g.S.Sealer.cipher now.core new.core c.carry_out.ensures.kept g.L.Link.calls now.link new.link
+      same = bytes_made g.S.Sealer.cipher now.core new.core c.carry_out.ensures.kept g.B.BatchLink.batches now.link new.link
           (Read c.address_of-address.result) (λ bytes. bytes) (laid_after_read now.core.device c.address_of-address.result) (λ lie array hold. (c.in_ok-bytes.ensures.ok lie array hold).1);
       refused = tt;
       call = no_memory refl (record {
         same_block_len = search rules;
         same_size = search rules;
-        still_sound = sound_made g.S.Sealer.cipher now.core new.core c.carry_out.ensures.kept g.L.Link.calls now.link new.link
+        still_sound = sound_made g.S.Sealer.cipher now.core new.core c.carry_out.ensures.kept g.B.BatchLink.batches now.link new.link
             (Read c.address_of-address.result) (λ bytes. bytes) (laid_after_read now.core.device c.address_of-address.result) (λ lie array hold. (c.in_ok-bytes.ensures.ok lie array hold).1);
         still_failed = search rules;
       });

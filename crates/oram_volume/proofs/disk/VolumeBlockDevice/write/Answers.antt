@@ -12,7 +12,7 @@ pub returns-in_err-carry_out-clause-err : goal.returns-in_err-carry_out-clause-e
 returns-in_err-carry_out-clause-err g c =
     let now = c.args.self.now in
     let new = c.carry_out.new.self in
-    OnErr_of c.from_residual-in_err-carry_out.result (bytes_left g.S.Sealer.cipher now.core new.core c.carry_out.ensures.kept g.L.Link.calls now.link new.link
+    OnErr_of c.from_residual-in_err-carry_out.result (bytes_left g.S.Sealer.cipher now.core new.core c.carry_out.ensures.kept g.B.BatchLink.batches now.link new.link
     (Write c.address_of-address.result c.in_ok-bytes.bytes) (λ bytes. written bytes (now.core.device.block_bytes * c.args.block) c.args.payload.now)
     (laid_after_write now.core.device c.address_of-address.result c.args.block c.in_ok-bytes.bytes c.args.payload.now c.address_of-address.ensures.value c.address_of-address.ensures.within
     c.in_ok-bytes.ensures c.requires.whole) c.in_err-carry_out.ensures.err)
@@ -27,7 +27,7 @@ returns-in_err-carry_out-clause-call g c =
       stays = record {
         same_block_len = search rules;
         same_size = search rules;
-        still_sound = sound_left g.S.Sealer.cipher now.core new.core c.carry_out.ensures.kept g.L.Link.calls now.link new.link
+        still_sound = sound_left g.S.Sealer.cipher now.core new.core c.carry_out.ensures.kept g.B.BatchLink.batches now.link new.link
             (Write c.address_of-address.result c.in_ok-bytes.bytes) (λ bytes. written bytes (now.core.device.block_bytes * c.args.block) c.args.payload.now)
             (laid_after_write now.core.device c.address_of-address.result c.args.block c.in_ok-bytes.bytes c.args.payload.now c.address_of-address.ensures.value c.address_of-address.ensures.within
             c.in_ok-bytes.ensures c.requires.whole) c.in_err-carry_out.ensures.err;
@@ -42,7 +42,7 @@ pub returns-clause-ok : goal.returns-clause-ok
 returns-clause-ok g c =
     let now = c.args.self.now in
     let new = c.carry_out.new.self in
-    bytes_made g.S.Sealer.cipher now.core new.core c.carry_out.ensures.kept g.L.Link.calls now.link new.link
+    bytes_made g.S.Sealer.cipher now.core new.core c.carry_out.ensures.kept g.B.BatchLink.batches now.link new.link
     (Write c.address_of-address.result c.in_ok-bytes.bytes) (λ bytes. written bytes (now.core.device.block_bytes * c.args.block) c.args.payload.now)
     (laid_after_write now.core.device c.address_of-address.result c.args.block c.in_ok-bytes.bytes c.args.payload.now c.address_of-address.ensures.value c.address_of-address.ensures.within
     c.in_ok-bytes.ensures c.requires.whole) (λ lie array hold. (c.in_ok-carry_out.ensures.ok lie array hold).1)
@@ -54,7 +54,7 @@ returns-clause-call g c =
     done (record {
       same_block_len = search rules;
       same_size = search rules;
-      still_sound = sound_made g.S.Sealer.cipher now.core new.core c.carry_out.ensures.kept g.L.Link.calls now.link new.link
+      still_sound = sound_made g.S.Sealer.cipher now.core new.core c.carry_out.ensures.kept g.B.BatchLink.batches now.link new.link
           (Write c.address_of-address.result c.in_ok-bytes.bytes) (λ bytes. written bytes (now.core.device.block_bytes * c.args.block) c.args.payload.now)
           (laid_after_write now.core.device c.address_of-address.result c.args.block c.in_ok-bytes.bytes c.args.payload.now c.address_of-address.ensures.value c.address_of-address.ensures.within
           c.in_ok-bytes.ensures c.requires.whole) (λ lie array hold. (c.in_ok-carry_out.ensures.ok lie array hold).1);

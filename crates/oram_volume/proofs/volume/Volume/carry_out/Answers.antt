@@ -1,113 +1,120 @@
-use Rattle.std.proofs.Common.{◌≡◌, false, Err, is_some, sym, ap, ◌∙◌, subst, inl, inr}
+use Rattle.std.proofs.Common.{◌≡◌, Err, false, is_some, sym, ap, ◌∙◌, inl, inr}
 use Rattle.std.proofs.lemmas.Result.{err_from_is_err_and}
-use Rattle.oram_geometry.specs.declared.Sizes.{Sizes}
-use Rattle.oram_semantics.specs.Events.{address_of}
+use Rattle.oram_nbd.specs.declared.faults.DiskFault.TheVariants.{Stopped}
 use Rattle.oram_semantics.specs.declared.events.ReplyBody.{ReplyBody}
 use Rattle.oram_core.specs.Core.{scheme_of}
-use Rattle.oram_session.specs.Settled.{IsBodyOf}
-use Rattle.oram_session.proofs.CoreSteps.{same_trans}
-use Rattle.oram_keep.specs.declared.asking.Asked.TheVariants.{Replied}
-use Rattle.oram_nbd.specs.declared.faults.DiskFault.TheVariants.{Stopped}
-use Rattle.oram_volume.proofs.Holding.{alive, held_up, never_failed, told_fault, told_right, turned_away}
+use Rattle.oram_volume.proofs.HeldArrays.{alive}
+use Rattle.oram_volume.proofs.Spelling.{OnErr_of}
+use Rattle.oram_volume.proofs.Submitted.{begin_begun, begin_holds, begin_stops, finish_begun, finish_done, finish_holds, finish_sound, finish_stops, finish_told, same_process}
 use Rattle.oram_volume.proofs.volume.Volume.carry_out.Goals as goal
-
-pub returns-in_err-settle-clause-stopped : goal.returns-in_err-settle-clause-stopped
-returns-in_err-settle-clause-stopped g c = λ e.
-    let p = err_from_is_err_and c.from_residual.result c.from_residual.ensures.1 in
-    let f : c.in_err-settle.field-0.0 ≡ Stopped = cc in
-    inl (c.in_err-settle.ensures.stopped (ap Err f))
 
 pub returns-then-is_some-clause-sound : goal.returns-then-is_some-clause-sound
 returns-then-is_some-clause-sound g c = λ e array h.
-    let mid = c.settle.new.self in
+    let m = c.resume.new.self in
     let v = scheme_of g.S.Sealer.cipher c.args.self.now.core in
-    let none = alive v g.L.Link.calls mid.core.state mid.link array c.in_ok-settle.ensures.settled (c.settle.ensures.holds false array h) in
+    let none = alive v g.B.BatchLink.batches m.core.state m.link array (c.resume.ensures.holds false array h) in
     absurd (let both = sym c.if-is_some.true ∙ c.is_some.ensures ∙ ap is_some (c.failure.ensures ∙ none) in cc)
 
-pub returns-in-Ok-Replied-Data : goal.returns-in-Ok-Replied-Data
-returns-in-Ok-Replied-Data g c =
-    let mid = c.settle.new.self in
-    let well : is_some mid.core.state.failure ≡ false = ap is_some (sym c.failure.ensures) ∙ sym c.is_some.ensures ∙ c.if-is_some.false in
-    let k = c.in-Ok-Replied-Data in
-    let body : ReplyBody = ReplyBody.Data k.bytes in
-    let right = told_right g.S.Sealer.cipher c.args.self.now.core mid.core c.settle.ensures.kept g.L.Link.calls g.K.Keeper.keeps c.args.self.now.link mid.link mid.keeper
-    c.ask.new.core.state c.ask.new.link c.ask.new.keeper (g.T.Tape.words mid.tape) c.args.command c.in_ok-settle.ensures.settled well c.settle.ensures.holds k.field-0 body (k.field-0-is ∙ ap Replied k.field-0-0-is) k.ensures.ok in
-    record {
-      kept = same_trans c.args.self.now.core c.settle.new.self.core c.ask.new.core c.settle.ensures.kept c.ask.ensures.kept;
-      block = subst (λ (d : Sizes). IsBodyOf d body) c.settle.ensures.kept.0 (k.ensures.block body (k.field-0-is ∙ ap Replied k.field-0-0-is));
-      ok = λ lie array h. let r = right lie array h in (elim r.0 [ inl as_told ↦ as_told | inr lied ↦ absurd (let no = lied.1 in cc) ], r.1);
-      err = tt;
-      sound = λ e array h. cc;
-      failing = λ e. cc;
-      stopped = λ e. cc;
-    }
+-- the core refuses the command, or memory runs out
 
-pub returns-in-Ok-Replied-Done : goal.returns-in-Ok-Replied-Done
-returns-in-Ok-Replied-Done g c =
-    let mid = c.settle.new.self in
-    let well : is_some mid.core.state.failure ≡ false = ap is_some (sym c.failure.ensures) ∙ sym c.is_some.ensures ∙ c.if-is_some.false in
-    let k = c.in-Ok-Replied-Done in
-    let body : ReplyBody = ReplyBody.Done in
-    let right = told_right g.S.Sealer.cipher c.args.self.now.core mid.core c.settle.ensures.kept g.L.Link.calls g.K.Keeper.keeps c.args.self.now.link mid.link mid.keeper
-    c.ask.new.core.state c.ask.new.link c.ask.new.keeper (g.T.Tape.words mid.tape) c.args.command c.in_ok-settle.ensures.settled well c.settle.ensures.holds k.field-0 body (k.field-0-is ∙ ap Replied k.field-0-0-is) k.ensures.ok in
-    record {
-      kept = same_trans c.args.self.now.core c.settle.new.self.core c.ask.new.core c.settle.ensures.kept c.ask.ensures.kept;
-      block = subst (λ (d : Sizes). IsBodyOf d body) c.settle.ensures.kept.0 (k.ensures.block body (k.field-0-is ∙ ap Replied k.field-0-0-is));
-      ok = λ lie array h. let r = right lie array h in (elim r.0 [ inl as_told ↦ as_told | inr lied ↦ absurd (let no = lied.1 in cc) ], r.1);
-      err = tt;
-      sound = λ e array h. cc;
-      failing = λ e. cc;
-      stopped = λ e. cc;
-    }
+pub returns-in_err-reaction-clause-begun : goal.returns-in_err-reaction-clause-begun
+returns-in_err-reaction-clause-begun g c =
+    let mid = c.resume.new.self in
+    let new = c.begin.new.self in
+    OnErr_of c.from_residual-in_err-reaction.result (begin_begun g.S.Sealer.cipher g.B.BatchLink.batches g.K.Keeper.reads_back g.met.B.BatchLink.are_batches c.args.self.now.core c.resume.new.self.core
+    c.resume.ensures.kept (ap g.T.Tape.words c.resume.ensures.tape) c.resume.ensures.does c.in_ok-resume.ensures.settled
+    c.in_err-reaction.field-0.0 _ c.in_err-reaction.ensures.fault (λ e. c.in_err-reaction.ensures.refused (ap Err e))
+    (λ e. same_process mid.core.state new.core.state mid.link new.link mid.keeper new.keeper (ap (λ k. k.state) (c.in_err-reaction.ensures.memory (ap Err e))) c.begin.ensures.same.0 c.begin.ensures.same.1))
 
-pub returns-in-Ok-Replied-Failed-clause-sound : goal.returns-in-Ok-Replied-Failed-clause-sound
-returns-in-Ok-Replied-Failed-clause-sound g c = λ e array h.
-    let mid = c.settle.new.self in
-    let well : is_some mid.core.state.failure ≡ false = ap is_some (sym c.failure.ensures) ∙ sym c.is_some.ensures ∙ c.if-is_some.false in
-    let k = c.in-Ok-Replied-Failed in
-    let r = told_right g.S.Sealer.cipher c.args.self.now.core mid.core c.settle.ensures.kept g.L.Link.calls g.K.Keeper.keeps c.args.self.now.link mid.link mid.keeper
-    c.ask.new.core.state c.ask.new.link c.ask.new.keeper (g.T.Tape.words mid.tape) c.args.command c.in_ok-settle.ensures.settled well c.settle.ensures.holds k.field-0 ReplyBody.Failed (k.field-0-is ∙ ap Replied k.field-0-0-is) k.ensures.ok false array h in
-    elim r.0 [
-      | inl as_told ↦ never_failed (array (address_of c.args.command)) c.args.command (sym as_told)
-      | inr lied ↦ absurd (let lies = lied.0 in cc)
-    ]
+pub returns-in_err-reaction-clause-err : goal.returns-in_err-reaction-clause-err
+returns-in_err-reaction-clause-err g c =
+    let mid = c.resume.new.self in
+    let new = c.begin.new.self in
+    OnErr_of c.from_residual-in_err-reaction.result (λ may_lie array h. inl (begin_holds g.S.Sealer.cipher g.B.BatchLink.batches g.K.Keeper.reads_back g.met.B.BatchLink.are_batches c.args.self.now.core c.resume.new.self.core
+    c.resume.ensures.kept (ap g.T.Tape.words c.resume.ensures.tape) c.resume.ensures.does c.in_ok-resume.ensures.settled
+    may_lie array c.in_err-reaction.field-0.0 _ c.in_err-reaction.ensures.fault (λ e. c.in_err-reaction.ensures.refused (ap Err e))
+    (λ e. same_process mid.core.state new.core.state mid.link new.link mid.keeper new.keeper (ap (λ k. k.state) (c.in_err-reaction.ensures.memory (ap Err e))) c.begin.ensures.same.0 c.begin.ensures.same.1)
+    (c.resume.ensures.holds may_lie array h)))
 
-pub returns-in-Ok-Replied-Failed-clause-err : goal.returns-in-Ok-Replied-Failed-clause-err
-returns-in-Ok-Replied-Failed-clause-err g c = λ lie array h.
-    let mid = c.settle.new.self in
-    let well : is_some mid.core.state.failure ≡ false = ap is_some (sym c.failure.ensures) ∙ sym c.is_some.ensures ∙ c.if-is_some.false in
-    let k = c.in-Ok-Replied-Failed in
-    inr (told_right g.S.Sealer.cipher c.args.self.now.core mid.core c.settle.ensures.kept g.L.Link.calls g.K.Keeper.keeps c.args.self.now.link mid.link mid.keeper
-    c.ask.new.core.state c.ask.new.link c.ask.new.keeper (g.T.Tape.words mid.tape) c.args.command c.in_ok-settle.ensures.settled well c.settle.ensures.holds k.field-0 ReplyBody.Failed (k.field-0-is ∙ ap Replied k.field-0-0-is) k.ensures.ok lie array h).1
+pub returns-in_err-reaction-clause-stopped : goal.returns-in_err-reaction-clause-stopped
+returns-in_err-reaction-clause-stopped g c = λ e.
+    let r = err_from_is_err_and c.from_residual-in_err-reaction.result c.from_residual-in_err-reaction.ensures.1 in
+    let f : c.in_err-reaction.field-0.0 ≡ Stopped = cc in
+    begin_stops g.S.Sealer.cipher g.B.BatchLink.batches g.K.Keeper.reads_back g.met.B.BatchLink.are_batches c.args.self.now.core c.resume.new.self.core
+    c.resume.ensures.kept (ap g.T.Tape.words c.resume.ensures.tape) c.resume.ensures.does c.in_ok-resume.ensures.settled
+    _ (c.in_err-reaction.ensures.refused (ap Err f))
 
-pub returns-in-Ok-Refused-clause-stopped : goal.returns-in-Ok-Refused-clause-stopped
-returns-in-Ok-Refused-clause-stopped g c = λ e.
-    let mid = c.settle.new.self in
-    let k = c.in-Ok-Refused in
-    turned_away g.S.Sealer.cipher c.args.self.now.core mid.core c.settle.ensures.kept g.L.Link.calls g.K.Keeper.keeps c.args.self.now.link mid.link mid.keeper
-    c.ask.new.core.state c.ask.new.link c.ask.new.keeper (g.T.Tape.words mid.tape) c.args.command c.in_ok-settle.ensures.settled
-    (g.T.Tape.words c.args.self.now.tape) (ap g.T.Tape.words c.settle.ensures.tape) c.args.self.now.keeper c.in_ok-settle.ensures.through k.field-0 k.field-0-0 k.field-0-is k.ensures.ok
+-- it is accepted, and then left
 
-pub returns-in-Err-clause-err : goal.returns-in-Err-clause-err
-returns-in-Err-clause-err g c =
-    let mid = c.settle.new.self in
-    let well : is_some mid.core.state.failure ≡ false = ap is_some (sym c.failure.ensures) ∙ sym c.is_some.ensures ∙ c.if-is_some.false in
-    let k = c.in-Err in
-    let a = c.ask.ensures in
-    told_fault g.S.Sealer.cipher c.args.self.now.core mid.core c.settle.ensures.kept g.L.Link.calls g.K.Keeper.keeps c.args.self.now.link mid.link mid.keeper
-    c.ask.new.core.state c.ask.new.link c.ask.new.keeper (g.T.Tape.words mid.tape) c.args.command c.in_ok-settle.ensures.settled well c.settle.ensures.holds k.fault
-    (λ e. a.stalled (k.is ∙ ap Err e)) (λ e. a.unkept (k.is ∙ ap Err e))
-    (λ e. elim (a.memory (k.is ∙ ap Err e)) [ inl same ↦ inl (ap (λ d. d.state) same.0, same.1) | inr out ↦ inr out ])
+pub returns-in_err-finish-clause-begun : goal.returns-in_err-finish-clause-begun
+returns-in_err-finish-clause-begun g c =
+    OnErr_of c.from_residual-in_err-finish.result (finish_begun g.S.Sealer.cipher g.B.BatchLink.batches g.K.Keeper.reads_back g.met.B.BatchLink.are_batches c.args.self.now.core c.resume.new.self.core
+    c.resume.ensures.kept (ap g.T.Tape.words c.resume.ensures.tape) c.resume.ensures.does c.in_ok-resume.ensures.settled
+    c.begin.new.self.core c.begin.ensures.kept _ c.in_ok-reaction.ensures.ok c.in_err-finish.ensures.left)
 
-pub returns-in-Err-clause-stopped : goal.returns-in-Err-clause-stopped
-returns-in-Err-clause-stopped g c = λ e.
-    let mid = c.settle.new.self in
-    let k = c.in-Err in
-    let a = c.ask.ensures in
-    let stops : c.told.result ≡ Stopped = cc in
-    held_up g.S.Sealer.cipher c.args.self.now.core mid.core c.settle.ensures.kept g.L.Link.calls g.K.Keeper.keeps c.args.self.now.link mid.link mid.keeper
-    c.ask.new.core.state c.ask.new.link c.ask.new.keeper (g.T.Tape.words mid.tape) c.args.command c.in_ok-settle.ensures.settled
-    (g.T.Tape.words c.args.self.now.tape) (ap g.T.Tape.words c.settle.ensures.tape) c.args.self.now.keeper c.in_ok-settle.ensures.through (inl (elim (c.told.ensures.stopped stops) [
-      | inl stalled ↦ inl (a.stalled (k.is ∙ ap Err stalled))
-      | inr unkept ↦ inr (a.unkept (k.is ∙ ap Err unkept))
-    ]))
+pub returns-in_err-finish-clause-err : goal.returns-in_err-finish-clause-err
+returns-in_err-finish-clause-err g c =
+    OnErr_of c.from_residual-in_err-finish.result (λ may_lie array h. inr (finish_holds g.S.Sealer.cipher g.B.BatchLink.batches g.K.Keeper.reads_back g.met.B.BatchLink.are_batches c.args.self.now.core c.resume.new.self.core
+    c.resume.ensures.kept (ap g.T.Tape.words c.resume.ensures.tape) c.resume.ensures.does c.in_ok-resume.ensures.settled
+    c.begin.new.self.core c.begin.ensures.kept _ c.in_ok-reaction.ensures.ok
+    may_lie array c.in_err-finish.ensures.left (c.resume.ensures.holds may_lie array h)))
+
+pub returns-in_err-finish-clause-stopped : goal.returns-in_err-finish-clause-stopped
+returns-in_err-finish-clause-stopped g c = λ e.
+    let r = err_from_is_err_and c.from_residual-in_err-finish.result c.from_residual-in_err-finish.ensures.1 in
+    let f : c.in_err-finish.field-0.0 ≡ Stopped = cc in
+    finish_stops g.S.Sealer.cipher g.B.BatchLink.batches g.K.Keeper.reads_back g.met.B.BatchLink.are_batches c.args.self.now.core c.resume.new.self.core
+    c.resume.ensures.kept (ap g.T.Tape.words c.resume.ensures.tape) c.resume.ensures.does c.in_ok-resume.ensures.settled
+    c.begin.new.self.core c.begin.ensures.kept _ c.in_ok-reaction.ensures.ok (c.in_err-finish.ensures.stopped (ap Err f))
+
+-- it is accepted, and has its reply
+
+pub returns-in-Data-clause-done : goal.returns-in-Data-clause-done
+returns-in-Data-clause-done g c =
+    finish_done g.S.Sealer.cipher g.B.BatchLink.batches g.K.Keeper.reads_back g.met.B.BatchLink.are_batches c.args.self.now.core c.resume.new.self.core
+    c.resume.ensures.kept (ap g.T.Tape.words c.resume.ensures.tape) c.resume.ensures.does c.in_ok-resume.ensures.settled
+    c.begin.new.self.core c.begin.ensures.kept _ c.in_ok-reaction.ensures.ok
+    _ (ReplyBody.Data c.in-Data.bytes) c.in_ok-finish.ensures.replied c.in-Data.is
+
+pub returns-in-Data-clause-ok : goal.returns-in-Data-clause-ok
+returns-in-Data-clause-ok g c = λ may_lie array h.
+    finish_told g.S.Sealer.cipher g.B.BatchLink.batches g.K.Keeper.reads_back g.met.B.BatchLink.are_batches c.args.self.now.core c.resume.new.self.core
+    c.resume.ensures.kept (ap g.T.Tape.words c.resume.ensures.tape) c.resume.ensures.does c.in_ok-resume.ensures.settled
+    c.begin.new.self.core c.begin.ensures.kept _ c.in_ok-reaction.ensures.ok
+    may_lie array _ (ReplyBody.Data c.in-Data.bytes) (ap is_some (sym c.failure.ensures) ∙ sym c.is_some.ensures ∙ c.if-is_some.false) c.in_ok-finish.ensures.replied c.in-Data.is (λ e. cc) (c.resume.ensures.holds may_lie array h)
+
+pub returns-in-Done-clause-done : goal.returns-in-Done-clause-done
+returns-in-Done-clause-done g c =
+    finish_done g.S.Sealer.cipher g.B.BatchLink.batches g.K.Keeper.reads_back g.met.B.BatchLink.are_batches c.args.self.now.core c.resume.new.self.core
+    c.resume.ensures.kept (ap g.T.Tape.words c.resume.ensures.tape) c.resume.ensures.does c.in_ok-resume.ensures.settled
+    c.begin.new.self.core c.begin.ensures.kept _ c.in_ok-reaction.ensures.ok
+    _ ReplyBody.Done c.in_ok-finish.ensures.replied c.in-Done.is
+
+pub returns-in-Done-clause-ok : goal.returns-in-Done-clause-ok
+returns-in-Done-clause-ok g c = λ may_lie array h.
+    finish_told g.S.Sealer.cipher g.B.BatchLink.batches g.K.Keeper.reads_back g.met.B.BatchLink.are_batches c.args.self.now.core c.resume.new.self.core
+    c.resume.ensures.kept (ap g.T.Tape.words c.resume.ensures.tape) c.resume.ensures.does c.in_ok-resume.ensures.settled
+    c.begin.new.self.core c.begin.ensures.kept _ c.in_ok-reaction.ensures.ok
+    may_lie array _ ReplyBody.Done (ap is_some (sym c.failure.ensures) ∙ sym c.is_some.ensures ∙ c.if-is_some.false) c.in_ok-finish.ensures.replied c.in-Done.is (λ e. cc) (c.resume.ensures.holds may_lie array h)
+
+pub returns-in-Failed-clause-begun : goal.returns-in-Failed-clause-begun
+returns-in-Failed-clause-begun g c =
+    let k = c.in_ok-finish.ensures.replied in
+    finish_begun g.S.Sealer.cipher g.B.BatchLink.batches g.K.Keeper.reads_back g.met.B.BatchLink.are_batches c.args.self.now.core c.resume.new.self.core
+    c.resume.ensures.kept (ap g.T.Tape.words c.resume.ensures.tape) c.resume.ensures.does c.in_ok-resume.ensures.settled
+    c.begin.new.self.core c.begin.ensures.kept _ c.in_ok-reaction.ensures.ok (k.0, k.4)
+
+pub returns-in-Failed-clause-err : goal.returns-in-Failed-clause-err
+returns-in-Failed-clause-err g c = λ may_lie array h.
+    let k = c.in_ok-finish.ensures.replied in
+    inr (finish_holds g.S.Sealer.cipher g.B.BatchLink.batches g.K.Keeper.reads_back g.met.B.BatchLink.are_batches c.args.self.now.core c.resume.new.self.core
+    c.resume.ensures.kept (ap g.T.Tape.words c.resume.ensures.tape) c.resume.ensures.does c.in_ok-resume.ensures.settled
+    c.begin.new.self.core c.begin.ensures.kept _ c.in_ok-reaction.ensures.ok
+    may_lie array (k.0, k.4) (c.resume.ensures.holds may_lie array h))
+
+pub returns-in-Failed-clause-sound : goal.returns-in-Failed-clause-sound
+returns-in-Failed-clause-sound g c = λ e array h.
+    finish_sound g.S.Sealer.cipher g.B.BatchLink.batches g.K.Keeper.reads_back g.met.B.BatchLink.are_batches c.args.self.now.core c.resume.new.self.core
+    c.resume.ensures.kept (ap g.T.Tape.words c.resume.ensures.tape) c.resume.ensures.does c.in_ok-resume.ensures.settled
+    c.begin.new.self.core c.begin.ensures.kept _ c.in_ok-reaction.ensures.ok
+    array _ (ap is_some (sym c.failure.ensures) ∙ sym c.is_some.ensures ∙ c.if-is_some.false) c.in_ok-finish.ensures.replied c.in-Failed.is (c.resume.ensures.holds false array h)

@@ -1,5 +1,0 @@
-pub mod Failing
-pub mod Deeds
-pub mod Begun
-pub mod Surviving
-pub mod Processes
