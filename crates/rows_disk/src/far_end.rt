@@ -59,6 +59,21 @@ impl FarEnd {
         }
     }
 
+    /// Begins a new connection to the host, over which it gives `answers` answers. What was still on its way over the old
+    /// one is lost.
+    pub fn reopen(&mut self, answers: u64) {
+        self.sent.clear();
+        self.heard = 0;
+        self.answer.clear();
+        self.taken = 0;
+        self.most = self.answered.saturating_add(answers);
+    }
+
+    /// Returns how many messages the host has answered.
+    pub fn answered(&self) -> u64 {
+        self.answered
+    }
+
     /// Returns whether the host failed because memory ran out.
     pub fn lacks_memory(&self) -> bool {
         self.lacks_memory

@@ -1,11 +1,11 @@
 //! What a client keeps of a disk: its file, its keys, and how a keeper fails.
 
 use oram_client::{
-    DiskKey, FileFailure, FileKeeper, FileReason, FileStep, Head, KeyCheck, Place, Salt,
-    SealerKind, disk_identity, key_check, keys_for, put_kept_file, read_kept_file, sealer_key,
-    tape_key,
+    DeedHistory, DiskKey, FileFailure, FileKeeper, FileReason, FileStep, Head, KeyCheck, Place,
+    Salt, SealerKind, disk_identity, key_check, keys_for, put_kept_file, read_kept_file,
+    sealer_key, tape_key,
 };
-use oram_keep::Keeper;
+use oram_rounds::Keeper;
 use rows::{Page, RowFault, RowWords, Target, pace_in};
 use std::alloc::Global;
 use std::cell::Cell;
@@ -25,7 +25,7 @@ fn write_head(page: &mut Page, head: &Head) {
     page.show(&head.sealer);
 }
 
-/// `disk put ROOM PACE SALT CHECK SEALER STATE`: writes whether the kept file of a disk was written, and the bytes that
+/// `disk put ROOM PACE SALT CHECK SEALER PROCESS`: writes whether the kept file of a disk was written, and the bytes that
 /// were.
 fn put(alloc: Global, words: &mut RowWords, page: &mut Page) -> Result<(), RowFault> {
     let room = words.size();
@@ -35,20 +35,20 @@ fn put(alloc: Global, words: &mut RowWords, page: &mut Page) -> Result<(), RowFa
         key_check: KeyCheck(words.array(alloc)),
         sealer: sealer_in(words)?,
     };
-    let state = words.bytes(alloc);
-    let written = put_kept_file(&mut target, &head, &state);
+    let process = words.bytes(alloc);
+    let written = put_kept_file(&mut target, &head, &process);
     page.word(if written.is_ok() { "done" } else { "failed" });
     page.bytes(target.bytes());
     Ok(())
 }
 
-/// `disk read FILE`: writes the salt, the key check, the sealer and the state of a kept file.
+/// `disk read FILE`: writes the salt, the key check, the sealer and the process of a kept file.
 fn read(alloc: Global, words: &mut RowWords, page: &mut Page) -> Result<(), RowFault> {
     let file = words.bytes(alloc);
     match read_kept_file(&file) {
         Ok(kept) => {
             write_head(page, &kept.head);
-            page.bytes(kept.state);
+            page.bytes(kept.process);
         }
         Err(fault) => page.show(&fault),
     }
@@ -146,13 +146,14 @@ struct FailingPlace<'a> {
     /// How many deeds are done before the one that fails.
     fails_behind: u64,
     reason: FileReason,
+    history: DeedHistory,
 }
 
 impl<'a> FailingPlace<'a> {
     ghost use Rattle.std.specs.Prelude.{◌≡◌, IfErr};
 
     /// Does the next deed, or fails in this step.
-    fn next(&mut self, step: FileStep) -> Result<(), FileFailure>
+    fn next(&self, step: FileStep) -> Result<(), FileFailure>
         ensures { IfErr result (λ failure. failure.step ≡ step) }
     {
         let done = self.deeds.get();
@@ -168,39 +169,55 @@ impl<'a> FailingPlace<'a> {
 }
 
 impl<'a> Place for FailingPlace<'a> {
-    ghost use Rattle.std.specs.Prelude.{⊤};
+    ghost use Rattle.oram_client.specs.DeedHistory.{IsNoted, IsPossible, possible_after, some_possible};
 
-    ghost does = { λ _ _ _ _. ⊤ };
+    ghost does = { λ p deed done q. IsNoted p.history.deeds deed done q.history.deeds };
 
-    fn write(&mut self, _head: &Head, _state: &[u8], _sync: bool) -> Result<(), FileFailure> {
-        self.next(FileStep::Create)
+    ghost may_be = { λ p. IsPossible p.history.deeds };
+
+    ghost some_folder = { λ p. some_possible p.history.deeds };
+
+    ghost folders_after = { λ p deed done q noted. possible_after p.history.deeds deed done q.history.deeds noted };
+
+    fn write(&mut self, head: &Head, process: &[u8], sync: bool) -> Result<(), FileFailure> {
+        let result = self.next(FileStep::Create);
+        self.history.note_write(head, process, sync, result.is_ok());
+        result
     }
 
     fn set_aside(&mut self) -> Result<(), FileFailure> {
-        self.next(FileStep::SetAside)
+        let result = self.next(FileStep::SetAside);
+        self.history.note_set_aside(result.is_ok());
+        result
     }
 
     fn rename_into_place(&mut self) -> Result<(), FileFailure> {
-        self.next(FileStep::Rename)
+        let result = self.next(FileStep::Rename);
+        self.history.note_rename(result.is_ok());
+        result
     }
 
     fn sync_folder(&mut self) -> Result<(), FileFailure> {
-        self.next(FileStep::SyncFolder)
+        let result = self.next(FileStep::SyncFolder);
+        self.history.note_sync_folder(result.is_ok());
+        result
     }
 
     fn clear(&mut self) -> Result<(), FileFailure> {
-        self.next(FileStep::Clear)
+        let result = self.next(FileStep::Clear);
+        self.history.note_clear(result.is_ok());
+        result
     }
 }
 
-/// Keeps `count` states, and writes whether each was kept.
-fn keep_states(
+/// Keeps a process `count` times, and writes whether it was kept.
+fn keep_times(
     page: &mut Page,
     keeper: &mut FileKeeper<FailingPlace<'_>>,
     count: u32,
 ) -> Result<(), RowFault> {
     for _ in 0..count {
-        page.word(match keeper.keep(b"state") {
+        page.word(match keeper.keep(b"process") {
             Ok(()) => "kept",
             Err(_) => "lost",
         });
@@ -208,25 +225,26 @@ fn keep_states(
     Ok(())
 }
 
-/// `disk keeps COUNT SYNC DEEDS REASON`: keeps `COUNT` states, with sync or without, in a place in which the deed after
-/// the first `DEEDS` ones fails. Writes whether each state was kept, how many deeds there were, and why a state was not
-/// kept.
+/// `disk keeps COUNT SYNC DEEDS REASON`: keeps a process `COUNT` times, with sync or without, in a place in which the
+/// deed after the first `DEEDS` ones fails. Writes each time whether it was kept, then how many deeds there were, and why
+/// it was not kept.
 fn keeps(alloc: Global, words: &mut RowWords, page: &mut Page) -> Result<(), RowFault> {
     let count = words.short();
     let sync = words.flag();
     let deeds = Cell::new(0);
-    let desk = FailingPlace {
+    let place = FailingPlace {
         deeds: &deeds,
         fails_behind: words.number(),
         reason: reason_in(words)?,
+        history: DeedHistory::new(),
     };
     let head = Head {
         salt: Salt([7; 32]),
         key_check: KeyCheck([10; 32]),
         sealer: SealerKind::Plain,
     };
-    let mut keeper = FileKeeper::new(desk, head, sync);
-    keep_states(page, &mut keeper, count)?;
+    let mut keeper = FileKeeper::new(place, head, sync);
+    keep_times(page, &mut keeper, count)?;
     page.number(deeds.get());
     match keeper.failure() {
         Some(failure) => write_failure(alloc, page, failure),

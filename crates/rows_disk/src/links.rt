@@ -1,7 +1,9 @@
 //! A link that tries until its host answers.
 
+use crate::batches;
 use oram_client::{Dial, HostWatch, Limits, ReconnectLink, Trouble};
 use oram_host::HostRefusal;
+use oram_rounds::{BatchLink, OneByOne};
 use oram_session::{Link, LinkFault};
 use oram_wire::REFUSED;
 use rows::{Page, RowFault, RowWords};
@@ -62,7 +64,8 @@ impl<'a> Play<'a> {
     }
 }
 
-/// A connection whose calls go by the letters. For `a` the host refuses an empty message, and for `r` it has no room.
+/// A connection whose calls go by the letters. For `a` the host refuses an empty message, for `e` it gives the message
+/// back, and for `r` it has no room.
 /// For `s` it is silent for as long as it may be, for `t` it gives no whole answer in the time for one, for `w` the
 /// call fails after some time, and for any other letter at once.
 #[derive(Drop)]
@@ -73,8 +76,9 @@ struct Way<'a> {
 }
 
 impl<'a> Way<'a> {
-    fn outcome(&self, alloc: Global) -> Result<Vec<u8>, LinkFault> {
+    fn outcome(&self, alloc: Global, body: &[u8]) -> Result<Vec<u8>, LinkFault> {
         match self.play.next() {
+            b'e' => Ok(body.to_vec(alloc)?),
             b'a' => Ok([REFUSED, HostRefusal::BadOp.code()].to_vec(alloc)?),
             b'r' => Ok([REFUSED, HostRefusal::OutOfMemory.code()].to_vec(alloc)?),
             b's' => {
@@ -102,9 +106,9 @@ impl<'a> Link for Way<'a> {
 
     ghost fault_count = { λ l. l.faults };
 
-    fn call(&mut self, alloc: Global, _body: &[u8]) -> Result<Vec<u8>, LinkFault> {
+    fn call(&mut self, alloc: Global, body: &[u8]) -> Result<Vec<u8>, LinkFault> {
         add(&self.play.calls, 1);
-        let outcome = self.outcome(alloc);
+        let outcome = self.outcome(alloc, body);
         if outcome.is_err() {
             self.faults = self.faults.saturating_add(1);
         }
@@ -127,7 +131,7 @@ struct Script<'a>(&'a Play<'a>);
 impl<'a> Dial for Script<'a> {
     ghost use Rattle.std.specs.Prelude.{⊤};
 
-    type Line = Way<'a>;
+    type Line = OneByOne<Way<'a>>;
 
     ghost opens = { λ _ _ _ _. ⊤ };
 
@@ -137,13 +141,15 @@ impl<'a> Dial for Script<'a> {
 
     ghost reads = { λ _ _ _. ⊤ };
 
-    fn dial(&mut self, _alloc: Global, limits: Limits) -> Result<Way<'a>, Trouble> {
+    fn dial(&mut self, _alloc: Global, limits: Limits) -> Result<OneByOne<Way<'a>>, Trouble> {
         add(&self.0.tries, 1);
         match self.0.next() {
-            b'o' => Ok(Way {
-                play: self.0,
-                limits,
-                faults: 0,
+            b'o' => Ok(OneByOne {
+                link: Way {
+                    play: self.0,
+                    limits,
+                    faults: 0,
+                },
             }),
             b'd' => Err(Trouble::AnotherDisk),
             b'n' => Err(Trouble::NoDisk),
@@ -188,21 +194,52 @@ impl<'a> HostWatch for News<'a> {
     }
 }
 
-/// Does with the link what a word says: it makes a `call` with an empty message, tries to `reach` the host, or stays
-/// `idle` for a thousand seconds.
+/// Returns `count` messages of one byte each, their numbers from `from` on.
+fn numbered(alloc: Global, from: u8, count: u64) -> Result<Vec<Vec<u8>>, RowFault> {
+    let mut messages = Vec::new(alloc);
+    let mut number = from;
+    for _ in 0..count {
+        if messages.push([number].to_vec(alloc)?).is_err() {
+            return Err(RowFault::OutOfMemory);
+        }
+        number = number.wrapping_add(1);
+    }
+    Ok(messages)
+}
+
+/// Writes the answers to a batch, or why they are missing.
+pub fn write_answers(
+    outcome: Result<Vec<Vec<u8>>, LinkFault>,
+    page: &mut Page,
+) -> Result<(), RowFault> {
+    match outcome {
+        Ok(answers) => {
+            for answer in &answers {
+                page.bytes(answer);
+            }
+        }
+        Err(LinkFault::OutOfMemory) => return Err(RowFault::OutOfMemory),
+        Err(fault) => page.show(&fault),
+    }
+    Ok(())
+}
+
+/// Does with the link what a word says: it makes a `call` with an empty message, sends a `batch FIRST LAST` of two lists
+/// with FIRST and LAST messages that are their own numbers, tries to `reach` the host, or stays `idle` for a thousand seconds.
 fn ask<'a>(
     alloc: Global,
     link: &mut ReconnectLink<Script<'a>, News<'a>>,
     play: &Play<'a>,
-    word: &str,
+    words: &mut RowWords,
     page: &mut Page,
 ) -> Result<(), RowFault> {
-    match word {
-        "call" => match link.call(alloc, &[]) {
-            Ok(answer) => page.bytes(&answer),
-            Err(LinkFault::OutOfMemory) => return Err(RowFault::OutOfMemory),
-            Err(fault) => page.show(&fault),
-        },
+    match words.text() {
+        "call" => write_answers(link.call_all(alloc, &[], &[Vec::new(alloc)]), page)?,
+        "batch" => {
+            let first = numbered(alloc, 0x10, words.number())?;
+            let last = numbered(alloc, 0x20, words.number())?;
+            write_answers(link.call_all(alloc, &first, &last), page)?;
+        }
         "reach" => match link.reach(alloc) {
             Ok(()) => page.word("reached"),
             Err(trouble) => page.show(&trouble),
@@ -219,7 +256,7 @@ fn write_count(page: &mut Page, name: &str, count: &Cell<u64>) {
     page.number(count.get());
 }
 
-/// Writes what the link answers to the words, and then how many faults it had and why it gave up.
+/// Writes what the link answers to the words, and then why it gave up.
 fn perform(
     alloc: Global,
     play: &Play,
@@ -232,10 +269,8 @@ fn perform(
         if words.is_empty() {
             break;
         }
-        ask(alloc, &mut link, play, words.text(), page)?;
+        ask(alloc, &mut link, play, words, page)?;
     }
-    page.word("faults");
-    page.number(link.faults());
     match link.trouble() {
         Some(trouble) => page.show(&trouble),
         None => page.word("usable"),
@@ -244,10 +279,10 @@ fn perform(
 }
 
 /// `link plays SECONDS CLOCK LETTERS WORDS`: a link with a reconnect timeout of `SECONDS` does what the words say, with a
-/// clock that `ticks` or `fails`; the letters decide about its tries and calls. Writes the answers to the words, how many
-/// faults the link had, and why it gave up, or that it is still `usable`; how many connections it tried to open and how
-/// many calls went over them; how many milliseconds it paused and how many passed; and how many times the host was lost,
-/// had no room, and was back.
+/// clock that `ticks` or `fails`; the letters decide about its tries and about each message. Writes the answers to the
+/// words, and why the link gave up, or that it is still `usable`; how many connections it tried to open and how many
+/// messages went over them; how many milliseconds it paused and how many passed; and how many times the host was lost, had
+/// no room, and was back.
 fn plays(alloc: Global, words: &mut RowWords, page: &mut Page) -> Result<(), RowFault> {
     let seconds = words.number();
     let has_clock = match words.text() {
@@ -276,6 +311,8 @@ pub fn answer(
 ) -> Result<(), RowFault> {
     match name {
         "plays" => plays(alloc, words, page),
+        "talks" => batches::talks(alloc, words, page),
+        "refused" => batches::refused(alloc, words, page),
         _ => Err(RowFault::NoRow),
     }
 }

@@ -5,35 +5,81 @@ use oram_bucket::PlainSeal;
 use oram_core::Core;
 use oram_geometry::Device;
 use oram_host::Server;
-use oram_keep::{Keeper, Unkept};
 use oram_nbd::transmit;
+use oram_rounds::{KeepError, Keeper, OneByOne, RoundLink, record_len};
 use oram_session::{ChaChaTape, Direct, FaultLink};
 use oram_volume::Volume;
 use rows::{Pace, Page, RowFault, RowWords, Source, Target};
 use std::alloc::Global;
 
-/// A keeper that accepts this many states, and keeps none of them.
+/// A keeper in memory that keeps `room` more files, and fails after these.
 #[derive(Drop)]
-struct CountingKeeper(u64);
+struct MemoryKeeper {
+    alloc: Global,
+    newest: Vec<u8>,
+    room: u64,
+    lacks_memory: bool,
+}
 
-impl Keeper for CountingKeeper {
-    ghost use Rattle.std.specs.Prelude.{⊤};
-
-    ghost keeps = { λ _ _ _ _. ⊤ };
-
-    fn keep(&mut self, _file: &[u8]) -> Result<(), Unkept> {
-        if self.0 == 0 {
-            return Err(Unkept);
+impl MemoryKeeper {
+    fn new(alloc: Global, room: u64) -> MemoryKeeper {
+        MemoryKeeper {
+            alloc,
+            newest: Vec::new(alloc),
+            room,
+            lacks_memory: false,
         }
-        self.0 -= 1;
+    }
+
+    /// Fails if memory ran out, since its row has no answer then.
+    fn check_memory(&self) -> Result<(), RowFault> {
+        if self.lacks_memory {
+            return Err(RowFault::OutOfMemory);
+        }
         Ok(())
     }
+}
+
+impl Keeper for MemoryKeeper {
+    ghost use Rattle.std.specs.Prelude.{◌≡◌};
+
+    ghost reads_back = { λ k bytes. bytes ≡ k.newest.items };
+
+    fn keep(&mut self, file: &[u8]) -> Result<(), KeepError> {
+        if self.room == 0 {
+            return Err(KeepError);
+        }
+        let Ok(newest) = file.to_vec(self.alloc) else {
+            self.lacks_memory = true;
+            return Err(KeepError);
+        };
+        self.newest = newest;
+        self.room -= 1;
+        Ok(())
+    }
+}
+
+/// A link to a server in memory that fails in some calls.
+type FaultyBatches = OneByOne<FaultLink<Direct>>;
+
+/// Makes a link for the device of a core, at which no STOREs wait.
+fn over(
+    alloc: Global,
+    core: &Core<PlainSeal>,
+    link: FaultLink<Direct>,
+) -> RoundLink<FaultyBatches> {
+    RoundLink::new(
+        alloc,
+        OneByOne { link },
+        core.device().copy(),
+        record_len(core),
+    )
 }
 
 /// The volume of the next rows.
 #[derive(Drop)]
 pub struct Volumes {
-    volume: Option<Volume<PlainSeal, FaultLink<Direct>, CountingKeeper, ChaChaTape>>,
+    volume: Option<Volume<PlainSeal, FaultyBatches, MemoryKeeper, ChaChaTape>>,
 }
 
 /// Formats a new device of 64 blocks of 16 bytes in three trees, and returns its core. The host takes the records.
@@ -60,10 +106,12 @@ impl Volumes {
         let times = words.number();
         let mut server = Server::new(alloc);
         let core = formatted(alloc, &mut server)?;
+        let link = FaultLink::new(Direct::new(alloc, server), at, times, false);
+        let link = over(alloc, &core, link);
         self.volume = Some(Volume {
             core,
-            link: FaultLink::new(Direct::new(alloc, server), at, times, false),
-            keeper: CountingKeeper(room),
+            link,
+            keeper: MemoryKeeper::new(alloc, room),
             tape: ChaChaTape {
                 key: [0; 32],
                 trees: 3,
@@ -77,7 +125,7 @@ impl Volumes {
         let Some(volume) = &mut self.volume else {
             return Err(RowFault::NoRow);
         };
-        volume.keeper = CountingKeeper(words.number());
+        volume.keeper.room = words.number();
         Ok(())
     }
 
@@ -87,7 +135,8 @@ impl Volumes {
             return Err(RowFault::NoRow);
         };
         let other = Direct::new(alloc, Server::new(alloc));
-        volume.link = FaultLink::new(other, u64::MAX, 0, false);
+        let link = FaultLink::new(other, u64::MAX, 0, false);
+        volume.link = over(alloc, &volume.core, link);
         Ok(())
     }
 
@@ -105,6 +154,7 @@ impl Volumes {
         let mut source = Source::new(&said, Pace::smooth(false));
         let mut target = Target::new(alloc, 256, Pace::smooth(true))?;
         let ended = transmit(alloc, &mut source, &mut target, volume);
+        volume.keeper.check_memory()?;
         write_ended(page, with_memory(ended, target.bytes())?)?;
         page.bytes(target.bytes());
         Ok(())

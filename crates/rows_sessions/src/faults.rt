@@ -4,8 +4,9 @@ use oram_bucket::PlainSeal;
 use oram_core::{Core, Note};
 use oram_geometry::Device;
 use oram_host::ServeFault;
-use oram_keep::KeepFault;
+use oram_rounds::{KeepError, KeptCoreFault, RoundFault};
 use oram_session::LinkFault;
+use oram_state::StateFault;
 use rows::{Page, RowFault, RowWords};
 
 /// Writes how many requests were carried out if all were, or why there were no more.
@@ -102,7 +103,11 @@ fn tell_session_faults(page: &mut Page) {
 }
 
 fn tell_keeping_faults(page: &mut Page) {
-    page.fault(KeepFault::Stalled);
-    page.fault(KeepFault::Unkept);
-    page.fault(KeepFault::OutOfMemory);
+    page.fault(RoundFault::Stalled);
+    page.fault(RoundFault::NotKept);
+    page.fault(RoundFault::OutOfMemory);
+    page.fault(KeepError);
+    page.fault(KeptCoreFault::Torn);
+    page.fault(KeptCoreFault::State(StateFault::Digest));
+    page.fault(KeptCoreFault::OutOfMemory);
 }

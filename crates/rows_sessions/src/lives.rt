@@ -1,228 +1,247 @@
-//! Rows of whole lives of a device: its process ends, and another one goes on from what was kept.
-ghost use Rattle.std.specs.Prelude.{⊤};
+//! Whole lives of a device: its process ends, and another one goes on from what was kept.
 
-use crate::network::CuttableNet;
+use crate::hosts::{HostLink, HostPlace};
+use crate::keepers::{MemoryKeeper, Room};
 use crate::sessions::formatted;
-use crate::ways::AnyLink;
+use crate::submissions::submit_all;
 use oram_bucket::PlainSeal;
 use oram_bytes::Bytes;
-use oram_core::{Command, Core, ReplyBody};
-use oram_keep::{Asked, KeepFault, Keeper, Unkept, ask, resume};
+use oram_core::{Command, Core, Note, Reply, ReplyBody};
+use oram_host::Server;
+use oram_rounds::{
+    KeptCore, KeptCoreFault, OneByOne, RoundFault, RoundLink, decode_kept, encode_kept, keep,
+    perform, record_len, resume,
+};
 use oram_session::{ChaChaTape, is_settled};
-use oram_state::{StateFault, decode_state};
-use rows::{Page, RowFault, RowWords};
+use rows::RowFault;
 use std::alloc::Global;
-use std::net::Net;
 
-/// How many blocks are written. They are blocks 1, 2 and 3, each filled with its number.
-const WRITES: u8 = 3;
+/// How many blocks are written. They are blocks 1, 2 and 3, each filled with its number. Block 0 is not written.
+pub(crate) const WRITES: u8 = 3;
 
-/// A keeper that keeps the newest file in memory, and fails once it has kept `room` files.
+/// A process of the client.
 #[derive(Drop)]
-struct MemoryKeeper {
-    alloc: Global,
-    newest: Vec<u8>,
-    room: u64,
-    /// Whether the newest file is also the one at which the keeper fails.
-    late: bool,
-    kept: u64,
-    lacks_memory: bool,
+pub(crate) struct Life<'a> {
+    pub(crate) core: Core<PlainSeal>,
+    pub(crate) link: RoundLink<OneByOne<HostLink<'a>>>,
+    pub(crate) keeper: MemoryKeeper,
 }
 
-impl MemoryKeeper {
-    /// Makes a keeper from the next words: `keeps_all`, `keeps COUNT` files, or `keeps_late COUNT`, which also keeps
-    /// the file after these although it reports that it failed.
-    fn read(alloc: Global, words: &mut RowWords) -> Result<MemoryKeeper, RowFault> {
-        let (late, room) = match words.text() {
-            "keeps_all" => (false, u64::MAX),
-            "keeps" => (false, words.number()),
-            "keeps_late" => (true, words.number()),
-            _ => return Err(RowFault::NoRow),
+/// What a block has, as a process reads it.
+#[derive(Clone, Copy, PartialEq, Eq)]
+pub(crate) enum Found {
+    Zeros,
+    /// What was written to it.
+    Written,
+    Torn,
+}
+
+/// Formats a device on a new server. Returns the server, and the file from which the first process begins.
+pub(crate) fn new_device(alloc: Global, numbers: [u64; 5]) -> Result<(Server, Vec<u8>), RowFault> {
+    let (core, server) = formatted(alloc, numbers)?;
+    let file = encode_kept(alloc, &[], &core)?;
+    Ok((server, file))
+}
+
+/// Returns what was kept in a file.
+fn kept_in(alloc: Global, file: &[u8]) -> Result<KeptCore<PlainSeal>, RowFault> {
+    match decode_kept(alloc, PlainSeal, file) {
+        Ok(kept) => Ok(kept),
+        Err(KeptCoreFault::OutOfMemory) => Err(RowFault::OutOfMemory),
+        Err(_) => Err(RowFault::NoRow),
+    }
+}
+
+/// Returns a round's replies, or why there are none. A row has no answer if memory ran out.
+fn row_end<T: Drop>(ended: Result<T, RoundFault>) -> Result<Result<T, RoundFault>, RowFault> {
+    if matches!(ended, Err(RoundFault::OutOfMemory)) {
+        return Err(RowFault::OutOfMemory);
+    }
+    Ok(ended)
+}
+
+impl<'a> Life<'a> {
+    /// Begins a process with the newest file of a keeper, over the host at a place. It doesn't go on with its commands yet.
+    pub(crate) fn begin(
+        alloc: Global,
+        place: &'a HostPlace,
+        keeper: MemoryKeeper,
+    ) -> Result<Life<'a>, RowFault> {
+        let KeptCore { stores, core } = kept_in(alloc, &keeper.newest)?;
+        let device = core.device().copy();
+        let record_len = record_len(&core);
+        let inner = OneByOne {
+            link: HostLink::new(place),
         };
-        Ok(MemoryKeeper {
-            alloc,
-            newest: Vec::new(alloc),
-            room,
-            late,
-            kept: 0,
-            lacks_memory: false,
-        })
+        match RoundLink::with_kept(inner, device, record_len, stores) {
+            Some(link) => Ok(Life { core, link, keeper }),
+            None => Err(RowFault::NoRow),
+        }
     }
 
-    fn put(&mut self, file: &[u8]) -> Result<(), Unkept> {
-        let mut newest = Vec::new(self.alloc);
-        if newest.extend_from_slice(file).is_err() {
-            self.lacks_memory = true;
-            return Err(Unkept);
-        }
-        self.newest = newest;
-        Ok(())
+    /// Ends the process, and begins the next one, whose keeper has this room.
+    pub(crate) fn next(
+        self,
+        alloc: Global,
+        place: &'a HostPlace,
+        room: Room,
+    ) -> Result<Life<'a>, RowFault> {
+        self.keeper.check_memory()?;
+        let mut keeper = self.keeper;
+        keeper.set(room);
+        Life::begin(alloc, place, keeper)
     }
-}
 
-impl Keeper for MemoryKeeper {
-    ghost keeps = { λ _ _ _ _. ⊤ };
-
-    fn keep(&mut self, file: &[u8]) -> Result<(), Unkept> {
-        if self.kept < self.room {
-            self.kept += 1;
-            return self.put(file);
+    /// Returns how many blocks the device has.
+    pub(crate) fn blocks(&self) -> u32 {
+        let device = self.core.device();
+        if device.trees() == 0 {
+            return 0;
         }
-        if self.late {
-            self.put(file)?;
-        }
-        Err(Unkept)
+        device.blocks_in(0)
     }
-}
 
-/// A device with its link and its keeper.
-#[derive(Drop)]
-struct Life<'a, R: Net> {
-    core: Core<PlainSeal>,
-    link: AnyLink<'a, R>,
-    shelf: MemoryKeeper,
-}
-
-impl<R: Net> Life<'_, R> {
-    /// Carries out a command.
-    fn ask(&mut self, alloc: Global, command: Command) -> Result<Asked, KeepFault> {
+    /// Carries out commands in one round. Notes what the core says to each, and returns the replies, or why there are none.
+    pub(crate) fn round(
+        &mut self,
+        alloc: Global,
+        commands: Vec<Command>,
+        notes: &mut Vec<Note>,
+    ) -> Result<Result<Vec<Reply>, RoundFault>, RowFault> {
         if !is_settled(&self.core) {
-            return Err(KeepFault::Stalled);
+            return Err(RowFault::NoRow);
         }
         let trees = self.core.device().trees();
         let key = [0; 32];
         let mut tape = ChaChaTape { key, trees };
-        ask(
+        let Some(reaction) = submit_all(alloc, &mut self.core, &mut tape, commands, notes)? else {
+            return Ok(Ok(Vec::new(alloc)));
+        };
+        row_end(perform(
             alloc,
             &mut self.core,
             &mut self.link,
-            &mut self.shelf,
-            &mut tape,
-            command,
-        )
+            &mut self.keeper,
+            reaction,
+        ))
     }
 
-    fn write(&mut self, alloc: Global, number: u8) -> Result<(), KeepFault> {
-        let bytes = Bytes::copy(alloc, &[number; 16])?;
-        match self.ask(alloc, Command::Write(u32::from(number), bytes))? {
-            Asked::Replied(ReplyBody::Done) => Ok(()),
-            _ => Err(KeepFault::Stalled),
-        }
+    /// Carries out what waits.
+    pub(crate) fn go_on(
+        &mut self,
+        alloc: Global,
+    ) -> Result<Result<Vec<Reply>, RoundFault>, RowFault> {
+        row_end(resume(alloc, &mut self.core, &mut self.link, &mut self.keeper))
     }
 
-    /// Writes one block after the other. Returns how many writes had their reply, and why the next one had none.
-    fn write_all(&mut self, alloc: Global) -> (u8, Option<KeepFault>) {
-        for number in 1..=WRITES {
-            if let Err(fault) = self.write(alloc, number) {
-                return (number - 1, Some(fault));
-            }
-        }
-        (WRITES, None)
+    /// Keeps the process as it is, without a round.
+    pub(crate) fn keep(&mut self, alloc: Global) -> Result<Result<(), RoundFault>, RowFault> {
+        row_end(keep(alloc, &self.core, &mut self.link, &mut self.keeper))
     }
 
-    /// Goes on from what was kept, as the next process does, with a keeper that doesn't fail.
-    fn begin_anew(&mut self, alloc: Global) -> Result<(), RowFault> {
-        match decode_state(alloc, PlainSeal, &self.shelf.newest) {
-            Ok(core) => self.core = core,
-            Err(StateFault::OutOfMemory) => return Err(RowFault::OutOfMemory),
-            Err(_) => return Err(RowFault::NoRow),
+    /// Writes the blocks from `first` to `last` in one round. Each must be done.
+    fn write(
+        &mut self,
+        alloc: Global,
+        first: u8,
+        last: u8,
+    ) -> Result<Result<(), RoundFault>, RowFault> {
+        let len = self.core.device().block_bytes();
+        let mut commands = Vec::new(alloc);
+        for number in first..=last {
+            let bytes = Bytes::from_vec(vec![in alloc; number; len]?);
+            commands.push(Command::Write(u32::from(number), bytes))?;
         }
-        self.shelf.room = u64::MAX;
-        match resume(alloc, &mut self.core, &mut self.link, &mut self.shelf) {
-            Ok(_) => Ok(()),
-            Err(fault) => Err(self.row_fault(fault)),
-        }
-    }
-
-    /// Reads a block whose bytes are all equal, and returns that byte.
-    fn read(&mut self, alloc: Global, address: u32) -> Result<u8, RowFault> {
-        match self.ask(alloc, Command::Read(address)) {
-            Ok(Asked::Replied(ReplyBody::Data(bytes))) => byte_of(bytes.as_slice()),
+        let count = commands.len();
+        let mut notes = Vec::new(alloc);
+        match self.round(alloc, commands, &mut notes)? {
+            Err(fault) => Ok(Err(fault)),
+            Ok(replies) if are_done(&replies, count) => Ok(Ok(())),
             Ok(_) => Err(RowFault::NoRow),
-            Err(fault) => Err(self.row_fault(fault)),
         }
     }
 
-    /// Returns how many blocks have what was written to them, from the first on. The blocks after these must be zeros.
-    fn found(&mut self, alloc: Global) -> Result<u8, RowFault> {
-        let mut found = 0;
-        for number in 1..=WRITES {
-            let byte = self.read(alloc, u32::from(number))?;
-            if byte == number && found == number - 1 {
-                found = number;
-            } else if byte != 0 {
-                return Err(RowFault::NoRow);
+    /// Writes the blocks in rounds of `round` commands. Returns how many writes had their reply, and why the others had none.
+    pub(crate) fn write_all(
+        &mut self,
+        alloc: Global,
+        round: u8,
+    ) -> Result<(u8, Option<RoundFault>), RowFault> {
+        let mut written = 0;
+        for _ in 0..WRITES {
+            if written >= WRITES || round == 0 {
+                break;
+            }
+            let last = WRITES.min(written.saturating_add(round));
+            match self.write(alloc, written.saturating_add(1), last)? {
+                Ok(()) => written = last,
+                Err(fault) => return Ok((written, Some(fault))),
             }
         }
-        Ok(found)
+        Ok((written, None))
     }
 
-    /// Returns whether the link or the keeper ran out of memory.
-    fn lacks_memory(&self) -> bool {
-        self.shelf.lacks_memory || self.link.check_memory().is_err()
-    }
-
-    /// Returns the row's fault for a fault that ends the row.
-    fn row_fault(&self, fault: KeepFault) -> RowFault {
-        if fault == KeepFault::OutOfMemory || self.lacks_memory() {
-            RowFault::OutOfMemory
-        } else {
-            RowFault::NoRow
+    /// Reads a block in a round of its own.
+    fn read(&mut self, alloc: Global, number: u8) -> Result<Result<Found, RoundFault>, RowFault> {
+        let mut commands = Vec::new(alloc);
+        commands.push(Command::Read(u32::from(number)))?;
+        let mut notes = Vec::new(alloc);
+        match self.round(alloc, commands, &mut notes)? {
+            Err(fault) => Ok(Err(fault)),
+            Ok(replies) => Ok(Ok(found_in(&replies, number)?)),
         }
     }
 
-    /// Writes how many writes had their reply, why the next one had none, how many times the core was kept, and how
-    /// many calls the link had.
-    fn tell_first(&mut self, alloc: Global, page: &mut Page) -> Result<(), RowFault> {
-        let (written, ended) = self.write_all(alloc);
-        if ended == Some(KeepFault::OutOfMemory) || self.lacks_memory() {
-            return Err(RowFault::OutOfMemory);
+    /// Reads the blocks that are written and then block 0, as far as nothing fails, and returns why the next one isn't read.
+    pub(crate) fn read_all(
+        &mut self,
+        alloc: Global,
+        found: &mut Vec<Found>,
+    ) -> Result<Option<RoundFault>, RowFault> {
+        for number in [1, 2, 3, 0] {
+            match self.read(alloc, number)? {
+                Ok(block) => found.push(block)?,
+                Err(fault) => return Ok(Some(fault)),
+            }
         }
-        page.word("written");
-        page.number(written);
-        if let Some(fault) = ended {
-            page.fault(fault);
-        }
-        page.word("kept");
-        page.number(self.shelf.kept);
-        page.word("calls");
-        page.number(self.link.calls());
-        Ok(())
+        Ok(None)
     }
 
-    /// Writes how many blocks the next life finds written.
-    fn tell_next(&mut self, alloc: Global, page: &mut Page) -> Result<(), RowFault> {
-        page.word("found");
-        if self.shelf.newest.is_empty() {
-            page.word("nothing");
-            return Ok(());
+    /// Carries out what waits, and reads the blocks.
+    pub(crate) fn go_on_and_read(
+        &mut self,
+        alloc: Global,
+        found: &mut Vec<Found>,
+    ) -> Result<Option<RoundFault>, RowFault> {
+        match self.go_on(alloc)? {
+            Ok(_) => self.read_all(alloc, found),
+            Err(fault) => Ok(Some(fault)),
         }
-        self.begin_anew(alloc)?;
-        page.number(self.found(alloc)?);
-        Ok(())
     }
 }
 
-/// Returns the byte that all of these are.
-fn byte_of(bytes: &[u8]) -> Result<u8, RowFault> {
-    match bytes.split_first() {
-        Some((first, rest)) if rest.iter().all(|byte| byte == first) => Ok(*first),
-        _ => Err(RowFault::NoRow),
-    }
+/// Returns whether there are `count` replies, and all say that their command is done.
+fn are_done(replies: &[Reply], count: usize) -> bool {
+    replies.len() == count && replies.iter().all(|reply| reply.body == ReplyBody::Done)
 }
 
-/// `lives DEVICE KEEPER LINK`: lets a device write three blocks, in a life that may end early, and begins the next life
-/// from what was kept. Writes how the first life went, and how many of the blocks the next life finds written.
-pub(crate) fn lives<R: Net>(
-    alloc: Global,
-    net: &CuttableNet<R>,
-    words: &mut RowWords,
-    page: &mut Page,
-) -> Result<(), RowFault> {
-    let (core, server) = formatted(alloc, words.five_numbers())?;
-    let shelf = MemoryKeeper::read(alloc, words)?;
-    let link = AnyLink::read(alloc, words, net, server)?;
-    let mut life = Life { core, link, shelf };
-    life.tell_first(alloc, page)?;
-    life.tell_next(alloc, page)
+/// Returns what the one reply to a read says about a block that may be filled with its number.
+fn found_in(replies: &[Reply], number: u8) -> Result<Found, RowFault> {
+    let [
+        Reply {
+            body: ReplyBody::Data(bytes),
+            ..
+        },
+    ] = replies
+    else {
+        return Err(RowFault::NoRow);
+    };
+    let bytes = bytes.as_slice();
+    if bytes.iter().all(|byte| *byte == 0) {
+        Ok(Found::Zeros)
+    } else if bytes.iter().all(|byte| *byte == number) {
+        Ok(Found::Written)
+    } else {
+        Ok(Found::Torn)
+    }
 }

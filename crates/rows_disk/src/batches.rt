@@ -1,0 +1,131 @@
+//! Batches over connections to a host in memory.
+
+use crate::far_end::{Answers, FarEnd, HostBehaviour, Messages};
+use crate::links::write_answers;
+use oram_client::{Dial, HostWatch, Limits, ReconnectLink, StreamBatches, Trouble};
+use oram_rounds::BatchLink;
+use oram_session::LinkFault;
+use rows::{Page, RowFault, RowWords};
+use std::alloc::Global;
+use std::cell::RefCell;
+
+/// Opens connections to one host. A digit for each says how many answers the host gives over it, in order.
+#[derive(Drop)]
+struct Connections<'a> {
+    far: &'a RefCell<FarEnd>,
+    digits: &'a [u8],
+    opened: usize,
+}
+
+impl<'a> Dial for Connections<'a> {
+    ghost use Rattle.std.specs.Prelude.{⊤};
+
+    type Line = StreamBatches<Answers<'a>, Messages<'a>>;
+
+    ghost opens = { λ _ _ _ _. ⊤ };
+
+    ghost fails = { λ _ _ _ _. ⊤ };
+
+    ghost pauses = { λ _ _ _. ⊤ };
+
+    ghost reads = { λ _ _ _. ⊤ };
+
+    fn dial(
+        &mut self,
+        alloc: Global,
+        _limits: Limits,
+    ) -> Result<StreamBatches<Answers<'a>, Messages<'a>>, Trouble> {
+        let Some(digit) = self.digits.get(self.opened) else {
+            return Err(Trouble::OutOfReach(LinkFault::Io));
+        };
+        self.opened = self.opened.saturating_add(1);
+        let Ok(mut far) = self.far.try_borrow_mut() else {
+            return Err(Trouble::OutOfReach(LinkFault::Io));
+        };
+        far.reopen(u64::from(digit.saturating_sub(b'0')));
+        Ok(StreamBatches::new(alloc, Answers(self.far), Messages(self.far)))
+    }
+
+    fn pause(&mut self, _milliseconds: u64) {}
+
+    fn now(&mut self) -> Option<u64> {
+        None
+    }
+}
+
+/// Is told of no trouble.
+#[derive(Drop)]
+struct NoWatch;
+
+impl HostWatch for NoWatch {
+    fn lost(&mut self) {}
+
+    fn full(&mut self) {}
+
+    fn back(&mut self) {}
+}
+
+/// Sends all messages as one batch, and writes the answers.
+fn send(
+    alloc: Global,
+    far: &RefCell<FarEnd>,
+    digits: &[u8],
+    first: &[Vec<u8>],
+    last: &[Vec<u8>],
+    page: &mut Page,
+) -> Result<(), RowFault> {
+    let dialer = Connections {
+        far,
+        digits,
+        opened: 0,
+    };
+    let mut link = ReconnectLink::new(alloc, dialer, NoWatch, 1);
+    let outcome = link.call_all(alloc, first, last);
+    if far.try_borrow().is_ok_and(|far| far.lacks_memory()) {
+        return Err(RowFault::OutOfMemory);
+    }
+    write_answers(outcome, page)
+}
+
+/// Sends all messages but the last one in a list, and the last one in another. Writes the answers, and how many messages the
+/// host has answered.
+fn send_and_count(
+    alloc: Global,
+    far: &RefCell<FarEnd>,
+    digits: &[u8],
+    words: &mut RowWords,
+    page: &mut Page,
+) -> Result<(), RowFault> {
+    let mut messages = words.bodies(alloc);
+    let Some(last) = messages.pop() else {
+        return Err(RowFault::NoRow);
+    };
+    send(alloc, far, digits, &messages, &[last], page)?;
+    page.word("answered");
+    let Ok(far) = far.try_borrow() else {
+        return Err(RowFault::NoRow);
+    };
+    page.number(far.answered());
+    Ok(())
+}
+
+/// `link talks DIGITS MESSAGES`: a link with a reconnect timeout of one second sends a batch to a host in memory. Its
+/// connections end after as many answers as the digits say. Writes the answers, and how many messages the host has answered
+/// in all tries.
+pub fn talks(alloc: Global, words: &mut RowWords, page: &mut Page) -> Result<(), RowFault> {
+    let digits = words.text().as_bytes();
+    let far = RefCell::new(FarEnd::new(alloc, 0, HostBehaviour::Honest));
+    send_and_count(alloc, &far, digits, words, page)
+}
+
+/// `link refused BEHIND CODE DIGITS MESSAGES`: the same with a host that refuses the message after the first `BEHIND` ones
+/// with this code.
+pub fn refused(alloc: Global, words: &mut RowWords, page: &mut Page) -> Result<(), RowFault> {
+    let conduct = HostBehaviour::Refuses {
+        behind: words.number(),
+        code: words.byte(),
+    };
+    let digits = words.text().as_bytes();
+    let far = RefCell::new(FarEnd::new(alloc, 0, conduct));
+    send_and_count(alloc, &far, digits, words, page)
+}

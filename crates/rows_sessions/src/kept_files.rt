@@ -1,0 +1,69 @@
+//! Rows of files of a process that aren't whole.
+
+use oram_bucket::PlainSeal;
+use oram_rounds::{KeptCoreFault, decode_kept};
+use rows::{Page, RowFault};
+use std::alloc::Global;
+
+/// How many files were read, and what became of them.
+#[derive(Clone, Copy, Drop)]
+struct Tally {
+    torn: u64,
+    state: u64,
+    taken: u64,
+}
+
+impl Tally {
+    const EMPTY: Tally = Tally {
+        torn: 0,
+        state: 0,
+        taken: 0,
+    };
+
+    /// Reads a file, and counts what came of it.
+    fn count(&mut self, alloc: Global, file: &[u8]) -> Result<(), RowFault> {
+        match decode_kept(alloc, PlainSeal, file) {
+            Ok(_) => self.taken = self.taken.saturating_add(1),
+            Err(KeptCoreFault::Torn) => self.torn = self.torn.saturating_add(1),
+            Err(KeptCoreFault::State(_)) => self.state = self.state.saturating_add(1),
+            Err(KeptCoreFault::OutOfMemory) => return Err(RowFault::OutOfMemory),
+        }
+        Ok(())
+    }
+
+    /// Writes how many files were refused because of their STOREs or because of the core, and how many were not refused.
+    fn tell(self, page: &mut Page) {
+        page.word("torn");
+        page.number(self.torn);
+        page.word("state");
+        page.number(self.state);
+        page.word("taken");
+        page.number(self.taken);
+    }
+}
+
+/// Reads the file cut short at each length.
+pub(crate) fn tell_cut_files(alloc: Global, file: &[u8], page: &mut Page) -> Result<(), RowFault> {
+    let mut tally = Tally::EMPTY;
+    for len in 0..file.len() {
+        tally.count(alloc, &file[..len])?;
+    }
+    tally.tell(page);
+    Ok(())
+}
+
+/// Reads the file with each of its bytes flipped in turn.
+pub(crate) fn tell_flipped_files(
+    alloc: Global,
+    mut file: Vec<u8>,
+    page: &mut Page,
+) -> Result<(), RowFault> {
+    let mut tally = Tally::EMPTY;
+    for i in 0..file.len() {
+        file[i] ^= 1;
+        tally.count(alloc, &file)?;
+        file[i] ^= 1;
+    }
+    tally.tell(page);
+    Ok(())
+}

@@ -1,0 +1,321 @@
+//! Rows of one device, whose processes carry out rounds of commands and are kept from row to row.
+
+use crate::faults::standing;
+use crate::hosts::{HostLink, HostPlace, Sent, Way};
+use crate::keepers::{MemoryKeeper, Room};
+use crate::kept_files::{tell_cut_files, tell_flipped_files};
+use crate::lives::{Life, new_device};
+use crate::plain_arrays::{PlainArray, many_commands};
+use oram_bytes::Bytes;
+use oram_core::{Command, Note, Reply, ReplyBody};
+use oram_host::Server;
+use oram_rounds::{OneByOne, RoundFault, RoundLink, encode_kept, record_len};
+use oram_session::Link;
+use oram_state::encode_state;
+use rows::{Page, RowFault, RowWords};
+use std::alloc::Global;
+
+/// The newest process of a device.
+#[derive(Drop)]
+pub(crate) struct Rounds<'a> {
+    place: &'a HostPlace,
+    life: Option<Life<'a>>,
+}
+
+/// How many files were kept and how many messages were sent before a row.
+#[derive(Clone, Copy, Drop)]
+struct Before {
+    kept: u64,
+    sent: Sent,
+}
+
+impl<'a> Rounds<'a> {
+    pub(crate) fn new(place: &'a HostPlace) -> Rounds<'a> {
+        Rounds { place, life: None }
+    }
+
+    /// Makes the call of this name on the process.
+    pub(crate) fn make(
+        &mut self,
+        alloc: Global,
+        call: &str,
+        words: &mut RowWords,
+        page: &mut Page,
+    ) -> Result<(), RowFault> {
+        match call {
+            "device" => self.device(alloc, words, page),
+            "next_process" => self.next_process(alloc, page),
+            "host" => self.host(alloc, words, page),
+            "spoil" => self.spoil(words, page),
+            "forget" => {
+                self.forget(alloc, page);
+                Ok(())
+            }
+            "keeper" => self.keeper(words, page),
+            "round" => self.round(alloc, words, page),
+            "many" => self.many(alloc, words, page),
+            "go_on" => self.go_on(alloc, page),
+            "keep" => self.keep(alloc, page),
+            "stores" => self.stores(page),
+            "faults" => self.faults(page),
+            "takes" => self.takes(alloc, words, page),
+            _ => self.file_row(alloc, call, page),
+        }
+    }
+
+    /// Returns the process. Fails if there is none.
+    fn life(&mut self) -> Result<&mut Life<'a>, RowFault> {
+        match &mut self.life {
+            Some(life) => Ok(life),
+            None => Err(RowFault::NoRow),
+        }
+    }
+
+    /// `device DEVICE`: formats a device on a new host, and begins its first process. The host is honest and the keeper keeps
+    /// all files.
+    fn device(
+        &mut self,
+        alloc: Global,
+        words: &mut RowWords,
+        page: &mut Page,
+    ) -> Result<(), RowFault> {
+        let (server, file) = new_device(alloc, words.five_numbers())?;
+        self.place.put(server, Way::Honest);
+        let keeper = MemoryKeeper::with(alloc, file, Room::AMPLE);
+        let life = Life::begin(alloc, self.place, keeper)?;
+        page.word(standing(&life.core));
+        self.life = Some(life);
+        Ok(())
+    }
+
+    /// `next_process`: ends the process, and begins the next one with what was kept, over the same host. Writes how the core
+    /// is, how many commands wait in it, and how many STOREs are kept. The host is honest and the keeper keeps all files.
+    fn next_process(&mut self, alloc: Global, page: &mut Page) -> Result<(), RowFault> {
+        let Some(life) = self.life.take() else {
+            return Err(RowFault::NoRow);
+        };
+        let next = life.next(alloc, self.place, Room::AMPLE)?;
+        self.place.set(Way::Honest)?;
+        page.word(standing(&next.core));
+        page.word("waiting");
+        page.number(next.core.waiting());
+        self.life = Some(next);
+        self.stores(page)
+    }
+
+    /// `host WAY`: sets what becomes of the messages, which count from 0 again.
+    fn host(
+        &mut self,
+        alloc: Global,
+        words: &mut RowWords,
+        page: &mut Page,
+    ) -> Result<(), RowFault> {
+        self.place.set(Way::read(alloc, words)?)?;
+        page.word("set");
+        Ok(())
+    }
+
+    /// `spoil TREE NODE OFFSET`: flips a bit of a byte that the host keeps.
+    fn spoil(&mut self, words: &mut RowWords, page: &mut Page) -> Result<(), RowFault> {
+        let mut server = self.place.take_server()?;
+        page.flag(server.flip(words.number(), words.number(), words.number()));
+        self.place.put(server, Way::Honest);
+        Ok(())
+    }
+
+    /// `forget`: puts a new server in the host's place, which keeps nothing.
+    fn forget(&mut self, alloc: Global, page: &mut Page) {
+        self.place.put(Server::new(alloc), Way::Honest);
+        page.word("set");
+    }
+
+    /// `keeper KEEPER`: sets when the keeper fails, and files count from 0 again.
+    fn keeper(&mut self, words: &mut RowWords, page: &mut Page) -> Result<(), RowFault> {
+        let room = Room::read(words)?;
+        self.life()?.keeper.set(room);
+        page.word("set");
+        Ok(())
+    }
+
+    fn before(&mut self) -> Result<Before, RowFault> {
+        let kept = self.life()?.keeper.kept;
+        let sent = self.place.sent()?;
+        Ok(Before { kept, sent })
+    }
+
+    /// Writes how many files were kept and how many messages were sent since then.
+    fn tell_since(&mut self, before: Before, page: &mut Page) -> Result<(), RowFault> {
+        let now = self.before()?;
+        self.life()?.keeper.check_memory()?;
+        page.word("kept");
+        page.number(now.kept.saturating_sub(before.kept));
+        page.word("fetches");
+        page.number(now.sent.fetches.saturating_sub(before.sent.fetches));
+        page.word("stores");
+        page.number(now.sent.stores.saturating_sub(before.sent.stores));
+        Ok(())
+    }
+
+    /// `round COMMAND ..`: carries out commands in one round: `write ADDRESS BYTES`, `read ADDRESS` or `discard ADDRESS`. Writes
+    /// what the core says to each that it refuses, then the replies to the others, or why there are none.
+    fn round(
+        &mut self,
+        alloc: Global,
+        words: &mut RowWords,
+        page: &mut Page,
+    ) -> Result<(), RowFault> {
+        let before = self.before()?;
+        let commands = commands_in(alloc, words)?;
+        let mut notes = Vec::new(alloc);
+        let ended = self.life()?.round(alloc, commands, &mut notes)?;
+        tell_refusals(page, &notes);
+        tell_replies(page, ended);
+        self.tell_since(before, page)
+    }
+
+    /// `go_on`: carries out what waits.
+    fn go_on(&mut self, alloc: Global, page: &mut Page) -> Result<(), RowFault> {
+        let before = self.before()?;
+        let ended = self.life()?.go_on(alloc)?;
+        tell_replies(page, ended);
+        self.tell_since(before, page)
+    }
+
+    /// `many COUNT`: carries out COUNT commands in one round, of all kinds and for all blocks, on a device of zeros. Writes how
+    /// many the core accepted, what it says to the others, and how many replies are those of an array, in order.
+    fn many(
+        &mut self,
+        alloc: Global,
+        words: &mut RowWords,
+        page: &mut Page,
+    ) -> Result<(), RowFault> {
+        let before = self.before()?;
+        let blocks = self.life()?.blocks();
+        let count = words.short();
+        let commands = many_commands(alloc, blocks, count)?;
+        let mut array = PlainArray::new(alloc, blocks)?;
+        let first = self.life()?.core.next_ticket();
+        let mut notes = Vec::new(alloc);
+        let ended = self.life()?.round(alloc, commands, &mut notes)?;
+        let accepted = notes
+            .iter()
+            .filter(|note| matches!(**note, Note::Accepted(_)))
+            .count();
+        page.word("accepted");
+        page.number(accepted);
+        tell_refusals(page, &notes);
+        match ended {
+            Ok(replies) => {
+                page.word("right");
+                let commands = many_commands(alloc, blocks, count)?;
+                page.number(array.right(&commands, first, &replies));
+            }
+            Err(fault) => page.fault(fault),
+        }
+        self.tell_since(before, page)
+    }
+
+    /// `keep`: keeps the process as it is, without a round.
+    fn keep(&mut self, alloc: Global, page: &mut Page) -> Result<(), RowFault> {
+        let before = self.before()?;
+        if let Err(fault) = self.life()?.keep(alloc)? {
+            page.fault(fault);
+        }
+        self.tell_since(before, page)
+    }
+
+    /// `faults`: writes how many messages of the process had a fault, by its link's own count.
+    fn faults(&mut self, page: &mut Page) -> Result<(), RowFault> {
+        page.number(self.life()?.link.faults());
+        Ok(())
+    }
+
+    /// `stores`: writes how many STOREs are kept, and how many more wait.
+    fn stores(&mut self, page: &mut Page) -> Result<(), RowFault> {
+        let link = &self.life()?.link;
+        page.word("kept");
+        page.number(link.kept().len());
+        page.word("held");
+        page.number(link.held().len());
+        Ok(())
+    }
+
+    /// `takes BODY ..`: writes whether a link for the device can begin with these messages as the STOREs that are kept.
+    fn takes(
+        &mut self,
+        alloc: Global,
+        words: &mut RowWords,
+        page: &mut Page,
+    ) -> Result<(), RowFault> {
+        let place = self.place;
+        let core = &self.life()?.core;
+        let inner = OneByOne {
+            link: HostLink::new(place),
+        };
+        let device = core.device().copy();
+        let link = RoundLink::with_kept(inner, device, record_len(core), words.bodies(alloc));
+        page.flag(link.is_some());
+        Ok(())
+    }
+
+    /// `file`: writes the file of the process as it is now. `state`: writes the state file of its core alone. `cut_files` and
+    /// `flipped_files`: writes how many files are refused that lack bytes, or have a wrong one.
+    fn file_row(&mut self, alloc: Global, call: &str, page: &mut Page) -> Result<(), RowFault> {
+        let life = self.life()?;
+        let file = encode_kept(alloc, life.link.waiting(), &life.core)?;
+        match call {
+            "file" => page.bytes(&file),
+            "state" => page.bytes(&encode_state(alloc, &life.core)?),
+            "cut_files" => tell_cut_files(alloc, &file, page)?,
+            "flipped_files" => tell_flipped_files(alloc, file, page)?,
+            _ => return Err(RowFault::NoRow),
+        }
+        Ok(())
+    }
+}
+
+/// Reads the commands of a round.
+fn commands_in(alloc: Global, words: &mut RowWords) -> Result<Vec<Command>, RowFault> {
+    let mut commands = Vec::new(alloc);
+    for _ in 0..u64::MAX {
+        if words.is_empty() {
+            break;
+        }
+        let command = match words.text() {
+            "write" => Command::Write(words.short(), Bytes::from_vec(words.bytes(alloc))),
+            "read" => Command::Read(words.short()),
+            "discard" => Command::Discard(words.short()),
+            _ => return Err(RowFault::NoRow),
+        };
+        commands.push(command)?;
+    }
+    Ok(commands)
+}
+
+/// Writes what the core says to the commands that it refuses.
+fn tell_refusals(page: &mut Page, notes: &[Note]) {
+    for note in notes {
+        if let Note::Refused(why) = note {
+            page.word("refused");
+            page.show(why);
+        }
+    }
+}
+
+/// Writes the replies to a round, or why there are none.
+fn tell_replies(page: &mut Page, ended: Result<Vec<Reply>, RoundFault>) {
+    let replies = match ended {
+        Ok(replies) => replies,
+        Err(fault) => {
+            page.fault(fault);
+            return;
+        }
+    };
+    for reply in &replies {
+        match &reply.body {
+            ReplyBody::Data(bytes) => page.bytes(bytes.as_slice()),
+            ReplyBody::Done => page.word("done"),
+            ReplyBody::Failed => page.word("failed"),
+        }
+    }
+}
