@@ -18,3 +18,4 @@ pub mod Results
 pub mod Failing
 pub mod NewProcess
 pub mod KeptText
+pub mod Asked

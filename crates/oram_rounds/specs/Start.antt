@@ -1,8 +1,8 @@
 -- How a process comes to what it does: it begins with a device that is held, and commands are submitted to it.
-use Rattle.std.specs.Prelude.{◌≡◌, ℕ, Bool, List, [], ◌∷◌}
+use Rattle.std.specs.Prelude.{◌≡◌, ℕ, ◌*◌, Bool, List, [], ◌∷◌}
 use Rattle.std.specs.List.{FoldsTo}
 use Rattle.oram_geometry.specs.declared.Sizes.{Sizes}
-use Rattle.oram_geometry.specs.Sizes.{IsDevice}
+use Rattle.oram_geometry.specs.Sizes.{IsDevice, trees_of}
 use Rattle.oram_host.specs.Host.{Host}
 use Rattle.oram_semantics.specs.Run.{Shown}
 use Rattle.oram_semantics.specs.Scheme.{Scheme}
@@ -15,7 +15,8 @@ use Rattle.oram_semantics.specs.declared.events.Note.TheVariants.{Accepted, Fail
 use Rattle.oram_core.specs.Steps.{Steps}
 use Rattle.oram_link_laws.specs.Runs.{IsHeldBy}
 use Rattle.oram_rounds.specs.Files.{IsFile}
-use Rattle.oram_rounds.specs.Process.{IsSafe, Process, begun}
+use Rattle.oram_rounds.specs.Process.{IsSafe, Process, begun, process}
+use Rattle.oram_rounds.specs.Rounds.{Round}
 
 -- a command that is submitted, and what the core shows then
 pub record Asked : Type 0 where
@@ -41,6 +42,20 @@ array_with d (a ∷ asked) array = array_with d asked (array_if a.shown.note d a
 
 abbrev pub Submits : {B K : Type 0} → Scheme → Process B K → Asked → Process B K → Type 0
 Submits v p a q = Steps v p.core (Submit a.session a.command a.words) a.shown q.core × (q.link ≡ p.link) × (q.keeper ≡ p.keeper)
+
+-- A session submits a command to a core, with the words that a tape has for the core's next ticket.
+abbrev pub IsAsked : Scheme → (ℕ → ℕ → List ℕ) → ℕ → State → Asked → State → Type 0
+IsAsked v words session s a t =
+    (a.session ≡ session) × (a.words ≡ words s.next (2 * trees_of v.device)) × Steps v s (Submit a.session a.command a.words) a.shown t
+
+-- such commands, one after the other
+abbrev pub AreAsked : Scheme → (ℕ → ℕ → List ℕ) → ℕ → State → List Asked → State → Type 0
+AreAsked v words session s asked t = FoldsTo {P = State} (IsAsked v words session) s asked t
+
+-- What is submitted to a core is submitted to its process, whose link and keeper stay as they are.
+abbrev pub AskedIsSubmitted : Type 0 → Type 0 → Type 0
+AskedIsSubmitted B K = (v : Scheme) (words : ℕ → ℕ → List ℕ) (session : ℕ) (asked : List Asked) (s t : State) (l : Round B) (k : K) → AreAsked v words session s asked t
+    → FoldsTo {P = Process B K} (Submits v) (process s l k) asked (process t l k)
 
 -- Where the device will hold an array, and whatever is read back will hold it too, commands are submitted. Then the device
 -- will hold the array after those that were accepted, and what is read back the array before them.

@@ -1,5 +1,5 @@
 //! The law of links that hold STOREs back.
-ghost use Rattle.oram_rounds.specs.Start.{HeldIsSafe, SubmittedIsSafe};
+ghost use Rattle.oram_rounds.specs.Start.{AskedIsSubmitted, HeldIsSafe, SubmittedIsSafe};
 ghost use Rattle.oram_rounds.specs.Examples.{NewProcessExample, OneWaitsExample};
 ghost use Rattle.oram_rounds.specs.Files.{FilesTellOfOneProcess};
 ghost use Rattle.oram_rounds.specs.Law.{CallsAreOfTheHostLater};
@@ -31,6 +31,13 @@ pub fn files_tell_of_one_process()
 /// leaves both (`new_devices_hold_zeros_beside` in `oram_link_laws`), if nothing but this core is read back.
 pub fn held_is_safe<B: BatchLink, K: Keeper>()
     ensures { HeldIsSafe B K.reads_back }
+{}
+
+/// A law about definitions: commands are submitted to the core of a process, one after the other, as
+/// [`submit_all`](crate::submit_all) does it. Then they are submitted to the process, as [`submitted_is_safe`] wants it, and
+/// its link and its keeper stay as they are.
+pub fn asked_is_submitted<B, K>()
+    ensures { AskedIsSubmitted B K }
 {}
 
 /// A law about definitions: commands are submitted to a process. Then the device will hold the array after those that the

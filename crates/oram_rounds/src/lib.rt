@@ -8,7 +8,7 @@
 //! The client keeps the STOREs that wait in a file before they leave. If its process ends, the next one sends them again.
 //! A [`BatchLink`] carries the STOREs and the FETCH behind them; [`OneByOne`] makes one of any link.
 //!
-//! A round is one keeping and then the work of all commands that were submitted ([`perform`], [`resume`]). Their replies may
+//! A round is one keeping and then the work of all commands that were submitted ([`submit_all`], [`perform`], [`resume`]). Their replies may
 //! be given at once, since what is kept has the commands.
 #![tactic(auto)]
 
@@ -24,13 +24,14 @@ mod records;
 mod round_fault;
 mod round_link;
 mod rounds;
+mod submissions;
 
 pub use batch::BatchLink;
 pub use exchanges::carry_out_all;
 pub use keeper::{KeepError, Keeper};
 pub use kept_file::{KeptCore, KeptCoreFault, decode_kept, encode_kept};
 pub use law::{
-    acts_are_safe, begun_is_safe, calls_are_of_the_host_later, ends_are_safe,
+    acts_are_safe, asked_is_submitted, begun_is_safe, calls_are_of_the_host_later, ends_are_safe,
     files_tell_of_one_process, held_is_safe, new_process_example, one_waits_example,
     replies_are_the_arrays, submitted_is_safe,
 };
@@ -39,3 +40,4 @@ pub use records::record_len;
 pub use round_fault::RoundFault;
 pub use round_link::RoundLink;
 pub use rounds::{keep, perform, resume};
+pub use submissions::{Submitted, submit_all};

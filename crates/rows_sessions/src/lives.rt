@@ -3,14 +3,13 @@
 use crate::hosts::{HostLink, HostPlace};
 use crate::keepers::{MemoryKeeper, Room};
 use crate::sessions::formatted;
-use crate::submissions::submit_all;
 use oram_bucket::PlainSeal;
 use oram_bytes::Bytes;
 use oram_core::{Command, Core, Note, Reply, ReplyBody};
 use oram_host::Server;
 use oram_rounds::{
     KeptCore, KeptCoreFault, OneByOne, RoundFault, RoundLink, decode_kept, encode_kept, keep,
-    perform, record_len, resume,
+    perform, record_len, resume, submit_all,
 };
 use oram_session::{ChaChaTape, is_settled};
 use rows::RowFault;
@@ -18,6 +17,9 @@ use std::alloc::Global;
 
 /// How many blocks are written. They are blocks 1, 2 and 3, each filled with its number. Block 0 is not written.
 pub(crate) const WRITES: u8 = 3;
+
+/// The session of all commands.
+const SESSION: u32 = 0;
 
 /// A process of the client.
 #[derive(Drop)]
@@ -114,7 +116,9 @@ impl<'a> Life<'a> {
         let trees = self.core.device().trees();
         let key = [0; 32];
         let mut tape = ChaChaTape { key, trees };
-        let Some(reaction) = submit_all(alloc, &mut self.core, &mut tape, commands, notes)? else {
+        let submitted = submit_all(alloc, &mut self.core, &mut tape, SESSION, commands)?;
+        *notes = submitted.notes;
+        let Some(reaction) = submitted.begun else {
             return Ok(Ok(Vec::new(alloc)));
         };
         row_end(perform(

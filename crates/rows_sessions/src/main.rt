@@ -18,7 +18,6 @@ mod rounds;
 mod sessions;
 mod storms;
 mod streams;
-mod submissions;
 mod tapes;
 mod ways;
 
