@@ -1,42 +1,41 @@
 -- Calls of a device, one after another.
 use Rattle.std.proofs.Common.{◌≡◌, ℕ, Result, Ok, Err, refl, ◌∙◌}
+use Rattle.oram_nbd.specs.Beside.{IsStopped}
 use Rattle.oram_nbd.specs.Calls.{IsCall, Stays}
-use Rattle.oram_nbd.specs.HeldBytes.{IsStopped}
 use Rattle.oram_nbd.specs.declared.faults.DiskFault.{DiskFault}
-use Rattle.oram_nbd.specs.declared.faults.DiskFault.TheVariants.{Failed, OutOfMemory, Stopped}
+use Rattle.oram_nbd.specs.declared.faults.DiskFault.TheVariants.{OutOfMemory}
 
-module _ {D : Type 0} {block_len size : D → ℕ} {is_sound failed : D → Type 0} where
+module _ {D : Type 0} {block_len size : D → ℕ} {failed : D → Type 0} where
   -- A device that wasn't called stays as it is.
-  pub at_rest : (d : D) → Stays block_len size is_sound failed d d
-  at_rest d = record { same_block_len = refl; same_size = refl; still_sound = λ h. h; still_failed = λ h. h }
+  pub at_rest : (d : D) → Stays block_len size failed d d
+  at_rest d = record { same_block_len = refl; same_size = refl; still_failed = λ h. h }
 
   -- What stays from a first state to a second one, and from there to a third, stays from the first to the third.
-  pub stays_on : {old mid new : D} → Stays block_len size is_sound failed old mid → Stays block_len size is_sound failed mid new → Stays block_len size is_sound failed old new
+  pub stays_on : {old mid new : D} → Stays block_len size failed old mid → Stays block_len size failed mid new → Stays block_len size failed old new
   stays_on first second = record {
     same_block_len = second.same_block_len ∙ first.same_block_len;
     same_size = second.same_size ∙ first.same_size;
-    still_sound = λ h. second.still_sound (first.still_sound h);
     still_failed = λ h. second.still_failed (first.still_failed h);
   }
 
   module _ {T stopped : Type 0} {old new : D} where
     -- Where a function returns no error, there is no fault to tell of.
-    pub done : {x : T} → Stays block_len size is_sound failed old new → IsCall block_len size is_sound failed stopped old (Ok x) new
-    done stays = record { stays = stays; unsound = λ e h. cc; has_failed = λ e. cc; has_stopped = λ e. cc }
+    pub done : {x : T} → Stays block_len size failed old new → IsCall block_len size failed stopped old (Ok x) new
+    done stays = record { stays = stays; has_failed = λ e. cc; has_stopped = λ e. cc }
 
     -- Nor is there one where memory ran out.
-    pub no_memory : {e : DiskFault} → e ≡ OutOfMemory → Stays block_len size is_sound failed old new → IsCall block_len size is_sound failed {T = T} stopped old (Err e) new
-    no_memory is stays = record { stays = stays; unsound = λ f h. cc; has_failed = λ f. cc; has_stopped = λ f. cc }
+    pub no_memory : {e : DiskFault} → e ≡ OutOfMemory → Stays block_len size failed old new → IsCall block_len size failed {T = T} stopped old (Err e) new
+    no_memory is stays = record { stays = stays; has_failed = λ f. cc; has_stopped = λ f. cc }
 
     -- A `?` passes on the error of a call that returns another type.
-    pub passed_on : {U : Type 0} {e f : DiskFault} → f ≡ e → IsCall block_len size is_sound failed {T = U} stopped old (Err e) new → IsCall block_len size is_sound failed {T = T} stopped old (Err f) new
-    passed_on is call = record { stays = call.stays; unsound = λ h. call.unsound cc; has_failed = λ h. call.has_failed cc; has_stopped = λ h. call.has_stopped cc }
+    pub passed_on : {U : Type 0} {e f : DiskFault} → f ≡ e → IsCall block_len size failed {T = U} stopped old (Err e) new → IsCall block_len size failed {T = T} stopped old (Err f) new
+    passed_on is call = record { stays = call.stays; has_failed = λ h. call.has_failed cc; has_stopped = λ h. call.has_stopped cc }
 
     -- Calls that were made before are part of the call.
-    pub after : {mid : D} {r : Result T DiskFault} → Stays block_len size is_sound failed old mid → IsCall block_len size is_sound failed stopped mid r new → IsCall block_len size is_sound failed stopped old r new
-    after first call = record { stays = stays_on first call.stays; unsound = λ e h. call.unsound e (first.still_sound h); has_failed = call.has_failed; has_stopped = call.has_stopped }
+    pub after : {mid : D} {r : Result T DiskFault} → Stays block_len size failed old mid → IsCall block_len size failed stopped mid r new → IsCall block_len size failed stopped old r new
+    after first call = record { stays = stays_on first call.stays; has_failed = call.has_failed; has_stopped = call.has_stopped }
 
   -- A device says of its own call in which state the call began. A function above it only says that there is one.
-  pub met : (stops : D → D → Type 0) {T : Type 0} {old new : D} {r : Result T DiskFault} → IsCall block_len size is_sound failed (stops old new) old r new →
-      IsCall block_len size is_sound failed (IsStopped stops new) old r new
-  met stops {old = old} call = record { stays = call.stays; unsound = call.unsound; has_failed = call.has_failed; has_stopped = λ e. (old, call.has_stopped e) }
+  pub met : (stops : D → D → Type 0) {T : Type 0} {old new : D} {r : Result T DiskFault} → IsCall block_len size failed (stops old new) old r new →
+      IsCall block_len size failed (IsStopped stops new) old r new
+  met stops {old = old} call = record { stays = call.stays; has_failed = call.has_failed; has_stopped = λ e. (old, call.has_stopped e) }

@@ -1,4 +1,5 @@
 pub mod Calls
+pub mod Beside
 pub mod Splices
 pub mod Texts
 pub mod Wanted

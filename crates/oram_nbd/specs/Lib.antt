@@ -1,5 +1,5 @@
 pub mod Bytes
-pub mod HeldBytes
+pub mod Beside
 pub mod Calls
 pub mod MemBlocks
 pub mod Errors

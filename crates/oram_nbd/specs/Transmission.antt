@@ -1,8 +1,8 @@
 -- What is read and written while requests are served, up to their end or a fault.
-use Rattle.std.specs.Prelude.{◌≡◌, ◌⊎◌, ℕ, ◌<◌, List, [], ◌∷◌, ◌++◌, length, take, Option, None, All}
+use Rattle.std.specs.Prelude.{◌≡◌, ◌⊎◌, ℕ, ◌<◌, Bool, false, List, [], ◌∷◌, ◌++◌, length, take, Option, None, All}
 use Rattle.std.specs.Io.KnownBytes.{Appends, Consumes, IsAtEnd}
+use Rattle.oram_nbd.specs.Beside.{GoesOn}
 use Rattle.oram_nbd.specs.Messages.{payload_len, request_text, IsRequest}
-use Rattle.oram_nbd.specs.HeldBytes.{GoesOnHolding}
 use Rattle.oram_nbd.specs.Service.{asking, refusal_of, replying, requests_text, replies_text, IsPartly, IsReplied, IsService, NeverFails, FailsForGood, Turn}
 use Rattle.oram_nbd.specs.declared.faults.NbdFault.{NbdFault}
 use Rattle.oram_nbd.specs.declared.faults.NbdFault.TheVariants.{Read, Truncated, Magic, Write, OldClient, UnknownExport, TooManyOptions, OutOfMemory, Stopped}
@@ -29,25 +29,24 @@ pub record HasExchanged (turns : List Turn) (unread unread' : Option (List ℕ))
   pub read : Consumes unread unread' (requests_text turns ++ part)
   pub wrote : Appends written written' (replies_text turns ++ more)
 
--- For a device of `size` bytes. `sound` says that it is sound, and `failed` that it had failed before. `held` are the
--- arrays that it held before, and `held'` those that it holds now.
-module _ (sound failed : Type 0) (size : ℕ) (held held' : List ℕ → Type 0) where
-  -- The turns were made. From each array that was held, they lead to one that is held.
+-- For a device of `size` bytes, which goes from one state to another, beside a world. `failed` says that it had failed before.
+module _ {D W E : Type 0} (had : D → List E → D → Type 0) (hears : Bool → W → E → W → Type 0) (holds : Bool → D → W → List ℕ → Type 0) (failed : Type 0) (size : ℕ) (old new : D) where
+  -- The turns were made. From each array that was held, they lead to one that is held. Where the world doesn't lie, no
+  -- reply says that the device failed.
   pub record HasServed (turns : List Turn) : Type 0 where
     pub fits : All (λ turn. IsReplied size turn) turns
-    pub never : sound → NeverFails turns
     pub refused : FailsForGood failed turns
-    pub service : GoesOnHolding held (λ old new. IsService old turns new) held'
+    pub service : GoesOn had hears holds old (λ may_lie bytes later. IsService bytes turns later × (may_lie ≡ false → NeverFails turns)) new
 
   -- The turns were made, and then a request came, with these bytes, at which the device stopped.
   pub record HasStopped (turns : List Turn) (r : Request) (payload : List ℕ) : Type 0 where
     pub fits : All (λ turn. IsReplied size turn) turns
-    pub never : sound → NeverFails turns
     pub refused : FailsForGood failed turns
     pub request : IsRequest r
     pub whole : length payload ≡ payload_len r.command r.length
     pub accepted : refusal_of size r ≡ None
-    pub service : GoesOnHolding held (λ old new. (mid : List ℕ) × IsService old turns mid × IsPartly r.command mid r.offset r.length payload new) held'
+    pub service : GoesOn had hears holds old (λ may_lie bytes later. (mid : List ℕ) × IsService bytes turns mid × (may_lie ≡ false → NeverFails turns)
+        × IsPartly r.command mid r.offset r.length payload later) new
 
   -- `count` requests were answered, and then the requests ended
   pub record HasTransmitted (count : ℕ) (unread unread' written written' : Option (List ℕ)) : Type 0 where

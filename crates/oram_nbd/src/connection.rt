@@ -3,7 +3,7 @@
 ghost use Rattle.std.specs.Prelude.{◌≡◌, ◌≤◌, ◌↔◌, length, Err, IfOk, IfErr, IsTrue};
 ghost use Rattle.oram_nbd.specs.Calls.{Stays};
 ghost use Rattle.oram_nbd.specs.Connection.{preferred_of, HasConnected, StopsConnection};
-ghost use Rattle.oram_nbd.specs.HeldBytes.{IsStopped};
+ghost use Rattle.oram_nbd.specs.Beside.{IsStopped};
 
 use crate::LONGEST_PAYLOAD;
 use crate::disk::BlockDevice;
@@ -45,12 +45,12 @@ pub fn serve<R: Read, W: Write, D: BlockDevice, H: HandshakeWatch>(
     watch: &H,
 ) -> Result<u64, NbdFault>
     requires { length name.now ≤ 4096 }
-    ensures ok { IfOk result (λ count. HasConnected (D.is_sound disk.old) (D.failed disk.old) (D.block_len disk.old) (D.size disk.old) (D.holds disk.old) (D.holds disk.new) name.now count
+    ensures ok { IfOk result (λ count. HasConnected D.had D.hears D.holds (D.failed disk.old) (D.block_len disk.old) (D.size disk.old) disk.old disk.new name.now count
         (R.remaining reader.old) (R.remaining reader.new) (W.contents writer.old) (W.contents writer.new)) }
-    ensures err { IfErr result (λ fault. StopsConnection (D.is_sound disk.old) (D.failed disk.old) (D.block_len disk.old) (D.size disk.old) (D.holds disk.old) (D.holds disk.new) name.now fault
+    ensures err { IfErr result (λ fault. StopsConnection D.had D.hears D.holds (D.failed disk.old) (D.block_len disk.old) (D.size disk.old) disk.old disk.new name.now fault
         (R.remaining reader.old) (R.remaining reader.new) (W.contents writer.old) (W.contents writer.new)) }
     ensures stopped { IfErr result (λ fault. fault ≡ NbdFault.Stopped → IsStopped D.stops disk.new) }
-    ensures stays { Stays D.block_len D.size D.is_sound D.failed disk.old disk.new }
+    ensures stays { Stays D.block_len D.size D.failed disk.old disk.new }
 {
     let block_bytes = disk.block_bytes();
     let export = Export {

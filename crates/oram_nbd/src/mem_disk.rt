@@ -1,6 +1,6 @@
 //! A device in memory.
 
-ghost use Rattle.std.specs.Prelude.{◌≡◌, ◌*◌, ◌<◌, ◌^◌, length, IfOk};
+ghost use Rattle.std.specs.Prelude.{◌≡◌, ◌+◌, ◌*◌, ◌<◌, ◌≤◌, ◌^◌, [], length, IfOk};
 
 use crate::disk::BlockDevice;
 use crate::faults::DiskFault;
@@ -26,7 +26,7 @@ impl Model for MemDisk {
 }
 
 impl MemDisk {
-    ghost use Rattle.oram_nbd.specs.Bytes.{zeroes};
+    ghost use Rattle.oram_nbd.specs.Bytes.{written, zeroes};
 
     /// Returns a device of `blocks` blocks of zeroes, each of `block_bytes` bytes.
     pub fn new(alloc: Global, block_bytes: u32, blocks: u64) -> Result<MemDisk, AllocError>
@@ -42,6 +42,25 @@ impl MemDisk {
             blocks,
         })
     }
+
+    /// Replaces the bytes from `start` on.
+    fn put(&mut self, start: usize, payload: &[u8])
+        requires { start + length payload.now ≤ length self.old.bytes }
+        ensures { self.new ≡ record self.old { bytes = written self.old.bytes start payload.now } }
+    {
+        self.bytes[start..start + payload.len()].copy_from_slice(payload);
+    }
+
+    /// Returns where the bytes of `count` blocks begin and end, from the block `first` on.
+    fn range(&self, first: u64, count: u64) -> (usize, usize)
+        requires { self.now.block_len * first + self.now.block_len * count ≤ length self.now.bytes }
+        ensures start { result.0 ≡ self.now.block_len * first }
+        ensures end { result.1 ≡ self.now.block_len * first + self.now.block_len * count }
+    {
+        let len = self.block_bytes as usize;
+        let start = len * first as usize;
+        (start, start + len * count as usize)
+    }
 }
 
 impl BlockDevice for MemDisk {
@@ -49,9 +68,15 @@ impl BlockDevice for MemDisk {
 
     ghost size = { λ d. length d.bytes };
 
-    ghost holds = { λ d bytes. bytes ≡ d.bytes };
+    ghost World = { Unit {0} };
 
-    ghost is_sound = { λ _. Unit {0} };
+    ghost Event = { Unit {0} };
+
+    ghost hears = { λ _ _ _ _. Unit {0} };
+
+    ghost had = { λ _ events _. events ≡ [] };
+
+    ghost holds = { λ _ d _ bytes. bytes ≡ d.bytes };
 
     ghost failed = { λ _. ⊥ };
 
@@ -69,24 +94,21 @@ impl BlockDevice for MemDisk {
         self.blocks
     }
 
-    fn read(&mut self, alloc: Global, block: u64) -> Result<Vec<u8>, DiskFault> {
-        let len = self.block_bytes as usize;
-        let at = len * block as usize;
-        Ok(self.bytes[at..at + len].to_vec(alloc)?)
+    fn read(&mut self, alloc: Global, first: u64, count: u64) -> Result<Vec<u8>, DiskFault> {
+        let (start, end) = self.range(first, count);
+        Ok(self.bytes[start..end].to_vec(alloc)?)
     }
 
-    fn write(&mut self, _alloc: Global, block: u64, payload: &[u8]) -> Result<(), DiskFault> {
-        let len = self.block_bytes as usize;
-        let at = len * block as usize;
-        self.bytes[at..at + len].copy_from_slice(payload);
+    fn write(&mut self, _alloc: Global, first: u64, payload: &[u8]) -> Result<(), DiskFault> {
+        let start = self.block_bytes as usize * first as usize;
+        self.put(start, payload);
         Ok(())
     }
 
-    fn discard(&mut self, alloc: Global, block: u64) -> Result<(), DiskFault> {
-        let len = self.block_bytes as usize;
-        let at = len * block as usize;
-        let none = vec![in alloc; 0u8; len]?;
-        self.bytes[at..at + len].copy_from_slice(&none);
+    fn zero(&mut self, alloc: Global, first: u64, count: u64) -> Result<(), DiskFault> {
+        let (start, end) = self.range(first, count);
+        let none = vec![in alloc; 0u8; end - start]?;
+        self.put(start, &none);
         Ok(())
     }
 }

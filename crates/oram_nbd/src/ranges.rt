@@ -1,70 +1,57 @@
 //! Carries out byte ranges by calls of whole blocks.
 
-ghost use Rattle.std.specs.Prelude.{◌≡◌, ◌⊎◌, ℕ, List, ◌+◌, ◌-◌, ◌*◌, ◌<◌, ◌≤◌, ◌++◌, length, take, IfOk, OnOk, OnErr};
+ghost use Rattle.std.specs.Prelude.{◌≡◌, ℕ, List, ◌+◌, ◌*◌, ◌<◌, ◌≤◌, length, take, drop, IfOk, OnErr, MatchResult};
+ghost use Rattle.oram_nbd.specs.Beside.{GoesOn, IsStopped};
 ghost use Rattle.oram_nbd.specs.Bytes.{bytes_at, written, zeroes, IsBegun};
-ghost use Rattle.oram_nbd.specs.Calls.{IsCall};
-ghost use Rattle.oram_nbd.specs.HeldBytes.{IsStopped, GoesOnHolding, StillHolds};
+ghost use Rattle.oram_nbd.specs.Calls.{FailsByLies, IsCall, Writes};
 
 use crate::disk::BlockDevice;
 use crate::faults::DiskFault;
 use std::alloc::{AllocError, Global};
 
-/// The part of a range that lies in the block where the range begins.
+/// The blocks over which a range of bytes lies.
 #[derive(Clone, Copy, Debug)]
-struct Part {
-    block: u64,
+struct Cover {
+    /// The first of them.
+    first: u64,
+    count: u64,
+    /// How many bytes of the first block lie before the range.
     start: usize,
-    count: usize,
 }
 
-impl Part {
-    /// Returns that part of the range of `most` bytes from a place on.
-    fn at<D: BlockDevice>(disk: &D, at: u64, most: u64) -> Part
-        requires within { at + most ≤ D.size disk.now }
-        requires some { 0 < most }
-        ensures place { D.block_len disk.now * result.block + result.start ≡ at }
-        ensures within { D.block_len disk.now * result.block + D.block_len disk.now ≤ D.size disk.now }
-        ensures fits { result.start + result.count ≤ D.block_len disk.now }
-        ensures most { result.count ≤ most }
-        ensures some { 0 < result.count }
+impl Cover {
+    /// Returns the blocks of the range of `len` bytes from a place on.
+    fn of<D: BlockDevice>(disk: &D, at: u64, len: u64) -> Cover
+        requires within { at + len ≤ D.size disk.now }
+        requires some { 0 < len }
+        ensures place { D.block_len disk.now * result.first + result.start ≡ at }
+        ensures within { D.block_len disk.now * result.first + D.block_len disk.now * result.count ≤ D.size disk.now }
+        ensures covers { result.start + len ≤ D.block_len disk.now * result.count }
     {
         let _blocks = disk.blocks();
-        let len = u64::from(disk.block_bytes());
-        let start = at % len;
-        let count = most.min(len - start);
-        Part {
-            block: at / len,
-            start: start as usize,
-            count: count as usize,
+        let block = u64::from(disk.block_bytes());
+        let first = at / block;
+        let last = (at + len - 1) / block;
+        Cover {
+            first,
+            count: last - first + 1,
+            start: (at % block) as usize,
         }
     }
 }
 
-/// Reads at most `most` bytes from a place on, as far as its block goes. Appends them to `out`, and returns their
-/// number.
-fn read_part<D: BlockDevice>(
-    alloc: Global,
-    disk: &mut D,
-    at: u64,
-    most: u64,
-    out: &mut Vec<u8>,
-) -> Result<u64, DiskFault>
-    requires within { at + most ≤ D.size disk.old }
-    requires some { 0 < most }
-    ensures some { IfOk result (λ n. 0 < n) }
-    ensures most { IfOk result (λ n. n ≤ most) }
-    ensures len { IfOk result (λ n. length out.new.items ≡ length out.old.items + n) }
-    ensures ok { IfOk result (λ n. (bytes : List ℕ) → D.holds disk.old bytes → out.new.items ≡ out.old.items ++ bytes_at bytes at n) }
-    ensures same { StillHolds (D.holds disk.old) (D.holds disk.new) }
-    ensures call { IsCall D.block_len D.size D.is_sound D.failed (IsStopped D.stops disk.new) disk.old result disk.new }
+/// Returns `count` bytes of some, from `start` on.
+fn cut(alloc: Global, bytes: Vec<u8>, start: usize, count: usize) -> Result<Vec<u8>, AllocError>
+    requires { start + count ≤ length bytes.items }
+    ensures { IfOk result (λ v. v.items ≡ take count (drop start bytes.items)) }
 {
-    let part = Part::at(disk, at, most);
-    let block = disk.read(alloc, part.block)?;
-    out.extend_from_slice(&block[part.start..part.start + part.count])?;
-    Ok(part.count as u64)
+    if count == bytes.len() {
+        return Ok(bytes);
+    }
+    bytes[start..start + count].to_vec(alloc)
 }
 
-/// Reads the bytes of a range. The device holds what it held.
+/// Reads the bytes of a range, by one call. The device holds what it held.
 pub fn read_range<D: BlockDevice>(
     alloc: Global,
     disk: &mut D,
@@ -73,58 +60,76 @@ pub fn read_range<D: BlockDevice>(
 ) -> Result<Vec<u8>, DiskFault>
     requires { offset + count ≤ D.size disk.old }
     ensures len { IfOk result (λ v. length v.items ≡ count) }
-    ensures ok { IfOk result (λ v. (bytes : List ℕ) → D.holds disk.old bytes → v.items ≡ bytes_at bytes offset count) }
-    ensures same { StillHolds (D.holds disk.old) (D.holds disk.new) }
-    ensures call { IsCall D.block_len D.size D.is_sound D.failed (IsStopped D.stops disk.new) disk.old result disk.new }
+    ensures goes { GoesOn D.had D.hears D.holds disk.old (λ may_lie bytes later. (later ≡ bytes)
+        × IfOk result (λ v. v.items ≡ bytes_at bytes offset count) × FailsByLies result may_lie) disk.new }
+    ensures call { IsCall D.block_len D.size D.failed (IsStopped D.stops disk.new) disk.old result disk.new }
 {
-    let _blocks = disk.blocks();
-    let mut out = Vec::with_capacity(alloc, count as usize)?;
-    let count = u64::from(count);
-    let mut done = 0;
-    while done < count {
-        done += read_part(alloc, disk, offset + done, count - done, &mut out)?;
+    if count == 0 {
+        return Ok(Vec::new(alloc));
     }
-    Ok(out)
+    let cover = Cover::of(disk, offset, u64::from(count));
+    let bytes = disk.read(alloc, cover.first, cover.count)?;
+    Ok(cut(alloc, bytes, cover.start, count as usize)?)
 }
 
-/// Returns a block after `payload` is written into it from `start` on.
-fn spliced(alloc: Global, block: &[u8], start: usize, payload: &[u8]) -> Result<Vec<u8>, AllocError>
-    requires { start + length payload.now ≤ length block.now }
-    ensures { IfOk result (λ v. v.items ≡ written block.now start payload.now) }
+/// Returns how many bytes of a range are written at once, from its place on: its whole blocks where it begins with one; all
+/// of it where it lies over two blocks at most; else those of its first block.
+fn front_len(block: u64, at: u64, most: u64) -> u64
+    requires block { 0 < block }
+    requires some { 0 < most }
+    ensures some { 0 < result }
+    ensures most { result ≤ most }
 {
-    let mut whole = Vec::with_capacity(alloc, block.len())?;
-    whole.extend_from_slice(&block[..start])?;
+    let start = at % block;
+    if start == 0 && most >= block {
+        most - most % block
+    } else if most <= block - start || most - (block - start) <= block {
+        most
+    } else {
+        block - start
+    }
+}
+
+/// Returns blocks after `payload` is written into them from `start` on.
+fn spliced(
+    alloc: Global,
+    blocks: &[u8],
+    start: usize,
+    payload: &[u8],
+) -> Result<Vec<u8>, AllocError>
+    requires { start + length payload.now ≤ length blocks.now }
+    ensures { IfOk result (λ v. v.items ≡ written blocks.now start payload.now) }
+{
+    let mut whole = Vec::with_capacity(alloc, blocks.len())?;
+    whole.extend_from_slice(&blocks[..start])?;
     whole.extend_from_slice(payload)?;
-    whole.extend_from_slice(&block[start + payload.len()..])?;
+    whole.extend_from_slice(&blocks[start + payload.len()..])?;
     Ok(whole)
 }
 
-/// Writes bytes that lie in one block. If they are only part of the block, it reads the block first.
-fn write_in_block<D: BlockDevice>(
+/// Writes bytes that lie in the blocks of a cover, from its start on. If they aren't all of these blocks, it reads the
+/// blocks first.
+fn write_covered<D: BlockDevice>(
     alloc: Global,
     disk: &mut D,
-    block: u64,
-    start: usize,
+    cover: Cover,
     payload: &[u8],
 ) -> Result<(), DiskFault>
-    requires within { D.block_len disk.old * block + D.block_len disk.old ≤ D.size disk.old }
-    requires fits { start + length payload.now ≤ D.block_len disk.old }
-    ensures ok { OnOk result ((bytes : List ℕ) → D.holds disk.old bytes
-        → D.holds disk.new (written bytes (D.block_len disk.old * block + start) payload.now)) }
-    ensures err { OnErr result ((bytes : List ℕ) → D.holds disk.old bytes
-        → D.holds disk.new bytes ⊎ D.holds disk.new (written bytes (D.block_len disk.old * block + start) payload.now)) }
-    ensures call { IsCall D.block_len D.size D.is_sound D.failed (IsStopped D.stops disk.new) disk.old result disk.new }
+    requires within { D.block_len disk.old * cover.first + D.block_len disk.old * cover.count ≤ D.size disk.old }
+    requires fits { cover.start + length payload.now ≤ D.block_len disk.old * cover.count }
+    ensures goes { GoesOn D.had D.hears D.holds disk.old (Writes (D.block_len disk.old * cover.first + cover.start) payload.now result) disk.new }
+    ensures call { IsCall D.block_len D.size D.failed (IsStopped D.stops disk.new) disk.old result disk.new }
 {
     let _blocks = disk.blocks();
-    if payload.len() == disk.block_bytes() as usize {
-        return disk.write(alloc, block, payload);
+    if payload.len() as u64 == u64::from(disk.block_bytes()) * cover.count {
+        return disk.write(alloc, cover.first, payload);
     }
-    let old = disk.read(alloc, block)?;
-    let whole = spliced(alloc, &old, start, payload)?;
-    disk.write(alloc, block, &whole)
+    let old = disk.read(alloc, cover.first, cover.count)?;
+    let whole = spliced(alloc, &old, cover.start, payload)?;
+    disk.write(alloc, cover.first, &whole)
 }
 
-/// Writes those bytes at the front of the payload that lie in the block of a place, and returns their number.
+/// Writes those bytes at the front of the payload that are written at once, and returns their number.
 fn write_part<D: BlockDevice>(
     alloc: Global,
     disk: &mut D,
@@ -135,16 +140,18 @@ fn write_part<D: BlockDevice>(
     requires some { 0 < length payload.now }
     ensures some { IfOk result (λ n. 0 < n) }
     ensures most { IfOk result (λ n. n ≤ length payload.now) }
-    ensures ok { IfOk result (λ n. (bytes : List ℕ) → D.holds disk.old bytes → D.holds disk.new (written bytes at (take n payload.now))) }
-    ensures err { OnErr result (GoesOnHolding (D.holds disk.old) (λ old new. IsBegun old at payload.now new) (D.holds disk.new)) }
-    ensures call { IsCall D.block_len D.size D.is_sound D.failed (IsStopped D.stops disk.new) disk.old result disk.new }
+    ensures goes { GoesOn D.had D.hears D.holds disk.old (λ may_lie bytes later.
+        MatchResult result (λ n. later ≡ written bytes at (take n payload.now)) (λ _. IsBegun bytes at payload.now later) × FailsByLies result may_lie) disk.new }
+    ensures call { IsCall D.block_len D.size D.failed (IsStopped D.stops disk.new) disk.old result disk.new }
 {
-    let part = Part::at(disk, at, payload.len() as u64);
-    write_in_block(alloc, disk, part.block, part.start, &payload[..part.count])?;
-    Ok(part.count)
+    let block = u64::from(disk.block_bytes());
+    let len = front_len(block, at, payload.len() as u64);
+    let cover = Cover::of(disk, at, len);
+    write_covered(alloc, disk, cover, &payload[..len as usize])?;
+    Ok(len as usize)
 }
 
-/// Writes a range. No byte outside of it changes.
+/// Writes a range. No byte outside of it changes. On an error, a beginning of the payload may be written.
 pub fn write_range<D: BlockDevice>(
     alloc: Global,
     disk: &mut D,
@@ -152,10 +159,8 @@ pub fn write_range<D: BlockDevice>(
     payload: &[u8],
 ) -> Result<(), DiskFault>
     requires { offset + length payload.now ≤ D.size disk.old }
-    ensures ok { OnOk result ((bytes : List ℕ) → D.holds disk.old bytes → D.holds disk.new (written bytes offset payload.now)) }
-    // On an error, a beginning of the payload may be written.
-    ensures err { OnErr result (GoesOnHolding (D.holds disk.old) (λ old new. IsBegun old offset payload.now new) (D.holds disk.new)) }
-    ensures call { IsCall D.block_len D.size D.is_sound D.failed (IsStopped D.stops disk.new) disk.old result disk.new }
+    ensures goes { GoesOn D.had D.hears D.holds disk.old (Writes offset payload.now result) disk.new }
+    ensures call { IsCall D.block_len D.size D.failed (IsStopped D.stops disk.new) disk.old result disk.new }
 {
     let _blocks = disk.blocks();
     let mut done = 0;
@@ -165,8 +170,8 @@ pub fn write_range<D: BlockDevice>(
     Ok(())
 }
 
-/// Makes at most `most` bytes from a place on zeroes, as far as its block goes, and returns their number. If these are
-/// a whole block, it discards that.
+/// Makes those bytes at the front of a range zeroes that are written at once, and returns their number. Whole blocks are
+/// made zeroes by the device.
 fn zero_part<D: BlockDevice>(
     alloc: Global,
     disk: &mut D,
@@ -177,18 +182,21 @@ fn zero_part<D: BlockDevice>(
     requires some { 0 < most }
     ensures some { IfOk result (λ n. 0 < n) }
     ensures most { IfOk result (λ n. n ≤ most) }
-    ensures ok { IfOk result (λ n. (bytes : List ℕ) → D.holds disk.old bytes → D.holds disk.new (written bytes at (zeroes n))) }
-    ensures err { OnErr result (GoesOnHolding (D.holds disk.old) (λ old new. IsBegun old at (zeroes most) new) (D.holds disk.new)) }
-    ensures call { IsCall D.block_len D.size D.is_sound D.failed (IsStopped D.stops disk.new) disk.old result disk.new }
+    ensures goes { GoesOn D.had D.hears D.holds disk.old (λ may_lie bytes later.
+        MatchResult result (λ n. later ≡ written bytes at (zeroes n)) (λ _. IsBegun bytes at (zeroes most) later) × FailsByLies result may_lie) disk.new }
+    ensures call { IsCall D.block_len D.size D.failed (IsStopped D.stops disk.new) disk.old result disk.new }
 {
-    let part = Part::at(disk, at, most);
-    if part.count == disk.block_bytes() as usize {
-        disk.discard(alloc, part.block)?;
+    let block = u64::from(disk.block_bytes());
+    let len = front_len(block, at, most);
+    let cover = Cover::of(disk, at, len);
+    let _blocks = disk.blocks();
+    if len == block * cover.count {
+        disk.zero(alloc, cover.first, cover.count)?;
     } else {
-        let none = vec![in alloc; 0u8; part.count]?;
-        write_in_block(alloc, disk, part.block, part.start, &none)?;
+        let none = vec![in alloc; 0u8; len as usize]?;
+        write_covered(alloc, disk, cover, &none)?;
     }
-    Ok(part.count as u64)
+    Ok(len)
 }
 
 /// Makes the bytes of a range zeroes.
@@ -199,9 +207,8 @@ pub fn zero_range<D: BlockDevice>(
     count: u64,
 ) -> Result<(), DiskFault>
     requires { offset + count ≤ D.size disk.old }
-    ensures ok { OnOk result ((bytes : List ℕ) → D.holds disk.old bytes → D.holds disk.new (written bytes offset (zeroes count))) }
-    ensures err { OnErr result (GoesOnHolding (D.holds disk.old) (λ old new. IsBegun old offset (zeroes count) new) (D.holds disk.new)) }
-    ensures call { IsCall D.block_len D.size D.is_sound D.failed (IsStopped D.stops disk.new) disk.old result disk.new }
+    ensures goes { GoesOn D.had D.hears D.holds disk.old (Writes offset (zeroes count) result) disk.new }
+    ensures call { IsCall D.block_len D.size D.failed (IsStopped D.stops disk.new) disk.old result disk.new }
 {
     let _blocks = disk.blocks();
     let mut done = 0;

@@ -1,8 +1,8 @@
 //! The answer to one request.
 
-ghost use Rattle.std.specs.Prelude.{◌≡◌, ℕ, List, ◌+◌, length, IfOk, IfSome, IfNone, OnOk, OnErr, None, nat_le};
-ghost use Rattle.oram_nbd.specs.Calls.{IsCall, Stays};
-ghost use Rattle.oram_nbd.specs.HeldBytes.{IsStopped, GoesOnHolding};
+ghost use Rattle.std.specs.Prelude.{◌≡◌, ℕ, true, List, ◌+◌, length, IfOk, IfSome, IfNone, MatchResult, None, nat_le};
+ghost use Rattle.oram_nbd.specs.Beside.{GoesOn, IsStopped};
+ghost use Rattle.oram_nbd.specs.Calls.{FailsByLies, IsCall, Stays};
 ghost use Rattle.oram_nbd.specs.Messages.{payload_len};
 ghost use Rattle.oram_nbd.specs.Service.{after, given, given_len, refusal_of, IsAnswer, IsPartly, IsRefusal, IsReply};
 
@@ -56,13 +56,11 @@ fn carry_out<D: BlockDevice>(
     requires fits { refusal_of (D.size disk.old) request.now ≡ None }
     requires payload { length payload.now ≡ payload_len request.now.command request.now.length }
     ensures len { IfOk result (λ v. length v.items ≡ given_len request.now.command request.now.length) }
-    ensures given { IfOk result (λ v. (bytes : List ℕ) → D.holds disk.old bytes
-        → v.items ≡ given request.now.command bytes request.now.offset request.now.length) }
-    ensures ok { OnOk result ((bytes : List ℕ) → D.holds disk.old bytes
-        → D.holds disk.new (after request.now.command bytes request.now.offset request.now.length payload.now)) }
-    ensures err { OnErr result (GoesOnHolding (D.holds disk.old)
-        (λ old new. IsPartly request.now.command old request.now.offset request.now.length payload.now new) (D.holds disk.new)) }
-    ensures call { IsCall D.block_len D.size D.is_sound D.failed (IsStopped D.stops disk.new) disk.old result disk.new }
+    ensures goes { GoesOn D.had D.hears D.holds disk.old (λ may_lie bytes later.
+        MatchResult result (λ v. (v.items ≡ given request.now.command bytes request.now.offset request.now.length)
+        × (later ≡ after request.now.command bytes request.now.offset request.now.length payload.now))
+        (λ _. IsPartly request.now.command bytes request.now.offset request.now.length payload.now later) × FailsByLies result may_lie) disk.new }
+    ensures call { IsCall D.block_len D.size D.failed (IsStopped D.stops disk.new) disk.old result disk.new }
 {
     let offset = request.offset;
     let length = request.length;
@@ -92,16 +90,15 @@ pub(crate) fn answer<D: BlockDevice>(
 ) -> Option<SimpleReply>
     requires { IfSome payload (λ p. length p.items ≡ payload_len request.now.command request.now.length) }
     ensures reply { IfSome result (λ reply. IsReply (D.size disk.old) request.now reply) }
-    ensures answer { (text : List ℕ) → IfSome payload (λ p. p.items ≡ text) → IfSome result (λ reply. GoesOnHolding (D.holds disk.old)
-        (λ old new. IsAnswer old request.now text reply new) (D.holds disk.new)) }
+    ensures answer { (text : List ℕ) → IfSome payload (λ p. p.items ≡ text) → IfSome result (λ reply. GoesOn D.had D.hears D.holds disk.old
+        (λ may_lie old new. IsAnswer old request.now text reply new × (reply ≡ SimpleReply.Refused NbdError.Io → may_lie ≡ true)) disk.new) }
     ensures refusal { IfNone result (refusal_of (D.size disk.old) request.now ≡ None) }
-    ensures stopped { (text : List ℕ) → IfSome payload (λ p. p.items ≡ text) → IfNone result (GoesOnHolding (D.holds disk.old)
-        (λ old new. IsPartly request.now.command old request.now.offset request.now.length text new) (D.holds disk.new)) }
+    ensures stopped { (text : List ℕ) → IfSome payload (λ p. p.items ≡ text) → IfNone result (GoesOn D.had D.hears D.holds disk.old
+        (λ _ old new. IsPartly request.now.command old request.now.offset request.now.length text new) disk.new) }
     ensures met { IfNone result (IsStopped D.stops disk.new) }
-    ensures sound { IfSome result (λ reply. reply ≡ SimpleReply.Refused NbdError.Io → D.is_sound disk.old → ⊥) }
     ensures failing { IfSome result (λ reply. reply ≡ SimpleReply.Refused NbdError.Io → D.failed disk.new) }
     ensures refused { D.failed disk.old → IfSome result IsRefusal }
-    ensures stays { Stays D.block_len D.size D.is_sound D.failed disk.old disk.new }
+    ensures stays { Stays D.block_len D.size D.failed disk.old disk.new }
 {
     let size = u64::from(disk.block_bytes()) * disk.blocks();
     if let Some(error) = refusal(request, size) {

@@ -4,7 +4,7 @@ ghost use Rattle.std.specs.Prelude.{◌≡◌, ℕ, List, length, IfOk, IfErr, O
 ghost use Rattle.std.specs.Io.KnownBytes.{Appends, Consumes};
 ghost use Rattle.oram_wire.specs.FrameIo.{GivesEnd};
 ghost use Rattle.oram_nbd.specs.Calls.{Stays};
-ghost use Rattle.oram_nbd.specs.HeldBytes.{IsStopped};
+ghost use Rattle.oram_nbd.specs.Beside.{IsStopped};
 ghost use Rattle.oram_nbd.specs.Messages.{reply_text, request_text, IsRequest};
 ghost use Rattle.oram_nbd.specs.Streams.{ComesShort, IsBegunText, Misses};
 ghost use Rattle.oram_nbd.specs.Transmission.{HasTransmitted, IsNoRequest, IsUnfinished, StopsServing};
@@ -90,12 +90,12 @@ pub fn transmit<R: Read, W: Write, D: BlockDevice>(
     writer: &mut W,
     disk: &mut D,
 ) -> Result<u64, NbdFault>
-    ensures ok { IfOk result (λ count. HasTransmitted (D.is_sound disk.old) (D.failed disk.old) (D.size disk.old) (D.holds disk.old) (D.holds disk.new) count
+    ensures ok { IfOk result (λ count. HasTransmitted D.had D.hears D.holds (D.failed disk.old) (D.size disk.old) disk.old disk.new count
         (R.remaining reader.old) (R.remaining reader.new) (W.contents writer.old) (W.contents writer.new)) }
-    ensures err { IfErr result (λ fault. StopsServing (D.is_sound disk.old) (D.failed disk.old) (D.size disk.old) (D.holds disk.old) (D.holds disk.new) fault
+    ensures err { IfErr result (λ fault. StopsServing D.had D.hears D.holds (D.failed disk.old) (D.size disk.old) disk.old disk.new fault
         (R.remaining reader.old) (R.remaining reader.new) (W.contents writer.old) (W.contents writer.new)) }
     ensures stopped { IfErr result (λ fault. fault ≡ NbdFault.Stopped → IsStopped D.stops disk.new) }
-    ensures stays { Stays D.block_len D.size D.is_sound D.failed disk.old disk.new }
+    ensures stays { Stays D.block_len D.size D.failed disk.old disk.new }
 {
     for served in 0..u64::MAX {
         let Some(request) = next_request(reader)? else {

@@ -1,188 +1,165 @@
--- What a process holds, after a command and after what waited.
-use Rattle.std.proofs.Common.{◌≡◌, ◌≢◌, ◌⊎◌, ℕ, Bool, true, false, List, [], ◌∷◌, ◌++◌, None, map, refl, sym, ap, ◌∙◌, subst, inl, inr}
-use Rattle.std.specs.List.{flat_map}
-use Rattle.oram_host.specs.Host.{Host}
-use Rattle.oram_semantics.specs.ArrayReplies.{array_after}
-use Rattle.oram_semantics.specs.Blocks.{body_from}
-use Rattle.oram_semantics.specs.Events.{address_of, failed_reply}
+-- What a process goes on holding beside a host, whatever it does.
+use Rattle.std.proofs.Common.{◌≡◌, ◌⊎◌, ℕ, Bool, true, false, List, [], ◌∷◌, ◌++◌, map, None, refl, sym, ap, ◌∙◌, subst, inl, inr}
+use Rattle.std.proofs.lemmas.Grind.{flat_map-append}
+use Rattle.std.proofs.lemmas.List.{map-append}
+use Rattle.std.specs.List.{FoldsTo, flat_map}
+use Rattle.oram_geometry.specs.Sizes.{IsDevice}
 use Rattle.oram_semantics.specs.Scheme.{Scheme}
-use Rattle.oram_semantics.specs.State.{State}
-use Rattle.oram_semantics.specs.declared.events.Command.{Command}
-use Rattle.oram_semantics.specs.declared.events.Note.{Note}
-use Rattle.oram_semantics.specs.declared.events.Note.TheVariants.{Accepted, Refused}
-use Rattle.oram_semantics.specs.declared.events.Refusal.{Refusal}
-use Rattle.oram_semantics.specs.declared.events.Reply.{Reply}
-use Rattle.oram_semantics.specs.declared.events.ReplyBody.{ReplyBody}
-use Rattle.oram_semantics.specs.declared.events.ReplyBody.TheVariants.{Failed}
-use Rattle.oram_semantics.specs.declared.events.Submission.{Submission}
-use Rattle.oram_session.specs.Settled.{IsSettled}
+use Rattle.oram_semantics.specs.Progress.Status.{Stalling}
+use Rattle.oram_semantics.specs.State.{State, status_in}
 use Rattle.oram_link_laws.specs.Runs.{Exchange}
 use Rattle.oram_link_laws.proofs.Exchanged.{folds_join}
+use Rattle.oram_nbd.specs.Beside.{GoesOn}
+use Rattle.oram_nbd.proofs.Beside.{one_call}
 use Rattle.oram_rounds.specs.Batches.{BatchOutcome}
-use Rattle.oram_rounds.specs.CatchUp.{CatchesUp, IsPlainCall, PlainRun}
+use Rattle.oram_rounds.specs.CatchUp.{PlainRun}
 use Rattle.oram_rounds.specs.Law.{AreBatches}
-use Rattle.oram_rounds.specs.Process.{Act, Does, DoesAll, IsGoingOn, IsSafe, Process, exchanges_of, replies_of}
-use Rattle.oram_rounds.specs.Process.Act.{Calls, Hears, Keeps, Misses}
-use Rattle.oram_rounds.specs.Rounds.{Round, RoundCall, waiting}
-use Rattle.oram_rounds.specs.Service.{AreReplied, IsServed, WillHoldAfter, after_all, Waiting as Waits}
-use Rattle.oram_rounds.specs.Start.{Asked, Submits, array_if}
-use Rattle.oram_rounds.proofs.Replies.{replies_are_the_arrays}
+use Rattle.oram_rounds.specs.Process.{Act, DoesAll, IsSafe, Process, exchanges_of, process}
+use Rattle.oram_rounds.specs.Process.Act.{Calls, Hears as HearsOf, Keeps, Misses}
+use Rattle.oram_rounds.specs.Rounds.{Round}
+use Rattle.oram_rounds.specs.Start.{AreAsked, Asked, array_with}
+use Rattle.oram_rounds.proofs.Asked.{asked_is_submitted}
 use Rattle.oram_rounds.proofs.Safety.{acts_are_safe}
-use Rattle.oram_rounds.proofs.Start.{queue_accepted, resting, served_submitted, submitted_is_safe}
-use Rattle.oram_volume.specs.HeldArrays.{HoldsArray}
+use Rattle.oram_rounds.proofs.Start.{held_is_safe, submitted_is_safe}
+use Rattle.oram_volume.specs.CarriedOut.{Had, Step, Stops, Takes, TakesAll, exchanges_in}
+use Rattle.oram_volume.specs.CarriedOut.Step.{Acts, Asks}
+use Rattle.oram_volume.specs.HeldArrays.{Hears, HeldDevicesHold, HoldsArray, HostBeside, Running}
 
--- no command's reply of an array is that the device failed
-pub never_failed : (bytes : List ℕ) (c : Command) → body_from bytes c ≢ Failed
-never_failed bytes (Command.Read a) e = cc
-never_failed bytes (Command.Write a new) e = cc
-never_failed bytes (Command.Discard a) e = cc
+-- the host goes through exchanges
+pub heard : (may_lie : Bool) (exchanges : List Exchange) (w later : HostBeside) → FoldsTo {P = HostBeside} {A = Exchange} (Hears may_lie) w exchanges later
+    → (later.scheme ≡ w.scheme) × PlainRun may_lie w.scheme w.host exchanges later.host
+heard may_lie [] w later same = (ap (λ (b : HostBeside). b.scheme) (sym same), ap (λ (b : HostBeside). b.host) same)
+heard may_lie (e ∷ exchanges) w later all =
+    let rest = heard may_lie exchanges all.0 later all.2 in
+    (rest.0 ∙ all.1.0, (all.0.host, all.1.1, subst (λ (v : Scheme). PlainRun may_lie v all.0.host exchanges later.host) all.1.0 rest.1))
 
 -- a keeper at which nothing is read back
 abbrev Nothing : {K : Type 0} → K → List ℕ → Type 0
 Nothing keeper bytes = ⊥
 
-module _ {B K : Type 0} (batches : B → List (List ℕ) → BatchOutcome → List Exchange → B → Type 0) (reads_back : K → List ℕ → Type 0) (are : AreBatches batches) (may_lie : Bool) (v : Scheme) where
+-- of a device with this scheme, and a tape with these words
+module _ {B K : Type 0} (batches : B → List (List ℕ) → BatchOutcome → List Exchange → B → Type 0) (reads_back : K → List ℕ → Type 0) (are : AreBatches batches) (v : Scheme) (words : ℕ → ℕ → List ℕ) where
+  abbrev pub at : Process B K → Running B K
+  at p = record { scheme = v; words = words; process = p }
+
   -- a process does the same over any keeper at which less is read back
   forgotten : (acts : List Act) (p q : Process B K) → DoesAll v batches reads_back p acts q → DoesAll v batches Nothing p acts q
   forgotten [] p q does = does
-  forgotten (Hears event x ∷ acts) p q does = (does.0, does.1, forgotten acts does.0 q does.2)
+  forgotten (HearsOf event x ∷ acts) p q does = (does.0, does.1, forgotten acts does.0 q does.2)
   forgotten (Calls o exchanges x ∷ acts) p q does = (does.0, does.1, forgotten acts does.0 q does.2)
   forgotten (Misses o exchanges ∷ acts) p q does = (does.0, does.1, forgotten acts does.0 q does.2)
   forgotten (Keeps true ∷ acts) p q does = (does.0, (λ bytes back. absurd back, does.1.1, does.1.2), forgotten acts does.0 q does.2)
   forgotten (Keeps false ∷ acts) p q does = (does.0, (λ bytes back. absurd back, does.1.1, does.1.2), forgotten acts does.0 q does.2)
 
-  module _ (host_of : B → Host) (run : (l m : B) (bodies : List (List ℕ)) (o : BatchOutcome) (exchanges : List Exchange) → batches l bodies o exchanges m → PlainRun may_lie v (host_of l) exchanges (host_of m)) where
-    -- the host that is a function of the link is beside the exchanges of a call, and of acts
+  -- acts are steps of the process, and so are submissions
 
-    call_run : (l m : Round B) (body : List ℕ) (o : _) (exchanges : List Exchange) → RoundCall batches l body o exchanges m → PlainRun may_lie v (host_of l.inner) exchanges (host_of m.inner)
-    call_run l m body o exchanges call = elim call.does [
-      | inl holds ↦ still exchanges holds.none holds.same
-      | inr (inl f) ↦ run l.inner m.inner (l.kept ++ body ∷ []) f.outcome exchanges f.batch
-      | inr (inr declines) ↦ still exchanges declines.none declines.same
-    ]
-      where
-        still : (xs : List Exchange) → xs ≡ [] → m.inner ≡ l.inner → PlainRun may_lie v (host_of l.inner) xs (host_of m.inner)
-        still xs none same = subst (λ (es : List Exchange). PlainRun may_lie v (host_of l.inner) es (host_of m.inner)) (sym none) (ap host_of (sym same))
+  pub acts_taken : (acts : List Act) (p q : Process B K) → DoesAll v batches reads_back p acts q → TakesAll batches reads_back (at p) (map {B = Step} Acts acts) (at q)
+  acts_taken [] p q does = ap at does
+  acts_taken (act ∷ acts) p q does = (at does.0, (refl, refl, does.1), acts_taken acts does.0 q does.2)
 
-    act_run : (act : Act) (p q : Process B K) → Does v batches reads_back p act q → PlainRun may_lie v (host_of p.link.inner) (exchanges_of act) (host_of q.link.inner)
-    act_run (Hears event x) p q does = ap (λ (l : Round B). host_of l.inner) (sym does.0.2)
-    act_run (Calls o exchanges x) p q does = call_run p.link q.link does.0.0 o exchanges does.0.2
-    act_run (Misses o exchanges) p q does = call_run p.link q.link does.0.0 o exchanges does.0.2
-    act_run (Keeps true) p q does = ap (λ (l : Round B). host_of l.inner) (sym does.2)
-    act_run (Keeps false) p q does = ap (λ (l : Round B). host_of l.inner) (sym does.2)
+  pub asked_taken : (asked : List Asked) (session : ℕ) (s t : State) (l : Round B) (k : K) → AreAsked v words session s asked t
+      → TakesAll batches reads_back (at (process s l k)) (map {B = Step} Asks asked) (at (process t l k))
+  asked_taken [] session s t l k same = ap (λ (c : State). at (process c l k)) same
+  asked_taken (a ∷ asked) session s t l k all =
+      (at (process all.0 l k), (refl, refl, (all.1.2, refl, refl), all.1.1), asked_taken asked session all.0 t l k all.2)
 
-    acts_run : (acts : List Act) (p q : Process B K) → DoesAll v batches reads_back p acts q → PlainRun may_lie v (host_of p.link.inner) (flat_map exchanges_of acts) (host_of q.link.inner)
-    acts_run [] p q does = ap (λ (r : Process B K). host_of r.link.inner) does
-    acts_run (act ∷ acts) p q does =
-        folds_join {P = Host} {A = Exchange} (λ h e g. IsPlainCall may_lie v h e.0 e.1 g) (host_of p.link.inner) (host_of does.0.link.inner) (host_of q.link.inner) (exchanges_of act)
-        (flat_map exchanges_of acts) (act_run act p does.0 does.1) (acts_run acts does.0 q does.2)
+  of_acts : (acts : List Act) → flat_map exchanges_in (map {B = Step} Acts acts) ≡ flat_map exchanges_of acts
+  of_acts [] = refl
+  of_acts (act ∷ acts) = ap (λ (es : List Exchange). exchanges_of act ++ es) (of_acts acts)
 
-  abbrev pub Holds : Process B K → (ℕ → List ℕ) → Type 0
-  Holds p array = HoldsArray may_lie v batches p.core p.link array
+  of_asked : (asked : List Asked) → flat_map exchanges_in (map {B = Step} Asks asked) ≡ []
+  of_asked [] = refl
+  of_asked (a ∷ asked) = of_asked asked
 
-  safe_by : (p : Process B K) (array : ℕ → List ℕ) → (h : Holds p array) → IsSafe may_lie v Nothing p (h.host_of p.link.inner) array array
-  safe_by p array h = record { device = h.same_device; record_len_is = h.same_len; live = h.will_hold; kept = λ bytes back. absurd back }
+  -- commands are submitted, and then acts are done
+  pub had : (asked : List Asked) (acts : List Act) (session : ℕ) (s t : State) (l : Round B) (k : K) (q : Process B K) → AreAsked v words session s asked t
+      → DoesAll v batches reads_back (process t l k) acts q → Had batches reads_back (at (process s l k)) (flat_map exchanges_of acts) (at q)
+  had asked acts session s t l k q chain does = (
+    map {B = Step} Asks asked ++ map {B = Step} Acts acts,
+    folds_join {P = Running B K} (Takes batches reads_back) (at (process s l k)) (at (process t l k)) (at q) (map {B = Step} Asks asked) (map {B = Step} Acts acts)
+        (asked_taken asked session s t l k chain) (acts_taken acts (process t l k) q does),
+    flat_map-append exchanges_in (map {B = Step} Asks asked) (map {B = Step} Acts acts)
+        ∙ ap (λ (es : List Exchange). es ++ flat_map exchanges_in (map {B = Step} Acts acts)) (of_asked asked) ∙ of_acts acts,
+  )
 
-  holds_by : (p q : Process B K) (old array : ℕ → List ℕ) → (h : Holds p old) → q.link ≡ p.link → WillHoldAfter may_lie v q.core (waiting q.link) (h.host_of p.link.inner) array → Holds q array
-  holds_by p q old array h same will = record {
-    host_of = h.host_of;
-    run = h.run;
-    device = h.device;
-    same_device = ap (λ (l : Round B). l.device) same ∙ h.same_device;
-    same_len = ap (λ (l : Round B). l.record_len) same ∙ h.same_len;
-    will_hold = subst (λ (l : Round B). WillHoldAfter may_lie v q.core (waiting q.link) (h.host_of l.inner) array) (sym same) will;
-  }
+  module _ (may_lie : Bool) where
+    abbrev pub Holds : Process B K → HostBeside → (ℕ → List ℕ) → Type 0
+    Holds p w array = HoldsArray may_lie (at p) w array
 
-  -- whatever a process does, it still holds the array
-  pub acts_hold : (acts : List Act) (p q : Process B K) (array : ℕ → List ℕ) → DoesAll v batches reads_back p acts q → Holds p array → Holds q array
-  acts_hold acts p q array does h =
-      let safe = acts_are_safe batches Nothing are may_lie v acts p q (h.host_of p.link.inner) (h.host_of q.link.inner) array array h.device (safe_by p array h) (forgotten acts p q does)
-      (acts_run h.host_of h.run acts p q does) in
-      record { host_of = h.host_of; run = h.run; device = h.device; same_device = safe.device; same_len = safe.record_len_is; will_hold = safe.live }
+    safe_by : (p : Process B K) (w : HostBeside) (array : ℕ → List ℕ) → (h : Holds p w array) → IsSafe may_lie v Nothing p w.host array array
+    safe_by p w array h = record { device = h.same_device; record_len_is = h.same_len; live = h.will_hold; kept = λ bytes back. absurd back }
 
-  -- a command is submitted
-  pub asked_holds : (p q : Process B K) (asked : Asked) (array : ℕ → List ℕ) → Submits v p asked q → Holds p array → Holds q (array_if asked.shown.note v.device asked.command array)
-  asked_holds p q asked array submits h =
-      let safe = submitted_is_safe B Nothing may_lie v (asked ∷ []) p q (h.host_of p.link.inner) array h.device (safe_by p array h) (q, submits, refl) in
-      holds_by p q array (array_if asked.shown.note v.device asked.command array) h submits.1 safe.live
+    held_by : (p : Process B K) (w : HostBeside) (before array : ℕ → List ℕ) → w.scheme ≡ v → IsDevice v.device → IsSafe may_lie v Nothing p w.host before array → Holds p w array
+    held_by p w before array same device safe = record {
+      same = same;
+      device = device;
+      same_device = safe.device;
+      same_len = safe.record_len_is;
+      will_hold = safe.live;
+    }
 
-  pub accepted_holds : (p q : Process B K) (asked : Asked) (c : Command) (ticket : ℕ) (array : ℕ → List ℕ) → Submits v p asked q → asked.command ≡ c → asked.shown.note ≡ Accepted ticket
-      → Holds p array → Holds q (array_after v.device c array)
-  accepted_holds p q asked c ticket array submits is note h =
-      subst (λ (k : Command). Holds q (array_after v.device k array)) is
-      (subst (λ (n : Note). Holds q (array_if n v.device asked.command array)) note (asked_holds p q asked array submits h))
+    -- whatever a process does, it still holds the array
+    pub acts_hold : (acts : List Act) (p q : Process B K) (w later : HostBeside) (array : ℕ → List ℕ) → DoesAll v batches reads_back p acts q
+        → FoldsTo {P = HostBeside} {A = Exchange} (Hears may_lie) w (flat_map exchanges_of acts) later → Holds p w array → Holds q later array
+    acts_hold acts p q w later array does run h =
+        let went = heard may_lie (flat_map exchanges_of acts) w later run in
+        let ran : PlainRun may_lie v w.host (flat_map exchanges_of acts) later.host = subst (λ (u : Scheme). PlainRun may_lie u w.host (flat_map exchanges_of acts) later.host) h.same went.1 in
+        held_by q later _ array (went.0 ∙ h.same) h.device
+        (acts_are_safe batches Nothing are may_lie v acts p q w.host later.host array array h.device (safe_by p w array h) (forgotten acts p q does) ran)
 
-  pub refused_holds : (p q : Process B K) (asked : Asked) (why : Refusal) (array : ℕ → List ℕ) → Submits v p asked q → asked.shown.note ≡ Refused why → Holds p array → Holds q array
-  refused_holds p q asked why array submits note h =
-      subst (λ (n : Note). Holds q (array_if n v.device asked.command array)) note (asked_holds p q asked array submits h)
+    -- once commands were submitted it holds the array after those that were accepted
+    pub asked_hold : (asked : List Asked) (session : ℕ) (s t : State) (l : Round B) (k : K) (w : HostBeside) (array : ℕ → List ℕ) → AreAsked v words session s asked t
+        → Holds (process s l k) w array → Holds (process t l k) w (array_with v.device asked array)
+    asked_hold asked session s t l k w array chain h =
+        held_by (process t l k) w _ (array_with v.device asked array) h.same h.device
+        (submitted_is_safe B Nothing may_lie v asked (process s l k) (process t l k) w.host array h.device (safe_by (process s l k) w array h)
+        (asked_is_submitted B K v words session asked s t l k chain))
 
-  -- its reply is the array's, or that a lie failed the device
-  abbrev pub IsRight : (ℕ → List ℕ) → Command → ReplyBody → Type 0
-  IsRight array c body = (body ≡ body_from (array (address_of c)) c) ⊎ ((may_lie ≡ true) × (body ≡ Failed))
+  abbrev pub Goes : Process B K → (Bool → (ℕ → List ℕ) → (ℕ → List ℕ) → Type 0) → Process B K → Type 0
+  Goes p step q = GoesOn (Had batches reads_back) Hears HoldsArray (at p) step (at q)
 
-  right_by : (array : ℕ → List ℕ) (c : Command) (y : Submission) (reply : Reply) (p q : Waits) → y.command ≡ c → p.0 ≡ array → p.1 ≡ y ∷ [] → AreReplied v.device p (reply ∷ []) q
-      → reply.body ≡ body_from (array (address_of c)) c
-  right_by array c y reply p q is same queue all =
-      let step = all.1 in
-      let x : Submission = step.0 in
-      let first : x ≡ y = let both : x ∷ all.0.1 ≡ y ∷ [] = sym step.1 ∙ queue in cc in
-      ap (λ (r : Reply). r.body) step.2 ∙ ap (λ (a : ℕ → List ℕ). body_from (a (address_of x.command)) x.command) same
-      ∙ ap (λ (k : Command). body_from (array (address_of k)) k) (ap (λ (z : Submission). z.command) first ∙ is)
+  -- acts leave the array as it is
+  pub acts_go_on : (acts : List Act) (p q : Process B K) → DoesAll v batches reads_back p acts q → Goes p (λ _ array later. later ≡ array) q
+  acts_go_on acts p q does = one_call (flat_map exchanges_of acts) (had [] acts 0 p.core p.core p.link p.keeper q refl does)
+      (λ may_lie w later run array h. (array, refl, acts_hold may_lie acts p q w later array does run h))
 
-  -- of a core that is settled and hasn't failed, to which a command is submitted
-  pub replied_right : (p m q : Process B K) (asked : Asked) (c : Command) (ticket : ℕ) (acts : List Act) (reply : Reply) (array : ℕ → List ℕ) → IsSettled p.core → p.core.failure ≡ None
-      → Submits v p asked m → asked.command ≡ c → asked.shown.note ≡ Accepted ticket → DoesAll v batches reads_back m acts q → flat_map replies_of acts ≡ reply ∷ []
-      → Holds p array → IsRight array c reply.body
-  replied_right p m q asked c ticket acts reply array settled alive submits is note does given h =
-      let idle : p.core.queue ≡ [] = resting p.core settled alive in
-      let y = queue_accepted v p.core m.core asked ticket note submits.0 in
-      let queue : m.core.queue ≡ y.0 ∷ [] = y.2 ∙ ap (λ (xs : List Submission). xs ++ y.0 ∷ []) idle in
-      let host : Host = h.host_of p.link.inner in
-      let later : Host = h.will_hold.0 in
-      let served : (before : ℕ → List ℕ) × IsServed v p.core later before × (before ≡ array) = elim h.will_hold.2 [
-        | inl will ↦ (will.0, will.1, ap (λ (xs : List Submission). after_all v.device xs will.0) (sym idle) ∙ will.2)
-        | inr failed ↦ absurd (let both = sym alive ∙ failed.1.1 in cc)
-      ] in
-      let before : ℕ → List ℕ = served.0 in
-      let going : IsGoingOn v m host before = (
-        later,
-        subst (λ (l : Round B). CatchesUp v host (waiting l) later) (sym submits.1) h.will_hold.1,
-        served_submitted may_lie v h.device p.core m.core asked later before submits.0 served.1,
-      ) in
-      let ran : PlainRun may_lie v host (flat_map exchanges_of acts) (h.host_of q.link.inner) =
-      subst (λ (l : Round B). PlainRun may_lie v (h.host_of l.inner) (flat_map exchanges_of acts) (h.host_of q.link.inner)) submits.1 (acts_run h.host_of h.run acts m q does) in
-      let all = replies_are_the_arrays batches reads_back are may_lie v acts m q host (h.host_of q.link.inner) before h.device
-      (ap (λ (l : Round B). l.device) submits.1 ∙ h.same_device) (ap (λ (l : Round B). l.record_len) submits.1 ∙ h.same_len) going does ran in
-      elim all [
-        | inl have ↦
-            let one : AreReplied v.device (before, m.core.queue) (reply ∷ []) (have.now, q.core.queue) =
-            subst (λ (rs : List Reply). AreReplied v.device (before, m.core.queue) rs (have.now, q.core.queue)) given have.replied in
-            inl (right_by array c y.0 reply (before, m.core.queue) (have.now, q.core.queue) (y.1 ∙ is) served.2 queue one)
-        | inr lost ↦ by y.0 (y.1 ∙ is) queue before served.2 lost.lies lost.given lost.left lost.replied (sym given ∙ lost.all)
-      ]
-    where
-      by : (y : Submission) → y.command ≡ c → m.core.queue ≡ y ∷ [] → (before : ℕ → List ℕ) → before ≡ array → may_lie ≡ true → (gave : List Reply) (left : Waits)
-          → AreReplied v.device (before, m.core.queue) gave left → reply ∷ [] ≡ gave ++ map failed_reply left.1 → IsRight array c reply.body
-      by y of queue before same lies (r ∷ gave) left replied all =
-          let first : reply ≡ r = cc in
-          let none : gave ≡ [] = (let nothing : [] ≡ gave ++ map failed_reply left.1 = cc in no_front gave (map failed_reply left.1) nothing) in
-          let one : AreReplied v.device (before, m.core.queue) (reply ∷ []) left =
-          subst (λ (rs : List Reply). AreReplied v.device (before, m.core.queue) rs left) (ap (λ (rs : List Reply). r ∷ rs) none ∙ ap (λ (k : Reply). k ∷ []) (sym first)) replied in
-          inl (right_by array c y reply (before, m.core.queue) left of same queue one)
-        where
-          no_front : (xs ys : List Reply) → [] ≡ xs ++ ys → xs ≡ []
-          no_front [] ys e = refl
-          no_front (x ∷ xs) ys e = cc
-      by y of queue before same lies [] left replied all = inr (lies, failed_one left.1 all)
-        where
-          failed_one : (xs : List Submission) → reply ∷ [] ≡ map failed_reply xs → reply.body ≡ Failed
-          failed_one [] e = cc
-          failed_one (x ∷ xs) e = let first : reply ≡ failed_reply x = cc in ap (λ (r : Reply). r.body) first
+  -- submissions, and then acts
+  pub asked_go_on : (asked : List Asked) (acts : List Act) (session : ℕ) (s t : State) (l : Round B) (k : K) (q : Process B K) → AreAsked v words session s asked t
+      → DoesAll v batches reads_back (process t l k) acts q → Goes (process s l k) (λ _ array later. later ≡ array_with v.device asked array) q
+  asked_go_on asked acts session s t l k q chain does = one_call (flat_map exchanges_of acts) (had asked acts session s t l k q chain does)
+      (λ may_lie w later run array h. (
+        array_with v.device asked array,
+        refl,
+        acts_hold may_lie acts (process t l k) q w later (array_with v.device asked array) does run (asked_hold may_lie asked session s t l k w array chain h),
+      ))
 
--- over an honest host no device fails
-pub alive : (v : Scheme) {B : Type 0} (batches : B → List (List ℕ) → BatchOutcome → List Exchange → B → Type 0) (s : State) (l : Round B) (array : ℕ → List ℕ)
-    → HoldsArray false v batches s l array → s.failure ≡ None
-alive v batches s l array h = elim h.will_hold.2 [
+  -- where acts stop, the process does
+  pub acts_stop : (acts : List Act) (p q : Process B K) → DoesAll v batches reads_back p acts q → (status_in q.core ≡ Stalling) ⊎ ((before : List Act) × (acts ≡ before ++ Keeps false ∷ []))
+      → Stops batches reads_back (at p) (at q)
+  acts_stop acts p q does why = (
+    map {B = Step} Acts acts,
+    acts_taken acts p q does,
+    elim why [
+      | inl stalled ↦ inl stalled
+      | inr failed ↦ inr (inl (
+        map {B = Step} Acts failed.0,
+        ap (λ (l : List Act). map {B = Step} Acts l) failed.1 ∙ map-append {B = Step} Acts failed.0 (Keeps false ∷ []),
+      ))
+    ],
+  )
+
+-- beside an honest host no device that holds an array has failed
+pub alive : {B K : Type 0} (p : Running B K) (w : HostBeside) (array : ℕ → List ℕ) → HoldsArray false p w array → p.process.core.failure ≡ None
+alive p w array h = elim h.will_hold.2 [
   | inl will ↦ will.1.alive
   | inr failed ↦ absurd (let lies = failed.0 in cc)
 ]
+
+-- a process that begins with a device as a host keeps it
+pub held_devices_hold : (B K : Type 0) → HeldDevicesHold B K
+held_devices_hold B K may_lie v words inner core keeper host array bytes device held laid =
+    let safe = held_is_safe B {K = K} Nothing may_lie v inner core keeper host array held (λ bytes back. absurd back) in record {
+      array = array;
+      holds = record { same = refl; device = device; same_device = safe.device; same_len = safe.record_len_is; will_hold = safe.live };
+      laid = laid;
+    }

@@ -1,147 +1,199 @@
--- A command of a process: what it leaves, by what each of its steps says.
-use Rattle.std.proofs.Common.{◌≡◌, ◌≢◌, ℕ, Bool, false, List, [], ◌∷◌, Option, None, Some, is_some, Result, Ok, Err, refl, sym, ap, ◌∙◌, subst, inl, inr}
-use Rattle.std.specs.List.{flat_map}
-use Rattle.std.specs.Prelude.{IsOkAnd}
-use Rattle.oram_bucket.specs.Cipher.{Cipher}
-use Rattle.oram_nbd.specs.declared.faults.DiskFault.{DiskFault}
-use Rattle.oram_nbd.specs.declared.faults.DiskFault.TheVariants.{Failed, OutOfMemory, Stopped}
+-- Commands that are submitted to a core at which none waits: which of them are accepted, and what that makes of an array.
+use Rattle.std.proofs.Common.{◌≡◌, ◌⊎◌, ℕ, suc, ◌+◌, ◌*◌, ◌<◌, ◌≤◌, ◌==◌, not, nat_le, Bool, true, false, if◌then◌else◌, List, [], ◌∷◌, ◌++◌, length, map, take, count_by, All, Option, Some, None, is_some, refl, sym, ap, ◌∙◌, subst, append_assoc, arith, inl, inr}
+use Rattle.std.proofs.lemmas.Bool.Decides.{nat_tests}
+use Rattle.std.proofs.lemmas.List.{append-nil, length-map}
+use Rattle.std.proofs.lemmas.List.Elements.{All-head, All-tail}
+use Rattle.std.proofs.lemmas.List.Sums.{count_by-le-length, sum_by-cons}
+use Rattle.oram_geometry.specs.declared.Sizes.{Sizes}
+use Rattle.oram_geometry.specs.Sizes.{trees_of}
 use Rattle.oram_semantics.specs.ArrayReplies.{array_after}
-use Rattle.oram_semantics.specs.Blocks.{body_from}
 use Rattle.oram_semantics.specs.Events.{address_of}
+use Rattle.oram_semantics.specs.Run.{has_bad_length, is_accepted, is_over, refusal_of}
 use Rattle.oram_semantics.specs.Scheme.{Scheme}
-use Rattle.oram_semantics.specs.State.{State}
+use Rattle.oram_semantics.specs.State.{State, status_by, status_in}
 use Rattle.oram_semantics.specs.declared.events.Command.{Command}
+use Rattle.oram_semantics.specs.declared.events.Command.TheVariants.{Discard, Read, Write}
+use Rattle.oram_semantics.specs.declared.events.Event.TheVariants.{Submit}
+use Rattle.oram_semantics.specs.declared.events.Note.{Note}
 use Rattle.oram_semantics.specs.declared.events.Note.TheVariants.{Accepted, Refused}
 use Rattle.oram_semantics.specs.declared.events.Reason.{Reason}
 use Rattle.oram_semantics.specs.declared.events.Refusal.{Refusal}
-use Rattle.oram_semantics.specs.declared.events.Reply.{Reply}
-use Rattle.oram_semantics.specs.declared.events.ReplyBody.{ReplyBody}
-use Rattle.oram_core.specs.Core.{CoreValue, IsSameDevice, scheme_of}
-use Rattle.oram_session.specs.Settled.{IsSettled}
-use Rattle.oram_session.proofs.CoreSteps.{same_scheme}
-use Rattle.oram_link_laws.specs.Runs.{Exchange}
-use Rattle.oram_rounds.specs.Batches.{BatchOutcome}
-use Rattle.oram_rounds.specs.Law.{AreBatches}
-use Rattle.oram_rounds.specs.Process.{Act, DoesAll, Process, process, replies_of}
-use Rattle.oram_rounds.specs.Rounds.{Round}
-use Rattle.oram_rounds.specs.Start.{Asked}
-use Rattle.oram_volume.specs.CarriedOut.{AsksFor, IsBegun, IsCarriedOut, IsLeft, IsSubmitted, Stops}
-use Rattle.oram_volume.proofs.HeldArrays.{Holds, IsRight, accepted_holds, acts_hold, refused_holds, never_failed, replied_right}
+use Rattle.oram_semantics.specs.declared.events.Refusal.TheVariants as refusal
+use Rattle.oram_semantics.specs.declared.events.Submission.{Submission}
+use Rattle.oram_core.specs.PlainSteps.{Done as Did, submitted_by}
+use Rattle.oram_core.specs.Steps.{Steps, did}
+use Rattle.oram_session.specs.Honesty.{HasFailed}
+use Rattle.oram_session.specs.Settled.{IsSettled, is_settled_by}
+use Rattle.oram_rounds.specs.Start.{AreAsked, Asked, IsAsked, array_if, array_with}
+use Rattle.oram_volume.specs.CarriedOut.{after_commands}
+use Rattle.oram_volume.specs.RangeCommands.{Fits}
 
-none_by : (o : Option Reason) → is_some o ≡ false → o ≡ None
-none_by None e = refl
-none_by (Some x) e = absurd cc
+-- in a failed core nothing waits
+pub failed_settles : (s : State) → HasFailed s → IsSettled s
+failed_settles s failed = ap (λ (f : Option Reason). is_settled_by (status_by f s.queue s.lost)) failed.1
 
-pub same_process : {B K : Type 0} (s t : State) (l m : Round B) (k j : K) → t ≡ s → m ≡ l → j ≡ k → process t m j ≡ process s l k
-same_process {B} {K} s t l m k j core link keeper =
-    ap (λ (c : State). let p : Process B K = process c m j in p) core ∙ ap (λ (r : Round B). let p : Process B K = process s r j in p) link
-    ∙ ap (λ (i : K). let p : Process B K = process s l i in p) keeper
+pub not_failed : (s : State) → is_some s.failure ≡ false → HasFailed s → ⊥
+not_failed s is failed = let yes : true ≡ false = sym (ap (λ (f : Option Reason). is_some f) failed.1) ∙ is in cc
 
--- what is an error is no value
-pub no_value : {A E : Type 0} (P : A → Type 0) (r : Result A E) (e : E) → r ≡ Err e → IsOkAnd r P → ⊥
-no_value P (Ok a) e is ok = cc
-no_value P (Err x) e is ok = ok
+-- a command that fits the device is refused for its words, or for the core's state, or not at all
+abbrev rest_of : Sizes → Bool → ℕ → ℕ → List ℕ → Option Refusal
+rest_of d failed waiting taken words =
+    if failed then Some refusal.Failed
+    else if not (length words == 2 * trees_of d) then Some refusal.BadWords
+    else if nat_le 64 waiting then Some refusal.Busy
+    else if nat_le d.lifetime taken then Some refusal.Exhausted
+    else None
 
--- the command is submitted, and the core refuses or accepts it
-module _ (u : Scheme) {B K : Type 0} (batches : B → List (List ℕ) → BatchOutcome → List Exchange → B → Type 0) (reads_back : K → List ℕ → Type 0) (words : ℕ → ℕ → List ℕ) (c : Command) (m q : Process B K) where
-  abbrev IsRefused : Type 0
-  IsRefused = (asked : Asked) × (why : Refusal) × (asked.shown.note ≡ Refused why) × AsksFor u batches reads_back words c m asked q
+within : (blocks a : ℕ) → a < blocks → nat_le blocks a ≡ false
+within blocks a low = grind (arith, nat_tests, low)
 
-  abbrev IsAccepted : Type 0
-  IsAccepted = (asked : Asked) × (ticket : ℕ) × (asked.shown.note ≡ Accepted ticket) × AsksFor u batches reads_back words c m asked q
+same_number : (m n : ℕ) → m ≡ n → not (m == n) ≡ false
+same_number m n same = grind (arith, nat_tests, same)
 
--- the acts of a process bring one reply, with this body
-abbrev IsReplied : (v : Scheme) {B K : Type 0} (batches : B → List (List ℕ) → BatchOutcome → List Exchange → B → Type 0) (reads_back : K → List ℕ → Type 0) → Process B K → Process B K → ReplyBody → Type 0
-IsReplied v batches reads_back b q body = (acts : List Act) × (reply : Reply) × (flat_map replies_of acts ≡ reply ∷ []) × (reply.body ≡ body) × DoesAll v batches reads_back b acts q
+fit_address : (d : Sizes) (c : Command) → Fits d c → nat_le d.blocks (address_of c) ≡ false
+fit_address d (Read a) fits = within d.blocks a fits
+fit_address d (Write a payload) fits = within d.blocks a fits.0
+fit_address d (Discard a) fits = within d.blocks a fits
 
--- What is asked for, of a process that has carried out what waited: its core is the same device's, and its tape has the same
--- words, as before.
-module _ {S : Type 0} (cipher : S → Cipher) {B K : Type 0} (batches : B → List (List ℕ) → BatchOutcome → List Exchange → B → Type 0) (reads_back : K → List ℕ → Type 0) (are : AreBatches batches) (old mid : CoreValue S) (kept : IsSameDevice old mid)
-    {later words : ℕ → ℕ → List ℕ} (tape : later ≡ words) {c : Command} {p m : Process B K} (does : (earlier : List Act) × DoesAll (scheme_of cipher old) batches reads_back p earlier m) (settled : IsSettled m.core) where
-  asks_by : (asked : Asked) (q : Process B K) → AsksFor (scheme_of cipher mid) batches reads_back later c m asked q → AsksFor (scheme_of cipher old) batches reads_back words c m asked q
-  asks_by asked q asks =
-      subst (λ (w : Scheme). AsksFor w batches reads_back words c m asked q) (same_scheme cipher old mid kept)
-      (subst (λ (ws : ℕ → ℕ → List ℕ). AsksFor (scheme_of cipher mid) batches reads_back ws c m asked q) tape asks)
+fit_length : (d : Sizes) (c : Command) → Fits d c → has_bad_length d c ≡ false
+fit_length d (Read a) fits = refl
+fit_length d (Write a payload) fits = same_number (length payload) d.block_bytes fits.1
+fit_length d (Discard a) fits = refl
 
-  submitted_by : (asked : Asked) (q : Process B K) → AsksFor (scheme_of cipher mid) batches reads_back later c m asked q → IsSubmitted (scheme_of cipher old) batches reads_back words c p asked q
-  submitted_by asked q asks = record {
-    earlier = does.0;
-    mid = m;
-    through = does.1;
-    settled = settled;
-    asks = asks_by asked q asks;
-  }
+refusal_fits : (d : Sizes) (failed : Bool) (waiting taken : ℕ) (c : Command) (words : List ℕ) → Fits d c → refusal_of d failed waiting taken c words ≡ rest_of d failed waiting taken words
+refusal_fits d true waiting taken c words fits = refl
+refusal_fits d false waiting taken c words fits = rw (fit_address d c fits) (rw (fit_length d c fits) refl)
 
-  -- the core refuses it, or memory runs out before that
+-- the command is accepted, and stands at the end of the queue; or it is refused, and nothing changes
+abbrev Joins : State → Asked → State → Type 0
+Joins s a t = (is_accepted a.shown.note ≡ true) × (y : Submission) × (y.command ≡ a.command) × (t.queue ≡ s.queue ++ y ∷ [])
+    × ((d : Sizes) (array : ℕ → List ℕ) → array_if a.shown.note d a.command array ≡ array_after d a.command array)
 
-  pub begin_begun : (e : DiskFault) (q : Process B K) → e ≢ Failed → (e ≡ Stopped → IsRefused (scheme_of cipher mid) batches reads_back later c m q) → (e ≡ OutOfMemory → q ≡ m) → IsBegun (scheme_of cipher old) batches reads_back words c p q
-  begin_begun Failed q well refused memory = absurd (well refl)
-  begin_begun Stopped q well refused memory = let r = refused refl in inr (r.0, q, submitted_by r.0 q r.3, [], refl)
-  begin_begun OutOfMemory q well refused memory = inl (does.0, subst (λ (k : Process B K). DoesAll (scheme_of cipher old) batches reads_back p does.0 k) (sym (memory refl)) does.1)
+abbrev Stays : State → Asked → State → Type 0
+Stays s a t = (is_accepted a.shown.note ≡ false) × (t ≡ s) × ((d : Sizes) (array : ℕ → List ℕ) → array_if a.shown.note d a.command array ≡ array)
 
-  pub begin_holds : (may_lie : Bool) (array : ℕ → List ℕ) (e : DiskFault) (q : Process B K) → e ≢ Failed → (e ≡ Stopped → IsRefused (scheme_of cipher mid) batches reads_back later c m q) → (e ≡ OutOfMemory → q ≡ m)
-      → Holds batches reads_back are may_lie (scheme_of cipher old) m array → Holds batches reads_back are may_lie (scheme_of cipher old) q array
-  begin_holds may_lie array Failed q well refused memory h = absurd (well refl)
-  begin_holds may_lie array Stopped q well refused memory h =
-      let r = refused refl in
-      refused_holds batches reads_back are may_lie (scheme_of cipher old) m q r.0 r.1 array (asks_by r.0 q r.3).2 r.2 h
-  begin_holds may_lie array OutOfMemory q well refused memory h = subst (λ (k : Process B K). Holds batches reads_back are may_lie (scheme_of cipher old) k array) (sym (memory refl)) h
+stepped : (v : Scheme) (s t : State) (a : Asked) → Steps v s (Submit a.session a.command a.words) a.shown t
+    → ((refusal_of v.device (is_over (status_in s)) (length s.queue) s.next a.command a.words ≡ None) × Joins s a t)
+    ⊎ ((e : Refusal) × (refusal_of v.device (is_over (status_in s)) (length s.queue) s.next a.command a.words ≡ Some e) × Stays s a t)
+stepped v s t a step =
+    let y : Submission = record { session = a.session; ticket = s.next; command = a.command; words = a.words } in
+    let r = refusal_of v.device (is_over (status_in s)) (length s.queue) s.next a.command a.words in
+    by y r refl refl (step.plain (submitted_by v s y r) refl)
+  where
+    by : (y : Submission) (r : Option Refusal) → y.command ≡ a.command → refusal_of v.device (is_over (status_in s)) (length s.queue) s.next a.command a.words ≡ r → did a.shown t ≡ submitted_by v s y r
+        → ((refusal_of v.device (is_over (status_in s)) (length s.queue) s.next a.command a.words ≡ None) × Joins s a t)
+        ⊎ ((e : Refusal) × (refusal_of v.device (is_over (status_in s)) (length s.queue) s.next a.command a.words ≡ Some e) × Stays s a t)
+    by y None is none same =
+        let note : a.shown.note ≡ Accepted y.ticket = ap (λ (d : Did). d.note) same in
+        inl (none, (ap is_accepted note, y, is, ap (λ (d : Did). d.state.queue) same, λ d array. ap (λ (n : Note). array_if n d a.command array) note))
+    by y (Some e) is some same =
+        let note : a.shown.note ≡ Refused e = ap (λ (d : Did). d.note) same in
+        inr (e, some, (ap is_accepted note, ap (λ (d : Did). d.state) same, λ d array. ap (λ (n : Note). array_if n d a.command array) note))
 
-  pub begin_stops : (q : Process B K) → IsRefused (scheme_of cipher mid) batches reads_back later c m q → Stops (scheme_of cipher old) batches reads_back words c p q
-  begin_stops q r = inr (r.0, q, submitted_by r.0 q r.3, inr (r.1, r.2, refl))
+module _ (v : Scheme) (words : ℕ → ℕ → List ℕ) (session : ℕ) where
+  abbrev pub AllFit : List Asked → Type 0
+  AllFit asked = All (Fits v.device) (map (λ (a : Asked). a.command) asked)
 
-  -- it is accepted, and carried out or left
+  -- the words of the next ticket
+  abbrev next_words : State → List ℕ
+  next_words s = words s.next (2 * trees_of v.device)
 
-  module _ (new : CoreValue S) (kept_too : IsSameDevice mid new) {b : Process B K} (q : Process B K) (accepted : IsAccepted (scheme_of cipher mid) batches reads_back later c m b) where
-    same_too : scheme_of cipher new ≡ scheme_of cipher old
-    same_too = same_scheme cipher mid new kept_too ∙ same_scheme cipher old mid kept
+  abbrev now_refused : State → Option Refusal
+  now_refused s = rest_of v.device (is_over (status_in s)) (length s.queue) s.next (next_words s)
 
-    as_before : (acts : List Act) → DoesAll (scheme_of cipher new) batches reads_back b acts q → DoesAll (scheme_of cipher old) batches reads_back b acts q
-    as_before acts all = subst (λ (w : Scheme). DoesAll w batches reads_back b acts q) same_too all
+  reason_of : (s t : State) (a : Asked) → Fits v.device a.command → IsAsked v words session s a t
+      → refusal_of v.device (is_over (status_in s)) (length s.queue) s.next a.command a.words ≡ now_refused s
+  reason_of s t a fits step =
+      refusal_fits v.device (is_over (status_in s)) (length s.queue) s.next a.command a.words fits
+      ∙ ap (λ (ws : List ℕ). rest_of v.device (is_over (status_in s)) (length s.queue) s.next ws) step.1
 
-    pub finish_begun : (acts : List Act) × DoesAll (scheme_of cipher new) batches reads_back b acts q → IsBegun (scheme_of cipher old) batches reads_back words c p q
-    finish_begun left = inr (accepted.0, b, submitted_by accepted.0 b accepted.3, left.0, as_before left.0 left.1)
+  -- where one is refused, all others are too
+  all_refused : (e : Refusal) (asked : List Asked) (s t : State) → AreAsked v words session s asked t → AllFit asked → now_refused s ≡ Some e
+      → (array : ℕ → List ℕ) → array_with v.device asked array ≡ array
+  all_refused e [] s t all fits is array = refl
+  all_refused e (a ∷ asked) s t all fits is array =
+      let mid : State = all.0 in
+      let reason = reason_of s mid a (All-head (Fits v.device) a.command (map (λ (b : Asked). b.command) asked) fits) all.1 ∙ is in
+      elim (stepped v s mid a all.1.2) [
+        | inl joins ↦ absurd (let both : None ≡ Some e = sym joins.0 ∙ reason in cc)
+        | inr stays ↦
+            ap (array_with v.device asked) (stays.2.2 v.device array)
+            ∙ all_refused e asked mid t all.2 (All-tail (Fits v.device) a.command (map (λ (b : Asked). b.command) asked) fits) (ap now_refused stays.2.1 ∙ is) array
+      ]
 
-    pub finish_holds : (may_lie : Bool) (array : ℕ → List ℕ) → (acts : List Act) × DoesAll (scheme_of cipher new) batches reads_back b acts q → Holds batches reads_back are may_lie (scheme_of cipher old) m array
-        → Holds batches reads_back are may_lie (scheme_of cipher old) q (array_after old.device c array)
-    finish_holds may_lie array left h =
-        let asks = asks_by accepted.0 b accepted.3 in
-        acts_hold batches reads_back are may_lie (scheme_of cipher old) left.0 b q (array_after old.device c array) (as_before left.0 left.1)
-        (accepted_holds batches reads_back are may_lie (scheme_of cipher old) m b accepted.0 c accepted.1 array asks.2 asks.0 accepted.2 h)
+  -- so the first ones are accepted, all or some or none, and the array is the one after these
+  pub first_accepted : (asked : List Asked) (s t : State) → AreAsked v words session s asked t → AllFit asked
+      → (n : ℕ) × (n ≤ length asked) × ((array : ℕ → List ℕ) → array_with v.device asked array ≡ after_commands v.device (take n (map (λ (a : Asked). a.command) asked)) array)
+  first_accepted [] s t all fits = (0, omega arith, λ array. refl)
+  first_accepted (a ∷ asked) s t all fits =
+      let mid : State = all.0 in
+      elim (stepped v s mid a all.1.2) [
+        | inl joins ↦
+            let rest = first_accepted asked mid t all.2 (All-tail (Fits v.device) a.command (map (λ (b : Asked). b.command) asked) fits) in (
+              suc rest.0,
+              (let few : rest.0 ≤ length asked = rest.1 in omega arith),
+              λ array. ap (array_with v.device asked) (joins.1.4 v.device array) ∙ rest.2 (array_after v.device a.command array),
+            )
+        | inr stays ↦
+            let reason = sym (reason_of s mid a (All-head (Fits v.device) a.command (map (λ (b : Asked). b.command) asked) fits) all.1) ∙ stays.1 in (
+              0,
+              omega arith,
+              λ array. all_refused stays.0 (a ∷ asked) s t all fits reason array,
+            )
+      ]
 
-    pub finish_stops : IsLeft (scheme_of cipher new) batches reads_back b q → Stops (scheme_of cipher old) batches reads_back words c p q
-    finish_stops left =
-        inr (accepted.0, b, submitted_by accepted.0 b accepted.3, inl (subst (λ (w : Scheme). IsLeft w batches reads_back b q) same_too left))
+  -- how many are accepted
+  abbrev pub accepted_in : List Asked → ℕ
+  accepted_in asked = count_by is_accepted (map (λ (a : Asked). a.shown.note) asked)
 
-    pub finish_done : (body told : ReplyBody) → IsReplied (scheme_of cipher new) batches reads_back b q body → body ≡ told → IsCarriedOut (scheme_of cipher old) batches reads_back words c p told q
-    finish_done body told k is = record {
-      asked = accepted.0;
-      begun = b;
-      submitted = submitted_by accepted.0 b accepted.3;
-      ticket = accepted.1;
-      accepted = accepted.2;
-      acts = k.0;
-      does = as_before k.0 k.4;
-      reply = k.1;
-      replied = k.2;
-      is = k.3 ∙ is;
-    }
+  most_accepted : (asked : List Asked) → accepted_in asked ≤ length asked
+  most_accepted asked =
+      subst (λ (n : ℕ). accepted_in asked ≤ n) (length-map asked (λ (a : Asked). a.shown.note)) (count_by-le-length is_accepted (map (λ (a : Asked). a.shown.note) asked))
 
-    right_by : (may_lie : Bool) (array : ℕ → List ℕ) (body told : ReplyBody) → is_some m.core.failure ≡ false → IsReplied (scheme_of cipher new) batches reads_back b q body → body ≡ told → Holds batches reads_back are may_lie (scheme_of cipher old) m array
-        → IsRight batches reads_back are may_lie (scheme_of cipher old) array c told
-    right_by may_lie array body told alive k is h =
-        let asks = asks_by accepted.0 b accepted.3 in
-        subst (IsRight batches reads_back are may_lie (scheme_of cipher old) array c) (k.3 ∙ is)
-        (replied_right batches reads_back are may_lie (scheme_of cipher old) m b q accepted.0 c accepted.1 k.0 k.1 array settled (none_by m.core.failure alive) asks.2 asks.0 accepted.2 (as_before k.0 k.4) k.2 h)
+  counted : (a : Asked) (asked : List Asked) → accepted_in (a ∷ asked) ≡ (if is_accepted a.shown.note then 1 else 0) + accepted_in asked
+  counted a asked = sum_by-cons (λ (n : Note). if is_accepted n then 1 else 0) a.shown.note (map (λ (b : Asked). b.shown.note) asked)
 
-    pub finish_told : (may_lie : Bool) (array : ℕ → List ℕ) (body told : ReplyBody) → is_some m.core.failure ≡ false → IsReplied (scheme_of cipher new) batches reads_back b q body → body ≡ told → told ≢ ReplyBody.Failed
-        → Holds batches reads_back are may_lie (scheme_of cipher old) m array
-        → (told ≡ body_from (array (address_of c)) c) × Holds batches reads_back are may_lie (scheme_of cipher old) q (array_after old.device c array)
-    finish_told may_lie array body told alive k is well h =
-        (elim (right_by may_lie array body told alive k is h) [ inl as_told ↦ as_told | inr lied ↦ absurd (well lied.1) ], finish_holds may_lie array (k.0, k.4) h)
+  -- where all are, they stand in the queue
+  pub record AreQueued (asked : List Asked) (s t : State) : Type 0 where
+    pub waiting : List Submission
+    pub commands : map (λ (y : Submission). y.command) waiting ≡ map (λ (a : Asked). a.command) asked
+    pub queue : t.queue ≡ s.queue ++ waiting
 
-    pub finish_sound : (array : ℕ → List ℕ) (body : ReplyBody) → is_some m.core.failure ≡ false → IsReplied (scheme_of cipher new) batches reads_back b q body → body ≡ ReplyBody.Failed → Holds batches reads_back are false (scheme_of cipher old) m array → ⊥
-    finish_sound array body alive k is h = elim (right_by false array body ReplyBody.Failed alive k is h) [
-      | inl as_told ↦ never_failed (array (address_of c)) c (sym as_told)
-      | inr lied ↦ absurd (let no = lied.0 in cc)
-    ]
+  pub all_accepted : (asked : List Asked) (s t : State) → AreAsked v words session s asked t → length asked ≤ accepted_in asked
+      → AreQueued asked s t × ((array : ℕ → List ℕ) → array_with v.device asked array ≡ after_commands v.device (map (λ (a : Asked). a.command) asked) array)
+  all_accepted [] s t all many = (
+    record { waiting = []; commands = refl; queue = ap (λ (c : State). c.queue) (sym all) ∙ sym (append-nil s.queue) },
+    λ array. refl,
+  )
+  all_accepted (a ∷ asked) s t all many =
+      let mid : State = all.0 in
+      let most = most_accepted asked in
+      elim (stepped v s mid a all.1.2) [
+        | inl joins ↦
+            let one = counted a asked ∙ ap (λ (b : Bool). (if b then 1 else 0) + accepted_in asked) joins.1.0 in
+            let rest = all_accepted asked mid t all.2 (omega (arith, one, many, most)) in (
+              record {
+                waiting = joins.1.1 ∷ rest.0.waiting;
+                commands = ap (λ (c : Command). c ∷ map (λ (y : Submission). y.command) rest.0.waiting) joins.1.2 ∙ ap (λ (cs : List Command). a.command ∷ cs) rest.0.commands;
+                queue = rest.0.queue ∙ ap (λ (q : List Submission). q ++ rest.0.waiting) joins.1.3 ∙ append_assoc s.queue (joins.1.1 ∷ []) rest.0.waiting;
+              },
+              λ array. ap (array_with v.device asked) (joins.1.4 v.device array) ∙ rest.1 (array_after v.device a.command array),
+            )
+        | inr stays ↦
+            let none = counted a asked ∙ ap (λ (b : Bool). (if b then 1 else 0) + accepted_in asked) stays.2.0 in
+            absurd (omega (arith, none, many, most))
+      ]
+
+  -- where not all are, one isn't
+  pub one_refused : (asked : List Asked) → accepted_in asked < length asked → (before after : List Asked) × (a : Asked) × (is_accepted a.shown.note ≡ false) × (asked ≡ before ++ a ∷ after)
+  one_refused [] few = absurd (omega (arith, few))
+  one_refused (a ∷ asked) few = by (is_accepted a.shown.note) refl (λ less. one_refused asked less)
+    where
+      by : (b : Bool) → is_accepted a.shown.note ≡ b
+          → (accepted_in asked < length asked → (before after : List Asked) × (x : Asked) × (is_accepted x.shown.note ≡ false) × (asked ≡ before ++ x ∷ after))
+          → (before after : List Asked) × (x : Asked) × (is_accepted x.shown.note ≡ false) × (a ∷ asked ≡ before ++ x ∷ after)
+      by false is more = ([], asked, a, is, refl)
+      by true is more =
+          let one = counted a asked ∙ ap (λ (b : Bool). (if b then 1 else 0) + accepted_in asked) is in
+          let rest = more (omega (arith, one, few)) in
+          (a ∷ rest.0, rest.1, rest.2, rest.3, ap (λ (l : List Asked). a ∷ l) rest.4)

@@ -1,38 +1,56 @@
--- What a process of a device holds.
-use Rattle.std.specs.Prelude.{◌≡◌, ℕ, Bool, false, List}
+-- What a process of a device holds, beside a host.
+use Rattle.std.specs.Prelude.{◌≡◌, ℕ, Bool, List, []}
+use Rattle.oram_bucket.specs.Cipher.{Cipher}
+use Rattle.oram_core.specs.Core.{scheme_of}
 use Rattle.oram_geometry.specs.Sizes.{IsDevice}
 use Rattle.oram_host.specs.Host.{Host}
 use Rattle.oram_semantics.specs.Scheme.{Scheme, record_len}
 use Rattle.oram_semantics.specs.State.{State}
-use Rattle.oram_link_laws.specs.Runs.{Exchange}
-use Rattle.oram_rounds.specs.Batches.{BatchOutcome}
-use Rattle.oram_rounds.specs.CatchUp.{PlainRun}
-use Rattle.oram_rounds.specs.Rounds.{Round, waiting}
+use Rattle.oram_link_laws.specs.Runs.{Exchange, IsHeldBy}
+use Rattle.oram_rounds.specs.CatchUp.{IsPlainCall}
+use Rattle.oram_rounds.specs.Process.{Process, begun, process}
+use Rattle.oram_rounds.specs.Rounds.{waiting}
 use Rattle.oram_rounds.specs.Service.{WillHoldAfter}
 use Rattle.oram_volume.specs.Blocks.{IsLaidOut}
+use Rattle.oram_volume.specs.declared.volume.Volume.{Volume}
 
--- of a core and its link, over batches with this relation, to a host that is honest or may lie
-module _ (may_lie : Bool) (v : Scheme) {B : Type 0} (batches : B → List (List ℕ) → BatchOutcome → List Exchange → B → Type 0) (core : State) (link : Round B) where
-  -- The device holds this array, as told by a host that is beside all batches; or it will, once the commands that wait are
-  -- carried out. Where the host may lie it may also have failed.
-  pub record HoldsArray (array : ℕ → List ℕ) : Type 0 where
-    pub host_of : B → Host
-    pub run : (l m : B) (bodies : List (List ℕ)) (o : BatchOutcome) (exchanges : List Exchange) → batches l bodies o exchanges m → PlainRun may_lie v (host_of l) exchanges (host_of m)
-    pub device : IsDevice v.device
-    pub same_device : link.device ≡ v.device
-    pub same_len : link.record_len ≡ record_len v
-    pub will_hold : WillHoldAfter may_lie v core (waiting link) (host_of link.inner) array
+-- a host, and the scheme of the device beside which it stands
+pub record HostBeside : Type 0 where
+  pub scheme : Scheme
+  pub host : Host
 
-  -- it holds the array that has these bytes
-  pub record HoldsBytes (bytes : List ℕ) : Type 0 where
-    pub array : ℕ → List ℕ
-    pub holds : HoldsArray array
-    pub laid : IsLaidOut v.device array bytes
+-- an exchange leads the host from one state to another
+abbrev pub Hears : Bool → HostBeside → Exchange → HostBeside → Type 0
+Hears may_lie w e later = (later.scheme ≡ w.scheme) × IsPlainCall may_lie w.scheme w.host e.0 e.1 later.host
 
--- it holds these bytes, whether the host may lie or not
-abbrev pub Keeps : Scheme → {B : Type 0} → (B → List (List ℕ) → BatchOutcome → List Exchange → B → Type 0) → State → Round B → List ℕ → Type 0
-Keeps v batches core link bytes = (may_lie : Bool) × HoldsBytes may_lie v batches core link bytes
+-- a process, the scheme of its device, and the words of its tape
+pub record Running (B K : Type 0) : Type 0 where
+  pub scheme : Scheme
+  pub words : ℕ → ℕ → List ℕ
+  pub process : Process B K
 
--- over an honest host it holds some bytes
-abbrev pub IsSound : Scheme → {B : Type 0} → (B → List (List ℕ) → BatchOutcome → List Exchange → B → Type 0) → State → Round B → Type 0
-IsSound v batches core link = (bytes : List ℕ) × HoldsBytes false v batches core link bytes
+-- that of a volume, by the cipher of its sealer
+abbrev pub running : {S B K T : Type 0} → (S → Cipher) → (T → ℕ → ℕ → List ℕ) → Volume S B K T → Running B K
+running cipher words d = record { scheme = scheme_of cipher d.core; words = words d.tape; process = process d.core.state d.link d.keeper }
+
+-- Beside this host the device holds the array; or it will, once the commands that wait are carried out. Where the host may
+-- lie it may also have failed.
+pub record HoldsArray {B K : Type 0} (may_lie : Bool) (p : Running B K) (w : HostBeside) (array : ℕ → List ℕ) : Type 0 where
+  pub same : w.scheme ≡ p.scheme
+  pub device : IsDevice p.scheme.device
+  pub same_device : p.process.link.device ≡ p.scheme.device
+  pub same_len : p.process.link.record_len ≡ record_len p.scheme
+  pub will_hold : WillHoldAfter may_lie p.scheme p.process.core (waiting p.process.link) w.host array
+
+-- it holds the array that has these bytes
+pub record HoldsBytes {B K : Type 0} (may_lie : Bool) (p : Running B K) (w : HostBeside) (bytes : List ℕ) : Type 0 where
+  pub array : ℕ → List ℕ
+  pub holds : HoldsArray may_lie p w array
+  pub laid : IsLaidOut p.scheme.device array bytes
+
+-- A process that begins with a device as a host keeps it between two requests holds the bytes of its array beside that host,
+-- whether it may lie from then on or not.
+abbrev pub HeldDevicesHold : Type 0 → Type 0 → Type 0
+HeldDevicesHold B K = (may_lie : Bool) (v : Scheme) (words : ℕ → ℕ → List ℕ) (inner : B) (core : State) (keeper : K) (host : Host) (array : ℕ → List ℕ) (bytes : List ℕ) → IsDevice v.device
+    → IsHeldBy v core host array → IsLaidOut v.device array bytes
+    → HoldsBytes may_lie (record { scheme = v; words = words; process = begun inner v [] core keeper }) (record { scheme = v; host = host }) bytes

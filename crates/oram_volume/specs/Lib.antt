@@ -1,3 +1,5 @@
 pub mod Blocks
+pub mod RangeCommands
 pub mod HeldArrays
 pub mod CarriedOut
+pub mod DiskCalls

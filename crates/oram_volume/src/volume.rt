@@ -1,27 +1,22 @@
 //! A core with its link, its keeper and its tape.
 
-ghost use Rattle.std.specs.Prelude.{◌≡◌, ◌≢◌, ◌⊎◌, ◌+◌, ◌*◌, ◌<◌, ◌≤◌, ℕ, Bool, false, List, [], ◌∷◌, length, IsOk, IfOk, IfErr, IsErrOf, OnOk, OnErr};
-ghost use Rattle.std.specs.List.{flat_map};
-ghost use Rattle.oram_semantics.specs.Blocks.{body_from};
-ghost use Rattle.oram_semantics.specs.Events.{address_of as address_in};
-ghost use Rattle.oram_semantics.specs.ArrayReplies.{array_after};
-ghost use Rattle.oram_semantics.specs.declared.events.Note.TheVariants.{Accepted, Refused};
-ghost use Rattle.oram_semantics.specs.declared.events.Refusal.{Refusal};
-ghost use Rattle.oram_semantics.specs.declared.events.Reply.{Reply};
-ghost use Rattle.oram_core.specs.Core.{IsSameDevice, scheme_of};
-ghost use Rattle.oram_core.specs.PlainSteps.{done};
+ghost use Rattle.std.specs.Prelude.{◌≡◌, ◌≢◌, ◌⊎◌, ◌<◌, ℕ, false, List, [], All, map, take, IsOk, IfOk, IfErr, IsErrOf, IsTrue, MatchResult, OnOk};
+ghost use Rattle.oram_core.specs.Core.{IsSameDevice};
 ghost use Rattle.oram_session.specs.Honesty.{HasFailed};
-ghost use Rattle.oram_session.specs.Settled.{IsBodyOf, IsSettled, IsUnderWay};
-ghost use Rattle.oram_rounds.specs.Process.{Act, DoesAll, process, replies_of};
-ghost use Rattle.oram_rounds.specs.Start.{Asked};
-ghost use Rattle.oram_volume.specs.CarriedOut.{AsksFor, IsBegun, IsCarriedOut, IsLeft, Stops};
-ghost use Rattle.oram_volume.specs.HeldArrays.{HoldsArray};
+ghost use Rattle.oram_session.specs.Settled.{IsSettled};
+ghost use Rattle.oram_nbd.specs.Beside.{GoesOn};
+ghost use Rattle.oram_nbd.specs.Calls.{FailsByLies};
+ghost use Rattle.oram_volume.specs.CarriedOut.{Had, Stops, after_commands, bodies_from};
+ghost use Rattle.oram_volume.specs.RangeCommands.{Fits};
+ghost use Rattle.oram_volume.specs.HeldArrays.{Hears, HoldsArray, running};
 
 use oram_bucket::Sealer;
-use oram_core::{Command, Core, Note, Reaction, ReplyBody};
+use oram_core::{Command, Core, Reply, ReplyBody};
 use oram_nbd::DiskFault;
-use oram_rounds::{BatchLink, Keeper, RoundFault, RoundLink, perform, resume};
-use oram_session::{Tape, submit};
+use oram_rounds::{
+    BatchLink, Keeper, RoundFault, RoundLink, Submitted, perform, resume, submit_all,
+};
+use oram_session::Tape;
 use std::alloc::Global;
 
 /// A volume has one client.
@@ -51,24 +46,42 @@ fn disk_fault(fault: RoundFault) -> DiskFault
     }
 }
 
+/// Returns whether a reply says that the device has failed.
+fn has_failure(replies: &[Reply]) -> bool
+    ensures yes { IsTrue result → All (λ reply. reply.body ≢ ReplyBody.Failed) replies.now → ⊥ }
+    ensures no { result ≡ false → All (λ reply. reply.body ≢ ReplyBody.Failed) replies.now }
+{
+    for reply in replies {
+        if reply.body == ReplyBody::Failed {
+            return true;
+        }
+    }
+    false
+}
+
+/// Returns what becomes of so many commands if the core accepts none of them.
+fn unanswered(alloc: Global, count: usize) -> Result<Vec<Reply>, DiskFault>
+    ensures ok { IfOk result (λ replies. (replies.items ≡ []) × (count ≡ 0)) }
+    ensures err { IfErr result (λ e. (e ≡ DiskFault.Stopped) × (0 < count)) }
+{
+    if count == 0 {
+        return Ok(Vec::new(alloc));
+    }
+    Err(DiskFault::Stopped)
+}
+
 impl<S: Sealer, B: BatchLink, K: Keeper, T: Tape> Volume<S, B, K, T> {
-    /// Carries out the commands that wait from before. Each block command does so first.
+    /// Carries out the commands that wait from before. Each round does so first.
     pub fn resume(&mut self, alloc: Global) -> Result<(), DiskFault>
         ensures kept { IsSameDevice self.old.core self.new.core }
+        ensures tape { T.words self.new.tape ≡ T.words self.old.tape }
         ensures settled { OnOk result (IsSettled self.new.core.state) }
-        ensures calm { IsSettled self.old.core.state → IsOk result }
-        ensures does { let v = scheme_of S.cipher self.old.core in (acts : List Act)
-            × DoesAll v B.batches K.reads_back (process self.old.core.state self.old.link self.old.keeper) acts
-            (process self.new.core.state self.new.link self.new.keeper) }
-        ensures holds { let v = scheme_of S.cipher self.old.core in
-            (may_lie : Bool) (array : ℕ → List ℕ) → HoldsArray may_lie v B.batches self.old.core.state self.old.link array
-            → HoldsArray may_lie v B.batches self.new.core.state self.new.link array }
+        ensures calm { IsSettled self.old.core.state → IsOk result × (self.new.core ≡ self.old.core) }
+        ensures goes { GoesOn (Had B.batches K.reads_back) Hears HoldsArray (running S.cipher T.words self.old)
+            (λ _ array later. later ≡ array) (running S.cipher T.words self.new) }
         ensures fault { IfErr result (λ e. e ≢ DiskFault.Failed) }
         // It stops where a message stalls or the process can't be kept, and nowhere else.
-        ensures stopped { let v = scheme_of S.cipher self.old.core in
-            IsErrOf result DiskFault.Stopped → IsLeft v B.batches K.reads_back (process self.old.core.state self.old.link self.old.keeper)
-            (process self.new.core.state self.new.link self.new.keeper) }
-        ensures tape { self.new.tape ≡ self.old.tape }
+        ensures stopped { IsErrOf result DiskFault.Stopped → Stops B.batches K.reads_back (running S.cipher T.words self.old) (running S.cipher T.words self.new) }
     {
         match resume(alloc, &mut self.core, &mut self.link, &mut self.keeper) {
             Ok(_) => Ok(()),
@@ -76,123 +89,53 @@ impl<S: Sealer, B: BatchLink, K: Keeper, T: Tape> Volume<S, B, K, T> {
         }
     }
 
-    /// Returns the address of a block that lies within the device.
-    pub(crate) fn address_of(&self, block: u64) -> u32
-        requires { let d = self.now.core.device in d.block_bytes * block + d.block_bytes ≤ d.block_bytes * d.blocks }
-        ensures value { result ≡ block }
-        ensures within { result < self.now.core.device.blocks }
-    {
-        let _device = self.core.device();
-        block as u32
-    }
-
-    /// Submits a command to a core at which nothing waits, and returns the core's reaction if it accepts the command. Fails
-    /// with `Stopped` if the core accepts no more commands.
-    fn begin(&mut self, alloc: Global, command: Command) -> Result<Reaction, DiskFault>
-        requires { IsSettled self.old.core.state }
-        ensures kept { IsSameDevice self.old.core self.new.core }
-        ensures same { (self.new.link ≡ self.old.link) × (self.new.keeper ≡ self.old.keeper) }
-        ensures under_way { IfOk result (λ r. IsUnderWay (done r self.new.core.state)) }
-        ensures alone { OnOk result (length self.new.core.state.queue ≡ 1) }
-        ensures ok { let v = scheme_of S.cipher self.old.core in
-            OnOk result ((asked : Asked) × (ticket : ℕ) × (asked.shown.note ≡ Accepted ticket)
-            × AsksFor v B.batches K.reads_back (T.words self.old.tape) command
-            (process self.old.core.state self.old.link self.old.keeper) asked
-            (process self.new.core.state self.new.link self.new.keeper)) }
-        ensures refused { let v = scheme_of S.cipher self.old.core in
-            IsErrOf result DiskFault.Stopped → (asked : Asked) × (why : Refusal) × (asked.shown.note ≡ Refused why)
-            × AsksFor v B.batches K.reads_back (T.words self.old.tape) command
-            (process self.old.core.state self.old.link self.old.keeper) asked
-            (process self.new.core.state self.new.link self.new.keeper) }
-        ensures memory { IsErrOf result DiskFault.OutOfMemory → self.new.core ≡ self.old.core }
-        ensures fault { IfErr result (λ e. e ≢ DiskFault.Failed) }
-    {
-        let reaction = submit(alloc, &mut self.core, &mut self.tape, SESSION, command)?;
-        match reaction.note {
-            Note::Accepted(_) => Ok(reaction),
-            Note::Refused(_) => Err(DiskFault::Stopped),
-            Note::Taken | Note::Stalled | Note::FailedNow(_) | Note::Resent | Note::Unexpected => {
-                unreachable!()
-            }
-        }
-    }
-
-    /// Keeps and carries out the one command that is at work, and returns its reply.
-    fn finish(&mut self, alloc: Global, reaction: Reaction) -> Result<ReplyBody, DiskFault>
-        requires under_way { IsUnderWay (done reaction self.old.core.state) }
-        requires alone { length self.old.core.state.queue ≡ 1 }
-        ensures kept { IsSameDevice self.old.core self.new.core }
-        ensures block { IfOk result (λ body. IsBodyOf self.old.core.device body) }
-        ensures failed { IfOk result (λ body. body ≡ ReplyBody.Failed → HasFailed self.new.core.state) }
-        ensures replied { let v = scheme_of S.cipher self.old.core in
-            IfOk result (λ body. (acts : List Act) × (reply : Reply) × (flat_map replies_of acts ≡ reply ∷ []) × (reply.body ≡ body)
-            × DoesAll v B.batches K.reads_back (process self.old.core.state self.old.link self.old.keeper) acts
-            (process self.new.core.state self.new.link self.new.keeper)) }
-        ensures left { let v = scheme_of S.cipher self.old.core in
-            OnErr result ((acts : List Act)
-            × DoesAll v B.batches K.reads_back (process self.old.core.state self.old.link self.old.keeper) acts
-            (process self.new.core.state self.new.link self.new.keeper)) }
-        ensures stopped { let v = scheme_of S.cipher self.old.core in
-            IsErrOf result DiskFault.Stopped → IsLeft v B.batches K.reads_back (process self.old.core.state self.old.link self.old.keeper)
-            (process self.new.core.state self.new.link self.new.keeper) }
-        ensures fault { IfErr result (λ e. e ≢ DiskFault.Failed) }
-    {
-        match perform(
-            alloc,
-            &mut self.core,
-            &mut self.link,
-            &mut self.keeper,
-            reaction,
-        ) {
-            Ok(mut replies) => match replies.pop() {
-                Some(reply) => Ok(reply.body),
-                None => unreachable!(),
-            },
-            Err(fault) => Err(disk_fault(fault)),
-        }
-    }
-
-    /// Carries out a command, behind what waits.
-    pub(crate) fn carry_out(
+    /// Carries out commands in one round, behind what waits, and returns their replies, in their order. After an `Err` the
+    /// first ones, some or none of them, are carried out or will be.
+    pub(crate) fn carry_out_all(
         &mut self,
         alloc: Global,
-        command: Command,
-    ) -> Result<ReplyBody, DiskFault>
+        commands: Vec<Command>,
+    ) -> Result<Vec<Reply>, DiskFault>
+        requires { All (Fits self.old.core.device) commands.items }
         ensures kept { IsSameDevice self.old.core self.new.core }
-        ensures block { IfOk result (λ body. IsBodyOf self.old.core.device body) }
-        ensures done { let v = scheme_of S.cipher self.old.core in
-            IfOk result (λ body. IsCarriedOut v B.batches K.reads_back (T.words self.old.tape) command
-            (process self.old.core.state self.old.link self.old.keeper) body
-            (process self.new.core.state self.new.link self.new.keeper)) }
-        ensures ok { let v = scheme_of S.cipher self.old.core in
-            IfOk result (λ body. (may_lie : Bool) (array : ℕ → List ℕ) → HoldsArray may_lie v B.batches self.old.core.state self.old.link array
-            → (body ≡ body_from (array (address_in command)) command)
-            × HoldsArray may_lie v B.batches self.new.core.state self.new.link (array_after v.device command array)) }
-        ensures begun { let v = scheme_of S.cipher self.old.core in
-            OnErr result (IsBegun v B.batches K.reads_back (T.words self.old.tape) command
-            (process self.old.core.state self.old.link self.old.keeper)
-            (process self.new.core.state self.new.link self.new.keeper)) }
-        ensures err { let v = scheme_of S.cipher self.old.core in
-            OnErr result ((may_lie : Bool) (array : ℕ → List ℕ) → HoldsArray may_lie v B.batches self.old.core.state self.old.link array
-            → HoldsArray may_lie v B.batches self.new.core.state self.new.link array
-            ⊎ HoldsArray may_lie v B.batches self.new.core.state self.new.link (array_after v.device command array)) }
-        ensures sound { let v = scheme_of S.cipher self.old.core in
-            IsErrOf result DiskFault.Failed → (array : ℕ → List ℕ) → HoldsArray false v B.batches self.old.core.state self.old.link array → ⊥ }
+        ensures tape { T.words self.new.tape ≡ T.words self.old.tape }
+        ensures goes { GoesOn (Had B.batches K.reads_back) Hears HoldsArray (running S.cipher T.words self.old)
+            (λ may_lie array later. let d = self.old.core.device in MatchResult result
+            (λ replies. (map (λ reply. reply.body) replies.items ≡ bodies_from d commands.items array) × (later ≡ after_commands d commands.items array))
+            (λ _. (n : ℕ) × (later ≡ after_commands d (take n commands.items) array)) × FailsByLies result may_lie)
+            (running S.cipher T.words self.new) }
+        ensures refused { OnOk result (HasFailed self.old.core.state → ⊥) }
         ensures failing { IsErrOf result DiskFault.Failed → HasFailed self.new.core.state }
-        ensures stopped { let v = scheme_of S.cipher self.old.core in
-            IsErrOf result DiskFault.Stopped → Stops v B.batches K.reads_back (T.words self.old.tape) command
-            (process self.old.core.state self.old.link self.old.keeper)
-            (process self.new.core.state self.new.link self.new.keeper) }
+        ensures still { HasFailed self.old.core.state → HasFailed self.new.core.state }
+        ensures stopped { IsErrOf result DiskFault.Stopped → Stops B.batches K.reads_back (running S.cipher T.words self.old) (running S.cipher T.words self.new) }
     {
         self.resume(alloc)?;
         if self.core.failure().is_some() {
             return Err(DiskFault::Failed);
         }
-        let reaction = self.begin(alloc, command)?;
-        match self.finish(alloc, reaction)? {
-            ReplyBody::Failed => Err(DiskFault::Failed),
-            ReplyBody::Data(bytes) => Ok(ReplyBody::Data(bytes)),
-            ReplyBody::Done => Ok(ReplyBody::Done),
+        let count = commands.len();
+        let Submitted { notes: _, begun } = submit_all(
+            alloc,
+            &mut self.core,
+            &mut self.tape,
+            SESSION,
+            commands,
+        )?;
+        let Some(first) = begun else {
+            return unanswered(alloc, count);
+        };
+        let performed = perform(
+            alloc,
+            &mut self.core,
+            &mut self.link,
+            &mut self.keeper,
+            first,
+        );
+        match performed {
+            Ok(replies) if has_failure(&replies) => Err(DiskFault::Failed),
+            Ok(replies) if replies.len() < count => Err(DiskFault::Stopped),
+            Ok(replies) => Ok(replies),
+            Err(fault) => Err(disk_fault(fault)),
         }
     }
 }

@@ -32,13 +32,21 @@ impl<D: BlockDevice, F: FailureKeeper<D>> WatchedDisk<D, F> {
 }
 
 impl<D: BlockDevice, F: FailureKeeper<D>> BlockDevice for WatchedDisk<D, F> {
+    ghost use Rattle.oram_nbd.specs.Beside.{HadWithin};
+
     ghost block_len = { λ d. D.block_len d.disk };
 
     ghost size = { λ d. D.size d.disk };
 
-    ghost holds = { λ d. D.holds d.disk };
+    ghost World = { D.World };
 
-    ghost is_sound = { λ d. D.is_sound d.disk };
+    ghost Event = { D.Event };
+
+    ghost hears = { D.hears };
+
+    ghost had = { λ d events e. HadWithin D.had d.disk events e.disk };
+
+    ghost holds = { λ may_lie d world bytes. D.holds may_lie d.disk world bytes };
 
     ghost failed = { λ d. D.failed d.disk };
 
@@ -56,20 +64,20 @@ impl<D: BlockDevice, F: FailureKeeper<D>> BlockDevice for WatchedDisk<D, F> {
         self.disk.blocks()
     }
 
-    fn read(&mut self, alloc: Global, block: u64) -> Result<Vec<u8>, DiskFault> {
-        let found = self.disk.read(alloc, block);
+    fn read(&mut self, alloc: Global, first: u64, count: u64) -> Result<Vec<u8>, DiskFault> {
+        let found = self.disk.read(alloc, first, count);
         self.watch();
         found
     }
 
-    fn write(&mut self, alloc: Global, block: u64, payload: &[u8]) -> Result<(), DiskFault> {
-        let done = self.disk.write(alloc, block, payload);
+    fn write(&mut self, alloc: Global, first: u64, payload: &[u8]) -> Result<(), DiskFault> {
+        let done = self.disk.write(alloc, first, payload);
         self.watch();
         done
     }
 
-    fn discard(&mut self, alloc: Global, block: u64) -> Result<(), DiskFault> {
-        let done = self.disk.discard(alloc, block);
+    fn zero(&mut self, alloc: Global, first: u64, count: u64) -> Result<(), DiskFault> {
+        let done = self.disk.zero(alloc, first, count);
         self.watch();
         done
     }

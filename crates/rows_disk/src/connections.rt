@@ -205,6 +205,7 @@ impl Connections {
             "options" => options(alloc, words, page),
             "passes" => passes(alloc, words, page),
             "stops" => stopping_disk::stops(alloc, words, page),
+            "range" => stopping_disk::range(alloc, words, page),
             _ => Err(RowFault::NoRow),
         }
     }

@@ -1,9 +1,20 @@
-//! A device in memory that stops after a number of calls.
+//! A device in memory that stops after a number of calls. It has four blocks of four bytes.
+
+ghost use Rattle.std.specs.Prelude.{◌≡◌, false};
 
 use crate::endings::{with_memory, write_ended};
-use oram_nbd::{BlockDevice, DiskFault, MemDisk, transmit};
+use oram_nbd::{BlockDevice, Command, DiskFault, MemDisk, NbdFault, Request, transmit};
 use rows::{Pace, Page, RowFault, RowWords, Source, Target};
-use std::alloc::Global;
+use std::alloc::{AllocError, Global};
+
+/// The most bytes that a client receives.
+const ROOM: usize = 256;
+
+/// The number of bytes of the device.
+const SIZE: u32 = 16;
+
+/// How a connection ended, and the writer that has what the client received.
+type Talk = (Result<u64, NbdFault>, Target);
 
 #[derive(Drop)]
 struct StoppingDisk {
@@ -11,32 +22,31 @@ struct StoppingDisk {
     calls_left: u64,
 }
 
-impl StoppingDisk {
-    ghost use Rattle.std.specs.Prelude.{◌≡◌, IsErrOf, OnErr};
-
-    fn count_call(&mut self) -> Result<(), DiskFault>
-        ensures same { self.new.disk ≡ self.old.disk }
-        ensures works { IsErrOf result DiskFault.Failed → ⊥ }
-        ensures stopped { OnErr result ((self.old.calls_left ≡ 0) × (self.new.calls_left ≡ 0)) }
-    {
-        if self.calls_left == 0 {
-            return Err(DiskFault::Stopped);
-        }
-        self.calls_left -= 1;
-        Ok(())
-    }
+/// Takes one of the calls that are left, and returns whether there was one.
+fn take_call(calls_left: &mut u64) -> bool
+    ensures { (result ≡ false) → (calls_left.old ≡ 0) × (calls_left.new ≡ 0) }
+{
+    let is_left = *calls_left > 0;
+    *calls_left = calls_left.saturating_sub(1);
+    is_left
 }
 
 impl BlockDevice for StoppingDisk {
-    ghost use Rattle.std.specs.Prelude.{◌≡◌};
+    ghost use Rattle.oram_nbd.specs.Beside.{HadWithin};
 
     ghost block_len = { λ d. ⟦<MemDisk as BlockDevice>⟧.block_len d.disk };
 
     ghost size = { λ d. ⟦<MemDisk as BlockDevice>⟧.size d.disk };
 
-    ghost holds = { λ d. ⟦<MemDisk as BlockDevice>⟧.holds d.disk };
+    ghost World = { ⟦<MemDisk as BlockDevice>⟧.World };
 
-    ghost is_sound = { λ d. ⟦<MemDisk as BlockDevice>⟧.is_sound d.disk };
+    ghost Event = { ⟦<MemDisk as BlockDevice>⟧.Event };
+
+    ghost hears = { ⟦<MemDisk as BlockDevice>⟧.hears };
+
+    ghost had = { λ d events e. HadWithin ⟦<MemDisk as BlockDevice>⟧.had d.disk events e.disk };
+
+    ghost holds = { λ may_lie d world bytes. ⟦<MemDisk as BlockDevice>⟧.holds may_lie d.disk world bytes };
 
     ghost failed = { λ _. ⊥ };
 
@@ -54,20 +64,34 @@ impl BlockDevice for StoppingDisk {
         self.disk.blocks()
     }
 
-    fn read(&mut self, alloc: Global, block: u64) -> Result<Vec<u8>, DiskFault> {
-        self.count_call()?;
-        self.disk.read(alloc, block)
+    fn read(&mut self, alloc: Global, first: u64, count: u64) -> Result<Vec<u8>, DiskFault> {
+        if !take_call(&mut self.calls_left) {
+            return Err(DiskFault::Stopped);
+        }
+        self.disk.read(alloc, first, count)
     }
 
-    fn write(&mut self, alloc: Global, block: u64, payload: &[u8]) -> Result<(), DiskFault> {
-        self.count_call()?;
-        self.disk.write(alloc, block, payload)
+    fn write(&mut self, alloc: Global, first: u64, payload: &[u8]) -> Result<(), DiskFault> {
+        if !take_call(&mut self.calls_left) {
+            return Err(DiskFault::Stopped);
+        }
+        self.disk.write(alloc, first, payload)
     }
 
-    fn discard(&mut self, alloc: Global, block: u64) -> Result<(), DiskFault> {
-        self.count_call()?;
-        self.disk.discard(alloc, block)
+    fn zero(&mut self, alloc: Global, first: u64, count: u64) -> Result<(), DiskFault> {
+        if !take_call(&mut self.calls_left) {
+            return Err(DiskFault::Stopped);
+        }
+        self.disk.zero(alloc, first, count)
     }
+}
+
+/// Serves a client that sends these requests.
+fn talked(alloc: Global, disk: &mut StoppingDisk, said: &[u8]) -> Result<Talk, RowFault> {
+    let mut source = Source::new(said, Pace::smooth(false));
+    let mut target = Target::new(alloc, ROOM, Pace::smooth(true))?;
+    let ended = transmit(alloc, &mut source, &mut target, disk);
+    Ok((with_memory(ended, target.bytes())?, target))
 }
 
 /// `nbd stops CALLS SAID`: a client sends the requests `SAID` to a device that stops after `CALLS` calls. Writes
@@ -77,11 +101,68 @@ pub fn stops(alloc: Global, words: &mut RowWords, page: &mut Page) -> Result<(),
         disk: MemDisk::new(alloc, 4, 4)?,
         calls_left: words.number(),
     };
-    let said = words.bytes(alloc);
-    let mut source = Source::new(&said, Pace::smooth(false));
-    let mut target = Target::new(alloc, 256, Pace::smooth(true))?;
-    let ended = transmit(alloc, &mut source, &mut target, &mut disk);
-    write_ended(page, with_memory(ended, target.bytes())?)?;
-    page.bytes(target.bytes());
+    let talk = talked(alloc, &mut disk, &words.bytes(alloc))?;
+    write_ended(page, talk.0)?;
+    page.bytes(talk.1.bytes());
+    Ok(())
+}
+
+/// Returns what a client sends for a request. The bytes of a write are `first` and the numbers after it.
+fn said(
+    alloc: Global,
+    command: Command,
+    offset: u64,
+    length: u32,
+    first: u8,
+) -> Result<Vec<u8>, AllocError> {
+    let request = Request {
+        command,
+        flags: 0,
+        cookie: 0,
+        offset,
+        length,
+    };
+    let mut said = request.encode(alloc)?;
+    let mut byte = first;
+    for _ in 0..request.payload_len() {
+        said.push(byte)?;
+        byte = byte.wrapping_add(1);
+    }
+    Ok(said)
+}
+
+/// Reads the command of a request for a range.
+fn command_in(words: &mut RowWords) -> Result<Command, RowFault> {
+    match words.text() {
+        "read" => Ok(Command::Read),
+        "write" => Ok(Command::Write),
+        "zeroes" => Ok(Command::WriteZeroes),
+        "trim" => Ok(Command::Trim),
+        _ => Err(RowFault::NoRow),
+    }
+}
+
+/// `nbd range COMMAND OFFSET LENGTH`: a client sends a request for a range of a device that holds the bytes 01 to 10
+/// (hexadecimal), and then reads the whole device. The bytes of a write are a1, a2 and so on. Writes how many calls of the
+/// device the request took, its reply, and the reply to the read.
+pub fn range(alloc: Global, words: &mut RowWords, page: &mut Page) -> Result<(), RowFault> {
+    let command = command_in(words)?;
+    let offset = words.number();
+    let length = words.short();
+    let mut disk = StoppingDisk {
+        disk: MemDisk::new(alloc, 4, 4)?,
+        calls_left: u64::MAX,
+    };
+    let _filled = talked(alloc, &mut disk, &said(alloc, Command::Write, 0, SIZE, 1)?)?;
+    let before = disk.calls_left;
+    let asked = talked(
+        alloc,
+        &mut disk,
+        &said(alloc, command, offset, length, 0xa1)?,
+    )?;
+    page.number(before.saturating_sub(disk.calls_left));
+    page.bytes(asked.1.bytes());
+    let read = talked(alloc, &mut disk, &said(alloc, Command::Read, 0, SIZE, 0)?)?;
+    page.bytes(read.1.bytes());
     Ok(())
 }

@@ -1,14 +1,12 @@
-use Rattle.std.proofs.Common.{rules}
-use Rattle.std.proofs.lemmas.Result.{err_from_is_err_and}
-use Rattle.oram_nbd.proofs.Calls.{passed_on}
+use Rattle.std.proofs.Common.{◌≡◌, rules}
+use Rattle.oram_nbd.specs.Service.{after, given}
+use Rattle.oram_nbd.proofs.Beside.{at_rest}
 use Rattle.oram_nbd.proofs.service.carry_out.Goals as goal
 
-pub returns-in_err-write_range-in-Write : goal.returns-in_err-write_range-in-Write
-returns-in_err-write_range-in-Write g c =
-    let p = err_from_is_err_and c.from_residual.result c.from_residual.ensures.1 in
-    rw p.1 (record { len = tt; given = tt; ok = tt; err = search rules; call = passed_on p.2 c.in_err-write_range-in-Write.ensures.call })
-
-pub returns-in_err-zero_range-in-WriteZeroes : goal.returns-in_err-zero_range-in-WriteZeroes
-returns-in_err-zero_range-in-WriteZeroes g c =
-    let p = err_from_is_err_and c.from_residual-in_err-zero_range-in-WriteZeroes.result c.from_residual-in_err-zero_range-in-WriteZeroes.ensures.1 in
-    rw p.1 (record { len = tt; given = tt; ok = tt; err = search rules; call = passed_on p.2 c.in_err-zero_range-in-WriteZeroes.ensures.call })
+-- a command that the device isn't asked for
+pub returns-in-Trim-clause-goes : goal.returns-in-Trim-clause-goes
+returns-in-Trim-clause-goes g c = at_rest (λ may_lie world bytes h.
+    let r = c.args.request.now in
+    let none : c.new-none.result.items ≡ given r.command bytes r.offset r.length = search rules in
+    let same : bytes ≡ after r.command bytes r.offset r.length c.args.payload.now = search rules in
+    ((none, same), λ e. cc))

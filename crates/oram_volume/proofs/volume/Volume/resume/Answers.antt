@@ -1,25 +1,51 @@
-use Rattle.std.proofs.Common.{rules}
+use Rattle.std.proofs.Common.{◌≡◌, [], ◌∷◌, ◌++◌, false, refl, sym, subst, inl, inr}
+use Rattle.oram_semantics.specs.Scheme.{Scheme}
 use Rattle.oram_core.specs.Core.{scheme_of}
+use Rattle.oram_session.proofs.CoreSteps.{same_scheme}
+use Rattle.oram_nbd.specs.Beside.{GoesOn}
 use Rattle.oram_rounds.specs.Process.{process}
-use Rattle.oram_volume.proofs.HeldArrays.{acts_hold}
-use Rattle.oram_volume.proofs.Submitted.{no_value}
+use Rattle.oram_rounds.specs.Process.Act.{Keeps}
+use Rattle.oram_nbd.specs.declared.faults.DiskFault.TheVariants.{Stopped}
+use Rattle.oram_volume.specs.CarriedOut.{Had, Stops}
+use Rattle.oram_volume.specs.HeldArrays.{Hears, HoldsArray, running}
+use Rattle.oram_volume.proofs.HeldArrays.{acts_go_on, acts_stop}
 use Rattle.oram_volume.proofs.volume.Volume.resume.Goals as goal
 use Rattle.oram_volume.proofs.volume.Volume.resume.Goals.{in-Ok, in-Err}
 
-pub returns-clause-calm : goal.returns-clause-calm
-returns-clause-calm g c = λ settled. elim c.match-resume.branch [
-  | in-Ok w ↦ search rules
-  | in-Err w ↦ absurd (no_value _ c.resume.result w.in-Err.fault w.in-Err.is (c.resume.ensures.none settled).0)
-]
-
-pub returns-clause-holds : goal.returns-clause-holds
-returns-clause-holds g c = λ may_lie array h.
+pub returns-clause-goes : goal.returns-clause-goes
+returns-clause-goes g c =
+    let old = c.args.self.now in
     let batches = g.B.BatchLink.batches in
     let back = g.K.Keeper.reads_back in
-    let v = scheme_of g.S.Sealer.cipher c.args.self.now.core in
-    let p = process c.args.self.now.core.state c.args.self.now.link c.args.self.now.keeper in
+    let words = g.T.Tape.words old.tape in
+    let v = scheme_of g.S.Sealer.cipher old.core in
+    let p = process old.core.state old.link old.keeper in
     let q = process c.resume.new.core.state c.resume.new.link c.resume.new.keeper in
-    elim c.match-resume.branch [
-      | in-Ok w ↦ let k = w.in-Ok.ensures.ok in acts_hold batches back g.met.B.BatchLink.are_batches may_lie v k.0 p q array k.2 h
-      | in-Err w ↦ let k = w.in-Err.ensures.err in acts_hold batches back g.met.B.BatchLink.are_batches may_lie v k.0 p q array k.1 h
-    ]
+    subst (λ (u : Scheme). GoesOn (Had batches back) Hears HoldsArray (running g.S.Sealer.cipher g.T.Tape.words old) (λ _ array later. later ≡ array) (record { scheme = u; words = words; process = q }))
+    (sym (same_scheme g.S.Sealer.cipher old.core c.resume.new.core c.resume.ensures.kept))
+    (elim c.match-resume.branch [
+      | in-Ok w ↦ let k = w.in-Ok.ensures.ok in acts_go_on batches back g.met.B.BatchLink.are_batches v words k.0 p q k.2
+      | in-Err w ↦ let k = w.in-Err.ensures.err in acts_go_on batches back g.met.B.BatchLink.are_batches v words k.0 p q k.1
+    ])
+
+pub returns-clause-stopped : goal.returns-clause-stopped
+returns-clause-stopped g c =
+    let old = c.args.self.now in
+    let batches = g.B.BatchLink.batches in
+    let back = g.K.Keeper.reads_back in
+    let words = g.T.Tape.words old.tape in
+    let v = scheme_of g.S.Sealer.cipher old.core in
+    let p = process old.core.state old.link old.keeper in
+    let q = process c.resume.new.core.state c.resume.new.link c.resume.new.keeper in
+    let are = g.met.B.BatchLink.are_batches in
+    λ e. subst (λ (u : Scheme). Stops batches back (running g.S.Sealer.cipher g.T.Tape.words old) (record { scheme = u; words = words; process = q }))
+    (sym (same_scheme g.S.Sealer.cipher old.core c.resume.new.core c.resume.ensures.kept))
+    (elim c.match-resume.branch [
+      | in-Ok w ↦ absurd (let no = w.result-is in cc)
+      | in-Err w ↦
+          let is : w.disk_fault.result ≡ Stopped = (let same = w.result-is in cc) in
+          elim (w.disk_fault.ensures.stopped is) [
+            | inl stalled ↦ let k = w.in-Err.ensures.err in acts_stop batches back are v words k.0 p q k.1 (inl (w.in-Err.ensures.stalled cc))
+            | inr not_kept ↦ let k = w.in-Err.ensures.not_kept cc in acts_stop batches back are v words (k.0 ++ Keeps false ∷ []) p q k.1 (inr (k.0, refl))
+          ]
+    ])

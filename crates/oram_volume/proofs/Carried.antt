@@ -1,0 +1,304 @@
+-- A round of commands behind what waited: what it leaves, by what each of its parts says.
+use Rattle.std.proofs.Common.{◌≡◌, ◌≢◌, ◌⊎◌, ℕ, ◌<◌, ◌≤◌, Bool, true, false, List, [], ◌∷◌, ◌++◌, length, map, take, count_by, All, None, Option, Some, Result, Ok, Err, IfErr, IfOk, IsErrOf, MatchResult, refl, sym, ap, ◌∙◌, subst, append_assoc, arith, inl, inr}
+use Rattle.std.proofs.lemmas.List.{length-map, map-append, take-append-le, append-nil, nil_from_length}
+use Rattle.std.proofs.Math.Seq.{take-nil}
+use Rattle.std.proofs.lemmas.List.Elements.{All-cons, All-head, All-nil, All-tail}
+use Rattle.std.specs.List.{FoldsTo, flat_map}
+use Rattle.oram_bucket.specs.Cipher.{Cipher}
+use Rattle.oram_geometry.specs.declared.Sizes.{Sizes}
+use Rattle.oram_nbd.specs.Calls.{FailsByLies}
+use Rattle.oram_nbd.specs.declared.faults.DiskFault.{DiskFault}
+use Rattle.oram_nbd.specs.declared.faults.DiskFault.TheVariants.{Failed, Stopped}
+use Rattle.oram_semantics.specs.declared.events.Reason.{Reason}
+use Rattle.oram_semantics.specs.declared.events.ReplyBody.{ReplyBody}
+use Rattle.oram_semantics.specs.Run.{is_accepted}
+use Rattle.oram_semantics.specs.Scheme.{Scheme}
+use Rattle.oram_semantics.specs.Progress.Status.{Stalling}
+use Rattle.oram_semantics.specs.State.{State, status_in}
+use Rattle.oram_semantics.specs.declared.events.Command.{Command}
+use Rattle.oram_semantics.specs.declared.events.Note.{Note}
+use Rattle.oram_semantics.specs.declared.events.Reply.{Reply}
+use Rattle.oram_semantics.specs.declared.events.Submission.{Submission}
+use Rattle.oram_core.specs.Core.{CoreValue, IsSameDevice, scheme_of}
+use Rattle.oram_session.proofs.CoreSteps.{same_scheme, same_trans}
+use Rattle.oram_session.specs.Settled.{IsSettled}
+use Rattle.oram_link_laws.specs.Runs.{Exchange}
+use Rattle.oram_link_laws.proofs.Exchanged.{folds_join}
+use Rattle.oram_nbd.specs.Beside.{GoesOn}
+use Rattle.oram_nbd.proofs.Beside.{joined_calls, weaker}
+use Rattle.oram_rounds.specs.Batches.{BatchOutcome}
+use Rattle.oram_rounds.specs.Law.{AreBatches}
+use Rattle.oram_rounds.specs.Process.Act.{Keeps}
+use Rattle.oram_rounds.specs.Process.{Act, DoesAll, Process, process, replies_of}
+use Rattle.oram_rounds.specs.Start.{AreAsked, Asked, array_with}
+use Rattle.oram_volume.specs.CarriedOut.{Had, Step, Stops, Takes, TakesAll, after_commands, bodies_from}
+use Rattle.oram_volume.specs.CarriedOut.Step.{Acts, Asks}
+use Rattle.oram_volume.specs.HeldArrays.{Hears, HoldsArray, Running, running}
+use Rattle.oram_volume.specs.RangeCommands.{Fits}
+use Rattle.oram_volume.specs.declared.volume.Volume.{Volume}
+use Rattle.oram_rounds.specs.Rounds.{Round}
+use Rattle.oram_rounds.proofs.Start.{resting}
+use Rattle.oram_volume.proofs.Answered.{NoneFailed, bodies, none_failed, replies_go_on}
+use Rattle.oram_volume.proofs.HeldArrays.{acts_taken, asked_go_on, asked_taken}
+use Rattle.oram_volume.proofs.Submitted.{AllFit, accepted_in, all_accepted, first_accepted, one_refused}
+
+pub lies_if : (may_lie : Bool) → (may_lie ≡ false → ⊥) → may_lie ≡ true
+lies_if true honest = refl
+lies_if false honest = absurd (honest refl)
+
+front_all : (P : Command → Type 0) (xs ys : List Command) → All P (xs ++ ys) → All P xs
+front_all P [] ys all = All-nil P
+front_all P (x ∷ xs) ys all = All-cons P x xs (All-head P x (xs ++ ys) all) (front_all P xs ys (All-tail P x (xs ++ ys) all))
+
+-- the steps of all calls
+pub steps_of : {B K : Type 0} (batches : B → List (List ℕ) → BatchOutcome → List Exchange → B → Type 0) (reads_back : K → List ℕ → Type 0) (calls : List (List Exchange)) (p q : Running B K)
+    → FoldsTo {P = Running B K} {A = List Exchange} (Had batches reads_back) p calls q → (steps : List Step) × TakesAll batches reads_back p steps q
+steps_of batches reads_back [] p q same = ([], same)
+steps_of {B} {K} batches reads_back (events ∷ calls) p q all =
+    let rest = steps_of batches reads_back calls all.0 q all.2 in
+    (all.1.0 ++ rest.0, folds_join {P = Running B K} {A = Step} (Takes batches reads_back) p all.0 q all.1.0 rest.0 all.1.1 rest.1)
+
+-- a volume whose device and tape are those of another one
+pub same_running : {S B K T : Type 0} (cipher : S → Cipher) (words : T → ℕ → ℕ → List ℕ) (old new : Volume S B K T) → IsSameDevice old.core new.core → words new.tape ≡ words old.tape
+    → running cipher words new ≡ record { scheme = scheme_of cipher old.core; words = words old.tape; process = process new.core.state new.link new.keeper }
+same_running {S} {B} {K} cipher words old new kept tape =
+    ap (λ (v : Scheme). let r : Running B K = record { scheme = v; words = words new.tape; process = process new.core.state new.link new.keeper } in r) (same_scheme cipher old.core new.core kept)
+    ∙ ap (λ (ws : ℕ → ℕ → List ℕ). let r : Running B K = record { scheme = scheme_of cipher old.core; words = ws; process = process new.core.state new.link new.keeper } in r) tape
+
+-- a volume, and what it is once it has carried out what waited
+module _ {S B K T : Type 0} (cipher : S → Cipher) (words : T → ℕ → ℕ → List ℕ) (batches : B → List (List ℕ) → BatchOutcome → List Exchange → B → Type 0) (reads_back : K → List ℕ → Type 0) (are : AreBatches batches)
+    (old mid : Volume S B K T) (kept : IsSameDevice old.core mid.core) (tape : words mid.tape ≡ words old.tape)
+    (goes : GoesOn (Had batches reads_back) Hears HoldsArray (running cipher words old) (λ _ array later. later ≡ array) (running cipher words mid)) where
+  abbrev v : Scheme
+  v = scheme_of cipher old.core
+
+  abbrev tape_words : ℕ → ℕ → List ℕ
+  tape_words = words old.tape
+
+  abbrev at : Process B K → Running B K
+  at p = record { scheme = v; words = tape_words; process = p }
+
+  abbrev here : Process B K
+  here = process mid.core.state mid.link mid.keeper
+
+  abbrev Goes : (Bool → (ℕ → List ℕ) → (ℕ → List ℕ) → Type 0) → Volume S B K T → Type 0
+  Goes step new = GoesOn (Had batches reads_back) Hears HoldsArray (running cipher words old) step (running cipher words new)
+
+  resumed : GoesOn (Had batches reads_back) Hears HoldsArray (running cipher words old) (λ _ array later. later ≡ array) (at here)
+  resumed = subst (λ (r : Running B K). GoesOn (Had batches reads_back) Hears HoldsArray (running cipher words old) (λ _ array later. later ≡ array) r) (same_running cipher words old mid kept tape) goes
+
+  -- the chain of submissions, as that of the old volume
+  pub chain_under : (asked : List Asked) (t : State) → AreAsked (scheme_of cipher mid.core) (words mid.tape) 0 mid.core.state asked t → AreAsked v tape_words 0 mid.core.state asked t
+  chain_under asked t chain =
+      subst (λ (ws : ℕ → ℕ → List ℕ). AreAsked v ws 0 mid.core.state asked t) tape
+      (subst (λ (u : Scheme). AreAsked u (words mid.tape) 0 mid.core.state asked t) (same_scheme cipher old.core mid.core kept) chain)
+
+  -- some of the commands were submitted
+  module _ (commands : List Command) (fits : All (Fits old.core.device) commands) (asked : List Asked) (rest : List Command) (in_order : map (λ (a : Asked). a.command) asked ++ rest ≡ commands)
+      (t : State) (chain : AreAsked v tape_words 0 mid.core.state asked t) where
+    all_fit : AllFit v tape_words 0 asked
+    all_fit = front_all (Fits old.core.device) (map (λ (a : Asked). a.command) asked) rest (subst (λ (cs : List Command). All (Fits old.core.device) cs) (sym in_order) fits)
+
+    abbrev pub FirstOnes : Bool → (ℕ → List ℕ) → (ℕ → List ℕ) → Type 0
+    FirstOnes may_lie array later = (n : ℕ) × (later ≡ after_commands old.core.device (take n commands) array)
+
+    first_ones : (array : ℕ → List ℕ) → (n : ℕ) × (array_with old.core.device asked array ≡ after_commands old.core.device (take n commands) array)
+    first_ones array =
+        let k = first_accepted v tape_words 0 asked mid.core.state t chain all_fit in
+        let few : k.0 ≤ length (map (λ (a : Asked). a.command) asked) = subst (λ (n : ℕ). k.0 ≤ n) (sym (length-map asked (λ (a : Asked). a.command))) k.1 in
+        let same : take k.0 commands ≡ take k.0 (map (λ (a : Asked). a.command) asked) =
+        ap (take k.0) (sym in_order) ∙ take-append-le k.0 (map (λ (a : Asked). a.command) asked) rest few in
+        (k.0, k.2 array ∙ ap (λ (cs : List Command). after_commands old.core.device cs array) (sym same))
+
+    module _ (new : Volume S B K T) (kept_new : IsSameDevice old.core new.core) (tape_new : words new.tape ≡ words old.tape) (acts : List Act)
+        (does : DoesAll v batches reads_back (process t mid.link mid.keeper) acts (process new.core.state new.link new.keeper)) where
+      abbrev there : Process B K
+      there = process new.core.state new.link new.keeper
+
+      as_new : {step : Bool → (ℕ → List ℕ) → (ℕ → List ℕ) → Type 0} → GoesOn (Had batches reads_back) Hears HoldsArray (running cipher words old) step (at there) → Goes step new
+      as_new {step} = subst (λ (r : Running B K). GoesOn (Had batches reads_back) Hears HoldsArray (running cipher words old) step r) (sym (same_running cipher words old new kept_new tape_new))
+
+      -- the array is the one after the first of them
+      pub some_done : Goes FirstOnes new
+      some_done = as_new (joined_calls resumed (asked_go_on batches reads_back are v tape_words asked acts 0 mid.core.state t mid.link mid.keeper there chain does)
+          (λ may_lie world array between later h first second. let k = first_ones array in (k.0, second ∙ ap (array_with old.core.device asked) first ∙ k.1)))
+
+      -- all were accepted, and each has a reply
+      module _ (settled : IsSettled mid.core.state) (alive : mid.core.state.failure ≡ None) (replies : List Reply) (given : flat_map replies_of acts ≡ replies) (many : length replies ≡ length t.queue) where
+        abbrev pub Right : List Submission → Bool → (ℕ → List ℕ) → (ℕ → List ℕ) → Type 0
+        Right ys may_lie array later = ((n : ℕ) × (later ≡ after_commands old.core.device (take n commands) array)) × (later ≡ array_with old.core.device asked array)
+            × ((bodies replies ≡ bodies_from old.core.device (map (λ (y : Submission). y.command) ys) array) ⊎ ((may_lie ≡ true) × (NoneFailed replies → ⊥)))
+
+        pub all_replied : (ys : List Submission) → t.queue ≡ ys → Goes (Right ys) new
+        all_replied ys queue = as_new (joined_calls resumed (replies_go_on batches reads_back are v tape_words asked acts 0 mid.core.state t mid.link mid.keeper there replies settled alive chain does given many ys queue)
+            (λ may_lie world array between later h first second.
+            let k = first_ones array in (
+              (k.0, second.0 ∙ ap (array_with old.core.device asked) first ∙ k.1),
+              second.0 ∙ ap (array_with old.core.device asked) first,
+              subst (λ (a : ℕ → List ℕ). (bodies replies ≡ bodies_from old.core.device (map (λ (y : Submission). y.command) ys) a) ⊎ ((may_lie ≡ true) × (NoneFailed replies → ⊥))) first second.1,
+            )))
+
+    -- a command wasn't accepted
+    pub refused_stops : (new : Volume S B K T) → IsSameDevice old.core new.core → words new.tape ≡ words old.tape → (acts : List Act)
+        → DoesAll v batches reads_back (process t mid.link mid.keeper) acts (process new.core.state new.link new.keeper) → accepted_in v tape_words 0 asked < length asked
+        → Stops batches reads_back (running cipher words old) (running cipher words new)
+    refused_stops new kept_new tape_new acts does few =
+        let there = process new.core.state new.link new.keeper in
+        let first = steps_of batches reads_back resumed.calls (running cipher words old) (at here) resumed.made in
+        let taken = asked_taken batches reads_back are v tape_words asked 0 mid.core.state t mid.link mid.keeper chain in
+        let done = acts_taken batches reads_back are v tape_words acts (process t mid.link mid.keeper) there does in
+        let one = one_refused v tape_words 0 asked few in
+        let both = folds_join {P = Running B K} {A = Step} (Takes batches reads_back) (running cipher words old) (at here) (at (process t mid.link mid.keeper)) first.0 (map {B = Step} Asks asked) first.1 taken in
+        let all = folds_join {P = Running B K} {A = Step} (Takes batches reads_back) (running cipher words old) (at (process t mid.link mid.keeper)) (at there) (first.0 ++ map {B = Step} Asks asked) (map {B = Step} Acts acts) both done in
+        let split : map {B = Step} Asks asked ≡ map {B = Step} Asks one.0 ++ Asks one.2 ∷ map {B = Step} Asks one.1 =
+        ap (λ (l : List Asked). map {B = Step} Asks l) one.4 ∙ map-append {B = Step} Asks one.0 (one.2 ∷ one.1) in
+        let where_it_is : (first.0 ++ map {B = Step} Asks asked) ++ map {B = Step} Acts acts ≡ (first.0 ++ map {B = Step} Asks one.0) ++ Asks one.2 ∷ (map {B = Step} Asks one.1 ++ map {B = Step} Acts acts) =
+        ap (λ (l : List Step). (first.0 ++ l) ++ map {B = Step} Acts acts) split
+        ∙ ap (λ (l : List Step). l ++ map {B = Step} Acts acts) (sym (append_assoc first.0 (map {B = Step} Asks one.0) (Asks one.2 ∷ map {B = Step} Asks one.1)))
+        ∙ append_assoc (first.0 ++ map {B = Step} Asks one.0) (Asks one.2 ∷ map {B = Step} Asks one.1) (map {B = Step} Acts acts) in
+        subst (λ (r : Running B K). Stops batches reads_back (running cipher words old) r) (sym (same_running cipher words old new kept_new tape_new))
+        ((first.0 ++ map {B = Step} Asks asked) ++ map {B = Step} Acts acts, all, inr (inr (first.0 ++ map {B = Step} Asks one.0, map {B = Step} Asks one.1 ++ map {B = Step} Acts acts, one.2, one.3, where_it_is)))
+
+-- the same, from what the calls say: those of the core were submitted, and then `perform` was called
+module _ {S B K T : Type 0} (cipher : S → Cipher) (words : T → ℕ → ℕ → List ℕ) (batches : B → List (List ℕ) → BatchOutcome → List Exchange → B → Type 0) (reads_back : K → List ℕ → Type 0) (are : AreBatches batches)
+    (old mid : Volume S B K T) (kept : IsSameDevice old.core mid.core) (tape : words mid.tape ≡ words old.tape)
+    (goes : GoesOn (Had batches reads_back) Hears HoldsArray (running cipher words old) (λ _ array later. later ≡ array) (running cipher words mid))
+    (commands : List Command) (fits : All (Fits old.core.device) commands) (core : CoreValue S) (drawn : T) (kept_on : IsSameDevice mid.core core) (same_tape : words drawn ≡ words mid.tape) where
+  abbrev pub SomeDone : Bool → (ℕ → List ℕ) → (ℕ → List ℕ) → Type 0
+  SomeDone may_lie array later = (n : ℕ) × (later ≡ after_commands old.core.device (take n commands) array)
+
+  -- those of the first commands that were submitted
+  abbrev pub FrontAsked : Type 0
+  FrontAsked = (asked : List Asked) × (rest : List Command) × (map (λ (a : Asked). a.command) asked ++ rest ≡ commands)
+      × AreAsked (scheme_of cipher mid.core) (words mid.tape) 0 mid.core.state asked core.state
+
+  -- all of them were
+  abbrev pub AllAsked : List Note → Type 0
+  AllAsked notes = (asked : List Asked) × (map (λ (a : Asked). a.command) asked ≡ commands) × (map (λ (a : Asked). a.shown.note) asked ≡ notes)
+      × AreAsked (scheme_of cipher mid.core) (words mid.tape) 0 mid.core.state asked core.state
+
+  abbrev pub front_of : (notes : List Note) → AllAsked notes → FrontAsked
+  front_of notes k = (k.0, [], append-nil (map (λ (a : Asked). a.command) k.0) ∙ k.1, k.3)
+
+  kept_core : IsSameDevice old.core core
+  kept_core = same_trans old.core mid.core core kept kept_on
+
+  pub submitted_done : FrontAsked → GoesOn (Had batches reads_back) Hears HoldsArray (running cipher words old) SomeDone (running cipher words (record { core = core; link = mid.link; keeper = mid.keeper; tape = drawn }))
+  submitted_done k =
+      some_done cipher words batches reads_back are old mid kept tape goes commands fits k.0 k.1 k.2 core.state (chain_under cipher words batches reads_back are old mid kept tape goes k.0 core.state k.3)
+      (record { core = core; link = mid.link; keeper = mid.keeper; tape = drawn }) kept_core (same_tape ∙ tape) [] refl
+
+  module _ (after : CoreValue S) (link : Round B) (keeper : K) (kept_then : IsSameDevice core after) (acts : List Act)
+      (does : DoesAll (scheme_of cipher core) batches reads_back (process core.state mid.link mid.keeper) acts (process after.state link keeper)) where
+    abbrev pub new : Volume S B K T
+    new = record { core = after; link = link; keeper = keeper; tape = drawn }
+
+    does_under : DoesAll (scheme_of cipher old.core) batches reads_back (process core.state mid.link mid.keeper) acts (process after.state link keeper)
+    does_under = subst (λ (u : Scheme). DoesAll u batches reads_back (process core.state mid.link mid.keeper) acts (process after.state link keeper)) (same_scheme cipher old.core core kept_core) does
+
+    pub performed_done : FrontAsked → GoesOn (Had batches reads_back) Hears HoldsArray (running cipher words old) SomeDone (running cipher words new)
+    performed_done k =
+        some_done cipher words batches reads_back are old mid kept tape goes commands fits k.0 k.1 k.2 core.state (chain_under cipher words batches reads_back are old mid kept tape goes k.0 core.state k.3)
+        new (same_trans old.core core after kept_core kept_then) (same_tape ∙ tape) acts does_under
+
+    -- fewer were accepted than there are
+    pub performed_stops : (notes : List Note) → AllAsked notes → count_by is_accepted notes < length commands → Stops batches reads_back (running cipher words old) (running cipher words new)
+    performed_stops notes k few =
+        let f = front_of notes k in
+        let count : accepted_in (scheme_of cipher old.core) (words old.tape) 0 k.0 ≡ count_by is_accepted notes = ap (λ (ns : List Note). count_by is_accepted ns) k.2 in
+        let size : length k.0 ≡ length commands = sym (length-map k.0 (λ (a : Asked). a.command)) ∙ ap length k.1 in
+        refused_stops cipher words batches reads_back are old mid kept tape goes commands fits k.0 f.1 f.2 core.state (chain_under cipher words batches reads_back are old mid kept tape goes k.0 core.state k.3)
+        new (same_trans old.core core after kept_core kept_then) (same_tape ∙ tape) acts does_under (omega (arith, count, size, few))
+
+    -- a message stalled, or the keeper failed
+    pub performed_left : FrontAsked → (status_in after.state ≡ Stalling) ⊎ ((before : List Act) × (acts ≡ before ++ Keeps false ∷ [])) → Stops batches reads_back (running cipher words old) (running cipher words new)
+    performed_left k why =
+        let v = scheme_of cipher old.core in
+        let ws = words old.tape in
+        let here : Running B K = record { scheme = v; words = ws; process = process mid.core.state mid.link mid.keeper } in
+        let asked : Running B K = record { scheme = v; words = ws; process = process core.state mid.link mid.keeper } in
+        let there : Running B K = record { scheme = v; words = ws; process = process after.state link keeper } in
+        let first = steps_of batches reads_back goes.calls (running cipher words old) (running cipher words mid) goes.made in
+        let to_here = subst (λ (r : Running B K). TakesAll batches reads_back (running cipher words old) first.0 r) (same_running cipher words old mid kept tape) first.1 in
+        let chain = chain_under cipher words batches reads_back are old mid kept tape goes k.0 core.state k.3 in
+        let taken = asked_taken batches reads_back are v ws k.0 0 mid.core.state core.state mid.link mid.keeper chain in
+        let done = acts_taken batches reads_back are v ws acts (process core.state mid.link mid.keeper) (process after.state link keeper) does_under in
+        let both = folds_join {P = Running B K} {A = Step} (Takes batches reads_back) (running cipher words old) here asked first.0 (map {B = Step} Asks k.0) to_here taken in
+        let all = folds_join {P = Running B K} {A = Step} (Takes batches reads_back) (running cipher words old) asked there (first.0 ++ map {B = Step} Asks k.0) (map {B = Step} Acts acts) both done in
+        subst (λ (r : Running B K). Stops batches reads_back (running cipher words old) r) (sym (same_running cipher words old new (same_trans old.core core after kept_core kept_then) (same_tape ∙ tape))) (
+          (first.0 ++ map {B = Step} Asks k.0) ++ map {B = Step} Acts acts,
+          all,
+          elim why [
+            | inl stalled ↦ inl stalled
+            | inr failed ↦ inr (inl (
+              (first.0 ++ map {B = Step} Asks k.0) ++ map {B = Step} Acts failed.0,
+              ap (λ (l : List Act). (first.0 ++ map {B = Step} Asks k.0) ++ map {B = Step} Acts l) failed.1
+                  ∙ ap (λ (l : List Step). (first.0 ++ map {B = Step} Asks k.0) ++ l) (map-append {B = Step} Acts failed.0 (Keeps false ∷ []))
+                  ∙ sym (append_assoc (first.0 ++ map {B = Step} Asks k.0) (map {B = Step} Acts failed.0) (Acts (Keeps false) ∷ [])),
+            ))
+          ],
+        )
+
+    module _ (notes : List Note) (k : AllAsked notes) (settled : IsSettled mid.core.state) (alive : mid.core.state.failure ≡ None) (replies : List Reply) (given : flat_map replies_of acts ≡ replies)
+        (many : length replies ≡ length core.state.queue) where
+      right : (ys : List Submission) → core.state.queue ≡ ys
+          → GoesOn (Had batches reads_back) Hears HoldsArray (running cipher words old)
+          (λ may_lie array later. SomeDone may_lie array later × (later ≡ array_with old.core.device k.0 array)
+          × ((bodies replies ≡ bodies_from old.core.device (map (λ (y : Submission). y.command) ys) array) ⊎ ((may_lie ≡ true) × (NoneFailed replies → ⊥)))) (running cipher words new)
+      right ys queue =
+          let f = front_of notes k in
+          all_replied cipher words batches reads_back are old mid kept tape goes commands fits k.0 f.1 f.2 core.state (chain_under cipher words batches reads_back are old mid kept tape goes k.0 core.state k.3)
+          new (same_trans old.core core after kept_core kept_then) (same_tape ∙ tape) acts does_under settled alive replies given many ys queue
+
+      -- a reply says that the device failed: that was a lie
+      pub lied : (NoneFailed replies → ⊥) → GoesOn (Had batches reads_back) Hears HoldsArray (running cipher words old) (λ may_lie array later. SomeDone may_lie array later × (may_lie ≡ true)) (running cipher words new)
+      lied some = weaker (right core.state.queue refl) (λ may_lie world array later h step.
+          (step.0, elim step.2 [ inl as_told ↦ absurd (some (none_failed old.core.device (map (λ (y : Submission). y.command) core.state.queue) array replies as_told)) | inr lie ↦ lie.0 ]))
+
+      -- none does, and there are as many as commands
+      pub all_done : NoneFailed replies → length commands ≤ length replies → (count : length core.state.queue ≡ count_by is_accepted notes)
+          → GoesOn (Had batches reads_back) Hears HoldsArray (running cipher words old)
+          (λ may_lie array later. (bodies replies ≡ bodies_from old.core.device commands array) × (later ≡ after_commands old.core.device commands array)) (running cipher words new)
+      all_done none enough count =
+          let here = chain_under cipher words batches reads_back are old mid kept tape goes k.0 core.state k.3 in
+          let counted : accepted_in (scheme_of cipher old.core) (words old.tape) 0 k.0 ≡ count_by is_accepted notes = ap (λ (ns : List Note). count_by is_accepted ns) k.2 in
+          let size : length k.0 ≡ length commands = sym (length-map k.0 (λ (a : Asked). a.command)) ∙ ap length k.1 in
+          let whole = all_accepted (scheme_of cipher old.core) (words old.tape) 0 k.0 mid.core.state core.state here (omega (arith, counted, size, enough, many, count)) in
+          let queue : core.state.queue ≡ whole.0.waiting = whole.0.queue ∙ ap (λ (q : List Submission). q ++ whole.0.waiting) (resting mid.core.state settled alive) in
+          weaker (right whole.0.waiting queue) (λ may_lie world array later h step. (
+            elim step.2 [
+              | inl as_told ↦ as_told ∙ ap (λ (cs : List Command). bodies_from old.core.device cs array) (whole.0.commands ∙ k.1)
+              | inr lie ↦ absurd (lie.1 none)
+            ],
+            step.1 ∙ whole.1 array ∙ ap (λ (cs : List Command). after_commands old.core.device cs array) k.1,
+          ))
+
+-- what becomes of no commands, and of commands that were all refused
+pub none_begun : {R : Type 0} (items : R → List Reply) (r : Result R DiskFault) (d : Sizes) (count : ℕ) (commands : List Command) → count ≡ length commands
+    → IfOk r (λ x. (items x ≡ []) × (count ≡ 0)) → IfErr r (λ e. (e ≡ Stopped) × (0 < count)) → (may_lie : Bool) (array later : ℕ → List ℕ) → (n : ℕ) × (later ≡ after_commands d (take n commands) array)
+    → MatchResult r (λ x. (bodies (items x) ≡ bodies_from d commands array) × (later ≡ after_commands d commands array)) (λ _. (n : ℕ) × (later ≡ after_commands d (take n commands) array)) × FailsByLies r may_lie
+none_begun items (Ok x) d count commands size ok err may_lie array later some =
+    let none : commands ≡ [] = nil_from_length commands (sym size ∙ ok.1) in (
+      (
+        ap bodies ok.0 ∙ ap (λ (cs : List Command). bodies_from d cs array) (sym none),
+        some.1 ∙ ap (λ (cs : List Command). after_commands d cs array) (ap (take some.0) none ∙ take-nil some.0 ∙ sym none),
+      ),
+      λ e. cc,
+    )
+none_begun items (Err e) d count commands size ok err may_lie array later some = (some, λ f. let is : e ≡ Failed = cc in absurd (let both : Stopped ≡ Failed = sym err.0 ∙ is in cc))
+
+pub some_left : {R : Type 0} (r : Result R DiskFault) (count : ℕ) → IsErrOf r Stopped → IfErr r (λ e. (e ≡ Stopped) × (0 < count)) → 0 < count
+some_left (Ok x) count is err = absurd cc
+some_left (Err e) count is err = err.1
+
+-- where a reply says that the device failed, it has
+pub has_failed_by : (f : Option Reason) (replies : List Reply) → All (λ (r : Reply). r.body ≡ ReplyBody.Failed → (why : Reason) × (f ≡ Some why)) replies → (NoneFailed replies → ⊥) → (why : Reason) × (f ≡ Some why)
+has_failed_by (Some e) replies all some = (e, refl)
+has_failed_by None replies all some = absurd (some (none_by replies all))
+  where
+    none_by : (rs : List Reply) → All (λ (r : Reply). r.body ≡ ReplyBody.Failed → (why : Reason) × (None ≡ Some why)) rs → NoneFailed rs
+    none_by [] all = All-nil (λ (r : Reply). r.body ≢ ReplyBody.Failed)
+    none_by (r ∷ rs) all =
+        All-cons (λ (r : Reply). r.body ≢ ReplyBody.Failed) r rs
+        (λ e. let no = All-head (λ (r : Reply). r.body ≡ ReplyBody.Failed → (why : Reason) × (None ≡ Some why)) r rs all e in let is : None ≡ Some no.0 = no.1 in cc)
+        (none_by rs (All-tail (λ (r : Reply). r.body ≡ ReplyBody.Failed → (why : Reason) × (None ≡ Some why)) r rs all))

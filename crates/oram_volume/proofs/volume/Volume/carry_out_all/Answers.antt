@@ -1,0 +1,136 @@
+use Rattle.std.proofs.Common.{◌≡◌, ◌<◌, ◌≤◌, Bool, true, false, [], ◌∷◌, length, count_by, Option, Some, None, is_some, refl, sym, ap, ◌∙◌, subst, arith, rules, inl, inr}
+use Rattle.std.proofs.lemmas.Result.{err_from_is_err_and}
+use Rattle.oram_semantics.specs.Run.{is_accepted}
+use Rattle.oram_semantics.specs.declared.events.Reason.{Reason}
+use Rattle.oram_nbd.proofs.Beside.{told_after, weaker}
+use Rattle.oram_rounds.specs.Process.Act.{Keeps}
+use Rattle.oram_volume.specs.HeldArrays.{HoldsArray, running}
+use Rattle.oram_volume.proofs.Answered.{NoneFailed}
+use Rattle.oram_volume.proofs.Carried.{all_done, front_of, has_failed_by, lied, lies_if, none_begun, performed_done, performed_left, performed_stops, some_left, submitted_done}
+use Rattle.oram_volume.proofs.HeldArrays.{alive}
+use Rattle.oram_volume.proofs.volume.Volume.carry_out_all.Goals as goal
+
+pub returns-in_err-resume-clause-goes : goal.returns-in_err-resume-clause-goes
+returns-in_err-resume-clause-goes g c =
+    let p = err_from_is_err_and c.from_residual.result c.from_residual.ensures.1 in
+    rw p.1 (weaker c.in_err-resume.ensures.goes (λ may_lie world array later h same. ((0, same), λ e. absurd (c.in_err-resume.ensures.fault cc))))
+
+pub returns-then-is_some-clause-goes : goal.returns-then-is_some-clause-goes
+returns-then-is_some-clause-goes g c =
+    let some : is_some c.resume.new.self.core.state.failure ≡ true = ap is_some (sym c.failure.ensures) ∙ sym c.is_some.ensures ∙ c.if-is_some.true in
+    told_after c.resume.ensures.goes (λ may_lie world array later h same. (
+      (0, same),
+      λ e. lies_if may_lie (λ honest.
+          let lives = alive _ world later (subst (λ (b : Bool). HoldsArray b (running g.S.Sealer.cipher g.T.Tape.words c.resume.new.self) world later) honest h) in
+          let no : is_some c.resume.new.self.core.state.failure ≡ false = ap is_some lives in absurd (let both : true ≡ false = sym some ∙ no in cc)),
+    ))
+
+pub returns-in_err-begun-clause-goes : goal.returns-in_err-begun-clause-goes
+returns-in_err-begun-clause-goes g c =
+    let p = err_from_is_err_and c.from_residual-in_err-begun.result c.from_residual-in_err-begun.ensures.1 in
+    rw p.1 (weaker (submitted_done g.S.Sealer.cipher g.T.Tape.words g.B.BatchLink.batches g.K.Keeper.reads_back g.met.B.BatchLink.are_batches c.args.self.now c.resume.new.self c.resume.ensures.kept c.resume.ensures.tape
+    c.resume.ensures.goes c.args.commands.items c.requires c.submit_all.new.core c.submit_all.new.tape c.submit_all.ensures.kept c.submit_all.ensures.tape c.in_err-begun.ensures.err)
+    (λ may_lie world array later h some. (some, λ e. cc)))
+
+-- none of them is accepted
+
+pub returns-in_default-clause-goes : goal.returns-in_default-clause-goes
+returns-in_default-clause-goes g c =
+    weaker (submitted_done g.S.Sealer.cipher g.T.Tape.words g.B.BatchLink.batches g.K.Keeper.reads_back g.met.B.BatchLink.are_batches c.args.self.now c.resume.new.self c.resume.ensures.kept c.resume.ensures.tape
+    c.resume.ensures.goes c.args.commands.items c.requires c.submit_all.new.core c.submit_all.new.tape c.submit_all.ensures.kept c.submit_all.ensures.tape
+    (front_of g.S.Sealer.cipher g.T.Tape.words g.B.BatchLink.batches g.K.Keeper.reads_back g.met.B.BatchLink.are_batches c.args.self.now c.resume.new.self c.resume.ensures.kept c.resume.ensures.tape
+    c.resume.ensures.goes c.args.commands.items c.requires c.submit_all.new.core c.submit_all.new.tape c.submit_all.ensures.kept c.submit_all.ensures.tape c.in_ok-begun.field-0.notes.items c.in_ok-begun.ensures.ok))
+    (λ may_lie world array later h some.
+    none_begun _ c.unanswered.result c.args.self.now.core.device c.len-count.result c.args.commands.items (let size : c.len-count.result ≡ length c.args.commands.items = search rules in size)
+    c.unanswered.ensures.ok c.unanswered.ensures.err may_lie array later some)
+
+pub returns-in_default-clause-stopped : goal.returns-in_default-clause-stopped
+returns-in_default-clause-stopped g c = λ e.
+    let size : c.len-count.result ≡ length c.args.commands.items = search rules in
+    let more = some_left c.unanswered.result c.len-count.result e c.unanswered.ensures.err in
+    let none : count_by is_accepted c.in_ok-begun.field-0.notes.items ≡ 0 = search rules in
+    performed_stops g.S.Sealer.cipher g.T.Tape.words g.B.BatchLink.batches g.K.Keeper.reads_back g.met.B.BatchLink.are_batches c.args.self.now c.resume.new.self c.resume.ensures.kept c.resume.ensures.tape
+    c.resume.ensures.goes c.args.commands.items c.requires c.submit_all.new.core c.submit_all.new.tape c.submit_all.ensures.kept c.submit_all.ensures.tape
+    c.submit_all.new.core c.resume.new.self.link c.resume.new.self.keeper (refl, refl) [] refl c.in_ok-begun.field-0.notes.items c.in_ok-begun.ensures.ok (omega (arith, size, more, none))
+
+-- some are, and they are carried out
+
+none_by : (o : Option Reason) → is_some o ≡ false → o ≡ None
+none_by None e = refl
+none_by (Some x) e = absurd cc
+
+pub returns-in-Ok-clause-goes : goal.returns-in-Ok-clause-goes
+returns-in-Ok-clause-goes g c =
+    let k = c.in-Ok.ensures.ok in
+    let lives = none_by c.resume.new.self.core.state.failure (ap is_some (sym c.failure.ensures) ∙ sym c.is_some.ensures ∙ c.if-is_some.false) in
+    weaker (lied g.S.Sealer.cipher g.T.Tape.words g.B.BatchLink.batches g.K.Keeper.reads_back g.met.B.BatchLink.are_batches c.args.self.now c.resume.new.self c.resume.ensures.kept c.resume.ensures.tape
+    c.resume.ensures.goes c.args.commands.items c.requires c.submit_all.new.core c.submit_all.new.tape c.submit_all.ensures.kept c.submit_all.ensures.tape
+    c.perform-performed.new.core c.perform-performed.new.link c.perform-performed.new.keeper c.perform-performed.ensures.kept (Keeps true ∷ k.0) k.2 c.in_ok-begun.field-0.notes.items c.in_ok-begun.ensures.ok
+    c.in_ok-resume.ensures.settled lives c.in-Ok.replies.items k.1 c.in-Ok.ensures.count (λ none. c.has_failure.ensures.yes c.if-has_failure.true (subst NoneFailed (sym c.deref.ensures.value) none)))
+    (λ may_lie world array later h step. (step.0, λ e. step.1))
+
+pub returns-in-Ok-clause-failing : goal.returns-in-Ok-clause-failing
+returns-in-Ok-clause-failing g c = λ e.
+    has_failed_by c.perform-performed.new.core.state.failure c.in-Ok.replies.items c.in-Ok.ensures.failed (λ none. c.has_failure.ensures.yes c.if-has_failure.true (subst NoneFailed (sym c.deref.ensures.value) none))
+
+pub returns-in-Ok-2-clause-goes : goal.returns-in-Ok-2-clause-goes
+returns-in-Ok-2-clause-goes g c =
+    let k = c.in-Ok-2.ensures.ok in
+    weaker (performed_done g.S.Sealer.cipher g.T.Tape.words g.B.BatchLink.batches g.K.Keeper.reads_back g.met.B.BatchLink.are_batches c.args.self.now c.resume.new.self c.resume.ensures.kept c.resume.ensures.tape
+    c.resume.ensures.goes c.args.commands.items c.requires c.submit_all.new.core c.submit_all.new.tape c.submit_all.ensures.kept c.submit_all.ensures.tape
+    c.perform-performed.new.core c.perform-performed.new.link c.perform-performed.new.keeper c.perform-performed.ensures.kept (Keeps true ∷ k.0) k.2
+    (front_of g.S.Sealer.cipher g.T.Tape.words g.B.BatchLink.batches g.K.Keeper.reads_back g.met.B.BatchLink.are_batches c.args.self.now c.resume.new.self c.resume.ensures.kept c.resume.ensures.tape
+    c.resume.ensures.goes c.args.commands.items c.requires c.submit_all.new.core c.submit_all.new.tape c.submit_all.ensures.kept c.submit_all.ensures.tape c.in_ok-begun.field-0.notes.items c.in_ok-begun.ensures.ok))
+    (λ may_lie world array later h some. (some, λ e. cc))
+
+pub returns-in-Ok-2-clause-stopped : goal.returns-in-Ok-2-clause-stopped
+returns-in-Ok-2-clause-stopped g c = λ e.
+    let k = c.in-Ok-2.ensures.ok in
+    let size : c.len-count.result ≡ length c.args.commands.items = search rules in
+    let fewer : length c.in-Ok-2.replies.items < c.len-count.result = search rules in
+    performed_stops g.S.Sealer.cipher g.T.Tape.words g.B.BatchLink.batches g.K.Keeper.reads_back g.met.B.BatchLink.are_batches c.args.self.now c.resume.new.self c.resume.ensures.kept c.resume.ensures.tape
+    c.resume.ensures.goes c.args.commands.items c.requires c.submit_all.new.core c.submit_all.new.tape c.submit_all.ensures.kept c.submit_all.ensures.tape
+    c.perform-performed.new.core c.perform-performed.new.link c.perform-performed.new.keeper c.perform-performed.ensures.kept (Keeps true ∷ k.0) k.2 c.in_ok-begun.field-0.notes.items c.in_ok-begun.ensures.ok
+    (omega (arith, size, fewer, c.in-Ok-2.ensures.count, c.in_ok-begun.ensures.count))
+
+pub returns-in-Ok-3-clause-goes : goal.returns-in-Ok-3-clause-goes
+returns-in-Ok-3-clause-goes g c =
+    let k = c.in-Ok.ensures.ok in
+    let lives = none_by c.resume.new.self.core.state.failure (ap is_some (sym c.failure.ensures) ∙ sym c.is_some.ensures ∙ c.if-is_some.false) in
+    let size : c.len-count.result ≡ length c.args.commands.items = search rules in
+    let enough : c.len-count.result ≤ length c.in-Ok.replies.items = search rules in
+    let none : NoneFailed c.in-Ok.replies.items = subst NoneFailed c.deref.ensures.value (c.has_failure.ensures.no c.if-has_failure.false) in
+    weaker (all_done g.S.Sealer.cipher g.T.Tape.words g.B.BatchLink.batches g.K.Keeper.reads_back g.met.B.BatchLink.are_batches c.args.self.now c.resume.new.self c.resume.ensures.kept c.resume.ensures.tape
+    c.resume.ensures.goes c.args.commands.items c.requires c.submit_all.new.core c.submit_all.new.tape c.submit_all.ensures.kept c.submit_all.ensures.tape
+    c.perform-performed.new.core c.perform-performed.new.link c.perform-performed.new.keeper c.perform-performed.ensures.kept (Keeps true ∷ k.0) k.2 c.in_ok-begun.field-0.notes.items c.in_ok-begun.ensures.ok
+    c.in_ok-resume.ensures.settled lives c.in-Ok.replies.items k.1 c.in-Ok.ensures.count none (omega (arith, size, enough)) c.in_ok-begun.ensures.count)
+    (λ may_lie world array later h step. (step, λ e. cc))
+
+pub returns-in-Err-clause-goes : goal.returns-in-Err-clause-goes
+returns-in-Err-clause-goes g c =
+    let k = c.in-Err.ensures.err in
+    weaker (performed_done g.S.Sealer.cipher g.T.Tape.words g.B.BatchLink.batches g.K.Keeper.reads_back g.met.B.BatchLink.are_batches c.args.self.now c.resume.new.self c.resume.ensures.kept c.resume.ensures.tape
+    c.resume.ensures.goes c.args.commands.items c.requires c.submit_all.new.core c.submit_all.new.tape c.submit_all.ensures.kept c.submit_all.ensures.tape
+    c.perform-performed.new.core c.perform-performed.new.link c.perform-performed.new.keeper c.perform-performed.ensures.kept k.0 k.2
+    (front_of g.S.Sealer.cipher g.T.Tape.words g.B.BatchLink.batches g.K.Keeper.reads_back g.met.B.BatchLink.are_batches c.args.self.now c.resume.new.self c.resume.ensures.kept c.resume.ensures.tape
+    c.resume.ensures.goes c.args.commands.items c.requires c.submit_all.new.core c.submit_all.new.tape c.submit_all.ensures.kept c.submit_all.ensures.tape c.in_ok-begun.field-0.notes.items c.in_ok-begun.ensures.ok))
+    (λ may_lie world array later h some. (some, λ e. absurd (c.disk_fault.ensures.failed cc)))
+
+pub returns-in-Err-clause-stopped : goal.returns-in-Err-clause-stopped
+returns-in-Err-clause-stopped g c = λ e.
+    elim (c.disk_fault.ensures.stopped cc) [
+      | inl stalled ↦
+          let k = c.in-Err.ensures.err in
+          performed_left g.S.Sealer.cipher g.T.Tape.words g.B.BatchLink.batches g.K.Keeper.reads_back g.met.B.BatchLink.are_batches c.args.self.now c.resume.new.self c.resume.ensures.kept c.resume.ensures.tape
+          c.resume.ensures.goes c.args.commands.items c.requires c.submit_all.new.core c.submit_all.new.tape c.submit_all.ensures.kept c.submit_all.ensures.tape
+          c.perform-performed.new.core c.perform-performed.new.link c.perform-performed.new.keeper c.perform-performed.ensures.kept k.0 k.2
+          (front_of g.S.Sealer.cipher g.T.Tape.words g.B.BatchLink.batches g.K.Keeper.reads_back g.met.B.BatchLink.are_batches c.args.self.now c.resume.new.self c.resume.ensures.kept c.resume.ensures.tape
+          c.resume.ensures.goes c.args.commands.items c.requires c.submit_all.new.core c.submit_all.new.tape c.submit_all.ensures.kept c.submit_all.ensures.tape c.in_ok-begun.field-0.notes.items c.in_ok-begun.ensures.ok) (inl (c.in-Err.ensures.stalled cc))
+      | inr not_kept ↦
+          let k = c.in-Err.ensures.not_kept cc in
+          performed_left g.S.Sealer.cipher g.T.Tape.words g.B.BatchLink.batches g.K.Keeper.reads_back g.met.B.BatchLink.are_batches c.args.self.now c.resume.new.self c.resume.ensures.kept c.resume.ensures.tape
+          c.resume.ensures.goes c.args.commands.items c.requires c.submit_all.new.core c.submit_all.new.tape c.submit_all.ensures.kept c.submit_all.ensures.tape
+          c.perform-performed.new.core c.perform-performed.new.link c.perform-performed.new.keeper c.perform-performed.ensures.kept (Keeps false ∷ []) k.2
+          (front_of g.S.Sealer.cipher g.T.Tape.words g.B.BatchLink.batches g.K.Keeper.reads_back g.met.B.BatchLink.are_batches c.args.self.now c.resume.new.self c.resume.ensures.kept c.resume.ensures.tape
+          c.resume.ensures.goes c.args.commands.items c.requires c.submit_all.new.core c.submit_all.new.tape c.submit_all.ensures.kept c.submit_all.ensures.tape c.in_ok-begun.field-0.notes.items c.in_ok-begun.ensures.ok) (inr ([], refl))
+    ]
