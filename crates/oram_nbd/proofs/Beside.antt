@@ -25,7 +25,7 @@ module _ {D W E X : Type 0} {had : D → List E → D → Type 0} {hears : Bool 
     leads = λ may_lie world later run array h. (array, stays may_lie world array h, subst (λ (w : W). holds may_lie d w array) run h);
   }
 
-  -- the same calls, of which less is said
+  -- A weaker step may be stated of the same calls.
   pub weaker : {old new : D} {step step' : Bool → X → X → Type 0} → GoesOn had hears holds old step new
       → ((may_lie : Bool) (world : W) (array later : X) → holds may_lie old world array → step may_lie array later → step' may_lie array later) → GoesOn had hears holds old step' new
   weaker g less = record {
@@ -34,7 +34,7 @@ module _ {D W E X : Type 0} {had : D → List E → D → Type 0} {hears : Bool 
     leads = λ may_lie world later run array h. let k = g.leads may_lie world later run array h in (k.0, less may_lie world array k.0 h k.1, k.2);
   }
 
-  -- the same, where what is said follows from what the device holds then
+  -- The same, where the weaker step also follows from what the device holds afterwards.
   pub told_after : {old new : D} {step step' : Bool → X → X → Type 0} → GoesOn had hears holds old step new
       → ((may_lie : Bool) (world : W) (array later : X) → holds may_lie new world later → step may_lie array later → step' may_lie array later) → GoesOn had hears holds old step' new
   told_after g less = record {

@@ -72,7 +72,7 @@ answered d (y ∷ ys) (r ∷ replies) p q before here there all many =
     ap (λ (b : ReplyBody). b ∷ bodies replies) body
     ∙ ap (λ (bs : List ReplyBody). body_from (before (address_of y.command)) y.command ∷ bs) (answered d ys replies all.0 q (array_after d y.command before) next rest all.2 (omega (arith, many)))
 
--- where some are failed, it shows
+-- where a command is answered as failed, its reply says so
 failed_shows : (given : List Reply) (y : Submission) (ys : List Submission) → NoneFailed (given ++ map failed_reply (y ∷ ys)) → ⊥
 failed_shows [] y ys none = All-head (λ (r : Reply). r.body ≢ ReplyBody.Failed) (failed_reply y) (map failed_reply ys) none refl
 failed_shows (r ∷ given) y ys none = failed_shows given y ys (All-tail (λ (r : Reply). r.body ≢ ReplyBody.Failed) r (given ++ map failed_reply (y ∷ ys)) none)

@@ -255,7 +255,7 @@ module _ {S B K T : Type 0} (cipher : S → Cipher) (words : T → ℕ → ℕ �
       lied some = weaker (right core.state.queue refl) (λ may_lie world array later h step.
           (step.0, elim step.2 [ inl as_told ↦ absurd (some (none_failed old.core.device (map (λ (y : Submission). y.command) core.state.queue) array replies as_told)) | inr lie ↦ lie.0 ]))
 
-      -- none does, and there are as many as commands
+      -- no reply says so, and each command has one
       pub all_done : NoneFailed replies → length commands ≤ length replies → (count : length core.state.queue ≡ count_by is_accepted notes)
           → GoesOn (Had batches reads_back) Hears HoldsArray (running cipher words old)
           (λ may_lie array later. (bodies replies ≡ bodies_from old.core.device commands array) × (later ≡ after_commands old.core.device commands array)) (running cipher words new)

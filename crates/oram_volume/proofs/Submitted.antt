@@ -153,7 +153,7 @@ module _ (v : Scheme) (words : ℕ → ℕ → List ℕ) (session : ℕ) where
   counted : (a : Asked) (asked : List Asked) → accepted_in (a ∷ asked) ≡ (if is_accepted a.shown.note then 1 else 0) + accepted_in asked
   counted a asked = sum_by-cons (λ (n : Note). if is_accepted n then 1 else 0) a.shown.note (map (λ (b : Asked). b.shown.note) asked)
 
-  -- where all are, they stand in the queue
+  -- where all commands are accepted, they stand in the queue in their order
   pub record AreQueued (asked : List Asked) (s t : State) : Type 0 where
     pub waiting : List Submission
     pub commands : map (λ (y : Submission). y.command) waiting ≡ map (λ (a : Asked). a.command) asked
@@ -184,7 +184,7 @@ module _ (v : Scheme) (words : ℕ → ℕ → List ℕ) (session : ℕ) where
             absurd (omega (arith, none, many, most))
       ]
 
-  -- where not all are, one isn't
+  -- where fewer are accepted than were submitted, one of them wasn't accepted
   pub one_refused : (asked : List Asked) → accepted_in asked < length asked → (before after : List Asked) × (a : Asked) × (is_accepted a.shown.note ≡ false) × (asked ≡ before ++ a ∷ after)
   one_refused [] few = absurd (omega (arith, few))
   one_refused (a ∷ asked) few = by (is_accepted a.shown.note) refl (λ less. one_refused asked less)

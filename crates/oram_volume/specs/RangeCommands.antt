@@ -12,7 +12,7 @@ abbrev pub discard_commands : ℕ → ℕ → List Command
 discard_commands first zero = []
 discard_commands first (suc n) = Discard first ∷ discard_commands (suc first) n
 
--- n blocks of so many bytes each are written, one after the other
+-- The payload is cut into n blocks of `block` bytes each, and each command writes one of them.
 abbrev pub write_commands : ℕ → ℕ → ℕ → List ℕ → List Command
 write_commands block first zero payload = []
 write_commands block first (suc n) payload = Write first (take block payload) ∷ write_commands block (suc first) n (drop block payload)

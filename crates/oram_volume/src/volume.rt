@@ -59,7 +59,8 @@ fn has_failure(replies: &[Reply]) -> bool
     false
 }
 
-/// Returns what becomes of so many commands if the core accepts none of them.
+/// Returns the result of a round of `count` commands if the core accepts none of them: no replies if there are no commands,
+/// and else `Stopped`.
 fn unanswered(alloc: Global, count: usize) -> Result<Vec<Reply>, DiskFault>
     ensures ok { IfOk result (λ replies. (replies.items ≡ []) × (count ≡ 0)) }
     ensures err { IfErr result (λ e. (e ≡ DiskFault.Stopped) × (0 < count)) }
