@@ -11,5 +11,8 @@ pub mod MethodEnds
 pub mod Fits
 pub mod Heard
 pub mod Lengths
+pub mod NextFetches
+pub mod InTurn
+pub mod InTurnExample
 pub mod Made
 pub mod WholeRuns

@@ -61,7 +61,7 @@ fetch_asked d entry_number named x fits =
     asked_fetch i (leaf_for d i named x) (small_leaf d i _ (leaf_for-range d i named x fits))
 
 -- an entry of the table, 0 past its end
-entry_small : (xs : List ℕ) (n k : ℕ) → All (λ e. e ≤ n) xs → slice_index xs k ≤ n
+pub entry_small : (xs : List ℕ) (n k : ℕ) → All (λ e. e ≤ n) xs → slice_index xs k ≤ n
 entry_small [] n k h = omega arith
 entry_small (x ∷ xs) n zero h = All-head (λ e. e ≤ n) x xs h
 entry_small (x ∷ xs) n (suc k) h = entry_small xs n k (All-tail (λ e. e ≤ n) x xs h)

@@ -1,4 +1,5 @@
 pub mod Core
+pub mod InTurn
 pub mod Parts
 pub mod Validity
 pub mod PlainSteps

@@ -11,6 +11,7 @@ mod answers;
 mod core_format;
 mod machine;
 mod messages;
+mod next_fetches;
 mod outcome;
 mod parts;
 mod path_access;
@@ -19,6 +20,7 @@ mod verdicts;
 mod whole;
 
 pub use machine::{Core, MOST_WAITING};
+pub use next_fetches::sound_cores_are_in_turn;
 pub use oram_semantics::{
     Command, Event, Note, Reaction, Reason, Refusal, Reply, ReplyBody, Submission,
 };

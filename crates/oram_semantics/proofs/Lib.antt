@@ -1,5 +1,9 @@
 pub mod Bounds
 pub mod Rows
+pub mod NextFetches
+pub mod NextFetchRows
+pub mod InTurn
+pub mod NextEntries
 pub mod Entries
 pub mod Fours
 pub mod Maps

@@ -84,7 +84,7 @@ tells_of v past s fit f = record {
 }
 
 -- steps lead from a core that follows a past to one that follows the longer past
-follows_on : (v : Setting) (past : List Step) (s : State) (events : List Event) (xs : List Shown) (now : List Step) (t : State) → IsFit v.scheme.device
+pub follows_on : (v : Setting) (past : List Step) (s : State) (events : List Event) (xs : List Shown) (now : List Step) (t : State) → IsFit v.scheme.device
     → Follows v past s → StepsTo v past s events xs now t → Follows v now t
 follows_on v past s [] [] now t fit f run = subst (λ (p : List Step). Follows v p t) (sym run.0) (subst (Follows v past) (sym run.1) f)
 follows_on v past s (event ∷ events) (x ∷ xs) now t fit f run =

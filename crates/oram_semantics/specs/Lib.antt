@@ -11,7 +11,9 @@ pub mod State
 pub mod Formatting
 pub mod Blocks
 pub mod Moves
+pub mod NextFetches
 pub mod Agree
 pub mod ArrayReplies
 pub mod Law
+pub mod InTurn
 pub mod TwoWorlds

@@ -1,4 +1,5 @@
 //! Laws about the definitions of a run.
+ghost use Rattle.oram_semantics.specs.InTurn.{CoresAskInTurn, NextFetchesAreEntries};
 ghost use Rattle.oram_semantics.specs.Law.{CoresServe, CoresTell, NewCoresServe, StepsAreRight};
 ghost use Rattle.oram_semantics.specs.Nonces.{NoncesAreApart};
 ghost use Rattle.oram_semantics.specs.TwoWorlds.{TwoWorldsLookAlike};
@@ -36,4 +37,17 @@ pub fn cores_tell()
 /// and for the same paths.
 pub fn two_worlds_look_alike()
     ensures { TwoWorldsLookAlike }
+{}
+
+/// A law about definitions: a core whose trees stand and agree in a world sends the first FETCHes of the commands that wait
+/// in their turn. While such a FETCH waits for its turn it stays the same, and the core sends no other FETCH of the last
+/// tree.
+pub fn cores_ask_in_turn()
+    ensures { CoresAskInTurn }
+{}
+
+/// A law about definitions: after any list of events, the first FETCHes of the commands that wait are entries of the
+/// accepted commands.
+pub fn next_fetches_are_entries()
+    ensures { NextFetchesAreEntries }
 {}

@@ -13,6 +13,6 @@ mod law;
 
 pub use events::{Command, Event, Note, Reaction, Reason, Refusal, Reply, ReplyBody, Submission};
 pub use law::{
-    cores_serve, cores_tell, new_cores_serve, nonces_are_apart, steps_are_right,
-    two_worlds_look_alike,
+    cores_ask_in_turn, cores_serve, cores_tell, new_cores_serve, next_fetches_are_entries,
+    nonces_are_apart, steps_are_right, two_worlds_look_alike,
 };

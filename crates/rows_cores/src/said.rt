@@ -72,7 +72,7 @@ fn show_reply(reply: &Reply, page: &mut Page) {
 }
 
 /// Writes a message to the host: its kind, its tree and its leaf.
-fn show_message(message: &[u8], page: &mut Page) {
+pub fn show_message(message: &[u8], page: &mut Page) {
     page.part();
     let [op, tree, a, b, c, d, ..] = message else {
         page.word("short");

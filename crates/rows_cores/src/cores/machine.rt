@@ -3,7 +3,7 @@
 use super::seen::{Seen, show_run};
 use crate::commands::event_of;
 use crate::host::{host_answer, host_of, row_fault};
-use crate::said::{show_answered, show_reaction, show_reason};
+use crate::said::{show_answered, show_message, show_reaction, show_reason};
 use oram_bucket::Sealer;
 use oram_bytes::Bytes;
 use oram_core::{Core, Parts, PartsFault};
@@ -241,6 +241,18 @@ impl<S: Sealer + Copy> Machine<S> {
         }
     }
 
+    /// `core next`: writes the first FETCHes of the commands that wait, or `none`.
+    fn next(&self, alloc: Global, page: &mut Page) -> Result<(), RowFault> {
+        let bodies = self.core.next_fetches(alloc)?;
+        if bodies.is_empty() {
+            page.word("none");
+        }
+        for body in &bodies {
+            show_message(body, page);
+        }
+        Ok(())
+    }
+
     /// Makes a call that changes nothing. `overhead` writes how many bytes the sealer adds to a bucket.
     fn look(&self, alloc: Global, call: &str, page: &mut Page) -> Result<(), RowFault> {
         match call {
@@ -248,6 +260,7 @@ impl<S: Sealer + Copy> Machine<S> {
             "stashes" => self.stashes(page),
             "message" => self.message(page),
             "overhead" => page.number(self.core.overhead()),
+            "next" => return self.next(alloc, page),
             _ => return self.run(alloc, page),
         }
         Ok(())
@@ -282,7 +295,9 @@ impl<S: Sealer + Copy> Machine<S> {
         page: &mut Page,
     ) -> Result<(), RowFault> {
         match call {
-            "told" | "stashes" | "message" | "overhead" | "run" => self.look(alloc, call, page),
+            "told" | "stashes" | "message" | "overhead" | "next" | "run" => {
+                self.look(alloc, call, page)
+            }
             "keep" | "kept" | "same" | "tamper" | "swap" | "snapshot" | "restore" => {
                 self.meddle(alloc, call, words, page)
             }
