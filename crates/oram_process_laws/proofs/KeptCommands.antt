@@ -1,12 +1,15 @@
 -- The messages of a run are entries of the commands that it has accepted.
 use Rattle.std.proofs.Common.{◌≡◌, ℕ, zero, suc, ◌+◌, ◌-◌, ◌*◌, ◌<◌, ◌≤◌, arith, Bool, true, false, if◌then◌else◌, List, [], ◌∷◌, ◌++◌, length, map, take, slice_index, refl, sym, ap, ◌∙◌, subst, inl, inr, append-nil, length-append}
-use Rattle.std.specs.List.{range_with_len}
+use Rattle.std.specs.List.{All, range_with_len}
+use Rattle.std.proofs.lemmas.List.Elements.{All-head, All-tail}
 use Rattle.std.proofs.lemmas.Grind.{flat_map-append}
 use Rattle.std.proofs.lemmas.List.{get_or_append_left, length-map, map-append}
 use Rattle.oram_geometry.specs.Sizes.{trees_of}
 use Rattle.oram_trace.specs.Tape.{entry}
 use Rattle.oram_trace.specs.declared.entries.Entry.{Entry}
 use Rattle.oram_semantics.specs.Events.{address_of, addresses, tape}
+use Rattle.oram_semantics.specs.InTurn.{IsOfAccepted}
+use Rattle.oram_semantics.specs.Law.{StepsTo}
 use Rattle.oram_semantics.specs.Messages.{IsMessage}
 use Rattle.oram_semantics.specs.Progress.{Setting, Step, accepted, entries, entry_at, sent}
 use Rattle.oram_semantics.specs.Run.{AllRight, AskFor, IsRight, SendsRight, Shown, entries_sent, is_accepted, is_resent, step_of}
@@ -17,8 +20,11 @@ use Rattle.oram_semantics.proofs.Counts.{accepted_cons, sent_cons}
 use Rattle.oram_semantics.proofs.FirstEntries.{entry_same}
 use Rattle.oram_semantics.proofs.Pasts.{Adds, adds, brings}
 use Rattle.oram_link_laws.specs.Repair.{IsAmong}
-use Rattle.oram_process_laws.specs.KeptCommands.{IsEntryOf, KeptCommandsFixMessages, ShowsNoPair, past_after}
-use Rattle.oram_process_laws.specs.Lives.{Happening, SubmitsNone, is_submission, sends_of}
+use Rattle.oram_process_laws.specs.KeptCommands.{KeptCommandsFixMessages, NextFetchesAreOfCommands, ShowsNoPair, past_after}
+use Rattle.oram_semantics.specs.State.{State}
+use Rattle.oram_semantics.proofs.NextEntries.{next_fetches_are_entries}
+use Rattle.oram_rounds.specs.Process.{next_bodies}
+use Rattle.oram_process_laws.specs.Lives.{Happening, Leads, SubmitsNone, is_submission, sends_of}
 use Rattle.oram_process_laws.proofs.Sends.{among_back, among_either}
 use Rattle.oram_rounds.proofs.Tries.{among_front}
 
@@ -70,7 +76,7 @@ module _ (v : Setting) where
   -- each command has as many words as the device requires, and all that was sent are entries
   record AreEntries (past : List Step) : Type 0 where
     words : length (tape (accepted past)) ≡ 2 * trees_of v.scheme.device * length (accepted past)
-    each : (b : List ℕ) → IsAmong b (sent past) → IsEntryOf v past b
+    each : (b : List ℕ) → IsAmong b (sent past) → IsOfAccepted v past b
 
   -- more commands don't change the entries of those before
   entry_stays : (all more : List Submission) (m : ℕ) → length (tape all) ≡ 2 * trees_of v.scheme.device * length all → m < 2 * trees_of v.scheme.device * length all
@@ -126,9 +132,9 @@ module _ (v : Setting) where
   newest_sent (m ∷ older) b (inr none) = absurd none
 
   now_sent : (past : List Step) (step : Step) (n : ℕ) (resent : Bool) → AreEntries past → Adds v past step n → SendsRight v past step resent → (b : List ℕ) → IsAmong b step.sends
-      → IsEntryOf v (step ∷ past) b
+      → IsOfAccepted v (step ∷ past) b
   now_sent past step n true are a right b among =
-      let e : IsEntryOf v past b = are.each b (newest_sent (sent past) b (subst (IsAmong b) right among)) in
+      let e : IsOfAccepted v past b = are.each b (newest_sent (sent past) b (subst (IsAmong b) right among)) in
       record {
         number = e.number;
         within = within_more past step n e.number a e.within;
@@ -153,7 +159,7 @@ module _ (v : Setting) where
         each = λ b among. elim (among_either x.sends (sent past) b (subst (IsAmong b) (sent_cons step past) among)) [
           | inl now ↦ now_sent past step n (is_resent x.note) are a right.sends b now
           | inr was ↦
-              let e : IsEntryOf v past b = are.each b was in
+              let e : IsOfAccepted v past b = are.each b was in
               record {
                 number = e.number;
                 within = within_more past step n e.number a e.within;
@@ -194,10 +200,10 @@ module _ (v : Setting) where
   none_yet = record { words = omega arith; each = λ b among. absurd among }
 
   sent_entries : (early since : List Happening) → Right [] (early ++ since) → ShowsNoPair v [] (early ++ since) → SubmitsNone since → (b : List ℕ) → IsAmong b (sends_of (early ++ since))
-      → IsEntryOf v (past_after [] early) b
+      → IsOfAccepted v (past_after [] early) b
   sent_entries early since right apart none b among =
       let are = all_entries (early ++ since) [] none_yet right apart in
-      let e : IsEntryOf v (past_after [] (early ++ since)) b = are.each b (sends_after (early ++ since) [] b among) in
+      let e : IsOfAccepted v (past_after [] (early ++ since)) b = are.each b (sends_after (early ++ since) [] b among) in
       let same : accepted (past_after [] (early ++ since)) ≡ accepted (past_after [] early) =
       ap accepted (past_join [] early since) ∙ accepted_same since (past_after [] early) none in
       let P : List Submission → Type 0 = λ all. e.number < 2 * trees_of v.scheme.device * length all in
@@ -208,3 +214,21 @@ kept_commands_fix_messages v trees early since core right apart = (
   λ none body among. sent_entries v early since right.1 apart none body among,
   λ number within. early_stay v early since [] number (none_yet v) right.1 apart within,
 )
+
+-- the steps of a run, as the law of next FETCHes has them
+
+steps_to : (v : Setting) (run : List Happening) (past : List Step) (s t : State) → Leads v.scheme s run t → ShowsNoPair v past run
+    → StepsTo v past s (map (λ (h : Happening). h.event) run) (map (λ (h : Happening). h.shown) run) (past_after past run) t
+steps_to v [] past s t leads apart = (refl, sym leads)
+steps_to v (h ∷ run) past s t leads apart = (leads.0, leads.1.moves, apart.0, steps_to v run (step_of h.event h.shown ∷ past) leads.0 t leads.2 apart.1)
+
+among_all : (P : List ℕ → Type 0) (xs : List (List ℕ)) (b : List ℕ) → All P xs → IsAmong b xs → P b
+among_all P [] b all among = absurd among
+among_all P (x ∷ xs) b all (inl same) = subst P (sym same) (All-head P x xs all)
+among_all P (x ∷ xs) b all (inr later) = among_all P xs b (All-tail P x xs all) later
+
+pub next_fetches_are_of_commands : NextFetchesAreOfCommands
+next_fetches_are_of_commands v trees run core device made right apart body among =
+    let next = next_fetches_are_entries v trees (map (λ (h : Happening). h.event) run) (map (λ (h : Happening). h.shown) run) (past_after [] run) core device made
+    (steps_to v run [] _ core right.0 apart) in
+    among_all (IsOfAccepted v (past_after [] run)) (next_bodies v.scheme.device core) body next.messages among

@@ -24,11 +24,13 @@ use Rattle.oram_rounds.specs.Law.{AreBatches}
 use Rattle.oram_rounds.specs.PathMessages.{IsPathFetch}
 use Rattle.oram_process_laws.specs.Lives.{BeginsWith, Deed, Ends, Follows, Goes, GoesAll, Happening, HasSentStores, IsKeptOnRun, IsOfRun, IsRightRun, IsRunBefore, KeepsToRun, Leads, Lives, LivesAreOneRun, MessagesAreOfOneRun, SubmitsNone, happens_at, is_all_kept, is_all_kept_after, is_submission, leaves_at, left_before, left_by, run_of, sends_of}
 use Rattle.oram_process_laws.specs.Lives.Deed.{Acts, Asks}
-use Rattle.oram_rounds.specs.Process.{Act, Does, EndsIn, IsSent, Process, exchanges_of}
-use Rattle.oram_rounds.specs.Process.Act.{Calls, Hears, Keeps, Misses}
-use Rattle.oram_rounds.specs.Rounds.{Round, RoundCall, waiting}
+use Rattle.oram_rounds.specs.Process.{Act, AreSentAhead, Does, EndsIn, IsSent, Process, exchanges_of, next_bodies}
+use Rattle.oram_rounds.specs.Process.Act.{Calls, GoesAhead, Hears, Keeps, Misses}
+use Rattle.oram_rounds.specs.Rounds.{Round, RoundCall, WentAhead, waiting}
+use Rattle.oram_rounds.proofs.GoneAhead.{ahead_fewer, ahead_sent}
 use Rattle.oram_rounds.proofs.KeptText.{one_process}
-use Rattle.oram_process_laws.proofs.Sends.{among_either, fewer_by, of_sent, outstanding_sent, sends_more, sent_by, waits_still}
+use Rattle.oram_rounds.proofs.Sent.{all_among}
+use Rattle.oram_process_laws.proofs.Sends.{among_all, among_back, among_either, fewer_by, of_sent, outstanding_sent, sends_more, sent_by, waits_still}
 use Rattle.oram_rounds.proofs.Tries.{among_front}
 
 -- a run steps by the local rule
@@ -140,40 +142,64 @@ module _ (v : Setting) (trees : List Tree) (device : IsDevice v.scheme.device) (
     message_sent run left all p message b is out same =
         subst (λ (m : List ℕ). IsAmong m (sends_of run)) (sym same) (outstanding_sent v.scheme run (new_state v trees) p.core message refl is.leads out)
 
-    leaves : (run : List Happening) (left : List (List ℕ)) (all : Bool) (p : Process B K) (message : List ℕ) (exchanges : List Exchange) → IsOfOneRun run left all p → outstanding p.core ≡ Some message
-        → IsSent p.link message exchanges → (b : List ℕ) → IsAmong b (bodies_of exchanges) → IsOfRun run p b
-    leaves run left all p message exchanges is out sent b among = elim (of_sent p.link message exchanges sent b among) [
-      | inl kept ↦ record { sent = is.sent b (among_front p.link.kept p.link.held b kept); either = inl kept }
-      | inr fetch ↦ record {
-        sent = message_sent run left all p message b is out fetch.0;
-        either = inr (out ∙ ap (λ (m : List ℕ). Some m) (sym fetch.0), subst (IsPathFetch p.link.device) (sym fetch.0) fetch.1);
-      }
-    ]
-
-    none_leaves : (run : List Happening) (p : Process B K) (exchanges : List Exchange) → exchanges ≡ [] → (b : List ℕ) → IsAmong b (bodies_of exchanges) → IsOfRun run p b
+    none_leaves : (run : List Happening) (p : Process B K) (exchanges : List Exchange) → exchanges ≡ [] → (b : List ℕ) → IsAmong b (bodies_of exchanges) → IsOfRun v.scheme run p b
     none_leaves run p exchanges none b among = absurd (subst (λ (xs : List Exchange). IsAmong b (bodies_of xs)) none among)
 
+    kept_leaves : (run : List Happening) (left : List (List ℕ)) (all : Bool) (p : Process B K) (b : List ℕ) → IsOfOneRun run left all p → IsAmong b p.link.kept → IsOfRun v.scheme run p b
+    kept_leaves run left all p b is kept = inl (record { sent = is.sent b (among_front p.link.kept p.link.held b kept); either = inl kept })
+
+    leaves : (run : List Happening) (left : List (List ℕ)) (all : Bool) (p : Process B K) (message : List ℕ) (exchanges : List Exchange) → IsOfOneRun run left all p → outstanding p.core ≡ Some message
+        → IsSent p.link message exchanges → (b : List ℕ) → IsAmong b (bodies_of exchanges) → IsOfRun v.scheme run p b
+    leaves run left all p message exchanges is out sent b among = elim (of_sent p.link message exchanges sent b among) [
+      | inl kept ↦ kept_leaves run left all p b is kept
+      | inr fetch ↦ inl (record {
+        sent = message_sent run left all p message b is out fetch.0;
+        either = inr (out ∙ ap (λ (m : List ℕ). Some m) (sym fetch.0), subst (IsPathFetch p.link.device) (sym fetch.0) fetch.1);
+      })
+    ]
+
+    -- what goes ahead
+    gone : (run : List Happening) (left : List (List ℕ)) (all : Bool) (p : Process B K) (exchanges : List Exchange) → IsOfOneRun run left all p
+        → AreSentAhead p.link (next_bodies v.scheme.device p.core) exchanges → (b : List ℕ) → IsAmong b (bodies_of exchanges) → IsOfRun v.scheme run p b
+    gone run left all p exchanges is (inl none) b among = none_leaves run p exchanges none b among
+    gone run left all p exchanges is (inr sent) b among =
+        let bodies : List (List ℕ) = next_bodies v.scheme.device p.core in
+        elim (among_either p.link.kept bodies b (among_all (bodies_of exchanges) (p.link.kept ++ bodies) b sent.1 among)) [
+          | inl kept ↦ kept_leaves run left all p b is kept
+          | inr next ↦ inr (next, (all_among (IsPathFetch p.link.device) bodies (b ∷ []) sent.0 (next, tt)).0)
+        ]
+
     -- so it is a STORE that is kept, or a FETCH
-    either_leaves : (run : List Happening) (left : List (List ℕ)) (all : Bool) (p : Process B K) (b : List ℕ) → IsOfOneRun run left all p → IsOfRun run p b
+    either_leaves : (run : List Happening) (left : List (List ℕ)) (all : Bool) (p : Process B K) (b : List ℕ) → IsOfOneRun run left all p → IsOfRun v.scheme run p b
         → IsAmong b p.link.kept ⊎ IsPathFetch v.scheme.device b
-    either_leaves run left all p b is of =
+    either_leaves run left all p b is (inl of) =
         elim of.either [ inl kept ↦ inl kept | inr fetch ↦ inr (subst (λ (d : Sizes). IsPathFetch d b) is.device_is fetch.1) ]
+    either_leaves run left all p b is (inr next) = inr (subst (λ (d : Sizes). IsPathFetch d b) is.device_is next.1)
+
+    -- and the run has sent it, or it is a FETCH
+    left_by_now : (run : List Happening) (left : List (List ℕ)) (all : Bool) (p : Process B K) (b : List ℕ) → IsOfOneRun run left all p → IsOfRun v.scheme run p b
+        → IsAmong b (sends_of run) ⊎ IsPathFetch v.scheme.device b
+    left_by_now run left all p b is (inl of) = inl of.sent
+    left_by_now run left all p b is (inr next) = inr (subst (λ (d : Sizes). IsPathFetch d b) is.device_is next.1)
 
     act_leaves : (run : List Happening) (left : List (List ℕ)) (all : Bool) (p q : Process B K) (act : Act) → IsOfOneRun run left all p → Does v.scheme batches reads_back p act q
-        → (b : List ℕ) → IsAmong b (bodies_of (exchanges_of act)) → IsOfRun run p b
+        → (b : List ℕ) → IsAmong b (bodies_of (exchanges_of act)) → IsOfRun v.scheme run p b
     act_leaves run left all p q (Hears event x) is does b among = absurd among
     act_leaves run left all p q (Calls o exchanges x) is does b among =
         leaves run left all p does.0.0 exchanges is does.0.1 (sent_by batches p.link q.link does.0.0 o exchanges does.0.2 are) b among
     act_leaves run left all p q (Misses o exchanges) is does b among =
         leaves run left all p does.0.0 exchanges is does.0.1 (sent_by batches p.link q.link does.0.0 o exchanges does.0.2 are) b among
+    act_leaves run left all p q (GoesAhead exchanges) is does b among =
+        gone run left all p exchanges is (ahead_sent batches are p.link q.link (next_bodies v.scheme.device p.core) exchanges does.0.0) b among
     act_leaves run left all p q (Keeps true) is does b among = absurd among
     act_leaves run left all p q (Keeps false) is does b among = absurd among
 
     end_leaves : (run : List Happening) (left : List (List ℕ)) (all : Bool) (p : Process B K) (act : Act) (bytes : List ℕ) (exchanges : List Exchange) → IsOfOneRun run left all p
-        → EndsIn v.scheme batches reads_back p act bytes exchanges → (b : List ℕ) → IsAmong b (bodies_of exchanges) → IsOfRun run p b
+        → EndsIn v.scheme batches reads_back p act bytes exchanges → (b : List ℕ) → IsAmong b (bodies_of exchanges) → IsOfRun v.scheme run p b
     end_leaves run left all p (Hears event x) bytes exchanges is ends b among = none_leaves run p exchanges ends.1 b among
     end_leaves run left all p (Calls o xs x) bytes exchanges is ends b among = leaves run left all p ends.0 exchanges is ends.1 ends.3 b among
     end_leaves run left all p (Misses o xs) bytes exchanges is ends b among = leaves run left all p ends.0 exchanges is ends.1 ends.3 b among
+    end_leaves run left all p (GoesAhead xs) bytes exchanges is ends b among = gone run left all p exchanges is ends.1 b among
     end_leaves run left all p (Keeps done) bytes exchanges is ends b among = none_leaves run p exchanges ends.1 b among
 
     -- one deed
@@ -195,7 +221,7 @@ module _ (v : Setting) (trees : List Tree) (device : IsDevice v.scheme.device) (
         → outstanding p.core ≡ Some message → RoundCall batches p.link message o exchanges q.link → q.core ≡ p.core → q.keeper ≡ p.keeper
         → IsOfOneRun run (left ++ bodies_of exchanges) all q
     called run left all p q message o exchanges is out call core keeper =
-        let of : (b : List ℕ) → IsAmong b (bodies_of exchanges) → IsOfRun run p b =
+        let of : (b : List ℕ) → IsAmong b (bodies_of exchanges) → IsOfRun v.scheme run p b =
         leaves run left all p message exchanges is out (sent_by batches p.link q.link message o exchanges call are) in
         record {
           device_is = call.device ∙ is.device_is;
@@ -204,10 +230,35 @@ module _ (v : Setting) (trees : List Tree) (device : IsDevice v.scheme.device) (
             | inl was ↦ is.sent b was
             | inr same ↦ message_sent run left all p message b is out same
           ];
-          left_sent = λ b among. elim (among_either left (bodies_of exchanges) b among) [ inl was ↦ is.left_sent b was | inr now ↦ inl (of b now).sent ];
+          left_sent = λ b among. elim (among_either left (bodies_of exchanges) b among) [
+            | inl was ↦ is.left_sent b was
+            | inr now ↦ left_by_now run left all p b is (of b now)
+          ];
           kept = λ bytes back.
               kept_fewer run left (bodies_of exchanges) p.link.kept q.link.kept all bytes (λ b among. either_leaves run left all p b is (of b among))
               (fewer_by batches p.link q.link message o exchanges call) (is.kept bytes (subst (λ (j : K). reads_back j bytes) keeper back));
+        }
+
+    gone_on : (run : List Happening) (left : List (List ℕ)) (all : Bool) (p q : Process B K) (exchanges : List Exchange) → IsOfOneRun run left all p
+        → WentAhead batches p.link (next_bodies v.scheme.device p.core) exchanges q.link → q.core ≡ p.core → q.keeper ≡ p.keeper → IsOfOneRun run (left ++ bodies_of exchanges) all q
+    gone_on run left all p q exchanges is went core keeper =
+        let bodies : List (List ℕ) = next_bodies v.scheme.device p.core in
+        let of : (b : List ℕ) → IsAmong b (bodies_of exchanges) → IsOfRun v.scheme run p b =
+        gone run left all p exchanges is (ahead_sent batches are p.link q.link bodies exchanges went) in
+        record {
+          device_is = went.device ∙ is.device_is;
+          leads = subst (Leads v.scheme (new_state v trees) run) (sym core) is.leads;
+          sent = λ b among. is.sent b (elim (among_either q.link.kept q.link.held b among) [
+            | inl kept ↦ among_front p.link.kept p.link.held b (ahead_fewer batches p.link q.link bodies exchanges went b kept)
+            | inr held ↦ among_back p.link.kept p.link.held b (subst (IsAmong b) went.held held)
+          ]);
+          left_sent = λ b among. elim (among_either left (bodies_of exchanges) b among) [
+            | inl was ↦ is.left_sent b was
+            | inr now ↦ left_by_now run left all p b is (of b now)
+          ];
+          kept = λ bytes back.
+              kept_fewer run left (bodies_of exchanges) p.link.kept q.link.kept all bytes (λ b among. either_leaves run left all p b is (of b among))
+              (ahead_fewer batches p.link q.link bodies exchanges went) (is.kept bytes (subst (λ (j : K). reads_back j bytes) keeper back));
         }
 
     kept_anew : (run : List Happening) (left : List (List ℕ)) (all : Bool) (p q : Process B K) → IsOfOneRun run left all p → Does v.scheme batches reads_back p (Keeps true) q
@@ -255,6 +306,8 @@ module _ (v : Setting) (trees : List Tree) (device : IsDevice v.scheme.device) (
         (called run left all p mid does.0.0 o exchanges is does.0.1 does.0.2 refl refl) (λ e. (e, outcome_is_none o)) does.0.3 refl does.1
     deed_done run left all (Acts (Misses o exchanges)) p q is does =
         none_heard run (left ++ bodies_of exchanges) all q (called run left all p q does.0.0 o exchanges is does.0.1 does.0.2 does.0.3 does.1)
+    deed_done run left all (Acts (GoesAhead exchanges)) p q is does =
+        none_heard run (left ++ bodies_of exchanges) all q (gone_on run left all p q exchanges is does.0.0 does.0.1 does.1)
     deed_done run left all (Acts (Keeps true)) p q is does = none_heard run (left ++ []) true q (none_left run left true q (kept_anew run left all p q is does))
     deed_done run left all (Acts (Keeps false)) p q is does = none_heard run (left ++ []) all q (none_left run left all q (unkept run left all p q is does))
 
@@ -273,10 +326,11 @@ module _ (v : Setting) (trees : List Tree) (device : IsDevice v.scheme.device) (
     kept_in run left all p bytes (Hears event x) exchanges is ends = is.kept bytes ends.0
     kept_in run left all p bytes (Calls o xs x) exchanges is ends = is.kept bytes ends.2
     kept_in run left all p bytes (Misses o xs) exchanges is ends = is.kept bytes ends.2
+    kept_in run left all p bytes (GoesAhead xs) exchanges is ends = is.kept bytes ends.0
     kept_in run left all p bytes (Keeps done) exchanges is ends = handed run left all p is bytes ends.0
 
     ends_leave : (run : List Happening) (left : List (List ℕ)) (all : Bool) (p : Process B K) (bytes : List ℕ) (exchanges : List Exchange) → IsOfOneRun run left all p
-        → Ends v.scheme batches reads_back p bytes exchanges → (b : List ℕ) → IsAmong b (bodies_of exchanges) → IsOfRun run p b
+        → Ends v.scheme batches reads_back p bytes exchanges → (b : List ℕ) → IsAmong b (bodies_of exchanges) → IsOfRun v.scheme run p b
     ends_leave run left all p bytes exchanges is (inl now) b among = none_leaves run p exchanges now.1 b among
     ends_leave run left all p bytes exchanges is (inr act) b among = end_leaves run left all p act.0 bytes exchanges is act.1 b among
 

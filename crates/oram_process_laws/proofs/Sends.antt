@@ -23,12 +23,13 @@ use Rattle.oram_session.proofs.CoreSteps.{heard_is, stalled}
 use Rattle.oram_session.proofs.Honesty.{waits_by}
 use Rattle.oram_link_laws.specs.Repair.{AreAmong, IsAmong}
 use Rattle.oram_link_laws.specs.Runs.{Exchange, bodies_of}
-use Rattle.oram_rounds.specs.Batches.{BatchOutcome, IsBatch, answered}
+use Rattle.oram_rounds.specs.Batches.{BatchOutcome}
 use Rattle.oram_rounds.specs.Law.{AreBatches}
 use Rattle.oram_process_laws.specs.Lives.{Happening, Leads, sends_of}
 use Rattle.oram_rounds.specs.PathMessages.{IsPathFetch}
 use Rattle.oram_rounds.specs.Process.{IsSent}
 use Rattle.oram_rounds.specs.Rounds.{Gives, Round, RoundCall, waiting}
+use Rattle.oram_rounds.proofs.Sent.{batch_among}
 use Rattle.oram_rounds.proofs.Tries.{among_front}
 
 -- one of several bodies
@@ -42,7 +43,7 @@ among_either [] rest b among = inr among
 among_either (x ∷ front) rest b (inl same) = inl (inl same)
 among_either (x ∷ front) rest b (inr later) = elim (among_either front rest b later) [ inl here ↦ inl (inr here) | inr there ↦ inr there ]
 
-among_all : (bodies all : List (List ℕ)) (b : List ℕ) → AreAmong bodies all → IsAmong b bodies → IsAmong b all
+pub among_all : (bodies all : List (List ℕ)) (b : List ℕ) → AreAmong bodies all → IsAmong b bodies → IsAmong b all
 among_all [] all b are among = absurd among
 among_all (x ∷ bodies) all b are (inl same) = subst (λ (y : List ℕ). IsAmong y all) (sym same) are.0
 among_all (x ∷ bodies) all b are (inr later) = among_all bodies all b are.1 later
@@ -166,27 +167,13 @@ of_sent l message exchanges (inr fetch) b among =
       | inr (inr none) ↦ absurd none
     ]
 
-joined_among : (xs ys : List Exchange) (all : List (List ℕ)) → AreAmong (bodies_of xs) all → AreAmong (bodies_of ys) all → AreAmong (bodies_of (xs ++ ys)) all
-joined_among [] ys all first second = second
-joined_among (e ∷ xs) ys all first second = (first.0, joined_among xs ys all first.1 second)
-
-answered_among : (bodies answers all : List (List ℕ)) → ((b : List ℕ) → IsAmong b bodies → IsAmong b all) → AreAmong (bodies_of (answered bodies answers)) all
-answered_among [] answers all inside = tt
-answered_among (b ∷ bodies) [] all inside = tt
-answered_among (b ∷ bodies) (a ∷ answers) all inside = (inside b (inl refl), answered_among bodies answers all (λ x k. inside x (inr k)))
-
-batch_among : (bodies : List (List ℕ)) (o : BatchOutcome) (exchanges : List Exchange) → IsBatch bodies o exchanges → AreAmong (bodies_of exchanges) bodies
-batch_among bodies (Err fault) exchanges batch = batch
-batch_among bodies (Ok answers) exchanges batch =
-    let P : List Exchange → Type 0 = λ xs. AreAmong (bodies_of xs) bodies in
-    subst P (sym batch.3) (joined_among batch.1 (answered bodies answers) bodies batch.2 (answered_among bodies answers bodies (λ x k. k)))
-
 module _ {B : Type 0} (batches : B → List (List ℕ) → BatchOutcome → List Exchange → B → Type 0) (l m : Round B) (message : List ℕ) (o : Outcome) (exchanges : List Exchange) (call : RoundCall batches l message o exchanges m) where
   pub sent_by : AreBatches batches → IsSent l message exchanges
   sent_by are = elim call.does [
     | inl holds ↦ inl holds.none
     | inr (inl f) ↦ inr (f.path, batch_among (l.kept ++ message ∷ []) f.outcome exchanges (are l.inner m.inner (l.kept ++ message ∷ []) f.outcome exchanges f.batch))
-    | inr (inr declines) ↦ inl declines.none
+    | inr (inr (inl declines)) ↦ inl declines.none
+    | inr (inr (inr takes)) ↦ inl takes.none
   ]
 
   -- a FETCH leaves the STOREs that are kept, or none of them
@@ -199,14 +186,20 @@ module _ {B : Type 0} (batches : B → List (List ℕ) → BatchOutcome → List
   kept_by = elim call.does [
     | inl holds ↦ inl holds.kept
     | inr (inl f) ↦ left_by f.outcome f.path f.gives
-    | inr (inr declines) ↦ inl declines.kept
+    | inr (inr (inl declines)) ↦ inl declines.kept
+    | inr (inr (inr takes)) ↦ inl takes.kept
   ]
 
   pub fewer_by : (b : List ℕ) → IsAmong b m.kept → IsAmong b l.kept
   fewer_by b among = elim kept_by [ inl same ↦ subst (IsAmong b) same among | inr none ↦ absurd (subst (IsAmong b) none among) ]
 
   held_by : (m.held ≡ l.held) ⊎ (m.held ≡ l.held ++ message ∷ [])
-  held_by = elim call.does [ inl holds ↦ inr holds.held | inr (inl f) ↦ inl f.held | inr (inr declines) ↦ inl declines.held ]
+  held_by = elim call.does [
+    | inl holds ↦ inr holds.held
+    | inr (inl f) ↦ inl f.held
+    | inr (inr (inl declines)) ↦ inl declines.held
+    | inr (inr (inr takes)) ↦ inl takes.held
+  ]
 
   -- all that waits has waited before, or is the message
   pub waits_still : (b : List ℕ) → IsAmong b (waiting m) → IsAmong b (waiting l) ⊎ (b ≡ message)

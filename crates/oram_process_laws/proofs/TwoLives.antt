@@ -1,10 +1,12 @@
--- A process is asked to read a block, keeps itself and ends while its FETCH is sent; another one begins with its file and
--- sends the FETCH again.
+-- A process is asked to read a block, keeps itself and ends while its FETCH goes ahead; another one begins with its file and
+-- sends the FETCH ahead again.
 use Rattle.std.proofs.Common.{◌≡◌, ℕ, ◌^◌, ◌<◌, arith, Bool, true, false, Option, Some, None, unwrap_or, List, [], ◌∷◌, ◌++◌, length, replicate, Ok, refl, sym, ap, ◌∙◌, subst, inl, inr}
 use Rattle.std.specs.Prelude.{MatchBool}
+use Rattle.std.specs.List.{AllByRecursion}
 use Rattle.oram_geometry.specs.Least.{least_from}
 use Rattle.oram_geometry.specs.Sizes.{blocks_in, level_for, trees_of}
 use Rattle.oram_wire.specs.HostMessages.{fetch_body, payload_answer}
+use Rattle.oram_semantics.specs.NextFetches.{first_fetches}
 use Rattle.oram_semantics.specs.Progress.{Setting}
 use Rattle.oram_semantics.specs.Moves.{Fits, moved, on_submission}
 use Rattle.oram_semantics.specs.Run.{is_over, refusal_of}
@@ -22,6 +24,7 @@ use Rattle.oram_session.specs.Links.{DirectCall, ToServer}
 use Rattle.oram_session.specs.Settled.{outstanding}
 use Rattle.oram_link_laws.specs.Examples.{new_core, new_server, one_block}
 use Rattle.oram_link_laws.proofs.Device.{new_device_example, no_depth, one_tree, session_example}
+use Rattle.oram_link_laws.specs.Repair.{AreAmong}
 use Rattle.oram_link_laws.specs.Runs.{LinkRun}
 use Rattle.oram_rounds.specs.Examples.{DirectBatches, zeros_fetched}
 use Rattle.oram_rounds.specs.Files.{IsFile}
@@ -29,9 +32,9 @@ use Rattle.oram_process_laws.specs.Lives.{Follows, GoesAll, Happening, Leads, Li
 use Rattle.oram_process_laws.specs.LivesExample.{TwoLivesExample, asked_core, first_deeds, one_read, process_with, reads, reads_kept, second_deeds, shown_in}
 use Rattle.oram_rounds.specs.Overlay.{LaysAllOver, holds_path}
 use Rattle.oram_rounds.specs.PathMessages.{IsPathFetch}
-use Rattle.oram_rounds.specs.Process.{Process}
-use Rattle.oram_rounds.specs.Process.Act.{Misses}
-use Rattle.oram_rounds.specs.Rounds.{RoundCall}
+use Rattle.oram_rounds.specs.Process.{Process, next_bodies}
+use Rattle.oram_rounds.specs.Process.Act.{GoesAhead}
+use Rattle.oram_rounds.specs.Rounds.{RoundCall, WentAhead}
 use Rattle.oram_rounds.proofs.Example.{one_waits_example}
 use Rattle.oram_process_laws.proofs.Lives.{right_by}
 
@@ -92,7 +95,8 @@ ran : LinkRun DirectCall new_server zeros_fetched new_server
 ran = elim one_waits_example.2.does [
   | inl holds ↦ absurd (let some = holds.none in cc)
   | inr (inl f) ↦ f.batch.0
-  | inr (inr declines) ↦ absurd (let some = declines.none in cc)
+  | inr (inr (inl declines)) ↦ absurd (let some = declines.none in cc)
+  | inr (inr (inr takes)) ↦ absurd (let some = takes.none in cc)
 ]
 
 -- where no STORE waits, the core receives what the host gives
@@ -104,25 +108,48 @@ unlaid false bytes = refl
 abbrev now : Process ToServer (List (List ℕ) × State)
 now = process_with asked_core asked_core
 
-called : RoundCall DirectBatches now.link (fetch_body 0 0) (Ok (payload_answer (replicate 88 0))) zeros_fetched now.link
-called =
-    let answer : List ℕ = payload_answer (replicate 88 0) in
-    record {
+-- the same, where the FETCH has gone ahead
+abbrev now_ahead : Process ToServer (List (List ℕ) × State)
+now_ahead = record now { link = record now.link { ahead = zeros_fetched } }
+
+next_is : next_bodies one_block.device asked_core ≡ fetch_body 0 0 ∷ []
+unfolding first_fetches trees_of blocks_in level_for least_from
+next_is = refl
+
+abbrev answer : List ℕ
+answer = payload_answer (replicate 88 0)
+
+went : WentAhead DirectBatches now.link (next_bodies one_block.device asked_core) zeros_fetched now_ahead.link
+went =
+    subst (λ (bodies : List (List ℕ)). WentAhead DirectBatches now.link bodies zeros_fetched now_ahead.link) (sym next_is) (record {
       device = refl;
       record_len = refl;
-      does = inr (inl (record {
-        path = path;
+      held = refl;
+      does = inl (record {
+        paths = (path, tt);
         outcome = Ok (answer ∷ []);
         batch = (ran, (refl, [], tt, refl));
-        held = refl;
-        gives = record {
-          acks = [];
-          answer = answer;
-          all = refl;
-          either = inl (tt, refl, answer, refl, unlaid (holds_path one_block.device (record_len one_block) 0 0 answer) (replicate 88 0));
-        };
-      }));
-    }
+        gives = record { acks = []; given = answer ∷ []; all = refl; count = refl; either = inl (tt, refl, refl) };
+      });
+    })
+
+called : RoundCall DirectBatches now_ahead.link (fetch_body 0 0) (Ok answer) [] now.link
+called = record {
+  device = refl;
+  record_len = refl;
+  does = inr (inr (inr (record {
+    path = path;
+    answer = answer;
+    next = refl;
+    given = answer;
+    told = refl;
+    over = unlaid (holds_path one_block.device (record_len one_block) 0 0 answer) (replicate 88 0);
+    none = refl;
+    same = refl;
+    kept = refl;
+    held = refl;
+  })));
+}
 
 -- what the processes do
 
@@ -133,16 +160,16 @@ second_goes : GoesAll one_block DirectBatches reads_kept now second_deeds now
 second_goes = (
   process_with lost_core asked_core,
   ((inl refl, loses, refl), refl),
-  (now, ((inr refl, sends_again, refl), refl), (now, (λ bytes back. back, refl, refl), (now, ((fetch_body 0 0, awaits, called, refl), refl), refl))),
+  (now, ((inr refl, sends_again, refl), refl), (now, (λ bytes back. back, refl, refl), (now_ahead, ((went, refl), refl), (now, ((fetch_body 0 0, awaits, called, refl), refl), refl)))),
 )
 
--- The first process ends while its FETCH is sent.
+-- The first process ends while its FETCH goes ahead.
 follows : (bytes : List ℕ) → length bytes < 2 ^ 64 → IsFile one_block bytes [] asked_core → Follows one_block DirectBatches reads_kept now now
 follows bytes few file = record {
   bytes = bytes;
   few = few;
   exchanges = zeros_fetched;
-  ends = inr (Misses (Ok (payload_answer (replicate 88 0))) zeros_fetched, (fetch_body 0 0, awaits, file, inr (path, (inl refl, tt))));
+  ends = inr (GoesAhead zeros_fetched, (file, inr (subst (AllByRecursion (IsPathFetch one_block.device)) (sym next_is) (path, tt), subst (AreAmong (fetch_body 0 0 ∷ [])) (sym next_is) (inl refl, tt))));
   stores = [];
   core = asked_core;
   file = file;
@@ -174,5 +201,6 @@ two_lives_example =
         right_by v new.trees session_example.0 new.formatted run asked_core (subst (λ (s : State). Leads one_block s run asked_core) new.state leads),
         (refl, (refl, (refl, tt))),
         (refl, (refl, tt)),
+        next_is,
       ),
     )

@@ -21,8 +21,8 @@ use Rattle.oram_rounds.specs.Batches.{BatchOutcome}
 use Rattle.oram_rounds.specs.Files.{IsFile}
 use Rattle.oram_rounds.specs.Law.{AreBatches}
 use Rattle.oram_rounds.specs.PathMessages.{IsPathFetch}
-use Rattle.oram_rounds.specs.Process.{Act, Does, EndsIn, Process, begun, exchanges_of}
-use Rattle.oram_rounds.specs.Process.Act.{Calls, Hears, Keeps, Misses}
+use Rattle.oram_rounds.specs.Process.{Act, Does, EndsIn, Process, begun, exchanges_of, next_bodies}
+use Rattle.oram_rounds.specs.Process.Act.{Calls, GoesAhead, Hears, Keeps, Misses}
 use Rattle.oram_rounds.specs.Rounds.{waiting}
 use Rattle.oram_rounds.specs.Start.{Asked, Submits}
 
@@ -61,6 +61,7 @@ happens_at (Asks a) = (record { event = Submit a.session a.command a.words; show
 happens_at (Acts (Hears event x)) = (record { event = event; shown = x }) ∷ []
 happens_at (Acts (Calls o exchanges x)) = (record { event = event_of o; shown = x }) ∷ []
 happens_at (Acts (Misses o exchanges)) = []
+happens_at (Acts (GoesAhead exchanges)) = []
 happens_at (Acts (Keeps done)) = []
 
 abbrev pub run_of : List Deed → List Happening
@@ -81,6 +82,7 @@ is_all_kept_after now (Asks a) = false
 is_all_kept_after now (Acts (Hears event x)) = now
 is_all_kept_after now (Acts (Calls o exchanges x)) = now
 is_all_kept_after now (Acts (Misses o exchanges)) = now
+is_all_kept_after now (Acts (GoesAhead exchanges)) = now
 is_all_kept_after now (Acts (Keeps true)) = true
 is_all_kept_after now (Acts (Keeps false)) = now
 
@@ -150,11 +152,15 @@ LivesAreOneRun {B} {K} batches reads_back = AreBatches batches
     → (before : List Happening) × IsRunBefore v.scheme batches reads_back (new_state v trees) n first lives before
     × ((deeds : List Deed) (p : Process B K) → GoesAll v.scheme batches reads_back first deeds p → IsRightRun v trees (before ++ run_of deeds) p.core)
 
--- A message that leaves a process is one that the run of its core has sent: a STORE that is kept, or the FETCH whose answer
--- the core waits for.
-pub record IsOfRun {B K : Type 0} (run : List Happening) (p : Process B K) (body : List ℕ) : Type 0 where
+-- A message that the run of a core has sent: a STORE that is kept, or the FETCH whose answer the core waits for.
+pub record IsSentInRun {B K : Type 0} (run : List Happening) (p : Process B K) (body : List ℕ) : Type 0 where
   pub sent : IsAmong body (sends_of run)
   pub either : IsAmong body p.link.kept ⊎ ((outstanding p.core ≡ Some body) × IsPathFetch p.link.device body)
+
+-- What leaves a process is such a message, or it goes ahead: it is the first FETCH of a command that the run has accepted,
+-- and the run will send it next (NextFetchesAreEntries).
+abbrev pub IsOfRun : {B K : Type 0} → Scheme → List Happening → Process B K → List ℕ → Type 0
+IsOfRun v run p body = IsSentInRun run p body ⊎ (IsAmong body (next_bodies v.device p.core) × IsPathFetch p.link.device body)
 
 -- each of these messages is one that the run has sent, or a FETCH
 abbrev pub HasSentStores : Setting → List Happening → List (List ℕ) → Type 0
@@ -184,14 +190,15 @@ pub record KeepsToRun (v : Setting) (trees : List Tree) {B K : Type 0} (batches 
   pub left_sent : HasSentStores v run left
   pub waits : (body : List ℕ) → IsAmong body (waiting p.link) → IsAmong body (sends_of run)
   pub acts : (act : Act) (q : Process B K) → Does v.scheme batches reads_back p act q
-      → (body : List ℕ) → IsAmong body (bodies_of (exchanges_of act)) → IsOfRun run p body
+      → (body : List ℕ) → IsAmong body (bodies_of (exchanges_of act)) → IsOfRun v.scheme run p body
   pub ends : (bytes : List ℕ) (exchanges : List Exchange) → Ends v.scheme batches reads_back p bytes exchanges
-      → (body : List ℕ) → IsAmong body (bodies_of exchanges) → IsOfRun run p body
+      → (body : List ℕ) → IsAmong body (bodies_of exchanges) → IsOfRun v.scheme run p body
   pub kept : (bytes : List ℕ) (exchanges : List Exchange) → Ends v.scheme batches reads_back p bytes exchanges
       → IsKeptOnRun v trees run (left ++ bodies_of exchanges) p.link.kept all_kept bytes
 
--- However many processes there are: each message that leaves one of them is one that this run has sent by then. It is a STORE
--- of the file that is read back if the process ends then, or the FETCH that is outstanding. And each STORE that has left
+-- However many processes there are: each message that leaves one of them is one that this run has sent by then, or will send
+-- next. It is a STORE of the file that is read back if the process ends then, the FETCH that is outstanding, or the first
+-- FETCH of a command that waits. And each STORE that has left
 -- any of the processes so far is one that this run has sent, so a nonce seals one record in all of them.
 -- What a process has heard since its last keeping is forgotten when it ends, so a FETCH may have left that is of no later
 -- run. But if no command was submitted since then, as none is in a round, the run of that FETCH has no other commands than

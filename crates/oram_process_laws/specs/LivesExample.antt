@@ -1,8 +1,8 @@
 -- An example that meets the premises of the laws about lives and about kept commands: two processes over a server in memory, with a device of one
 -- block.
-use Rattle.std.specs.Prelude.{ℕ, ◌<◌, ◌^◌, true, List, [], ◌∷◌, ◌++◌, length, replicate, Ok}
+use Rattle.std.specs.Prelude.{◌≡◌, ℕ, ◌<◌, ◌^◌, true, List, [], ◌∷◌, ◌++◌, length, replicate, Ok}
 use Rattle.oram_geometry.specs.Sizes.{IsDevice}
-use Rattle.oram_wire.specs.HostMessages.{payload_answer}
+use Rattle.oram_wire.specs.HostMessages.{fetch_body, payload_answer}
 use Rattle.oram_semantics.specs.Formatting.{IsFormatted}
 use Rattle.oram_semantics.specs.Law.{new_state}
 use Rattle.oram_semantics.specs.Progress.{Setting}
@@ -21,8 +21,8 @@ use Rattle.oram_rounds.specs.Law.{AreBatches}
 use Rattle.oram_process_laws.specs.KeptCommands.{ShowsNoPair}
 use Rattle.oram_process_laws.specs.Lives.{Deed, GoesAll, IsRightRun, Lives, SubmitsNone, run_of}
 use Rattle.oram_process_laws.specs.Lives.Deed.{Acts, Asks}
-use Rattle.oram_rounds.specs.Process.{Process, begun}
-use Rattle.oram_rounds.specs.Process.Act.{Hears, Keeps, Misses}
+use Rattle.oram_rounds.specs.Process.{Process, begun, next_bodies}
+use Rattle.oram_rounds.specs.Process.Act.{GoesAhead, Hears, Keeps, Misses}
 use Rattle.oram_rounds.specs.Start.{Asked}
 
 -- what a core shows
@@ -51,11 +51,11 @@ process_with core kept = begun new_server one_block [] core ([], kept)
 abbrev pub first_deeds : List Deed
 first_deeds = Asks reads ∷ Acts (Keeps true) ∷ []
 
--- The second one begins with its file. It counts the FETCH as lost, sends it again once it has kept itself, and memory runs
--- out before the core hears of the answer.
+-- The second one begins with its file. It counts the FETCH as lost, sends it ahead once it has kept itself, and memory runs out
+-- before the core, which asks for it, hears of the answer.
 abbrev pub second_deeds : List Deed
 second_deeds = Acts (Hears Reopen (shown_in (stalled_by asked_core))) ∷ Acts (Hears Retry (shown_in (resent_by (stalled_by asked_core).state)))
-    ∷ Acts (Keeps true) ∷ Acts (Misses (Ok (payload_answer (replicate 88 0))) zeros_fetched) ∷ []
+    ∷ Acts (Keeps true) ∷ Acts (GoesAhead zeros_fetched) ∷ Acts (Misses (Ok (payload_answer (replicate 88 0))) []) ∷ []
 
 abbrev pub TwoLivesExample : Type 0
 TwoLivesExample = (format : List (List ℕ)) × (trees : List Tree) × (let v : Setting = record { scheme = one_block; format = format } in
@@ -65,4 +65,5 @@ TwoLivesExample = (format : List (List ℕ)) × (trees : List Tree) × (let v : 
     → Lives one_block DirectBatches reads_kept (new_state v trees) 1 (process_with asked_core asked_core))
     × GoesAll one_block DirectBatches reads_kept (process_with asked_core asked_core) second_deeds (process_with asked_core asked_core)
     × IsRightRun v trees (run_of first_deeds ++ run_of second_deeds) asked_core
-    × ShowsNoPair v [] (run_of first_deeds ++ run_of second_deeds) × SubmitsNone (run_of second_deeds))
+    × ShowsNoPair v [] (run_of first_deeds ++ run_of second_deeds) × SubmitsNone (run_of second_deeds)
+    × (next_bodies one_block.device asked_core ≡ fetch_body 0 0 ∷ []))

@@ -1,5 +1,5 @@
 //! Laws about all processes of a device, one after the other.
-ghost use Rattle.oram_process_laws.specs.KeptCommands.{KeptCommandsFixMessages};
+ghost use Rattle.oram_process_laws.specs.KeptCommands.{KeptCommandsFixMessages, NextFetchesAreOfCommands};
 ghost use Rattle.oram_process_laws.specs.Lives.{LivesAreOneRun, MessagesAreOfOneRun};
 ghost use Rattle.oram_process_laws.specs.LivesExample.{TwoLivesExample};
 
@@ -12,8 +12,8 @@ pub fn lives_are_one_run<B: BatchLink, K: Keeper>()
     ensures { LivesAreOneRun B.batches K.reads_back }
 {}
 
-/// A law about definitions: each message that leaves one of these processes is one that this run has sent by then: a STORE
-/// that is kept, or the FETCH that is outstanding. Each STORE that has left any of them is one that this run has sent. What
+/// A law about definitions: each message that leaves one of these processes is one that this run has sent by then, a STORE
+/// that is kept or the FETCH that is outstanding; or it is the first FETCH of a command that waits. Each STORE that has left any of them is one that this run has sent. What
 /// is read back is a core that the run has led to on its way, with all STOREs that may leave.
 pub fn messages_are_of_one_run<B: BatchLink, K: Keeper>()
     ensures { MessagesAreOfOneRun B.batches K.reads_back }
@@ -27,9 +27,15 @@ pub fn kept_commands_fix_messages()
     ensures { KeptCommandsFixMessages }
 {}
 
+/// A law about definitions: the FETCHes that go ahead in a round, before the core asks for them, are messages of the commands
+/// that the run has accepted. So their paths are fixed by these commands and the tape too, however the round goes on.
+pub fn next_fetches_are_of_commands()
+    ensures { NextFetchesAreOfCommands }
+{}
+
 /// Two processes over a server in memory meet the premises of the laws about lives. The first one begins with a device as it
 /// was formatted, is asked to read its block, keeps itself and ends while its FETCH is sent. The second one begins with its
-/// file and sends the FETCH again.
+/// file, sends the FETCH ahead again, and its core asks for it then.
 pub fn two_lives_example()
     ensures { TwoLivesExample }
 {}

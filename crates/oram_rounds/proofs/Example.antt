@@ -17,10 +17,10 @@ use Rattle.oram_tree.specs.Content.{node_count}
 use Rattle.oram_link_laws.specs.Examples.{new_host, new_server, one_block}
 use Rattle.oram_link_laws.proofs.Device.{eighty_eight, no_depth, one_tree, session_example}
 use Rattle.oram_link_laws.specs.Overlay.{IsLaidOver}
-use Rattle.oram_rounds.specs.Examples.{DirectBatches, OneWaitsExample, one_waits, zeros_fetched}
-use Rattle.oram_rounds.specs.Rounds.{RoundCall}
+use Rattle.oram_rounds.specs.Examples.{DirectBatches, OneWaitsExample, one_ahead, one_waits, zeros_fetched}
+use Rattle.oram_rounds.specs.Rounds.{RoundCall, WentAhead}
 use Rattle.oram_rounds.specs.CatchUp.{CatchesUp, left_by}
-use Rattle.oram_rounds.specs.Law.{IsStocked}
+use Rattle.oram_rounds.specs.Law.{AreAhead, IsStocked}
 use Rattle.oram_rounds.specs.Overlay.{IsOverlaid, LaysAllOver, holds_path}
 use Rattle.oram_rounds.specs.PathMessages.{IsPathFetch, IsPathStore}
 use Rattle.oram_rounds.proofs.CatchUp.{put_catches}
@@ -140,9 +140,54 @@ call = record {
     outcome = Ok (payload_answer zeros ∷ []);
     batch = ((new_server, record { answer = (Payload zeros, gives, omega arith, refl); faults = refl }, refl), (refl, [], tt, refl));
     held = refl;
+    ahead = refl;
     gives = record { acks = []; answer = payload_answer zeros; all = refl; either = inl (tt, refl, payload_answer ones, refl, overlaid) };
   }));
 }
 
+-- the FETCH goes ahead, and the core asks for it then
+
+went : WentAhead DirectBatches one_waits (fetch_body 0 0 ∷ []) zeros_fetched one_ahead
+went = record {
+  device = refl;
+  record_len = refl;
+  held = refl;
+  does = inl (record {
+    paths = (fetches, tt);
+    outcome = Ok (payload_answer zeros ∷ []);
+    batch = ((new_server, record { answer = (Payload zeros, gives, omega arith, refl); faults = refl }, refl), (refl, [], tt, refl));
+    gives = record { acks = []; given = payload_answer zeros ∷ []; all = refl; count = refl; either = inl (tt, refl, refl) };
+  });
+}
+
+are_ahead : (may_lie : Bool) → AreAhead may_lie one_block new_host one_ahead
+are_ahead may_lie = record { each = ((fetches, (new_host, inl (Payload zeros, omega arith, refl, gives))), tt); alone = inr refl }
+
+taken : RoundCall DirectBatches one_ahead (fetch_body 0 0) (Ok (payload_answer ones)) [] one_waits
+taken = record {
+  device = refl;
+  record_len = refl;
+  does = inr (inr (inr (record {
+    path = fetches;
+    answer = payload_answer zeros;
+    next = refl;
+    given = payload_answer ones;
+    told = refl;
+    over = overlaid;
+    none = refl;
+    same = refl;
+    kept = refl;
+    held = refl;
+  })));
+}
+
 pub one_waits_example : OneWaitsExample
-one_waits_example = (λ l m bodies o exchanges h. h.1, (caught.0, caught.1, stocked), call, λ may_lie. (new_host, inl (Payload zeros, omega arith, refl, gives), refl))
+one_waits_example = (
+  λ l m bodies o exchanges h. h.1,
+  (caught.0, caught.1, stocked),
+  call,
+  λ may_lie. (new_host, inl (Payload zeros, omega arith, refl, gives), refl),
+  went,
+  λ may_lie. (record { each = tt; alone = inl refl }, are_ahead may_lie),
+  taken,
+)

@@ -3,11 +3,15 @@ pub mod Folds
 pub mod LeftRecords
 pub mod KeptPaths
 pub mod CatchUp
+pub mod Sent
+pub mod Unchanged
 pub mod Calls
 pub mod Round
 pub mod LaidRecords
 pub mod Tries
+pub mod GoneAhead
 pub mod SentBodies
+pub mod Turned
 pub mod Example
 pub mod Steps
 pub mod Safety

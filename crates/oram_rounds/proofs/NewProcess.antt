@@ -1,5 +1,5 @@
 -- A process that begins with the device of one block as it was formatted.
-use Rattle.std.proofs.Common.{refl}
+use Rattle.std.proofs.Common.{refl, inl}
 use Rattle.oram_link_laws.specs.Examples.{new_core, new_host, new_server, one_block}
 use Rattle.oram_link_laws.proofs.Device.{session_example}
 use Rattle.oram_session.specs.Links.{ToServer}
@@ -14,7 +14,7 @@ new_process_example =
       session_example.0,
       held,
       λ may_lie. held_is_safe ToServer is_new_file may_lie one_block new_server new_core tt new_host zero_array held (λ bytes back. back),
-      (new_host, on.0, on.1),
+      λ may_lie. (new_host, on.0, on.1, record { each = tt; alone = inl refl }),
       (new_process, (λ bytes back. back, refl, refl), refl),
       λ may_lie. refl,
     )

@@ -23,17 +23,19 @@ use Rattle.oram_link_laws.specs.Runs.{Exchange}
 use Rattle.oram_link_laws.proofs.Exchanged.{folds_join, folds_split}
 use Rattle.oram_rounds.specs.Batches.{BatchOutcome}
 use Rattle.oram_rounds.specs.CatchUp.{CatchesUp, IsPlainCall, PlainRun}
-use Rattle.oram_rounds.specs.Law.{AreBatches}
-use Rattle.oram_rounds.specs.Process.{Act, Does, DoesAll, HaveFailed, HaveReplies, IsGoingOn, Process, RepliesAreTheArrays, exchanges_of, replies_of}
-use Rattle.oram_rounds.specs.Process.Act.{Calls, Hears, Keeps, Misses}
+use Rattle.oram_rounds.specs.Law.{AreAhead, AreBatches}
+use Rattle.oram_rounds.specs.Process.{Act, Does, DoesAll, HaveFailed, HaveReplies, IsGoingOn, Process, RepliesAreTheArrays, exchanges_of, next_bodies, replies_of}
+use Rattle.oram_rounds.specs.Process.Act.{Calls, GoesAhead, Hears, Keeps, Misses}
 use Rattle.oram_rounds.specs.Rounds.{Round, waiting}
 use Rattle.oram_rounds.specs.Service.{AreReplied, IsReplied, IsServed, Waiting as Waits}
+use Rattle.oram_rounds.proofs.GoneAhead.{ahead_is_of_the_host}
+use Rattle.oram_rounds.proofs.Unchanged.{none_ahead}
 use Rattle.oram_rounds.proofs.Safety.{IsIdleStep, called, lost_idles, reopen_honest, retried_idles, retry_honest, served_on}
 use Rattle.oram_rounds.proofs.Steps.{step_call, step_quiet}
 
 module _ {B K : Type 0} (batches : B → List (List ℕ) → BatchOutcome → List Exchange → B → Type 0) (reads_back : K → List ℕ → Type 0) (are : AreBatches batches) (may_lie : Bool) (v : Scheme) (device : IsDevice v.device) where
   abbrev Outcomes : Process B K → (ℕ → List ℕ) → List Reply → Process B K → Host → Type 0
-  Outcomes p array replies q host = HaveReplies v p array replies q host ⊎ HaveFailed may_lie v p array replies q
+  Outcomes p array replies q host = HaveReplies may_lie v p array replies q host ⊎ HaveFailed may_lie v p array replies q
 
   same_queue : (array : ℕ → List ℕ) (p q : List Submission) → q ≡ p → AreReplied v.device (array, p) [] (array, q)
   same_queue array p q same = ap (λ (queue : List Submission). let w : Waits = (array, queue) in w) (sym same)
@@ -58,28 +60,29 @@ module _ {B K : Type 0} (batches : B → List (List ℕ) → BatchOutcome → Li
       idle_event p q host array Retry x (retried_by p.core (status_in p.core)) (subst (λ (e : Event). Steps v p.core e x q.core) is step) refl
       (retried_idles p.core (status_in p.core)) (retry_honest (status_in p.core) p.core.message host) served
 
-  kept_on : (p q : Process B K) (host after : Host) (array : ℕ → List ℕ) → IsGoingOn v p host array → waiting p.link ≡ waiting q.link → q.core ≡ p.core → host ≡ after
-      → Outcomes p array [] q after
-  kept_on p q host after array on all same run =
+  kept_on : (p q : Process B K) (host after : Host) (array : ℕ → List ℕ) → IsGoingOn may_lie v p host array → waiting p.link ≡ waiting q.link → q.core ≡ p.core → host ≡ after
+      → AreAhead may_lie v after q.link → Outcomes p array [] q after
+  kept_on p q host after array on all same run ahead =
       let catches : CatchesUp v after (waiting q.link) on.0 =
       subst (λ (h : Host). CatchesUp v h (waiting q.link) on.0) run (subst (λ (stores : List (List ℕ)). CatchesUp v host stores on.0) all on.1) in
       inl (record {
         now = array;
-        goes_on = (on.0, catches, subst (λ (s : State). IsServed v s on.0 array) (sym same) on.2);
+        goes_on = (on.0, catches, subst (λ (s : State). IsServed v s on.0 array) (sym same) on.2, ahead);
         replied = same_queue array p.core.queue q.core.queue (ap (λ (s : State). s.queue) same);
       })
 
-  goes_on : (act : Act) (p q : Process B K) (host after : Host) (array : ℕ → List ℕ) → p.link.device ≡ v.device → p.link.record_len ≡ record_len v → IsGoingOn v p host array
+  goes_on : (act : Act) (p q : Process B K) (host after : Host) (array : ℕ → List ℕ) → p.link.device ≡ v.device → p.link.record_len ≡ record_len v → IsGoingOn may_lie v p host array
       → Does v batches reads_back p act q → PlainRun may_lie v host (exchanges_of act) after → Outcomes p array (replies_of act) q after
   goes_on (Hears event x) p q host after array dev len on does run =
       let t = told p q on.0 array event x does.0.0 does.0.1 on.2 in
       let catches : CatchesUp v after (waiting q.link) on.0 =
       subst (λ (h : Host). CatchesUp v h (waiting q.link) on.0) run (subst (λ (l : Round B). CatchesUp v host (waiting l) on.0) (sym does.0.2) on.1) in
-      inl (record { now = array; goes_on = (on.0, catches, t.0); replied = same_queue array p.core.queue q.core.queue t.2 })
+      let ahead : AreAhead may_lie v after q.link = subst (λ (h : Host). AreAhead may_lie v h q.link) run (subst (λ (l : Round B). AreAhead may_lie v host l) (sym does.0.2) on.3) in
+      inl (record { now = array; goes_on = (on.0, catches, t.0, ahead); replied = same_queue array p.core.queue q.core.queue t.2 })
   goes_on (Calls o exchanges x) p q host after array dev len on does run =
-      let c = called batches reads_back are may_lie v device p q.link host after on.0 array does.0.0 o exchanges dev len on.1 on.2 does.0.1 does.0.2 run in
+      let c = called batches reads_back are may_lie v device p q.link host after on.0 array does.0.0 o exchanges dev len on.1 on.3 on.2 does.0.1 does.0.2 run in
       elim (step_call may_lie v device p.core q.core on.0 c.next array x on.2 o c.waits does.0.3 c.heard) [
-        | inl went ↦ inl (record { now = went.now; goes_on = (c.next, c.catches, went.served); replied = went.replied })
+        | inl went ↦ inl (record { now = went.now; goes_on = (c.next, c.catches, went.served, c.ahead); replied = went.replied })
         | inr failed ↦ inr (record {
           lies = failed.0;
           failed = (failed.1.reason, failed.1.failure);
@@ -90,14 +93,23 @@ module _ {B K : Type 0} (batches : B → List (List ℕ) → BatchOutcome → Li
         })
       ]
   goes_on (Misses o exchanges) p q host after array dev len on does run =
-      let c = called batches reads_back are may_lie v device p q.link host after on.0 array does.0.0 o exchanges dev len on.1 on.2 does.0.1 does.0.2 run in
+      let c = called batches reads_back are may_lie v device p q.link host after on.0 array does.0.0 o exchanges dev len on.1 on.3 on.2 does.0.1 does.0.2 run in
       let served : IsServed v q.core c.next array =
       subst (λ (s : State). IsServed v s c.next array) (sym does.0.3) (served_on batches reads_back are may_lie v device p.core on.0 c.next array o c.waits on.2 c.heard) in
-      inl (record { now = array; goes_on = (c.next, c.catches, served); replied = same_queue array p.core.queue q.core.queue (ap (λ (s : State). s.queue) does.0.3) })
+      inl (record { now = array; goes_on = (c.next, c.catches, served, c.ahead); replied = same_queue array p.core.queue q.core.queue (ap (λ (s : State). s.queue) does.0.3) })
+  goes_on (GoesAhead exchanges) p q host after array dev len on does run =
+      let gone = ahead_is_of_the_host batches are may_lie v p.link q.link (next_bodies v.device p.core) exchanges host after on.0 dev on.1 does.0.0 run in
+      inl (record {
+        now = array;
+        goes_on = (on.0, gone.0, subst (λ (s : State). IsServed v s on.0 array) (sym does.0.1) on.2, gone.1);
+        replied = same_queue array p.core.queue q.core.queue (ap (λ (s : State). s.queue) does.0.1);
+      })
   goes_on (Keeps true) p q host after array dev len on does run =
       let all : waiting q.link ≡ waiting p.link = ap (λ (l : Round B). waiting l) does.2 ∙ append-nil (waiting p.link) in
-      kept_on p q host after array on (sym all) does.1 run
-  goes_on (Keeps false) p q host after array dev len on does run = kept_on p q host after array on (sym (ap (λ (l : Round B). waiting l) does.2)) does.1 run
+      kept_on p q host after array on (sym all) does.1 run (none_ahead may_lie v p.link q.link host after (ap (λ (l : Round B). l.ahead) does.2))
+  goes_on (Keeps false) p q host after array dev len on does run =
+      kept_on p q host after array on (sym (ap (λ (l : Round B). waiting l) does.2)) does.1 run
+      (subst (λ (h : Host). AreAhead may_lie v h q.link) run (subst (λ (l : Round B). AreAhead may_lie v host l) (sym does.2) on.3))
 
   -- a device that has failed stays so, and replies no more
 
@@ -123,6 +135,7 @@ module _ {B K : Type 0} (batches : B → List (List ℕ) → BatchOutcome → Li
       stays_failed acts does.0 q told.0 does.2
   stays_failed (Calls o exchanges x ∷ acts) p q failed does = absurd (failed_out p.core does.1.0.0 failed does.1.0.1)
   stays_failed (Misses o exchanges ∷ acts) p q failed does = absurd (failed_out p.core does.1.0.0 failed does.1.0.1)
+  stays_failed (GoesAhead exchanges ∷ acts) p q failed does = stays_failed acts does.0 q (subst HasFailed (sym does.1.0.1) failed) does.2
   stays_failed (Keeps true ∷ acts) p q failed does = stays_failed acts does.0 q (subst HasFailed (sym does.1.1) failed) does.2
   stays_failed (Keeps false ∷ acts) p q failed does = stays_failed acts does.0 q (subst HasFailed (sym does.1.1) failed) does.2
 
@@ -130,17 +143,18 @@ module _ {B K : Type 0} (batches : B → List (List ℕ) → BatchOutcome → Li
   same_device (Hears event x) p q does = (ap (λ (l : Round B). l.device) does.0.2, ap (λ (l : Round B). l.record_len) does.0.2)
   same_device (Calls o exchanges x) p q does = (does.0.2.device, does.0.2.record_len)
   same_device (Misses o exchanges) p q does = (does.0.2.device, does.0.2.record_len)
+  same_device (GoesAhead exchanges) p q does = (does.0.0.device, does.0.0.record_len)
   same_device (Keeps true) p q does = (ap (λ (l : Round B). l.device) does.2, ap (λ (l : Round B). l.record_len) does.2)
   same_device (Keeps false) p q does = (ap (λ (l : Round B). l.device) does.2, ap (λ (l : Round B). l.record_len) does.2)
 
   join : (a b c : Waits) (first second : List Reply) → AreReplied v.device a first b → AreReplied v.device b second c → AreReplied v.device a (first ++ second) c
   join a b c first second one two = folds_join {P = Waits} {A = Reply} (IsReplied v.device) a b c first second one two
 
-  all_replied : (acts : List Act) (p q : Process B K) (host after : Host) (array : ℕ → List ℕ) → p.link.device ≡ v.device → p.link.record_len ≡ record_len v → IsGoingOn v p host array
+  all_replied : (acts : List Act) (p q : Process B K) (host after : Host) (array : ℕ → List ℕ) → p.link.device ≡ v.device → p.link.record_len ≡ record_len v → IsGoingOn may_lie v p host array
       → DoesAll v batches reads_back p acts q → PlainRun may_lie v host (flat_map exchanges_of acts) after → Outcomes p array (flat_map replies_of acts) q after
   all_replied [] p q host after array dev len on does run =
-      let here : HaveReplies v p array [] p host = record { now = array; goes_on = on; replied = refl } in
-      inl (subst (λ (r : Process B K). HaveReplies v p array [] r after) does (subst (λ (h : Host). HaveReplies v p array [] p h) run here))
+      let here : HaveReplies may_lie v p array [] p host = record { now = array; goes_on = on; replied = refl } in
+      inl (subst (λ (r : Process B K). HaveReplies may_lie v p array [] r after) does (subst (λ (h : Host). HaveReplies may_lie v p array [] p h) run here))
   all_replied (act ∷ acts) p q host after array dev len on does run =
       let halves = folds_split {P = Host} {A = Exchange} (λ h e g. IsPlainCall may_lie v h e.0 e.1 g) host after (exchanges_of act) (flat_map exchanges_of acts) run in
       let same = same_device act p does.0 does.1 in

@@ -22,12 +22,14 @@ use Rattle.oram_link_laws.specs.Runs.{Exchange, bodies_of}
 use Rattle.oram_link_laws.proofs.Exchanged.{folds_split}
 use Rattle.oram_rounds.specs.Batches.{BatchOutcome, IsBatch, answered}
 use Rattle.oram_rounds.specs.CatchUp.{CatchesUp, IsPlainCall, IsPlainLie, PlainRun}
-use Rattle.oram_rounds.specs.Law.{AreBatches, CallsAreOfTheHostLater, IsStocked}
+use Rattle.oram_rounds.specs.Law.{AreAhead, AreBatches, CallsAreOfTheHostLater, IsFetchNow, IsStocked}
 use Rattle.oram_rounds.specs.PathMessages.{IsPathFetch, IsPathStore}
 use Rattle.oram_rounds.specs.Overlay.{IsOverlaid, holds_path}
-use Rattle.oram_rounds.specs.Rounds.{Declines, Does, Fetches, Gives, Holds, Round, is_refusal_body, refused_with, waiting}
+use Rattle.oram_rounds.specs.Rounds.{Declines, Does, Fetches, Gives, Holds, Round, Takes, is_refusal_body, refused_with, waiting}
 use Rattle.oram_rounds.proofs.Calls.{honest_later, lie_later, pathless_lie, refuses_later}
 use Rattle.oram_rounds.proofs.KeptPaths.{leaf_small}
+use Rattle.oram_rounds.proofs.Sent.{all_among, batch_among}
+use Rattle.oram_rounds.proofs.Unchanged.{ahead_on, run_same}
 use Rattle.oram_rounds.proofs.CatchUp.{IsWaitingOrFetch, acked_catches, heard_catches, hears, path_among, put_catches, run_catches}
 
 second_true : (a b : Bool) → (a && b) ≡ true → b ≡ true
@@ -224,12 +226,64 @@ module _ {B : Type 0} (batches : B → List (List ℕ) → BatchOutcome → List
       by (Err fault) among g = unanswered h.path (stocked h.path) fault among g.0 g.1 h.held
       by (Ok answers) batch g = answered_fetch h.path (stocked h.path) answers g h.held batch.0 batch.1 batch.2 batch.3
 
-  pub does : (IsPathFetch v.device body → IsStocked v later) → Does batches v.device (record_len v) l body o exchanges m → Becomes
-  does stocked (inl h) = held_back h
-  does stocked (inr (inl h)) = fetched stocked h
-  does stocked (inr (inr d)) = declined d
+  module _ (a : AreAhead may_lie v host l) where
+    -- the answer that is taken is the host's of now, and no STORE is kept
+
+    unkept : Takes batches v.device (record_len v) l body o exchanges m → l.kept ≡ []
+    unkept t = elim a.alone [ inl none ↦ absurd (let both : [] ≡ (body, Ok t.answer) ∷ m.ahead = sym none ∙ t.next in cc) | inr none ↦ none ]
+
+    each_now : (t : Takes batches v.device (record_len v) l body o exchanges m) → AllByRecursion (IsFetchNow may_lie v host) ((body, Ok t.answer) ∷ m.ahead)
+    each_now t = subst (AllByRecursion (IsFetchNow may_lie v host)) t.next a.each
+
+    taken_ahead : (IsPathFetch v.device body → IsStocked v later) → Takes batches v.device (record_len v) l body o exchanges m → Becomes
+    taken_ahead stocked t =
+        let now : IsFetchNow may_lie v host (body, Ok t.answer) = (each_now t).0 in
+        let caught : CatchesUp v host l.held later = subst (λ (k : List (List ℕ)). CatchesUp v host (k ++ l.held) later) (unkept t) c in (
+          later,
+          subst (λ (g : Host). CatchesUp v g (waiting m) later) (sym (unsent t.none)) (subst (λ (k : List (List ℕ)). CatchesUp v host k later) (sym (same_waiting t.kept t.held)) c),
+          subst (λ (x : Outcome). IsHeardCall may_lie v later body x later) (sym t.told)
+              (given_to t.path (stocked t.path) host caught t.answer t.given now.1.0 now.1.1 t.over),
+        )
+
+    becomes : (IsPathFetch v.device body → IsStocked v later) → Does batches v.device (record_len v) l body o exchanges m → Becomes
+    becomes stocked (inl h) = held_back h
+    becomes stocked (inr (inl h)) = fetched stocked h
+    becomes stocked (inr (inr (inl d))) = declined d
+    becomes stocked (inr (inr (inr t))) = taken_ahead stocked t
+
+    -- where no STORE is kept, a FETCH leaves the host as it is
+
+    still_unkept : Fetches batches v.device (record_len v) l body o exchanges m → l.kept ≡ [] → m.kept ≡ []
+    still_unkept h none = by h.outcome h.path h.gives
+      where
+        by : (outcome : BatchOutcome) (path : IsPathFetch v.device body)
+            → MatchResult outcome (λ answers. Gives batches v.device (record_len v) l path answers o m) (λ fault. (o ≡ Err fault) × (m.kept ≡ l.kept)) → m.kept ≡ []
+        by (Err fault) path g = g.1 ∙ none
+        by (Ok answers) path g = elim g.either [ inl done ↦ done.1 | inr refused ↦ refused.0 ∙ none ]
+
+    still : Fetches batches v.device (record_len v) l body o exchanges m → l.kept ≡ [] → after ≡ host
+    still h none =
+        let among : AreAmong (bodies_of exchanges) (l.kept ++ body ∷ []) =
+        batch_among (l.kept ++ body ∷ []) h.outcome exchanges (are l.inner m.inner (l.kept ++ body ∷ []) h.outcome exchanges h.batch) in
+        let one : AreAmong (bodies_of exchanges) (body ∷ []) = subst (λ (k : List (List ℕ)). AreAmong (bodies_of exchanges) (k ++ body ∷ [])) none among in
+        run_same may_lie v exchanges host after (all_among (IsPathFetch v.device) (body ∷ []) (bodies_of exchanges) (h.path, tt) one) run
+
+    ahead_after : Does batches v.device (record_len v) l body o exchanges m → AreAhead may_lie v after m
+    ahead_after (inl h) = ahead_on may_lie v l m host after h.ahead (λ none. (h.kept ∙ none, unsent h.none)) a
+    ahead_after (inr (inl h)) = ahead_on may_lie v l m host after h.ahead (λ none. (still_unkept h none, still h none)) a
+    ahead_after (inr (inr (inl d))) = ahead_on may_lie v l m host after d.ahead (λ none. (d.kept ∙ none, unsent d.none)) a
+    ahead_after (inr (inr (inr t))) = record {
+      each = subst (λ (h : Host). AllByRecursion (IsFetchNow may_lie v h) m.ahead) (sym (unsent t.none)) (each_now t).1;
+      alone = inr (t.kept ∙ unkept t);
+    }
+
+    abbrev pub AllOf : Type 0
+    AllOf = (next : Host) × CatchesUp v after (waiting m) next × IsHeardCall may_lie v later body o next × AreAhead may_lie v after m
+
+    pub does : (IsPathFetch v.device body → IsStocked v later) → Does batches v.device (record_len v) l body o exchanges m → AllOf
+    does stocked d = let b = becomes stocked d in (b.0, b.1, b.2, ahead_after d)
 
 pub calls_are_of_the_host_later : {B : Type 0} (batches : B → List (List ℕ) → BatchOutcome → List Exchange → B → Type 0) → CallsAreOfTheHostLater batches
-calls_are_of_the_host_later batches are may_lie v l m body o exchanges host after later device len c stocked call run =
-    does batches are may_lie v l m body o exchanges host after later c run stocked
+calls_are_of_the_host_later batches are may_lie v l m body o exchanges host after later device len c ahead stocked call run =
+    does batches are may_lie v l m body o exchanges host after later c run ahead stocked
     (subst (λ (n : ℕ). Does batches v.device n l body o exchanges m) len (subst (λ (d : Sizes). Does batches d l.record_len l body o exchanges m) device call.does))

@@ -34,14 +34,17 @@ use Rattle.oram_link_laws.proofs.Exchanged.{folds_split}
 use Rattle.oram_rounds.specs.Batches.{BatchOutcome, IsBatch, answered}
 use Rattle.oram_rounds.specs.Files.{IsFile}
 use Rattle.oram_rounds.specs.CatchUp.{CatchesUp, IsPlainCall, PlainRun}
-use Rattle.oram_rounds.specs.Law.{AreBatches, IsStocked}
+use Rattle.oram_rounds.specs.Law.{AreAhead, AreBatches, IsStocked}
 use Rattle.oram_rounds.specs.PathMessages.{IsPathFetch}
-use Rattle.oram_rounds.specs.Process.{Act, ActsAreSafe, Does, DoesAll, BegunIsSafe, EndsAreSafe, EndsIn, IsKept, IsSafe, IsSent, Process, begun, earlier, exchanges_of}
-use Rattle.oram_rounds.specs.Process.Act.{Calls, Hears, Keeps, Misses}
+use Rattle.oram_rounds.specs.Process.{Act, ActsAreSafe, AreSentAhead, Does, DoesAll, BegunIsSafe, EndsAreSafe, EndsIn, IsKept, IsSafe, IsSent, Process, begun, earlier, exchanges_of, next_bodies}
+use Rattle.oram_rounds.specs.Process.Act.{Calls, GoesAhead, Hears, Keeps, Misses}
 use Rattle.oram_rounds.specs.Rounds.{Gives, Round, RoundCall, waiting}
 use Rattle.oram_rounds.specs.Service.{AreReplied, IsServed, WillHold, WillHoldAfter, after_all, Waiting as Waits}
 use Rattle.oram_rounds.proofs.CatchUp.{IsWaitingOrFetch, run_catches}
+use Rattle.oram_rounds.proofs.GoneAhead.{ahead_fewer, ahead_is_of_the_host, ahead_sent, all_sent}
 use Rattle.oram_rounds.proofs.Round.{calls_are_of_the_host_later}
+use Rattle.oram_rounds.proofs.Sent.{all_among, batch_among}
+use Rattle.oram_rounds.proofs.Unchanged.{none_ahead}
 use Rattle.oram_rounds.proofs.Tries.{among_front}
 use Rattle.oram_rounds.proofs.Steps.{Went, step_call, step_quiet}
 
@@ -68,35 +71,6 @@ stocked_by v s host array waits is f =
           stands.stored.stands.lengths n (subst P (sym stands.number) within),
     )
 
--- what a call has sent
-
-among_append : (xs ys : List Exchange) (all : List (List ℕ)) → AreAmong (bodies_of xs) all → AreAmong (bodies_of ys) all → AreAmong (bodies_of (xs ++ ys)) all
-among_append [] ys all first second = second
-among_append (e ∷ xs) ys all first second = (first.0, among_append xs ys all first.1 second)
-
-answered_among : (bodies answers all : List (List ℕ)) → ((x : List ℕ) → IsAmong x bodies → IsAmong x all) → AreAmong (bodies_of (answered bodies answers)) all
-answered_among [] answers all inside = tt
-answered_among (b ∷ bodies) [] all inside = tt
-answered_among (b ∷ bodies) (a ∷ answers) all inside = (inside b (inl refl), answered_among bodies answers all (λ x k. inside x (inr k)))
-
-batch_among : (bodies : List (List ℕ)) (o : BatchOutcome) (exchanges : List Exchange) → IsBatch bodies o exchanges → AreAmong (bodies_of exchanges) bodies
-batch_among bodies (Err fault) exchanges batch = batch
-batch_among bodies (Ok answers) exchanges batch =
-    let P : List Exchange → Type 0 = λ xs. AreAmong (bodies_of xs) bodies in
-    subst P (sym batch.3) (among_append batch.1 (answered bodies answers) bodies batch.2 (answered_among bodies answers bodies (λ x k. k)))
-
--- all that a host hears is among what waits in the file, or a FETCH
-sent_covered : (d : Sizes) (sent stores : List (List ℕ)) (message : List ℕ) → IsPathFetch d message → ((b : List ℕ) → IsAmong b sent → IsAmong b stores)
-    → (bodies : List (List ℕ)) → AreAmong bodies (sent ++ message ∷ []) → AllByRecursion (λ b. IsAmong b stores ⊎ IsPathFetch d b) bodies
-sent_covered d sent stores message f covers [] are = tt
-sent_covered d sent stores message f covers (b ∷ bodies) are = (one sent covers are.0, sent_covered d sent stores message f covers bodies are.1)
-  where
-    one : (front : List (List ℕ)) → ((x : List ℕ) → IsAmong x front → IsAmong x stores) → IsAmong b (front ++ message ∷ []) → IsAmong b stores ⊎ IsPathFetch d b
-    one [] inside (inl same) = inr (subst (IsPathFetch d) (sym same) f)
-    one [] inside (inr none) = absurd none
-    one (x ∷ front) inside (inl same) = inl (inside b (inl same))
-    one (x ∷ front) inside (inr later) = one front (λ y k. inside y (inr k)) later
-
 module _ (may_lie : Bool) (v : Scheme) where
   -- a host that hears what was sent still has the same to come
   will_hold_on : (core : State) (stores : List (List ℕ)) (host after : Host) (array : ℕ → List ℕ) (exchanges : List Exchange)
@@ -104,10 +78,11 @@ module _ (may_lie : Bool) (v : Scheme) where
       → WillHoldAfter may_lie v core stores host array → WillHoldAfter may_lie v core stores after array
   will_hold_on core stores host after array exchanges all run w = (w.0, run_catches v stores w.0 may_lie exchanges host after all run w.1, w.2)
 
-  kept_on : (d : Sizes) (sent later : List (List ℕ)) (message bytes : List ℕ) (host after : Host) (before array : ℕ → List ℕ) (exchanges : List Exchange) → d ≡ v.device
-      → (exchanges ≡ []) ⊎ (IsPathFetch d message × AreAmong (bodies_of exchanges) (sent ++ message ∷ [])) → ((b : List ℕ) → IsAmong b later → IsAmong b sent)
+  -- The host has had tries of STOREs that are kept and of FETCHes behind them.
+  pub kept_on : (d : Sizes) (sent later fetches : List (List ℕ)) (bytes : List ℕ) (host after : Host) (before array : ℕ → List ℕ) (exchanges : List Exchange) → d ≡ v.device
+      → (exchanges ≡ []) ⊎ (AllByRecursion (IsPathFetch d) fetches × AreAmong (bodies_of exchanges) (sent ++ fetches)) → ((b : List ℕ) → IsAmong b later → IsAmong b sent)
       → PlainRun may_lie v host exchanges after → IsKept may_lie v sent bytes host before array → IsKept may_lie v later bytes after before array
-  kept_on d sent later message bytes host after before array exchanges device (inl none) fewer run k =
+  kept_on d sent later fetches bytes host after before array exchanges device (inl none) fewer run k =
       let same : host ≡ after = subst (λ (xs : List Exchange). PlainRun may_lie v host xs after) none run in
       record {
         stores = k.stores;
@@ -116,9 +91,9 @@ module _ (may_lie : Bool) (v : Scheme) where
         covers = λ b among. k.covers b (fewer b among);
         holds = subst (λ (h : Host). WillHoldAfter may_lie v k.core k.stores h before ⊎ WillHoldAfter may_lie v k.core k.stores h array) same k.holds;
       }
-  kept_on d sent later message bytes host after before array exchanges device (inr fetch) fewer run k =
-      let f : IsPathFetch v.device message = subst (λ (e : Sizes). IsPathFetch e message) device fetch.0 in
-      let all = sent_covered v.device sent k.stores message f k.covers (bodies_of exchanges) fetch.1 in
+  kept_on d sent later fetches bytes host after before array exchanges device (inr heard) fewer run k =
+      let paths : AllByRecursion (IsPathFetch v.device) fetches = subst (λ (e : Sizes). AllByRecursion (IsPathFetch e) fetches) device heard.0 in
+      let all = all_among (IsWaitingOrFetch v k.stores) (sent ++ fetches) (bodies_of exchanges) (all_sent v k.stores sent fetches k.covers paths) heard.1 in
       record {
         stores = k.stores;
         core = k.core;
@@ -129,6 +104,11 @@ module _ (may_lie : Bool) (v : Scheme) where
           | inr new ↦ inr (will_hold_on k.core k.stores host after array exchanges all run new)
         ];
       }
+
+-- one FETCH behind the STOREs that are kept
+as_ahead : {B : Type 0} (l : Round B) (message : List ℕ) (exchanges : List Exchange) → IsSent l message exchanges → AreSentAhead l (message ∷ []) exchanges
+as_ahead l message exchanges (inl none) = inl none
+as_ahead l message exchanges (inr fetch) = inr ((fetch.0, tt), fetch.1)
 
 -- the core hears of a reopening, or is told to go on
 
@@ -170,7 +150,8 @@ module _ {B K : Type 0} (batches : B → List (List ℕ) → BatchOutcome → Li
   sent_by l m message o exchanges call = elim call.does [
     | inl holds ↦ inl holds.none
     | inr (inl f) ↦ inr (f.path, batch_among (l.kept ++ message ∷ []) f.outcome exchanges (are l.inner m.inner (l.kept ++ message ∷ []) f.outcome exchanges f.batch))
-    | inr (inr declines) ↦ inl declines.none
+    | inr (inr (inl declines)) ↦ inl declines.none
+    | inr (inr (inr takes)) ↦ inl takes.none
   ]
 
   -- a call leaves the STOREs that are kept, or none of them
@@ -178,7 +159,8 @@ module _ {B K : Type 0} (batches : B → List (List ℕ) → BatchOutcome → Li
   fewer_by l m message o exchanges call b among = elim call.does [
     | inl holds ↦ subst (IsAmong b) holds.kept among
     | inr (inl f) ↦ by f.outcome f.path f.gives
-    | inr (inr declines) ↦ subst (IsAmong b) declines.kept among
+    | inr (inr (inl declines)) ↦ subst (IsAmong b) declines.kept among
+    | inr (inr (inr takes)) ↦ subst (IsAmong b) takes.kept among
   ]
     where
       left_none : m.kept ≡ [] → IsAmong b l.kept
@@ -225,20 +207,22 @@ module _ {B K : Type 0} (batches : B → List (List ℕ) → BatchOutcome → Li
     pub catches : CatchesUp v after (waiting l) next
     pub heard : IsHeardCall may_lie v later p.core.message o next
     pub waits : status_in p.core ≡ Waiting
+    pub ahead : AreAhead may_lie v after l
 
   pub called : (p : Process B K) (l : Round B) (host after later : Host) (before : ℕ → List ℕ) (message : List ℕ) (o : Outcome) (exchanges : List Exchange) → p.link.device ≡ v.device
-      → p.link.record_len ≡ record_len v → CatchesUp v host (waiting p.link) later → IsServed v p.core later before → outstanding p.core ≡ Some message
+      → p.link.record_len ≡ record_len v → CatchesUp v host (waiting p.link) later → AreAhead may_lie v host p.link → IsServed v p.core later before → outstanding p.core ≡ Some message
       → RoundCall batches p.link message o exchanges l → PlainRun may_lie v host exchanges after → Called p l o after later
-  called p l host after later before message o exchanges dev len catches served out call run =
+  called p l host after later before message o exchanges dev len catches ahead served out call run =
       let waits = waits_by p.core (status_in p.core) message refl out in
       let stocked : IsPathFetch v.device message → IsStocked v later =
       λ f. stocked_by v p.core later before waits.0 served (subst (IsPathFetch v.device) waits.1 f) in
-      let on = calls_are_of_the_host_later batches are may_lie v p.link l message o exchanges host after later dev len catches stocked call run in
+      let on = calls_are_of_the_host_later batches are may_lie v p.link l message o exchanges host after later dev len catches ahead stocked call run in
       record {
         next = on.0;
         catches = on.1;
         heard = subst (λ (m : List ℕ). IsHeardCall may_lie v later m o on.0) waits.1 on.2;
         waits = waits.0;
+        ahead = on.3;
       }
 
   will_after : (s t : State) (next : Host) (before array : ℕ → List ℕ) (x : Shown) → after_all v.device s.queue before ≡ array
@@ -259,7 +243,7 @@ module _ {B K : Type 0} (batches : B → List (List ℕ) → BatchOutcome → Li
       → RoundCall batches p.link message o exchanges l → PlainRun may_lie v host exchanges after → (bytes : List ℕ) → reads_back p.keeper bytes
       → IsKept may_lie v l.kept bytes after before array
   kept_after p l host after before array message o exchanges safe call run bytes back =
-      kept_on may_lie v p.link.device p.link.kept l.kept message bytes host after before array exchanges safe.device (sent_by p.link l message o exchanges call)
+      kept_on may_lie v p.link.device p.link.kept l.kept (message ∷ []) bytes host after before array exchanges safe.device (as_ahead p.link message exchanges (sent_by p.link l message o exchanges call))
       (fewer_by p.link l message o exchanges call) run (safe.kept bytes back)
 
   -- what was handed to the keeper, or what was there before
@@ -289,28 +273,45 @@ module _ {B K : Type 0} (batches : B → List (List ℕ) → BatchOutcome → Li
         let k : IsKept may_lie v p.link.kept bytes host before array = safe.kept bytes (subst (λ (j : K). reads_back j bytes) does.1 back) in
         subst (λ (h : Host). IsKept may_lie v q.link.kept bytes h before array) run
         (subst (λ (l : Round B). IsKept may_lie v l.kept bytes host before array) (sym does.0.2) k);
+    ahead = subst (λ (h : Host). AreAhead may_lie v h q.link) run (subst (λ (l : Round B). AreAhead may_lie v host l) (sym does.0.2) safe.ahead);
   }
   act_safe (Calls o exchanges x) p q host after before array safe does run =
       let live = safe.live in
       let work = at_work p.core live.0 array does.0.0 does.0.1 live.2 in
       let before_it : ℕ → List ℕ = work.2.0 in
-      let c = called p q.link host after live.0 before_it does.0.0 o exchanges safe.device safe.record_len_is live.1 work.2.1 does.0.1 does.0.2 run in
+      let c = called p q.link host after live.0 before_it does.0.0 o exchanges safe.device safe.record_len_is live.1 safe.ahead work.2.1 does.0.1 does.0.2 run in
       record {
         device = does.0.2.device ∙ safe.device;
         record_len_is = does.0.2.record_len ∙ safe.record_len_is;
         live = (c.next, c.catches, will_after p.core q.core c.next before_it array x work.2.2 (step_call may_lie v device p.core q.core live.0 c.next before_it x work.2.1 o c.waits does.0.3 c.heard));
         kept = λ bytes back. kept_after p q.link host after before array does.0.0 o exchanges safe does.0.2 run bytes (subst (λ (j : K). reads_back j bytes) does.1 back);
+        ahead = c.ahead;
       }
   act_safe (Misses o exchanges) p q host after before array safe does run =
       let live = safe.live in
       let work = at_work p.core live.0 array does.0.0 does.0.1 live.2 in
-      let c = called p q.link host after live.0 work.2.0 does.0.0 o exchanges safe.device safe.record_len_is live.1 work.2.1 does.0.1 does.0.2 run in
+      let c = called p q.link host after live.0 work.2.0 does.0.0 o exchanges safe.device safe.record_len_is live.1 safe.ahead work.2.1 does.0.1 does.0.2 run in
       let will : WillHold may_lie v p.core c.next array = inl (work.2.0, served_on p.core live.0 c.next work.2.0 o c.waits work.2.1 c.heard, work.2.2) in
       record {
         device = does.0.2.device ∙ safe.device;
         record_len_is = does.0.2.record_len ∙ safe.record_len_is;
         live = (c.next, c.catches, subst (λ (s : State). WillHold may_lie v s c.next array) (sym does.0.3) will);
         kept = λ bytes back. kept_after p q.link host after before array does.0.0 o exchanges safe does.0.2 run bytes (subst (λ (j : K). reads_back j bytes) does.1 back);
+        ahead = c.ahead;
+      }
+  act_safe (GoesAhead exchanges) p q host after before array safe does run =
+      let live = safe.live in
+      let went = does.0.0 in
+      let on = ahead_is_of_the_host batches are may_lie v p.link q.link (next_bodies v.device p.core) exchanges host after live.0 safe.device live.1 went run in
+      record {
+        device = went.device ∙ safe.device;
+        record_len_is = went.record_len ∙ safe.record_len_is;
+        live = (live.0, on.0, subst (λ (s : State). WillHold may_lie v s live.0 array) (sym does.0.1) live.2);
+        kept = λ bytes back.
+            kept_on may_lie v p.link.device p.link.kept q.link.kept (next_bodies v.device p.core) bytes host after before array exchanges safe.device
+            (ahead_sent batches are p.link q.link (next_bodies v.device p.core) exchanges went) (ahead_fewer batches p.link q.link (next_bodies v.device p.core) exchanges went) run
+            (safe.kept bytes (subst (λ (j : K). reads_back j bytes) does.1 back));
+        ahead = on.1;
       }
   act_safe (Keeps true) p q host after before array safe does run =
       let all : waiting q.link ≡ waiting p.link = ap (λ (l : Round B). waiting l) does.2 ∙ append-nil (waiting p.link) in
@@ -329,6 +330,7 @@ module _ {B K : Type 0} (batches : B → List (List ℕ) → BatchOutcome → Li
           covers = λ b among. subst (IsAmong b) (ap (λ (l : Round B). l.kept) does.2) among;
           holds = inl (subst (λ (h : Host). WillHoldAfter may_lie v p.core (waiting p.link) h array) run safe.live);
         };
+        ahead = none_ahead may_lie v p.link q.link host after (ap (λ (l : Round B). l.ahead) does.2);
       }
   act_safe (Keeps false) p q host after before array safe does run = record {
     device = ap (λ (l : Round B). l.device) does.2 ∙ safe.device;
@@ -340,20 +342,23 @@ module _ {B K : Type 0} (batches : B → List (List ℕ) → BatchOutcome → Li
     kept = λ bytes back.
         subst (λ (h : Host). IsKept may_lie v q.link.kept bytes h before array) run
         (subst (λ (l : Round B). IsKept may_lie v l.kept bytes host before array) (sym does.2) (handed p host before array safe bytes (does.0 bytes back)));
+    ahead = subst (λ (h : Host). AreAhead may_lie v h q.link) run (subst (λ (l : Round B). AreAhead may_lie v host l) (sym does.2) safe.ahead);
   }
 
   -- where a process ends, nothing is sent any more
 
-  ended : (p : Process B K) (host after : Host) (before array : ℕ → List ℕ) (message bytes : List ℕ) (exchanges : List Exchange) → Safe p host before array → IsSent p.link message exchanges
-      → PlainRun may_lie v host exchanges after → IsKept may_lie v p.link.kept bytes host before array → IsKept may_lie v [] bytes after before array
-  ended p host after before array message bytes exchanges safe sent run k =
-      kept_on may_lie v p.link.device p.link.kept [] message bytes host after before array exchanges safe.device sent (λ b among. absurd among) run k
+  ended : (p : Process B K) (host after : Host) (before array : ℕ → List ℕ) (fetches : List (List ℕ)) (bytes : List ℕ) (exchanges : List Exchange) → Safe p host before array
+      → AreSentAhead p.link fetches exchanges → PlainRun may_lie v host exchanges after → IsKept may_lie v p.link.kept bytes host before array → IsKept may_lie v [] bytes after before array
+  ended p host after before array fetches bytes exchanges safe sent run k =
+      kept_on may_lie v p.link.device p.link.kept [] fetches bytes host after before array exchanges safe.device sent (λ b among. absurd among) run k
 
   end_safe : (act : Act) (p : Process B K) (bytes : List ℕ) (exchanges : List Exchange) (host after : Host) (before array : ℕ → List ℕ) → Safe p host before array
       → EndsIn v batches reads_back p act bytes exchanges → PlainRun may_lie v host exchanges after → IsKept may_lie v [] bytes after before array
   end_safe (Hears event x) p bytes exchanges host after before array safe ends run = ended p host after before array [] bytes exchanges safe (inl ends.1) run (safe.kept bytes ends.0)
-  end_safe (Calls o xs x) p bytes exchanges host after before array safe ends run = ended p host after before array ends.0 bytes exchanges safe ends.3 run (safe.kept bytes ends.2)
-  end_safe (Misses o xs) p bytes exchanges host after before array safe ends run = ended p host after before array ends.0 bytes exchanges safe ends.3 run (safe.kept bytes ends.2)
+  end_safe (Calls o xs x) p bytes exchanges host after before array safe ends run = ended p host after before array (ends.0 ∷ []) bytes exchanges safe (as_ahead p.link ends.0 exchanges ends.3) run (safe.kept bytes ends.2)
+  end_safe (Misses o xs) p bytes exchanges host after before array safe ends run = ended p host after before array (ends.0 ∷ []) bytes exchanges safe (as_ahead p.link ends.0 exchanges ends.3) run (safe.kept bytes ends.2)
+  end_safe (GoesAhead xs) p bytes exchanges host after before array safe ends run =
+      ended p host after before array (next_bodies v.device p.core) bytes exchanges safe ends.1 run (safe.kept bytes ends.0)
   end_safe (Keeps done) p bytes exchanges host after before array safe ends run =
       ended p host after before array [] bytes exchanges safe (inl ends.1) run (handed p host before array safe bytes ends.0)
 
@@ -363,6 +368,7 @@ module _ {B K : Type 0} (batches : B → List (List ℕ) → BatchOutcome → Li
   earlier_first (Hears event x) acts before array = refl
   earlier_first (Calls o exchanges x) acts before array = refl
   earlier_first (Misses o exchanges) acts before array = refl
+  earlier_first (GoesAhead exchanges) acts before array = refl
   earlier_first (Keeps true) acts before array = refl
   earlier_first (Keeps false) acts before array = refl
 
@@ -405,4 +411,5 @@ begun_is_safe B {K} reads_back may_lie v inner stores core keeper bytes host bef
             covers = λ b among. subst (IsAmong b) (sym stores_are) among;
             holds = inl will;
           };
+          ahead = record { each = tt; alone = inl refl };
         }

@@ -25,6 +25,7 @@ use Rattle.oram_session.specs.Settled.{IsSettled, is_settled_by}
 use Rattle.oram_link_laws.specs.Repair.{IsAmong}
 use Rattle.oram_link_laws.specs.Runs.{IsHeldBy}
 use Rattle.oram_rounds.specs.CatchUp.{CatchesUp}
+use Rattle.oram_rounds.specs.Law.{AreAhead}
 use Rattle.oram_rounds.specs.Start.{Asked, HeldIsSafe, SubmittedIsSafe, Submits, array_if, array_with}
 use Rattle.oram_rounds.specs.Process.{IsKept, Process}
 use Rattle.oram_rounds.specs.Rounds.{Round, waiting}
@@ -134,6 +135,7 @@ submitted_is_safe B {K} reads_back may_lie v asked p q host array device safe al
             covers = λ b among. k.covers b (subst (IsAmong b) (ap (λ (l : Round B). l.kept) done.1) among);
             holds = inl (elim k.holds [ inl old ↦ old | inr new ↦ new ]);
           };
+      ahead = subst (λ (l : Round B). AreAhead may_lie v host l) (sym done.1) safe.ahead;
     }
 
 -- no commands wait at a core that is settled and hasn't failed
@@ -164,4 +166,5 @@ held_is_safe B {K} reads_back may_lie v inner core keeper host array held files 
       record_len_is = refl;
       live = will;
       kept = λ bytes back. record { stores = []; core = core; file = files bytes back; covers = λ b among. among; holds = inl will };
+      ahead = record { each = tt; alone = inl refl };
     }

@@ -20,7 +20,7 @@ use Rattle.oram_link_laws.specs.Runs.{Exchange}
 use Rattle.oram_link_laws.proofs.Exchanged.{folds_join}
 use Rattle.oram_rounds.specs.Batches.{BatchOutcome}
 use Rattle.oram_rounds.specs.Process.{Act, Does, DoesAll, HasTalked, Process, Talks, TalksAll, replies_of}
-use Rattle.oram_rounds.specs.Process.Act.{Calls, Hears, Keeps, Misses}
+use Rattle.oram_rounds.specs.Process.Act.{Calls, GoesAhead, Hears, Keeps, Misses}
 use Rattle.oram_rounds.specs.Rounds.{IsCounted, Round}
 
 module _ {B : Type 0} (batches : B → List (List ℕ) → BatchOutcome → List Exchange → B → Type 0) (v : Scheme) where
@@ -129,6 +129,8 @@ module _ {B : Type 0} (batches : B → List (List ℕ) → BatchOutcome → List
   talks_beside reads_back keeper (Calls o exchanges x ∷ acts) p q all =
       (record { core = all.0.0; link = all.0.1; keeper = keeper }, (all.1, refl), talks_beside reads_back keeper acts all.0 q all.2)
   talks_beside reads_back keeper (Misses o exchanges ∷ acts) p q all =
+      (record { core = all.0.0; link = all.0.1; keeper = keeper }, (all.1, refl), talks_beside reads_back keeper acts all.0 q all.2)
+  talks_beside reads_back keeper (GoesAhead exchanges ∷ acts) p q all =
       (record { core = all.0.0; link = all.0.1; keeper = keeper }, (all.1, refl), talks_beside reads_back keeper acts all.0 q all.2)
   talks_beside reads_back keeper (Keeps done ∷ acts) p q all = absurd all.1
 

@@ -1,7 +1,7 @@
 -- Lists of bodies, and the one at an index.
 use Rattle.std.proofs.Common.{◌≡◌, ℕ, ◌+◌, suc, ◌<◌, ◌≤◌, arith, inl, inr, List, [], ◌∷◌, ◌++◌, length, take, drop, get_or, refl, sym, ap, ◌∙◌, subst, append_assoc, append-nil}
 use Rattle.std.specs.Global.{Vec}
-use Rattle.std.specs.List.{flat_map}
+use Rattle.std.specs.List.{AllByRecursion, flat_map}
 use Rattle.std.proofs.Math.ListN.{get_or-map}
 use Rattle.std.proofs.lemmas.Grind.{flat_map-append}
 use Rattle.std.proofs.Math.Seq.{drop-cons, take-suc}
@@ -50,17 +50,6 @@ pub among_at : (xs : List (Vec ℕ)) (i : ℕ) (x : Vec ℕ) → i < length xs �
 among_at xs i x low is =
     subst (IsAmong x.items) (split_here xs i x low is) (among_right (take i (texts xs)) (drop (i + 1) (texts xs)) x.items)
 
-done_more : (front : List (List ℕ)) (body : List ℕ) → AreDone front → body ≡ done_answer → AreDone (front ++ body ∷ [])
-done_more [] body done is = (is, tt)
-done_more (b ∷ front) body done is = (done.0, done_more front body done.1 is)
-
-pub done_next : (xs : List (Vec ℕ)) (i : ℕ) (x : Vec ℕ) → i < length xs → x ≡ get_or xs i x → AreDone (take i (texts xs)) → x.items ≡ done_answer
-    → AreDone (take (i + 1) (texts xs))
-done_next xs i x low is done here = subst AreDone (sym (take_next xs i x low is)) (done_more (take i (texts xs)) x.items done here)
-
-pub done_all : (xs : List (Vec ℕ)) (n : ℕ) → length xs ≤ n → AreDone (take n (texts xs)) → AreDone (texts xs)
-done_all xs n all done = subst AreDone (take_all n (texts xs) (omega (arith, all, length-map xs (λ (v : Vec ℕ). v.items)))) done
-
 pub at_same : (xs : List (Vec ℕ)) (i : ℕ) (x y : Vec ℕ) → i < length xs → x ≡ get_or xs i x → y ≡ get_or xs i y → x ≡ y
 at_same xs i x y low of_x of_y = of_x ∙ get_or_default xs i x y low ∙ sym of_y
 
@@ -74,26 +63,26 @@ texts_whole xs n m all =
 pub texts_none : (xs : List (Vec ℕ)) (m : ℕ) → m ≡ length xs → texts (drop m xs) ≡ []
 texts_none xs m all = ap texts (drop_all m xs (omega (arith, all)))
 
--- each of the first bodies is a STORE of a path, and one more is
+-- what holds of each of the first bodies, and of one more
+module _ (P : List ℕ → Type 0) where
+  all_more : (front : List (List ℕ)) (body : List ℕ) → AllByRecursion P front → P body → AllByRecursion P (front ++ body ∷ [])
+  all_more [] body are is = (is, tt)
+  all_more (b ∷ front) body are is = (are.0, all_more front body are.1 is)
 
-path_more : (d : Sizes) (len : ℕ) (front : List (List ℕ)) (body : List ℕ) → ArePathStores d len front → IsPathStore d len body → ArePathStores d len (front ++ body ∷ [])
-path_more d len [] body are is = (is, tt)
-path_more d len (b ∷ front) body are is = (are.0, path_more d len front body are.1 is)
+  all_inside : (front rest : List (List ℕ)) (body : List ℕ) → AllByRecursion P (front ++ body ∷ rest) → P body
+  all_inside [] rest body are = are.0
+  all_inside (b ∷ front) rest body are = all_inside front rest body are.1
 
-path_inside : (d : Sizes) (len : ℕ) (front rest : List (List ℕ)) (body : List ℕ) → ArePathStores d len (front ++ body ∷ rest) → IsPathStore d len body
-path_inside d len [] rest body are = are.0
-path_inside d len (b ∷ front) rest body are = path_inside d len front rest body are.1
+  pub all_next : (xs : List (Vec ℕ)) (i : ℕ) (x : Vec ℕ) → i < length xs → x ≡ get_or xs i x → AllByRecursion P (take i (texts xs)) → P x.items
+      → AllByRecursion P (take (i + 1) (texts xs))
+  all_next xs i x low is are here = subst (AllByRecursion P) (sym (take_next xs i x low is)) (all_more (take i (texts xs)) x.items are here)
 
-pub paths_next : (d : Sizes) (len : ℕ) (xs : List (Vec ℕ)) (i : ℕ) (x : Vec ℕ) → i < length xs → x ≡ get_or xs i x → ArePathStores d len (take i (texts xs)) → IsPathStore d len x.items
-    → ArePathStores d len (take (i + 1) (texts xs))
-paths_next d len xs i x low is are here = subst (ArePathStores d len) (sym (take_next xs i x low is)) (path_more d len (take i (texts xs)) x.items are here)
+  pub all_at : (xs : List (Vec ℕ)) (i : ℕ) (x : Vec ℕ) → i < length xs → x ≡ get_or xs i x → AllByRecursion P (texts xs) → P x.items
+  all_at xs i x low is are =
+      all_inside (take i (texts xs)) (drop (i + 1) (texts xs)) x.items (subst (AllByRecursion P) (sym (split_here xs i x low is)) are)
 
-pub path_at : (d : Sizes) (len : ℕ) (xs : List (Vec ℕ)) (i : ℕ) (x : Vec ℕ) → i < length xs → x ≡ get_or xs i x → ArePathStores d len (texts xs) → IsPathStore d len x.items
-path_at d len xs i x low is are =
-    path_inside d len (take i (texts xs)) (drop (i + 1) (texts xs)) x.items (subst (ArePathStores d len) (sym (split_here xs i x low is)) are)
-
-pub paths_all : (d : Sizes) (len : ℕ) (xs : List (Vec ℕ)) (n : ℕ) → length xs ≤ n → ArePathStores d len (take n (texts xs)) → ArePathStores d len (texts xs)
-paths_all d len xs n all are = subst (ArePathStores d len) (take_all n (texts xs) (omega (arith, all, length-map xs (λ (v : Vec ℕ). v.items)))) are
+  pub all_whole : (xs : List (Vec ℕ)) (n : ℕ) → length xs ≤ n → AllByRecursion P (take n (texts xs)) → AllByRecursion P (texts xs)
+  all_whole xs n all are = subst (AllByRecursion P) (take_all n (texts xs) (omega (arith, all, length-map xs (λ (v : Vec ℕ). v.items)))) are
 
 paths_join : (d : Sizes) (len : ℕ) (xs ys : List (List ℕ)) → ArePathStores d len xs → ArePathStores d len ys → ArePathStores d len (xs ++ ys)
 paths_join d len [] ys first second = second

@@ -7,6 +7,7 @@ use Rattle.oram_link_laws.specs.Runs.{Exchange, LinkRun, bodies_of}
 use Rattle.oram_link_laws.proofs.Exchanged.{folds_join}
 use Rattle.oram_rounds.specs.Batches.{answered}
 use Rattle.oram_rounds.proofs.Round.{answered_split}
+use Rattle.oram_rounds.proofs.Sent.{answered_among}
 
 among_here : (front rest : List (List ℕ)) (body : List ℕ) → IsAmong body (front ++ body ∷ rest)
 among_here [] rest body = inl refl
@@ -32,11 +33,6 @@ among_back (b ∷ front) rest x among = inr (among_back front rest x among)
 among_behind : (bodies front rest : List (List ℕ)) → AreAmong bodies rest → AreAmong bodies (front ++ rest)
 among_behind [] front rest are = tt
 among_behind (b ∷ bodies) front rest are = (among_back front rest b are.0, among_behind bodies front rest are.1)
-
-among_answered : (bodies answers all : List (List ℕ)) → ((x : List ℕ) → IsAmong x bodies → IsAmong x all) → AreAmong (bodies_of (answered bodies answers)) all
-among_answered [] answers all inside = tt
-among_answered (b ∷ bodies) [] all inside = tt
-among_answered (b ∷ bodies) (a ∷ answers) all inside = (inside b (inl refl), among_answered bodies answers all (λ x k. inside x (inr k)))
 
 pub answered_join : (xs as' ys bs : List (List ℕ)) → length as' ≡ length xs → answered (xs ++ ys) (as' ++ bs) ≡ answered xs as' ++ answered ys bs
 answered_join [] [] ys bs count = refl
@@ -67,7 +63,7 @@ module _ {L : Type 0} (calls : L → List ℕ → Outcome → L → Type 0) wher
   )
 
   pub answered_tried : (bodies answers : List (List ℕ)) (l m : L) → LinkRun calls l (answered bodies answers) m → HasTried bodies l m
-  answered_tried bodies answers l m run = (answered bodies answers, run, among_answered bodies answers bodies (λ x k. k))
+  answered_tried bodies answers l m run = (answered bodies answers, run, answered_among bodies answers bodies (λ x k. k))
 
   -- messages behind others that were answered
   pub more_tried : (front last answers : List (List ℕ)) (l m n : L) → LinkRun calls l (answered front answers) m → HasTried last m n → HasTried (front ++ last) l n

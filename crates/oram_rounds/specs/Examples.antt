@@ -9,10 +9,10 @@ use Rattle.oram_link_laws.specs.Runs.{Exchange, IsHeldBy, LinkRun}
 use Rattle.oram_rounds.specs.Batches.{BatchOutcome, IsBatch}
 use Rattle.oram_rounds.specs.CatchUp.{CatchesUp, PlainRun}
 use Rattle.oram_rounds.specs.Files.{IsFile}
-use Rattle.oram_rounds.specs.Law.{AreBatches, IsStocked}
+use Rattle.oram_rounds.specs.Law.{AreAhead, AreBatches, IsStocked}
 use Rattle.oram_rounds.specs.Process.{DoesAll, IsGoingOn, IsSafe, Process, begun}
 use Rattle.oram_rounds.specs.Process.Act.{Keeps}
-use Rattle.oram_rounds.specs.Rounds.{Round, RoundCall, waiting}
+use Rattle.oram_rounds.specs.Rounds.{Round, RoundCall, WentAhead, waiting}
 
 -- batches over a server in memory, one message after the other
 abbrev pub DirectBatches : ToServer → List (List ℕ) → BatchOutcome → List Exchange → ToServer → Type 0
@@ -26,6 +26,7 @@ one_waits = record {
   record_len = 88;
   kept = [];
   held = store_body 0 0 (replicate 88 1) ∷ [];
+  ahead = [];
   faults = 0;
 }
 
@@ -33,12 +34,19 @@ one_waits = record {
 abbrev pub zeros_fetched : List Exchange
 zeros_fetched = (fetch_body 0 0, Ok (payload_answer (replicate 88 0))) ∷ []
 
--- Once the STORE is carried out, the host keeps the ones; so the FETCH is answered with the ones.
+-- the same, where the FETCH has gone ahead
+abbrev pub one_ahead : Round ToServer
+one_ahead = record one_waits { ahead = zeros_fetched }
+
+-- Once the STORE is carried out, the host keeps the ones; so the FETCH is answered with the ones, also where it went ahead.
 abbrev pub OneWaitsExample : Type 0
 OneWaitsExample = AreBatches DirectBatches
     × ((later : Host) × CatchesUp one_block new_host (waiting one_waits) later × IsStocked one_block later)
     × RoundCall DirectBatches one_waits (fetch_body 0 0) (Ok (payload_answer (replicate 88 1))) zeros_fetched one_waits
     × ((may_lie : Bool) → PlainRun may_lie one_block new_host zeros_fetched new_host)
+    × WentAhead DirectBatches one_waits (fetch_body 0 0 ∷ []) zeros_fetched one_ahead
+    × ((may_lie : Bool) → AreAhead may_lie one_block new_host one_waits × AreAhead may_lie one_block new_host one_ahead)
+    × RoundCall DirectBatches one_ahead (fetch_body 0 0) (Ok (payload_answer (replicate 88 1))) [] one_waits
 
 -- what may be read back is a file of the new core
 abbrev pub is_new_file : ⊤ → List ℕ → Type 0
@@ -54,6 +62,6 @@ zero_array a = replicate 16 0
 -- It is safe, the server keeps what its core holds, and it keeps itself.
 abbrev pub NewProcessExample : Type 0
 NewProcessExample = AreBatches DirectBatches × IsDevice one_block.device × IsHeldBy one_block new_core new_host zero_array
-    × ((may_lie : Bool) → IsSafe may_lie one_block is_new_file new_process new_host zero_array zero_array) × IsGoingOn one_block new_process new_host zero_array
+    × ((may_lie : Bool) → IsSafe may_lie one_block is_new_file new_process new_host zero_array zero_array) × ((may_lie : Bool) → IsGoingOn may_lie one_block new_process new_host zero_array)
     × DoesAll one_block DirectBatches is_new_file new_process (Keeps true ∷ []) new_process
     × ((may_lie : Bool) → PlainRun may_lie one_block new_host [] new_host)

@@ -1,5 +1,6 @@
 -- What a link that holds STOREs back is to a core: a link to the host as it will be once it has carried them out.
-use Rattle.std.specs.Prelude.{◌≡◌, ℕ, ◌<◌, Bool, List, length}
+use Rattle.std.specs.Prelude.{◌≡◌, ◌⊎◌, ℕ, ◌<◌, Bool, List, [], length}
+use Rattle.std.specs.List.{AllByRecursion}
 use Rattle.oram_geometry.specs.Sizes.{depth_of, trees_of}
 use Rattle.oram_host.specs.Host.{Host}
 use Rattle.oram_semantics.specs.Scheme.{Scheme, record_len}
@@ -9,9 +10,9 @@ use Rattle.oram_session.specs.Honesty.{IsHeardCall}
 use Rattle.oram_session.specs.Outcome.{Outcome}
 use Rattle.oram_link_laws.specs.Runs.{Exchange}
 use Rattle.oram_rounds.specs.Batches.{BatchOutcome, IsBatch}
-use Rattle.oram_rounds.specs.CatchUp.{CatchesUp, PlainRun}
+use Rattle.oram_rounds.specs.CatchUp.{CatchesUp, IsPlainCall, PlainRun}
 use Rattle.oram_rounds.specs.PathMessages.{IsPathFetch}
-use Rattle.oram_rounds.specs.Rounds.{Round, RoundCall, waiting}
+use Rattle.oram_rounds.specs.Rounds.{Round, RoundCall, WentAhead, waiting}
 
 -- each batch has the exchanges of a batch
 abbrev pub AreBatches : {B : Type 0} → (B → List (List ℕ) → BatchOutcome → List Exchange → B → Type 0) → Type 0
@@ -22,12 +23,29 @@ abbrev pub IsStocked : Scheme → Host → Type 0
 IsStocked v host = (records : ℕ → ℕ → List ℕ) × KeepsAll v records host
     × ((i n : ℕ) → i < trees_of v.device → n < node_count (depth_of v.device i) → length (records i n) ≡ record_len v)
 
--- A host is beside the exchanges of a call, honest or one that may lie, and catches up by the STOREs that wait. Then the
--- call is one of the host as it will be: that host gives the answer, or tells the lie; and afterwards the host beside
--- catches up again.
+-- the host gives this answer to this FETCH now, or tells a lie about it, where it may lie
+abbrev pub IsFetchNow : Bool → Scheme → Host → Exchange → Type 0
+IsFetchNow may_lie v host e = IsPathFetch v.device e.0 × ((after : Host) × IsPlainCall may_lie v host e.0 e.1 after)
+
+-- Each FETCH that went ahead has the answer that the host gives now. No STORE is kept meanwhile, so none leaves.
+pub record AreAhead (may_lie : Bool) (v : Scheme) (host : Host) {B : Type 0} (l : Round B) : Type 0 where
+  pub each : AllByRecursion (IsFetchNow may_lie v host) l.ahead
+  pub alone : (l.ahead ≡ []) ⊎ (l.kept ≡ [])
+
+-- A host is beside the exchanges of a call, honest or one that may lie, and catches up by the STOREs that wait; it gives
+-- the answers that went ahead. Then the call is one of the host as it will be: that host gives the answer, or tells the lie;
+-- and afterwards the host beside catches up again, and gives the answers that are still ahead.
 abbrev pub CallsAreOfTheHostLater : {B : Type 0} → (B → List (List ℕ) → BatchOutcome → List Exchange → B → Type 0) → Type 0
 CallsAreOfTheHostLater {B} batches = AreBatches batches
     → (may_lie : Bool) (v : Scheme) (l m : Round B) (body : List ℕ) (o : Outcome) (exchanges : List Exchange) (host after later : Host)
-    → l.device ≡ v.device → l.record_len ≡ record_len v → CatchesUp v host (waiting l) later → (IsPathFetch v.device body → IsStocked v later)
+    → l.device ≡ v.device → l.record_len ≡ record_len v → CatchesUp v host (waiting l) later → AreAhead may_lie v host l → (IsPathFetch v.device body → IsStocked v later)
     → RoundCall batches l body o exchanges m → PlainRun may_lie v host exchanges after
-    → (next : Host) × CatchesUp v after (waiting m) next × IsHeardCall may_lie v later body o next
+    → (next : Host) × CatchesUp v after (waiting m) next × IsHeardCall may_lie v later body o next × AreAhead may_lie v after m
+
+-- STOREs that are kept and FETCHes behind them are sent ahead. Then the host beside catches up to what it would have
+-- caught up to before, and gives the answers that are ahead now.
+abbrev pub AheadIsOfTheHost : {B : Type 0} → (B → List (List ℕ) → BatchOutcome → List Exchange → B → Type 0) → Type 0
+AheadIsOfTheHost {B} batches = AreBatches batches
+    → (may_lie : Bool) (v : Scheme) (l m : Round B) (fetches : List (List ℕ)) (exchanges : List Exchange) (host after later : Host)
+    → l.device ≡ v.device → CatchesUp v host (waiting l) later → WentAhead batches l fetches exchanges m → PlainRun may_lie v host exchanges after
+    → CatchesUp v after (waiting m) later × AreAhead may_lie v after m

@@ -1,9 +1,11 @@
 -- A process of the client: its core, its link, and where it keeps what has to outlive it.
 use Rattle.std.specs.Prelude.{◌≡◌, ◌⊎◌, ℕ, Bool, true, false, List, [], ◌∷◌, ◌++◌, Some, map}
-use Rattle.std.specs.List.{FoldsTo, flat_map}
+use Rattle.std.specs.List.{AllByRecursion, FoldsTo, flat_map}
+use Rattle.oram_geometry.specs.declared.Sizes.{Sizes}
 use Rattle.oram_geometry.specs.Sizes.{IsDevice}
 use Rattle.oram_host.specs.Host.{Host}
 use Rattle.oram_semantics.specs.Events.{failed_reply}
+use Rattle.oram_semantics.specs.NextFetches.{fetch_bodies, next_fetches}
 use Rattle.oram_semantics.specs.Run.{Shown}
 use Rattle.oram_semantics.specs.Scheme.{Scheme, record_len}
 use Rattle.oram_semantics.specs.State.{State}
@@ -20,9 +22,9 @@ use Rattle.oram_link_laws.specs.Runs.{Exchange, bodies_of}
 use Rattle.oram_rounds.specs.Batches.{BatchOutcome}
 use Rattle.oram_rounds.specs.Files.{IsFile}
 use Rattle.oram_rounds.specs.CatchUp.{CatchesUp, PlainRun}
-use Rattle.oram_rounds.specs.Law.{AreBatches}
+use Rattle.oram_rounds.specs.Law.{AreAhead, AreBatches}
 use Rattle.oram_rounds.specs.PathMessages.{IsPathFetch}
-use Rattle.oram_rounds.specs.Rounds.{Round, RoundCall, waiting}
+use Rattle.oram_rounds.specs.Rounds.{Round, RoundCall, WentAhead, waiting}
 use Rattle.oram_rounds.specs.Service.{AreReplied, IsServed, WillHoldAfter, Waiting as Waits}
 
 pub record Process (B K : Type 0) : Type 0 where
@@ -41,6 +43,8 @@ pub data Act : Type 0 where
   Calls : Outcome → List Exchange → Shown → Act
   -- the same, but memory runs out before the core hears of it
   Misses : Outcome → List Exchange → Act
+  -- the link sends the FETCHes ahead that the core asks for next
+  GoesAhead : List Exchange → Act
   -- the STOREs that wait and the core are kept, or the keeper fails
   Keeps : Bool → Act
 
@@ -48,18 +52,28 @@ abbrev pub exchanges_of : Act → List Exchange
 exchanges_of (Hears event x) = []
 exchanges_of (Calls o exchanges x) = exchanges
 exchanges_of (Misses o exchanges) = exchanges
+exchanges_of (GoesAhead exchanges) = exchanges
 exchanges_of (Keeps done) = []
 
 abbrev pub replies_of : Act → List Reply
 replies_of (Hears event x) = []
 replies_of (Calls o exchanges x) = x.replies
 replies_of (Misses o exchanges) = []
+replies_of (GoesAhead exchanges) = []
 replies_of (Keeps done) = []
 
 -- Nothing of a message has gone to the host, or it is a FETCH, and what the host has had of it are tries of the STOREs that are
 -- kept and of the FETCH behind them.
 abbrev pub IsSent : {B : Type 0} → Round B → List ℕ → List Exchange → Type 0
 IsSent l message exchanges = (exchanges ≡ []) ⊎ (IsPathFetch l.device message × AreAmong (bodies_of exchanges) (l.kept ++ message ∷ []))
+
+-- the FETCHes that the core asks for next: the first one of each command that waits
+abbrev pub next_bodies : Sizes → State → List (List ℕ)
+next_bodies d core = fetch_bodies (next_fetches d core)
+
+-- What has gone to the host are tries of the STOREs that are kept and of FETCHes behind them.
+abbrev pub AreSentAhead : {B : Type 0} → Round B → List (List ℕ) → List Exchange → Type 0
+AreSentAhead l fetches exchanges = (exchanges ≡ []) ⊎ (AllByRecursion (IsPathFetch l.device) fetches × AreAmong (bodies_of exchanges) (l.kept ++ fetches))
 
 -- for a device, and a link that carries batches
 module _ (v : Scheme) {B : Type 0} (batches : B → List (List ℕ) → BatchOutcome → List Exchange → B → Type 0) where
@@ -70,6 +84,7 @@ module _ (v : Scheme) {B : Type 0} (batches : B → List (List ℕ) → BatchOut
       (message : List ℕ) × (outstanding p.0 ≡ Some message) × RoundCall batches p.1 message o exchanges q.1 × Steps v p.0 (event_of o) x q.0
   Talks p (Misses o exchanges) q =
       (message : List ℕ) × (outstanding p.0 ≡ Some message) × RoundCall batches p.1 message o exchanges q.1 × (q.0 ≡ p.0)
+  Talks p (GoesAhead exchanges) q = WentAhead batches p.1 (next_bodies v.device p.0) exchanges q.1 × (q.0 ≡ p.0)
   Talks p (Keeps done) q = ⊥
 
   abbrev pub TalksAll : State × Round B → List Act → State × Round B → Type 0
@@ -87,10 +102,11 @@ module _ (v : Scheme) {B K : Type 0} (batches : B → List (List ℕ) → BatchO
   Does p (Hears event x) q = Talks v batches (p.core, p.link) (Hears event x) (q.core, q.link) × (q.keeper ≡ p.keeper)
   Does p (Calls o exchanges x) q = Talks v batches (p.core, p.link) (Calls o exchanges x) (q.core, q.link) × (q.keeper ≡ p.keeper)
   Does p (Misses o exchanges) q = Talks v batches (p.core, p.link) (Misses o exchanges) (q.core, q.link) × (q.keeper ≡ p.keeper)
+  Does p (GoesAhead exchanges) q = Talks v batches (p.core, p.link) (GoesAhead exchanges) (q.core, q.link) × (q.keeper ≡ p.keeper)
   -- once something is kept, nothing else is read back
   Does p (Keeps true) q =
       ((bytes : List ℕ) → reads_back q.keeper bytes → IsFile v bytes (waiting p.link) p.core)
-      × (q.core ≡ p.core) × (q.link ≡ record p.link { kept = waiting p.link; held = [] })
+      × (q.core ≡ p.core) × (q.link ≡ record p.link { kept = waiting p.link; held = []; ahead = [] })
   -- where the keeper fails, that or what was there before
   Does p (Keeps false) q =
       ((bytes : List ℕ) → reads_back q.keeper bytes → IsFile v bytes (waiting p.link) p.core ⊎ reads_back p.keeper bytes)
@@ -106,6 +122,7 @@ module _ (v : Scheme) {B K : Type 0} (batches : B → List (List ℕ) → BatchO
       (message : List ℕ) × (outstanding p.core ≡ Some message) × reads_back p.keeper bytes × IsSent p.link message exchanges
   EndsIn p (Misses o xs) bytes exchanges =
       (message : List ℕ) × (outstanding p.core ≡ Some message) × reads_back p.keeper bytes × IsSent p.link message exchanges
+  EndsIn p (GoesAhead xs) bytes exchanges = reads_back p.keeper bytes × AreSentAhead p.link (next_bodies v.device p.core) exchanges
   EndsIn p (Keeps done) bytes exchanges = (IsFile v bytes (waiting p.link) p.core ⊎ reads_back p.keeper bytes) × (exchanges ≡ [])
 
 module _ (may_lie : Bool) (v : Scheme) where
@@ -124,6 +141,7 @@ module _ (may_lie : Bool) (v : Scheme) where
     pub record_len_is : p.link.record_len ≡ record_len v
     pub live : WillHoldAfter may_lie v p.core (waiting p.link) host array
     pub kept : (bytes : List ℕ) → reads_back p.keeper bytes → IsKept p.link.kept bytes host before array
+    pub ahead : AreAhead may_lie v host p.link
 
 -- the array that may still be read back beside the present one: none other once the process has kept itself
 abbrev pub earlier : List Act → (ℕ → List ℕ) → (ℕ → List ℕ) → ℕ → List ℕ
@@ -133,6 +151,7 @@ earlier (Keeps false ∷ acts) before array = earlier acts before array
 earlier (Hears event x ∷ acts) before array = earlier acts before array
 earlier (Calls o exchanges x ∷ acts) before array = earlier acts before array
 earlier (Misses o exchanges ∷ acts) before array = earlier acts before array
+earlier (GoesAhead exchanges ∷ acts) before array = earlier acts before array
 
 -- Whatever a process does, over a host that is honest or may lie: the device will hold the array, and so will what is read
 -- back, or else it will hold the array from before the last keeping.
@@ -153,7 +172,7 @@ EndsAreSafe {B} {K} batches reads_back = AreBatches batches
 abbrev pub begun : {B K : Type 0} → B → Scheme → List (List ℕ) → State → K → Process B K
 begun inner v stores core keeper = record {
   core = core;
-  link = record { inner = inner; device = v.device; record_len = record_len v; kept = stores; held = []; faults = 0 };
+  link = record { inner = inner; device = v.device; record_len = record_len v; kept = stores; held = []; ahead = []; faults = 0 };
   keeper = keeper;
 }
 
@@ -164,14 +183,14 @@ BegunIsSafe B {K} reads_back = (may_lie : Bool) (v : Scheme) (inner : B) (stores
     → (k : IsKept may_lie v [] bytes host before array) → k.stores ≡ stores → k.core ≡ core → ((other : List ℕ) → reads_back keeper other → other ≡ bytes)
     → IsSafe may_lie v reads_back (begun inner v stores core keeper) host before before ⊎ IsSafe may_lie v reads_back (begun inner v stores core keeper) host array array
 
--- The core goes on with the array, over the host as it will be.
-abbrev pub IsGoingOn : {B K : Type 0} → Scheme → Process B K → Host → (ℕ → List ℕ) → Type 0
-IsGoingOn v p host array = (later : Host) × CatchesUp v host (waiting p.link) later × IsServed v p.core later array
+-- The core goes on with the array, over the host as it will be, which may lie or not.
+abbrev pub IsGoingOn : {B K : Type 0} → Bool → Scheme → Process B K → Host → (ℕ → List ℕ) → Type 0
+IsGoingOn may_lie v p host array = (later : Host) × CatchesUp v host (waiting p.link) later × IsServed v p.core later array × AreAhead may_lie v host p.link
 
 -- The commands at work have the array's replies, in their order, as far as they have any.
-pub record HaveReplies {B K : Type 0} (v : Scheme) (p : Process B K) (array : ℕ → List ℕ) (replies : List Reply) (q : Process B K) (host : Host) : Type 0 where
+pub record HaveReplies {B K : Type 0} (may_lie : Bool) (v : Scheme) (p : Process B K) (array : ℕ → List ℕ) (replies : List Reply) (q : Process B K) (host : Host) : Type 0 where
   pub now : ℕ → List ℕ
-  pub goes_on : IsGoingOn v q host now
+  pub goes_on : IsGoingOn may_lie v q host now
   pub replied : AreReplied v.device (array, p.core.queue) replies (now, q.core.queue)
 
 -- Or the device fails: some have the array's replies, and all others are answered as failed.
@@ -187,6 +206,6 @@ pub record HaveFailed {B K : Type 0} (may_lie : Bool) (v : Scheme) (p : Process 
 abbrev pub RepliesAreTheArrays : {B K : Type 0} → (B → List (List ℕ) → BatchOutcome → List Exchange → B → Type 0) → (K → List ℕ → Type 0) → Type 0
 RepliesAreTheArrays {B} {K} batches reads_back = AreBatches batches
     → (may_lie : Bool) (v : Scheme) (acts : List Act) (p q : Process B K) (host after : Host) (array : ℕ → List ℕ) → IsDevice v.device
-    → p.link.device ≡ v.device → p.link.record_len ≡ record_len v → IsGoingOn v p host array → DoesAll v batches reads_back p acts q
+    → p.link.device ≡ v.device → p.link.record_len ≡ record_len v → IsGoingOn may_lie v p host array → DoesAll v batches reads_back p acts q
     → PlainRun may_lie v host (flat_map exchanges_of acts) after
-    → HaveReplies v p array (flat_map replies_of acts) q after ⊎ HaveFailed may_lie v p array (flat_map replies_of acts) q
+    → HaveReplies may_lie v p array (flat_map replies_of acts) q after ⊎ HaveFailed may_lie v p array (flat_map replies_of acts) q

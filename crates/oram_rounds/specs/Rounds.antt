@@ -7,7 +7,7 @@ use Rattle.oram_session.specs.Outcome.{Outcome, faults_after}
 use Rattle.oram_session.specs.declared.link.LinkFault.{LinkFault}
 use Rattle.oram_link_laws.specs.Repair.{IsAmong}
 use Rattle.oram_link_laws.specs.Runs.{Exchange}
-use Rattle.oram_rounds.specs.Batches.{BatchOutcome}
+use Rattle.oram_rounds.specs.Batches.{BatchOutcome, answered}
 use Rattle.oram_rounds.specs.Overlay.{IsOverlaid}
 use Rattle.oram_rounds.specs.PathMessages.{IsPathFetch, IsPathStore}
 
@@ -18,6 +18,7 @@ pub record Round (B : Type 0) : Type 0 where
   pub record_len : ℕ
   pub kept : List (List ℕ)  -- STOREs that are kept, and that the host hasn't acknowledged
   pub held : List (List ℕ)  -- STOREs since then
+  pub ahead : List Exchange  -- FETCHes that went ahead and that the core hasn't asked for yet, with their answers
   pub faults : ℕ  -- how many calls had a fault
 
 -- the STOREs that the host has still to carry out, the oldest first
@@ -46,6 +47,7 @@ module _ {B : Type 0} (batches : B → List (List ℕ) → BatchOutcome → List
     pub same : m.inner ≡ l.inner
     pub kept : m.kept ≡ l.kept
     pub held : m.held ≡ l.held ++ body ∷ []
+    pub ahead : m.ahead ≡ l.ahead
 
   -- the answers to the STOREs that were kept, and the one to the FETCH behind them
   pub record Gives (l : Round B) {body : List ℕ} (fetch : IsPathFetch d body) (answers : List (List ℕ)) (o : Outcome) (m : Round B) : Type 0 where
@@ -62,6 +64,7 @@ module _ {B : Type 0} (batches : B → List (List ℕ) → BatchOutcome → List
     pub outcome : BatchOutcome
     pub batch : batches l.inner (l.kept ++ body ∷ []) outcome exchanges m.inner
     pub held : m.held ≡ l.held
+    pub ahead : m.ahead ≡ l.ahead
     pub gives : MatchResult outcome (λ answers. Gives l path answers o m) (λ fault. (o ≡ Err fault) × (m.kept ≡ l.kept))
 
   -- nothing goes to the host: memory ran out, or a core at work sends no such message
@@ -72,14 +75,58 @@ module _ {B : Type 0} (batches : B → List (List ℕ) → BatchOutcome → List
     pub same : m.inner ≡ l.inner
     pub kept : m.kept ≡ l.kept
     pub held : m.held ≡ l.held
+    pub ahead : m.ahead ≡ l.ahead
+
+  -- the FETCH is the next one that went ahead: its answer is here
+  pub record Takes (l : Round B) (body : List ℕ) (o : Outcome) (exchanges : List Exchange) (m : Round B) : Type 0 where
+    pub path : IsPathFetch d body
+    pub answer : List ℕ
+    pub next : l.ahead ≡ (body, Ok answer) ∷ m.ahead
+    pub given : List ℕ
+    pub told : o ≡ Ok given
+    pub over : IsOverlaid d record_len path.tree path.leaf l.held answer given
+    pub none : exchanges ≡ []
+    pub same : m.inner ≡ l.inner
+    pub kept : m.kept ≡ l.kept
+    pub held : m.held ≡ l.held
 
   abbrev pub Does : Round B → List ℕ → Outcome → List Exchange → Round B → Type 0
-  Does l body o exchanges m = Holds l body o exchanges m ⊎ (Fetches l body o exchanges m ⊎ Declines l o exchanges m)
+  Does l body o exchanges m = Holds l body o exchanges m ⊎ (Fetches l body o exchanges m ⊎ (Declines l o exchanges m ⊎ Takes l body o exchanges m))
+
+  -- The answers to the STOREs that were kept, and those to the FETCHes behind them. Unless each STORE was carried out, nothing
+  -- is ahead.
+  pub record GivesAhead (l : Round B) (fetches answers : List (List ℕ)) (m : Round B) : Type 0 where
+    pub acks : List (List ℕ)
+    pub given : List (List ℕ)
+    pub all : answers ≡ acks ++ given
+    pub count : length acks ≡ length l.kept
+    pub either : (AreDone acks × (m.kept ≡ []) × (m.ahead ≡ answered fetches given)) ⊎ ((m.kept ≡ l.kept) × (m.ahead ≡ []))
+
+  -- several FETCHes go to the host behind the STOREs that are kept, before the core asks for them
+  pub record SendsAhead (l : Round B) (fetches : List (List ℕ)) (exchanges : List Exchange) (m : Round B) : Type 0 where
+    pub paths : AllByRecursion (IsPathFetch d) fetches
+    pub outcome : BatchOutcome
+    pub batch : batches l.inner (l.kept ++ fetches) outcome exchanges m.inner
+    pub gives : MatchResult outcome (λ answers. GivesAhead l fetches answers m) (λ fault. (m.kept ≡ l.kept) × (m.ahead ≡ []))
+
+  -- nothing goes ahead
+  pub record SendsNone (l : Round B) (exchanges : List Exchange) (m : Round B) : Type 0 where
+    pub none : exchanges ≡ []
+    pub same : m.inner ≡ l.inner
+    pub kept : m.kept ≡ l.kept
+    pub ahead : m.ahead ≡ []
 
 pub record RoundCall {B : Type 0} (batches : B → List (List ℕ) → BatchOutcome → List Exchange → B → Type 0) (l : Round B) (body : List ℕ) (o : Outcome) (exchanges : List Exchange) (m : Round B) : Type 0 where
   pub device : m.device ≡ l.device
   pub record_len : m.record_len ≡ l.record_len
   pub does : Does batches l.device l.record_len l body o exchanges m
+
+-- FETCHes go ahead, or nothing does; what went ahead before is forgotten
+pub record WentAhead {B : Type 0} (batches : B → List (List ℕ) → BatchOutcome → List Exchange → B → Type 0) (l : Round B) (fetches : List (List ℕ)) (exchanges : List Exchange) (m : Round B) : Type 0 where
+  pub device : m.device ≡ l.device
+  pub record_len : m.record_len ≡ l.record_len
+  pub held : m.held ≡ l.held
+  pub does : SendsAhead batches l.device l.record_len l fetches exchanges m ⊎ SendsNone batches l.device l.record_len l exchanges m
 
 -- such a call, with some exchanges; the number of faults rises where the call has one
 pub record IsCounted {B : Type 0} (batches : B → List (List ℕ) → BatchOutcome → List Exchange → B → Type 0) (l : Round B) (body : List ℕ) (o : Outcome) (m : Round B) : Type 0 where

@@ -2,7 +2,7 @@
 ghost use Rattle.oram_rounds.specs.Start.{AskedIsSubmitted, HeldIsSafe, SubmittedIsSafe};
 ghost use Rattle.oram_rounds.specs.Examples.{NewProcessExample, OneWaitsExample};
 ghost use Rattle.oram_rounds.specs.Files.{FilesTellOfOneProcess};
-ghost use Rattle.oram_rounds.specs.Law.{CallsAreOfTheHostLater};
+ghost use Rattle.oram_rounds.specs.Law.{AheadIsOfTheHost, CallsAreOfTheHostLater};
 ghost use Rattle.oram_rounds.specs.Process.{ActsAreSafe, BegunIsSafe, EndsAreSafe, RepliesAreTheArrays};
 
 use crate::batch::BatchLink;
@@ -13,6 +13,13 @@ use crate::keeper::Keeper;
 /// the STOREs that wait then. So what is proved of a core over a host holds over a link that holds STOREs back.
 pub fn calls_are_of_the_host_later<B: BatchLink>()
     ensures { CallsAreOfTheHostLater B.batches }
+{}
+
+/// A law about definitions: the STOREs that are kept and FETCHes behind them are sent before the core asks for them. Then the
+/// host beside catches up to what it would have caught up to before, and the answers that are ahead are the ones that it
+/// gives now. So [`calls_are_of_the_host_later`] holds of the calls that are answered from them.
+pub fn ahead_is_of_the_host<B: BatchLink>()
+    ensures { AheadIsOfTheHost B.batches }
 {}
 
 /// A server that keeps a record of zeros, and a STORE of ones that waits, meet the premises of

@@ -12,6 +12,7 @@
 //! be given at once, since what is kept has the commands.
 #![tactic(auto)]
 
+mod ahead;
 mod batch;
 mod exchanges;
 mod keeper;
@@ -31,9 +32,9 @@ pub use exchanges::carry_out_all;
 pub use keeper::{KeepError, Keeper};
 pub use kept_file::{KeptCore, KeptCoreFault, decode_kept, encode_kept};
 pub use law::{
-    acts_are_safe, asked_is_submitted, begun_is_safe, calls_are_of_the_host_later, ends_are_safe,
-    files_tell_of_one_process, held_is_safe, new_process_example, one_waits_example,
-    replies_are_the_arrays, submitted_is_safe,
+    acts_are_safe, ahead_is_of_the_host, asked_is_submitted, begun_is_safe,
+    calls_are_of_the_host_later, ends_are_safe, files_tell_of_one_process, held_is_safe,
+    new_process_example, one_waits_example, replies_are_the_arrays, submitted_is_safe,
 };
 pub use one_by_one::OneByOne;
 pub use records::record_len;

@@ -16,17 +16,19 @@ pub struct OneByOne<L> {
     pub link: L,
 }
 
-/// Sends each of the bodies and returns their answers.
+/// Sends each of the bodies and returns their answers, in a list with room for `more` of them: so that memory runs out before the
+/// first body is sent, if it does.
 fn call_each<L: Link>(
     alloc: Global,
     link: &mut L,
     bodies: &[Vec<u8>],
+    more: usize,
 ) -> Result<Vec<Vec<u8>>, LinkFault>
     ensures count { IfOk result (λ answers. length (texts answers.items) ≡ length (texts bodies.now)) }
     ensures ok { IfOk result (λ answers. LinkRun L.calls link.old (answered (texts bodies.now) (texts answers.items)) link.new) }
     ensures err { OnErr result ((exchanges : List Exchange) × LinkRun L.calls link.old exchanges link.new × AreAmong (bodies_of exchanges) (texts bodies.now)) }
 {
-    let mut answers = Vec::with_capacity(alloc, bodies.len() + 1)?;
+    let mut answers = Vec::with_capacity(alloc, bodies.len().saturating_add(more))?;
     for body in bodies {
         let answer = link.call(alloc, body)?;
         push(&mut answers, answer)?;
@@ -46,8 +48,8 @@ impl<L: Link> BatchLink for OneByOne<L> {
         first: &[Vec<u8>],
         last: &[Vec<u8>],
     ) -> Result<Vec<Vec<u8>>, LinkFault> {
-        let mut answers = call_each(alloc, &mut self.link, first)?;
-        let mut later = call_each(alloc, &mut self.link, last)?;
+        let mut answers = call_each(alloc, &mut self.link, first, last.len())?;
+        let mut later = call_each(alloc, &mut self.link, last, 0)?;
         answers.append(&mut later)?;
         Ok(answers)
     }

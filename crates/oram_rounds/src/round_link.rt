@@ -1,5 +1,6 @@
 //! A link that holds STOREs back.
 ghost use Rattle.std.specs.Prelude.{◌≡◌, ◌≢◌, ◌↔◌, ◌+◌, ◌*◌, ◌^◌, ◌<◌, [], ◌∷◌, ◌++◌, List, IsTrue, MatchOption, MatchResult, OnOk, OnErr};
+ghost use Rattle.std.specs.List.{AllByRecursion};
 ghost use Rattle.oram_geometry.specs.Sizes.{depth_of, trees_of};
 ghost use Rattle.oram_wire.specs.HostMessages.{done_answer, fetch_body};
 ghost use Rattle.oram_session.specs.Outcome.{outcome_of};
@@ -7,9 +8,10 @@ ghost use Rattle.oram_link_laws.specs.Repair.{IsAmong};
 ghost use Rattle.oram_link_laws.specs.Runs.{Exchange};
 ghost use Rattle.oram_rounds.specs.Batches.{texts};
 ghost use Rattle.oram_rounds.specs.Overlay.{IsOverlaid};
-ghost use Rattle.oram_rounds.specs.PathMessages.{ArePathStores, IsPathStore};
-ghost use Rattle.oram_rounds.specs.Rounds.{AreDone, Does, refused_with, waiting};
+ghost use Rattle.oram_rounds.specs.PathMessages.{ArePathStores, IsPathFetch, IsPathStore};
+ghost use Rattle.oram_rounds.specs.Rounds.{AreDone, Does, WentAhead, refused_with, waiting};
 
+use crate::ahead::Ahead;
 use crate::batch::BatchLink;
 use crate::lists::push;
 use crate::overlay::{laid_over, path_len};
@@ -24,6 +26,9 @@ use std::marker::Model;
 /// It answers a STORE at once and holds it back. A FETCH takes the STOREs along that are kept ([`RoundLink::keep`]), and is
 /// answered by what the host has there once it has carried out all STOREs so far. If the host refuses a STORE, the core
 /// receives that refusal as the answer to its FETCH. A core at work sends no other messages; the link declines them.
+///
+/// FETCHes that the core will ask for may go ahead together ([`RoundLink::go_ahead`]). Then each of them is answered without
+/// waiting for the host.
 #[derive(Drop)]
 pub struct RoundLink<B> {
     inner: B,
@@ -33,6 +38,7 @@ pub struct RoundLink<B> {
     stores: Vec<Vec<u8>>,
     /// How many of them are kept; those are the oldest.
     kept: usize,
+    ahead: Ahead,
     faults: u64,
 }
 
@@ -44,7 +50,7 @@ impl<B> Model for RoundLink<B> {
 
     ghost Value = { Round B };
 
-    ghost view = { λ l. record { inner = l.inner; device = l.device; record_len = l.record_len; kept = texts (take l.kept l.stores.items); held = texts (drop l.kept l.stores.items); faults = l.faults } };
+    ghost view = { λ l. record { inner = l.inner; device = l.device; record_len = l.record_len; kept = texts (take l.kept l.stores.items); held = texts (drop l.kept l.stores.items); ahead = l.ahead; faults = l.faults } };
 
     ghost invariant = { λ l. (l.record_len < 2 ^ 32) × (l.kept ≤ length l.stores.items) × ArePathStores l.device l.record_len (texts (take l.kept l.stores.items)) × ArePathStores l.device l.record_len (texts (drop l.kept l.stores.items)) };
 }
@@ -86,6 +92,40 @@ fn are_path_stores(device: &Device, record_len: usize, bodies: &[Vec<u8>]) -> bo
     true
 }
 
+/// Returns whether a message is a FETCH of a path of the device.
+fn is_path_fetch(device: &Device, body: &[u8]) -> bool
+    ensures { IsTrue result ↔ IsPathFetch device.now body.now }
+{
+    match HostView::read(body) {
+        Ok(HostView::Fetch { tree, leaf }) => has_leaf(device, tree, leaf),
+        _ => false,
+    }
+}
+
+/// Returns whether all messages are FETCHes of paths of the device.
+fn are_path_fetches(device: &Device, bodies: &[Vec<u8>]) -> bool
+    ensures { IsTrue result ↔ AllByRecursion (IsPathFetch device.now) (texts bodies.now) }
+{
+    for body in bodies {
+        if !is_path_fetch(device, body) {
+            return false;
+        }
+    }
+    true
+}
+
+/// Returns whether each answer says that the host has done what it was asked.
+fn are_done(answers: &[Vec<u8>]) -> bool
+    ensures { IsTrue result ↔ AreDone (texts answers.now) }
+{
+    for answer in answers {
+        if !is_done(answer) {
+            return false;
+        }
+    }
+    true
+}
+
 /// Returns the first answer that doesn't say that the host has done what it was asked.
 fn first_refusal(mut answers: Vec<Vec<u8>>) -> Option<Vec<u8>>
     ensures { MatchOption result (AreDone (texts answers.items)) (λ refusal. IsAmong refusal.items (texts answers.items) × (refusal.items ≢ done_answer)) }
@@ -112,7 +152,7 @@ impl<B> RoundLink<B> {
     /// Makes a link for a device whose records have `record_len` bytes, at which no STOREs wait.
     pub fn new(alloc: Global, inner: B, device: Device, record_len: usize) -> RoundLink<B>
         requires { record_len < 2 ^ 32 }
-        ensures { result ≡ record { inner = inner; device = device; record_len = record_len; kept = []; held = []; faults = 0 } }
+        ensures { result ≡ record { inner = inner; device = device; record_len = record_len; kept = []; held = []; ahead = []; faults = 0 } }
     {
         RoundLink {
             inner,
@@ -120,6 +160,7 @@ impl<B> RoundLink<B> {
             record_len,
             stores: Vec::new(alloc),
             kept: 0,
+            ahead: Ahead::none(alloc),
             faults: 0,
         }
     }
@@ -127,6 +168,7 @@ impl<B> RoundLink<B> {
     /// Makes a link at which these STOREs wait and are kept, the oldest first. Returns `None` if one of them isn't a STORE
     /// of a whole path of the device.
     pub fn with_kept(
+        alloc: Global,
         inner: B,
         device: Device,
         record_len: usize,
@@ -136,7 +178,7 @@ impl<B> RoundLink<B> {
         B: Drop,
         requires { record_len < 2 ^ 32 }
         ensures { MatchOption result (¬ ArePathStores device record_len (texts stores.items))
-            (λ l. l ≡ record { inner = inner; device = device; record_len = record_len; kept = texts stores.items; held = []; faults = 0 }) }
+            (λ l. l ≡ record { inner = inner; device = device; record_len = record_len; kept = texts stores.items; held = []; ahead = []; faults = 0 }) }
     {
         if !are_path_stores(&device, record_len, &stores) {
             return None;
@@ -148,6 +190,7 @@ impl<B> RoundLink<B> {
             record_len,
             stores,
             kept,
+            ahead: Ahead::none(alloc),
             faults: 0,
         })
     }
@@ -182,10 +225,11 @@ impl<B> RoundLink<B> {
         &self.stores
     }
 
-    /// Notes that all STOREs that wait are kept, so they leave with the next FETCH.
-    pub fn keep(&mut self)
-        ensures { self.new ≡ record self.old { kept = self.old.kept ++ self.old.held; held = [] } }
+    /// Notes that all STOREs that wait are kept, so they leave with the next FETCH. Forgets what went ahead.
+    pub fn keep(&mut self, alloc: Global)
+        ensures { self.new ≡ record self.old { kept = self.old.kept ++ self.old.held; held = []; ahead = [] } }
     {
+        self.ahead = Ahead::none(alloc); // It lacks what these STOREs change.
         self.kept = self.stores.len();
     }
 
@@ -227,6 +271,50 @@ impl<B> RoundLink<B> {
 }
 
 impl<B: BatchLink> RoundLink<B> {
+    /// Sends FETCHes behind the STOREs that are kept, all at once, before the core asks for them. Later calls with these
+    /// FETCHes, in this order, are answered from what came. What went ahead before is forgotten.
+    ///
+    /// Nothing is ahead afterwards if the batch has a fault, if the host refuses a STORE, if memory runs out, or if a body
+    /// isn't a FETCH of a path of the device. Then each FETCH is sent when the core asks for it.
+    pub fn go_ahead(&mut self, alloc: Global, fetches: Vec<Vec<u8>>)
+        ensures { (exchanges : List Exchange) × WentAhead B.batches self.old (texts fetches.items) exchanges self.new }
+    {
+        self.ahead = Ahead::none(alloc);
+        if !are_path_fetches(&self.device, &fetches) {
+            return;
+        }
+        let kept = self.kept;
+        let Ok(mut answers) = self.inner.call_all(alloc, &self.stores[..kept], &fetches) else {
+            return;
+        };
+        if are_done(&answers[..kept]) {
+            self.forget_kept();
+            answers.rotate_left(kept);
+            answers.truncate(fetches.len());
+            self.ahead = Ahead::of(fetches, answers);
+        }
+    }
+
+    /// Answers a FETCH from what went ahead, if it is the next one there, and else sends it behind the STOREs that are kept.
+    fn fetch_next(
+        &mut self,
+        alloc: Global,
+        tree: u8,
+        leaf: u32,
+        body: &[u8],
+    ) -> Result<Vec<u8>, LinkFault>
+        requires tree { tree < trees_of self.old.device }
+        requires leaf { leaf < 2 ^ depth_of self.old.device tree }
+        requires body { body.now ≡ fetch_body tree leaf }
+        ensures same { self.new ≡ record self.old { inner = self.new.inner; kept = self.new.kept; ahead = self.new.ahead } }
+        ensures call { (exchanges : List Exchange) × Does B.batches self.old.device self.old.record_len self.old body.now (outcome_of result) exchanges self.new }
+    {
+        match self.ahead.take(body) {
+            Some(answer) => Ok(self.overlaid(tree, leaf, answer)),
+            None => self.fetch(alloc, tree, leaf, body),
+        }
+    }
+
     /// Sends a FETCH behind the STOREs that are kept.
     fn fetch(
         &mut self,
@@ -256,12 +344,12 @@ impl<B: BatchLink> RoundLink<B> {
 
     /// Passes a message on, without counting faults.
     fn pass(&mut self, alloc: Global, body: &[u8]) -> Result<Vec<u8>, LinkFault>
-        ensures same { self.new ≡ record self.old { inner = self.new.inner; kept = self.new.kept; held = self.new.held } }
+        ensures same { self.new ≡ record self.old { inner = self.new.inner; kept = self.new.kept; held = self.new.held; ahead = self.new.ahead } }
         ensures call { (exchanges : List Exchange) × Does B.batches self.old.device self.old.record_len self.old body.now (outcome_of result) exchanges self.new }
     {
         match HostView::read(body) {
             Ok(HostView::Fetch { tree, leaf }) if has_leaf(&self.device, tree, leaf) => {
-                self.fetch(alloc, tree, leaf, body)
+                self.fetch_next(alloc, tree, leaf, body)
             }
             Ok(
                 HostView::Store {

@@ -35,7 +35,7 @@ pub fn keep<S: Sealer, B, K: Keeper>(
     // Whatever is read back then is the file of the core and of these STOREs.
     ensures ok { let v = scheme_of S.cipher core.now in
         OnOk result (((bytes : List ℕ) → K.reads_back keeper.new bytes → IsFile v bytes (waiting link.old) core.now.state)
-        × (link.new ≡ record link.old { kept = waiting link.old; held = [] })) }
+        × (link.new ≡ record link.old { kept = waiting link.old; held = []; ahead = [] })) }
     // After a fault it is that file, or what was there before.
     ensures err { let v = scheme_of S.cipher core.now in
         OnErr result (((bytes : List ℕ) → K.reads_back keeper.new bytes → IsFile v bytes (waiting link.old) core.now.state ⊎ K.reads_back keeper.old bytes)
@@ -45,12 +45,15 @@ pub fn keep<S: Sealer, B, K: Keeper>(
 {
     let file = encode_kept(alloc, link.waiting(), core)?;
     keeper.keep(&file)?;
-    link.keep();
+    link.keep(alloc);
     Ok(())
 }
 
 /// Keeps the commands that are at work, carries them out, and returns their replies in order. These may be given at once:
 /// what is kept has the commands, so a process that begins with it carries them out again, with the same effect.
+///
+/// The first FETCH of each command goes ahead as soon as all of them are kept. So over one tree a round waits for the host
+/// once, and over more trees once, and then once for each command and each tree but the last.
 pub fn perform<S: Sealer, B: BatchLink, K: Keeper>(
     alloc: Global,
     core: &mut Core<S>,
@@ -80,6 +83,8 @@ pub fn perform<S: Sealer, B: BatchLink, K: Keeper>(
     ensures stalled { IsErrOf result RoundFault.Stalled → status_in core.new.state ≡ Stalling }
 {
     keep(alloc, core, link, keeper)?;
+    let fetches = core.next_fetches(alloc)?;
+    link.go_ahead(alloc, fetches);
     match carry_out_all(alloc, core, link, reaction) {
         Ok(replies) => Ok(replies),
         Err(ServeFault::Stalled) => Err(RoundFault::Stalled),

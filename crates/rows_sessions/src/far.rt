@@ -46,7 +46,7 @@ impl RemoteSession {
     /// Lets a host answer everything that was asked.
     fn answer(&mut self, alloc: Global) -> Result<(), RowFault> {
         let (_core, server) = formatted(alloc, self.numbers)?;
-        let mut host = WatchedServer::over(server);
+        let mut host = WatchedServer::over(Box::into_inner(server));
         let mut answers = LimitedWriter::ample(alloc);
         let mut asked = self.asked.text()?;
         let _ended = host_serve(alloc, &mut asked, &mut answers, &mut host);

@@ -4,9 +4,7 @@ use oram_bucket::PlainSeal;
 use oram_core::{Core, Note};
 use oram_geometry::Device;
 use oram_host::ServeFault;
-use oram_rounds::{KeepError, KeptCoreFault, RoundFault};
 use oram_session::LinkFault;
-use oram_state::StateFault;
 use rows::{Page, RowFault, RowWords};
 
 /// Writes how many requests were carried out if all were, or why there were no more.
@@ -73,41 +71,37 @@ pub(crate) fn device_of(numbers: [u64; 5]) -> Result<Device, RowFault> {
     }
 }
 
-/// `names of link faults`, `names of session faults`, `names of keeping faults`: writes the name of each
-/// fault.
+/// `names of link faults` and `names of session faults`: writes the name of each fault.
 pub(crate) fn names(words: &mut RowWords, page: &mut Page) -> Result<(), RowFault> {
     match words.all() {
         "of link faults" => tell_link_faults(page),
         "of session faults" => tell_session_faults(page),
-        "of keeping faults" => tell_keeping_faults(page),
         _ => return Err(RowFault::NoRow),
     }
     Ok(())
 }
 
 fn tell_link_faults(page: &mut Page) {
-    page.fault(LinkFault::Io);
-    page.fault(LinkFault::Closed);
-    page.fault(LinkFault::TooLong);
-    page.fault(LinkFault::TooLarge);
-    page.fault(LinkFault::OutOfMemory);
+    for fault in [
+        LinkFault::Io,
+        LinkFault::Closed,
+        LinkFault::TooLong,
+        LinkFault::TooLarge,
+        LinkFault::OutOfMemory,
+    ] {
+        page.fault(fault);
+    }
 }
 
 fn tell_session_faults(page: &mut Page) {
-    page.fault(ServeFault::Read);
-    page.fault(ServeFault::Write);
-    page.fault(ServeFault::Frame);
-    page.fault(ServeFault::Truncated);
-    page.fault(ServeFault::Stalled);
-    page.fault(ServeFault::OutOfMemory);
-}
-
-fn tell_keeping_faults(page: &mut Page) {
-    page.fault(RoundFault::Stalled);
-    page.fault(RoundFault::NotKept);
-    page.fault(RoundFault::OutOfMemory);
-    page.fault(KeepError);
-    page.fault(KeptCoreFault::Torn);
-    page.fault(KeptCoreFault::State(StateFault::Digest));
-    page.fault(KeptCoreFault::OutOfMemory);
+    for fault in [
+        ServeFault::Read,
+        ServeFault::Write,
+        ServeFault::Frame,
+        ServeFault::Truncated,
+        ServeFault::Stalled,
+        ServeFault::OutOfMemory,
+    ] {
+        page.fault(fault);
+    }
 }

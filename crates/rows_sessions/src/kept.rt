@@ -20,7 +20,7 @@ use std::net::Net;
 pub(crate) struct Kept<'a, R: Net> {
     pub(crate) net: &'a CuttableNet<R>,
     link: Option<AnyLink<'a, R>>,
-    core: Option<Core<PlainSeal>>,
+    core: Option<Box<Core<PlainSeal>>>,
 }
 
 impl<'a, R: Net> Kept<'a, R> {
@@ -61,7 +61,8 @@ impl<'a, R: Net> Kept<'a, R> {
         page: &mut Page,
     ) -> Result<(), RowFault> {
         self.core = None;
-        self.link = Some(AnyLink::read(alloc, words, self.net, Server::new(alloc))?);
+        let server = Box::new(alloc, Server::new(alloc))?;
+        self.link = Some(AnyLink::read(alloc, words, self.net, server)?);
         page.word("new");
         Ok(())
     }
@@ -73,16 +74,16 @@ impl<'a, R: Net> Kept<'a, R> {
         words: &mut RowWords,
         page: &mut Page,
     ) -> Result<(), RowFault> {
-        let server = self.take_server()?;
+        let server = self.take_server(alloc)?;
         self.link = Some(AnyLink::read(alloc, words, self.net, server)?);
         page.word("new");
         Ok(())
     }
 
     /// Takes the server of the `direct` link, and removes the link.
-    fn take_server(&mut self) -> Result<Server, RowFault> {
+    fn take_server(&mut self, alloc: Global) -> Result<Box<Server>, RowFault> {
         match self.link.take() {
-            Some(link) => link.into_server(),
+            Some(link) => link.into_server(alloc),
             None => Err(RowFault::NoRow),
         }
     }
@@ -127,9 +128,9 @@ impl<'a, R: Net> Kept<'a, R> {
         words: &mut RowWords,
         page: &mut Page,
     ) -> Result<(), RowFault> {
-        let mut server = self.take_server()?;
+        let mut server = self.take_server(alloc)?;
         let flipped = server.flip(words.number(), words.number(), words.number());
-        self.link = Some(AnyLink::direct(alloc, server));
+        self.link = Some(AnyLink::direct(alloc, server)?);
         page.flag(flipped);
         Ok(())
     }
@@ -193,13 +194,13 @@ fn formatted<R: Net>(
     device: Device,
     link: &mut AnyLink<'_, R>,
     page: &mut Page,
-) -> Result<Option<Core<PlainSeal>>, RowFault> {
+) -> Result<Option<Box<Core<PlainSeal>>>, RowFault> {
     let made = format_device(alloc, device, PlainSeal, link);
     link.check_memory()?;
     match made {
         Ok(core) => {
             page.word(standing(&core));
-            return Ok(Some(core));
+            return Ok(Some(Box::new(alloc, core)?));
         }
         Err(FormatFault::Sink(SinkFault::Refused)) => page.word("refused"),
         Err(FormatFault::Sink(SinkFault::Link)) => page.word("the link has a fault"),

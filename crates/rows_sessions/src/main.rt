@@ -1,43 +1,25 @@
-//! Rows of sessions: links and tapes, and devices that are formatted, served, resumed, and kept through whole lives.
+//! Rows of sessions: links and tapes, devices that are formatted, served and resumed, and the service of a host.
 #![tactic(auto)]
 
 mod answers;
 mod ends;
-mod everywhere;
 mod far;
 mod faults;
-mod hosts;
-mod keepers;
 mod kept;
-mod kept_files;
-mod life_rows;
-mod lives;
 mod network;
-mod plain_arrays;
-mod rounds;
 mod sessions;
-mod storms;
 mod streams;
 mod tapes;
 mod ways;
 
-use crate::hosts::HostPlace;
 use crate::kept::Kept;
 use crate::network::CuttableNet;
-use crate::rounds::Rounds;
 use rows::{Page, RowFault, RowWords, Table, run_table};
 use std::alloc::Global;
 use std::net::Net;
 use std::process::ExitCode;
 
-/// What is kept from row to row.
-#[derive(Drop)]
-struct Tables<'a, R: Net> {
-    kept: Kept<'a, R>,
-    rounds: Rounds<'a>,
-}
-
-impl<R: Net> Table for Tables<'_, R> {
+impl<R: Net> Table for Kept<'_, R> {
     fn answer(
         &mut self,
         alloc: Global,
@@ -51,35 +33,16 @@ impl<R: Net> Table for Tables<'_, R> {
             "chacha_words" => tapes::chacha_words(alloc, words, page),
             "hosted" => answers::hosted(alloc, words, page),
             "stream" => streams::stream(alloc, words, page),
-            "session" => sessions::session(alloc, self.kept.net, words, page),
+            "session" => sessions::session(alloc, self.net, words, page),
             "far_session" => far::far_session(alloc, words, page),
-            "lives" => life_rows::lives(alloc, words, page),
-            "storm" => storms::run_storm(alloc, words, page),
-            "ends_everywhere" => everywhere::ends_everywhere(alloc, words, page),
-            "link"
-            | "relink"
-            | "call"
-            | "calls"
-            | "cut"
-            | "flip"
-            | "format"
-            | "resume"
-            | "read"
-            | "lost"
-            | "answer" => self.kept.make(alloc, call, words, page),
-            _ => self.rounds.make(alloc, call, words, page),
+            _ => self.make(alloc, call, words, page),
         }
     }
 }
 
 /// Answers the rows of standard input, with links over a network.
 fn answer_rows<R: Input + Print + AllocGlobal, N: Net>(rt: &R, net: &CuttableNet<N>) -> ExitCode {
-    let place = HostPlace::new();
-    let mut tables = Tables {
-        kept: Kept::new(net),
-        rounds: Rounds::new(&place),
-    };
-    run_table(rt, &mut tables)
+    run_table(rt, &mut Kept::new(net))
 }
 
 /// Answers the rows over the network `net`, which it takes over.

@@ -6,6 +6,7 @@ use crate::network::CuttableNet;
 use crate::ways::AnyLink;
 use oram_bucket::PlainSeal;
 use oram_core::Core;
+use oram_geometry::Device;
 use oram_host::Server;
 use oram_session::{
     ChaChaTape, Direct, Link, ListTape, ServeFault, Tape, format_device, is_settled, serve,
@@ -14,16 +15,27 @@ use rows::{Page, RowFault, RowWords};
 use std::alloc::Global;
 use std::net::Net;
 
-/// Formats a device over a link. Returns its core, and the host that has its records.
+/// Formats a device over a link. Returns its core.
+fn formatted_over(
+    alloc: Global,
+    device: Device,
+    link: &mut Direct,
+) -> Result<Box<Core<PlainSeal>>, RowFault> {
+    match format_device(alloc, device, PlainSeal, link) {
+        Ok(core) => Ok(Box::new(alloc, core)?),
+        Err(_) => Err(RowFault::OutOfMemory),
+    }
+}
+
+/// Formats a device on a new host. Returns its core, and the host. Both lie in boxes, so that a function that has them has
+/// two plain values to drop, and so is proved sooner.
 pub(crate) fn formatted(
     alloc: Global,
     numbers: [u64; 5],
-) -> Result<(Core<PlainSeal>, Server), RowFault> {
+) -> Result<(Box<Core<PlainSeal>>, Box<Server>), RowFault> {
     let mut link = Direct::new(alloc, Server::new(alloc));
-    match format_device(alloc, device_of(numbers)?, PlainSeal, &mut link) {
-        Ok(core) => Ok((core, link.into_server())),
-        Err(_) => Err(RowFault::OutOfMemory),
-    }
+    let core = formatted_over(alloc, device_of(numbers)?, &mut link)?;
+    Ok((core, Box::new(alloc, link.into_server())?))
 }
 
 /// Serves a session, with words from the tape.
@@ -79,12 +91,24 @@ fn session_with<R: Net, T: Tape>(
 ) -> Result<(), RowFault> {
     let (mut core, server) = formatted(alloc, numbers)?;
     let mut link = AnyLink::read(alloc, words, net, server)?;
+    session_over(alloc, &mut core, &mut link, tape, words, page)
+}
+
+/// Serves a session of a core over a link, reading from the words of the reader on.
+fn session_over<R: Net, T: Tape>(
+    alloc: Global,
+    core: &mut Core<PlainSeal>,
+    link: &mut AnyLink<'_, R>,
+    tape: &mut T,
+    words: &mut RowWords,
+    page: &mut Page,
+) -> Result<(), RowFault> {
     let mut given = RowReader::read(alloc, words)?;
     let mut sheet = LimitedWriter::read(alloc, words)?;
-    let ended = served(alloc, &mut core, &mut link, tape, &mut given, &mut sheet)?;
+    let ended = served(alloc, core, link, tape, &mut given, &mut sheet)?;
     link.check_memory()?;
     page.bytes(sheet.text()?);
     tell_end(page, ended)?;
-    page.word(standing(&core));
+    page.word(standing(core));
     link.tell(page)
 }

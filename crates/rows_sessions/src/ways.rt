@@ -10,13 +10,14 @@ use rows::{Page, RowFault, RowWords};
 use std::alloc::Global;
 use std::net::Net;
 
-/// A link of one of the kinds.
+/// A link of one of the kinds. Most of them lie in boxes, so that a function that has a link has less to drop, and so is proved
+/// sooner.
 #[derive(Drop)]
 enum Way<'a, R: Net> {
-    Direct(Direct),
-    Faults(FaultLink<Direct>),
+    Direct(Box<Direct>),
+    Faults(Box<FaultLink<Direct>>),
     Loop(LoopLink<&'a CuttableNet<R>>),
-    Stream(StreamLink<RowReader, LimitedWriter>),
+    Stream(Box<StreamLink<RowReader, LimitedWriter>>),
 }
 
 impl<R: Net> Way<'_, R> {
@@ -72,19 +73,20 @@ impl<'a, R: Net> AnyLink<'a, R> {
         alloc: Global,
         words: &mut RowWords,
         net: &'a CuttableNet<R>,
-        server: Server,
+        server: Box<Server>,
     ) -> Result<AnyLink<'a, R>, RowFault> {
         let way = match words.text() {
-            "direct" => Way::Direct(Direct::new(alloc, server)),
-            "forgetful" => Way::Direct(Direct::new(alloc, Server::new(alloc))),
+            "direct" => direct(alloc, Box::into_inner(server))?,
+            "forgetful" => direct(alloc, Server::new(alloc))?,
             "faults" => Way::Faults(faulty(alloc, words, server)?),
-            "loop" => match LoopLink::open(net, alloc, server) {
+            "loop" => match LoopLink::open(net, alloc, Box::into_inner(server)) {
                 Ok(link) => Way::Loop(link),
                 Err(_) => return Err(RowFault::NoRow),
             },
             "stream" => {
                 let answers = RowReader::read(alloc, words)?;
-                Way::Stream(StreamLink::new(alloc, answers, LimitedWriter::ample(alloc)))
+                let link = StreamLink::new(alloc, answers, LimitedWriter::ample(alloc));
+                Way::Stream(Box::new(alloc, link)?)
             }
             _ => return Err(RowFault::NoRow),
         };
@@ -92,8 +94,8 @@ impl<'a, R: Net> AnyLink<'a, R> {
     }
 
     /// Makes a `direct` link.
-    pub(crate) fn direct(alloc: Global, server: Server) -> AnyLink<'a, R> {
-        AnyLink::over(Way::Direct(Direct::new(alloc, server)))
+    pub(crate) fn direct(alloc: Global, server: Box<Server>) -> Result<AnyLink<'a, R>, RowFault> {
+        Ok(AnyLink::over(direct(alloc, Box::into_inner(server))?))
     }
 
     fn over(way: Way<'a, R>) -> AnyLink<'a, R> {
@@ -106,9 +108,9 @@ impl<'a, R: Net> AnyLink<'a, R> {
     }
 
     /// Returns the server of a `direct` link.
-    pub(crate) fn into_server(self) -> Result<Server, RowFault> {
+    pub(crate) fn into_server(self, alloc: Global) -> Result<Box<Server>, RowFault> {
         match self.way {
-            Way::Direct(link) => Ok(link.into_server()),
+            Way::Direct(link) => Ok(Box::new(alloc, Box::into_inner(link).into_server())?),
             _ => Err(RowFault::NoRow),
         }
     }
@@ -140,19 +142,25 @@ impl<'a, R: Net> AnyLink<'a, R> {
     }
 }
 
+/// Makes a link to a server in memory.
+fn direct<'a, R: Net>(alloc: Global, server: Server) -> Result<Way<'a, R>, RowFault> {
+    Ok(Way::Direct(Box::new(alloc, Direct::new(alloc, server))?))
+}
+
 /// Makes a link from the words `AT TIMES before|after`.
 fn faulty(
     alloc: Global,
     words: &mut RowWords,
-    server: Server,
-) -> Result<FaultLink<Direct>, RowFault> {
+    server: Box<Server>,
+) -> Result<Box<FaultLink<Direct>>, RowFault> {
     let (at, times) = (words.number(), words.number());
     let after = match words.text() {
         "before" => false,
         "after" => true,
         _ => return Err(RowFault::NoRow),
     };
-    Ok(FaultLink::new(Direct::new(alloc, server), at, times, after))
+    let link = Direct::new(alloc, Box::into_inner(server));
+    Ok(Box::new(alloc, FaultLink::new(link, at, times, after))?)
 }
 
 impl<R: Net> Link for AnyLink<'_, R> {

@@ -1,6 +1,6 @@
 use Rattle.std.proofs.Common.{sym, ◌∙◌, subst, arith}
 use Rattle.oram_rounds.specs.PathMessages.{IsPathStore}
-use Rattle.oram_rounds.proofs.Texts.{path_at, paths_all, paths_next}
+use Rattle.oram_rounds.proofs.Texts.{all_at, all_next, all_whole}
 use Rattle.oram_rounds.proofs.round_link.are_path_stores.Goals as goal
 
 pub returns-then-not-is_path_store : goal.returns-then-not-is_path_store
@@ -8,7 +8,7 @@ returns-then-not-is_path_store c = (
   λ e. absurd cc,
   λ are.
       let all = c.args.bodies.now in
-      let one = path_at c.args.device.now c.args.record_len all c.loop-body.body-index c.body-item.result c.loop-body-test.true c.body-item.is are in
+      let one = all_at (IsPathStore c.args.device.now c.args.record_len) all c.loop-body.body-index c.body-item.result c.loop-body-test.true c.body-item.is are in
       let here = subst (IsPathStore c.args.device.now c.args.record_len) (sym c.deref.ensures.value) one in
       absurd (let both = sym c.if-not-is_path_store.true ∙ c.is_path_store.ensures.1 here in cc),
 )
@@ -17,10 +17,10 @@ pub loop-body-preserved : goal.loop-body-preserved
 loop-body-preserved c =
     let all = c.args.bodies.now in
     let here = subst (IsPathStore c.args.device.now c.args.record_len) c.deref.ensures.value (c.is_path_store.ensures.0 c.if-not-is_path_store.false) in
-    paths_next c.args.device.now c.args.record_len all c.loop-body.body-index c.body-item.result c.loop-body-test.true c.body-item.is c.loop-body.invariant here
+    all_next (IsPathStore c.args.device.now c.args.record_len) all c.loop-body.body-index c.body-item.result c.loop-body-test.true c.body-item.is c.loop-body.invariant here
 
 pub returns : goal.returns
 returns c = (
-  λ e. paths_all c.args.device.now c.args.record_len c.args.bodies.now c.loop-body.body-index (omega (arith, c.loop-body-test.false)) c.loop-body.invariant,
+  λ e. all_whole (IsPathStore c.args.device.now c.args.record_len) c.args.bodies.now c.loop-body.body-index (omega (arith, c.loop-body-test.false)) c.loop-body.invariant,
   λ are. cc,
 )

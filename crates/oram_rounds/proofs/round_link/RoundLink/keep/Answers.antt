@@ -20,5 +20,5 @@ pub returns : goal.returns
 returns g c =
     let i = c.self.inside in
     let all : c.len-self-inside.result ≡ length i.stores.items = omega (arith, c.len-self-inside.ensures) in
-    marked _ c.args.self.now c.self.view_is (texts (take c.len-self-inside.result i.stores.items)) (texts (drop c.len-self-inside.result i.stores.items))
-    (sym (texts_whole i.stores.items i.kept c.len-self-inside.result all)) (texts_none i.stores.items c.len-self-inside.result all)
+    marked _ c.args.self.now c.self.view_is (texts (take c.len-self-inside.result i.stores.items)) (texts (drop c.len-self-inside.result i.stores.items)) _
+    (sym (texts_whole i.stores.items i.kept c.len-self-inside.result all)) (texts_none i.stores.items c.len-self-inside.result all) c.none.ensures

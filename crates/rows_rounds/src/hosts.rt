@@ -3,13 +3,15 @@
 ghost use Rattle.std.specs.Prelude.{◌≡◌};
 ghost use Rattle.oram_session.specs.Outcome.{faults_after};
 
-use crate::ways::NO_ROOM;
 use oram_host::Server;
 use oram_session::{Link, LinkFault};
 use oram_wire::HostView;
 use rows::{Page, RowFault, RowWords};
 use std::alloc::Global;
 use std::cell::Cell;
+
+/// A host's answer that it is out of memory.
+const NO_ROOM: [u8; 2] = [0x81, 8];
 
 /// What becomes of the messages that a process sends. Messages count from 0.
 #[derive(Drop)]
@@ -104,12 +106,25 @@ fn is_within(number: u64, at: u64, times: u64) -> bool {
 pub(crate) struct Sent {
     pub(crate) fetches: u64,
     pub(crate) stores: u64,
+    /// The trees of the FETCHes in their order, as decimal digits: each one more than the tree's number.
+    pub(crate) order: u64,
+}
+
+impl Sent {
+    fn add_fetch(&mut self, tree: u8) {
+        self.fetches = self.fetches.saturating_add(1);
+        self.order = self
+            .order
+            .saturating_mul(10)
+            .saturating_add(u64::from(tree) + 1);
+    }
 }
 
 /// A server in memory, and what becomes of the messages to it.
 #[derive(Drop)]
 pub(crate) struct Host {
-    pub(crate) server: Server,
+    /// It lies in a box, so that a function that has it has one value to drop, and so is proved sooner.
+    server: Box<Server>,
     way: Way,
     /// How many messages there were since the way was set.
     calls: u64,
@@ -120,7 +135,7 @@ pub(crate) struct Host {
 impl Host {
     fn count(&mut self, body: &[u8]) {
         match HostView::read(body) {
-            Ok(HostView::Fetch { .. }) => self.sent.fetches = self.sent.fetches.saturating_add(1),
+            Ok(HostView::Fetch { tree, .. }) => self.sent.add_fetch(tree),
             Ok(HostView::Store { .. }) => self.sent.stores = self.sent.stores.saturating_add(1),
             _ => {}
         }
@@ -190,7 +205,7 @@ impl HostPlace {
     }
 
     /// Puts a server there.
-    pub(crate) fn put(&self, server: Server, way: Way) {
+    pub(crate) fn put(&self, server: Box<Server>, way: Way) {
         let host = Host {
             server,
             way,
@@ -198,6 +213,7 @@ impl HostPlace {
             sent: Sent {
                 fetches: 0,
                 stores: 0,
+                order: 0,
             },
             lacks_memory: false,
         };
@@ -214,7 +230,7 @@ impl HostPlace {
     }
 
     /// Takes the server away. Fails if there is none, or if it ran out of memory.
-    pub(crate) fn take_server(&self) -> Result<Server, RowFault> {
+    pub(crate) fn take_server(&self) -> Result<Box<Server>, RowFault> {
         let host = self.take()?;
         Ok(host.server)
     }

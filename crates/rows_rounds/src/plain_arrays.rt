@@ -21,17 +21,26 @@ pub(crate) fn many_commands(
     Ok(commands)
 }
 
+/// Returns the address of the block that command `i` is for.
+fn address_of(blocks: u32, i: u32) -> u32 {
+    (i / 3).wrapping_mul(7).checked_rem(blocks).unwrap_or(0)
+}
+
 /// Returns command `i` of these: a write, and then a read, and so on, but each fifth is a discard.
 fn command_of(alloc: Global, blocks: u32, i: u32) -> Result<Command, AllocError> {
-    let address = (i / 3).wrapping_mul(7).checked_rem(blocks).unwrap_or(0);
+    let address = address_of(blocks, i);
     if i % 5 == 4 {
         return Ok(Command::Discard(address));
     }
     if i % 2 == 1 {
         return Ok(Command::Read(address));
     }
-    let byte = (i % 250 + 1) as u8;
-    Ok(Command::Write(address, Bytes::copy(alloc, &[byte; BLOCK_BYTES])?))
+    Ok(Command::Write(address, Bytes::copy(alloc, &[byte_of(i); BLOCK_BYTES])?))
+}
+
+/// Returns the byte that command `i` writes.
+fn byte_of(i: u32) -> u8 {
+    (i % 250 + 1) as u8
 }
 
 /// The array: each block is filled with one byte.

@@ -1,15 +1,15 @@
 //! Rows of one device, whose processes carry out rounds of commands and are kept from row to row.
 
-use crate::faults::standing;
-use crate::hosts::{HostLink, HostPlace, Sent, Way};
+use crate::devices::{new_device, standing};
+use crate::hosts::{HostPlace, Sent, Way};
 use crate::keepers::{MemoryKeeper, Room};
 use crate::kept_files::{tell_cut_files, tell_flipped_files};
-use crate::lives::{Life, new_device};
+use crate::lives::{Life, link_for};
 use crate::plain_arrays::{PlainArray, many_commands};
 use oram_bytes::Bytes;
 use oram_core::{Command, Note, Reply, ReplyBody};
 use oram_host::Server;
-use oram_rounds::{OneByOne, RoundFault, RoundLink, encode_kept, record_len};
+use oram_rounds::{RoundFault, encode_kept};
 use oram_session::Link;
 use oram_state::encode_state;
 use rows::{Page, RowFault, RowWords};
@@ -19,7 +19,7 @@ use std::alloc::Global;
 #[derive(Drop)]
 pub(crate) struct Rounds<'a> {
     place: &'a HostPlace,
-    life: Option<Life<'a>>,
+    life: Option<Box<Life<'a>>>,
 }
 
 /// How many files were kept and how many messages were sent before a row.
@@ -47,10 +47,7 @@ impl<'a> Rounds<'a> {
             "next_process" => self.next_process(alloc, page),
             "host" => self.host(alloc, words, page),
             "spoil" => self.spoil(words, page),
-            "forget" => {
-                self.forget(alloc, page);
-                Ok(())
-            }
+            "forget" => self.forget(alloc, page),
             "keeper" => self.keeper(words, page),
             "round" => self.round(alloc, words, page),
             "many" => self.many(alloc, words, page),
@@ -58,6 +55,7 @@ impl<'a> Rounds<'a> {
             "keep" => self.keep(alloc, page),
             "stores" => self.stores(page),
             "faults" => self.faults(page),
+            "order" => self.order(page),
             "takes" => self.takes(alloc, words, page),
             _ => self.file_row(alloc, call, page),
         }
@@ -91,15 +89,12 @@ impl<'a> Rounds<'a> {
     /// `next_process`: ends the process, and begins the next one with what was kept, over the same host. Writes how the core
     /// is, how many commands wait in it, and how many STOREs are kept. The host is honest and the keeper keeps all files.
     fn next_process(&mut self, alloc: Global, page: &mut Page) -> Result<(), RowFault> {
-        let Some(life) = self.life.take() else {
-            return Err(RowFault::NoRow);
-        };
-        let next = life.next(alloc, self.place, Room::AMPLE)?;
         self.place.set(Way::Honest)?;
-        page.word(standing(&next.core));
+        let life = self.life()?;
+        life.next(alloc, Room::AMPLE)?;
+        page.word(standing(&life.core));
         page.word("waiting");
-        page.number(next.core.waiting());
-        self.life = Some(next);
+        page.number(life.core.waiting());
         self.stores(page)
     }
 
@@ -124,9 +119,11 @@ impl<'a> Rounds<'a> {
     }
 
     /// `forget`: puts a new server in the host's place, which keeps nothing.
-    fn forget(&mut self, alloc: Global, page: &mut Page) {
-        self.place.put(Server::new(alloc), Way::Honest);
+    fn forget(&mut self, alloc: Global, page: &mut Page) -> Result<(), RowFault> {
+        self.place
+            .put(Box::new(alloc, Server::new(alloc))?, Way::Honest);
         page.word("set");
+        Ok(())
     }
 
     /// `keeper KEEPER`: sets when the keeper fails, and files count from 0 again.
@@ -240,6 +237,13 @@ impl<'a> Rounds<'a> {
         Ok(())
     }
 
+    /// `order`: writes the trees of the FETCHes since the way was set, in their order: a digit for each, one more than the tree's
+    /// number.
+    fn order(&mut self, page: &mut Page) -> Result<(), RowFault> {
+        page.number(self.place.sent()?.order);
+        Ok(())
+    }
+
     /// `takes BODY ..`: writes whether a link for the device can begin with these messages as the STOREs that are kept.
     fn takes(
         &mut self,
@@ -248,12 +252,7 @@ impl<'a> Rounds<'a> {
         page: &mut Page,
     ) -> Result<(), RowFault> {
         let place = self.place;
-        let core = &self.life()?.core;
-        let inner = OneByOne {
-            link: HostLink::new(place),
-        };
-        let device = core.device().copy();
-        let link = RoundLink::with_kept(inner, device, record_len(core), words.bodies(alloc));
+        let link = link_for(alloc, place, &self.life()?.core, words.bodies(alloc));
         page.flag(link.is_some());
         Ok(())
     }

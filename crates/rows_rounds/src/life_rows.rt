@@ -1,8 +1,9 @@
 //! Rows of two or three lives of a device.
 
+use crate::devices::new_device;
 use crate::hosts::{HostPlace, Way};
 use crate::keepers::{MemoryKeeper, Room};
-use crate::lives::{Found, Life, new_device};
+use crate::lives::{Found, Life};
 use oram_rounds::RoundFault;
 use rows::{Page, RowFault, RowWords};
 use std::alloc::Global;
@@ -81,12 +82,11 @@ pub(crate) fn lives(alloc: Global, words: &mut RowWords, page: &mut Page) -> Res
     page.number(written);
     tell_life(page, &place, &life, ended)?;
     if !words.is_empty() {
-        let mut between = life.next(alloc, &place, Room::read(words)?)?;
+        life.next(alloc, Room::read(words)?)?;
         place.set(Way::read(alloc, words)?)?;
-        tell_reading(alloc, &place, &mut between, page)?;
-        life = between;
+        tell_reading(alloc, &place, &mut life, page)?;
     }
-    let mut last = life.next(alloc, &place, Room::AMPLE)?;
+    life.next(alloc, Room::AMPLE)?;
     place.set(Way::Honest)?;
-    tell_reading(alloc, &place, &mut last, page)
+    tell_reading(alloc, &place, &mut life, page)
 }

@@ -1,9 +1,10 @@
 //! Rows of many rounds, in which processes end at actions that are drawn at random.
 
+use crate::devices::new_device;
 use crate::everywhere::End;
 use crate::hosts::{HostPlace, Way};
 use crate::keepers::{MemoryKeeper, Room};
-use crate::lives::{Life, new_device};
+use crate::lives::Life;
 use crate::plain_arrays::PlainArray;
 use oram_bytes::Bytes;
 use oram_core::{Command, Reply};
@@ -85,7 +86,7 @@ struct Storm<'a> {
     right: u64,
 }
 
-impl<'a> Storm<'a> {
+impl Storm<'_> {
     /// Counts the replies to the newest round that was kept, and those of them that are the array's.
     fn check(&mut self, alloc: Global, replies: &[Reply]) -> Result<(), RowFault> {
         let mut array = self.before.copy()?;
@@ -121,8 +122,8 @@ impl<'a> Storm<'a> {
     }
 
     /// Carries out a round. Where the process ends, processes come after it until one has carried out what was kept.
-    fn round(&mut self, alloc: Global, mut life: Life<'a>) -> Result<Life<'a>, RowFault> {
-        self.prepare(&mut life)?;
+    fn round(&mut self, alloc: Global, life: &mut Life) -> Result<(), RowFault> {
+        self.prepare(life)?;
         let draws = self.draws;
         let ticket = life.core.next_ticket();
         let commands = self.draws.round(alloc, self.blocks)?;
@@ -132,24 +133,19 @@ impl<'a> Storm<'a> {
             self.keep(alloc, Round { draws, ticket })?;
         }
         match ended {
-            Ok(replies) => {
-                self.check(alloc, &replies)?;
-                Ok(life)
-            }
+            Ok(replies) => self.check(alloc, &replies),
             Err(_) => self.recover(alloc, life),
         }
     }
 
     /// Lets processes begin after one that has ended, until one has carried out what was kept.
-    fn recover(&mut self, alloc: Global, ended: Life<'a>) -> Result<Life<'a>, RowFault> {
-        let mut life = ended;
+    fn recover(&mut self, alloc: Global, life: &mut Life) -> Result<(), RowFault> {
         for _ in 0..MOST_ENDS {
             self.ends = self.ends.saturating_add(1);
-            life = life.next(alloc, self.place, Room::AMPLE)?;
-            self.prepare(&mut life)?;
+            life.next(alloc, Room::AMPLE)?;
+            self.prepare(life)?;
             if let Ok(replies) = life.go_on(alloc)? {
-                self.check(alloc, &replies)?;
-                return Ok(life);
+                return self.check(alloc, &replies);
             }
         }
         Err(RowFault::NoRow)
@@ -185,7 +181,7 @@ pub(crate) fn run_storm(
         right: 0,
     };
     for _ in 0..words.short() {
-        life = storm.round(alloc, life)?;
+        storm.round(alloc, &mut life)?;
     }
     life.keeper.check_memory()?;
     page.word("ends");

@@ -1,8 +1,9 @@
 //! Rows in which the process of a device ends at each of its actions in turn.
 
+use crate::devices::new_device;
 use crate::hosts::{HostPlace, Way};
 use crate::keepers::{MemoryKeeper, Room};
-use crate::lives::{Found, Life, WRITES, new_device};
+use crate::lives::{Found, Life, WRITES};
 use oram_host::Server;
 use rows::{Page, RowFault, RowWords};
 use std::alloc::Global;
@@ -82,7 +83,7 @@ impl End {
 /// What outlives a process.
 #[derive(Drop)]
 struct Remains {
-    server: Server,
+    server: Box<Server>,
     file: Vec<u8>,
     /// How many writes had their reply.
     written: u8,
@@ -109,13 +110,19 @@ struct Tally {
 impl Tally {
     /// Counts what a life found in the first blocks.
     fn count(&mut self, found: &[Found], remains: &Remains) {
+        let (written, due) = (usize::from(remains.written), usize::from(remains.due));
         for (i, block) in found.iter().enumerate() {
-            let is_lost = i < usize::from(remains.written) && *block != Found::Written;
-            let is_other = (i < usize::from(remains.due)) != (*block == Found::Written);
-            self.lost = self.lost.saturating_add(u64::from(is_lost));
-            self.torn = self.torn.saturating_add(u64::from(*block == Found::Torn));
-            self.other = self.other.saturating_add(u64::from(is_other));
+            self.count_block(*block, i < written, i < due);
         }
+    }
+
+    /// Counts what a life found in a block whose write had its reply or not, and was kept or not.
+    fn count_block(&mut self, block: Found, is_written: bool, is_due: bool) {
+        let is_lost = is_written && block != Found::Written;
+        let is_other = is_due != (block == Found::Written);
+        self.lost = self.lost.saturating_add(u64::from(is_lost));
+        self.torn = self.torn.saturating_add(u64::from(block == Found::Torn));
+        self.other = self.other.saturating_add(u64::from(is_other));
     }
 }
 
@@ -127,8 +134,8 @@ impl Remains {
         place: &'a HostPlace,
         room: Room,
         way: Way,
-    ) -> Result<Life<'a>, RowFault> {
-        place.put(self.server.copy(alloc)?, way);
+    ) -> Result<Box<Life<'a>>, RowFault> {
+        place.put(Box::new(alloc, self.server.copy(alloc)?)?, way);
         let keeper = MemoryKeeper::with(alloc, self.file.clone()?, room);
         Life::begin(alloc, place, keeper)
     }
@@ -137,14 +144,14 @@ impl Remains {
     fn after(
         &self,
         place: &HostPlace,
-        life: Life,
+        life: &Life,
         written: u8,
         due: u8,
     ) -> Result<Remains, RowFault> {
         life.keeper.check_memory()?;
         Ok(Remains {
             server: place.take_server()?,
-            file: life.keeper.newest,
+            file: life.keeper.newest.clone()?,
             written,
             due,
         })
@@ -157,7 +164,7 @@ impl Remains {
         let (written, ended) = life.write_all(alloc, round)?;
         let kept = life.keeper.taken().saturating_mul(u64::from(round));
         let due = u8::try_from(kept.min(u64::from(WRITES)))?;
-        let remains = self.after(&place, life, written, due)?;
+        let remains = self.after(&place, &life, written, due)?;
         Ok((remains, ended.is_some()))
     }
 
@@ -173,7 +180,7 @@ impl Remains {
         let mut found = Vec::new(alloc);
         let ended = life.go_on_and_read(alloc, &mut found)?;
         tally.count(&found, self);
-        let remains = self.after(&place, life, self.written, self.due)?;
+        let remains = self.after(&place, &life, self.written, self.due)?;
         Ok((remains, ended.is_some()))
     }
 

@@ -2,14 +2,12 @@
 
 use crate::hosts::{HostLink, HostPlace};
 use crate::keepers::{MemoryKeeper, Room};
-use crate::sessions::formatted;
 use oram_bucket::PlainSeal;
 use oram_bytes::Bytes;
 use oram_core::{Command, Core, Note, Reply, ReplyBody};
-use oram_host::Server;
 use oram_rounds::{
-    KeptCore, KeptCoreFault, OneByOne, RoundFault, RoundLink, decode_kept, encode_kept, keep,
-    perform, record_len, resume, submit_all,
+    KeptCore, KeptCoreFault, OneByOne, RoundFault, RoundLink, decode_kept, keep, perform,
+    record_len, resume, submit_all,
 };
 use oram_session::{ChaChaTape, is_settled};
 use rows::RowFault;
@@ -21,11 +19,16 @@ pub(crate) const WRITES: u8 = 3;
 /// The session of all commands.
 const SESSION: u32 = 0;
 
-/// A process of the client.
+/// The link of a process to the host at a place.
+pub(crate) type LifeLink<'a> = RoundLink<OneByOne<HostLink<'a>>>;
+
+/// A process of the client, and what its next one begins with. It lies in a box, so that a function that has one has one
+/// value to drop, and so is proved sooner.
 #[derive(Drop)]
 pub(crate) struct Life<'a> {
+    place: &'a HostPlace,
     pub(crate) core: Core<PlainSeal>,
-    pub(crate) link: RoundLink<OneByOne<HostLink<'a>>>,
+    pub(crate) link: LifeLink<'a>,
     pub(crate) keeper: MemoryKeeper,
 }
 
@@ -36,13 +39,6 @@ pub(crate) enum Found {
     /// What was written to it.
     Written,
     Torn,
-}
-
-/// Formats a device on a new server. Returns the server, and the file from which the first process begins.
-pub(crate) fn new_device(alloc: Global, numbers: [u64; 5]) -> Result<(Server, Vec<u8>), RowFault> {
-    let (core, server) = formatted(alloc, numbers)?;
-    let file = encode_kept(alloc, &[], &core)?;
-    Ok((server, file))
 }
 
 /// Returns what was kept in a file.
@@ -62,36 +58,59 @@ fn row_end<T: Drop>(ended: Result<T, RoundFault>) -> Result<Result<T, RoundFault
     Ok(ended)
 }
 
+/// Makes a link for a core to the host at a place, which begins with these messages as the STOREs that are kept. There is
+/// none if they aren't STOREs for its device.
+pub(crate) fn link_for<'a>(
+    alloc: Global,
+    place: &'a HostPlace,
+    core: &Core<PlainSeal>,
+    stores: Vec<Vec<u8>>,
+) -> Option<LifeLink<'a>> {
+    let inner = OneByOne {
+        link: HostLink::new(place),
+    };
+    let device = core.device().copy();
+    RoundLink::with_kept(alloc, inner, device, record_len(core), stores)
+}
+
+/// Makes the core and the link with which a process begins that finds this file.
+fn begun<'a>(
+    alloc: Global,
+    place: &'a HostPlace,
+    file: &[u8],
+) -> Result<(Core<PlainSeal>, LifeLink<'a>), RowFault> {
+    let KeptCore { stores, core } = kept_in(alloc, file)?;
+    match link_for(alloc, place, &core, stores) {
+        Some(link) => Ok((core, link)),
+        None => Err(RowFault::NoRow),
+    }
+}
+
 impl<'a> Life<'a> {
     /// Begins a process with the newest file of a keeper, over the host at a place. It doesn't go on with its commands yet.
     pub(crate) fn begin(
         alloc: Global,
         place: &'a HostPlace,
         keeper: MemoryKeeper,
-    ) -> Result<Life<'a>, RowFault> {
-        let KeptCore { stores, core } = kept_in(alloc, &keeper.newest)?;
-        let device = core.device().copy();
-        let record_len = record_len(&core);
-        let inner = OneByOne {
-            link: HostLink::new(place),
+    ) -> Result<Box<Life<'a>>, RowFault> {
+        let (core, link) = begun(alloc, place, &keeper.newest)?;
+        let life = Life {
+            place,
+            core,
+            link,
+            keeper,
         };
-        match RoundLink::with_kept(inner, device, record_len, stores) {
-            Some(link) => Ok(Life { core, link, keeper }),
-            None => Err(RowFault::NoRow),
-        }
+        Ok(Box::new(alloc, life)?)
     }
 
-    /// Ends the process, and begins the next one, whose keeper has this room.
-    pub(crate) fn next(
-        self,
-        alloc: Global,
-        place: &'a HostPlace,
-        room: Room,
-    ) -> Result<Life<'a>, RowFault> {
+    /// Ends the process, and begins the next one with what was kept, whose keeper has this room.
+    pub(crate) fn next(&mut self, alloc: Global, room: Room) -> Result<(), RowFault> {
         self.keeper.check_memory()?;
-        let mut keeper = self.keeper;
-        keeper.set(room);
-        Life::begin(alloc, place, keeper)
+        self.keeper.set(room);
+        let (core, link) = begun(alloc, self.place, &self.keeper.newest)?;
+        self.core = core;
+        self.link = link;
+        Ok(())
     }
 
     /// Returns how many blocks the device has.

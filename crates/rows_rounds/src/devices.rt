@@ -1,0 +1,48 @@
+//! Devices that are formatted on a host in memory.
+
+use oram_bucket::PlainSeal;
+use oram_core::Core;
+use oram_geometry::Device;
+use oram_host::Server;
+use oram_rounds::encode_kept;
+use oram_session::{Direct, format_device};
+use rows::RowFault;
+use std::alloc::Global;
+
+/// Makes the device with five numbers.
+fn device_of(numbers: [u64; 5]) -> Result<Device, RowFault> {
+    let [blocks, block_bytes, slots, top, lifetime] = numbers;
+    match Device::new(blocks, block_bytes, slots, top, lifetime) {
+        Ok(device) => Ok(device),
+        Err(_) => Err(RowFault::NoRow),
+    }
+}
+
+/// Formats a device over a link, and returns the file from which its first process begins.
+fn formatted_over(alloc: Global, device: Device, link: &mut Direct) -> Result<Vec<u8>, RowFault> {
+    match format_device(alloc, device, PlainSeal, link) {
+        Ok(core) => Ok(encode_kept(alloc, &[], &core)?),
+        Err(_) => Err(RowFault::OutOfMemory),
+    }
+}
+
+/// Formats the device with five numbers on a new server. Returns the server, and the file from which the first process begins.
+pub(crate) fn new_device(
+    alloc: Global,
+    numbers: [u64; 5],
+) -> Result<(Box<Server>, Vec<u8>), RowFault> {
+    let mut link = Direct::new(alloc, Server::new(alloc));
+    let file = formatted_over(alloc, device_of(numbers)?, &mut link)?;
+    Ok((Box::new(alloc, link.into_server())?, file))
+}
+
+/// Returns whether a core is idle, failed or at work.
+pub(crate) fn standing(core: &Core<PlainSeal>) -> &'static str {
+    if core.failure().is_some() {
+        "failed"
+    } else if core.is_idle() {
+        "idle"
+    } else {
+        "at work"
+    }
+}
