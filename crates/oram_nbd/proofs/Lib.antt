@@ -1,9 +1,12 @@
 pub mod Calls
 pub mod Beside
 pub mod Splices
+pub mod Carrying
 pub mod Texts
 pub mod Wanted
 pub mod Pieces
 pub mod Served
+pub mod Batching
+pub mod Batched
 pub mod Negotiated
 pub mod Rows

@@ -9,7 +9,7 @@ use Rattle.oram_nbd.specs.Connection.{preferred_of}
 use Rattle.oram_nbd.specs.declared.faults.NbdError.TheVariants.{Invalid, NoSpace}
 use Rattle.oram_nbd.specs.declared.options.HandshakeOption.TheVariants as option
 use Rattle.oram_nbd.specs.declared.options.ReplyKind.TheVariants as kind
-use Rattle.oram_nbd.specs.declared.replies.SimpleReply.TheVariants.{Done, Refused}
+use Rattle.oram_nbd.specs.Messages.SimpleReply.{Done, Refused}
 use Rattle.oram_nbd.specs.declared.requests.Command.{Command}
 use Rattle.oram_nbd.specs.declared.requests.Command.TheVariants.{Read, Write, Flush, Trim, WriteZeroes, Other}
 use Rattle.oram_nbd.specs.declared.requests.Request.{Request}

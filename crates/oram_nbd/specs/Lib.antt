@@ -1,12 +1,14 @@
 pub mod Bytes
 pub mod Beside
 pub mod Calls
+pub mod Operations
 pub mod MemBlocks
 pub mod Errors
 pub mod Streams
 pub mod Messages
 pub mod Service
 pub mod Transmission
+pub mod Batches
 pub mod Options
 pub mod Handshake
 pub mod Negotiation

@@ -5,8 +5,7 @@ use Rattle.oram_nbd.specs.Errors.{error_number}
 use Rattle.oram_nbd.specs.declared.requests.Command.{Command}
 use Rattle.oram_nbd.specs.declared.requests.Command.TheVariants as command
 use Rattle.oram_nbd.specs.declared.requests.Request.{Request}
-use Rattle.oram_nbd.specs.declared.replies.SimpleReply.{SimpleReply}
-use Rattle.oram_nbd.specs.declared.replies.SimpleReply.TheVariants as reply
+use Rattle.oram_nbd.specs.declared.faults.NbdError.{NbdError}
 
 -- a command's number on the wire (NBD's proto.md, "Request types")
 abbrev pub command_code : Command → ℕ
@@ -43,15 +42,20 @@ abbrev pub payload_len : Command → ℕ → ℕ
 payload_len command.Write n = n
 payload_len _ n = 0
 
+-- a reply: the request was carried out, with the bytes of a read, or it was refused with an error
+pub data SimpleReply : Type 0 where
+  Done : List ℕ → SimpleReply
+  Refused : NbdError → SimpleReply
+
 -- the error number of a reply, 0 if the request was carried out
 abbrev pub reply_number : SimpleReply → ℕ
-reply_number (reply.Done bytes) = 0
-reply_number (reply.Refused e) = error_number e
+reply_number (Done bytes) = 0
+reply_number (Refused e) = error_number e
 
 -- the bytes of a read
 abbrev pub reply_bytes : SimpleReply → List ℕ
-reply_bytes (reply.Done bytes) = bytes
-reply_bytes (reply.Refused e) = []
+reply_bytes (Done bytes) = bytes
+reply_bytes (Refused e) = []
 
 -- the 16 bytes of a reply's head
 abbrev pub reply_head : ℕ → SimpleReply → List ℕ

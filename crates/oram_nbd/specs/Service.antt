@@ -2,14 +2,13 @@
 use Rattle.std.specs.Prelude.{◌≡◌, ◌⊎◌, ℕ, ◌+◌, List, [], ◌∷◌, ◌++◌, length, Option, Some, None, nat_lt, if◌then◌else◌}
 use Rattle.std.specs.List.{flat_map}
 use Rattle.oram_nbd.specs.Bytes.{bytes_at, written, zeroes, IsBegun}
-use Rattle.oram_nbd.specs.Messages.{payload_len, request_text, reply_text, IsRequest}
+use Rattle.oram_nbd.specs.Messages.{payload_len, request_text, reply_text, IsRequest, SimpleReply}
+use Rattle.oram_nbd.specs.Messages.SimpleReply.{Done, Refused}
 use Rattle.oram_nbd.specs.declared.faults.NbdError.{NbdError}
 use Rattle.oram_nbd.specs.declared.faults.NbdError.TheVariants.{Io, NoMemory, Invalid, NoSpace}
 use Rattle.oram_nbd.specs.declared.requests.Command.{Command}
 use Rattle.oram_nbd.specs.declared.requests.Command.TheVariants.{Read, Write, Disconnect, Flush, Trim, WriteZeroes, Other}
 use Rattle.oram_nbd.specs.declared.requests.Request.{Request}
-use Rattle.oram_nbd.specs.declared.replies.SimpleReply.{SimpleReply}
-use Rattle.oram_nbd.specs.declared.replies.SimpleReply.TheVariants.{Done, Refused}
 
 -- the greatest flags of a command: FUA for each, and NO_HOLE too where zeroes are written
 abbrev pub greatest_flags : Command → ℕ
@@ -72,6 +71,40 @@ IsAnswer old r payload (Refused e) new =
 abbrev pub IsReply : ℕ → Request → SimpleReply → Type 0
 IsReply size r (Done bytes) = (refusal_of size r ≡ None) × (length bytes ≡ given_len r.command r.length)
 IsReply size r (Refused e) = (refusal_of size r ≡ Some e) ⊎ ((refusal_of size r ≡ None) × ((e ≡ Io) ⊎ (e ≡ NoMemory)))
+
+-- a request, and the bytes after it
+pub record Asked : Type 0 where
+  pub request : Request
+  pub payload : List ℕ
+
+-- they can be sent
+pub record IsAsked (a : Asked) : Type 0 where
+  pub request : IsRequest a.request
+  pub payload : length a.payload ≡ payload_len a.request.command a.request.length
+
+-- what the client sends for these requests
+abbrev pub asked_text : List Asked → List ℕ
+asked_text asked = flat_map (λ a. request_text a.request ++ a.payload) asked
+
+-- the array after a request, and the array if it came as far as some byte of its range: one that is refused leaves it as it is
+abbrev pub left_if : Option NbdError → List ℕ → List ℕ → List ℕ
+left_if (Some e) old new = old
+left_if None old new = new
+
+abbrev pub left_by : Asked → List ℕ → List ℕ
+left_by a old = left_if (refusal_of (length old) a.request) old (after a.request.command old a.request.offset a.request.length a.payload)
+
+abbrev pub IsLeftIf : Option NbdError → List ℕ → Type 0 → List ℕ → Type 0
+IsLeftIf (Some e) old partly new = new ≡ old
+IsLeftIf None old partly new = partly
+
+abbrev pub IsLeftBy : Asked → List ℕ → List ℕ → Type 0
+IsLeftBy a old new = IsLeftIf (refusal_of (length old) a.request) old (IsPartly a.request.command old a.request.offset a.request.length a.payload new) new
+
+-- The first of these requests are done, one may be done in part, and the others aren't begun.
+abbrev pub AreRequestsBegun : List Asked → List ℕ → List ℕ → Type 0
+AreRequestsBegun [] old new = new ≡ old
+AreRequestsBegun (a ∷ asked) old new = IsLeftBy a old new ⊎ AreRequestsBegun asked (left_by a old) new
 
 -- a request, the bytes after it, and the reply
 pub record Turn : Type 0 where

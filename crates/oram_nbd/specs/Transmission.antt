@@ -3,7 +3,7 @@ use Rattle.std.specs.Prelude.{◌≡◌, ◌⊎◌, ℕ, ◌<◌, Bool, false, L
 use Rattle.std.specs.Io.KnownBytes.{Appends, Consumes, IsAtEnd}
 use Rattle.oram_nbd.specs.Beside.{GoesOn}
 use Rattle.oram_nbd.specs.Messages.{payload_len, request_text, IsRequest}
-use Rattle.oram_nbd.specs.Service.{asking, refusal_of, replying, requests_text, replies_text, IsPartly, IsReplied, IsService, NeverFails, FailsForGood, Turn}
+use Rattle.oram_nbd.specs.Service.{asked_text, refusal_of, requests_text, replies_text, AreRequestsBegun, Asked, FailsForGood, IsAsked, IsReplied, IsService, NeverFails, Turn}
 use Rattle.oram_nbd.specs.declared.faults.NbdFault.{NbdFault}
 use Rattle.oram_nbd.specs.declared.faults.NbdFault.TheVariants.{Read, Truncated, Magic, Write, OldClient, UnknownExport, TooManyOptions, OutOfMemory, Stopped}
 use Rattle.oram_nbd.specs.declared.requests.Command.TheVariants.{Disconnect}
@@ -24,6 +24,22 @@ abbrev pub IsLast : Option (List ℕ) → List ℕ → Type 0
 IsLast new last =
     ((last ≡ []) × IsAtEnd new) ⊎ ((r : Request) × IsRequest r × (r.command ≡ Disconnect) × (last ≡ request_text r))
 
+-- what was read before a fault of the input
+abbrev pub IsCutOff : NbdFault → List ℕ → Option (List ℕ) → Type 0
+IsCutOff Read part new = IsUnfinished part
+IsCutOff Truncated part new = IsUnfinished part × (0 < length part) × IsAtEnd new
+IsCutOff Magic part new = IsNoRequest part
+IsCutOff Write part new = ⊥
+IsCutOff OldClient part new = ⊥
+IsCutOff UnknownExport part new = ⊥
+IsCutOff TooManyOptions part new = ⊥
+IsCutOff OutOfMemory part new = ⊥
+IsCutOff Stopped part new = ⊥
+
+-- What was read behind the requests of a batch: nothing, or one more request, whole or in part, or bytes that are none.
+abbrev pub IsBehind : List ℕ → Type 0
+IsBehind part = (part ≡ []) ⊎ (((a : Asked) × IsAsked a × (part ≡ request_text a.request ++ a.payload)) ⊎ (IsUnfinished part ⊎ IsNoRequest part))
+
 -- The turns were read and their replies written. Then `part` was read, and `more` was written.
 pub record HasExchanged (turns : List Turn) (unread unread' : Option (List ℕ)) (part : List ℕ) (written written' : Option (List ℕ)) (more : List ℕ) : Type 0 where
   pub read : Consumes unread unread' (requests_text turns ++ part)
@@ -38,15 +54,15 @@ module _ {D W E : Type 0} (had : D → List E → D → Type 0) (hears : Bool �
     pub refused : FailsForGood failed turns
     pub service : GoesOn had hears holds old (λ may_lie bytes later. IsService bytes turns later × (may_lie ≡ false → NeverFails turns)) new
 
-  -- The turns were made, and then a request came, with these bytes, at which the device stopped.
-  pub record HasStopped (turns : List Turn) (r : Request) (payload : List ℕ) : Type 0 where
+  -- The turns were made, and then these requests were collected, at which the device stopped. One of them, at least, isn't
+  -- refused.
+  pub record HasStopped (turns : List Turn) (asked : List Asked) : Type 0 where
     pub fits : All (λ turn. IsReplied size turn) turns
     pub refused : FailsForGood failed turns
-    pub request : IsRequest r
-    pub whole : length payload ≡ payload_len r.command r.length
-    pub accepted : refusal_of size r ≡ None
+    pub asked_for : All IsAsked asked
+    pub accepted : (before after : List Asked) × (a : Asked) × (asked ≡ before ++ a ∷ after) × (refusal_of size a.request ≡ None)
     pub service : GoesOn had hears holds old (λ may_lie bytes later. (mid : List ℕ) × IsService bytes turns mid × (may_lie ≡ false → NeverFails turns)
-        × IsPartly r.command mid r.offset r.length payload later) new
+        × AreRequestsBegun asked mid later) new
 
   -- `count` requests were answered, and then the requests ended
   pub record HasTransmitted (count : ℕ) (unread unread' written written' : Option (List ℕ)) : Type 0 where
@@ -57,23 +73,15 @@ module _ {D W E : Type 0} (had : D → List E → D → Type 0) (hears : Bool �
     pub exchanged : HasExchanged turns unread unread' last written written' []
     pub ended : IsLast unread' last
 
-  -- What is known at a fault. After a failed write, the last turn was made, and a beginning of its reply was written.
-  -- If the device stopped, the last request has no reply.
+  -- What is known at a fault. After a failed write, the turns of the last batch were made too, and a beginning of their
+  -- replies was written. If the device stopped, the requests of the last batch have no replies. What was read behind that batch
+  -- wasn't served.
   abbrev pub StopsServing : NbdFault → Option (List ℕ) → Option (List ℕ) → Option (List ℕ) → Option (List ℕ) → Type 0
-  StopsServing Read unread unread' written written' =
-      (turns : List Turn) × (part : List ℕ) × HasServed turns × HasExchanged turns unread unread' part written written' [] × IsUnfinished part
-  StopsServing Truncated unread unread' written written' =
-      (turns : List Turn) × (part : List ℕ) × HasServed turns × HasExchanged turns unread unread' part written written' [] × IsUnfinished part
-      × (0 < length part) × IsAtEnd unread'
-  StopsServing Magic unread unread' written written' =
-      (turns : List Turn) × (part : List ℕ) × HasServed turns × HasExchanged turns unread unread' part written written' [] × IsNoRequest part
   StopsServing Write unread unread' written written' =
-      (turns : List Turn) × (last : Turn) × (count : ℕ) × HasServed (turns ++ last ∷ [])
-      × HasExchanged turns unread unread' (asking last) written written' (take count (replying last))
+      (turns batch : List Turn) × (part : List ℕ) × (count : ℕ) × HasServed (turns ++ batch) × IsBehind part
+      × HasExchanged turns unread unread' (requests_text batch ++ part) written written' (take count (replies_text batch))
   StopsServing Stopped unread unread' written written' =
-      (turns : List Turn) × (r : Request) × (payload : List ℕ) × HasStopped turns r payload
-      × HasExchanged turns unread unread' (request_text r ++ payload) written written' []
-  StopsServing OldClient unread unread' written written' = ⊥
-  StopsServing UnknownExport unread unread' written written' = ⊥
-  StopsServing TooManyOptions unread unread' written written' = ⊥
-  StopsServing OutOfMemory unread unread' written written' = ⊥
+      (turns : List Turn) × (asked : List Asked) × (part : List ℕ) × HasStopped turns asked × IsBehind part
+      × HasExchanged turns unread unread' (asked_text asked ++ part) written written' []
+  StopsServing fault unread unread' written written' =
+      (turns : List Turn) × (part : List ℕ) × HasServed turns × HasExchanged turns unread unread' part written written' [] × IsCutOff fault part unread'

@@ -6,6 +6,7 @@ ghost use Rattle.oram_nbd.specs.Connection.{preferred_of, HasConnected, StopsCon
 ghost use Rattle.oram_nbd.specs.Beside.{IsStopped};
 
 use crate::LONGEST_PAYLOAD;
+use crate::arrivals::Arrived;
 use crate::disk::BlockDevice;
 use crate::faults::NbdFault;
 use crate::handshake::{Agreement, Export};
@@ -36,7 +37,7 @@ pub trait HandshakeWatch {
 ///
 /// The device is the only export, under the name `name` and under the empty one. `watch` is notified when the handshake
 /// is done.
-pub fn serve<R: Read, W: Write, D: BlockDevice, H: HandshakeWatch>(
+pub fn serve<R: Read + Arrived, W: Write, D: BlockDevice, H: HandshakeWatch>(
     alloc: Global,
     reader: &mut R,
     writer: &mut W,

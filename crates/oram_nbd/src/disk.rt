@@ -1,16 +1,18 @@
 //! A device of whole blocks.
 
-ghost use Rattle.std.specs.Prelude.{◌≡◌, ℕ, Bool, false, List, ◌+◌, ◌*◌, ◌<◌, ◌≤◌, ◌^◌, ◌↔◌, length, IfOk, OnOk, IsTrue};
+ghost use Rattle.std.specs.Prelude.{◌≡◌, ℕ, Bool, false, List, ◌*◌, ◌<◌, ◌^◌, ◌↔◌, All, length, map, IfOk, OnOk, IsTrue, MatchResult};
 ghost use Rattle.oram_nbd.specs.Beside.{GoesOn};
-ghost use Rattle.oram_nbd.specs.Bytes.{bytes_at, zeroes};
-ghost use Rattle.oram_nbd.specs.Calls.{FailsByLies, IsCall, Writes};
+ghost use Rattle.oram_nbd.specs.Calls.{FailsByLies, IsCall};
+ghost use Rattle.oram_nbd.specs.Operations.{AreBegun, IsWhole, IsWithin, all_done, all_given, read_len};
 
 use crate::faults::DiskFault;
+use crate::operations::Operation;
+use oram_bytes::Bytes;
 use std::alloc::Global;
 
 /// A device of whole blocks, all of one length. In the world beside it, it holds the array of its blocks' bytes.
 ///
-/// A call takes a whole range of blocks, so a device may carry out all of it at once. After [`DiskFault::Stopped`] a
+/// A call takes a list of operations, so a device may carry out many of them at once. After [`DiskFault::Stopped`] a
 /// connection makes no more calls of it.
 pub trait BlockDevice {
     /// The number of bytes of a block.
@@ -54,28 +56,19 @@ pub trait BlockDevice {
         ensures bound { size self.now < 2 ^ 63 }
         ensures held { (may_lie : Bool) (world : World) (bytes : List ℕ) → holds may_lie self.now world bytes → length bytes ≡ size self.now };
 
-    /// Reads `count` blocks, from the block `first` on.
-    fn read(&mut self, alloc: Global, first: u64, count: u64) -> Result<Vec<u8>, DiskFault>
-        requires { block_len self.old * first + block_len self.old * count ≤ size self.old }
-        ensures len { IfOk result (λ v. length v.items ≡ block_len self.old * count) }
-        ensures goes { GoesOn had hears holds self.old (λ may_lie bytes later. (later ≡ bytes)
-            × IfOk result (λ v. v.items ≡ bytes_at bytes (block_len self.old * first) (block_len self.old * count)) × FailsByLies result may_lie) self.new }
-        ensures refused { OnOk result (failed self.old → ⊥) }
-        ensures call { IsCall block_len size failed (stops self.old self.new) self.old result self.new };
-
-    /// Replaces as many blocks as the payload has, from the block `first` on. After an `Err` a beginning of the payload is
-    /// written.
-    fn write(&mut self, alloc: Global, first: u64, payload: &[u8]) -> Result<(), DiskFault>
-        requires within { block_len self.old * first + length payload.now ≤ size self.old }
-        requires whole { (count : ℕ) × (length payload.now ≡ block_len self.old * count) }
-        ensures goes { GoesOn had hears holds self.old (Writes (block_len self.old * first) payload.now result) self.new }
-        ensures refused { OnOk result (failed self.old → ⊥) }
-        ensures call { IsCall block_len size failed (stops self.old self.new) self.old result self.new };
-
-    /// Makes `count` blocks zeroes, from the block `first` on. After an `Err` a beginning of them is zeroes.
-    fn zero(&mut self, alloc: Global, first: u64, count: u64) -> Result<(), DiskFault>
-        requires { block_len self.old * first + block_len self.old * count ≤ size self.old }
-        ensures goes { GoesOn had hears holds self.old (Writes (block_len self.old * first) (zeroes (block_len self.old * count)) result) self.new }
+    /// Carries out operations on whole blocks, one after the other, and returns what each of them read: nothing for one
+    /// that reads nothing. After an `Err` the first ones are done, one may be done in part, and the others aren't begun.
+    fn carry_out(
+        &mut self,
+        alloc: Global,
+        operations: &[Operation],
+    ) -> Result<Vec<Bytes>, DiskFault>
+        requires whole { All (IsWhole (block_len self.old)) operations.now }
+        requires within { All (IsWithin (size self.old)) operations.now }
+        ensures len { IfOk result (λ given. map length given.items ≡ map read_len operations.now) }
+        ensures goes { GoesOn had hears holds self.old (λ may_lie bytes later. MatchResult result
+            (λ given. (given.items ≡ all_given operations.now bytes) × (later ≡ all_done operations.now bytes))
+            (λ _. AreBegun operations.now bytes later) × FailsByLies result may_lie) self.new }
         ensures refused { OnOk result (failed self.old → ⊥) }
         ensures call { IsCall block_len size failed (stops self.old self.new) self.old result self.new };
 }

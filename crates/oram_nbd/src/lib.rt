@@ -2,35 +2,40 @@
 //!
 //! The protocol is the public one (NetworkBlockDevice/nbd, doc/proto.md): the fixed newstyle handshake, simple replies,
 //! and the commands READ, WRITE, FLUSH, TRIM, WRITE_ZEROES and DISC. The server serves a [`BlockDevice`]: an array of bytes
-//! that is read and written by whole blocks. [`read_range`], [`write_range`] and [`zero_range`] carry out a byte range
-//! on it. [`negotiate`] does the handshake, [`transmit`] answers the requests after it, and [`serve`] serves a whole
+//! that carries out lists of operations on whole blocks. [`negotiate`] does the handshake, [`transmit`] answers the requests after it, and [`serve`] serves a whole
 //! connection. [`is_stop`] says whether a connection ended because its disk has stopped.
 #![tactic(auto)]
 
+mod arrivals;
+mod batches;
 mod connection;
 mod disk;
 mod faults;
 mod handshake;
+mod layout;
+mod lists;
 mod mem_disk;
 mod negotiation;
 mod numbers;
+mod operations;
 mod options;
 mod ranges;
+mod reading;
 mod replies;
 mod requests;
 mod service;
 mod streams;
 mod transmission;
 
+pub use arrivals::Arrived;
 pub use connection::{HandshakeWatch, is_stop, serve};
 pub use disk::BlockDevice;
 pub use faults::{DiskFault, NbdError, NbdFault};
 pub use handshake::{Agreement, Export};
 pub use mem_disk::MemDisk;
 pub use negotiation::negotiate;
+pub use operations::Operation;
 pub use options::{HandshakeOption, OptionHead, ReplyKind, wanted_name};
-pub use ranges::{read_range, write_range, zero_range};
-pub use replies::SimpleReply;
 pub use requests::{Command, Request};
 pub use transmission::transmit;
 

@@ -1,9 +1,11 @@
 //! A device in memory.
 
-ghost use Rattle.std.specs.Prelude.{◌≡◌, ◌+◌, ◌*◌, ◌<◌, ◌≤◌, ◌^◌, [], length, IfOk};
+ghost use Rattle.std.specs.Prelude.{◌≡◌, ◌+◌, ◌*◌, ◌<◌, ◌≤◌, ◌^◌, [], length, IfOk, OnErr};
 
 use crate::disk::BlockDevice;
 use crate::faults::DiskFault;
+use crate::operations::Operation;
+use oram_bytes::Bytes;
 use std::alloc::{AllocError, Global};
 use std::marker::Model;
 
@@ -27,6 +29,7 @@ impl Model for MemDisk {
 
 impl MemDisk {
     ghost use Rattle.oram_nbd.specs.Bytes.{written, zeroes};
+    ghost use Rattle.oram_nbd.specs.Operations.{IsWithin, done_by, given_by};
 
     /// Returns a device of `blocks` blocks of zeroes, each of `block_bytes` bytes.
     pub fn new(alloc: Global, block_bytes: u32, blocks: u64) -> Result<MemDisk, AllocError>
@@ -51,15 +54,28 @@ impl MemDisk {
         self.bytes[start..start + payload.len()].copy_from_slice(payload);
     }
 
-    /// Returns where the bytes of `count` blocks begin and end, from the block `first` on.
-    fn range(&self, first: u64, count: u64) -> (usize, usize)
-        requires { self.now.block_len * first + self.now.block_len * count ≤ length self.now.bytes }
-        ensures start { result.0 ≡ self.now.block_len * first }
-        ensures end { result.1 ≡ self.now.block_len * first + self.now.block_len * count }
+    /// Carries out one operation, and returns what it reads.
+    fn apply(&mut self, alloc: Global, operation: &Operation) -> Result<Bytes, AllocError>
+        requires { IsWithin (length self.old.bytes) operation.now }
+        ensures ok { IfOk result (λ given. (given ≡ given_by operation.now self.old.bytes)
+            × (self.new ≡ record self.old { bytes = done_by operation.now self.old.bytes })) }
+        ensures err { OnErr result (self.new ≡ self.old) }
     {
-        let len = self.block_bytes as usize;
-        let start = len * first as usize;
-        (start, start + len * count as usize)
+        let at = operation.place() as usize;
+        match operation {
+            Operation::Read { count, .. } => {
+                Bytes::copy(alloc, &self.bytes[at..at + *count as usize])
+            }
+            Operation::Write { payload, .. } => {
+                self.put(at, payload.as_slice());
+                Ok(Bytes::from_vec(Vec::new(alloc)))
+            }
+            Operation::Zero { count, .. } => {
+                let none = vec![in alloc; 0u8; *count as usize]?;
+                self.put(at, &none);
+                Ok(Bytes::from_vec(Vec::new(alloc)))
+            }
+        }
     }
 }
 
@@ -94,21 +110,18 @@ impl BlockDevice for MemDisk {
         self.blocks
     }
 
-    fn read(&mut self, alloc: Global, first: u64, count: u64) -> Result<Vec<u8>, DiskFault> {
-        let (start, end) = self.range(first, count);
-        Ok(self.bytes[start..end].to_vec(alloc)?)
-    }
-
-    fn write(&mut self, _alloc: Global, first: u64, payload: &[u8]) -> Result<(), DiskFault> {
-        let start = self.block_bytes as usize * first as usize;
-        self.put(start, payload);
-        Ok(())
-    }
-
-    fn zero(&mut self, alloc: Global, first: u64, count: u64) -> Result<(), DiskFault> {
-        let (start, end) = self.range(first, count);
-        let none = vec![in alloc; 0u8; end - start]?;
-        self.put(start, &none);
-        Ok(())
+    fn carry_out(
+        &mut self,
+        alloc: Global,
+        operations: &[Operation],
+    ) -> Result<Vec<Bytes>, DiskFault> {
+        let mut given = Vec::with_capacity(alloc, operations.len())?;
+        for operation in operations {
+            let bytes = self.apply(alloc, operation)?;
+            if given.push(bytes).is_err() {
+                return Err(DiskFault::OutOfMemory);
+            }
+        }
+        Ok(given)
     }
 }

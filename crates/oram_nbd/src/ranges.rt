@@ -1,35 +1,37 @@
-//! Carries out byte ranges by calls of whole blocks.
+//! Writes byte ranges by operations on whole blocks.
 
-ghost use Rattle.std.specs.Prelude.{◌≡◌, ℕ, List, ◌+◌, ◌*◌, ◌<◌, ◌≤◌, length, take, drop, IfOk, OnErr, MatchResult};
+ghost use Rattle.std.specs.Prelude.{◌≡◌, ℕ, ◌+◌, ◌*◌, ◌%◌, ◌<◌, ◌≤◌, ◌^◌, length, take, IfOk, MatchResult};
 ghost use Rattle.oram_nbd.specs.Beside.{GoesOn, IsStopped};
 ghost use Rattle.oram_nbd.specs.Bytes.{bytes_at, written, zeroes, IsBegun};
 ghost use Rattle.oram_nbd.specs.Calls.{FailsByLies, IsCall, Writes};
 
 use crate::disk::BlockDevice;
 use crate::faults::DiskFault;
+use crate::operations::Operation;
+use oram_bytes::Bytes;
 use std::alloc::{AllocError, Global};
 
 /// The blocks over which a range of bytes lies.
 #[derive(Clone, Copy, Debug)]
-struct Cover {
+pub(crate) struct Cover {
     /// The first of them.
-    first: u64,
-    count: u64,
+    pub(crate) first: u64,
+    pub(crate) count: u64,
     /// How many bytes of the first block lie before the range.
     start: usize,
 }
 
 impl Cover {
-    /// Returns the blocks of the range of `len` bytes from a place on.
-    fn of<D: BlockDevice>(disk: &D, at: u64, len: u64) -> Cover
-        requires within { at + len ≤ D.size disk.now }
+    /// Returns the blocks of the range of `len` bytes from a place on, in blocks of `block` bytes.
+    pub(crate) fn over(block: u64, at: u64, len: u64) -> Cover
+        requires block { 0 < block }
         requires some { 0 < len }
-        ensures place { D.block_len disk.now * result.first + result.start ≡ at }
-        ensures within { D.block_len disk.now * result.first + D.block_len disk.now * result.count ≤ D.size disk.now }
-        ensures covers { result.start + len ≤ D.block_len disk.now * result.count }
+        requires bound { at + len < 2 ^ 63 }
+        ensures place { block * result.first + result.start ≡ at }
+        ensures start { result.start ≡ at % block }
+        ensures within { (blocks : ℕ) → at + len ≤ block * blocks → block * result.first + block * result.count ≤ block * blocks }
+        ensures covers { result.start + len ≤ block * result.count }
     {
-        let _blocks = disk.blocks();
-        let block = u64::from(disk.block_bytes());
         let first = at / block;
         let last = (at + len - 1) / block;
         Cover {
@@ -38,38 +40,86 @@ impl Cover {
             start: (at % block) as usize,
         }
     }
-}
 
-/// Returns `count` bytes of some, from `start` on.
-fn cut(alloc: Global, bytes: Vec<u8>, start: usize, count: usize) -> Result<Vec<u8>, AllocError>
-    requires { start + count ≤ length bytes.items }
-    ensures { IfOk result (λ v. v.items ≡ take count (drop start bytes.items)) }
-{
-    if count == bytes.len() {
-        return Ok(bytes);
+    /// Returns the blocks of a range of a device.
+    fn of<D: BlockDevice>(disk: &D, at: u64, len: u64) -> Cover
+        requires within { at + len ≤ D.size disk.now }
+        requires some { 0 < len }
+        ensures place { D.block_len disk.now * result.first + result.start ≡ at }
+        ensures within { D.block_len disk.now * result.first + D.block_len disk.now * result.count ≤ D.size disk.now }
+        ensures covers { result.start + len ≤ D.block_len disk.now * result.count }
+    {
+        let _blocks = disk.blocks();
+        Cover::over(u64::from(disk.block_bytes()), at, len)
     }
-    bytes[start..start + count].to_vec(alloc)
 }
 
-/// Reads the bytes of a range, by one call. The device holds what it held.
-pub fn read_range<D: BlockDevice>(
+/// Reads `count` blocks, from the block `first` on.
+pub(crate) fn read_blocks<D: BlockDevice>(
     alloc: Global,
     disk: &mut D,
-    offset: u64,
-    count: u32,
+    first: u64,
+    count: u64,
 ) -> Result<Vec<u8>, DiskFault>
-    requires { offset + count ≤ D.size disk.old }
-    ensures len { IfOk result (λ v. length v.items ≡ count) }
+    requires { D.block_len disk.old * first + D.block_len disk.old * count ≤ D.size disk.old }
+    ensures len { IfOk result (λ v. length v.items ≡ D.block_len disk.old * count) }
     ensures goes { GoesOn D.had D.hears D.holds disk.old (λ may_lie bytes later. (later ≡ bytes)
-        × IfOk result (λ v. v.items ≡ bytes_at bytes offset count) × FailsByLies result may_lie) disk.new }
+        × IfOk result (λ v. v.items ≡ bytes_at bytes (D.block_len disk.old * first) (D.block_len disk.old * count)) × FailsByLies result may_lie) disk.new }
     ensures call { IsCall D.block_len D.size D.failed (IsStopped D.stops disk.new) disk.old result disk.new }
 {
-    if count == 0 {
-        return Ok(Vec::new(alloc));
+    let _blocks = disk.blocks();
+    let block = u64::from(disk.block_bytes());
+    let operation = Operation::Read {
+        at: block * first,
+        count: block * count,
+    };
+    let mut given = disk.carry_out(alloc, &[operation])?;
+    match given.pop() {
+        Some(bytes) => Ok(bytes.into_vec()),
+        None => unreachable!(),
     }
-    let cover = Cover::of(disk, offset, u64::from(count));
-    let bytes = disk.read(alloc, cover.first, cover.count)?;
-    Ok(cut(alloc, bytes, cover.start, count as usize)?)
+}
+
+/// Replaces as many blocks as the payload has, from the block `first` on.
+fn write_blocks<D: BlockDevice>(
+    alloc: Global,
+    disk: &mut D,
+    first: u64,
+    payload: Bytes,
+) -> Result<(), DiskFault>
+    requires within { D.block_len disk.old * first + length payload ≤ D.size disk.old }
+    requires whole { (count : ℕ) × (length payload ≡ D.block_len disk.old * count) }
+    ensures goes { GoesOn D.had D.hears D.holds disk.old (Writes (D.block_len disk.old * first) payload result) disk.new }
+    ensures call { IsCall D.block_len D.size D.failed (IsStopped D.stops disk.new) disk.old result disk.new }
+{
+    let _blocks = disk.blocks();
+    let operation = Operation::Write {
+        at: u64::from(disk.block_bytes()) * first,
+        payload,
+    };
+    disk.carry_out(alloc, &[operation])?;
+    Ok(())
+}
+
+/// Makes `count` blocks zeroes, from the block `first` on.
+fn zero_blocks<D: BlockDevice>(
+    alloc: Global,
+    disk: &mut D,
+    first: u64,
+    count: u64,
+) -> Result<(), DiskFault>
+    requires { D.block_len disk.old * first + D.block_len disk.old * count ≤ D.size disk.old }
+    ensures goes { GoesOn D.had D.hears D.holds disk.old (Writes (D.block_len disk.old * first) (zeroes (D.block_len disk.old * count)) result) disk.new }
+    ensures call { IsCall D.block_len D.size D.failed (IsStopped D.stops disk.new) disk.old result disk.new }
+{
+    let _blocks = disk.blocks();
+    let block = u64::from(disk.block_bytes());
+    let operation = Operation::Zero {
+        at: block * first,
+        count: block * count,
+    };
+    disk.carry_out(alloc, &[operation])?;
+    Ok(())
 }
 
 /// Returns how many bytes of a range are written at once, from its place on: its whole blocks where it begins with one; all
@@ -122,11 +172,12 @@ fn write_covered<D: BlockDevice>(
 {
     let _blocks = disk.blocks();
     if payload.len() as u64 == u64::from(disk.block_bytes()) * cover.count {
-        return disk.write(alloc, cover.first, payload);
+        let copied = Bytes::copy(alloc, payload)?;
+        return write_blocks(alloc, disk, cover.first, copied);
     }
-    let old = disk.read(alloc, cover.first, cover.count)?;
+    let old = read_blocks(alloc, disk, cover.first, cover.count)?;
     let whole = spliced(alloc, &old, cover.start, payload)?;
-    disk.write(alloc, cover.first, &whole)
+    write_blocks(alloc, disk, cover.first, Bytes::from_vec(whole))
 }
 
 /// Writes those bytes at the front of the payload that are written at once, and returns their number.
@@ -152,7 +203,7 @@ fn write_part<D: BlockDevice>(
 }
 
 /// Writes a range. No byte outside of it changes. On an error, a beginning of the payload may be written.
-pub fn write_range<D: BlockDevice>(
+pub(crate) fn write_range<D: BlockDevice>(
     alloc: Global,
     disk: &mut D,
     offset: u64,
@@ -191,7 +242,7 @@ fn zero_part<D: BlockDevice>(
     let cover = Cover::of(disk, at, len);
     let _blocks = disk.blocks();
     if len == block * cover.count {
-        disk.zero(alloc, cover.first, cover.count)?;
+        zero_blocks(alloc, disk, cover.first, cover.count)?;
     } else {
         let none = vec![in alloc; 0u8; len as usize]?;
         write_covered(alloc, disk, cover, &none)?;
@@ -200,7 +251,7 @@ fn zero_part<D: BlockDevice>(
 }
 
 /// Makes the bytes of a range zeroes.
-pub fn zero_range<D: BlockDevice>(
+pub(crate) fn zero_range<D: BlockDevice>(
     alloc: Global,
     disk: &mut D,
     offset: u64,

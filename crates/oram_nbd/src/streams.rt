@@ -2,7 +2,7 @@
 
 ghost use Rattle.std.specs.Prelude.{◌≡◌, ◌<◌, ◌++◌, length, IfOk, IfErr, OnOk};
 ghost use Rattle.std.specs.Bool.{MatchBool};
-ghost use Rattle.std.specs.Io.KnownBytes.{Appends, Consumes};
+ghost use Rattle.std.specs.Io.KnownBytes.{Appends, Consumes, Keeps};
 ghost use Rattle.oram_wire.specs.FrameIo.{GivesEnd};
 ghost use Rattle.oram_nbd.specs.Streams.{ComesShort, IsBegunText, IsSkip};
 
@@ -46,16 +46,34 @@ pub(crate) fn skip<R: Read>(reader: &mut R, count: u64) -> Result<(), NbdFault>
     Ok(())
 }
 
-/// Writes a message in two pieces, and flushes the writer.
-pub(crate) fn send<W: Write>(writer: &mut W, head: &[u8], rest: &[u8]) -> Result<(), NbdFault>
+/// Writes a message in two pieces.
+pub(crate) fn put<W: Write>(writer: &mut W, head: &[u8], rest: &[u8]) -> Result<(), NbdFault>
     ensures ok { OnOk result (Appends (W.contents writer.old) (W.contents writer.new) (head.now ++ rest.now)) }
     ensures err { IfErr result (λ fault. (fault ≡ NbdFault.Write)
         × IsBegunText (W.contents writer.old) (W.contents writer.new) (head.now ++ rest.now)) }
 {
     write(writer, head)?;
     write(writer, rest)?;
+    Ok(())
+}
+
+/// Flushes a writer.
+pub(crate) fn flush<W: Write>(writer: &mut W) -> Result<(), NbdFault>
+    ensures keeps { Keeps (W.contents writer.old) (W.contents writer.new) }
+    ensures err { IfErr result (λ fault. fault ≡ NbdFault.Write) }
+{
     if writer.flush().is_err() {
         return Err(NbdFault::Write);
     }
     Ok(())
+}
+
+/// Writes a message in two pieces, and flushes the writer.
+pub(crate) fn send<W: Write>(writer: &mut W, head: &[u8], rest: &[u8]) -> Result<(), NbdFault>
+    ensures ok { OnOk result (Appends (W.contents writer.old) (W.contents writer.new) (head.now ++ rest.now)) }
+    ensures err { IfErr result (λ fault. (fault ≡ NbdFault.Write)
+        × IsBegunText (W.contents writer.old) (W.contents writer.new) (head.now ++ rest.now)) }
+{
+    put(writer, head, rest)?;
+    flush(writer)
 }

@@ -1,90 +1,104 @@
 //! Reads requests, has a device carry them out, and writes replies.
 
-ghost use Rattle.std.specs.Prelude.{◌≡◌, ℕ, List, length, IfOk, IfErr, OnOk, IfSome, MatchOption};
-ghost use Rattle.std.specs.Io.KnownBytes.{Appends, Consumes};
-ghost use Rattle.oram_wire.specs.FrameIo.{GivesEnd};
-ghost use Rattle.oram_nbd.specs.Calls.{Stays};
+ghost use Rattle.std.specs.Prelude.{◌≡◌, ◌≤◌, ℕ, [], List, Option, IfOk, IfErr, OnOk, length, map};
+ghost use Rattle.std.specs.Bool.{MatchBool};
+ghost use Rattle.std.specs.Io.KnownBytes.{Appends};
+ghost use Rattle.oram_nbd.specs.Batches.{refusals_text, AreKept, BreaksBatch, EndsBatch, EndsBy, IsLayout, IsUnkept, LeftBy};
 ghost use Rattle.oram_nbd.specs.Beside.{IsStopped};
-ghost use Rattle.oram_nbd.specs.Messages.{reply_text, request_text, IsRequest};
-ghost use Rattle.oram_nbd.specs.Streams.{ComesShort, IsBegunText, Misses};
-ghost use Rattle.oram_nbd.specs.Transmission.{HasTransmitted, IsNoRequest, IsUnfinished, StopsServing};
+ghost use Rattle.oram_nbd.specs.Calls.{Stays};
+ghost use Rattle.oram_nbd.specs.Service.{Asked};
+ghost use Rattle.oram_nbd.specs.Streams.{IsBegunText};
+ghost use Rattle.oram_nbd.specs.Transmission.{HasTransmitted, IsCutOff, IsLast, StopsServing};
 
-use crate::LONGEST_PAYLOAD;
+use crate::arrivals::Arrived;
+use crate::batches::{Batch, Close, gather};
 use crate::disk::BlockDevice;
-use crate::faults::NbdFault;
-use crate::replies::SimpleReply;
-use crate::requests::{Command, Request};
-use crate::service::answer;
-use crate::streams::{next_head, send, skip};
-use oram_wire::{FrameFault, read_body};
+use crate::faults::{DiskFault, NbdError, NbdFault};
+use crate::layout::Layout;
+use crate::lists::carry_out_all;
+use crate::replies::{put_answers, put_refusals};
+use crate::service::is_any_accepted;
+use crate::streams::flush;
 use std::alloc::Global;
 use std::io::{Read, Write};
 
-/// Reads the next request, without the bytes of a write. Returns `None` at the end of the input.
-fn next_request<R: Read>(reader: &mut R) -> Result<Option<Request>, NbdFault>
-    ensures ok { IfOk result (λ next. MatchOption next
-        (GivesEnd (R.remaining reader.old) (R.remaining reader.new))
-        (λ r. IsRequest r × Consumes (R.remaining reader.old) (R.remaining reader.new) (request_text r))) }
-    ensures err { IfErr result (λ fault. Misses IsUnfinished IsNoRequest fault (R.remaining reader.old) (R.remaining reader.new)) }
-{
-    let mut head = [0u8; Request::BYTES];
-    if !next_head(reader, &mut head)? {
-        return Ok(None);
-    }
-    match Request::decode(&head) {
-        Some(request) => Ok(Some(request)),
-        None => Err(NbdFault::Magic),
-    }
-}
+/// The most batches of a connection.
+const MOST_BATCHES: u64 = 1 << 56;
 
-/// Skips `count` bytes, and keeps none of them.
-fn pass_over<R: Read>(reader: &mut R, count: u32) -> Result<Option<Vec<u8>>, NbdFault>
-    ensures ok { IfOk result (λ payload. (bytes : List ℕ) × (length bytes ≡ count)
-        × Consumes (R.remaining reader.old) (R.remaining reader.new) bytes × IfSome payload (λ p. p.items ≡ bytes)) }
-    ensures err { IfErr result (λ fault. ComesShort 0 count fault (R.remaining reader.old) (R.remaining reader.new)) }
-{
-    skip(reader, u64::from(count))?;
-    Ok(None)
-}
-
-/// Reads the bytes of a write. If they are too many, or there is no memory for them, it skips them and returns `None`.
-fn read_payload<R: Read>(
+/// Carries out a batch, and writes the replies. Running out of memory, or a failure of the device, refuses all requests of the
+/// batch; some of them may be done all the same.
+fn carry_out_batch<W: Write, D: BlockDevice>(
     alloc: Global,
-    reader: &mut R,
-    count: u32,
-) -> Result<Option<Vec<u8>>, NbdFault>
-    ensures ok { IfOk result (λ payload. (bytes : List ℕ) × (length bytes ≡ count)
-        × Consumes (R.remaining reader.old) (R.remaining reader.new) bytes × IfSome payload (λ p. p.items ≡ bytes)) }
-    ensures err { IfErr result (λ fault. ComesShort 0 count fault (R.remaining reader.old) (R.remaining reader.new)) }
+    writer: &mut W,
+    disk: &mut D,
+    layout: Layout,
+    batch: &Batch,
+) -> Result<(), NbdFault>
+    requires block { layout.block ≡ D.block_len disk.old }
+    requires size { layout.size ≡ D.size disk.old }
+    requires layout { IsLayout layout.block layout.size }
+    requires kept { (asked : List Asked) × AreKept layout.block layout.size asked batch.now.requests.items batch.now.operations.items }
+    ensures ok { OnOk result ((asked : List Asked) → AreKept layout.block layout.size asked batch.now.requests.items batch.now.operations.items →
+        EndsBatch D.had D.hears D.holds (D.failed disk.old) (D.failed disk.new) layout.size disk.old disk.new asked (W.contents writer.old) (W.contents writer.new)) }
+    ensures err { IfErr result (λ fault. (asked : List Asked) → AreKept layout.block layout.size asked batch.now.requests.items batch.now.operations.items →
+        BreaksBatch D.had D.hears D.holds (D.failed disk.old) (D.failed disk.new) layout.size disk.old disk.new asked fault (W.contents writer.old) (W.contents writer.new)) }
+    ensures stopped { IfErr result (λ fault. fault ≡ NbdFault.Stopped → IsStopped D.stops disk.new) }
+    ensures stays { Stays D.block_len D.size D.failed disk.old disk.new }
 {
-    if count > LONGEST_PAYLOAD {
-        return pass_over(reader, count);
+    let _blocks = disk.blocks();
+    if !is_any_accepted(&batch.requests, layout.size) {
+        return put_refusals(writer, layout.size, &batch.requests, NbdError::NoMemory);
     }
-    match read_body(alloc, reader, count as usize) {
-        Ok(payload) => Ok(Some(payload)),
-        Err(FrameFault::OutOfMemory) => pass_over(reader, count),
-        Err(fault) => Err(NbdFault::from(fault)),
+    match carry_out_all(alloc, disk, &batch.operations) {
+        Ok(given) => put_answers(writer, layout, &batch.requests, &given),
+        Err(DiskFault::Failed) => put_refusals(writer, layout.size, &batch.requests, NbdError::Io),
+        Err(DiskFault::OutOfMemory) => put_refusals(
+            writer,
+            layout.size,
+            &batch.requests,
+            NbdError::NoMemory,
+        ),
+        Err(DiskFault::Stopped) => Err(NbdFault::Stopped),
     }
 }
 
-/// Writes a reply to the request with this cookie.
-fn put_reply<W: Write>(writer: &mut W, cookie: u64, reply: &SimpleReply) -> Result<(), NbdFault>
-    ensures ok { OnOk result (Appends (W.contents writer.old) (W.contents writer.new) (reply_text cookie reply.now)) }
-    ensures err { IfErr result (λ fault. (fault ≡ NbdFault.Write)
-        × IsBegunText (W.contents writer.old) (W.contents writer.new) (reply_text cookie reply.now)) }
+/// Refuses the request for which there was no memory, if there is one, and returns their number.
+fn refuse_unkept<W: Write>(writer: &mut W, size: u64, close: Close) -> Result<u64, NbdFault>
+    ensures ok { IfOk result (λ count. (part : List ℕ) (unread : Option (List ℕ)) → EndsBy close part unread → (asked : List Asked) × (rest : List ℕ) × IsUnkept close part unread asked rest
+        × (length asked ≡ count) × Appends (W.contents writer.old) (W.contents writer.new) (refusals_text size (map (λ a. a.request) asked) NbdError.NoMemory)) }
+    ensures few { IfOk result (λ count. count ≤ 1) }
+    ensures err { IfErr result (λ fault. (fault ≡ NbdFault.Write) × ((part : List ℕ) (unread : Option (List ℕ)) → EndsBy close part unread → (asked : List Asked) × (rest : List ℕ) × IsUnkept close part unread asked rest
+        × IsBegunText (W.contents writer.old) (W.contents writer.new) (refusals_text size (map (λ a. a.request) asked) NbdError.NoMemory))) }
 {
-    let head = reply.head(cookie);
-    send(writer, &head, reply.bytes())
+    match close {
+        Close::NoRoom(request) => {
+            put_refusals(writer, size, &[request], NbdError::NoMemory)?;
+            Ok(1)
+        }
+        Close::Waits | Close::Leaves | Close::Breaks(_) => Ok(0),
+    }
 }
 
-/// Answers each request in turn, until the client leaves, and returns their number.
+/// Returns whether further requests may follow a batch that ended so, or the fault of the input.
+fn goes_on(close: Close) -> Result<bool, NbdFault>
+    ensures ok { IfOk result (λ more. (rest : List ℕ) (unread : Option (List ℕ)) → LeftBy close rest unread → MatchBool more (rest ≡ []) (IsLast unread rest)) }
+    ensures err { IfErr result (λ fault. (rest : List ℕ) (unread : Option (List ℕ)) → LeftBy close rest unread → IsCutOff fault rest unread) }
+{
+    match close {
+        Close::Waits | Close::NoRoom(_) => Ok(true),
+        Close::Leaves => Ok(false),
+        Close::Breaks(fault) => Err(fault),
+    }
+}
+
+/// Answers requests until the client leaves, and returns their number.
 ///
-/// A reply is written and flushed before the next request is read. So a client that reads no replies holds back its own
-/// requests, once the buffers between the two are full. A reader with a buffer, such as a `BufReader`, reads requests
-/// ahead of their replies. Running out of memory doesn't end the service: the request is refused with `NoMemory`, and
-/// the bytes of its write are skipped. A device that stops ends the service, and the request at which it stopped gets
-/// no reply.
-pub fn transmit<R: Read, W: Write, D: BlockDevice>(
+/// It waits for a request, and carries it out together with those that have arrived behind it, up to 64 of them. All replies of
+/// a batch are written and flushed before the next request is waited for. So a client that reads no replies holds back its own
+/// requests, once the buffers between the two are full. Running out of memory doesn't end the service: the requests are
+/// refused with `NoMemory`, and the bytes of a write for which there is none are skipped. A device that stops ends the
+/// service, and the requests of its batch get no replies.
+pub fn transmit<R: Read + Arrived, W: Write, D: BlockDevice>(
     alloc: Global,
     reader: &mut R,
     writer: &mut W,
@@ -97,18 +111,19 @@ pub fn transmit<R: Read, W: Write, D: BlockDevice>(
     ensures stopped { IfErr result (λ fault. fault ≡ NbdFault.Stopped → IsStopped D.stops disk.new) }
     ensures stays { Stays D.block_len D.size D.failed disk.old disk.new }
 {
-    for served in 0..u64::MAX {
-        let Some(request) = next_request(reader)? else {
-            return Ok(served);
-        };
-        if request.command == Command::Disconnect {
+    let layout = Layout::of(disk);
+    let mut served = 0;
+    for _batch_number in 0..MOST_BATCHES {
+        let (batch, close) = gather(alloc, reader, layout);
+        carry_out_batch(alloc, writer, disk, layout, &batch)?;
+        let _blocks = disk.blocks();
+        let unkept = refuse_unkept(writer, layout.size, close)?;
+        flush(writer)?;
+        served += batch.requests.len() as u64 + unkept;
+        let more = goes_on(close)?;
+        if !more {
             return Ok(served);
         }
-        let payload = read_payload(alloc, reader, request.payload_len())?;
-        let Some(reply) = answer(alloc, disk, &request, payload) else {
-            return Err(NbdFault::Stopped);
-        };
-        put_reply(writer, request.cookie, &reply)?;
     }
     Err(NbdFault::Read)
 }

@@ -17,6 +17,9 @@ const CONNECTION: Token = Token(0);
 
 const LISTENER: Token = Token(1);
 
+/// The most bytes that a reader takes from its socket at once. 64 requests that write 4 KiB each fit into them.
+const READ_ROOM: usize = 1 << 19;
+
 /// What a connection waits for.
 #[derive(Clone, Copy, Debug, PartialEq, Eq)]
 pub enum Direction {
@@ -181,7 +184,7 @@ pub fn watch<'a, R: Net + Clock, S: Read + Write + OpenStream + AsRawFd + Drop, 
     let reader = Watched::new(rt, alloc, stream, Direction::Reading, listener, attendant)?;
     let writer = Watched::new(rt, alloc, writer, Direction::Writing, listener, attendant)?;
     Ok((
-        BufReader::new(alloc, reader)?,
+        BufReader::with_capacity(alloc, READ_ROOM, reader)?,
         BufWriter::new(alloc, writer)?,
     ))
 }

@@ -104,7 +104,8 @@ module _ {B K : Type 0} (batches : B → List (List ℕ) → BatchOutcome → Li
           | inr failed ↦ absurd (let both = sym alive ∙ failed.1.1 in cc)
         ] in
         let before : ℕ → List ℕ = served.0 in
-        let going : IsGoingOn v (process t l k) host before = (far, h.will_hold.1, asked_served may_lie v h.device words session asked s t before far chain served.1) in
+        let going : IsGoingOn may_lie v (process t l k) host before =
+        (far, h.will_hold.1, asked_served may_lie v h.device words session asked s t before far chain served.1, h.ahead) in
         let went = heard may_lie (flat_map exchanges_of acts) w later run in
         let ran : PlainRun may_lie v host (flat_map exchanges_of acts) later.host = subst (λ (u : Scheme). PlainRun may_lie u host (flat_map exchanges_of acts) later.host) h.same went.1 in
         let all = replies_are_the_arrays batches reads_back are may_lie v acts (process t l k) q host later.host before h.device h.same_device h.same_len going does ran in

@@ -15,7 +15,7 @@ use Rattle.oram_rounds.specs.Batches.{BatchOutcome}
 use Rattle.oram_rounds.specs.CatchUp.{PlainRun}
 use Rattle.oram_rounds.specs.Law.{AreBatches}
 use Rattle.oram_rounds.specs.Process.{Act, DoesAll, IsSafe, Process, exchanges_of, process}
-use Rattle.oram_rounds.specs.Process.Act.{Calls, Hears as HearsOf, Keeps, Misses}
+use Rattle.oram_rounds.specs.Process.Act.{Calls, GoesAhead, Hears as HearsOf, Keeps, Misses}
 use Rattle.oram_rounds.specs.Rounds.{Round}
 use Rattle.oram_rounds.specs.Start.{AreAsked, Asked, array_with}
 use Rattle.oram_rounds.proofs.Asked.{asked_is_submitted}
@@ -48,6 +48,7 @@ module _ {B K : Type 0} (batches : B → List (List ℕ) → BatchOutcome → Li
   forgotten (HearsOf event x ∷ acts) p q does = (does.0, does.1, forgotten acts does.0 q does.2)
   forgotten (Calls o exchanges x ∷ acts) p q does = (does.0, does.1, forgotten acts does.0 q does.2)
   forgotten (Misses o exchanges ∷ acts) p q does = (does.0, does.1, forgotten acts does.0 q does.2)
+  forgotten (GoesAhead exchanges ∷ acts) p q does = (does.0, does.1, forgotten acts does.0 q does.2)
   forgotten (Keeps true ∷ acts) p q does = (does.0, (λ bytes back. absurd back, does.1.1, does.1.2), forgotten acts does.0 q does.2)
   forgotten (Keeps false ∷ acts) p q does = (does.0, (λ bytes back. absurd back, does.1.1, does.1.2), forgotten acts does.0 q does.2)
 
@@ -87,7 +88,7 @@ module _ {B K : Type 0} (batches : B → List (List ℕ) → BatchOutcome → Li
     Holds p w array = HoldsArray may_lie (at p) w array
 
     safe_by : (p : Process B K) (w : HostBeside) (array : ℕ → List ℕ) → (h : Holds p w array) → IsSafe may_lie v Nothing p w.host array array
-    safe_by p w array h = record { device = h.same_device; record_len_is = h.same_len; live = h.will_hold; kept = λ bytes back. absurd back }
+    safe_by p w array h = record { device = h.same_device; record_len_is = h.same_len; live = h.will_hold; kept = λ bytes back. absurd back; ahead = h.ahead }
 
     held_by : (p : Process B K) (w : HostBeside) (before array : ℕ → List ℕ) → w.scheme ≡ v → IsDevice v.device → IsSafe may_lie v Nothing p w.host before array → Holds p w array
     held_by p w before array same device safe = record {
@@ -96,6 +97,7 @@ module _ {B K : Type 0} (batches : B → List (List ℕ) → BatchOutcome → Li
       same_device = safe.device;
       same_len = safe.record_len_is;
       will_hold = safe.live;
+      ahead = safe.ahead;
     }
 
     -- whatever a process does, it still holds the array
@@ -160,6 +162,6 @@ pub held_devices_hold : (B K : Type 0) → HeldDevicesHold B K
 held_devices_hold B K may_lie v words inner core keeper host array bytes device held laid =
     let safe = held_is_safe B {K = K} Nothing may_lie v inner core keeper host array held (λ bytes back. absurd back) in record {
       array = array;
-      holds = record { same = refl; device = device; same_device = safe.device; same_len = safe.record_len_is; will_hold = safe.live };
+      holds = record { same = refl; device = device; same_device = safe.device; same_len = safe.record_len_is; will_hold = safe.live; ahead = safe.ahead };
       laid = laid;
     }

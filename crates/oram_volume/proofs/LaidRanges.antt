@@ -1,17 +1,14 @@
 -- What the commands of a range of blocks do to an array that is laid out.
-use Rattle.std.proofs.Common.{◌≡◌, ℕ, zero, suc, ◌+◌, ◌-◌, ◌*◌, ◌<◌, ◌≤◌, List, [], ◌∷◌, ◌++◌, All, length, map, take, drop, refl, sym, ap, ◌∙◌, subst, arith, length-drop, length-take-le, mul-suc, mul-zero, mul-add}
+use Rattle.std.proofs.Common.{◌≡◌, ℕ, zero, suc, ◌+◌, ◌-◌, ◌*◌, ◌<◌, ◌≤◌, List, [], ◌∷◌, ◌++◌, All, length, take, drop, refl, sym, ap, ◌∙◌, subst, arith, length-drop, length-take-le, mul-suc, mul-zero, mul-add}
 use Rattle.std.proofs.lemmas.List.{take-append-drop}
 use Rattle.std.proofs.lemmas.List.Elements.{All-cons, All-nil}
 use Rattle.std.proofs.Math.Nat.{lt_of_mul-lt-mul_left, mul-le-mul_left}
 use Rattle.std.specs.List.{flat_map}
 use Rattle.oram_geometry.specs.declared.Sizes.{Sizes}
 use Rattle.oram_semantics.specs.ArrayReplies.{array_after}
-use Rattle.oram_semantics.specs.declared.events.Command.{Command}
 use Rattle.oram_semantics.specs.declared.events.Command.TheVariants.{Discard, Read, Write}
-use Rattle.oram_semantics.specs.declared.events.Reply.{Reply}
-use Rattle.oram_semantics.specs.declared.events.ReplyBody.{ReplyBody}
 use Rattle.oram_nbd.specs.Bytes.{IsBegun, bytes_at, written, zeroes}
-use Rattle.oram_nbd.proofs.Splices.{begun_front, begun_more, begun_none, begun_zeroes, bytes_at_more, written_none, written_twice, zeroed_more, zeroes_begun}
+use Rattle.oram_nbd.proofs.Splices.{begun_more, begun_none, begun_zeroes, bytes_at_more, written_none, written_twice, zeroed_more}
 use Rattle.oram_volume.specs.Blocks.{IsLaidOut}
 use Rattle.oram_volume.specs.CarriedOut.{after_commands, bodies_from}
 use Rattle.oram_volume.specs.DiskCalls.{data_of}
@@ -179,66 +176,11 @@ module _ (d : Sizes) where
       ∙ ap (λ (l : List ℕ). bytes_at bytes (b * first) b ++ l) (rest ∙ ap (λ (k : ℕ). bytes_at bytes k (b * n)) place)
       ∙ bytes_at_more bytes (b * first) b (b * n) ∙ ap (λ (k : ℕ). bytes_at bytes (b * first) k) whole
 
-  -- ---- What a round does with these commands: n blocks of the `most` that are wanted.
+  -- writes and discards have none
+  pub data_writes : (n first : ℕ) (payload : List ℕ) (array : ℕ → List ℕ) → flat_map data_of (bodies_from d (write_commands d.block_bytes first n payload) array) ≡ []
+  data_writes zero first payload array = refl
+  data_writes (suc n) first payload array = data_writes n (suc first) (drop d.block_bytes payload) (array_after d (Write first (take d.block_bytes payload)) array)
 
-  pub round_reads : (cs : List Command) (n first : ℕ) → cs ≡ read_commands first n → (array later : ℕ → List ℕ) (bytes : List ℕ) → IsLaidOut d array bytes
-      → later ≡ after_commands d cs array → IsLaidOut d later bytes
-  round_reads cs n first are array later bytes laid is =
-      subst (λ (a : ℕ → List ℕ). IsLaidOut d a bytes) (sym (is ∙ ap (λ (l : List Command). after_commands d l array) are)) (laid_after_reads n first array bytes laid)
-
-  pub round_begins_reads : (cs : List Command) (n first : ℕ) → cs ≡ read_commands first n → (array later : ℕ → List ℕ) (bytes : List ℕ) → IsLaidOut d array bytes
-      → (k : ℕ) → later ≡ after_commands d (take k cs) array → IsLaidOut d later bytes
-  round_begins_reads cs n first are array later bytes laid k is =
-      subst (λ (a : ℕ → List ℕ). IsLaidOut d a bytes) (sym (is ∙ ap (λ (l : List Command). after_commands d (take k l) array) are)) (begun_reads k n first array bytes laid)
-
-  of_bodies : (replies : List Reply) → flat_map (λ (r : Reply). data_of r.body) replies ≡ flat_map data_of (map (λ (r : Reply). r.body) replies)
-  of_bodies [] = refl
-  of_bodies (r ∷ replies) = ap (λ (l : List ℕ). data_of r.body ++ l) (of_bodies replies)
-
-  pub round_data : (cs : List Command) (n first : ℕ) → cs ≡ read_commands first n → first + n ≤ d.blocks → (array : ℕ → List ℕ) (bytes : List ℕ) → IsLaidOut d array bytes
-      → (replies : List Reply) → map (λ (r : Reply). r.body) replies ≡ bodies_from d cs array
-      → flat_map (λ (r : Reply). data_of r.body) replies ≡ bytes_at bytes (d.block_bytes * first) (d.block_bytes * n)
-  round_data cs n first are within array bytes laid replies is =
-      of_bodies replies ∙ ap (λ (l : List ReplyBody). flat_map data_of l) (is ∙ ap (λ (l : List Command). bodies_from d l array) are) ∙ data_read n first array bytes laid within
-
-  pub round_discards : (cs : List Command) (n first : ℕ) → cs ≡ discard_commands first n → first + n ≤ d.blocks → (array later : ℕ → List ℕ) (bytes : List ℕ) → IsLaidOut d array bytes
-      → later ≡ after_commands d cs array → IsLaidOut d later (written bytes (d.block_bytes * first) (zeroes (d.block_bytes * n)))
-  round_discards cs n first are within array later bytes laid is =
-      subst (λ (a : ℕ → List ℕ). IsLaidOut d a (written bytes (d.block_bytes * first) (zeroes (d.block_bytes * n))))
-      (sym (is ∙ ap (λ (l : List Command). after_commands d l array) are)) (laid_after_discards n first array bytes laid within)
-
-  pub round_begins_discards : (cs : List Command) (n most first : ℕ) → cs ≡ discard_commands first n → n ≤ most → first + most ≤ d.blocks → (array later : ℕ → List ℕ) (bytes : List ℕ)
-      → IsLaidOut d array bytes → (k : ℕ) → later ≡ after_commands d (take k cs) array
-      → (next : List ℕ) × IsBegun bytes (d.block_bytes * first) (zeroes (d.block_bytes * most)) next × IsLaidOut d later next
-  round_begins_discards cs n most first are few within array later bytes laid k is =
-      let h = begun_discards k n first array bytes laid (omega arith) in (
-        h.0,
-        zeroes_begun bytes h.0 (d.block_bytes * first) (d.block_bytes * first) (d.block_bytes * n) (d.block_bytes * most) refl (mul-le-mul_left d.block_bytes few) h.1,
-        subst (λ (a : ℕ → List ℕ). IsLaidOut d a h.0) (sym (is ∙ ap (λ (l : List Command). after_commands d (take k l) array) are)) h.2,
-      )
-
-  module _ (cs : List Command) (n most first : ℕ) (payload front : List ℕ) (are : cs ≡ write_commands d.block_bytes first n front) (of_front : front ≡ take (d.block_bytes * n) payload) (long : length payload ≡ d.block_bytes * most) (few : n ≤ most) (within : first + most ≤ d.blocks) where
-    least : d.block_bytes * n ≤ length payload
-    least = subst (λ (k : ℕ). d.block_bytes * n ≤ k) (sym long) (mul-le-mul_left d.block_bytes few)
-
-    pub long_front : length front ≡ d.block_bytes * n
-    long_front = ap length of_front ∙ length-take-le (d.block_bytes * n) payload least
-
-    pub round_fits : All (Fits d) cs
-    round_fits = subst (All (Fits d)) (sym are) (writes_fit n first front long_front (omega arith))
-
-    pub round_writes : (array later : ℕ → List ℕ) (bytes : List ℕ) → IsLaidOut d array bytes → later ≡ after_commands d cs array
-        → IsLaidOut d later (written bytes (d.block_bytes * first) (take (d.block_bytes * n) payload))
-    round_writes array later bytes laid is =
-        subst (λ (l : List ℕ). IsLaidOut d later (written bytes (d.block_bytes * first) l)) of_front
-        (subst (λ (a : ℕ → List ℕ). IsLaidOut d a (written bytes (d.block_bytes * first) front)) (sym (is ∙ ap (λ (l : List Command). after_commands d l array) are))
-        (laid_after_writes n first front array bytes laid long_front (omega arith)))
-
-    pub round_begins_writes : (array later : ℕ → List ℕ) (bytes : List ℕ) → IsLaidOut d array bytes → (k : ℕ) → later ≡ after_commands d (take k cs) array
-        → (next : List ℕ) × IsBegun bytes (d.block_bytes * first) payload next × IsLaidOut d later next
-    round_begins_writes array later bytes laid k is =
-        let h = begun_writes k n first front array bytes laid long_front (omega arith) in (
-          h.0,
-          begun_front bytes h.0 (d.block_bytes * first) (d.block_bytes * n) front payload least of_front h.1,
-          subst (λ (a : ℕ → List ℕ). IsLaidOut d a h.0) (sym (is ∙ ap (λ (l : List Command). after_commands d (take k l) array) are)) h.2,
-        )
+  pub data_discards : (n first : ℕ) (array : ℕ → List ℕ) → flat_map data_of (bodies_from d (discard_commands first n) array) ≡ []
+  data_discards zero first array = refl
+  data_discards (suc n) first array = data_discards n (suc first) (array_after d (Discard first) array)

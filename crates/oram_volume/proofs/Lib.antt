@@ -1,6 +1,7 @@
 pub mod Laying
 pub mod RangeCommands
 pub mod LaidRanges
+pub mod LaidOperations
 pub mod HeldArrays
 pub mod Submitted
 pub mod Answered

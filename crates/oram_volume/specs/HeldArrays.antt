@@ -8,6 +8,7 @@ use Rattle.oram_semantics.specs.Scheme.{Scheme, record_len}
 use Rattle.oram_semantics.specs.State.{State}
 use Rattle.oram_link_laws.specs.Runs.{Exchange, IsHeldBy}
 use Rattle.oram_rounds.specs.CatchUp.{IsPlainCall}
+use Rattle.oram_rounds.specs.Law.{AreAhead}
 use Rattle.oram_rounds.specs.Process.{Process, begun, process}
 use Rattle.oram_rounds.specs.Rounds.{waiting}
 use Rattle.oram_rounds.specs.Service.{WillHoldAfter}
@@ -41,6 +42,7 @@ pub record HoldsArray {B K : Type 0} (may_lie : Bool) (p : Running B K) (w : Hos
   pub same_device : p.process.link.device ≡ p.scheme.device
   pub same_len : p.process.link.record_len ≡ record_len p.scheme
   pub will_hold : WillHoldAfter may_lie p.scheme p.process.core (waiting p.process.link) w.host array
+  pub ahead : AreAhead may_lie p.scheme w.host p.process.link
 
 -- it holds the array that has these bytes
 pub record HoldsBytes {B K : Type 0} (may_lie : Bool) (p : Running B K) (w : HostBeside) (bytes : List ℕ) : Type 0 where

@@ -1,53 +1,89 @@
-//! The commands of a range of blocks.
+//! The commands of a list of operations.
 
-ghost use Rattle.std.specs.Prelude.{◌≡◌, ◌+◌, ◌*◌, ◌<◌, ◌≤◌, ◌^◌, length, IfOk};
-ghost use Rattle.oram_volume.specs.RangeCommands.{discard_commands, read_commands, write_commands};
+ghost use Rattle.std.specs.Prelude.{◌≡◌, ◌+◌, ◌/◌, ◌∷◌, ◌++◌, ◌<◌, ◌≤◌, ◌^◌, [], All, drop, length, slice_index_or, IfOk};
+ghost use Rattle.oram_nbd.specs.Operations.{IsWhole, len_of, place_of};
+ghost use Rattle.oram_nbd.specs.declared.operations.Operation.{Operation};
+ghost use Rattle.oram_volume.specs.RangeCommands.{commands_of, rest_of};
 
 use oram_bytes::Bytes;
 use oram_core::Command;
+use oram_nbd::Operation;
 use std::alloc::{AllocError, Global};
 
-/// Returns the commands that read `count` blocks, from the block `first` on.
-pub(crate) fn reads(alloc: Global, first: u32, count: u32) -> Result<Vec<Command>, AllocError>
-    requires { first + count < 2 ^ 32 }
-    ensures { IfOk result (λ v. v.items ≡ read_commands first count) }
-{
-    let mut commands = Vec::with_capacity(alloc, count as usize)?;
-    for number in 0..count {
-        commands.push(Command::Read(first + number))?;
-    }
-    Ok(commands)
+/// The most commands of a round.
+const ROUND: u64 = 64;
+
+/// How far a list of operations was made commands: those before `operation` were, and `block` blocks of this one.
+#[derive(Clone, Copy, Debug)]
+pub(crate) struct Cursor {
+    pub(crate) operation: usize,
+    pub(crate) block: u64,
 }
 
-/// Returns the commands that make `count` blocks zeroes, from the block `first` on.
-pub(crate) fn discards(alloc: Global, first: u32, count: u32) -> Result<Vec<Command>, AllocError>
-    requires { first + count < 2 ^ 32 }
-    ensures { IfOk result (λ v. v.items ≡ discard_commands first count) }
-{
-    let mut commands = Vec::with_capacity(alloc, count as usize)?;
-    for number in 0..count {
-        commands.push(Command::Discard(first + number))?;
-    }
-    Ok(commands)
-}
-
-/// Returns the commands that write `count` blocks of `block` bytes each, from the block `first` on.
-pub(crate) fn writes(
+/// Returns the command of one block of an operation, the block with this number.
+fn command_at(
     alloc: Global,
-    first: u32,
-    count: u32,
-    block: usize,
-    payload: &[u8],
-) -> Result<Vec<Command>, AllocError>
-    requires numbers { first + count < 2 ^ 32 }
-    requires whole { length payload.now ≡ block * count }
-    ensures { IfOk result (λ v. v.items ≡ write_commands block first count payload.now) }
+    block: u64,
+    operation: &Operation,
+    number: u64,
+) -> Result<Command, AllocError>
+    requires block { 0 < block }
+    requires whole { IsWhole block operation.now }
+    requires bound { place_of operation.now + len_of operation.now < 2 ^ 63 }
+    requires numbers { place_of operation.now / block + len_of operation.now / block < 2 ^ 32 }
+    requires within { number < len_of operation.now / block }
+    ensures { IfOk result (λ c. drop number (commands_of block operation.now) ≡ c ∷ drop (number + 1) (commands_of block operation.now)) }
 {
-    let mut commands = Vec::with_capacity(alloc, count as usize)?;
-    for number in 0..count {
-        let start = block * number as usize;
-        let bytes = Bytes::copy(alloc, &payload[start..start + block])?;
-        commands.push(Command::Write(first + number, bytes))?;
+    let address = (operation.place() / block + number) as u32;
+    match operation {
+        Operation::Read { .. } => Ok(Command::Read(address)),
+        Operation::Zero { .. } => Ok(Command::Discard(address)),
+        Operation::Write { payload, .. } => {
+            let start = (block * number) as usize;
+            let bytes = Bytes::copy(alloc, &payload.as_slice()[start..start + block as usize])?;
+            Ok(Command::Write(address, bytes))
+        }
+    }
+}
+
+/// Passes over operations all of whose blocks are commands already.
+fn pass_over(block: u64, operations: &[Operation], cursor: &mut Cursor)
+    requires block { 0 < block }
+    requires whole { All (IsWhole block) operations.now }
+    ensures same { rest_of block operations.now cursor.new.operation cursor.new.block ≡ rest_of block operations.now cursor.old.operation cursor.old.block }
+    ensures within { (op : Operation) → cursor.new.operation < length operations.now → cursor.new.block < len_of (slice_index_or operations.now cursor.new.operation op) / block }
+{
+    while cursor.operation < operations.len()
+        && cursor.block >= operations[cursor.operation].len() / block
+    {
+        cursor.operation += 1;
+        cursor.block = 0;
+    }
+}
+
+/// Returns the commands of the next round, from the cursor on: 64 of them, or as many as are left.
+pub(crate) fn next_round(
+    alloc: Global,
+    block: u64,
+    operations: &[Operation],
+    cursor: &mut Cursor,
+) -> Result<Vec<Command>, AllocError>
+    requires block { 0 < block }
+    requires whole { All (IsWhole block) operations.now }
+    requires bound { All (λ op. place_of op + len_of op < 2 ^ 63) operations.now }
+    requires numbers { All (λ op. place_of op / block + len_of op / block < 2 ^ 32) operations.now }
+    ensures next { IfOk result (λ v. rest_of block operations.now cursor.old.operation cursor.old.block ≡ v.items ++ rest_of block operations.now cursor.new.operation cursor.new.block) }
+    ensures end { IfOk result (λ v. v.items ≡ [] → rest_of block operations.now cursor.new.operation cursor.new.block ≡ []) }
+{
+    let mut commands = Vec::with_capacity(alloc, ROUND as usize)?;
+    for _number in 0..ROUND {
+        pass_over(block, operations, cursor);
+        if cursor.operation >= operations.len() {
+            return Ok(commands);
+        }
+        let command = command_at(alloc, block, &operations[cursor.operation], cursor.block)?;
+        commands.push(command)?;
+        cursor.block += 1;
     }
     Ok(commands)
 }

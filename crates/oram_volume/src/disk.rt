@@ -1,26 +1,27 @@
 //! A volume as a disk of bytes.
 
-ghost use Rattle.std.specs.Prelude.{◌≡◌, ◌+◌, ◌*◌, ◌<◌, ◌≤◌, ◌^◌, ℕ, List, ◌++◌, length, take, IfOk, IsErrOf, MatchResult};
+ghost use Rattle.std.specs.Prelude.{◌≡◌, ◌+◌, ◌*◌, ◌<◌, ◌≤◌, ◌^◌, ℕ, List, ◌++◌, All, length, map, IfErr, IfOk, IsErrOf, MatchResult};
 ghost use Rattle.std.specs.List.{flat_map};
 ghost use Rattle.oram_core.specs.Core.{IsSameDevice};
 ghost use Rattle.oram_session.specs.Honesty.{HasFailed};
-ghost use Rattle.oram_nbd.specs.Bytes.{bytes_at, written, zeroes, IsBegun};
+ghost use Rattle.oram_nbd.specs.Beside.{GoesOn};
 ghost use Rattle.oram_nbd.specs.Calls.{FailsByLies};
-ghost use Rattle.oram_volume.specs.CarriedOut.{Stops};
-ghost use Rattle.oram_volume.specs.DiskCalls.{VolumeGoesOn, data_of};
-ghost use Rattle.oram_volume.specs.HeldArrays.{running};
+ghost use Rattle.oram_nbd.specs.Operations.{IsWhole, IsWithin, read_len};
+ghost use Rattle.oram_semantics.specs.declared.events.Command.{Command};
+ghost use Rattle.oram_volume.specs.CarriedOut.{Had, Stops, after_commands, bodies_from};
+ghost use Rattle.oram_volume.specs.DiskCalls.{data_of};
+ghost use Rattle.oram_volume.specs.HeldArrays.{Hears, HoldsArray, running};
+ghost use Rattle.oram_volume.specs.RangeCommands.{all_commands};
 
-use crate::commands::{discards, reads, writes};
+use crate::commands::{Cursor, next_round};
 use crate::volume::Volume;
 use oram_bucket::Sealer;
+use oram_bytes::Bytes;
 use oram_core::{Reply, ReplyBody};
-use oram_nbd::{BlockDevice, DiskFault};
+use oram_nbd::{BlockDevice, DiskFault, Operation};
 use oram_rounds::{BatchLink, Keeper};
 use oram_session::Tape;
 use std::alloc::{AllocError, Global};
-
-/// The most blocks of a round.
-const ROUND: u64 = 64;
 
 /// Appends the data of replies, one after the other. A reply without data adds nothing.
 fn append_data(replies: &[Reply], out: &mut Vec<u8>) -> Result<(), AllocError>
@@ -34,86 +35,72 @@ fn append_data(replies: &[Reply], out: &mut Vec<u8>) -> Result<(), AllocError>
     Ok(())
 }
 
+/// Cuts the data of all reads into those of each operation.
+fn cut_up(alloc: Global, operations: &[Operation], found: &[u8]) -> Result<Vec<Bytes>, DiskFault>
+    ensures len { IfOk result (λ given. map length given.items ≡ map read_len operations.now) }
+    ensures all { IfOk result (λ given. flat_map (λ bytes. bytes) given.items ≡ found.now) }
+    ensures err { IfErr result (λ fault. fault ≡ DiskFault.OutOfMemory) }
+{
+    let mut given = Vec::with_capacity(alloc, operations.len())?;
+    let mut rest = found;
+    for operation in operations {
+        let len = match operation {
+            Operation::Read { count, .. } => *count as usize,
+            Operation::Write { .. } | Operation::Zero { .. } => 0,
+        };
+        // There is as much data as the operations read, so this never happens. The error acknowledges nothing, and doesn't
+        // fail the disk.
+        if len > rest.len() {
+            return Err(DiskFault::OutOfMemory);
+        }
+        let bytes = Bytes::copy(alloc, &rest[..len])?;
+        if given.push(bytes).is_err() {
+            return Err(DiskFault::OutOfMemory);
+        }
+        rest = &rest[len..];
+    }
+    if !rest.is_empty() {
+        return Err(DiskFault::OutOfMemory);
+    }
+    Ok(given)
+}
+
 impl<S: Sealer, B: BatchLink, K: Keeper, T: Tape> Volume<S, B, K, T> {
-    /// Reads blocks in one round, from the block `first` on: `most` of them, or as many as a round takes. Appends their
-    /// bytes, and returns the number of blocks.
-    fn read_round(
+    /// Carries out the commands of operations, in rounds. Returns the data of all replies, one after the other.
+    fn carry_out_rounds(
         &mut self,
         alloc: Global,
-        first: u64,
-        most: u64,
-        out: &mut Vec<u8>,
-    ) -> Result<u64, DiskFault>
-        requires within { first + most ≤ self.old.core.device.blocks }
-        requires some { 0 < most }
-        ensures some { IfOk result (λ n. 0 < n) }
-        ensures most { IfOk result (λ n. n ≤ most) }
+        operations: &[Operation],
+    ) -> Result<Vec<u8>, DiskFault>
+        requires whole { All (IsWhole self.old.core.device.block_bytes) operations.now }
+        requires within { All (IsWithin (self.old.core.device.block_bytes * self.old.core.device.blocks)) operations.now }
         ensures kept { IsSameDevice self.old.core self.new.core }
-        ensures goes { let b = self.old.core.device.block_bytes in VolumeGoesOn S.cipher T.words B.batches K.reads_back self.old (λ may_lie bytes later.
-            (later ≡ bytes) × IfOk result (λ n. out.new.items ≡ out.old.items ++ bytes_at bytes (b * first) (b * n)) × FailsByLies result may_lie) self.new }
+        ensures goes { let d = self.old.core.device in let all = all_commands d.block_bytes operations.now in
+            GoesOn (Had B.batches K.reads_back) Hears HoldsArray (running S.cipher T.words self.old)
+            (λ may_lie array later. MatchResult result
+            (λ found. (found.items ≡ flat_map data_of (bodies_from d all array)) × (later ≡ after_commands d all array))
+            (λ _. (done rest : List Command) × (all ≡ done ++ rest) × (later ≡ after_commands d done array)) × FailsByLies result may_lie)
+            (running S.cipher T.words self.new) }
         ensures failing { IsErrOf result DiskFault.Failed → HasFailed self.new.core.state }
         ensures still { HasFailed self.old.core.state → HasFailed self.new.core.state }
         ensures stopped { IsErrOf result DiskFault.Stopped → Stops B.batches K.reads_back (running S.cipher T.words self.old) (running S.cipher T.words self.new) }
     {
         let _blocks = self.blocks_in_all();
-        let count = most.min(ROUND);
-        let commands = reads(alloc, first as u32, count as u32)?;
-        let replies = self.carry_out_all(alloc, commands)?;
-        append_data(&replies, out)?;
-        Ok(count)
-    }
-
-    /// Writes blocks in one round, from the block `first` on: the `most` blocks of the payload, or as many of the first
-    /// ones as a round takes. Returns their number.
-    fn write_round(
-        &mut self,
-        alloc: Global,
-        first: u64,
-        most: u64,
-        payload: &[u8],
-    ) -> Result<u64, DiskFault>
-        requires within { first + most ≤ self.old.core.device.blocks }
-        requires some { 0 < most }
-        requires whole { length payload.now ≡ self.old.core.device.block_bytes * most }
-        ensures some { IfOk result (λ n. 0 < n) }
-        ensures most { IfOk result (λ n. n ≤ most) }
-        ensures kept { IsSameDevice self.old.core self.new.core }
-        ensures goes { let b = self.old.core.device.block_bytes in VolumeGoesOn S.cipher T.words B.batches K.reads_back self.old (λ may_lie bytes later.
-            MatchResult result (λ n. later ≡ written bytes (b * first) (take (b * n) payload.now)) (λ _. IsBegun bytes (b * first) payload.now later)
-            × FailsByLies result may_lie) self.new }
-        ensures failing { IsErrOf result DiskFault.Failed → HasFailed self.new.core.state }
-        ensures still { HasFailed self.old.core.state → HasFailed self.new.core.state }
-        ensures stopped { IsErrOf result DiskFault.Stopped → Stops B.batches K.reads_back (running S.cipher T.words self.old) (running S.cipher T.words self.new) }
-    {
-        let _blocks = self.blocks_in_all();
-        let count = most.min(ROUND);
-        let block = self.core.device().block_bytes();
-        let front = &payload[..block * count as usize];
-        let commands = writes(alloc, first as u32, count as u32, block, front)?;
-        self.carry_out_all(alloc, commands)?;
-        Ok(count)
-    }
-
-    /// Makes blocks zeroes in one round, from the block `first` on: `most` of them, or as many as a round takes. Returns
-    /// their number.
-    fn zero_round(&mut self, alloc: Global, first: u64, most: u64) -> Result<u64, DiskFault>
-        requires within { first + most ≤ self.old.core.device.blocks }
-        requires some { 0 < most }
-        ensures some { IfOk result (λ n. 0 < n) }
-        ensures most { IfOk result (λ n. n ≤ most) }
-        ensures kept { IsSameDevice self.old.core self.new.core }
-        ensures goes { let b = self.old.core.device.block_bytes in VolumeGoesOn S.cipher T.words B.batches K.reads_back self.old (λ may_lie bytes later.
-            MatchResult result (λ n. later ≡ written bytes (b * first) (zeroes (b * n))) (λ _. IsBegun bytes (b * first) (zeroes (b * most)) later)
-            × FailsByLies result may_lie) self.new }
-        ensures failing { IsErrOf result DiskFault.Failed → HasFailed self.new.core.state }
-        ensures still { HasFailed self.old.core.state → HasFailed self.new.core.state }
-        ensures stopped { IsErrOf result DiskFault.Stopped → Stops B.batches K.reads_back (running S.cipher T.words self.old) (running S.cipher T.words self.new) }
-    {
-        let _blocks = self.blocks_in_all();
-        let count = most.min(ROUND);
-        let commands = discards(alloc, first as u32, count as u32)?;
-        self.carry_out_all(alloc, commands)?;
-        Ok(count)
+        let block = self.core.device().block_bytes() as u64;
+        let mut found = Vec::new(alloc);
+        let mut cursor = Cursor {
+            operation: 0,
+            block: 0,
+        };
+        for _round_number in 0..u64::MAX {
+            let commands = next_round(alloc, block, operations, &mut cursor)?;
+            if commands.is_empty() {
+                return Ok(found);
+            }
+            let replies = self.carry_out_all(alloc, commands)?;
+            append_data(&replies, &mut found)?;
+        }
+        Err(DiskFault::OutOfMemory)
     }
 
     /// Returns the number of blocks of the disk.
@@ -165,49 +152,17 @@ impl<S: Sealer, B: BatchLink, K: Keeper, T: Tape> BlockDevice for Volume<S, B, K
         u64::from(self.blocks_in_all())
     }
 
-    fn read(&mut self, alloc: Global, first: u64, count: u64) -> Result<Vec<u8>, DiskFault> {
+    fn carry_out(
+        &mut self,
+        alloc: Global,
+        operations: &[Operation],
+    ) -> Result<Vec<Bytes>, DiskFault> {
         if self.has_failed() {
             return Err(DiskFault::Failed);
         }
         let _blocks = self.blocks_in_all();
-        let len = u64::from(self.block_bytes()) * count;
-        let mut bytes = Vec::with_capacity(alloc, len as usize)?;
-        let mut done = 0;
-        while done < count {
-            done += self.read_round(alloc, first + done, count - done, &mut bytes)?;
-        }
-        // A block's data is as long as a block, so this never happens. The error acknowledges nothing, and doesn't fail the
-        // disk.
-        if bytes.len() as u64 != len {
-            return Err(DiskFault::OutOfMemory);
-        }
-        Ok(bytes)
-    }
-
-    fn write(&mut self, alloc: Global, first: u64, payload: &[u8]) -> Result<(), DiskFault> {
-        if self.has_failed() {
-            return Err(DiskFault::Failed);
-        }
-        let _blocks = self.blocks_in_all();
-        let block = self.block_bytes() as usize;
-        let count = (payload.len() / block) as u64;
-        let mut done = 0;
-        while done < count {
-            let rest = &payload[block * done as usize..];
-            done += self.write_round(alloc, first + done, count - done, rest)?;
-        }
-        Ok(())
-    }
-
-    fn zero(&mut self, alloc: Global, first: u64, count: u64) -> Result<(), DiskFault> {
-        if self.has_failed() {
-            return Err(DiskFault::Failed);
-        }
-        let _blocks = self.blocks_in_all();
-        let mut done = 0;
-        while done < count {
-            done += self.zero_round(alloc, first + done, count - done)?;
-        }
-        Ok(())
+        let found = self.carry_out_rounds(alloc, operations)?;
+        let given = cut_up(alloc, operations, &found)?;
+        Ok(given)
     }
 }

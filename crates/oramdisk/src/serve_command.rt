@@ -304,7 +304,7 @@ fn reached<'a, S: Sealer>(
     }
     let KeptCore { stores, core } = kept;
     let device = core.device().copy();
-    match RoundLink::with_kept(link, device, record_len(&core), stores) {
+    match RoundLink::with_kept(alloc, link, device, record_len(&core), stores) {
         Some(link) => Ok((core, link)),
         None => Err(named(alloc, FaultKind::NotADisk, settings.state.as_str())),
     }

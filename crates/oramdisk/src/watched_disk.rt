@@ -2,7 +2,8 @@
 
 ghost use Rattle.std.specs.Prelude.{◌≡◌};
 
-use oram_nbd::{BlockDevice, DiskFault};
+use oram_bytes::Bytes;
+use oram_nbd::{BlockDevice, DiskFault, Operation};
 use std::alloc::Global;
 
 /// Keeps that a disk has failed.
@@ -64,20 +65,12 @@ impl<D: BlockDevice, F: FailureKeeper<D>> BlockDevice for WatchedDisk<D, F> {
         self.disk.blocks()
     }
 
-    fn read(&mut self, alloc: Global, first: u64, count: u64) -> Result<Vec<u8>, DiskFault> {
-        let found = self.disk.read(alloc, first, count);
-        self.watch();
-        found
-    }
-
-    fn write(&mut self, alloc: Global, first: u64, payload: &[u8]) -> Result<(), DiskFault> {
-        let done = self.disk.write(alloc, first, payload);
-        self.watch();
-        done
-    }
-
-    fn zero(&mut self, alloc: Global, first: u64, count: u64) -> Result<(), DiskFault> {
-        let done = self.disk.zero(alloc, first, count);
+    fn carry_out(
+        &mut self,
+        alloc: Global,
+        operations: &[Operation],
+    ) -> Result<Vec<Bytes>, DiskFault> {
+        let done = self.disk.carry_out(alloc, operations);
         self.watch();
         done
     }

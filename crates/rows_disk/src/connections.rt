@@ -1,8 +1,9 @@
 //! Connections to a device of four blocks of four bytes. Its export has the name `disk`.
 
+use crate::arrivals::Unseen;
 use crate::endings::{with_memory, write_ended};
 use crate::stopping_disk;
-use oram_nbd::{HandshakeWatch, MemDisk, NbdFault, serve, transmit};
+use oram_nbd::{Arrived, HandshakeWatch, MemDisk, NbdFault, serve, transmit};
 use rows::{Pace, Page, RowFault, RowWords, Source, Target};
 use std::alloc::Global;
 use std::io;
@@ -29,7 +30,7 @@ impl HandshakeWatch for NoWatch {
 }
 
 /// Serves a client that sends what `reader` gives, and has room for `room` bytes.
-fn talked<R: Read>(
+fn talked<R: Read + Arrived>(
     alloc: Global,
     reader: &mut R,
     room: usize,
@@ -65,7 +66,9 @@ fn options(alloc: Global, words: &mut RowWords, page: &mut Page) -> Result<(), R
     for _ in 0..count {
         said.extend_from_slice(&head)?;
     }
-    let mut source = Source::new(&said, Pace::smooth(false));
+    let mut source = Unseen {
+        reader: Source::new(&said, Pace::smooth(false)),
+    };
     let talk = talked(alloc, &mut source, ROOM, Pace::smooth(true))?;
     write_ended(page, talk.0)?;
     page.number(talk.1.bytes().len());
@@ -78,10 +81,12 @@ fn passes(alloc: Global, words: &mut RowWords, page: &mut Page) -> Result<(), Ro
     let head = words.bytes(alloc);
     let count = words.number();
     let rest = words.bytes(alloc);
-    let mut reader = head
-        .as_slice()
-        .chain(io::repeat(7).take(count))
-        .chain(rest.as_slice());
+    let mut reader = Unseen {
+        reader: head
+            .as_slice()
+            .chain(io::repeat(7).take(count))
+            .chain(rest.as_slice()),
+    };
     let mut target = Target::new(alloc, ROOM, Pace::smooth(true))?;
     let mut disk = MemDisk::new(alloc, 4, 4)?;
     let ended = transmit(alloc, &mut reader, &mut target, &mut disk);
@@ -106,7 +111,9 @@ impl Connections {
         page: &mut Page,
     ) -> Result<(), RowFault> {
         self.said = words.bytes(alloc);
-        let mut source = Source::new(&self.said, Pace::smooth(false));
+        let mut source = Unseen {
+            reader: Source::new(&self.said, Pace::smooth(false)),
+        };
         let talk = talked(alloc, &mut source, ROOM, Pace::smooth(true))?;
         self.told = talk.1.bytes().to_vec(alloc)?;
         write_talk(page, &talk)
@@ -132,7 +139,9 @@ impl Connections {
         let Some(said) = self.said.get(..len) else {
             return Err(RowFault::NoRow);
         };
-        let mut source = Source::new(said, pace);
+        let mut source = Unseen {
+            reader: Source::new(said, pace),
+        };
         let (ended, target) = talked(alloc, &mut source, ROOM, Pace::smooth(true))?;
         if !self.told.as_slice().starts_with(target.bytes()) {
             return Err(RowFault::NoRow);
@@ -166,7 +175,9 @@ impl Connections {
     /// Returns whether a connection to a client with room for `room` bytes ends because there is no more room, after
     /// the client has received that many.
     fn is_full(&self, alloc: Global, room: usize, pace: Pace) -> Result<bool, RowFault> {
-        let mut source = Source::new(&self.said, Pace::smooth(false));
+        let mut source = Unseen {
+            reader: Source::new(&self.said, Pace::smooth(false)),
+        };
         let (ended, target) = talked(alloc, &mut source, room, pace)?;
         Ok(ended == Err(NbdFault::Write) && self.told.get(..room) == Some(target.bytes()))
     }
@@ -205,6 +216,7 @@ impl Connections {
             "options" => options(alloc, words, page),
             "passes" => passes(alloc, words, page),
             "stops" => stopping_disk::stops(alloc, words, page),
+            "together" => stopping_disk::together(alloc, words, page),
             "range" => stopping_disk::range(alloc, words, page),
             _ => Err(RowFault::NoRow),
         }

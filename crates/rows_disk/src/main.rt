@@ -3,6 +3,7 @@
 //! The first word of a row names its layer, the second one the call.
 #![tactic(auto)]
 
+mod arrivals;
 mod batches;
 mod connections;
 mod disk_formats;

@@ -2,13 +2,15 @@
 
 ghost use Rattle.std.specs.Prelude.{◌≡◌, false};
 
+use crate::arrivals::{Sent, Unseen};
 use crate::endings::{with_memory, write_ended};
-use oram_nbd::{BlockDevice, Command, DiskFault, MemDisk, NbdFault, Request, transmit};
+use oram_bytes::Bytes;
+use oram_nbd::{BlockDevice, Command, DiskFault, MemDisk, NbdFault, Operation, Request, transmit};
 use rows::{Pace, Page, RowFault, RowWords, Source, Target};
 use std::alloc::{AllocError, Global};
 
 /// The most bytes that a client receives.
-const ROOM: usize = 256;
+const ROOM: usize = 4_096;
 
 /// The number of bytes of the device.
 const SIZE: u32 = 16;
@@ -64,34 +66,53 @@ impl BlockDevice for StoppingDisk {
         self.disk.blocks()
     }
 
-    fn read(&mut self, alloc: Global, first: u64, count: u64) -> Result<Vec<u8>, DiskFault> {
+    fn carry_out(
+        &mut self,
+        alloc: Global,
+        operations: &[Operation],
+    ) -> Result<Vec<Bytes>, DiskFault> {
         if !take_call(&mut self.calls_left) {
             return Err(DiskFault::Stopped);
         }
-        self.disk.read(alloc, first, count)
-    }
-
-    fn write(&mut self, alloc: Global, first: u64, payload: &[u8]) -> Result<(), DiskFault> {
-        if !take_call(&mut self.calls_left) {
-            return Err(DiskFault::Stopped);
-        }
-        self.disk.write(alloc, first, payload)
-    }
-
-    fn zero(&mut self, alloc: Global, first: u64, count: u64) -> Result<(), DiskFault> {
-        if !take_call(&mut self.calls_left) {
-            return Err(DiskFault::Stopped);
-        }
-        self.disk.zero(alloc, first, count)
+        self.disk.carry_out(alloc, operations)
     }
 }
 
 /// Serves a client that sends these requests.
 fn talked(alloc: Global, disk: &mut StoppingDisk, said: &[u8]) -> Result<Talk, RowFault> {
-    let mut source = Source::new(said, Pace::smooth(false));
+    let mut source = Unseen {
+        reader: Source::new(said, Pace::smooth(false)),
+    };
     let mut target = Target::new(alloc, ROOM, Pace::smooth(true))?;
     let ended = transmit(alloc, &mut source, &mut target, disk);
     Ok((with_memory(ended, target.bytes())?, target))
+}
+
+/// `nbd together CALLS SAID`: the requests `SAID` of a client have all arrived, and its device stops after `CALLS` calls. Writes
+/// how the client's connection ends, how many calls the device took, what the client receives, and the bytes of the device.
+pub fn together(alloc: Global, words: &mut RowWords, page: &mut Page) -> Result<(), RowFault> {
+    let mut disk = StoppingDisk {
+        disk: MemDisk::new(alloc, 4, 4)?,
+        calls_left: words.number(),
+    };
+    let before = disk.calls_left;
+    let said = words.bytes(alloc);
+    let mut sent = Sent {
+        source: Source::new(&said, Pace::smooth(false)),
+    };
+    let mut target = Target::new(alloc, ROOM, Pace::smooth(true))?;
+    let ended = transmit(alloc, &mut sent, &mut target, &mut disk);
+    write_ended(page, with_memory(ended, target.bytes())?)?;
+    page.number(before.saturating_sub(disk.calls_left));
+    page.bytes(target.bytes());
+    disk.calls_left = u64::MAX;
+    let read = talked(
+        alloc,
+        &mut disk,
+        &said_of(alloc, Command::Read, 0, SIZE, 0)?,
+    )?;
+    page.bytes(read.1.bytes());
+    Ok(())
 }
 
 /// `nbd stops CALLS SAID`: a client sends the requests `SAID` to a device that stops after `CALLS` calls. Writes
@@ -108,7 +129,7 @@ pub fn stops(alloc: Global, words: &mut RowWords, page: &mut Page) -> Result<(),
 }
 
 /// Returns what a client sends for a request. The bytes of a write are `first` and the numbers after it.
-fn said(
+fn said_of(
     alloc: Global,
     command: Command,
     offset: u64,
@@ -153,16 +174,24 @@ pub fn range(alloc: Global, words: &mut RowWords, page: &mut Page) -> Result<(),
         disk: MemDisk::new(alloc, 4, 4)?,
         calls_left: u64::MAX,
     };
-    let _filled = talked(alloc, &mut disk, &said(alloc, Command::Write, 0, SIZE, 1)?)?;
+    let _filled = talked(
+        alloc,
+        &mut disk,
+        &said_of(alloc, Command::Write, 0, SIZE, 1)?,
+    )?;
     let before = disk.calls_left;
     let asked = talked(
         alloc,
         &mut disk,
-        &said(alloc, command, offset, length, 0xa1)?,
+        &said_of(alloc, command, offset, length, 0xa1)?,
     )?;
     page.number(before.saturating_sub(disk.calls_left));
     page.bytes(asked.1.bytes());
-    let read = talked(alloc, &mut disk, &said(alloc, Command::Read, 0, SIZE, 0)?)?;
+    let read = talked(
+        alloc,
+        &mut disk,
+        &said_of(alloc, Command::Read, 0, SIZE, 0)?,
+    )?;
     page.bytes(read.1.bytes());
     Ok(())
 }

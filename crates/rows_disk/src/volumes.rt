@@ -1,5 +1,6 @@
 //! Volumes in memory, whose keeper or link may fail.
 
+use crate::arrivals::Unseen;
 use crate::endings::{with_memory, write_ended};
 use oram_bucket::PlainSeal;
 use oram_core::Core;
@@ -151,7 +152,9 @@ impl Volumes {
         let Some(volume) = &mut self.volume else {
             return Err(RowFault::NoRow);
         };
-        let mut source = Source::new(&said, Pace::smooth(false));
+        let mut source = Unseen {
+            reader: Source::new(&said, Pace::smooth(false)),
+        };
         let mut target = Target::new(alloc, 256, Pace::smooth(true))?;
         let ended = transmit(alloc, &mut source, &mut target, volume);
         volume.keeper.check_memory()?;

@@ -1,92 +1,112 @@
-use Rattle.std.proofs.Common.{◌≡◌, ℕ, [], None, inl, inr, refl, rules, ◌∙◌, subst}
-use Rattle.std.proofs.KnownBytes.{Appends-nil, Consumes-trans}
+use Rattle.std.proofs.Common.{◌≡◌, ◌+◌, ◌<◌, inl, Bool, true, false, rules, ℕ, List, length, ◌∙◌, arith}
 use Rattle.std.proofs.lemmas.Result.{err_from_is_err_and}
-use Rattle.oram_nbd.specs.Messages.{request_text}
-use Rattle.oram_nbd.specs.Service.{refusal_of}
-use Rattle.oram_nbd.specs.Streams.{ComesShort}
-use Rattle.oram_nbd.specs.declared.requests.Command.TheVariants.{Disconnect}
+use Rattle.oram_nbd.specs.declared.faults.NbdFault.TheVariants.{Read}
+use Rattle.oram_nbd.proofs.Batched.{all_done, batch_broken, batch_served, cut_off, flush_broken, flushed, recounted, transmitted, unkept_broken, unkept_served}
+use Rattle.oram_nbd.proofs.Batching.{behind_left}
 use Rattle.oram_nbd.proofs.Calls.{at_rest, stays_on}
 use Rattle.oram_nbd.proofs.Pieces.{if_err}
-use Rattle.oram_nbd.proofs.Served.{begin, exchanged, next, served_more, stopped_at_payload, stopped_at_reply, stopped_at_request, told_more, turn_of}
+use Rattle.oram_nbd.proofs.Served.{begin}
 use Rattle.oram_nbd.proofs.transmission.transmit.Goals as goal
 
-pub loop-served-init : goal.loop-served-init
+pub loop-batch_number-init : goal.loop-batch_number-init
 unfolding begin
-loop-served-init g c = record { served = begin _ _ _ _ _ _ _ _; stays = at_rest _; told = λ none. absurd none }
+loop-batch_number-init g c = record { served = begin _ _ _ _ _ _ _ _; few = omega arith; stays = at_rest _ }
 
--- the client leaves
+pub returns-in_err-carry_out_batch-clause-err : goal.returns-in_err-carry_out_batch-clause-err
+returns-in_err-carry_out_batch-clause-err g c =
+    let p = err_from_is_err_and c.from_residual.result c.from_residual.ensures.1 in
+    let h = c.gather-batch.ensures.gathered in
+    let f = c.in_err-carry_out_batch.field-0.0 in
+    if_err _ _ _ _ p.1 p.2
+    (batch_broken _ _ _ _ _ _ _ _ _ _ _ _ _ _ _ _ _ _ c.loop-batch_number.invariant.served c.of-layout.ensures.size h _ _ f (c.in_err-carry_out_batch.ensures.err h.asked h.kept))
 
-pub returns-in_default-clause-ok : goal.returns-in_default-clause-ok
-returns-in_default-clause-ok g c =
-    let s = c.loop-served.invariant.served in
-    let came = rw c.in_default.is at c.in_ok-request.ensures.ok in
-    record { turns = s.turns; last = []; all = s.many; served = s.served; exchanged = exchanged _ _ _ _ _ _ _ _ _ _ _ _ _ _ [] [] s came.0 (Appends-nil _); ended = inl (refl, came.1) }
+pub returns-in_err-unkept-clause-err : goal.returns-in_err-unkept-clause-err
+returns-in_err-unkept-clause-err g c =
+    let p = err_from_is_err_and c.from_residual-in_err-unkept.result c.from_residual-in_err-unkept.ensures.1 in
+    let h = c.gather-batch.ensures.gathered in
+    let inv = c.loop-batch_number.invariant in
+    let call = c.in_ok-carry_out_batch.ensures in
+    let sized : (may_lie : Bool) (world : g.D.BlockDevice.World) (bytes : List ℕ) → g.D.BlockDevice.holds may_lie c.carry_out_batch.new.disk world bytes → length bytes ≡ g.D.BlockDevice.size c.args.disk.now =
+    λ may_lie world bytes held. c.blocks-blocks.ensures.held may_lie world bytes held ∙ call.stays.same_size ∙ inv.stays.same_size in
+    let two = batch_served _ _ _ _ _ _ _ _ _ _ _ _ _ _ _ _ _ _ inv.served c.of-layout.ensures.size h _ _ call.stays.still_failed (call.ok h.asked h.kept) in
+    let wrong = c.in_err-unkept.ensures.err in
+    let k = wrong.1 h.part _ h.ends in
+    if_err _ _ _ _ p.1 (p.2 ∙ wrong.0) (unkept_broken _ _ _ _ _ _ _ _ _ _ _ _ _ two _ c.of-layout.ensures.size sized _ k.0 k.1 k.2 _ k.3)
 
-pub returns-then-eq-clause-ok : goal.returns-then-eq-clause-ok
-returns-then-eq-clause-ok g c =
-    let s = c.loop-served.invariant.served in
-    let r = c.in-Some.request in
-    let came = rw c.in-Some.is at c.in_ok-request.ensures.ok in
-    let last : r.command ≡ Disconnect = search rules in
-    record { turns = s.turns; last = request_text r; all = s.many; served = s.served; exchanged = exchanged _ _ _ _ _ _ _ _ _ _ _ _ _ _ (request_text r) [] s came.1 (Appends-nil _); ended = inr (r, came.0, last, refl) }
+pub returns-in_err-flush-clause-err : goal.returns-in_err-flush-clause-err
+returns-in_err-flush-clause-err g c =
+    let p = err_from_is_err_and c.from_residual-in_err-flush.result c.from_residual-in_err-flush.ensures.1 in
+    let h = c.gather-batch.ensures.gathered in
+    let inv = c.loop-batch_number.invariant in
+    let call = c.in_ok-carry_out_batch.ensures in
+    let sized : (may_lie : Bool) (world : g.D.BlockDevice.World) (bytes : List ℕ) → g.D.BlockDevice.holds may_lie c.carry_out_batch.new.disk world bytes → length bytes ≡ g.D.BlockDevice.size c.args.disk.now =
+    λ may_lie world bytes held. c.blocks-blocks.ensures.held may_lie world bytes held ∙ call.stays.same_size ∙ inv.stays.same_size in
+    let two = batch_served _ _ _ _ _ _ _ _ _ _ _ _ _ _ _ _ _ _ inv.served c.of-layout.ensures.size h _ _ call.stays.still_failed (call.ok h.asked h.kept) in
+    let k = c.in_ok-unkept.ensures.ok h.part _ h.ends in
+    let three = unkept_served _ _ _ _ _ _ _ _ _ _ _ _ _ two _ c.of-layout.ensures.size sized _ k.0 k.1 k.2 _ _ k.3 k.4 in
+    let four = flushed _ _ _ _ _ _ _ _ _ _ _ _ _ three _ c.flush.ensures.keeps in
+    if_err _ _ _ _ p.1 (p.2 ∙ c.in_err-flush.ensures.err) (flush_broken _ _ _ _ _ _ _ _ _ _ _ _ _ four (behind_left _ k.1 _ k.2.left))
 
--- or a fault comes
+pub returns-in_err-more-clause-err : goal.returns-in_err-more-clause-err
+returns-in_err-more-clause-err g c =
+    let p = err_from_is_err_and c.from_residual-in_err-more.result c.from_residual-in_err-more.ensures.1 in
+    let h = c.gather-batch.ensures.gathered in
+    let inv = c.loop-batch_number.invariant in
+    let call = c.in_ok-carry_out_batch.ensures in
+    let sized : (may_lie : Bool) (world : g.D.BlockDevice.World) (bytes : List ℕ) → g.D.BlockDevice.holds may_lie c.carry_out_batch.new.disk world bytes → length bytes ≡ g.D.BlockDevice.size c.args.disk.now =
+    λ may_lie world bytes held. c.blocks-blocks.ensures.held may_lie world bytes held ∙ call.stays.same_size ∙ inv.stays.same_size in
+    let two = batch_served _ _ _ _ _ _ _ _ _ _ _ _ _ _ _ _ _ _ inv.served c.of-layout.ensures.size h _ _ call.stays.still_failed (call.ok h.asked h.kept) in
+    let k = c.in_ok-unkept.ensures.ok h.part _ h.ends in
+    let three = unkept_served _ _ _ _ _ _ _ _ _ _ _ _ _ two _ c.of-layout.ensures.size sized _ k.0 k.1 k.2 _ _ k.3 k.4 in
+    let four = flushed _ _ _ _ _ _ _ _ _ _ _ _ _ three _ c.flush.ensures.keeps in
+    let f = c.in_err-more.field-0.0 in
+    if_err _ _ _ _ p.1 p.2 (cut_off _ _ _ _ _ _ _ _ _ _ _ _ _ four f (c.in_err-more.ensures.err k.1 _ k.2.left))
 
-pub returns-in_err-payload-clause-err : goal.returns-in_err-payload-clause-err
-returns-in_err-payload-clause-err g c =
-    let p = err_from_is_err_and c.from_residual-in_err-payload.result c.from_residual-in_err-payload.ensures.1 in
-    let r = c.in-Some.request in
-    let f = c.in_err-payload.field-0.0 in
-    let came = rw c.in-Some.is at c.in_ok-request.ensures.ok in
-    let short = subst (λ (n : ℕ). ComesShort 0 n f (g.R.Read.remaining c.next_request.new.reader) (g.R.Read.remaining c.read_payload.new.reader)) c.payload_len.ensures c.in_err-payload.ensures.err in
-    if_err _ _ _ _ p.1 p.2 (stopped_at_payload _ _ _ _ _ _ _ _ _ _ _ _ _ _ r f c.loop-served.invariant.served came.0 came.1 short)
+pub overflow_add-served : goal.overflow_add-served
+overflow_add-served g c = omega (arith, c.gather-batch.ensures.few, c.in_ok-unkept.ensures.few, c.len.ensures)
 
-pub returns-in_default-answer-clause-err : goal.returns-in_default-answer-clause-err
-returns-in_default-answer-clause-err g c =
-    let r = c.in-Some.request in
-    let came = rw c.in-Some.is at c.in_ok-request.ensures.ok in
-    let got = c.in_ok-payload.ensures.ok in
-    let inv = c.loop-served.invariant in
-    let call = c.in_default-answer.ensures in
-    let mid = c.loop-served.disk in
-    let new = c.answer.new.disk in
-    let fits = subst (λ (n : ℕ). refusal_of n r ≡ None) inv.stays.same_size call.refusal in
-    let step = call.stopped got.0 got.3 in
-    stopped_at_request _ _ _ _ _ _ _ _ _ mid new _ _ _ r got.0 inv.served came.0 (got.1 ∙ c.payload_len.ensures) fits step (Consumes-trans _ _ _ (request_text r) got.0 came.1 got.2)
+pub overflow_add-served-in-loop-batch_number : goal.overflow_add-served-in-loop-batch_number
+overflow_add-served-in-loop-batch_number g c = omega (arith, c.gather-batch.ensures.few, c.in_ok-unkept.ensures.few, c.len.ensures, c.loop-batch_number.invariant.few, c.loop-batch_number-test.true)
 
-pub returns-in_err-put_reply-clause-err : goal.returns-in_err-put_reply-clause-err
-returns-in_err-put_reply-clause-err g c =
-    let p = err_from_is_err_and c.from_residual-in_err-put_reply.result c.from_residual-in_err-put_reply.ensures.1 in
-    let r = c.in-Some.request in
-    let reply = c.in-Some-answer.reply in
-    let came = rw c.in-Some.is at c.in_ok-request.ensures.ok in
-    let got = c.in_ok-payload.ensures.ok in
-    let inv = c.loop-served.invariant in
-    let call = c.in-Some-answer.ensures in
-    let mid = c.loop-served.disk in
-    let new = c.answer.new.disk in
-    let served = served_more _ _ _ _ _ _ mid new _ inv.served.turns r got.0 reply inv.served.served inv.stays.same_size came.0 (got.1 ∙ c.payload_len.ensures) call.reply
-    (λ h. call.refused (inv.stays.still_failed h)) (λ h. call.refused (inv.told h)) (call.answer got.0 got.3) in
-    if_err _ _ _ _ p.1 (p.2 ∙ c.in_err-put_reply.ensures.err.0)
-    (stopped_at_reply _ _ _ _ _ _ _ _ _ mid new _ _ _ _ (turn_of r got.0 reply) inv.served served (Consumes-trans _ _ _ (request_text r) got.0 came.1 got.2) c.in_err-put_reply.ensures.err.1)
+pub returns-then-not-more-clause-ok : goal.returns-then-not-more-clause-ok
+returns-then-not-more-clause-ok g c =
+    let h = c.gather-batch.ensures.gathered in
+    let inv = c.loop-batch_number.invariant in
+    let call = c.in_ok-carry_out_batch.ensures in
+    let sized : (may_lie : Bool) (world : g.D.BlockDevice.World) (bytes : List ℕ) → g.D.BlockDevice.holds may_lie c.carry_out_batch.new.disk world bytes → length bytes ≡ g.D.BlockDevice.size c.args.disk.now =
+    λ may_lie world bytes held. c.blocks-blocks.ensures.held may_lie world bytes held ∙ call.stays.same_size ∙ inv.stays.same_size in
+    let two = batch_served _ _ _ _ _ _ _ _ _ _ _ _ _ _ _ _ _ _ inv.served c.of-layout.ensures.size h _ _ call.stays.still_failed (call.ok h.asked h.kept) in
+    let k = c.in_ok-unkept.ensures.ok h.part _ h.ends in
+    let three = unkept_served _ _ _ _ _ _ _ _ _ _ _ _ _ two _ c.of-layout.ensures.size sized _ k.0 k.1 k.2 _ _ k.3 k.4 in
+    let four = flushed _ _ _ _ _ _ _ _ _ _ _ _ _ three _ c.flush.ensures.keeps in
+    let many : c.loop-batch_number.served + length c.gather-batch.result.0.requests.items + c.in_ok-unkept.unkept ≡ c.loop-batch_number.served + (c.len.result + c.in_ok-unkept.unkept) = omega (arith, c.len.ensures) in
+    let five = recounted _ _ _ _ _ _ _ _ _ _ _ _ _ four _ many in
+    let is : c.in_ok-more.more ≡ false = search rules in
+    let left = c.in_ok-more.ensures.ok k.1 _ k.2.left in
+    transmitted _ _ _ _ _ _ _ _ _ _ _ _ _ five (rw is at left)
 
--- or the loop goes on
-
-pub loop-served-preserved : goal.loop-served-preserved
-unfolding next
-loop-served-preserved g c =
-    let r = c.in-Some.request in
-    let reply = c.in-Some-answer.reply in
-    let came = rw c.in-Some.is at c.in_ok-request.ensures.ok in
-    let got = c.in_ok-payload.ensures.ok in
-    let inv = c.loop-served.invariant in
-    let call = c.in-Some-answer.ensures in
-    let mid = c.loop-served.disk in
-    let new = c.answer.new.disk in
-    let served = served_more _ _ _ _ _ _ mid new _ inv.served.turns r got.0 reply inv.served.served inv.stays.same_size came.0 (got.1 ∙ c.payload_len.ensures) call.reply
-    (λ h. call.refused (inv.stays.still_failed h)) (λ h. call.refused (inv.told h)) (call.answer got.0 got.3) in
+pub loop-batch_number-preserved : goal.loop-batch_number-preserved
+loop-batch_number-preserved g c =
+    let h = c.gather-batch.ensures.gathered in
+    let inv = c.loop-batch_number.invariant in
+    let call = c.in_ok-carry_out_batch.ensures in
+    let sized : (may_lie : Bool) (world : g.D.BlockDevice.World) (bytes : List ℕ) → g.D.BlockDevice.holds may_lie c.carry_out_batch.new.disk world bytes → length bytes ≡ g.D.BlockDevice.size c.args.disk.now =
+    λ may_lie world bytes held. c.blocks-blocks.ensures.held may_lie world bytes held ∙ call.stays.same_size ∙ inv.stays.same_size in
+    let two = batch_served _ _ _ _ _ _ _ _ _ _ _ _ _ _ _ _ _ _ inv.served c.of-layout.ensures.size h _ _ call.stays.still_failed (call.ok h.asked h.kept) in
+    let k = c.in_ok-unkept.ensures.ok h.part _ h.ends in
+    let three = unkept_served _ _ _ _ _ _ _ _ _ _ _ _ _ two _ c.of-layout.ensures.size sized _ k.0 k.1 k.2 _ _ k.3 k.4 in
+    let four = flushed _ _ _ _ _ _ _ _ _ _ _ _ _ three _ c.flush.ensures.keeps in
+    let many : c.loop-batch_number.served + length c.gather-batch.result.0.requests.items + c.in_ok-unkept.unkept ≡ c.loop-batch_number.served + (c.len.result + c.in_ok-unkept.unkept) = omega (arith, c.len.ensures) in
+    let five = recounted _ _ _ _ _ _ _ _ _ _ _ _ _ four _ many in
+    let is : c.in_ok-more.more ≡ true = search rules in
+    let left = c.in_ok-more.ensures.ok k.1 _ k.2.left in
     record {
-      served = next _ _ _ _ _ _ _ _ _ mid new _ _ _ _ (turn_of r got.0 reply) inv.served served (Consumes-trans _ _ _ (request_text r) got.0 came.1 got.2) c.in_ok-put_reply.ensures.ok;
+      served = all_done _ _ _ _ _ _ _ _ _ _ _ _ _ five (rw is at left);
+      few = omega (arith, c.gather-batch.ensures.few, c.in_ok-unkept.ensures.few, c.len.ensures, inv.few);
       stays = stays_on inv.stays call.stays;
-      told = told_more _ _ inv.served.turns (turn_of r got.0 reply) inv.told call.stays.still_failed call.failing;
     }
+
+pub returns-clause-err : goal.returns-clause-err
+returns-clause-err g c =
+    let s = c.loop-batch_number.invariant.served in
+    cut_off _ _ _ _ _ _ _ _ _ _ _ _ _ s Read (inl (let few : 0 < 28 = omega arith in few))

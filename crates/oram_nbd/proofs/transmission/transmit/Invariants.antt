@@ -1,12 +1,12 @@
+use Rattle.std.proofs.Common.{◌*◌, ◌≤◌, []}
 use Rattle.oram_nbd.specs.Calls.{Stays}
-use Rattle.oram_nbd.specs.Service.{SaysFailed}
 use Rattle.oram_nbd.proofs.Served.{Served}
 use Rattle.oram_nbd.proofs.transmission.transmit.Given as goal
 
-abbrev pub invariant-loop-served : goal.invariant-loop-served
-invariant-loop-served g l = record {
-  served : Served g.D.BlockDevice.had g.D.BlockDevice.hears g.D.BlockDevice.holds (g.D.BlockDevice.failed l.fn.disk) (g.D.BlockDevice.size l.fn.disk) l.fn.disk (g.R.Read.remaining l.fn.reader) (g.W.Write.contents l.fn.writer)
-      l.served l.disk (g.R.Read.remaining l.reader) (g.W.Write.contents l.writer);
+abbrev pub invariant-loop-batch_number : goal.invariant-loop-batch_number
+invariant-loop-batch_number g l = record {
+  served : Served g.D.BlockDevice.had g.D.BlockDevice.hears g.D.BlockDevice.holds g.D.BlockDevice.failed (g.D.BlockDevice.size l.fn.disk) l.fn.disk (g.R.Read.remaining l.fn.reader) (g.W.Write.contents l.fn.writer)
+      l.served l.disk (g.R.Read.remaining l.reader) [] (g.W.Write.contents l.writer);
+  few : l.served ≤ 65 * l._batch_number;
   stays : Stays g.D.BlockDevice.block_len g.D.BlockDevice.size g.D.BlockDevice.failed l.fn.disk l.disk;
-  told : SaysFailed served.turns → g.D.BlockDevice.failed l.disk;
 }

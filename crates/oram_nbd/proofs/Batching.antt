@@ -1,0 +1,567 @@
+-- Requests that were carried out together: their turns.
+use Rattle.std.proofs.Common.{◌≡◌, ◌⊎◌, inl, inr, Bool, true, ℕ, suc, ◌+◌, ◌-◌, ◌*◌, ◌%◌, ◌<◌, ◌≤◌, append_assoc, drop, drop-cons, get_or, length-drop, List, [], ◌∷◌, ◌++◌, All, length, map, Option, None, Some, refl, sym, ap, ◌∙◌, subst, arith, length-append, take, length-take-le}
+use Rattle.std.proofs.lemmas.List.{append-nil, drop_all, length-map, map-append, take-append-drop, take-append-le, take_all, take_at}
+use Rattle.std.proofs.lemmas.Bool.{cases_lt}
+use Rattle.std.proofs.Math.Seq.{take-append-add}
+use Rattle.std.proofs.lemmas.Grind.{flat_map-append}
+use Rattle.std.specs.Io.KnownBytes.{Appends, Consumes}
+use Rattle.std.proofs.KnownBytes.{Appends-nil, Appends-trans, Consumes-nil, Consumes-trans}
+use Rattle.std.proofs.lemmas.List.Elements.{All-append, All-cons, All-head, All-nil, All-tail}
+use Rattle.oram_nbd.specs.Batches.{answers_text, asked_in, asked_part, refusals_text, reply_if, reply_of, AreKept, AreServedBy, EndsBy, HasAnswered, HasBegun, HasGathered, IsUnkept, LeftBy, Serves, ServesIf}
+use Rattle.oram_nbd.specs.Beside.{GoesOn}
+use Rattle.oram_nbd.specs.Bytes.{bytes_at}
+use Rattle.oram_nbd.specs.Streams.{ComesShort, IsBegunText}
+use Rattle.oram_nbd.specs.Transmission.{IsBehind, IsCutOff}
+use Rattle.oram_nbd.specs.declared.batches.Close.{Close}
+use Rattle.oram_nbd.specs.declared.batches.Close.TheVariants.{Waits, NoRoom, Leaves, Breaks}
+use Rattle.oram_nbd.specs.declared.faults.NbdFault.{NbdFault}
+use Rattle.oram_nbd.specs.declared.faults.NbdFault.TheVariants as fault
+use Rattle.oram_nbd.specs.declared.requests.Command.{Command}
+use Rattle.oram_nbd.specs.declared.requests.Command.TheVariants as command
+use Rattle.oram_nbd.specs.Messages.{payload_len, reply_text, request_text, IsRequest, SimpleReply}
+use Rattle.oram_nbd.specs.Messages.SimpleReply.{Done, Refused}
+use Rattle.oram_nbd.specs.Operations.{all_done, all_given, done_by, given_by, read_len, AreBegun, IsPartOf, IsWithin, ReadsWhole}
+use Rattle.oram_nbd.specs.Service.{after, given, given_len, left_by, left_if, refusal_of, asked_text, replies_text, AreRequestsBegun, Asked, FailsForGood, IsAnswer, IsAsked, IsLeftIf, IsPartly, IsRefusal, IsReplied, IsReply, IsService, IsTurn, NeverFails, SaysFailed, Turn}
+use Rattle.oram_nbd.specs.declared.faults.NbdError.{NbdError}
+use Rattle.oram_nbd.specs.declared.faults.NbdError.TheVariants.{Io, NoMemory}
+use Rattle.oram_nbd.specs.declared.operations.Operation.{Operation}
+use Rattle.oram_nbd.specs.declared.operations.Operation.TheVariants.{Read}
+use Rattle.oram_nbd.specs.declared.requests.Request.{Request}
+use Rattle.oram_nbd.proofs.Beside.{at_rest, weaker}
+use Rattle.oram_nbd.proofs.Carrying.{length_done, length_part, part_whole}
+use Rattle.oram_nbd.proofs.Served.{partly_none, refusal_is_other}
+use Rattle.oram_nbd.proofs.Splices.{part_of_block}
+
+abbrev pub turn_for : Asked → SimpleReply → Turn
+turn_for a reply = record { request = a.request; payload = a.payload; reply = reply }
+
+-- ---- The operations of a batch
+
+served_one : (block size : ℕ) (o : Option NbdError) (a : Asked) (op : Operation) → ServesIf o block size a op → IsWithin size op × ReadsWhole block op
+served_one block size (Some e) a op is =
+    subst (λ (x : Operation). IsWithin size x × ReadsWhole block x) (sym is) ((let within : 0 + 0 ≤ size = omega arith in within), record { first = 0; count = 0; place = omega arith; len = omega arith })
+served_one block size None a op s = (s.within, s.reads)
+
+pub all_within : (block size : ℕ) (asked : List Asked) (ops : List Operation) → AreServedBy block size asked ops → All (IsWithin size) ops
+all_within block size [] [] served = All-nil (IsWithin size)
+all_within block size [] (op ∷ ops) served = absurd served
+all_within block size (a ∷ asked) [] served = absurd served
+all_within block size (a ∷ asked) (op ∷ ops) served =
+    All-cons (IsWithin size) op ops (served_one block size (refusal_of size a.request) a op served.0).0 (all_within block size asked ops served.1)
+
+pub all_whole : (block size : ℕ) (asked : List Asked) (ops : List Operation) → AreServedBy block size asked ops → All (ReadsWhole block) ops
+all_whole block size [] [] served = All-nil (ReadsWhole block)
+all_whole block size [] (op ∷ ops) served = absurd served
+all_whole block size (a ∷ asked) [] served = absurd served
+all_whole block size (a ∷ asked) (op ∷ ops) served =
+    All-cons (ReadsWhole block) op ops (served_one block size (refusal_of size a.request) a op served.0).1 (all_whole block size asked ops served.1)
+
+pub as_many : (block size : ℕ) (asked : List Asked) (ops : List Operation) → AreServedBy block size asked ops → length ops ≡ length asked
+as_many block size [] [] served = refl
+as_many block size [] (op ∷ ops) served = absurd served
+as_many block size (a ∷ asked) [] served = absurd served
+as_many block size (a ∷ asked) (op ∷ ops) served = ap (λ (n : ℕ). suc n) (as_many block size asked ops served.1)
+
+pub served_by_more : (block size : ℕ) (asked : List Asked) (ops : List Operation) (a : Asked) (op : Operation) → AreServedBy block size asked ops → ServesIf (refusal_of size a.request) block size a op
+    → AreServedBy block size (asked ++ a ∷ []) (ops ++ op ∷ [])
+served_by_more block size [] [] a op served one = (one, tt)
+served_by_more block size [] (x ∷ ops) a op served one = absurd served
+served_by_more block size (x ∷ asked) [] a op served one = absurd served
+served_by_more block size (x ∷ asked) (y ∷ ops) a op served one = (served.0, served_by_more block size asked ops a op served.1 one)
+
+-- ---- One turn
+
+-- the operation was done
+answer_done : (block size : ℕ) (a : Asked) (op : Operation) (o : Option NbdError) (bytes : List ℕ) → refusal_of size a.request ≡ o → ServesIf o block size a op → length bytes ≡ size
+    → IsAnswer bytes a.request a.payload (reply_if o (Done (asked_part block a.request (given_by op bytes)))) (done_by op bytes)
+answer_done block size a op (Some e) bytes is nothing long =
+    inl (ap (λ (n : ℕ). refusal_of n a.request) long ∙ is, ap (λ (x : Operation). done_by x bytes) nothing)
+answer_done block size a op None bytes is s long = (ap (λ (n : ℕ). refusal_of n a.request) long ∙ is, s.gives bytes, s.does bytes)
+
+-- it is refused, and was done in part
+answer_part : (block size : ℕ) (a : Asked) (op : Operation) (o : Option NbdError) (e : NbdError) (bytes later : List ℕ) → (e ≡ Io) ⊎ (e ≡ NoMemory) → refusal_of size a.request ≡ o → ServesIf o block size a op
+    → length bytes ≡ size → IsPartOf op bytes later → IsAnswer bytes a.request a.payload (reply_if o (Refused e)) later
+answer_part block size a op (Some f) e bytes later why is nothing long part =
+    inl (ap (λ (n : ℕ). refusal_of n a.request) long ∙ is, subst (λ (x : Operation). IsPartOf x bytes later) nothing part)
+answer_part block size a op None e bytes later why is s long part =
+    inr (ap (λ (n : ℕ). refusal_of n a.request) long ∙ is, why, s.in_part bytes later part)
+
+-- it is refused, and nothing of it was done
+answer_none : (size : ℕ) (a : Asked) (o : Option NbdError) (e : NbdError) (bytes : List ℕ) → (e ≡ Io) ⊎ (e ≡ NoMemory) → refusal_of size a.request ≡ o → length bytes ≡ size
+    → IsAnswer bytes a.request a.payload (reply_if o (Refused e)) bytes
+answer_none size a (Some f) e bytes why is long = inl (ap (λ (n : ℕ). refusal_of n a.request) long ∙ is, refl)
+answer_none size a None e bytes why is long =
+    inr (ap (λ (n : ℕ). refusal_of n a.request) long ∙ is, why, partly_none a.request.command bytes a.request.offset a.request.length a.payload)
+
+turn_by : (a : Asked) (reply : SimpleReply) (old new : List ℕ) → IsAsked a → IsAnswer old a.request a.payload reply new → IsTurn old (turn_for a reply) new
+turn_by a reply old new is answer = record { request = is.request; payload = is.payload; answer = answer }
+
+-- ---- A batch whose operations were all done
+
+abbrev pub answered_turns : ℕ → ℕ → List Asked → List (List ℕ) → List Turn
+answered_turns block size [] given = []
+answered_turns block size (a ∷ asked) [] = []
+answered_turns block size (a ∷ asked) (bytes ∷ given) = turn_for a (reply_of block size a.request bytes) ∷ answered_turns block size asked given
+
+pub answered_same : (block size : ℕ) (asked : List Asked) (given : List (List ℕ)) → length given ≡ length asked → map asked_in (answered_turns block size asked given) ≡ asked
+answered_same block size [] given many = refl
+answered_same block size (a ∷ asked) [] many = absurd (omega (arith, many))
+answered_same block size (a ∷ asked) (bytes ∷ given) many = ap (λ (l : List Asked). a ∷ l) (answered_same block size asked given (omega (arith, many)))
+
+pub answered_text : (block size : ℕ) (asked : List Asked) (given : List (List ℕ)) → replies_text (answered_turns block size asked given) ≡ answers_text block size (map (λ (a : Asked). a.request) asked) given
+answered_text block size [] given = refl
+answered_text block size (a ∷ asked) [] = refl
+answered_text block size (a ∷ asked) (bytes ∷ given) =
+    ap (λ (l : List ℕ). reply_text a.request.cookie (reply_of block size a.request bytes) ++ l) (answered_text block size asked given)
+
+reply_done : (block size : ℕ) (a : Asked) (op : Operation) (o : Option NbdError) (bytes : List ℕ) → refusal_of size a.request ≡ o → ServesIf o block size a op → length bytes ≡ read_len op
+    → IsReply size a.request (reply_if o (Done (asked_part block a.request bytes)))
+reply_done block size a op (Some e) bytes is s long = inl is
+reply_done block size a op None bytes is s long = (is, s.long bytes long)
+
+pub answered_fit : (block size : ℕ) (asked : List Asked) (ops : List Operation) (given : List (List ℕ)) → All IsAsked asked → AreServedBy block size asked ops → map length given ≡ map read_len ops
+    → All (λ (t : Turn). IsReplied size t) (answered_turns block size asked given)
+answered_fit block size [] ops given are served lens = All-nil (λ (t : Turn). IsReplied size t)
+answered_fit block size (a ∷ asked) [] given are served lens = absurd served
+answered_fit block size (a ∷ asked) (op ∷ ops) [] are served lens = All-nil (λ (t : Turn). IsReplied size t)
+answered_fit block size (a ∷ asked) (op ∷ ops) (bytes ∷ given) are served lens =
+    let is = All-head IsAsked a asked are in
+    let first : length bytes ≡ read_len op = cc in
+    let rest : map length given ≡ map read_len ops = cc in
+    All-cons (λ (t : Turn). IsReplied size t) (turn_for a (reply_of block size a.request bytes)) (answered_turns block size asked given)
+    (record { request = is.request; payload = is.payload; reply = reply_done block size a op (refusal_of size a.request) bytes refl served.0 first })
+    (answered_fit block size asked ops given (All-tail IsAsked a asked are) served.1 rest)
+
+-- no such reply says that the device has failed
+never_io : (size : ℕ) (r : Request) (o : Option NbdError) (bytes : List ℕ) → refusal_of size r ≡ o → reply_if o (Done bytes) ≡ Refused Io → ⊥
+never_io size r (Some e) bytes is says = refusal_is_other size r e is (let same : e ≡ Io = cc in same)
+never_io size r None bytes is says = cc
+
+pub answered_never_fail : (block size : ℕ) (asked : List Asked) (given : List (List ℕ)) → NeverFails (answered_turns block size asked given)
+answered_never_fail block size [] given = tt
+answered_never_fail block size (a ∷ asked) [] = tt
+answered_never_fail block size (a ∷ asked) (bytes ∷ given) =
+    (never_io size a.request (refusal_of size a.request) (asked_part block a.request bytes) refl, answered_never_fail block size asked given)
+
+pub answered_tell_none : (block size : ℕ) (asked : List Asked) (given : List (List ℕ)) → SaysFailed (answered_turns block size asked given) → ⊥
+answered_tell_none block size [] given none = none
+answered_tell_none block size (a ∷ asked) [] none = none
+answered_tell_none block size (a ∷ asked) (bytes ∷ given) (inl says) = never_io size a.request (refusal_of size a.request) (asked_part block a.request bytes) refl says
+answered_tell_none block size (a ∷ asked) (bytes ∷ given) (inr rest) = answered_tell_none block size asked given rest
+
+pub answered_refuse : (block size : ℕ) (failed : Type 0) (asked : List Asked) (given : List (List ℕ)) → (failed → ⊥) → FailsForGood failed (answered_turns block size asked given)
+answered_refuse block size failed [] given alive = tt
+answered_refuse block size failed (a ∷ asked) [] alive = tt
+answered_refuse block size failed (a ∷ asked) (bytes ∷ given) alive = (
+  λ f. absurd (alive f),
+  answered_refuse block size (failed ⊎ (reply_of block size a.request bytes ≡ Refused Io)) asked given (λ e. elim e [
+    | inl f ↦ alive f
+    | inr says ↦ never_io size a.request (refusal_of size a.request) (asked_part block a.request bytes) refl says
+  ]),
+)
+
+pub answered_service : (block size : ℕ) (asked : List Asked) (ops : List Operation) (bytes : List ℕ) → All IsAsked asked → AreServedBy block size asked ops → length bytes ≡ size
+    → IsService bytes (answered_turns block size asked (all_given ops bytes)) (all_done ops bytes)
+answered_service block size [] [] bytes are served long = refl
+answered_service block size [] (op ∷ ops) bytes are served long = absurd served
+answered_service block size (a ∷ asked) [] bytes are served long = absurd served
+answered_service block size (a ∷ asked) (op ∷ ops) bytes are served long = (
+  done_by op bytes,
+  turn_by a (reply_of block size a.request (given_by op bytes)) bytes (done_by op bytes) (All-head IsAsked a asked are)
+      (answer_done block size a op (refusal_of size a.request) bytes refl served.0 long),
+  answered_service block size asked ops (done_by op bytes) (All-tail IsAsked a asked are) served.1
+      (length_done size op bytes long (served_one block size (refusal_of size a.request) a op served.0).0),
+)
+
+-- ---- A batch that is refused: with this error, where its requests aren't refused already
+
+abbrev pub refused_turns : ℕ → List Asked → NbdError → List Turn
+refused_turns size [] e = []
+refused_turns size (a ∷ asked) e = turn_for a (reply_if (refusal_of size a.request) (Refused e)) ∷ refused_turns size asked e
+
+pub refused_same : (size : ℕ) (asked : List Asked) (e : NbdError) → map asked_in (refused_turns size asked e) ≡ asked
+refused_same size [] e = refl
+refused_same size (a ∷ asked) e = ap (λ (l : List Asked). a ∷ l) (refused_same size asked e)
+
+pub refused_text : (size : ℕ) (asked : List Asked) (e : NbdError) → replies_text (refused_turns size asked e) ≡ refusals_text size (map (λ (a : Asked). a.request) asked) e
+refused_text size [] e = refl
+refused_text size (a ∷ asked) e = ap (λ (l : List ℕ). reply_text a.request.cookie (reply_if (refusal_of size a.request) (Refused e)) ++ l) (refused_text size asked e)
+
+reply_refused : (size : ℕ) (r : Request) (o : Option NbdError) (e : NbdError) → (e ≡ Io) ⊎ (e ≡ NoMemory) → refusal_of size r ≡ o → IsReply size r (reply_if o (Refused e))
+reply_refused size r (Some f) e why is = inl is
+reply_refused size r None e why is = inr (is, why)
+
+pub refused_fit : (size : ℕ) (asked : List Asked) (e : NbdError) → (e ≡ Io) ⊎ (e ≡ NoMemory) → All IsAsked asked → All (λ (t : Turn). IsReplied size t) (refused_turns size asked e)
+refused_fit size [] e why are = All-nil (λ (t : Turn). IsReplied size t)
+refused_fit size (a ∷ asked) e why are =
+    let is = All-head IsAsked a asked are in
+    All-cons (λ (t : Turn). IsReplied size t) (turn_for a (reply_if (refusal_of size a.request) (Refused e))) (refused_turns size asked e)
+    (record { request = is.request; payload = is.payload; reply = reply_refused size a.request (refusal_of size a.request) e why refl })
+    (refused_fit size asked e why (All-tail IsAsked a asked are))
+
+is_refused : (o : Option NbdError) (e : NbdError) → IsRefusal (reply_if o (Refused e))
+is_refused (Some f) e = tt
+is_refused None e = tt
+
+pub refused_refuse : (size : ℕ) (failed : Type 0) (asked : List Asked) (e : NbdError) → FailsForGood failed (refused_turns size asked e)
+refused_refuse size failed [] e = tt
+refused_refuse size failed (a ∷ asked) e =
+    (λ f. is_refused (refusal_of size a.request) e, refused_refuse size (failed ⊎ (reply_if (refusal_of size a.request) (Refused e) ≡ Refused Io)) asked e)
+
+io_by : (size : ℕ) (r : Request) (o : Option NbdError) (e : NbdError) → refusal_of size r ≡ o → reply_if o (Refused e) ≡ Refused Io → e ≡ Io
+io_by size r (Some f) e is says = absurd (refusal_is_other size r f is (let same : f ≡ Io = cc in same))
+io_by size r None e is says = cc
+
+pub refused_tell : (size : ℕ) (asked : List Asked) (e : NbdError) → SaysFailed (refused_turns size asked e) → e ≡ Io
+refused_tell size [] e none = absurd none
+refused_tell size (a ∷ asked) e (inl says) = io_by size a.request (refusal_of size a.request) e refl says
+refused_tell size (a ∷ asked) e (inr rest) = refused_tell size asked e rest
+
+pub refused_never_fail : (size : ℕ) (asked : List Asked) (e : NbdError) → (e ≡ Io → ⊥) → NeverFails (refused_turns size asked e)
+refused_never_fail size [] e other = tt
+refused_never_fail size (a ∷ asked) e other = (λ says. other (io_by size a.request (refusal_of size a.request) e refl says), refused_never_fail size asked e other)
+
+-- nothing was done
+pub refused_idle : (size : ℕ) (asked : List Asked) (e : NbdError) (bytes : List ℕ) → (e ≡ Io) ⊎ (e ≡ NoMemory) → All IsAsked asked → length bytes ≡ size
+    → IsService bytes (refused_turns size asked e) bytes
+refused_idle size [] e bytes why are long = refl
+refused_idle size (a ∷ asked) e bytes why are long = (
+  bytes,
+  turn_by a (reply_if (refusal_of size a.request) (Refused e)) bytes bytes (All-head IsAsked a asked are) (answer_none size a (refusal_of size a.request) e bytes why refl long),
+  refused_idle size asked e bytes why (All-tail IsAsked a asked are) long,
+)
+
+-- the operations were begun
+pub refused_service : (block size : ℕ) (asked : List Asked) (ops : List Operation) (e : NbdError) (bytes later : List ℕ) → (e ≡ Io) ⊎ (e ≡ NoMemory) → All IsAsked asked → AreServedBy block size asked ops
+    → length bytes ≡ size → AreBegun ops bytes later → IsService bytes (refused_turns size asked e) later
+refused_service block size [] [] e bytes later why are served long same = same
+refused_service block size [] (op ∷ ops) e bytes later why are served long begun = absurd served
+refused_service block size (a ∷ asked) [] e bytes later why are served long begun = absurd served
+refused_service block size (a ∷ asked) (op ∷ ops) e bytes later why are served long (inl part) =
+    let is = All-head IsAsked a asked are in
+    let within = (served_one block size (refusal_of size a.request) a op served.0).0 in (
+      later,
+      turn_by a (reply_if (refusal_of size a.request) (Refused e)) bytes later is (answer_part block size a op (refusal_of size a.request) e bytes later why refl served.0 long part),
+      refused_idle size asked e later why (All-tail IsAsked a asked are) (length_part size op bytes later long within part),
+    )
+refused_service block size (a ∷ asked) (op ∷ ops) e bytes later why are served long (inr rest) =
+    let is = All-head IsAsked a asked are in
+    let within = (served_one block size (refusal_of size a.request) a op served.0).0 in (
+      done_by op bytes,
+      turn_by a (reply_if (refusal_of size a.request) (Refused e)) bytes (done_by op bytes) is
+          (answer_part block size a op (refusal_of size a.request) e bytes (done_by op bytes) why refl served.0 long (part_whole op bytes)),
+      refused_service block size asked ops e (done_by op bytes) later why (All-tail IsAsked a asked are) served.1 (length_done size op bytes long within) rest,
+    )
+
+-- ---- A batch at which the device stopped
+
+left_part : (block size : ℕ) (a : Asked) (op : Operation) (o : Option NbdError) (bytes later : List ℕ) → ServesIf o block size a op → IsPartOf op bytes later
+    → IsLeftIf o bytes (IsPartly a.request.command bytes a.request.offset a.request.length a.payload later) later
+left_part block size a op (Some e) bytes later nothing part = subst (λ (x : Operation). IsPartOf x bytes later) nothing part
+left_part block size a op None bytes later s part = s.in_part bytes later part
+
+left_done : (block size : ℕ) (a : Asked) (op : Operation) (o : Option NbdError) (bytes : List ℕ) → ServesIf o block size a op
+    → done_by op bytes ≡ left_if o bytes (after a.request.command bytes a.request.offset a.request.length a.payload)
+left_done block size a op (Some e) bytes nothing = ap (λ (x : Operation). done_by x bytes) nothing
+left_done block size a op None bytes s = s.does bytes
+
+pub requests_begun : (block size : ℕ) (asked : List Asked) (ops : List Operation) (bytes later : List ℕ) → AreServedBy block size asked ops → length bytes ≡ size → AreBegun ops bytes later
+    → AreRequestsBegun asked bytes later
+requests_begun block size [] [] bytes later served long same = same
+requests_begun block size [] (op ∷ ops) bytes later served long begun = absurd served
+requests_begun block size (a ∷ asked) [] bytes later served long begun = absurd served
+requests_begun block size (a ∷ asked) (op ∷ ops) bytes later served long (inl part) =
+    inl (subst (λ (n : ℕ). IsLeftIf (refusal_of n a.request) bytes (IsPartly a.request.command bytes a.request.offset a.request.length a.payload later) later) (sym long)
+    (left_part block size a op (refusal_of size a.request) bytes later served.0 part))
+requests_begun block size (a ∷ asked) (op ∷ ops) bytes later served long (inr rest) =
+    let within = (served_one block size (refusal_of size a.request) a op served.0).0 in
+    let done : done_by op bytes ≡ left_by a bytes = left_done block size a op (refusal_of size a.request) bytes served.0
+    ∙ ap (λ (n : ℕ). left_if (refusal_of n a.request) bytes (after a.request.command bytes a.request.offset a.request.length a.payload)) (sym long) in
+    inr (subst (λ (b : List ℕ). AreRequestsBegun asked b later) done
+    (requests_begun block size asked ops (done_by op bytes) later served.1 (length_done size op bytes long within) rest))
+
+-- a request that isn't refused, among those that were asked
+pub accepted_in : (size : ℕ) (asked : List Asked) (before after : List Request) (r : Request) → map (λ (a : Asked). a.request) asked ≡ before ++ r ∷ after → refusal_of size r ≡ None
+    → (xs ys : List Asked) × (a : Asked) × (asked ≡ xs ++ a ∷ ys) × (refusal_of size a.request ≡ None)
+accepted_in size [] [] after r is none = absurd cc
+accepted_in size [] (b ∷ before) after r is none = absurd cc
+accepted_in size (a ∷ asked) [] after r is none = let same : a.request ≡ r = cc in ([], asked, a, refl, ap (refusal_of size) same ∙ none)
+accepted_in size (a ∷ asked) (b ∷ before) after r is none =
+    let rest : map (λ (x : Asked). x.request) asked ≡ before ++ r ∷ after = cc in
+    let k = accepted_in size asked before after r rest none in
+    (a ∷ k.0, k.1, k.2, ap (λ (l : List Asked). a ∷ l) k.3, k.4)
+
+-- ---- Requests that are collected, one after the other
+
+pub record Collected (block size : ℕ) (requests : List Request) (operations : List Operation) (unread unread' : Option (List ℕ)) : Type 0 where
+  pub asked : List Asked
+  pub kept : AreKept block size asked requests operations
+  pub read : Consumes unread unread' (asked_text asked)
+
+pub collected_none : (block size : ℕ) (requests : List Request) (operations : List Operation) (unread : Option (List ℕ)) → requests ≡ [] → operations ≡ [] → Collected block size requests operations unread unread
+collected_none block size requests operations unread no_requests no_operations = record {
+  asked = [];
+  kept = record { all = All-nil IsAsked; same = sym no_requests; served = subst (AreServedBy block size []) (sym no_operations) tt };
+  read = Consumes-nil unread;
+}
+
+module _ (block size : ℕ) (requests : List Request) (operations : List Operation) (unread mid : Option (List ℕ)) (so_far : Collected block size requests operations unread mid) where
+  pub collected_more : (requests' : List Request) (operations' : List Operation) (later : Option (List ℕ)) (a : Asked) (op : Operation) → IsAsked a → requests' ≡ requests ++ a.request ∷ [] → operations' ≡ operations ++ op ∷ []
+      → ServesIf (refusal_of size a.request) block size a op → Consumes mid later (request_text a.request ++ a.payload) → Collected block size requests' operations' unread later
+  collected_more requests' operations' later a op is more more' serves came = record {
+    asked = so_far.asked ++ a ∷ [];
+    kept = record {
+      all = All-append IsAsked so_far.asked (a ∷ []) so_far.kept.all (All-cons IsAsked a [] is (All-nil IsAsked));
+      same = map-append (λ (x : Asked). x.request) so_far.asked (a ∷ []) ∙ ap (λ (l : List Request). l ++ a.request ∷ []) so_far.kept.same ∙ sym more;
+      served = subst (AreServedBy block size (so_far.asked ++ a ∷ [])) (sym more') (served_by_more block size so_far.asked operations a op so_far.kept.served serves);
+    };
+    read = subst (Consumes unread later)
+        (ap (λ (l : List ℕ). asked_text so_far.asked ++ l) (sym (append-nil (request_text a.request ++ a.payload)))
+        ∙ sym (flat_map-append (λ (x : Asked). request_text x.request ++ x.payload) so_far.asked (a ∷ [])))
+        (Consumes-trans unread mid later (asked_text so_far.asked) (request_text a.request ++ a.payload) so_far.read came);
+  }
+
+  pub gathered_then : (requests' : List Request) (operations' : List Operation) (later : Option (List ℕ)) (close : Close) (part : List ℕ) → requests' ≡ requests → operations' ≡ operations → Consumes mid later part
+      → EndsBy close part later → HasGathered block size requests' operations' close unread later
+  gathered_then requests' operations' later close part same same' came ends = record {
+    asked = so_far.asked;
+    part = part;
+    kept = record { all = so_far.kept.all; same = so_far.kept.same ∙ sym same; served = subst (AreServedBy block size so_far.asked) (sym same') so_far.kept.served };
+    read = Consumes-trans unread mid later (asked_text so_far.asked) part so_far.read came;
+    ends = ends;
+  }
+
+  -- nothing else was read
+  pub gathered : (close : Close) → EndsBy close [] mid → HasGathered block size requests operations close unread mid
+  gathered close ends = gathered_then requests operations mid close [] refl refl (Consumes-nil mid) ends
+
+-- ---- What the turns of a batch come to
+
+module _ {D W E : Type 0} {had : D → List E → D → Type 0} {hears : Bool → W → E → W → Type 0} {holds : Bool → D → W → List ℕ → Type 0} (failed : D → Type 0) (block size : ℕ) (old new : D) (asked : List Asked)
+    (sized : (may_lie : Bool) (world : W) (bytes : List ℕ) → holds may_lie old world bytes → length bytes ≡ size) where
+  -- all operations were done
+  pub all_answered : (requests : List Request) (ops : List Operation) (given : List (List ℕ)) → AreKept block size asked requests ops → map length given ≡ map read_len ops → (failed old → ⊥)
+      → GoesOn had hears holds old (λ may_lie bytes later. ((given ≡ all_given ops bytes) × (later ≡ all_done ops bytes))) new
+      → HasAnswered had hears holds (failed old) (failed new) size old new asked (answered_turns block size asked given)
+  all_answered requests ops given kept lens alive goes =
+      let many : length given ≡ length asked = sym (length-map given length) ∙ ap length lens ∙ length-map ops read_len ∙ as_many block size asked ops kept.served in
+      record {
+        same = answered_same block size asked given many;
+        served = record {
+          fits = answered_fit block size asked ops given kept.all kept.served lens;
+          refused = answered_refuse block size (failed old) asked given alive;
+          service = weaker goes (λ may_lie world bytes later h step. (
+            subst (λ (l : List ℕ). IsService bytes (answered_turns block size asked given) l) (sym step.1)
+                (subst (λ (gs : List (List ℕ)). IsService bytes (answered_turns block size asked gs) (all_done ops bytes)) (sym step.0)
+                (answered_service block size asked ops bytes kept.all kept.served (sized may_lie world bytes h))),
+            λ honest. answered_never_fail block size asked given,
+          ));
+        };
+        told = λ says. absurd (answered_tell_none block size asked given says);
+      }
+
+  -- the operations were begun, and all requests are refused
+  pub all_refused : (requests : List Request) (ops : List Operation) (e : NbdError) → AreKept block size asked requests ops → (e ≡ Io) ⊎ (e ≡ NoMemory) → (e ≡ Io → failed new)
+      → GoesOn had hears holds old (λ may_lie bytes later. AreBegun ops bytes later × (e ≡ Io → may_lie ≡ true)) new
+      → HasAnswered had hears holds (failed old) (failed new) size old new asked (refused_turns size asked e)
+  all_refused requests ops e kept why fails goes = record {
+    same = refused_same size asked e;
+    served = record {
+      fits = refused_fit size asked e why kept.all;
+      refused = refused_refuse size (failed old) asked e;
+      service = weaker goes (λ may_lie world bytes later h step. (
+        refused_service block size asked ops e bytes later why kept.all kept.served (sized may_lie world bytes h) step.0,
+        λ honest. refused_never_fail size asked e (λ io. let lies : may_lie ≡ true = step.1 io in cc),
+      ));
+    };
+    told = λ says. fails (refused_tell size asked e says);
+  }
+
+  -- the device stopped
+  pub all_begun : (requests : List Request) (ops : List Operation) → AreKept block size asked requests ops → (before after : List Request) (r : Request) → requests ≡ before ++ r ∷ after → refusal_of size r ≡ None
+      → GoesOn had hears holds old (λ may_lie bytes later. AreBegun ops bytes later) new → HasBegun had hears holds (failed old) (failed new) size old new asked
+  all_begun requests ops kept before after r split none goes = record {
+    accepted = accepted_in size asked before after r (kept.same ∙ split) none;
+    begun = weaker goes (λ may_lie world bytes later h step. requests_begun block size asked ops bytes later kept.served (sized may_lie world bytes h) step);
+  }
+
+-- a device that isn't called, where all requests are refused for want of memory
+pub refused_at_rest : {D W E : Type 0} {had : D → List E → D → Type 0} {hears : Bool → W → E → W → Type 0} {holds : Bool → D → W → List ℕ → Type 0} (failed : D → Type 0) (size : ℕ) (d : D) (asked : List Asked)
+    → ((may_lie : Bool) (world : W) (bytes : List ℕ) → holds may_lie d world bytes → length bytes ≡ size) → All IsAsked asked
+    → HasAnswered had hears holds (failed d) (failed d) size d d asked (refused_turns size asked NoMemory)
+refused_at_rest failed size d asked sized are = record {
+  same = refused_same size asked NoMemory;
+  served = record {
+    fits = refused_fit size asked NoMemory (inr refl) are;
+    refused = refused_refuse size (failed d) asked NoMemory;
+    service = at_rest (λ may_lie world bytes h. (refused_idle size asked NoMemory bytes (inr refl) are (sized may_lie world bytes h), λ honest. refused_never_fail size asked NoMemory (λ io. cc)));
+  };
+  told = λ says. absurd (let none : NoMemory ≡ Io = refused_tell size asked NoMemory says in cc);
+}
+
+-- how many turns these are
+pub length_same : (asked : List Asked) (turns : List Turn) → map asked_in turns ≡ asked → length turns ≡ length asked
+length_same asked turns same = sym (length-map turns asked_in) ∙ ap length same
+
+pub behind_cut : (f : NbdFault) (part : List ℕ) (new : Option (List ℕ)) → IsCutOff f part new → IsBehind part
+behind_cut fault.Read part new h = inr (inr (inl h))
+behind_cut fault.Truncated part new h = inr (inr (inl h.0))
+behind_cut fault.Magic part new h = inr (inr (inr h))
+behind_cut fault.Write part new h = absurd h
+behind_cut fault.OldClient part new h = absurd h
+behind_cut fault.UnknownExport part new h = absurd h
+behind_cut fault.TooManyOptions part new h = absurd h
+behind_cut fault.OutOfMemory part new h = absurd h
+behind_cut fault.Stopped part new h = absurd h
+
+-- what is left behind a batch
+pub behind_ends : (close : Close) (part : List ℕ) (new : Option (List ℕ)) → EndsBy close part new → IsBehind part
+behind_ends Waits part new none = inl none
+behind_ends (NoRoom r) part new h = inr (inl (h.0, h.1, h.3))
+behind_ends Leaves part new (inl h) = inl h.0
+behind_ends Leaves part new (inr h) =
+    let a : Asked = record { request = h.0; payload = [] } in
+    inr (inl (a, record { request = h.1; payload = sym (ap (λ (c : Command). payload_len c h.0.length) h.2) }, h.3 ∙ sym (append-nil (request_text h.0))))
+behind_ends (Breaks f) part new h = behind_cut f part new h
+
+pub behind_left : (close : Close) (rest : List ℕ) (new : Option (List ℕ)) → LeftBy close rest new → IsBehind rest
+behind_left Waits rest new none = inl none
+behind_left (NoRoom r) rest new none = inl none
+behind_left Leaves rest new h = behind_ends Leaves rest new h
+behind_left (Breaks f) rest new h = behind_cut f rest new h
+
+-- ---- Replies that are written, one after the other
+
+-- Some of this text was written. The rest is left.
+pub record Told (old now : Option (List ℕ)) (all rest : List ℕ) : Type 0 where
+  pub so_far : List ℕ
+  pub wrote : Appends old now so_far
+  pub split : so_far ++ rest ≡ all
+
+pub told_none : (old : Option (List ℕ)) (all : List ℕ) → Told old old all all
+told_none old all = record { so_far = []; wrote = Appends-nil old; split = refl }
+
+module _ (old now : Option (List ℕ)) (all rest : List ℕ) (t : Told old now all rest) where
+  pub told_next : (later : Option (List ℕ)) (more rest' : List ℕ) → rest ≡ more ++ rest' → Appends now later more → Told old later all rest'
+  told_next later more rest' is wrote = record {
+    so_far = t.so_far ++ more;
+    wrote = Appends-trans old now later t.so_far more t.wrote wrote;
+    split = append_assoc t.so_far more rest' ∙ ap (λ (l : List ℕ). t.so_far ++ l) (sym is) ∙ t.split;
+  }
+
+  pub told_all : rest ≡ [] → Appends old now all
+  told_all none = subst (Appends old now) (sym (append-nil t.so_far) ∙ ap (λ (l : List ℕ). t.so_far ++ l) (sym none) ∙ t.split) t.wrote
+
+  pub told_begun : (later : Option (List ℕ)) (more rest' : List ℕ) → rest ≡ more ++ rest' → IsBegunText now later more → IsBegunText old later all
+  told_begun later more rest' is begun =
+      let n : ℕ = begun.0 in
+      elim (cases_lt n (length more)) [
+        | inl part ↦ (
+          length t.so_far + n,
+          subst (Appends old later) (sym (front n (take-append-le n more rest' (omega (arith, part))))) (Appends-trans old now later t.so_far (take n more) t.wrote begun.1),
+        )
+        | inr whole ↦ (
+          length t.so_far + length more,
+          subst (Appends old later) (sym (front (length more) (take_at more rest' (length more) refl)))
+              (Appends-trans old now later t.so_far more t.wrote (subst (Appends now later) (take_all n more (omega (arith, whole))) begun.1)),
+        )
+      ]
+    where
+      front : (k : ℕ) {part : List ℕ} → take k (more ++ rest') ≡ part → take (length t.so_far + k) all ≡ t.so_far ++ part
+      front k {part = part} same = ap (take (length t.so_far + k)) (sym t.split ∙ ap (λ (l : List ℕ). t.so_far ++ l) is) ∙ take-append-add t.so_far (more ++ rest') k ∙ ap (λ (l : List ℕ). t.so_far ++ l) same
+
+-- the next reply
+pub answers_next : (block size : ℕ) (requests : List Request) (given : List (List ℕ)) (i : ℕ) (r : Request) (bytes : List ℕ) → i < length requests → length given ≡ length requests
+    → r ≡ get_or requests i r → bytes ≡ get_or given i bytes
+    → answers_text block size (drop i requests) (drop i given) ≡ reply_text r.cookie (reply_of block size r bytes) ++ answers_text block size (drop (i + 1) requests) (drop (i + 1) given)
+answers_next block size requests given i r bytes more each is is' =
+    let one : i + 1 ≡ suc i = omega arith in
+    let first : drop i requests ≡ r ∷ drop (i + 1) requests = drop-cons requests i r more ∙ ap (λ (x : Request). x ∷ drop (suc i) requests) (sym is) ∙ ap (λ (n : ℕ). r ∷ drop n requests) (sym one) in
+    let second : drop i given ≡ bytes ∷ drop (i + 1) given =
+    drop-cons given i bytes (omega (arith, more, each)) ∙ ap (λ (x : List ℕ). x ∷ drop (suc i) given) (sym is') ∙ ap (λ (n : ℕ). bytes ∷ drop n given) (sym one) in
+    ap (λ (l : List Request). answers_text block size l (drop i given)) first ∙ ap (λ (l : List (List ℕ)). answers_text block size (r ∷ drop (i + 1) requests) l) second
+
+pub refusals_next : (size : ℕ) (requests : List Request) (e : NbdError) (i : ℕ) (r : Request) → i < length requests → r ≡ get_or requests i r
+    → refusals_text size (drop i requests) e ≡ reply_text r.cookie (reply_if (refusal_of size r) (Refused e)) ++ refusals_text size (drop (i + 1) requests) e
+refusals_next size requests e i r more is =
+    let one : i + 1 ≡ suc i = omega arith in
+    let first : drop i requests ≡ r ∷ drop (i + 1) requests = drop-cons requests i r more ∙ ap (λ (x : Request). x ∷ drop (suc i) requests) (sym is) ∙ ap (λ (n : ℕ). r ∷ drop n requests) (sym one) in
+    ap (λ (l : List Request). refusals_text size l e) first
+
+-- none is left
+pub answers_end : (block size : ℕ) (requests : List Request) (given : List (List ℕ)) (i : ℕ) → length requests ≤ i → answers_text block size (drop i requests) (drop i given) ≡ []
+answers_end block size requests given i end = ap (λ (l : List Request). answers_text block size l (drop i given)) (drop_all i requests end)
+
+pub refusals_end : (size : ℕ) (requests : List Request) (e : NbdError) (i : ℕ) → length requests ≤ i → refusals_text size (drop i requests) e ≡ []
+refusals_end size requests e i end = ap (λ (l : List Request). refusals_text size l e) (drop_all i requests end)
+
+-- the operation of a read
+pub serves_read : (block size : ℕ) (a : Asked) (first count : ℕ) → a.request.command ≡ command.Read → block * first + a.request.offset % block ≡ a.request.offset → a.request.offset % block + a.request.length ≤ block * count
+    → block * first + block * count ≤ size → Serves block size a (Read (block * first) (block * count))
+serves_read block size a first count is place covers within =
+    let o = a.request.offset in
+    let n = a.request.length in
+    let s : ℕ = o % block in
+    record {
+      reads = record { first = first; count = count; place = refl; len = refl };
+      within = within;
+      does = λ bytes. ap (λ (c : Command). after c bytes o n a.payload) (sym is);
+      in_part = λ old new h. subst (λ (c : Command). IsPartly c old o n a.payload new) (sym is) h;
+      gives = λ bytes. subst (λ (c : Command). take (given_len c n) (drop s (bytes_at bytes (block * first) (block * count))) ≡ given c bytes o n) (sym is)
+          (part_of_block bytes (block * first) (block * count) s n covers ∙ ap (λ (p : ℕ). bytes_at bytes p n) place);
+      long = λ bytes long. subst (λ (c : Command). length (take (given_len c n) (drop s bytes)) ≡ given_len c n) (sym is)
+          (length-take-le n (drop s bytes) (let rest : length (drop s bytes) ≡ length bytes - s = length-drop s bytes in omega (arith, rest, long, covers)));
+    }
+
+-- only a part of the bytes of a write came
+pub payload_cut : (a b c : Option (List ℕ)) (r : Request) (f : NbdFault) → IsRequest r → Consumes a b (request_text r) → ComesShort 0 (payload_len r.command r.length) f b c
+    → (part : List ℕ) × Consumes a c part × IsCutOff f part c
+payload_cut a b c r fault.Read is head h = (request_text r ++ h.0, Consumes-trans a b c (request_text r) h.0 head h.2, inr (r, h.0, is, h.1, refl))
+payload_cut a b c r fault.Truncated is head h =
+    (request_text r ++ h.0, Consumes-trans a b c (request_text r) h.0 head h.2, (inr (r, h.0, is, h.1, refl), (let some : 0 < length (request_text r ++ h.0) = omega (arith, length-append (request_text r) h.0) in some), h.4))
+payload_cut a b c r fault.Magic is head h = absurd h
+payload_cut a b c r fault.Write is head h = absurd h
+payload_cut a b c r fault.OldClient is head h = absurd h
+payload_cut a b c r fault.UnknownExport is head h = absurd h
+payload_cut a b c r fault.TooManyOptions is head h = absurd h
+payload_cut a b c r fault.OutOfMemory is head h = absurd h
+payload_cut a b c r fault.Stopped is head h = absurd h
+
+-- the request at a place among others
+pub split_there : {A : Type 0} (xs : List A) (i : ℕ) (x : A) → i < length xs → x ≡ get_or xs i x → xs ≡ take i xs ++ x ∷ drop (suc i) xs
+split_there xs i x more is =
+    sym (take-append-drop i xs) ∙ ap (λ l. take i xs ++ l) (drop-cons xs i x more ∙ ap (λ y. y ∷ drop (suc i) xs) (sym is))
+
+-- the request for which there was no memory
+pub unkept_one : (close : Close) (r : Request) (part : List ℕ) (unread : Option (List ℕ)) → close ≡ NoRoom r → EndsBy close part unread
+    → (a : Asked) × IsUnkept close part unread (a ∷ []) [] × (a.request ≡ r)
+unkept_one close r part unread is ends =
+    let h = subst (λ (k : Close). EndsBy k part unread) is ends in
+    let a = h.0 in (
+      a,
+      record {
+        all = All-cons IsAsked a [] h.1 (All-nil IsAsked);
+        split = h.3 ∙ sym (append-nil (request_text a.request ++ a.payload)) ∙ sym (append-nil ((request_text a.request ++ a.payload) ++ []));
+        left = subst (λ (k : Close). LeftBy k [] unread) (sym is) refl;
+      },
+      h.2,
+    )
+
+-- ---- The texts of the replies to a batch, and what was asked
+
+pub text_refused : (size : ℕ) (asked : List Asked) (e : NbdError) (requests shown : List Request) → map (λ (a : Asked). a.request) asked ≡ requests → shown ≡ requests
+    → refusals_text size shown e ≡ replies_text (refused_turns size asked e)
+text_refused size asked e requests shown are same = ap (λ (l : List Request). refusals_text size l e) (same ∙ sym are) ∙ sym (refused_text size asked e)
+
+pub text_answered : (block size : ℕ) (asked : List Asked) (requests shown : List Request) (given shown' : List (List ℕ)) → map (λ (a : Asked). a.request) asked ≡ requests → shown ≡ requests → shown' ≡ given
+    → answers_text block size shown shown' ≡ replies_text (answered_turns block size asked given)
+text_answered block size asked requests shown given shown' are same same' =
+    ap (λ (l : List Request). answers_text block size l shown') (same ∙ sym are) ∙ ap (answers_text block size (map (λ (a : Asked). a.request) asked)) same' ∙ sym (answered_text block size asked given)
+
+pub kept_as : (block size : ℕ) (asked : List Asked) (requests : List Request) (operations shown : List Operation) → shown ≡ operations → AreKept block size asked requests operations → AreKept block size asked requests shown
+kept_as block size asked requests operations shown same kept = subst (λ (ops : List Operation). AreKept block size asked requests ops) (sym same) kept
+
+-- as many bytes were given as there are requests
+pub many_given : (block size : ℕ) (asked : List Asked) (requests : List Request) (ops : List Operation) (given : List (List ℕ)) → AreKept block size asked requests ops → map length given ≡ map read_len ops → length given ≡ length requests
+many_given block size asked requests ops given kept lens =
+    sym (length-map given length) ∙ ap length lens ∙ length-map ops read_len ∙ as_many block size asked ops kept.served ∙ sym (length-map asked (λ (a : Asked). a.request)) ∙ ap length kept.same

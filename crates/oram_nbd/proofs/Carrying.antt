@@ -1,0 +1,207 @@
+-- Lists of operations, part by part.
+use Rattle.std.proofs.Common.{◌≡◌, inl, inr, ℕ, ◌+◌, ◌*◌, ◌/◌, ◌<◌, add-zero, ◌≤◌, List, [], ◌∷◌, ◌++◌, All, length, map, take, drop, refl, sym, ap, ◌∙◌, subst, arith, append_assoc, length-take-le, get_or, suc, Bool, true, false, ◌-◌, length-drop, drop-cons, Result, Ok, Err, MatchResult, length-append}
+use Rattle.std.proofs.lemmas.Nat.{div-mul-add}
+use Rattle.std.proofs.Math.Nat.{mul_comm}
+use Rattle.std.proofs.lemmas.List.Elements.{All-head, All-tail}
+use Rattle.std.proofs.lemmas.List.{append-nil, drop-drop, drop_all, length-replicate, map-append, take-append-drop, take_all}
+use Rattle.std.proofs.Math.Seq.{take-add}
+use Rattle.oram_nbd.specs.Bytes.{bytes_at, zeroes, IsBegun}
+use Rattle.oram_nbd.specs.Operations.{AreBegun, IsPartOf, IsWhole, IsWithin, ReadsWhole, all_done, all_given, done_by, given_by, read_len}
+use Rattle.oram_nbd.specs.declared.operations.Operation.{Operation}
+use Rattle.oram_nbd.specs.declared.operations.Operation.TheVariants.{Read, Write, Zero}
+use Rattle.oram_nbd.proofs.Splices.{begun_none, begun_whole, length-written}
+
+pub given_append : (xs ys : List Operation) (bytes : List ℕ) → all_given (xs ++ ys) bytes ≡ all_given xs bytes ++ all_given ys (all_done xs bytes)
+given_append [] ys bytes = refl
+given_append (x ∷ xs) ys bytes = ap (λ (l : List (List ℕ)). given_by x bytes ∷ l) (given_append xs ys (done_by x bytes))
+
+pub done_append : (xs ys : List Operation) (bytes : List ℕ) → all_done (xs ++ ys) bytes ≡ all_done ys (all_done xs bytes)
+done_append [] ys bytes = refl
+done_append (x ∷ xs) ys bytes = done_append xs ys (done_by x bytes)
+
+-- nothing of an operation was done
+pub part_none : (op : Operation) (bytes : List ℕ) → IsPartOf op bytes bytes
+part_none (Read at count) bytes = refl
+part_none (Write at payload) bytes = begun_none bytes at payload
+part_none (Zero at count) bytes = begun_none bytes at _
+
+-- nor of several ones
+pub begun_nothing : (ops : List Operation) (bytes : List ℕ) → AreBegun ops bytes bytes
+begun_nothing [] bytes = refl
+begun_nothing (x ∷ xs) bytes = inl (part_none x bytes)
+
+-- the first ones were begun, and so were all
+pub begun_first : (xs ys : List Operation) (bytes later : List ℕ) → AreBegun xs bytes later → AreBegun (xs ++ ys) bytes later
+begun_first [] ys bytes later same = subst (AreBegun ys bytes) (sym same) (begun_nothing ys bytes)
+begun_first (x ∷ xs) ys bytes later (inl part) = inl part
+begun_first (x ∷ xs) ys bytes later (inr rest) = inr (begun_first xs ys (done_by x bytes) later rest)
+
+-- the first ones were done, and then some others begun
+pub begun_behind : (xs ys : List Operation) (bytes later : List ℕ) → AreBegun ys (all_done xs bytes) later → AreBegun (xs ++ ys) bytes later
+begun_behind [] ys bytes later rest = rest
+begun_behind (x ∷ xs) ys bytes later rest = inr (begun_behind xs ys (done_by x bytes) later rest)
+
+-- The first `i` of these operations have led from `old` to `now`, and have read this.
+pub record Carried (ops : List Operation) (old : List ℕ) (i : ℕ) (given : List (List ℕ)) (now : List ℕ) : Type 0 where
+  pub all : all_given ops old ≡ given ++ all_given (drop i ops) now
+  pub done : all_done ops old ≡ all_done (drop i ops) now
+  pub begun : (later : List ℕ) → AreBegun (drop i ops) now later → AreBegun ops old later
+
+pub carried_none : (ops : List Operation) (bytes : List ℕ) → Carried ops bytes 0 [] bytes
+carried_none ops bytes = record { all = refl; done = refl; begun = λ later h. h }
+
+module _ (ops : List Operation) (old : List ℕ) (i : ℕ) (given : List (List ℕ)) (now : List ℕ) (so_far : Carried ops old i given now) where
+  parts : (n : ℕ) → take n (drop i ops) ++ drop (i + n) ops ≡ drop i ops
+  parts n = ap (λ (l : List Operation). take n (drop i ops) ++ l) (sym (drop-drop n i ops)) ∙ take-append-drop n (drop i ops)
+
+  -- n more of them
+  pub carried_more : (n : ℕ) (more : List (List ℕ)) (next : List ℕ) → more ≡ all_given (take n (drop i ops)) now → next ≡ all_done (take n (drop i ops)) now → Carried ops old (i + n) (given ++ more) next
+  carried_more n more next gave led = record {
+    all = so_far.all ∙ ap (λ (l : List Operation). given ++ all_given l now) (sym (parts n))
+        ∙ ap (λ (l : List (List ℕ)). given ++ l) (given_append (take n (drop i ops)) (drop (i + n) ops) now)
+        ∙ ap (λ (l : List (List ℕ)). given ++ (l ++ all_given (drop (i + n) ops) (all_done (take n (drop i ops)) now))) (sym gave)
+        ∙ ap (λ (b : List ℕ). given ++ (more ++ all_given (drop (i + n) ops) b)) (sym led)
+        ∙ sym (append_assoc given more (all_given (drop (i + n) ops) next));
+    done = so_far.done ∙ ap (λ (l : List Operation). all_done l now) (sym (parts n)) ∙ done_append (take n (drop i ops)) (drop (i + n) ops) now
+        ∙ ap (all_done (drop (i + n) ops)) (sym led);
+    begun = λ later h. so_far.begun later (subst (λ (l : List Operation). AreBegun l now later) (parts n)
+        (begun_behind (take n (drop i ops)) (drop (i + n) ops) now later (subst (λ (b : List ℕ). AreBegun (drop (i + n) ops) b later) led h)));
+  }
+
+  -- some of the next n were begun
+  pub carried_begun : (n : ℕ) (later : List ℕ) → AreBegun (take n (drop i ops)) now later → AreBegun ops old later
+  carried_begun n later h = so_far.begun later (subst (λ (l : List Operation). AreBegun l now later) (parts n) (begun_first (take n (drop i ops)) (drop (i + n) ops) now later h))
+
+  -- no more of them was begun
+  pub carried_stopped : AreBegun ops old now
+  carried_stopped = so_far.begun now (begun_nothing (drop i ops) now)
+
+  -- these were all
+  pub carried_all : length ops ≤ i → (given ≡ all_given ops old) × (now ≡ all_done ops old)
+  carried_all end =
+      let none : drop i ops ≡ [] = drop_all i ops end in (
+        sym (so_far.all ∙ ap (λ (l : List Operation). given ++ all_given l now) none ∙ append-nil given),
+        sym (so_far.done ∙ ap (λ (l : List Operation). all_done l now) none),
+      )
+
+-- an operation within an array leaves it as long as it was
+pub length_done : (size : ℕ) (op : Operation) (bytes : List ℕ) → length bytes ≡ size → IsWithin size op → length (done_by op bytes) ≡ size
+length_done size (Read at count) bytes long within = long
+length_done size (Write at payload) bytes long within = length-written bytes at payload (omega (arith, long, within)) ∙ long
+length_done size (Zero at count) bytes long within = length-written bytes at _ (omega (arith, long, within, length_zeroes count)) ∙ long
+  where
+    length_zeroes : (n : ℕ) → length (zeroes n) ≡ n
+    length_zeroes n = length-replicate n 0
+
+-- the place of whole blocks, by the number of blocks before it
+pub whole_place : (b block at first : ℕ) → block ≡ b → 0 < block → at ≡ b * first → b * (at / block) ≡ at
+whole_place b block at first same some is =
+    let number : at / block ≡ first =
+    ap (λ (n : ℕ). at / n) same ∙ ap (λ (n : ℕ). n / b) (is ∙ mul_comm b first ∙ sym (add-zero (first * b))) ∙ div-mul-add first b 0 (subst (λ (n : ℕ). 0 < n) same some) in
+    ap (λ (n : ℕ). b * n) number ∙ sym is
+
+-- an operation that was done was done as far as its last byte
+pub part_whole : (op : Operation) (bytes : List ℕ) → IsPartOf op bytes (done_by op bytes)
+part_whole (Read at count) bytes = refl
+part_whole (Write at payload) bytes = begun_whole bytes at payload
+part_whole (Zero at count) bytes = begun_whole bytes at _
+
+length_begun : (size at : ℕ) (all bytes later : List ℕ) → length bytes ≡ size → at + length all ≤ size → IsBegun bytes at all later → length later ≡ size
+length_begun size at all bytes later long within begun =
+    let few : begun.0 ≤ length all = begun.1 in
+    let short : length (take begun.0 all) ≡ begun.0 = length-take-le begun.0 all few in
+    ap length begun.2 ∙ length-written bytes at (take begun.0 all) (omega (arith, long, within, short)) ∙ long
+
+pub length_part : (size : ℕ) (op : Operation) (bytes later : List ℕ) → length bytes ≡ size → IsWithin size op → IsPartOf op bytes later → length later ≡ size
+length_part size (Read at count) bytes later long within same = ap length same ∙ long
+length_part size (Write at payload) bytes later long within begun = length_begun size at payload bytes later long within begun
+length_part size (Zero at count) bytes later long within begun =
+    let all : length (zeroes count) ≡ count = length-replicate count 0 in
+    length_begun size at (zeroes count) bytes later long (omega (arith, within, all)) begun
+
+-- one more operation
+pub carried_one : (ops : List Operation) (old : List ℕ) (i : ℕ) (given : List (List ℕ)) (now next bytes : List ℕ) (op : Operation) → Carried ops old i given now → i < length ops → op ≡ get_or ops i op
+    → bytes ≡ given_by op now → next ≡ done_by op now → Carried ops old (i + 1) (given ++ bytes ∷ []) next
+carried_one ops old i given now next bytes op so_far more is gave led =
+    let front : take 1 (drop i ops) ≡ op ∷ [] = ap (take 1) (drop-cons ops i op more) ∙ ap (λ (x : Operation). x ∷ []) (sym is) in
+    carried_more ops old i given now so_far 1 (bytes ∷ []) next
+    (ap (λ (b : List ℕ). b ∷ []) gave ∙ ap (λ (l : List Operation). all_given l now) (sym front)) (led ∙ ap (λ (l : List Operation). all_done l now) (sym front))
+
+pub length_given : (ops : List Operation) (bytes : List ℕ) → length (all_given ops bytes) ≡ length ops
+length_given [] bytes = refl
+length_given (op ∷ ops) bytes = ap (λ (n : ℕ). suc n) (length_given ops (done_by op bytes))
+
+read_long : (size : ℕ) (op : Operation) (bytes : List ℕ) → length bytes ≡ size → IsWithin size op → length (given_by op bytes) ≡ read_len op
+read_long size (Read at count) bytes long within =
+    let rest : length (drop at bytes) ≡ length bytes - at = length-drop at bytes in
+    length-take-le count (drop at bytes) (omega (arith, rest, long, within))
+read_long size (Write at payload) bytes long within = refl
+read_long size (Zero at count) bytes long within = refl
+
+-- what operations within an array read is as long as they say
+pub given_lens : (size : ℕ) (ops : List Operation) (bytes : List ℕ) → length bytes ≡ size → All (IsWithin size) ops → map length (all_given ops bytes) ≡ map read_len ops
+given_lens size [] bytes long within = refl
+given_lens size (op ∷ ops) bytes long within =
+    let here = All-head (IsWithin size) op ops within in
+    ap (λ (n : ℕ). n ∷ map length (all_given ops (done_by op bytes))) (read_long size op bytes long here)
+    ∙ ap (λ (l : List ℕ). read_len op ∷ l) (given_lens size ops (done_by op bytes) (length_done size op bytes long here) (All-tail (IsWithin size) op ops within))
+
+-- a read of whole blocks, by their numbers
+module _ (b block at count : ℕ) (op : Operation) (is : op ≡ Read at count) (whole : ReadsWhole b op) (same : block ≡ b) (some : 0 < block) where
+  whole_read : IsWhole b (Read at count)
+  whole_read = subst (ReadsWhole b) is whole
+
+  pub read_count : b * (count / block) ≡ read_len op
+  read_count = whole_place b block count whole_read.count same some whole_read.len ∙ ap read_len (sym is)
+
+  pub read_given : (bytes : List ℕ) → bytes_at bytes (b * (at / block)) (b * (count / block)) ≡ given_by op bytes
+  read_given bytes =
+      ap (λ (n : ℕ). bytes_at bytes n (b * (count / block))) (whole_place b block at whole_read.first same some whole_read.place)
+      ∙ ap (bytes_at bytes at) (whole_place b block count whole_read.count same some whole_read.len) ∙ ap (λ (x : Operation). given_by x bytes) (sym is)
+
+  pub read_done : (bytes : List ℕ) → bytes ≡ done_by op bytes
+  read_done bytes = ap (λ (x : Operation). done_by x bytes) (sym is)
+
+pub lies_if : (may_lie : Bool) → (may_lie ≡ false → ⊥) → may_lie ≡ true
+lies_if true not = refl
+lies_if false not = absurd (not refl)
+
+-- the first n operations were carried out, and were all, or they were begun
+pub front_outcome : {T E : Type 0} (result : Result T E) (items : T → List (List ℕ)) (ops : List Operation) (n : ℕ) (bytes later : List ℕ) → n ≤ length ops
+    → MatchResult result (λ g. (items g ≡ all_given (take n ops) bytes) × (later ≡ all_done (take n ops) bytes)) (λ _. AreBegun (take n ops) bytes later)
+    → MatchResult result (λ g. (items g ≡ all_given (take (length (items g)) ops) bytes) × (later ≡ all_done (take (length (items g)) ops) bytes)) (λ _. AreBegun ops bytes later)
+front_outcome (Ok g) items ops n bytes later few h =
+    let many : length (items g) ≡ n = ap length h.0 ∙ length_given (take n ops) bytes ∙ length-take-le n ops few in
+    (h.0 ∙ ap (λ (k : ℕ). all_given (take k ops) bytes) (sym many), h.1 ∙ ap (λ (k : ℕ). all_done (take k ops) bytes) (sym many))
+front_outcome (Err e) items ops n bytes later few h = subst (λ (l : List Operation). AreBegun l bytes later) (take-append-drop n ops) (begun_first (take n ops) (drop n ops) bytes later h)
+
+-- The first `k` operations have their results, which are `given`. These lemmas are about the operations behind them.
+module _ (ops : List Operation) (given more : List (List ℕ)) (k : ℕ) (here : k ≡ length given) (most : length more ≤ length (take (length ops - k) (drop k ops))) where
+  behind : take (length ops - k) (drop k ops) ≡ drop k ops
+  behind = take_all (length ops - k) (drop k ops) (let long : length (drop k ops) ≡ length ops - k = length-drop k ops in omega (arith, long))
+
+  slice_is : take (length more) (take (length ops - k) (drop k ops)) ≡ take (length more) (drop (length given) ops)
+  slice_is = ap (take (length more)) (behind ∙ ap (λ (i : ℕ). drop i ops) here)
+
+  few_more : length more ≤ length ops - length given
+  few_more = subst (λ (i : ℕ). length more ≤ length ops - i) here (subst (λ (n : ℕ). length more ≤ n) (ap length behind ∙ length-drop k ops) most)
+
+pub slice_few : (ops : List Operation) (given more : List (List ℕ)) (k : ℕ) → k ≡ length given → length given ≤ length ops → length more ≤ length (take (length ops - k) (drop k ops)) → length (given ++ more) ≤ length ops
+slice_few ops given more k here few most =
+    let less : length more ≤ length ops - length given = few_more ops given more k here most in omega (arith, length-append given more, less, few)
+
+pub slice_lens : (ops : List Operation) (given more : List (List ℕ)) (k : ℕ) → k ≡ length given → length more ≤ length (take (length ops - k) (drop k ops)) → map length given ≡ map read_len (take (length given) ops)
+    → map length more ≡ map read_len (take (length more) (take (length ops - k) (drop k ops))) → map length (given ++ more) ≡ map read_len (take (length (given ++ more)) ops)
+slice_lens ops given more k here most first second =
+    map-append length given more ∙ ap (λ (l : List ℕ). l ++ map length more) first
+    ∙ ap (λ (l : List ℕ). map read_len (take (length given) ops) ++ l) (second ∙ ap (map read_len) (slice_is ops given more k here most))
+    ∙ sym (map-append read_len (take (length given) ops) (take (length more) (drop (length given) ops)))
+    ∙ ap (map read_len) (sym (take-add (length given) (length more) ops)) ∙ ap (λ (n : ℕ). map read_len (take n ops)) (sym (length-append given more))
+
+pub carried_slice : (ops : List Operation) (old : List ℕ) (given : List (List ℕ)) (now : List ℕ) → Carried ops old (length given) given now → (k : ℕ) → k ≡ length given → (more : List (List ℕ)) (next : List ℕ)
+    → length more ≤ length (take (length ops - k) (drop k ops)) → more ≡ all_given (take (length more) (take (length ops - k) (drop k ops))) now → next ≡ all_done (take (length more) (take (length ops - k) (drop k ops))) now
+    → Carried ops old (length (given ++ more)) (given ++ more) next
+carried_slice ops old given now so_far k here more next most gave led =
+    let same = slice_is ops given more k here most in
+    subst (λ (n : ℕ). Carried ops old n (given ++ more) next) (sym (length-append given more))
+    (carried_more ops old (length given) given now so_far (length more) more next (gave ∙ ap (λ (l : List Operation). all_given l now) same) (led ∙ ap (λ (l : List Operation). all_done l now) same))

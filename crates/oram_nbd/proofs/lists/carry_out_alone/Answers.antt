@@ -1,0 +1,19 @@
+use Rattle.std.proofs.Common.{◌<◌, ap, length, ◌∙◌, arith}
+use Rattle.oram_nbd.proofs.Beside.{weaker}
+use Rattle.oram_nbd.proofs.Carrying.{read_count, read_done, read_given}
+use Rattle.oram_nbd.proofs.lists.carry_out_alone.Goals as goal
+
+pub returns-in_ok-bytes-in-Read-clause-len : goal.returns-in_ok-bytes-in-Read-clause-len
+returns-in_ok-bytes-in-Read-clause-len g c =
+    let same = c.from-block.ensures ∙ c.block_bytes.ensures.value in
+    let some : 0 < c.from-block.result = omega (arith, c.from-block.ensures, c.block_bytes.ensures.some) in
+    ap length c.from_vec.ensures ∙ c.in_ok-bytes-in-Read.ensures.len ∙ read_count _ c.from-block.result _ _ c.args.operation.now c.in-Read.is c.requires.reads same some
+
+pub returns-in_ok-bytes-in-Read-clause-goes : goal.returns-in_ok-bytes-in-Read-clause-goes
+returns-in_ok-bytes-in-Read-clause-goes g c =
+    let same = c.from-block.ensures ∙ c.block_bytes.ensures.value in
+    let some : 0 < c.from-block.result = omega (arith, c.from-block.ensures, c.block_bytes.ensures.some) in
+    weaker c.in_ok-bytes-in-Read.ensures.goes (λ may_lie world bytes later h step. (
+      (c.from_vec.ensures ∙ step.1 ∙ read_given _ c.from-block.result _ _ c.args.operation.now c.in-Read.is c.requires.reads same some bytes, step.0 ∙ read_done _ c.from-block.result _ _ c.args.operation.now c.in-Read.is c.requires.reads same some bytes),
+      λ e. cc,
+    ))

@@ -1,0 +1,124 @@
+//! Carries out operations on byte ranges, as many at once as are on whole blocks.
+
+ghost use Rattle.std.specs.Prelude.{◌≡◌, ◌<◌, ◌≤◌, All, length, map, take, IfOk, IsTrue, MatchResult, OnErr, OnOk};
+ghost use Rattle.oram_nbd.specs.Beside.{GoesOn, IsStopped};
+ghost use Rattle.oram_nbd.specs.Calls.{FailsByLies, IsCall};
+ghost use Rattle.oram_nbd.specs.Operations.{AreBegun, IsPartOf, IsWhole, IsWithin, ReadsWhole, all_done, all_given, done_by, given_by, read_len};
+
+use crate::disk::BlockDevice;
+use crate::faults::DiskFault;
+use crate::operations::Operation;
+use crate::ranges::{read_blocks, write_range, zero_range};
+use oram_bytes::Bytes;
+use std::alloc::Global;
+
+/// Returns whether the range of an operation is one of whole blocks.
+fn is_whole(block: u64, operation: &Operation) -> bool
+    requires { 0 < block }
+    ensures { IsTrue result → IsWhole block operation.now }
+{
+    operation.place() % block == 0 && operation.len() % block == 0
+}
+
+/// Returns how many operations at the front are on whole blocks.
+fn whole_front(block: u64, operations: &[Operation]) -> usize
+    requires { 0 < block }
+    ensures most { result ≤ length operations.now }
+    ensures whole { All (IsWhole block) (take result operations.now) }
+{
+    for (number, operation) in operations.iter().enumerate() {
+        if !is_whole(block, operation) {
+            return number;
+        }
+    }
+    operations.len()
+}
+
+/// Carries out one operation alone. A write that isn't of whole blocks takes more than one call of the device.
+fn carry_out_alone<D: BlockDevice>(
+    alloc: Global,
+    disk: &mut D,
+    operation: &Operation,
+) -> Result<Bytes, DiskFault>
+    requires within { IsWithin (D.size disk.old) operation.now }
+    requires reads { ReadsWhole (D.block_len disk.old) operation.now }
+    ensures len { IfOk result (λ given. length given ≡ read_len operation.now) }
+    ensures goes { GoesOn D.had D.hears D.holds disk.old (λ may_lie bytes later. MatchResult result
+        (λ given. (given ≡ given_by operation.now bytes) × (later ≡ done_by operation.now bytes))
+        (λ _. IsPartOf operation.now bytes later) × FailsByLies result may_lie) disk.new }
+    ensures call { IsCall D.block_len D.size D.failed (IsStopped D.stops disk.new) disk.old result disk.new }
+{
+    match operation {
+        Operation::Read { at, count } => {
+            let block = u64::from(disk.block_bytes());
+            let bytes = read_blocks(alloc, disk, *at / block, *count / block)?;
+            Ok(Bytes::from_vec(bytes))
+        }
+        Operation::Write { at, payload } => {
+            write_range(alloc, disk, *at, payload.as_slice())?;
+            Ok(Bytes::from_vec(Vec::new(alloc)))
+        }
+        Operation::Zero { at, count } => {
+            zero_range(alloc, disk, *at, *count)?;
+            Ok(Bytes::from_vec(Vec::new(alloc)))
+        }
+    }
+}
+
+/// Carries out the first operations: those at the front that are on whole blocks, by one call of the device, or else the
+/// first one alone. Returns what each of them read.
+fn carry_out_front<D: BlockDevice>(
+    alloc: Global,
+    disk: &mut D,
+    operations: &[Operation],
+) -> Result<Vec<Bytes>, DiskFault>
+    requires some { 0 < length operations.now }
+    requires within { All (IsWithin (D.size disk.old)) operations.now }
+    requires reads { All (ReadsWhole (D.block_len disk.old)) operations.now }
+    ensures some { IfOk result (λ given. 0 < length given.items) }
+    ensures most { IfOk result (λ given. length given.items ≤ length operations.now) }
+    ensures len { IfOk result (λ given. map length given.items ≡ map read_len (take (length given.items) operations.now)) }
+    ensures goes { GoesOn D.had D.hears D.holds disk.old (λ may_lie bytes later. MatchResult result
+        (λ given. (given.items ≡ all_given (take (length given.items) operations.now) bytes) × (later ≡ all_done (take (length given.items) operations.now) bytes))
+        (λ _. AreBegun operations.now bytes later) × FailsByLies result may_lie) disk.new }
+    ensures call { IsCall D.block_len D.size D.failed (IsStopped D.stops disk.new) disk.old result disk.new }
+{
+    let count = whole_front(u64::from(disk.block_bytes()), operations);
+    if count > 0 {
+        return disk.carry_out(alloc, &operations[..count]);
+    }
+    let mut given = Vec::with_capacity(alloc, 1)?;
+    let bytes = carry_out_alone(alloc, disk, &operations[0])?;
+    if given.push(bytes).is_err() {
+        return Err(DiskFault::OutOfMemory);
+    }
+    Ok(given)
+}
+
+/// Carries out operations, one after the other, and returns what each of them read. Those that are on whole blocks go
+/// ahead together, up to the next one that isn't. After an `Err` the first ones are done, one may be done in part, and the
+/// others aren't begun.
+pub(crate) fn carry_out_all<D: BlockDevice>(
+    alloc: Global,
+    disk: &mut D,
+    operations: &[Operation],
+) -> Result<Vec<Bytes>, DiskFault>
+    requires within { All (IsWithin (D.size disk.old)) operations.now }
+    requires reads { All (ReadsWhole (D.block_len disk.old)) operations.now }
+    ensures len { IfOk result (λ given. map length given.items ≡ map read_len operations.now) }
+    ensures goes { GoesOn D.had D.hears D.holds disk.old (λ may_lie bytes later. MatchResult result
+        (λ given. (given.items ≡ all_given operations.now bytes) × (later ≡ all_done operations.now bytes))
+        (λ _. AreBegun operations.now bytes later) × FailsByLies result may_lie) disk.new }
+    ensures refused { OnOk result (D.failed disk.old → ⊥) }
+    ensures call { IsCall D.block_len D.size D.failed (IsStopped D.stops disk.new) disk.old result disk.new }
+{
+    if disk.has_failed() {
+        return Err(DiskFault::Failed);
+    }
+    let mut given = Vec::with_capacity(alloc, operations.len())?;
+    while given.len() < operations.len() {
+        let mut more = carry_out_front(alloc, disk, &operations[given.len()..])?;
+        given.append(&mut more)?;
+    }
+    Ok(given)
+}

@@ -1,7 +1,0 @@
-use Rattle.std.proofs.Common.{◌≡◌, ◌≤◌}
-use Rattle.oram_volume.specs.RangeCommands.{write_commands}
-use Rattle.oram_volume.proofs.commands.writes.Given as goal
-
--- the commands of the first blocks
-abbrev pub invariant-loop-number : goal.invariant-loop-number
-invariant-loop-number l = record { few : l.number ≤ l.count; so_far : l.commands.items ≡ write_commands l.block l.first l.number l.payload }

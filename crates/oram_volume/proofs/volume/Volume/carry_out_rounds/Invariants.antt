@@ -1,0 +1,22 @@
+use Rattle.std.proofs.Common.{◌≡◌, ◌++◌, List}
+use Rattle.std.specs.List.{flat_map}
+use Rattle.oram_core.specs.Core.{IsSameDevice}
+use Rattle.oram_nbd.specs.Beside.{GoesOn}
+use Rattle.oram_semantics.specs.declared.events.Command.{Command}
+use Rattle.oram_session.specs.Honesty.{HasFailed}
+use Rattle.oram_volume.specs.CarriedOut.{Had, after_commands, bodies_from}
+use Rattle.oram_volume.specs.DiskCalls.{data_of}
+use Rattle.oram_volume.specs.HeldArrays.{Hears, HoldsArray, running}
+use Rattle.oram_volume.specs.RangeCommands.{all_commands, rest_of}
+use Rattle.oram_volume.proofs.volume.Volume.carry_out_rounds.Given as goal
+
+abbrev pub invariant-loop-round_number : goal.invariant-loop-round_number
+invariant-loop-round_number g l = record {
+  kept : IsSameDevice l.fn.self.core l.self.core;
+  still : HasFailed l.fn.self.core.state → HasFailed l.self.core.state;
+  done : List Command;
+  split : all_commands l.fn.self.core.device.block_bytes l.operations ≡ done ++ rest_of l.fn.self.core.device.block_bytes l.operations l.cursor.operation l.cursor.block;
+  so_far : GoesOn (Had g.B.BatchLink.batches g.K.Keeper.reads_back) Hears HoldsArray (running g.S.Sealer.cipher g.T.Tape.words l.fn.self)
+      (λ may_lie array later. (l.found.items ≡ flat_map data_of (bodies_from l.fn.self.core.device done array)) × (later ≡ after_commands l.fn.self.core.device done array))
+      (running g.S.Sealer.cipher g.T.Tape.words l.self);
+}
