@@ -5,7 +5,7 @@ ghost use Rattle.oram_hash.specs.Path.{path_of};
 
 use crate::leaves::has_leaf;
 use crate::lists;
-use crate::paths::{MadePath, made_path};
+use crate::paths::{bucket_len, made_path};
 use oram_geometry::Device;
 use oram_hash::{HashFault, PathView, check_path, node_digest, rebuild};
 use rows::{Groups, Page, RowFault, RowWords};
@@ -63,6 +63,13 @@ fn show(checked: Result<PathView<'_>, HashFault>, page: &mut Page) {
     }
 }
 
+/// Flips the lowest bit of a byte, if there is one at this place.
+fn flip(bytes: &mut [u8], place: usize) {
+    if let Some(byte) = bytes.get_mut(place) {
+        *byte ^= 1;
+    }
+}
+
 /// `hash digest BYTES`: writes the digest of a record.
 fn digest(alloc: Global, words: &mut RowWords, page: &mut Page) -> Result<(), RowFault> {
     let record = words.bytes(alloc);
@@ -108,14 +115,9 @@ impl Hashes {
     ) -> Result<(), RowFault> {
         self.leaf = words.short();
         let fills = lists::fills(alloc, words)?;
-        let MadePath { bytes, root } = made_path(
-            alloc,
-            self.leaf,
-            device.record_len(0) - 64,
-            &fills,
-        )?;
-        self.bytes = bytes;
-        page.bytes(&root);
+        let made = made_path(alloc, self.leaf, bucket_len(device), &fills)?;
+        page.bytes(&made.root);
+        self.bytes = made.bytes;
         Ok(())
     }
 
@@ -155,11 +157,11 @@ impl Hashes {
         let mut bytes = self.bytes.as_slice().to_vec(alloc)?;
         let mut said = Page::new(alloc);
         for k in 0..bytes.len() {
-            bytes[k] ^= 1;
+            flip(&mut bytes, k);
             show(checked(device, self.leaf, &root, &bytes)?, &mut said);
             groups.add(k as u64, &said, page);
             said.clear();
-            bytes[k] ^= 1;
+            flip(&mut bytes, k);
         }
         groups.end(page);
         Ok(())
@@ -201,7 +203,7 @@ impl Hashes {
         prove!(device.trees() > 0);
         let root = words.array(alloc);
         let fills = lists::fills(alloc, words)?;
-        let sealed = sealed(alloc, &fills, device.record_len(0) - 64)?;
+        let sealed = sealed(alloc, &fills, bucket_len(device))?;
         let root = self.take_buckets(alloc, device, &root, &sealed)?;
         page.bytes(&root);
         Ok(())

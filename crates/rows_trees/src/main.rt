@@ -20,17 +20,19 @@ use rows::{Page, RowFault, RowWords, Table, run_table};
 use std::alloc::Global;
 use std::process::ExitCode;
 
-/// The values that the layers keep from row to row, for one device.
+/// A device, and the values that the layers keep for it from row to row.
 #[derive(Drop)]
 struct Layers {
+    device: Device,
     hashes: Hashes,
     stashes: Stashes,
     trees: Trees,
 }
 
 impl Layers {
-    fn new(alloc: Global) -> Layers {
+    fn new(alloc: Global, device: Device) -> Layers {
         Layers {
+            device,
             hashes: Hashes::new(alloc),
             stashes: Stashes::new(alloc),
             trees: Trees::new(alloc),
@@ -41,11 +43,11 @@ impl Layers {
     fn answer(
         &mut self,
         alloc: Global,
-        device: &Device,
         layer: &str,
         words: &mut RowWords,
         page: &mut Page,
     ) -> Result<(), RowFault> {
+        let device = &self.device;
         match layer {
             "hash" => self.hashes.answer(alloc, device, words, page),
             "stash" => self.stashes.answer(alloc, device, words, page),
@@ -56,11 +58,11 @@ impl Layers {
     }
 }
 
-/// The calls of these rows.
+/// The calls of these rows. The layers lie in a box, so that a function that replaces them has one value to drop, and so is
+/// proved sooner.
 #[derive(Drop)]
 struct Calls {
-    device: Option<Device>,
-    layers: Layers,
+    layers: Option<Box<Layers>>,
 }
 
 impl Calls {
@@ -72,12 +74,11 @@ impl Calls {
         page: &mut Page,
     ) -> Result<(), RowFault> {
         let [blocks, block_bytes, slots, top, lifetime] = words.five_numbers();
-        self.layers = Layers::new(alloc);
-        self.device = match Device::new(blocks, block_bytes, slots, top, lifetime) {
+        self.layers = match Device::new(blocks, block_bytes, slots, top, lifetime) {
             Ok(device) => {
                 page.word("ready");
                 page.number(device.trees());
-                Some(device)
+                Some(Box::new(alloc, Layers::new(alloc, device))?)
             }
             Err(fault) => {
                 page.word("shape");
@@ -100,17 +101,13 @@ impl Table for Calls {
         if call == "device" {
             return self.begin(alloc, words, page);
         }
-        match &self.device {
-            Some(device) => self.layers.answer(alloc, device, call, words, page),
+        match &mut self.layers {
+            Some(layers) => layers.answer(alloc, call, words, page),
             None => Err(RowFault::NoRow),
         }
     }
 }
 
 fn main(rt: HostRuntime) -> ExitCode {
-    let mut calls = Calls {
-        device: None,
-        layers: Layers::new(rt.alloc()),
-    };
-    run_table(&rt, &mut calls)
+    run_table(&rt, &mut Calls { layers: None })
 }

@@ -1,5 +1,6 @@
 //! Paths made by hand.
 
+use oram_geometry::Device;
 use oram_hash::{NO_DIGEST, node_digest};
 use std::alloc::{AllocError, Global};
 
@@ -11,6 +12,11 @@ const BESIDE: [u8; 32] = [9; 32];
 pub struct MadePath {
     pub bytes: Vec<u8>,
     pub root: [u8; 32],
+}
+
+/// Returns the length of a bucket that is sealed by [`oram_bucket::PlainSeal`].
+pub fn bucket_len(device: &Device) -> usize {
+    device.record_len(0) - 64
 }
 
 /// Returns the two digests at the end of a record above the leaf's.

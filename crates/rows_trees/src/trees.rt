@@ -7,13 +7,13 @@ mod accesses;
 mod random;
 
 use crate::lists::short_of;
-use crate::paths::{MadePath, made_path};
-use crate::trees::accesses::{Asked, Target, access, told_host};
+use crate::paths::{MadePath, bucket_len, made_path};
+use crate::trees::accesses::{Asked, Target, access, stored, told_host};
 use oram_bucket::{Block, PlainSeal};
 use oram_geometry::Device;
 use oram_host::Server;
 use oram_tree::{Edit, FormatFault, Lookup, PartsFault, Tree, TreeParts};
-use oram_wire::{HostRequest, ListSink, Sink, SinkFault, store_header};
+use oram_wire::{HostRequest, ListSink, Sink, SinkFault};
 use rows::{Page, RowFault, RowWords};
 use std::alloc::{AllocError, Global};
 
@@ -178,25 +178,34 @@ fn host_with_path(
     leaf: u32,
     path: &[u8],
 ) -> Result<Server, RowFault> {
+    let shape = shape_of(device, number)?;
+    let mut host = Server::new(alloc);
+    told_host(alloc, &mut host, &shape.encode(alloc)?)?;
+    stored(alloc, &mut host, number, leaf, path)?;
+    Ok(host)
+}
+
+/// Returns the request that gives a tree its shape.
+fn shape_of(device: &Device, number: u8) -> Result<HostRequest, RowFault> {
     check_number(device, number)?;
-    let shape = HostRequest::Shape {
+    Ok(HostRequest::Shape {
         tree: number,
         depth: device.depth(number),
         record_len: device.record_len(0) as u32,
-    };
-    let mut host = Server::new(alloc);
-    told_host(alloc, &mut host, &shape.encode(alloc)?)?;
-    let mut store = store_header(number, leaf).to_vec(alloc)?;
-    store.extend_from_slice(path)?;
-    told_host(alloc, &mut host, &store)?;
-    Ok(host)
+    })
+}
+
+/// Returns the depth of a tree.
+fn depth_in(device: &Device, number: u8) -> Result<usize, RowFault> {
+    check_number(device, number)?;
+    Ok(usize::from(device.depth(number)))
 }
 
 /// Makes a path of empty buckets.
 fn empty_path(alloc: Global, device: &Device, number: u8, leaf: u32) -> Result<MadePath, RowFault> {
-    check_number(device, number)?;
-    let empty = vec![in alloc; 0; usize::from(device.depth(number)) + 1]?;
-    Ok(made_path(alloc, leaf, device.record_len(0) - 64, &empty)?)
+    let mut empty = vec![in alloc; 0; depth_in(device, number)?]?;
+    empty.push(0)?;
+    Ok(made_path(alloc, leaf, bucket_len(device), &empty)?)
 }
 
 impl Trees {

@@ -17,12 +17,17 @@ pub fn next(state: &mut u64) -> u32 {
     (*state >> 33) as u32
 }
 
+/// Returns the next leaf.
+fn next_leaf(state: &mut u64) -> u32 {
+    next(state) % LEAVES
+}
+
 /// Makes 0 to 60 blocks, by rising address: the address and the leaf of each.
 fn next_blocks(alloc: Global, state: &mut u64) -> Result<Vec<(u32, u32)>, AllocError> {
     let mut blocks = Vec::new(alloc);
     for k in 0..next(state) % 61 {
         let address = 2 * k + next(state) % 2;
-        blocks.push((address, next(state) % LEAVES))?;
+        blocks.push((address, next_leaf(state)))?;
     }
     Ok(blocks)
 }
@@ -100,9 +105,9 @@ fn left_over(blocks: &[(u32, u32)], lists: &[Vec<u32>]) -> usize {
         .count()
 }
 
-/// Makes a device whose buckets have `slots` slots.
-fn device_with(slots: u32) -> Result<Device, RowFault> {
-    let (count, slots) = (u64::from(LEAVES), u64::from(slots));
+/// Makes the device of a round, whose buckets have 1 to 4 slots.
+fn device_of(round: u32) -> Result<Device, RowFault> {
+    let (count, slots) = (u64::from(LEAVES), u64::from(round % 4) + 1);
     match Device::new(count, 16, slots, count, 1) {
         Ok(device) => Ok(device),
         Err(_) => Err(RowFault::NoRow),
@@ -111,8 +116,8 @@ fn device_with(slots: u32) -> Result<Device, RowFault> {
 
 /// Returns whether both evict the next stash alike.
 fn is_alike(alloc: Global, round: u32, state: &mut u64) -> Result<bool, RowFault> {
-    let device = device_with(1 + round % 4)?;
-    let leaf = next(state) % LEAVES;
+    let device = device_of(round)?;
+    let leaf = next_leaf(state);
     let blocks = next_blocks(alloc, state)?;
     let (lists, stays) = eviction(alloc, &device, leaf, &blocks)?;
     let plain = plain_eviction(alloc, &device, leaf, &blocks)?;

@@ -75,7 +75,7 @@ fn fetched(alloc: Global, host: &mut Server, tree: u8, leaf: u32) -> Result<Vec<
 }
 
 /// Stores the records of a path.
-fn stored(
+pub fn stored(
     alloc: Global,
     host: &mut Server,
     tree: u8,
