@@ -30,7 +30,7 @@ use Rattle.oram_rounds.proofs.Tries.{among_front}
 
 -- what a longer past has
 
-past_join : (past : List Step) (early since : List Happening) → past_after past (early ++ since) ≡ past_after (past_after past early) since
+pub past_join : (past : List Step) (early since : List Happening) → past_after past (early ++ since) ≡ past_after (past_after past early) since
 past_join past [] since = refl
 past_join past (h ∷ early) since = past_join (step_of h.event h.shown ∷ past) early since
 
@@ -63,7 +63,7 @@ accepts_none Lost x past none = accepted_cons (step_of Lost x) past ∙ if_same 
 accepts_none Reopen x past none = accepted_cons (step_of Reopen x) past ∙ if_same (is_accepted x.note) (accepted past)
 accepts_none Retry x past none = accepted_cons (step_of Retry x) past ∙ if_same (is_accepted x.note) (accepted past)
 
-accepted_same : (since : List Happening) (past : List Step) → SubmitsNone since → accepted (past_after past since) ≡ accepted past
+pub accepted_same : (since : List Happening) (past : List Step) → SubmitsNone since → accepted (past_after past since) ≡ accepted past
 accepted_same [] past none = refl
 accepted_same (h ∷ since) past none =
     accepted_same since (step_of h.event h.shown ∷ past) none.1 ∙ accepts_none h.event h.shown past none.0

@@ -2,3 +2,4 @@ pub mod Sends
 pub mod Lives
 pub mod TwoLives
 pub mod KeptCommands
+pub mod Replied

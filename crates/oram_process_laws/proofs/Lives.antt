@@ -41,15 +41,15 @@ along v (h ∷ run) s t leads = (leads.0, leads.1.moves, along v run leads.0 t l
 
 -- no command is submitted in a longer run
 
-none_more : (run : List Happening) (h : Happening) → SubmitsNone run → is_submission h.event ≡ false → SubmitsNone (run ++ h ∷ [])
+pub none_more : (run : List Happening) (h : Happening) → SubmitsNone run → is_submission h.event ≡ false → SubmitsNone (run ++ h ∷ [])
 none_more [] h none last = (last, tt)
 none_more (first ∷ run) h none last = (none.0, none_more run h none.1 last)
 
-told_is_none : (event : Event) → (event ≡ Reopen) ⊎ (event ≡ Retry) → is_submission event ≡ false
+pub told_is_none : (event : Event) → (event ≡ Reopen) ⊎ (event ≡ Retry) → is_submission event ≡ false
 told_is_none event (inl is) = ap is_submission is
 told_is_none event (inr is) = ap is_submission is
 
-outcome_is_none : (o : Outcome) → is_submission (event_of o) ≡ false
+pub outcome_is_none : (o : Outcome) → is_submission (event_of o) ≡ false
 outcome_is_none (Ok bytes) = refl
 outcome_is_none (Err fault) = refl
 
@@ -60,7 +60,7 @@ module _ (v : Setting) (trees : List Tree) (device : IsDevice v.scheme.device) (
     steps_are_right v trees (map (λ (h : Happening). h.event) run) (map (λ (h : Happening). h.shown) run) device made (along v.scheme run (new_state v trees) core leads),
   )
 
-  leads_on : (run : List Happening) (s t : State) (h : Happening) → Leads v.scheme (new_state v trees) run s → Steps v.scheme s h.event h.shown t
+  pub leads_on : (run : List Happening) (s t : State) (h : Happening) → Leads v.scheme (new_state v trees) run s → Steps v.scheme s h.event h.shown t
       → Leads v.scheme (new_state v trees) (run ++ h ∷ []) t
   leads_on run s t h leads step = FoldsTo-push (λ a k b. Steps v.scheme a k.event k.shown b) (new_state v trees) run s h t leads step
 

@@ -1,3 +1,4 @@
 pub mod Lives
 pub mod KeptCommands
+pub mod Replied
 pub mod LivesExample

@@ -1,5 +1,5 @@
--- Processes, one after the other, each begun with what is read back where the one before ended: one run of the core goes
--- through all of them, and all messages that leave are of this run.
+-- Each process begins with what is read back after the one before. One run of the core goes through all of them, and each
+-- message belongs to it.
 use Rattle.std.specs.Prelude.{◌≡◌, ◌⊎◌, ℕ, zero, suc, ◌<◌, ◌^◌, Bool, true, false, List, [], ◌∷◌, ◌++◌, length, map, Some}
 use Rattle.std.specs.List.{AllByRecursion, FoldsTo, flat_map}
 use Rattle.oram_geometry.specs.Sizes.{IsDevice}
@@ -64,6 +64,7 @@ happens_at (Acts (Misses o exchanges)) = []
 happens_at (Acts (GoesAhead exchanges)) = []
 happens_at (Acts (Keeps done)) = []
 
+-- the run of the core in some deeds
 abbrev pub run_of : List Deed → List Happening
 run_of deeds = flat_map happens_at deeds
 
@@ -72,6 +73,7 @@ abbrev pub leaves_at : Deed → List (List ℕ)
 leaves_at (Asks a) = []
 leaves_at (Acts act) = bodies_of (exchanges_of act)
 
+-- the messages that leave it in some deeds
 abbrev pub left_by : List Deed → List (List ℕ)
 left_by deeds = flat_map leaves_at deeds
 
@@ -97,6 +99,7 @@ BeginsWith v reads_back stores core p =
 
 -- for a device, a link that carries batches, and a keeper that says which bytes may be read back
 module _ (v : Scheme) {B K : Type 0} (batches : B → List (List ℕ) → BatchOutcome → List Exchange → B → Type 0) (reads_back : K → List ℕ → Type 0) where
+  -- what a process does in a deed
   abbrev pub Goes : Process B K → Deed → Process B K → Type 0
   Goes p (Asks a) q = Submits v p a q
   Goes p (Acts act) q = Does v batches reads_back p act q
@@ -196,10 +199,9 @@ pub record KeepsToRun (v : Setting) (trees : List Tree) {B K : Type 0} (batches 
   pub kept : (bytes : List ℕ) (exchanges : List Exchange) → Ends v.scheme batches reads_back p bytes exchanges
       → IsKeptOnRun v trees run (left ++ bodies_of exchanges) p.link.kept all_kept bytes
 
--- However many processes there are: each message that leaves one of them is one that this run has sent by then, or will send
--- next. It is a STORE of the file that is read back if the process ends then, the FETCH that is outstanding, or the first
--- FETCH of a command that waits. And each STORE that has left
--- any of the processes so far is one that this run has sent, so a nonce seals one record in all of them.
+-- Each message that leaves a process is one that the run has sent, or will send next: a STORE in the file that is read back, the
+-- outstanding FETCH, or the first FETCH of a command that waits. And each STORE that has left any of the processes so far is
+-- one that this run has sent, so a nonce seals one record in all of them.
 -- What a process has heard since its last keeping is forgotten when it ends, so a FETCH may have left that is of no later
 -- run. But if no command was submitted since then, as none is in a round, the run of that FETCH has no other commands than
 -- the core that is read back, and these fix its path (KeptCommandsFixMessages).

@@ -2,21 +2,37 @@
 ghost use Rattle.oram_process_laws.specs.KeptCommands.{KeptCommandsFixMessages, NextFetchesAreOfCommands};
 ghost use Rattle.oram_process_laws.specs.Lives.{LivesAreOneRun, MessagesAreOfOneRun};
 ghost use Rattle.oram_process_laws.specs.LivesExample.{TwoLivesExample};
+ghost use Rattle.oram_process_laws.specs.Replied.{OneTicketHasOneReply, RepliesAreOfOneRun};
 
 use oram_rounds::{BatchLink, Keeper};
 
 /// A law about definitions: whatever processes there are, each begun with what is read back where the one before ended, and
 /// wherever each ends, one run leads from the formatted core to the core at each moment of each process. All that it
-/// shows is right, so each reply that a process gives is one of this run, also one since the last keeping.
+/// shows is right. What [`replies_are_of_one_run`] says of the replies goes beyond that, since the run leaves out what a
+/// process did after its last keeping.
 pub fn lives_are_one_run<B: BatchLink, K: Keeper>()
     ensures { LivesAreOneRun B.batches K.reads_back }
 {}
 
-/// A law about definitions: each message that leaves one of these processes is one that this run has sent by then, a STORE
-/// that is kept or the FETCH that is outstanding; or it is the first FETCH of a command that waits. Each STORE that has left any of them is one that this run has sent. What
-/// is read back is a core that the run has led to on its way, with all STOREs that may leave.
+/// A law about definitions: each message that leaves a process is one that the run has sent, or will send next: a STORE in the
+/// file that is read back, the outstanding FETCH, or the first FETCH of a command that waits. Each STORE that has left any of
+/// them is one that this run has sent. What is read back is a core that the run has led to on its way, with all STOREs that
+/// may leave.
 pub fn messages_are_of_one_run<B: BatchLink, K: Keeper>()
     ensures { MessagesAreOfOneRun B.batches K.reads_back }
+{}
+
+/// A law about definitions: each reply that any of these processes has given is to a command that this run has accepted. It is
+/// the plain array's reply after the commands with lower tickets, or says that the device has failed. That holds also of the
+/// replies that a process gave after its last keeping, though what it did then is no part of the run.
+pub fn replies_are_of_one_run<B: BatchLink, K: Keeper>()
+    ensures { RepliesAreOfOneRun B.batches K.reads_back }
+{}
+
+/// A law about definitions: so two replies with the same ticket are the same, whichever processes gave them, unless one of
+/// them says that the device has failed.
+pub fn one_ticket_has_one_reply()
+    ensures { OneTicketHasOneReply }
 {}
 
 /// A law about definitions: if a run has no submission since some moment, all its messages are for the paths that the

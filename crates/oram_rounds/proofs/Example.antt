@@ -32,13 +32,13 @@ ones = replicate 88 1
 abbrev zeros : List ℕ
 zeros = replicate 88 0
 
-first_tree : 0 < trees_of one_block.device
+pub first_tree : 0 < trees_of one_block.device
 first_tree = omega (arith, one_tree)
 
-first_leaf : 0 < 2 ^ depth_of one_block.device 0
+pub first_leaf : 0 < 2 ^ depth_of one_block.device 0
 first_leaf = let P : ℕ → Type 0 = λ d. 0 < 2 ^ d in subst P no_depth (omega arith)
 
-one_path : (bytes : List ℕ) → length bytes ≡ 88 → length bytes ≡ (depth_of one_block.device 0 + 1) * 88
+pub one_path : (bytes : List ℕ) → length bytes ≡ 88 → length bytes ≡ (depth_of one_block.device 0 + 1) * 88
 one_path bytes long = let P : ℕ → Type 0 = λ d. length bytes ≡ (d + 1) * 88 in subst P no_depth long
 
 abbrev stores_ones : IsPathStore one_block.device 88 (store_body 0 0 ones)
@@ -51,7 +51,7 @@ fetches = record { tree = 0; leaf = 0; tree_in = first_tree; leaf_in = first_lea
 now_caught : CatchesUp one_block new_host [] new_host
 now_caught = let held = session_example.1 in record { records = held.world.records; keeps = held.hosts; paths = tt; ahead = held.hosts }
 
-whole_record : 88 ≡ record_len one_block
+pub whole_record : 88 ≡ record_len one_block
 whole_record = eighty_eight
 
 caught : (later : Host) × CatchesUp one_block new_host (store_body 0 0 ones ∷ []) later
@@ -61,11 +61,11 @@ caught =
 
 -- the record that the STORE leaves is as long as records are
 
-node_zero_by : node_on 0 0 0 ≡ 0
+pub node_zero_by : node_on 0 0 0 ≡ 0
 unfolding node_on
 node_zero_by = refl
 
-node_zero : node_on (depth_of one_block.device 0) 0 0 ≡ 0
+pub node_zero : node_on (depth_of one_block.device 0) 0 0 ≡ 0
 node_zero = let P : ℕ → Type 0 = λ d. node_on d 0 0 ≡ 0 in subst P no_depth node_zero_by
 
 long_at : (depth : ℕ) → length (record_at (record { depth = depth; leaf = 0; record_len = 88; bytes = ones }) 0) ≡ 88
@@ -137,6 +137,7 @@ call = record {
   record_len = refl;
   does = inr (inl (record {
     path = fetches;
+    not_ahead = λ none. none;
     outcome = Ok (payload_answer zeros ∷ []);
     batch = ((new_server, record { answer = (Payload zeros, gives, omega arith, refl); faults = refl }, refl), (refl, [], tt, refl));
     held = refl;
@@ -153,6 +154,7 @@ went = record {
   record_len = refl;
   held = refl;
   does = inl (record {
+    some = λ none. absurd (let both : fetch_body 0 0 ∷ [] ≡ [] = none in cc);
     paths = (fetches, tt);
     outcome = Ok (payload_answer zeros ∷ []);
     batch = ((new_server, record { answer = (Payload zeros, gives, omega arith, refl); faults = refl }, refl), (refl, [], tt, refl));

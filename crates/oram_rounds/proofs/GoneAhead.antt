@@ -1,5 +1,5 @@
 -- FETCHes that go ahead are answered by the host that has carried out the STOREs before them.
-use Rattle.std.proofs.Common.{◌≡◌, ◌⊎◌, ℕ, Bool, List, [], ◌∷◌, ◌++◌, length, Ok, Err, refl, sym, ap, ◌∙◌, subst, inl, inr}
+use Rattle.std.proofs.Common.{◌≡◌, ◌⊎◌, ℕ, Bool, List, [], ◌∷◌, ◌++◌, Ok, Err, refl, sym, ap, ◌∙◌, subst, inl, inr}
 use Rattle.std.specs.Prelude.{MatchResult}
 use Rattle.std.specs.List.{AllByRecursion}
 use Rattle.oram_geometry.specs.declared.Sizes.{Sizes}
@@ -111,7 +111,7 @@ module _ {B : Type 0} (batches : B → List (List ℕ) → BatchOutcome → List
       by (Err fault) among g = nothing g.0 g.1 (all_heard paths (bodies_of exchanges) among)
       by (Ok answers) batch g = all_gone paths answers g batch
 
-  pub gone : l.device ≡ v.device → SendsAhead batches l.device l.record_len l fetches exchanges m ⊎ SendsNone batches l.device l.record_len l exchanges m → Gone
+  pub gone : l.device ≡ v.device → SendsAhead batches l.device l.record_len l fetches exchanges m ⊎ SendsNone batches l.device l.record_len l fetches exchanges m → Gone
   gone device (inl s) = all_sent_ahead (subst (λ (d : Sizes). AllByRecursion (IsPathFetch d) fetches) device s.paths) s
   gone device (inr n) = nothing n.kept n.ahead (subst (λ (xs : List Exchange). AllByRecursion (IsWaitingOrFetch v (waiting l)) (bodies_of xs)) (sym n.none) tt)
 

@@ -16,10 +16,14 @@ pub mod Example
 pub mod Steps
 pub mod Safety
 pub mod Replies
+pub mod AheadInTurn
 pub mod Start
 pub mod Talk
 pub mod Results
-pub mod Failing
+pub mod FailedReplies
 pub mod NewProcess
+pub mod AskedCore
+pub mod AskedProcess
+pub mod RepliedProcess
 pub mod KeptText
 pub mod Asked

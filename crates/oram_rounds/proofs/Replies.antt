@@ -71,7 +71,7 @@ module _ {B K : Type 0} (batches : B → List (List ℕ) → BatchOutcome → Li
         replied = same_queue array p.core.queue q.core.queue (ap (λ (s : State). s.queue) same);
       })
 
-  goes_on : (act : Act) (p q : Process B K) (host after : Host) (array : ℕ → List ℕ) → p.link.device ≡ v.device → p.link.record_len ≡ record_len v → IsGoingOn may_lie v p host array
+  pub goes_on : (act : Act) (p q : Process B K) (host after : Host) (array : ℕ → List ℕ) → p.link.device ≡ v.device → p.link.record_len ≡ record_len v → IsGoingOn may_lie v p host array
       → Does v batches reads_back p act q → PlainRun may_lie v host (exchanges_of act) after → Outcomes p array (replies_of act) q after
   goes_on (Hears event x) p q host after array dev len on does run =
       let t = told p q on.0 array event x does.0.0 does.0.1 on.2 in
@@ -125,7 +125,7 @@ module _ {B K : Type 0} (batches : B → List (List ℕ) → BatchOutcome → Li
       let same : did x t ≡ d = step.plain d plain in
       ((failed.0, ap (λ (e : Did). e.state.failure) same ∙ idle.failure ∙ failed.1), ap (λ (e : Did). e.replies) same ∙ idle.replies)
 
-  stays_failed : (acts : List Act) (p q : Process B K) → HasFailed p.core → DoesAll v batches reads_back p acts q → HasFailed q.core × (flat_map replies_of acts ≡ [])
+  pub stays_failed : (acts : List Act) (p q : Process B K) → HasFailed p.core → DoesAll v batches reads_back p acts q → HasFailed q.core × (flat_map replies_of acts ≡ [])
   stays_failed [] p q failed does = (subst (λ (r : Process B K). HasFailed r.core) does failed, refl)
   stays_failed (Hears event x ∷ acts) p q failed does =
       let told : HasFailed does.0.core × (x.replies ≡ []) = elim does.1.0.0 [
@@ -139,7 +139,7 @@ module _ {B K : Type 0} (batches : B → List (List ℕ) → BatchOutcome → Li
   stays_failed (Keeps true ∷ acts) p q failed does = stays_failed acts does.0 q (subst HasFailed (sym does.1.1) failed) does.2
   stays_failed (Keeps false ∷ acts) p q failed does = stays_failed acts does.0 q (subst HasFailed (sym does.1.1) failed) does.2
 
-  same_device : (act : Act) (p q : Process B K) → Does v batches reads_back p act q → (q.link.device ≡ p.link.device) × (q.link.record_len ≡ p.link.record_len)
+  pub same_device : (act : Act) (p q : Process B K) → Does v batches reads_back p act q → (q.link.device ≡ p.link.device) × (q.link.record_len ≡ p.link.record_len)
   same_device (Hears event x) p q does = (ap (λ (l : Round B). l.device) does.0.2, ap (λ (l : Round B). l.record_len) does.0.2)
   same_device (Calls o exchanges x) p q does = (does.0.2.device, does.0.2.record_len)
   same_device (Misses o exchanges) p q does = (does.0.2.device, does.0.2.record_len)

@@ -31,7 +31,7 @@ use Rattle.oram_session.proofs.Honesty.{call_keeps, waits_by}
 use Rattle.oram_link_laws.specs.Repair.{AreAmong, IsAmong}
 use Rattle.oram_link_laws.specs.Runs.{Exchange, bodies_of}
 use Rattle.oram_link_laws.proofs.Exchanged.{folds_split}
-use Rattle.oram_rounds.specs.Batches.{BatchOutcome, IsBatch, answered}
+use Rattle.oram_rounds.specs.Batches.{BatchOutcome}
 use Rattle.oram_rounds.specs.Files.{IsFile}
 use Rattle.oram_rounds.specs.CatchUp.{CatchesUp, IsPlainCall, PlainRun}
 use Rattle.oram_rounds.specs.Law.{AreAhead, AreBatches, IsStocked}

@@ -11,16 +11,17 @@ use Rattle.oram_link_laws.specs.Runs.{Exchange}
 use Rattle.oram_rounds.specs.Batches.{BatchOutcome, answered}
 use Rattle.oram_rounds.specs.Overlay.{IsOverlaid}
 use Rattle.oram_rounds.specs.PathMessages.{IsPathFetch, IsPathStore}
-use Rattle.oram_rounds.specs.Rounds.{AreDone, Does, Fetches, GivesAhead, Round, WentAhead, refused_with}
+use Rattle.oram_rounds.specs.Rounds.{AreDone, Does, Fetches, IsFirstAhead, Round, WentAhead, refused_with}
 
 -- of a link before (i, which is l) and after
-module _ {B : Type 0} (batches : B → List (List ℕ) → BatchOutcome → List Exchange → B → Type 0) (i l m : Round B) (is : i ≡ l) (body : List ℕ) (f : IsPathFetch l.device body) (exchanges : List Exchange) where
+module _ {B : Type 0} (batches : B → List (List ℕ) → BatchOutcome → List Exchange → B → Type 0) (i l m : Round B) (is : i ≡ l) (body : List ℕ) (f : IsPathFetch l.device body) (apart : ¬ IsFirstAhead l.ahead body) (exchanges : List Exchange) where
   pub fetch_failed : (fault : LinkFault) → batches i.inner (i.kept ++ body ∷ []) (Err fault) exchanges m.inner → m.kept ≡ i.kept → m.held ≡ i.held → m.ahead ≡ i.ahead
       → Fetches batches l.device l.record_len l body (Err fault) exchanges m
   fetch_failed fault batch kept held ahead =
       let P : Round B → Type 0 = λ r. batches r.inner (r.kept ++ body ∷ []) (Err fault) exchanges m.inner in
       record {
         path = f;
+        not_ahead = apart;
         outcome = Err fault;
         batch = subst P is batch;
         held = subst (λ (r : Round B). m.held ≡ r.held) is held;
@@ -30,15 +31,16 @@ module _ {B : Type 0} (batches : B → List (List ℕ) → BatchOutcome → List
 
   pub fetch_refused : (answers acks : List (List ℕ)) (answer refusal given : List ℕ) → given ≡ refused_with refusal → answers ≡ acks ++ answer ∷ [] → batches i.inner (i.kept ++ body ∷ []) (Ok answers) exchanges m.inner
       → m.kept ≡ i.kept → m.held ≡ i.held → m.ahead ≡ i.ahead → IsAmong refusal acks → refusal ≢ done_answer → Fetches batches l.device l.record_len l body (Ok given) exchanges m
-  fetch_refused answers acks answer refusal given told all batch kept held ahead among apart =
+  fetch_refused answers acks answer refusal given told all batch kept held ahead among other =
       let P : Round B → Type 0 = λ r. batches r.inner (r.kept ++ body ∷ []) (Ok answers) exchanges m.inner in
       record {
         path = f;
+        not_ahead = apart;
         outcome = Ok answers;
         batch = subst P is batch;
         held = subst (λ (r : Round B). m.held ≡ r.held) is held;
         ahead = subst (λ (r : Round B). m.ahead ≡ r.ahead) is ahead;
-        gives = record { acks = acks; answer = answer; all = all; either = inr (subst (λ (r : Round B). m.kept ≡ r.kept) is kept, refusal, among, apart, ap (λ (b : List ℕ). let o : Outcome = Ok b in o) told) };
+        gives = record { acks = acks; answer = answer; all = all; either = inr (subst (λ (r : Round B). m.kept ≡ r.kept) is kept, refusal, among, other, ap (λ (b : List ℕ). let o : Outcome = Ok b in o) told) };
       }
 
   pub fetch_given : (answers acks : List (List ℕ)) (answer given : List ℕ) → answers ≡ acks ++ answer ∷ [] → batches i.inner (i.kept ++ body ∷ []) (Ok answers) exchanges m.inner
@@ -48,6 +50,7 @@ module _ {B : Type 0} (batches : B → List (List ℕ) → BatchOutcome → List
       let P : Round B → Type 0 = λ r. batches r.inner (r.kept ++ body ∷ []) (Ok answers) exchanges m.inner in
       record {
         path = f;
+        not_ahead = apart;
         outcome = Ok answers;
         batch = subst P is batch;
         held = subst (λ (r : Round B). m.held ≡ r.held) is held;
@@ -100,14 +103,14 @@ marked {B} i l is kept held ahead whole none nothing =
 
 -- of what went ahead, by what the batch gave
 module _ {B : Type 0} (batches : B → List (List ℕ) → BatchOutcome → List Exchange → B → Type 0) (i l : Round B) (is : i ≡ l) (fetches : List (List ℕ)) (inner : B) (exchanges : List Exchange) (answers acks given : List (List ℕ))
-    (paths : AllByRecursion (IsPathFetch i.device) fetches) (batch : batches i.inner (i.kept ++ fetches) (Ok answers) exchanges inner) (all : answers ≡ acks ++ given) (count : length acks ≡ length i.kept) where
+    (some : fetches ≢ []) (paths : AllByRecursion (IsPathFetch i.device) fetches) (batch : batches i.inner (i.kept ++ fetches) (Ok answers) exchanges inner) (all : answers ≡ acks ++ given) (count : length acks ≡ length i.kept) where
   -- not each STORE was carried out
   pub goes_refused : (nothing : List Exchange) → nothing ≡ [] → WentAhead batches l fetches exchanges (record i { inner = inner; ahead = nothing })
   goes_refused nothing none = subst (λ (r : Round B). WentAhead batches r fetches exchanges (record i { inner = inner; ahead = nothing })) is (record {
     device = refl;
     record_len = refl;
     held = refl;
-    does = inl (record { paths = paths; outcome = Ok answers; batch = batch; gives = record { acks = acks; given = given; all = all; count = count; either = inr (refl, none) } });
+    does = inl (record { some = some; paths = paths; outcome = Ok answers; batch = batch; gives = record { acks = acks; given = given; all = all; count = count; either = inr (refl, none) } });
   })
 
   -- each was
@@ -118,8 +121,20 @@ module _ {B : Type 0} (batches : B → List (List ℕ) → BatchOutcome → List
         device = refl;
         record_len = refl;
         held = refl;
-        does = inl (record { paths = paths; outcome = Ok answers; batch = batch; gives = record { acks = acks; given = given; all = all; count = count; either = inl (done, refl, refl) } });
+        does = inl (record { some = some; paths = paths; outcome = Ok answers; batch = batch; gives = record { acks = acks; given = given; all = all; count = count; either = inl (done, refl, refl) } });
       }))
+
+-- the batch had no answers
+pub goes_lost : {B : Type 0} (batches : B → List (List ℕ) → BatchOutcome → List Exchange → B → Type 0) (i l : Round B) (is : i ≡ l) (fetches : List (List ℕ)) (inner : B) (exchanges : List Exchange)
+    (fault : LinkFault) → fetches ≢ [] → AllByRecursion (IsPathFetch i.device) fetches → batches i.inner (i.kept ++ fetches) (Err fault) exchanges inner → (nothing : List Exchange) → nothing ≡ []
+    → WentAhead batches l fetches exchanges (record i { inner = inner; ahead = nothing })
+goes_lost {B} batches i l is fetches inner exchanges fault some paths batch nothing none =
+    subst (λ (r : Round B). WentAhead batches r fetches exchanges (record i { inner = inner; ahead = nothing })) is (record {
+      device = refl;
+      record_len = refl;
+      held = refl;
+      does = inl (record { some = some; paths = paths; outcome = Err fault; batch = batch; gives = (refl, none) });
+    })
 
 -- a FETCH that went ahead is answered from there
 pub taken_does : {B : Type 0} (batches : B → List (List ℕ) → BatchOutcome → List Exchange → B → Type 0) (l m : Round B) (body answer given : List ℕ) (f : IsPathFetch l.device body)

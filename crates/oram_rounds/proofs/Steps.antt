@@ -1,7 +1,9 @@
 -- What one event does to a core over a host, and to the commands that wait.
-use Rattle.std.proofs.Common.{◌≡◌, ◌≢◌, ◌⊎◌, ℕ, Bool, true, false, List, [], ◌∷◌, Some, Ok, Err, refl, sym, ap, ◌∙◌, subst, inl, inr}
+use Rattle.std.proofs.Common.{◌≡◌, ◌≢◌, ◌⊎◌, ℕ, Bool, true, false, List, [], ◌∷◌, None, Some, Ok, Err, refl, sym, ap, ◌∙◌, subst, inl, inr}
 use Rattle.oram_geometry.specs.Sizes.{IsDevice}
 use Rattle.oram_host.specs.Host.{Host}
+use Rattle.oram_semantics.proofs.InTurn.{cores_ask_in_turn}
+use Rattle.oram_semantics.specs.InTurn.{StepsInTurn}
 use Rattle.oram_semantics.specs.Moves.{moved, world_after}
 use Rattle.oram_semantics.specs.Progress.{Status}
 use Rattle.oram_semantics.specs.Progress.Status.{Waiting}
@@ -106,6 +108,28 @@ module _ (may_lie : Bool) (v : Scheme) (device : IsDevice v.device) (s t : State
       let stepped : Steps v s (event_of told) x t = subst (λ (k : Outcome). Steps v s (event_of k) x t) lie.2 step in
       elim (lying_hosts_fail v s t is.world array lie.1 x host after device is.alive waits is.serving is.hosts stepped.moves lie.3) [
         | inl on ↦ on_with told waits stepped on
+        | inr failed ↦ inr (lie.0, failed)
+      ]
+
+  -- what the call does to the core's next FETCHes
+
+  abbrev pub InTurn : Type 0
+  InTurn = ((t.failure ≡ None) × StepsInTurn v.device s x t) ⊎ ((may_lie ≡ true) × FailsAll s x t)
+
+  turn_with : (event : Event) → Steps v s event x t → GoesOnHosted v s t is.world array event x after → InTurn
+  turn_with event step on =
+      inl (on.alive, cores_ask_in_turn v s t is.world event x device is.serving.orderly is.serving.holds is.serving.agrees on.apart step.moves on.alive)
+
+  pub step_in_turn : (o : Outcome) → status_in s ≡ Waiting → Steps v s (event_of o) x t → IsHeardCall may_lie v host s.message o after → InTurn
+  step_in_turn o waits step (inl honest) =
+      turn_with (event_of o) step
+      (honest_hosts_serve v s t is.world array (event_of o) x host after device is.alive is.serving is.hosts step.moves
+      (subst (λ (now : Status). IsHonest now s.message (event_of o) host after) (sym waits) (honest_at o s.message host after honest)))
+  step_in_turn o waits step (inr lie) =
+      let told : Outcome = Ok lie.1 in
+      let stepped : Steps v s (event_of told) x t = subst (λ (k : Outcome). Steps v s (event_of k) x t) lie.2 step in
+      elim (lying_hosts_fail v s t is.world array lie.1 x host after device is.alive waits is.serving is.hosts stepped.moves lie.3) [
+        | inl on ↦ turn_with (event_of told) stepped on
         | inr failed ↦ inr (lie.0, failed)
       ]
 

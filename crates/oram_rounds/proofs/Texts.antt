@@ -7,12 +7,10 @@ use Rattle.std.proofs.lemmas.Grind.{flat_map-append}
 use Rattle.std.proofs.Math.Seq.{drop-cons, take-suc}
 use Rattle.std.proofs.lemmas.List.{drop_all, get_or_default, length-map, take_all, map-append, take-append-drop}
 use Rattle.oram_geometry.specs.declared.Sizes.{Sizes}
-use Rattle.oram_wire.specs.HostMessages.{done_answer}
 use Rattle.oram_link_laws.specs.Repair.{IsAmong}
 use Rattle.oram_rounds.specs.Batches.{texts}
 use Rattle.oram_rounds.specs.Files.{store_text}
-use Rattle.oram_rounds.specs.PathMessages.{ArePathStores, IsPathStore}
-use Rattle.oram_rounds.specs.Rounds.{AreDone}
+use Rattle.oram_rounds.specs.PathMessages.{ArePathStores}
 
 module _ (xs : List (Vec ℕ)) (i : ℕ) (x : Vec ℕ) (low : i < length xs) (is : x ≡ get_or xs i x) where
   inside : i < length (texts xs)
@@ -102,3 +100,7 @@ written_more start count front body file new before is =
     sym (flat_map-append store_text front (body ∷ []) ∙ ap (λ (t : List ℕ). f ++ t) (append-nil (store_text body))) in
     is ∙ ap (λ (t : List ℕ). t ++ store_text body) before ∙ append_assoc start (count ++ f) (store_text body)
     ∙ ap (λ (t : List ℕ). start ++ t) (append_assoc count f (store_text body)) ∙ ap (λ (t : List ℕ). start ++ (count ++ t)) more
+
+pub some_texts : (vecs : List (Vec ℕ)) → ((vecs ≡ []) → ⊥) → texts vecs ≡ [] → ⊥
+some_texts [] some none = some refl
+some_texts (x ∷ vecs) some none = absurd (let both : x.items ∷ texts vecs ≡ [] = none in cc)

@@ -8,4 +8,7 @@ pub mod Examples
 pub mod Service
 pub mod Files
 pub mod Process
+pub mod AheadInTurn
 pub mod Start
+pub mod AskedExample
+pub mod ReplyExample

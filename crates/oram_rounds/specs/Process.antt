@@ -48,6 +48,7 @@ pub data Act : Type 0 where
   -- the STOREs that wait and the core are kept, or the keeper fails
   Keeps : Bool → Act
 
+-- what a link exchanges with the host in an act
 abbrev pub exchanges_of : Act → List Exchange
 exchanges_of (Hears event x) = []
 exchanges_of (Calls o exchanges x) = exchanges
@@ -55,6 +56,7 @@ exchanges_of (Misses o exchanges) = exchanges
 exchanges_of (GoesAhead exchanges) = exchanges
 exchanges_of (Keeps done) = []
 
+-- what the core replies in an act
 abbrev pub replies_of : Act → List Reply
 replies_of (Hears event x) = []
 replies_of (Calls o exchanges x) = x.replies
@@ -62,8 +64,12 @@ replies_of (Misses o exchanges) = []
 replies_of (GoesAhead exchanges) = []
 replies_of (Keeps done) = []
 
--- Nothing of a message has gone to the host, or it is a FETCH, and what the host has had of it are tries of the STOREs that are
--- kept and of the FETCH behind them.
+-- the first act is to send FETCHes ahead
+abbrev pub GoesAheadFirst : List Act → Type 0
+GoesAheadFirst acts = (exchanges : List Exchange) × (rest : List Act) × (acts ≡ GoesAhead exchanges ∷ rest)
+
+-- Nothing of the message has gone to the host; or it is a FETCH, and the host has received only it and kept STOREs, each perhaps
+-- several times.
 abbrev pub IsSent : {B : Type 0} → Round B → List ℕ → List Exchange → Type 0
 IsSent l message exchanges = (exchanges ≡ []) ⊎ (IsPathFetch l.device message × AreAmong (bodies_of exchanges) (l.kept ++ message ∷ []))
 
@@ -71,7 +77,8 @@ IsSent l message exchanges = (exchanges ≡ []) ⊎ (IsPathFetch l.device messag
 abbrev pub next_bodies : Sizes → State → List (List ℕ)
 next_bodies d core = fetch_bodies (next_fetches d core)
 
--- What has gone to the host are tries of the STOREs that are kept and of FETCHes behind them.
+-- Nothing has gone to the host; or these are FETCHes, and the host has received only them and kept STOREs, each perhaps several
+-- times.
 abbrev pub AreSentAhead : {B : Type 0} → Round B → List (List ℕ) → List Exchange → Type 0
 AreSentAhead l fetches exchanges = (exchanges ≡ []) ⊎ (AllByRecursion (IsPathFetch l.device) fetches × AreAmong (bodies_of exchanges) (l.kept ++ fetches))
 
@@ -87,6 +94,7 @@ module _ (v : Scheme) {B : Type 0} (batches : B → List (List ℕ) → BatchOut
   Talks p (GoesAhead exchanges) q = WentAhead batches p.1 (next_bodies v.device p.0) exchanges q.1 × (q.0 ≡ p.0)
   Talks p (Keeps done) q = ⊥
 
+  -- several acts, one after the other
   abbrev pub TalksAll : State × Round B → List Act → State × Round B → Type 0
   TalksAll p acts q = FoldsTo {P = State × Round B} Talks p acts q
 
@@ -98,6 +106,7 @@ module _ (v : Scheme) {B : Type 0} (batches : B → List (List ℕ) → BatchOut
 
 -- for a device, a link that carries batches, and a keeper that says which bytes may be read back
 module _ (v : Scheme) {B K : Type 0} (batches : B → List (List ℕ) → BatchOutcome → List Exchange → B → Type 0) (reads_back : K → List ℕ → Type 0) where
+  -- what a process does in an act: the core and the link talk, or the keeper keeps the file
   abbrev pub Does : Process B K → Act → Process B K → Type 0
   Does p (Hears event x) q = Talks v batches (p.core, p.link) (Hears event x) (q.core, q.link) × (q.keeper ≡ p.keeper)
   Does p (Calls o exchanges x) q = Talks v batches (p.core, p.link) (Calls o exchanges x) (q.core, q.link) × (q.keeper ≡ p.keeper)
@@ -107,11 +116,12 @@ module _ (v : Scheme) {B K : Type 0} (batches : B → List (List ℕ) → BatchO
   Does p (Keeps true) q =
       ((bytes : List ℕ) → reads_back q.keeper bytes → IsFile v bytes (waiting p.link) p.core)
       × (q.core ≡ p.core) × (q.link ≡ record p.link { kept = waiting p.link; held = []; ahead = [] })
-  -- where the keeper fails, that or what was there before
+  -- if the keeper fails, the new file is read back, or the old one
   Does p (Keeps false) q =
       ((bytes : List ℕ) → reads_back q.keeper bytes → IsFile v bytes (waiting p.link) p.core ⊎ reads_back p.keeper bytes)
       × (q.core ≡ p.core) × (q.link ≡ p.link)
 
+  -- several acts, one after the other
   abbrev pub DoesAll : Process B K → List Act → Process B K → Type 0
   DoesAll p acts q = FoldsTo {P = Process B K} Does p acts q
 
@@ -143,7 +153,7 @@ module _ (may_lie : Bool) (v : Scheme) where
     pub kept : (bytes : List ℕ) → reads_back p.keeper bytes → IsKept p.link.kept bytes host before array
     pub ahead : AreAhead may_lie v host p.link
 
--- the array that may still be read back beside the present one: none other once the process has kept itself
+-- The other array that a read-back may give. There is none once the process has kept itself.
 abbrev pub earlier : List Act → (ℕ → List ℕ) → (ℕ → List ℕ) → ℕ → List ℕ
 earlier [] before array = before
 earlier (Keeps true ∷ acts) before array = earlier acts array array
@@ -153,15 +163,15 @@ earlier (Calls o exchanges x ∷ acts) before array = earlier acts before array
 earlier (Misses o exchanges ∷ acts) before array = earlier acts before array
 earlier (GoesAhead exchanges ∷ acts) before array = earlier acts before array
 
--- Whatever a process does, over a host that is honest or may lie: the device will hold the array, and so will what is read
--- back, or else it will hold the array from before the last keeping.
+-- Whatever a process does, over a host that is honest or may lie, the device will hold the array. What is read back will hold it
+-- too, or the array from before the last keeping.
 abbrev pub ActsAreSafe : {B K : Type 0} → (B → List (List ℕ) → BatchOutcome → List Exchange → B → Type 0) → (K → List ℕ → Type 0) → Type 0
 ActsAreSafe {B} {K} batches reads_back = AreBatches batches
     → (may_lie : Bool) (v : Scheme) (acts : List Act) (p q : Process B K) (host after : Host) (before array : ℕ → List ℕ) → IsDevice v.device
     → IsSafe may_lie v reads_back p host before array → DoesAll v batches reads_back p acts q → PlainRun may_lie v host (flat_map exchanges_of acts) after
     → IsSafe may_lie v reads_back q after (earlier acts before array) array
 
--- And wherever it ends.
+-- The same, wherever the process ends.
 abbrev pub EndsAreSafe : {B K : Type 0} → (B → List (List ℕ) → BatchOutcome → List Exchange → B → Type 0) → (K → List ℕ → Type 0) → Type 0
 EndsAreSafe {B} {K} batches reads_back = AreBatches batches
     → (may_lie : Bool) (v : Scheme) (p : Process B K) (act : Act) (bytes : List ℕ) (exchanges : List Exchange) (host after : Host) (before array : ℕ → List ℕ) → IsDevice v.device

@@ -36,6 +36,11 @@ refused_with answer = if is_refusal_body answer then answer else []
 abbrev pub AreDone : List (List ℕ) → Type 0
 AreDone answers = AllByRecursion (λ answer. answer ≡ done_answer) answers
 
+-- the FETCH is the first one ahead
+abbrev pub IsFirstAhead : List Exchange → List ℕ → Type 0
+IsFirstAhead [] body = ⊥
+IsFirstAhead (e ∷ rest) body = e.0 ≡ body
+
 -- over a link whose batches have this relation (the bodies, the outcome, and the exchanges with the host), for a device
 -- with records of this length
 module _ {B : Type 0} (batches : B → List (List ℕ) → BatchOutcome → List Exchange → B → Type 0) (d : Sizes) (record_len : ℕ) where
@@ -58,9 +63,10 @@ module _ {B : Type 0} (batches : B → List (List ℕ) → BatchOutcome → List
         (AreDone acks × (m.kept ≡ []) × (given : List ℕ) × (o ≡ Ok given) × IsOverlaid d record_len fetch.tree fetch.leaf l.held answer given)
         ⊎ ((m.kept ≡ l.kept) × (refusal : List ℕ) × IsAmong refusal acks × (refusal ≢ done_answer) × (o ≡ Ok (refused_with refusal)))
 
-  -- a FETCH goes to the host behind the STOREs that are kept
+  -- a FETCH that isn't the first one ahead goes to the host behind the STOREs that are kept
   pub record Fetches (l : Round B) (body : List ℕ) (o : Outcome) (exchanges : List Exchange) (m : Round B) : Type 0 where
     pub path : IsPathFetch d body
+    pub not_ahead : ¬ IsFirstAhead l.ahead body
     pub outcome : BatchOutcome
     pub batch : batches l.inner (l.kept ++ body ∷ []) outcome exchanges m.inner
     pub held : m.held ≡ l.held
@@ -77,7 +83,7 @@ module _ {B : Type 0} (batches : B → List (List ℕ) → BatchOutcome → List
     pub held : m.held ≡ l.held
     pub ahead : m.ahead ≡ l.ahead
 
-  -- the FETCH is the next one that went ahead: its answer is here
+  -- the FETCH is the first one ahead: its answer is here
   pub record Takes (l : Round B) (body : List ℕ) (o : Outcome) (exchanges : List Exchange) (m : Round B) : Type 0 where
     pub path : IsPathFetch d body
     pub answer : List ℕ
@@ -102,15 +108,17 @@ module _ {B : Type 0} (batches : B → List (List ℕ) → BatchOutcome → List
     pub count : length acks ≡ length l.kept
     pub either : (AreDone acks × (m.kept ≡ []) × (m.ahead ≡ answered fetches given)) ⊎ ((m.kept ≡ l.kept) × (m.ahead ≡ []))
 
-  -- several FETCHes go to the host behind the STOREs that are kept, before the core asks for them
+  -- one FETCH or more go to the host behind the STOREs that are kept, before the core asks for them
   pub record SendsAhead (l : Round B) (fetches : List (List ℕ)) (exchanges : List Exchange) (m : Round B) : Type 0 where
+    pub some : fetches ≢ []
     pub paths : AllByRecursion (IsPathFetch d) fetches
     pub outcome : BatchOutcome
     pub batch : batches l.inner (l.kept ++ fetches) outcome exchanges m.inner
     pub gives : MatchResult outcome (λ answers. GivesAhead l fetches answers m) (λ fault. (m.kept ≡ l.kept) × (m.ahead ≡ []))
 
-  -- nothing goes ahead
-  pub record SendsNone (l : Round B) (exchanges : List Exchange) (m : Round B) : Type 0 where
+  -- nothing goes ahead: there are no FETCHes, or one of these messages is no FETCH of a path of the device
+  pub record SendsNone (l : Round B) (fetches : List (List ℕ)) (exchanges : List Exchange) (m : Round B) : Type 0 where
+    pub why : (fetches ≡ []) ⊎ ¬ AllByRecursion (IsPathFetch d) fetches
     pub none : exchanges ≡ []
     pub same : m.inner ≡ l.inner
     pub kept : m.kept ≡ l.kept
@@ -126,7 +134,7 @@ pub record WentAhead {B : Type 0} (batches : B → List (List ℕ) → BatchOutc
   pub device : m.device ≡ l.device
   pub record_len : m.record_len ≡ l.record_len
   pub held : m.held ≡ l.held
-  pub does : SendsAhead batches l.device l.record_len l fetches exchanges m ⊎ SendsNone batches l.device l.record_len l exchanges m
+  pub does : SendsAhead batches l.device l.record_len l fetches exchanges m ⊎ SendsNone batches l.device l.record_len l fetches exchanges m
 
 -- such a call, with some exchanges; the number of faults rises where the call has one
 pub record IsCounted {B : Type 0} (batches : B → List (List ℕ) → BatchOutcome → List Exchange → B → Type 0) (l : Round B) (body : List ℕ) (o : Outcome) (m : Round B) : Type 0 where

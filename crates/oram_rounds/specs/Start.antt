@@ -1,4 +1,4 @@
--- How a process comes to what it does: it begins with a device that is held, and commands are submitted to it.
+-- A process before its first act: it begins with a formatted device, and commands are submitted.
 use Rattle.std.specs.Prelude.{◌≡◌, ℕ, ◌*◌, Bool, List, [], ◌∷◌}
 use Rattle.std.specs.List.{FoldsTo}
 use Rattle.oram_geometry.specs.declared.Sizes.{Sizes}
@@ -25,7 +25,7 @@ pub record Asked : Type 0 where
   pub words : List ℕ
   pub shown : Shown
 
--- as the command leaves the array if the core has accepted it, and else as it was
+-- the array after the command if the core accepted it, else the array unchanged
 abbrev pub array_if : Note → Sizes → Command → (ℕ → List ℕ) → ℕ → List ℕ
 array_if (Accepted ticket) d c array = array_after d c array
 array_if (Refused e) d c array = array

@@ -11,17 +11,19 @@ ghost use Rattle.oram_session.specs.Settled.{IsBodyOf, IsSettled, IsUnderWay};
 ghost use Rattle.oram_rounds.specs.Process.{HasTalked};
 
 use crate::batch::BatchLink;
+use crate::delivery::deliver;
 use crate::round_link::RoundLink;
 use oram_bucket::Sealer;
 use oram_core::{Core, Reaction, Reply};
 use oram_host::ServeFault;
-use oram_session::{MOST_RETRIES, exchange};
+use oram_session::MOST_RETRIES;
 use std::alloc::Global;
 
 /// Exchanges messages until each command at work has its reply, and returns the replies in order. A message that stalls is
 /// sent again, three times at most.
 ///
-/// Fails with `Stalled` if a message stalled each time. Whatever the fault, replies that came before it are dropped.
+/// Fails with `Stalled` if a message stalled each time, and with `OutOfMemory` if memory ran out, also in the link. Whatever
+/// the fault, replies that came before it are dropped.
 pub fn carry_out_all<S: Sealer, B: BatchLink>(
     alloc: Global,
     core: &mut Core<S>,
@@ -43,7 +45,7 @@ pub fn carry_out_all<S: Sealer, B: BatchLink>(
 {
     let mut replies = Vec::new(alloc);
     while let Some(message) = reaction.sends.pop() {
-        reaction = exchange(alloc, core, link, message.as_slice(), MOST_RETRIES)?;
+        reaction = deliver(alloc, core, link, message.as_slice(), MOST_RETRIES)?;
         replies.append(&mut reaction.replies)?;
     }
     Ok(replies)

@@ -1,25 +1,46 @@
 //! The law of links that hold STOREs back.
+ghost use Rattle.oram_rounds.specs.AheadInTurn.{AheadIsNotSent, AheadStaysInTurn, NothingAheadIsInTurn};
 ghost use Rattle.oram_rounds.specs.Start.{AskedIsSubmitted, HeldIsSafe, SubmittedIsSafe};
+ghost use Rattle.oram_rounds.specs.AskedExample.{AskedProcessExample};
 ghost use Rattle.oram_rounds.specs.Examples.{NewProcessExample, OneWaitsExample};
 ghost use Rattle.oram_rounds.specs.Files.{FilesTellOfOneProcess};
 ghost use Rattle.oram_rounds.specs.Law.{AheadIsOfTheHost, CallsAreOfTheHostLater};
+ghost use Rattle.oram_rounds.specs.ReplyExample.{ReplyExample};
 ghost use Rattle.oram_rounds.specs.Process.{ActsAreSafe, BegunIsSafe, EndsAreSafe, RepliesAreTheArrays};
 
 use crate::batch::BatchLink;
 use crate::keeper::Keeper;
 
-/// A law about definitions: a host stands beside the exchanges of a call, and has some STOREs still to carry out. Then the
-/// call is one of the host as it will be after them, honest or not as the host beside is, and afterwards the same holds of
-/// the STOREs that wait then. So what is proved of a core over a host holds over a link that holds STOREs back.
+/// A law about definitions. Suppose that a host stands beside the exchanges of a call and still has to carry out some STOREs.
+/// Then the call is answered as that host will answer after them, honest or not as the host is, and the same holds of the
+/// STOREs that wait after the call. So what is proved of a core over a host holds over a link that holds STOREs back.
 pub fn calls_are_of_the_host_later<B: BatchLink>()
     ensures { CallsAreOfTheHostLater B.batches }
 {}
 
-/// A law about definitions: the STOREs that are kept and FETCHes behind them are sent before the core asks for them. Then the
-/// host beside catches up to what it would have caught up to before, and the answers that are ahead are the ones that it
-/// gives now. So [`calls_are_of_the_host_later`] holds of the calls that are answered from them.
+/// A law about definitions: sending FETCHes ahead doesn't change what the host will hold, and each answer that is ahead is
+/// what the host would give now. So [`calls_are_of_the_host_later`] holds of the calls that are answered from them.
 pub fn ahead_is_of_the_host<B: BatchLink>()
     ensures { AheadIsOfTheHost B.batches }
+{}
+
+/// A law about definitions: what is ahead at the link of a process is the end of the FETCHes that its core asks for next,
+/// whatever the process does, over a host that is honest or may lie. So a FETCH is ahead only if the core will ask for
+/// it. It rests on `cores_ask_in_turn` in `oram_semantics`.
+pub fn ahead_stays_in_turn<B: BatchLink, K: Keeper>()
+    ensures { AheadStaysInTurn B.batches K.reads_back }
+{}
+
+/// A law about definitions: that holds of every core while nothing is ahead, so [`ahead_stays_in_turn`] begins there. It rests
+/// on `sound_cores_are_in_turn` in `oram_core`.
+pub fn nothing_ahead_is_in_turn<B>()
+    ensures { NothingAheadIsInTurn B }
+{}
+
+/// A law about definitions: if all FETCHes that a core asks for next are ahead, then the first of them is answered from there
+/// when the core asks for it, and nothing is sent.
+pub fn ahead_is_not_sent<B: BatchLink>()
+    ensures { AheadIsNotSent B.batches }
 {}
 
 /// A server that keeps a record of zeros, and a STORE of ones that waits, meet the premises of
@@ -66,8 +87,8 @@ pub fn ends_are_safe<B: BatchLink, K: Keeper>()
     ensures { EndsAreSafe B.batches K.reads_back }
 {}
 
-/// A law about definitions: a process that begins with what was read back is as safe as the one before. With
-/// [`acts_are_safe`] and [`ends_are_safe`] this goes from process to process.
+/// A law about definitions: a process that begins with what was read back is safe. So, with [`acts_are_safe`] and
+/// [`ends_are_safe`], every later process is.
 pub fn begun_is_safe<B: BatchLink, K: Keeper>()
     ensures { BegunIsSafe B K.reads_back }
 {}
@@ -82,4 +103,17 @@ pub fn replies_are_the_arrays<B: BatchLink, K: Keeper>()
 /// processes: it is safe, and keeps itself.
 pub fn new_process_example()
     ensures { NewProcessExample }
+{}
+
+/// A process that is asked to read a block, over a server in memory, meets the premises of the laws about processes that are
+/// asked something: it is safe, and keeps itself, and its FETCH goes ahead. Its core has a file, with which the next process
+/// begins.
+pub fn asked_process_example()
+    ensures { AskedProcessExample }
+{}
+
+/// A process in which a command gets its reply, over a server in memory, meets the premises of the laws about processes and
+/// about replies: it is safe, keeps itself, and its core hears that its last STORE is carried out, and replies.
+pub fn reply_example()
+    ensures { ReplyExample }
 {}

@@ -1,19 +1,21 @@
 //! A link that holds STOREs back until they are kept.
 //!
 //! A core sends a FETCH and then a STORE for each tree, and each waits for its answer: four round trips for a command over
-//! two trees. A [`RoundLink`] answers a STORE at once and sends it later, together with the next FETCH that may leave. So
-//! a command costs one round trip a tree. Until then the link lays the records of these STOREs over the paths that it
-//! fetches, so the core receives what a host would give that has carried them out.
+//! two trees. A [`RoundLink`] answers a STORE at once and sends it later, together with the next FETCH that may leave. Until
+//! then it lays the records of these STOREs over the paths that it fetches, so the core receives what a host would give that
+//! has carried them out. So a command alone waits once for each tree. The first FETCHes of all commands of a round go
+//! together.
 //!
 //! The client keeps the STOREs that wait in a file before they leave. If its process ends, the next one sends them again.
 //! A [`BatchLink`] carries the STOREs and the FETCH behind them; [`OneByOne`] makes one of any link.
 //!
-//! A round is one keeping and then the work of all commands that were submitted ([`submit_all`], [`perform`], [`resume`]). Their replies may
-//! be given at once, since what is kept has the commands.
+//! A round is one keeping and then the work of all commands that were submitted ([`submit_all`], [`perform`], [`resume`]).
+//! Their replies may be given at once, since what is kept has the commands.
 #![tactic(auto)]
 
 mod ahead;
 mod batch;
+mod delivery;
 mod exchanges;
 mod keeper;
 mod kept_file;
@@ -32,9 +34,11 @@ pub use exchanges::carry_out_all;
 pub use keeper::{KeepError, Keeper};
 pub use kept_file::{KeptCore, KeptCoreFault, decode_kept, encode_kept};
 pub use law::{
-    acts_are_safe, ahead_is_of_the_host, asked_is_submitted, begun_is_safe,
-    calls_are_of_the_host_later, ends_are_safe, files_tell_of_one_process, held_is_safe,
-    new_process_example, one_waits_example, replies_are_the_arrays, submitted_is_safe,
+    acts_are_safe, ahead_is_not_sent, ahead_is_of_the_host, ahead_stays_in_turn,
+    asked_is_submitted, asked_process_example, begun_is_safe, calls_are_of_the_host_later,
+    ends_are_safe, files_tell_of_one_process, held_is_safe, new_process_example,
+    nothing_ahead_is_in_turn, one_waits_example, replies_are_the_arrays, reply_example,
+    submitted_is_safe,
 };
 pub use one_by_one::OneByOne;
 pub use records::record_len;

@@ -10,7 +10,7 @@ use oram_session::{Link, LinkFault};
 use std::alloc::Global;
 
 /// Sends each message of a batch over a link once the one before it is answered. It saves no round trip. It stops at the
-/// first fault, and sends the messages behind it not at all.
+/// first fault, and doesn't send the messages after it.
 #[derive(Debug, Drop)]
 pub struct OneByOne<L> {
     pub link: L,

@@ -9,9 +9,9 @@ ghost use Rattle.oram_link_laws.specs.Runs.{Exchange};
 ghost use Rattle.oram_rounds.specs.Batches.{texts};
 ghost use Rattle.oram_rounds.specs.Overlay.{IsOverlaid};
 ghost use Rattle.oram_rounds.specs.PathMessages.{ArePathStores, IsPathFetch, IsPathStore};
-ghost use Rattle.oram_rounds.specs.Rounds.{AreDone, Does, WentAhead, refused_with, waiting};
+ghost use Rattle.oram_rounds.specs.Rounds.{AreDone, Does, IsFirstAhead, WentAhead, refused_with, waiting};
 
-use crate::ahead::Ahead;
+use crate::ahead::FetchedAhead;
 use crate::batch::BatchLink;
 use crate::lists::push;
 use crate::overlay::{laid_over, path_len};
@@ -23,8 +23,8 @@ use std::marker::Model;
 
 /// A link for one device, over a link that carries batches.
 ///
-/// It answers a STORE at once and holds it back. A FETCH takes the STOREs along that are kept ([`RoundLink::keep`]), and is
-/// answered by what the host has there once it has carried out all STOREs so far. If the host refuses a STORE, the core
+/// It answers a STORE at once and holds it back. With a FETCH it sends the STOREs that are kept ([`RoundLink::keep`]). The
+/// answer is what the host will have once it has carried out all STOREs so far. If the host refuses a STORE, the core
 /// receives that refusal as the answer to its FETCH. A core at work sends no other messages; the link declines them.
 ///
 /// FETCHes that the core will ask for may go ahead together ([`RoundLink::go_ahead`]). Then each of them is answered without
@@ -38,7 +38,7 @@ pub struct RoundLink<B> {
     stores: Vec<Vec<u8>>,
     /// How many of them are kept; those are the oldest.
     kept: usize,
-    ahead: Ahead,
+    ahead: FetchedAhead,
     faults: u64,
 }
 
@@ -160,7 +160,7 @@ impl<B> RoundLink<B> {
             record_len,
             stores: Vec::new(alloc),
             kept: 0,
-            ahead: Ahead::none(alloc),
+            ahead: FetchedAhead::none(alloc),
             faults: 0,
         }
     }
@@ -190,7 +190,7 @@ impl<B> RoundLink<B> {
             record_len,
             stores,
             kept,
-            ahead: Ahead::none(alloc),
+            ahead: FetchedAhead::none(alloc),
             faults: 0,
         })
     }
@@ -229,7 +229,7 @@ impl<B> RoundLink<B> {
     pub fn keep(&mut self, alloc: Global)
         ensures { self.new ≡ record self.old { kept = self.old.kept ++ self.old.held; held = []; ahead = [] } }
     {
-        self.ahead = Ahead::none(alloc); // It lacks what these STOREs change.
+        self.ahead = FetchedAhead::none(alloc); // It lacks what these STOREs change.
         self.kept = self.stores.len();
     }
 
@@ -272,14 +272,18 @@ impl<B> RoundLink<B> {
 
 impl<B: BatchLink> RoundLink<B> {
     /// Sends FETCHes behind the STOREs that are kept, all at once, before the core asks for them. Later calls with these
-    /// FETCHes, in this order, are answered from what came. What went ahead before is forgotten.
+    /// FETCHes, in this order, are answered from what came. What went ahead before is forgotten. Sends nothing if there are no
+    /// FETCHes.
     ///
     /// Nothing is ahead afterwards if the batch has a fault, if the host refuses a STORE, if memory runs out, or if a body
     /// isn't a FETCH of a path of the device. Then each FETCH is sent when the core asks for it.
     pub fn go_ahead(&mut self, alloc: Global, fetches: Vec<Vec<u8>>)
         ensures { (exchanges : List Exchange) × WentAhead B.batches self.old (texts fetches.items) exchanges self.new }
     {
-        self.ahead = Ahead::none(alloc);
+        self.ahead = FetchedAhead::none(alloc);
+        if fetches.is_empty() {
+            return; // The STOREs leave with the next FETCH.
+        }
         if !are_path_fetches(&self.device, &fetches) {
             return;
         }
@@ -291,7 +295,7 @@ impl<B: BatchLink> RoundLink<B> {
             self.forget_kept();
             answers.rotate_left(kept);
             answers.truncate(fetches.len());
-            self.ahead = Ahead::of(fetches, answers);
+            self.ahead = FetchedAhead::of(fetches, answers);
         }
     }
 
@@ -315,7 +319,7 @@ impl<B: BatchLink> RoundLink<B> {
         }
     }
 
-    /// Sends a FETCH behind the STOREs that are kept.
+    /// Sends a FETCH that isn't the next one ahead behind the STOREs that are kept.
     fn fetch(
         &mut self,
         alloc: Global,
@@ -326,6 +330,7 @@ impl<B: BatchLink> RoundLink<B> {
         requires tree { tree < trees_of self.old.device }
         requires leaf { leaf < 2 ^ depth_of self.old.device tree }
         requires body { body.now ≡ fetch_body tree leaf }
+        requires first { ¬ IsFirstAhead self.old.ahead body.now }
         ensures same { self.new ≡ record self.old { inner = self.new.inner; kept = self.new.kept } }
         ensures call { (exchanges : List Exchange) × Does B.batches self.old.device self.old.record_len self.old body.now (outcome_of result) exchanges self.new }
     {

@@ -9,7 +9,7 @@ ghost use Rattle.oram_core.specs.PlainSteps.{done};
 ghost use Rattle.oram_session.specs.Honesty.{HasFailed};
 ghost use Rattle.oram_session.specs.Settled.{IsBodyOf, IsSettled, IsUnderWay};
 ghost use Rattle.oram_rounds.specs.Files.{IsFile};
-ghost use Rattle.oram_rounds.specs.Process.{Act, DoesAll, process, replies_of};
+ghost use Rattle.oram_rounds.specs.Process.{Act, DoesAll, GoesAheadFirst, process, replies_of};
 ghost use Rattle.oram_rounds.specs.Process.Act.{Keeps};
 ghost use Rattle.oram_rounds.specs.Rounds.{waiting};
 
@@ -66,7 +66,8 @@ pub fn perform<S: Sealer, B: BatchLink, K: Keeper>(
     ensures ok { let v = scheme_of S.cipher core.old in
         IfOk result (λ replies. (acts : List Act) × (flat_map replies_of acts ≡ replies.items)
         × DoesAll v B.batches K.reads_back (process core.old.state link.old keeper.old) (Keeps true ∷ acts)
-        (process core.new.state link.new keeper.new)) }
+        (process core.new.state link.new keeper.new)
+        × GoesAheadFirst acts) }
     ensures count { IfOk result (λ replies. length replies.items ≡ length core.old.state.queue) }
     ensures settled { OnOk result (IsSettled core.new.state) }
     ensures block { IfOk result (λ replies. All (λ reply. IsBodyOf core.old.device reply.body) replies.items) }

@@ -6,7 +6,7 @@ use Rattle.oram_core.specs.Core.{IsSameDevice, scheme_of}
 use Rattle.oram_session.specs.Settled.{IsSettled, answers_left}
 use Rattle.oram_session.proofs.Resumed.{HasBody}
 use Rattle.oram_rounds.specs.Process.{HasTalked}
-use Rattle.oram_rounds.proofs.Failing.{IsOfFailed}
+use Rattle.oram_rounds.proofs.FailedReplies.{IsOfFailed}
 use Rattle.oram_rounds.proofs.exchanges.carry_out_all.Given as goal
 
 abbrev pub invariant-loop-message : goal.invariant-loop-message

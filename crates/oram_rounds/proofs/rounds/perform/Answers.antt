@@ -52,6 +52,7 @@ returns-in-Ok-clause-ok g c =
           talks_beside g.B.BatchLink.batches v g.K.Keeper.reads_back c.keep.new.keeper talked.acts _ _ talked.talks,
         ),
       ),
+      (sent.0, talked.acts, refl),
     )
 
 pub returns-in-Err-Stalled-clause-err : goal.returns-in-Err-Stalled-clause-err

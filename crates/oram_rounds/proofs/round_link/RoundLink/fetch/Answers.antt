@@ -28,7 +28,7 @@ returns-in_err-answers-clause-call g c =
     c.deref.ensures.value
     (subst (λ (b : List ℕ). g.B.BatchLink.batches c.self.inside.inner (texts (take c.self.inside.kept c.deref.result.now) ++ b ∷ []) (batch_outcome_of c.call_all.result) sent.0 c.call_all.new.self)
     (c.in_ok-to_vec.ensures.items_if_clones_equal (λ x y e. e)) sent.1)) in
-    (sent.0, rw (p.1, p.2) (inr (inl (fetch_failed g.B.BatchLink.batches _ _ _ c.self.view_is c.args.body.now f sent.0 c.in_err-answers.field-0.0 batch refl refl refl))))
+    (sent.0, rw (p.1, p.2) (inr (inl (fetch_failed g.B.BatchLink.batches _ _ _ c.self.view_is c.args.body.now f c.requires.first sent.0 c.in_err-answers.field-0.0 batch refl refl refl))))
 
 pub returns-in-Some-first_refusal-clause-call : goal.returns-in-Some-first_refusal-clause-call
 returns-in-Some-first_refusal-clause-call g c =
@@ -44,7 +44,7 @@ returns-in-Some-first_refusal-clause-call g c =
     let all = texts_by c.in_ok-answers.answers.items c.pop.new.self.items c.in-Some.answer (c.pop.ensures.items ∙ ap (λ (o : Option (Vec ℕ)). c.pop.new.self.items ++ option_to_list o) c.in-Some.is) in
     let refused = c.in-Some-first_refusal.ensures in (
       sent.0,
-      inr (inl (fetch_refused g.B.BatchLink.batches _ _ _ c.self.view_is c.args.body.now f sent.0 (texts c.in_ok-answers.answers.items) (texts c.pop.new.self.items) c.in-Some.answer.items
+      inr (inl (fetch_refused g.B.BatchLink.batches _ _ _ c.self.view_is c.args.body.now f c.requires.first sent.0 (texts c.in_ok-answers.answers.items) (texts c.pop.new.self.items) c.in-Some.answer.items
           c.in-Some-first_refusal.refusal.items c.refused_with.result.items c.refused_with.ensures all batch refl refl refl refused.0 refused.1)),
     )
 
@@ -64,6 +64,6 @@ returns-clause-call g c =
     let over = subst (λ (r : Round _). IsOverlaid r.device r.record_len c.args.tree c.args.leaf r.held c.in-Some.answer.items c.overlaid.result.items) now c.overlaid.ensures in (
       sent.0,
       inr (inl (subst (λ (r : Round _). Fetches g.B.BatchLink.batches c.args.self.now.device c.args.self.now.record_len c.args.self.now c.args.body.now (Ok c.overlaid.result.items) sent.0 r) (sym now)
-          (fetch_given g.B.BatchLink.batches _ _ _ c.self.view_is c.args.body.now f sent.0 (texts c.in_ok-answers.answers.items) (texts c.pop.new.self.items) c.in-Some.answer.items
+          (fetch_given g.B.BatchLink.batches _ _ _ c.self.view_is c.args.body.now f c.requires.first sent.0 (texts c.in_ok-answers.answers.items) (texts c.pop.new.self.items) c.in-Some.answer.items
           c.overlaid.result.items all batch refl refl refl c.in_default-first_refusal.ensures over))),
     )
