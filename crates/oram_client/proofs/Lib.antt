@@ -6,9 +6,13 @@ pub mod Streamed
 pub mod Formatted
 pub mod Greeted
 pub mod Tries
+pub mod OneHostTries
+pub mod Reached
 pub mod TwoTries
 pub mod Letters
 pub mod Whole
 pub mod PowerLoss
 pub mod NamesNow
 pub mod ReadBack
+pub mod NextProcess
+pub mod FolderExample

@@ -1,5 +1,5 @@
 -- A batch over a link that tries again, beside one host.
-use Rattle.std.proofs.Common.{◌≡◌, ℕ, ◌++◌, Bool, List, [], ◌∷◌, Option, None, Some, Ok, Err, MatchOption, inl, inr, sym, ap, ◌∙◌, subst, append_assoc, append-nil}
+use Rattle.std.proofs.Common.{◌≡◌, ℕ, ◌++◌, Bool, true, List, [], ◌∷◌, Option, None, Some, Ok, Err, MatchOption, inl, inr, sym, ap, ◌∙◌, subst, append_assoc, append-nil}
 use Rattle.std.specs.List.{FoldsTo, flat_map}
 use Rattle.oram_wire.specs.HostMessages.{no_room_answer}
 use Rattle.oram_host.specs.Host.{Host}
@@ -9,10 +9,14 @@ use Rattle.oram_link_laws.specs.Runs.{Exchange}
 use Rattle.oram_link_laws.proofs.Exchanged.{folds_join, folds_split}
 use Rattle.oram_rounds.specs.Batches.{BatchOutcome, IsBatch, answered}
 use Rattle.oram_rounds.specs.CatchUp.{IsPlainCall, PlainRun}
-use Rattle.oram_client.specs.OneHost.{AnswersAreTheHosts, AreTries, ExchangesAreOfTheTries, TriesRun}
+use Rattle.oram_client.specs.OneHost.{AnswersAreTheHosts, AreTries, ExchangesAreOfTheTries, FaultsAreOfMemory, TriesRun}
 use Rattle.oram_client.specs.Reconnect.{Attempt, IsDelayed, IsTried, IsTroubleIn, MakesTries, IsGivenUp, ReconnectState, VainTry, Waiting, link_outcome}
+use Rattle.oram_session.specs.declared.link.LinkFault.{LinkFault}
+use Rattle.oram_session.specs.declared.link.LinkFault.TheVariants.{Io, Closed, TooLong, TooLarge, OutOfMemory}
+use Rattle.oram_client.specs.Dialer.{fault_of, lacks_memory}
 use Rattle.oram_client.specs.declared.dialer.Limits.{Limits}
 use Rattle.oram_client.specs.declared.dialer.Trouble.{Trouble}
+use Rattle.oram_client.specs.declared.dialer.Trouble.TheVariants.{OutOfReach, NoRoom, AnotherDisk, NoDisk}
 use Rattle.oram_client.specs.BatchExchanges.{reconnects_are_batches}
 
 module _ (may_lie : Bool) (v : Scheme) where
@@ -32,7 +36,7 @@ module _ (may_lie : Bool) (v : Scheme) where
       let parts = folds_split {P = Host} {A = Exchange} Calls host after xs (flat_map (λ (ys : List Exchange). ys) tries) run in
       (parts.0, parts.1, tries_split tries parts.0 after parts.2)
 
--- the exchanges of tries in vain, as a list for each
+-- the exchanges of tries that failed, as a list for each
 abbrev lists_of : List VainTry → List (List Exchange)
 lists_of [] = []
 lists_of (v ∷ vain) = v.exchanges ∷ lists_of vain
@@ -46,6 +50,26 @@ lists_joined (v ∷ vain) heard =
 
 ok_same : (answers others : List (List ℕ)) → (let k : BatchOutcome = Ok answers in k) ≡ Ok others → answers ≡ others
 ok_same answers others e = cc
+
+err_same : (fault other : LinkFault) → (let o : BatchOutcome = Err fault in o) ≡ Err other → fault ≡ other
+err_same fault other e = cc
+
+-- a trouble that is only a want of memory is reported as that
+memory_fault : (why : Trouble) (fault : LinkFault) → fault ≡ fault_of why → lacks_memory why ≡ true → fault ≡ OutOfMemory
+memory_fault (OutOfReach Io) fault e lacks = cc
+memory_fault (OutOfReach Closed) fault e lacks = cc
+memory_fault (OutOfReach TooLong) fault e lacks = cc
+memory_fault (OutOfReach TooLarge) fault e lacks = cc
+memory_fault (OutOfReach OutOfMemory) fault e lacks = e
+memory_fault NoRoom fault e lacks = cc
+memory_fault AnotherDisk fault e lacks = cc
+memory_fault NoDisk fault e lacks = cc
+
+unretried : (came : Attempt) (fault : LinkFault) (trouble : Option Trouble) → (let o : BatchOutcome = Err fault in o) ≡ link_outcome came → IsTroubleIn came trouble → trouble ≡ None
+    → fault ≡ OutOfMemory
+unretried (Ok answers) fault trouble says shows none = cc
+unretried (Err why) fault None says shows none = memory_fault why fault (err_same fault (fault_of why) says) shows
+unretried (Err why) fault (Some trouble) says shows none = cc
 
 module _ {D L : Type 0} (opens : D → Limits → L → D → Type 0) (fails : D → Limits → Trouble → D → Type 0) (pauses : D → ℕ → D → Type 0)
     (reads : D → Option ℕ → D → Type 0) (batches : L → List (List ℕ) → BatchOutcome → List Exchange → L → Type 0) where
@@ -111,3 +135,13 @@ module _ {D L : Type 0} (opens : D → Limits → L → D → Type 0) (fails : D
       let batch : IsBatch bodies (Ok answers) exchanges = reconnects_are_batches opens fails pauses reads batches law l m bodies (Ok answers) exchanges h in
       let whole : PlainRun may_lie v host (batch.1 ++ answered bodies answers) after = subst (λ (es : List Exchange). PlainRun may_lie v host es after) batch.3 run in
       (batch.1, batch.2, folds_split {P = Host} {A = Exchange} (Calls may_lie v) host after batch.1 (answered bodies answers) whole, roomy l.trouble l m bodies answers exchanges h.passed)
+
+  faulty : (gave_up : Option Trouble) (l m : ReconnectState D L) (bodies : List (List ℕ)) (fault : LinkFault) (exchanges : List Exchange)
+      → MatchOption gave_up (MakesTries opens fails pauses reads batches l bodies (Err fault) exchanges m.dialer m.line m.trouble)
+      (λ why. IsGivenUp opens fails pauses reads batches l (Err fault) exchanges m.dialer m.line m.trouble)
+      → gave_up ≡ None → m.trouble ≡ None → fault ≡ OutOfMemory
+  faulty None l m bodies fault exchanges h begun none = unretried h.came fault m.trouble h.says h.shows none
+  faulty (Some why) l m bodies fault exchanges h begun none = cc
+
+  pub faults_are_of_memory : FaultsAreOfMemory opens fails pauses reads batches
+  faults_are_of_memory l m bodies fault exchanges h begun none = faulty l.trouble l m bodies fault exchanges h.passed begun none

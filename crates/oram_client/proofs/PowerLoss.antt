@@ -2,7 +2,7 @@
 use Rattle.std.proofs.Common.{◌≡◌, ◌⊎◌, inl, inr, refl, ℕ, Bool, true, false, List, [], ◌∷◌, ◌∙◌, Option, None, Some, ap, subst}
 use Rattle.std.specs.Prelude.{MatchBool, ⊤}
 use Rattle.oram_client.specs.declared.file_step.FileStep.{FileStep}
-use Rattle.oram_client.specs.Replacement.{Deed, Writes, SetsAside, Renames, SyncsFolder, Clears, DoesAll, IsBrokenOff, Names, deeds_of, first_of, found}
+use Rattle.oram_client.specs.Replacement.{FileDeed, Writes, SetsAside, Renames, SyncsFolder, Clears, DoesAll, IsBrokenOff, Names, deeds_of, first_of, found}
 use Rattle.oram_client.specs.PowerLoss.{File, FolderHistory, MayRead, MayStand, IsLeftByLoss, IsSure, AreLasting, DoesToFolder, LeavesFolder, LosesPowerIn, SyncedFilesLast, SyncsAreNeeded, after_deed, after_deeds, bytes_of, during_deed}
 
 may_read_bytes : (synced : Bool) (bytes : List ℕ) → MatchBool synced (let read : Option (List ℕ) = Some bytes in read ≡ Some bytes) ⊤
@@ -79,19 +79,19 @@ pub syncs_are_needed : SyncsAreNeeded
 syncs_are_needed file = (torn_file file, forgotten_rename file)
 
 -- the folder after deeds that are all done
-pub done_all : (deeds : List Deed) (d e : FolderHistory) → DoesAll DoesToFolder d deeds e → e ≡ after_deeds d deeds
+pub done_all : (deeds : List FileDeed) (d e : FolderHistory) → DoesAll DoesToFolder d deeds e → e ≡ after_deeds d deeds
 done_all [] d e same = same
 done_all (deed ∷ deeds) d e (between, first, rest) = done_all deeds between e rest ∙ ap (λ (k : FolderHistory). after_deeds k deeds) first
 
 -- A loss of power now leaves what it may leave during a deed.
-now_or_during : (deed : Deed) (d : FolderHistory) (m : Names) → IsLeftByLoss d m → IsLeftByLoss (during_deed d deed) m
+now_or_during : (deed : FileDeed) (d : FolderHistory) (m : Names) → IsLeftByLoss d m → IsLeftByLoss (during_deed d deed) m
 now_or_during (Writes sync bytes) d m left = record { kept = inr left.kept; fresh = inr left.fresh; aside = inr left.aside }
 now_or_during SetsAside d m left = left
 now_or_during Renames d m left = left
 now_or_during SyncsFolder d m left = left
 now_or_during Clears d m left = left
 
-lost_now : (deeds : List Deed) (d : FolderHistory) (m : Names) → IsLeftByLoss d m → LosesPowerIn d deeds m
+lost_now : (deeds : List FileDeed) (d : FolderHistory) (m : Names) → IsLeftByLoss d m → LosesPowerIn d deeds m
 lost_now [] d m left = left
 lost_now (deed ∷ deeds) d m left = inl (now_or_during deed d m left)
 
@@ -99,11 +99,11 @@ same_folder : (d e : FolderHistory) (m : Names) → e ≡ d → IsLeftByLoss e m
 same_folder d e m same left = subst (λ (k : FolderHistory). IsLeftByLoss k m) same left
 
 -- The machine might as well have lost its power during the deed that fails.
-lost_at_once : (deed : Deed) (deeds : List Deed) (d e : FolderHistory) (m : Names) → (e ≡ d) ⊎ (e ≡ after_deed d deed) → IsLeftByLoss e m → LosesPowerIn d (deed ∷ deeds) m
+lost_at_once : (deed : FileDeed) (deeds : List FileDeed) (d e : FolderHistory) (m : Names) → (e ≡ d) ⊎ (e ≡ after_deed d deed) → IsLeftByLoss e m → LosesPowerIn d (deed ∷ deeds) m
 lost_at_once deed deeds d e m (inl same) left = inl (now_or_during deed d m (same_folder d e m same left))
 lost_at_once deed deeds d e m (inr done) left = inr (lost_now deeds (after_deed d deed) m (same_folder (after_deed d deed) e m done left))
 
-lost_there : (deed : Deed) (deeds : List Deed) (d e : FolderHistory) (m : Names) → LeavesFolder d deed e → IsLeftByLoss e m → LosesPowerIn d (deed ∷ deeds) m
+lost_there : (deed : FileDeed) (deeds : List FileDeed) (d e : FolderHistory) (m : Names) → LeavesFolder d deed e → IsLeftByLoss e m → LosesPowerIn d (deed ∷ deeds) m
 lost_there (Writes sync bytes) deeds d e m (inl same) left = inl (now_or_during (Writes sync bytes) d m (same_folder d e m same left))
 lost_there (Writes sync bytes) deeds d e m (inr torn) left =
     let after = same_folder (after_deed d (Writes false torn.0)) e m torn.1 left in
@@ -113,7 +113,7 @@ lost_there Renames deeds d e m leaves left = lost_at_once Renames deeds d e m le
 lost_there SyncsFolder deeds d e m same left = inl (same_folder d e m same left)
 lost_there Clears deeds d e m leaves left = lost_at_once Clears deeds d e m leaves left
 
-pub lost_in : (deeds : List Deed) (at : FileStep) (d e : FolderHistory) (m : Names) → IsBrokenOff DoesToFolder d deeds at e → IsLeftByLoss e m → LosesPowerIn d deeds m
+pub lost_in : (deeds : List FileDeed) (at : FileStep) (d e : FolderHistory) (m : Names) → IsBrokenOff DoesToFolder d deeds at e → IsLeftByLoss e m → LosesPowerIn d deeds m
 lost_in [] at d e m broken left = absurd broken
 lost_in (deed ∷ deeds) at d e m (inl failed) left = lost_there deed deeds d e m failed.0 left
 lost_in (deed ∷ deeds) at d e m (inr (between, first, rest)) left =

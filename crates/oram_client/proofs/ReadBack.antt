@@ -9,13 +9,13 @@ use Rattle.oram_client.specs.declared.kept_file.Head.{Head}
 use Rattle.oram_client.specs.KeptFile.{behind_letters, kept_file, sealer_byte}
 use Rattle.oram_client.specs.FileKeeper.{FileKeeperState, IsEitherLasting, IsLasting, KeepsFile, MayReadBack, PutsFile}
 use Rattle.oram_client.specs.PowerLoss.{FolderHistory, DoesToFolder, FoldersAfter, IsLeftByLoss, IsSure, names_now}
-use Rattle.oram_client.specs.Replacement.{Deed, DoesAll, IsBrokenOff, deeds_of, found}
+use Rattle.oram_client.specs.Replacement.{FileDeed, DoesAll, IsBrokenOff, deeds_of, found}
 use Rattle.oram_client.proofs.NamesNow.{names_all, names_broken}
 use Rattle.oram_client.proofs.PowerLoss.{done_all, lost_in, synced_files_last}
 use Rattle.oram_client.proofs.Whole.{files_are_kept, files_outlast_failures}
 
 -- A kept file has one process behind its head.
-only_process : (head : Head) (a b : List ℕ) → Some (kept_file head a) ≡ Some (kept_file head b) → a ≡ b
+pub only_process : (head : Head) (a b : List ℕ) → Some (kept_file head a) ≡ Some (kept_file head b) → a ≡ b
 only_process head a b same =
     let whole : kept_file head a ≡ kept_file head b = ap (λ (file : Option (List ℕ)). unwrap_or file []) same in
     let behind : behind_letters head a ≡ behind_letters head b = append_cancel_left (codes "VIDLAQE3") _ _ whole in
@@ -27,17 +27,17 @@ sure_kept : (file : List ℕ) (d e : FolderHistory) → DoesAll DoesToFolder d (
 sure_kept file d e does_all m left =
     (synced_files_last file).afterwards d m (subst (λ (k : FolderHistory). IsLeftByLoss k m) (done_all (deeds_of true file) d e does_all) left)
 
-module _ {P : Type 0} (does : P → Deed → Bool → P → Type 0) (may_be : P → FolderHistory → Type 0)
-    (folders_after : (old : P) (deed : Deed) (done : Bool) (new : P) → does old deed done new → (e : FolderHistory) → may_be new e ↔ FoldersAfter (may_be old) deed done e) where
+module _ {P : Type 0} (does : P → FileDeed → Bool → P → Type 0) (may_be : P → FolderHistory → Type 0)
+    (folders_after : (old : P) (deed : FileDeed) (done : Bool) (new : P) → does old deed done new → (e : FolderHistory) → may_be new e ↔ FoldersAfter (may_be old) deed done e) where
   -- the folder that a possible one follows from, once all deeds are done or one has failed
-  before_all : (deeds : List Deed) (p q : P) (e : FolderHistory) → DoesAll does p deeds q → may_be q e → (d : FolderHistory) × may_be p d × DoesAll DoesToFolder d deeds e
+  before_all : (deeds : List FileDeed) (p q : P) (e : FolderHistory) → DoesAll does p deeds q → may_be q e → (d : FolderHistory) × may_be p d × DoesAll DoesToFolder d deeds e
   before_all [] p q e same possible = (e, subst (λ (place : P). may_be place e) same possible, refl)
   before_all (deed ∷ deeds) p q e (between, first, rest) possible =
       let later = before_all deeds between q e rest possible in
       let earlier = (folders_after p deed true between first later.0).0 later.1 in
       (earlier.0, earlier.1, (later.0, earlier.2, later.2))
 
-  before_broken : (deeds : List Deed) (at : FileStep) (p q : P) (e : FolderHistory) → IsBrokenOff does p deeds at q → may_be q e → (d : FolderHistory) × may_be p d × IsBrokenOff DoesToFolder d deeds at e
+  before_broken : (deeds : List FileDeed) (at : FileStep) (p q : P) (e : FolderHistory) → IsBrokenOff does p deeds at q → may_be q e → (d : FolderHistory) × may_be p d × IsBrokenOff DoesToFolder d deeds at e
   before_broken [] at p q e broken possible = absurd broken
   before_broken (deed ∷ deeds) at p q e (inl failed) possible =
       let earlier = (folders_after p deed false q failed.0 e).0 possible in
@@ -54,7 +54,7 @@ module _ {P : Type 0} (does : P → Deed → Bool → P → Type 0) (may_be : P 
     has_put (Some why) never = absurd (true≢false never.0)
 
     -- the file with the process is found, and no other
-    found_kept : KeepsFile does k process true m → (e : FolderHistory) → may_be m.place e → found (names_now e) ≡ Some (kept_file k.head process)
+    pub found_kept : KeepsFile does k process true m → (e : FolderHistory) → may_be m.place e → found (names_now e) ≡ Some (kept_file k.head process)
     found_kept keeps e possible =
         let file = kept_file k.head process in
         let earlier = before_all (deeds_of k.sync file) k.place m.place e (has_put k.failure keeps.kept) possible in
@@ -73,28 +73,37 @@ module _ {P : Type 0} (does : P → Deed → Bool → P → Type 0) (may_be : P 
     only keeps bytes r = only_process k.head bytes process (sym (r.is_found ∙ behind bytes keeps.head) ∙ found_kept keeps r.folder r.possible)
 
     -- one deed has failed, or an earlier keeping had
-    abbrev HasFailed : Option FileFailure → Type 0
+    abbrev pub HasFailed : Option FileFailure → Type 0
     HasFailed failure = MatchOption failure (PutsFile does k process false m) (λ _. (false ≡ false) × (m ≡ k))
 
-    broken : (bytes : List ℕ) → m.head ≡ k.head → (failure : Option FileFailure)
-        → IsSomeAnd failure (λ why. IsBrokenOff does k.place (deeds_of k.sync (kept_file k.head process)) why.step m.place)
-        → MayReadBack may_be m bytes → (bytes ≡ process) ⊎ MayReadBack may_be k bytes
-    broken bytes same None never r = absurd never
-    broken bytes same (Some why) broke r =
+    -- the file with the process is found, or what might have been found before
+    abbrev pub IsEitherFound : FolderHistory → Type 0
+    IsEitherFound e = (found (names_now e) ≡ Some (kept_file k.head process)) ⊎ ((d : FolderHistory) × may_be k.place d × (found (names_now e) ≡ found (names_now d)))
+
+    found_broken : (failure : Option FileFailure) → IsSomeAnd failure (λ why. IsBrokenOff does k.place (deeds_of k.sync (kept_file k.head process)) why.step m.place)
+        → (e : FolderHistory) → may_be m.place e → IsEitherFound e
+    found_broken None never e possible = absurd never
+    found_broken (Some why) broke e possible =
         let file = kept_file k.head process in
-        let earlier = before_broken (deeds_of k.sync file) why.step k.place m.place r.folder broke r.possible in
-        let names = names_broken (deeds_of k.sync file) why.step earlier.0 r.folder earlier.2 in
-        elim (files_outlast_failures k.sync file (names_now earlier.0) (names_now r.folder) why.step names) [
-          | inl old ↦ inr (record { folder = earlier.0; possible = earlier.1; is_found = sym old ∙ r.is_found ∙ behind bytes same })
-          | inr new ↦ inl (only_process k.head bytes process (sym (r.is_found ∙ behind bytes same) ∙ new))
+        let earlier = before_broken (deeds_of k.sync file) why.step k.place m.place e broke possible in
+        let names = names_broken (deeds_of k.sync file) why.step earlier.0 e earlier.2 in
+        elim (files_outlast_failures k.sync file (names_now earlier.0) (names_now e) why.step names) [
+          | inl old ↦ inr (earlier.0, earlier.1, old)
+          | inr new ↦ inl new
         ]
 
+    pub found_unkept : (failure : Option FileFailure) → HasFailed failure → (e : FolderHistory) → may_be m.place e → IsEitherFound e
+    found_unkept None puts e possible = found_broken m.failure puts e possible
+    found_unkept (Some why) nothing e possible = inr (e, subst (λ (j : FileKeeperState P). may_be j.place e) nothing.1 possible, refl)
+
     unkept : (bytes : List ℕ) → m.head ≡ k.head → (failure : Option FileFailure) → HasFailed failure → MayReadBack may_be m bytes → (bytes ≡ process) ⊎ MayReadBack may_be k bytes
-    unkept bytes same None puts r = broken bytes same m.failure puts r
-    unkept bytes same (Some why) nothing r = inr (subst (λ (j : FileKeeperState P). MayReadBack may_be j bytes) nothing.1 r)
+    unkept bytes same failure failed r = elim (found_unkept failure failed r.folder r.possible) [
+      | inl new ↦ inl (only_process k.head bytes process (sym (r.is_found ∙ behind bytes same) ∙ new))
+      | inr old ↦ inr (record { folder = old.0; possible = old.1; is_found = sym old.2 ∙ r.is_found ∙ behind bytes same })
+    ]
 
     -- with sync, over a loss of power
-    lasting : k.sync ≡ true → KeepsFile does k process true m → IsLasting may_be m process
+    pub lasting : k.sync ≡ true → KeepsFile does k process true m → IsLasting may_be m process
     lasting synced keeps e possible n left =
         let file = kept_file k.head process in
         let put = subst (λ (sync : Bool). DoesAll does k.place (deeds_of sync file) m.place) synced (has_put k.failure keeps.kept) in
@@ -117,7 +126,7 @@ module _ {P : Type 0} (does : P → Deed → Bool → P → Type 0) (may_be : P 
         either_of (λ old. old ∙ sym (behind before same)) (λ new. new ∙ sym (behind process same))
         ((synced_files_last file).meanwhile (Some (kept_file k.head before)) earlier.0 (lasts earlier.0 earlier.1) n loses)
 
-    either_lasting : k.sync ≡ true → (before : List ℕ) → IsLasting may_be k before → m.head ≡ k.head → (failure : Option FileFailure) → HasFailed failure
+    pub either_lasting : k.sync ≡ true → (before : List ℕ) → IsLasting may_be k before → m.head ≡ k.head → (failure : Option FileFailure) → HasFailed failure
         → IsEitherLasting may_be m before process
     either_lasting synced before lasts same None puts = broken_lasting synced before lasts same m.failure puts
     either_lasting synced before lasts same (Some why) nothing =

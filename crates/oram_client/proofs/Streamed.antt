@@ -19,7 +19,7 @@ length_at-frame : (body after : List ℕ) → IsBody body → length_at (frame b
 length_at-frame body after fits = ap length_at (append_assoc (to_be_bytes w32 (length body)) body after) ∙ big_number-reads_back 4 (length body) (body ++ after) (omega arith)
 
 -- bytes begin with only one frame
-same_frame : (b c u v : List ℕ) → IsBody b → IsBody c → frame b ++ u ≡ frame c ++ v → (b ≡ c) × (u ≡ v)
+pub same_frame : (b c u v : List ℕ) → IsBody b → IsBody c → frame b ++ u ≡ frame c ++ v → (b ≡ c) × (u ≡ v)
 same_frame b c u v b_fits c_fits e =
     let count : length b ≡ length c = sym (length_at-frame b u b_fits) ∙ ap length_at e ∙ length_at-frame c v c_fits in
     let left : drop 4 (frame b ++ u) ≡ b ++ u = ap (drop 4) (append_assoc (to_be_bytes w32 (length b)) b u) ∙ drop_at (to_be_bytes w32 (length b)) (b ++ u) 4 refl in

@@ -1,7 +1,7 @@
 -- The file that is found if a process ends while a file is replaced.
 use Rattle.std.proofs.Common.{◌≡◌, ◌⊎◌, inl, inr, ℕ, Bool, true, false, List, [], ◌∷◌, Option, Some, ◌∙◌, ap}
 use Rattle.oram_client.specs.declared.file_step.FileStep.{FileStep}
-use Rattle.oram_client.specs.Replacement.{Deed, Writes, SetsAside, Renames, SyncsFolder, Clears, deeds_of, IsBrokenOff, Names, first_of, found, Makes, Leaves, EndsIn, DoesToNames, FilesStayWhole, FilesOutlastFailures, FilesAreKept}
+use Rattle.oram_client.specs.Replacement.{FileDeed, Writes, SetsAside, Renames, SyncsFolder, Clears, deeds_of, IsBrokenOff, Names, first_of, found, Makes, Leaves, EndsIn, DoesToNames, FilesStayWhole, FilesOutlastFailures, FilesAreKept}
 
 -- The new file is whole, and the file that is found is still the same.
 record IsReady (n : Names) (file : List ℕ) (m : Names) : Type 0 where
@@ -62,7 +62,7 @@ files_stay_whole false file n m (inl torn) = inl (ap found torn.1)
 files_stay_whole false file n m (inr more) = ends_moving file n more.0 m (written false file n more.0 more.1) more.2
 
 -- A process might as well have ended in the step that fails.
-ends_there : (deeds : List Deed) (n m : Names) (at : FileStep) → IsBrokenOff DoesToNames n deeds at m → EndsIn n deeds m
+ends_there : (deeds : List FileDeed) (n m : Names) (at : FileStep) → IsBrokenOff DoesToNames n deeds at m → EndsIn n deeds m
 ends_there [] n m at broken = absurd broken
 ends_there (deed ∷ deeds) n m at (inl failed) = inl failed.0
 ends_there (deed ∷ deeds) n m at (inr more) = inr (more.0, more.1, ends_there deeds more.0 m at more.2)

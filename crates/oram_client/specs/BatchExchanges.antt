@@ -67,7 +67,7 @@ module _ {D L : Type 0} (opens : D → Limits → L → D → Type 0) (fails : D
   tried_among dialer dialer' line line' limits bodies came exchanges (inr called) =
       batch_among bodies called.outcome exchanges (law called.way called.way' bodies called.outcome exchanges called.called)
 
-  -- the messages of all tries in vain
+  -- the messages of all tries that failed
   pub vain_among : (reconnect_timeout : ℕ) (begin : Option ℕ) (bodies : List (List ℕ)) (w x : Waiting D L) (vain : List VainTry)
       → FoldsTo (IsDelayed opens fails pauses reads batches reconnect_timeout begin bodies) w vain x → AreAmong (bodies_of (flat_map (λ v. v.exchanges) vain)) bodies
   vain_among reconnect_timeout begin bodies w x [] folds = tt
@@ -77,7 +77,7 @@ module _ {D L : Type 0} (opens : D → Limits → L → D → Type 0) (fails : D
       (tried_among w.dialer one.mid w.line folds.0.line _ bodies one.came v.exchanges one.tried)
       (vain_among reconnect_timeout begin bodies folds.0 x vain folds.2)
 
-  -- the last try, after tries in vain with these exchanges
+  -- the last try, after tries that failed with these exchanges
   last_try : (bodies : List (List ℕ)) (o outcome : BatchOutcome) (came : Attempt) (before heard exchanges : List Exchange) (line' : Option L) (way' : L)
       → AreAmong (bodies_of before) bodies → IsBatch bodies outcome heard
       → MatchResult outcome (λ answers. (came ≡ Ok answers) × (line' ≡ Some way')) (λ fault. (came ≡ Err (OutOfReach fault)) × (line' ≡ None))

@@ -3,8 +3,10 @@ use Rattle.std.specs.Prelude.{◌≡◌, ◌≢◌, ℕ, Bool, true, false, List
 use Rattle.oram_wire.specs.HostMessages.{fetch_body, no_room_answer, payload_answer}
 use Rattle.oram_cli.specs.declared.hosts.HostFault.{HostFault}
 use Rattle.oram_cli.specs.declared.hosts.HostFault.TheVariants as host
+use Rattle.oram_cli.specs.declared.sockets.SocketFault.{SocketFault}
+use Rattle.oram_cli.specs.declared.sockets.SocketFault.TheVariants as socket
 use Rattle.oram_session.specs.declared.link.LinkFault.{LinkFault}
-use Rattle.oram_session.specs.declared.link.LinkFault.TheVariants.{Io, Closed, OutOfMemory}
+use Rattle.oram_session.specs.declared.link.LinkFault.TheVariants.{Io, Closed, TooLong, TooLarge, OutOfMemory}
 use Rattle.oram_link_laws.specs.Runs.{Exchange}
 use Rattle.oram_rounds.specs.Batches.{BatchOutcome}
 use Rattle.oram_client.specs.StreamBatches.{Connection, StreamBatch, connection}
@@ -17,6 +19,22 @@ may_pass (OutOfReach fault) = true
 may_pass NoRoom = true
 may_pass AnotherDisk = false
 may_pass NoDisk = false
+
+-- the trouble for a socket that can't be used
+abbrev pub socket_told : SocketFault → Trouble
+socket_told socket.Failed = OutOfReach Io
+socket_told socket.OutOfMemory = OutOfReach OutOfMemory
+
+-- whether it is only that this program has no memory for what it sends or receives
+abbrev pub lacks_memory : Trouble → Bool
+lacks_memory (OutOfReach Io) = false
+lacks_memory (OutOfReach Closed) = false
+lacks_memory (OutOfReach TooLong) = false
+lacks_memory (OutOfReach TooLarge) = false
+lacks_memory (OutOfReach OutOfMemory) = true
+lacks_memory NoRoom = false
+lacks_memory AnotherDisk = false
+lacks_memory NoDisk = false
 
 -- the fault that a link reports to its caller for a trouble
 abbrev pub fault_of : Trouble → LinkFault

@@ -1,7 +1,7 @@
 -- A keeper that writes what is kept of a process to a file.
 use Rattle.std.specs.Prelude.{◌≡◌, ◌⊎◌, ℕ, Bool, false, List, Option, None, Some, IsSomeAnd, MatchBool, MatchOption}
 use Rattle.oram_client.specs.KeptFile.{kept_file}
-use Rattle.oram_client.specs.Replacement.{Deed, DoesAll, IsBrokenOff, Names, deeds_of, found}
+use Rattle.oram_client.specs.Replacement.{FileDeed, DoesAll, IsBrokenOff, Names, deeds_of, found}
 use Rattle.oram_client.specs.PowerLoss.{FolderHistory, IsLeftByLoss, IsSure, names_now}
 use Rattle.oram_client.specs.declared.kept_file.Head.{Head}
 use Rattle.oram_client.specs.declared.file_step.FileFailure.{FileFailure}
@@ -13,7 +13,7 @@ pub record FileKeeperState (P : Type 0) : Type 0 where
   pub failure : Option FileFailure  -- why the last process was not kept, if it was not
 
 -- for places where deeds are done, or fail, by `does`
-module _ {P : Type 0} (does : P → Deed → Bool → P → Type 0) where
+module _ {P : Type 0} (does : P → FileDeed → Bool → P → Type 0) where
   -- All deeds that replace the file by the one with this process are done; or one fails, and the keeper
   -- remembers why.
   abbrev pub PutsFile : FileKeeperState P → List ℕ → Bool → FileKeeperState P → Type 0

@@ -14,3 +14,5 @@ pub mod Replacement
 pub mod PowerLoss
 pub mod DeedHistory
 pub mod FilePlace
+pub mod NextProcess
+pub mod FolderExample

@@ -1,12 +1,16 @@
 -- What a batch over a link that tries again is to the one host to which its connections lead.
-use Rattle.std.specs.Prelude.{◌≡◌, ◌⊎◌, ◌↔◌, ℕ, Bool, List, [], ◌∷◌, ◌++◌, Option, None, Some, Ok, Err}
+use Rattle.std.specs.Prelude.{◌≡◌, ◌⊎◌, ◌↔◌, ℕ, zero, suc, Bool, true, false, List, [], ◌∷◌, ◌++◌, Option, None, Some, Ok, Err, is_ok, if◌then◌else◌, bytes_eq, replicate}
 use Rattle.std.specs.List.{AllByRecursion, FoldsTo}
-use Rattle.oram_wire.specs.FrameStream.{frame}
-use Rattle.oram_wire.specs.HostMessages.{no_room_answer, refusal_answer}
+use Rattle.oram_wire.specs.FrameStream.{IsBody, frame}
+use Rattle.oram_wire.specs.HostBodies.{IsAnswer}
+use Rattle.oram_wire.specs.HostMessages.{answer_body, done_answer, fetch_body, no_room_answer, payload_answer, store_body}
+use Rattle.oram_wire.specs.declared.host_messages.HostAnswer.{HostAnswer}
 use Rattle.oram_host.specs.Host.{Host}
+use Rattle.oram_host.specs.Service.{Serves}
 use Rattle.oram_semantics.specs.Scheme.{Scheme}
-use Rattle.oram_session.specs.declared.link.LinkFault.TheVariants.{Closed}
-use Rattle.oram_link_laws.specs.Examples.{known}
+use Rattle.oram_session.specs.declared.link.LinkFault.{LinkFault}
+use Rattle.oram_session.specs.declared.link.LinkFault.TheVariants.{Closed, OutOfMemory}
+use Rattle.oram_link_laws.specs.Examples.{known, new_host, one_block}
 use Rattle.oram_link_laws.specs.Repair.{AreAmong, IsAmong}
 use Rattle.oram_link_laws.specs.Runs.{Exchange, HostRun, bodies_of}
 use Rattle.oram_link_laws.specs.Streamed.{Supplies}
@@ -38,7 +42,7 @@ module _ {D L : Type 0} (opens : D → Limits → L → D → Type 0) (fails : D
       × ((may_lie : Bool) (v : Scheme) (host after : Host) → TriesRun may_lie v host tries after ↔ PlainRun may_lie v host exchanges after)
 
   -- The answers that the caller receives are the host's, to all messages in their order, after the host received any of the
-  -- messages in tries in vain. None of them is that the host has no room, unless the link has given up.
+  -- messages in tries that failed. None of them is that the host has no room, unless the link has given up.
   abbrev pub AnswersAreTheHosts : Type 0
   AnswersAreTheHosts = AreBatches batches
       → (may_lie : Bool) (v : Scheme) (l m : ReconnectState D L) (bodies answers : List (List ℕ)) (exchanges : List Exchange) (host after : Host)
@@ -47,6 +51,32 @@ module _ {D L : Type 0} (opens : D → Limits → L → D → Type 0) (fails : D
       × ((mid : Host) × PlainRun may_lie v host vain mid × PlainRun may_lie v mid (answered bodies answers) after)
       × (m.trouble ≡ None → ¬ IsAmong no_room_answer answers)
 
+  -- A link that returns a fault and hasn't given up has no memory.
+  abbrev pub FaultsAreOfMemory : Type 0
+  FaultsAreOfMemory = (l m : ReconnectState D L) (bodies : List (List ℕ)) (fault : LinkFault) (exchanges : List Exchange)
+      → ReconnectBatch opens fails pauses reads batches l bodies (Err fault) exchanges m → l.trouble ≡ None → m.trouble ≡ None → fault ≡ OutOfMemory
+
+  -- All connections lead to one host. `host_of` gives that host as it is now, for a dialer and the open connection if there is
+  -- one; it gives `None` for a dialer and a connection that don't lead to it. Whatever happens to the link while it carries
+  -- these messages, what it has then leads to the host again, as the host is then.
+  pub record LeadToOneHost (may_lie : Bool) (v : Scheme) (bodies : List (List ℕ)) (host_of : D → Option L → Option Host) : Type 0 where
+    pub opened : (d e : D) (limits : Limits) (line : L) (host : Host) → host_of d None ≡ Some host → opens d limits line e → host_of e (Some line) ≡ Some host
+    pub unopened : (d e : D) (limits : Limits) (trouble : Trouble) (host : Host) → host_of d None ≡ Some host → fails d limits trouble e → host_of e None ≡ Some host
+    pub answered_over : (d : D) (line way : L) (answers : List (List ℕ)) (exchanges : List Exchange) (host : Host) → host_of d (Some line) ≡ Some host
+        → batches line bodies (Ok answers) exchanges way → (after : Host) × PlainRun may_lie v host exchanges after × (host_of d (Some way) ≡ Some after)
+    pub broken_off : (d : D) (line way : L) (fault : LinkFault) (exchanges : List Exchange) (host : Host) → host_of d (Some line) ≡ Some host
+        → batches line bodies (Err fault) exchanges way → (after : Host) × PlainRun may_lie v host exchanges after × (host_of d None ≡ Some after)
+    pub paused : (d e : D) (line : Option L) (milliseconds : ℕ) (host : Host) → host_of d line ≡ Some host → pauses d milliseconds e → host_of e line ≡ Some host
+    pub clock_read : (d e : D) (line : Option L) (now : Option ℕ) (host : Host) → host_of d line ≡ Some host → reads d now e → host_of e line ≡ Some host
+
+  -- Then the exchanges of a batch over the link are those of the host, from connection to connection, and afterwards all
+  -- connections lead to it again.
+  abbrev pub ExchangesAreOfOneHost : Type 0
+  ExchangesAreOfOneHost = (may_lie : Bool) (v : Scheme) (bodies : List (List ℕ)) (host_of : D → Option L → Option Host) → LeadToOneHost may_lie v bodies host_of
+      → (l m : ReconnectState D L) (o : BatchOutcome) (exchanges : List Exchange) (host : Host) → host_of l.dialer l.line ≡ Some host
+      → ReconnectBatch opens fails pauses reads batches l bodies o exchanges m
+      → (after : Host) × PlainRun may_lie v host exchanges after × (host_of m.dialer m.line ≡ Some after)
+
 -- If the reader's bytes are known to be a server's answers to the messages, then, whatever the outcome of a batch, also a
 -- fault, that server is honest in its exchanges.
 abbrev pub StreamBatchesAreRun : {R W : Type 0} → (R → Option (List ℕ)) → (W → Option (List ℕ)) → Type 0
@@ -54,37 +84,109 @@ StreamBatchesAreRun {R} {W} remaining contents = (l m : Connection R W) (bodies 
     → remaining l.reader ≡ Some bytes → Supplies host bodies bytes → StreamBatch remaining contents l bodies o exchanges m
     → (left : Host) × HostRun host exchanges left
 
--- An example: a dialer with a list of connections in memory, which opens the next one each time. Its clock can't be read.
-abbrev pub Lines : Type 0
-Lines = List (Connection (List ℕ) (List ℕ))
+-- The host receives these messages, or only the first ones of them, and the bytes are the frames of its answers.
+abbrev pub AnswersFirst : Host → List (List ℕ) → List ℕ → Host → Type 0
+AnswersFirst host [] bytes after = (bytes ≡ []) × (after ≡ host)
+AnswersFirst host (body ∷ bodies) bytes after = ((bytes ≡ []) × (after ≡ host))
+    ⊎ ((answer : HostAnswer) × (mid : Host) × (rest : List ℕ) × IsAnswer answer × IsBody (answer_body answer) × Serves host body answer mid
+    × (bytes ≡ frame (answer_body answer) ++ rest) × AnswersFirst mid bodies rest after)
 
-abbrev pub OpensNext : Lines → Limits → Connection (List ℕ) (List ℕ) → Lines → Type 0
-OpensNext lines limits line rest = lines ≡ line ∷ rest
+-- A connection that leads to this host. The connection may break off: then the host receives only some of the messages, and
+-- only a beginning of its answers comes back.
+pub record LeadsToHost (host : Host) (bodies : List (List ℕ)) (bytes : List ℕ) (after : Host) : Type 0 where
+  pub answers : List ℕ
+  pub given : AnswersFirst host bodies answers after
+  pub lost : List ℕ
+  pub come : bytes ++ lost ≡ answers
 
-abbrev pub NeverFails : Lines → Limits → Trouble → Lines → Type 0
-NeverFails lines limits trouble rest = ⊥
+-- Whatever the outcome of a batch over such a connection, the host is honest in its exchanges. If all messages were answered,
+-- no bytes are left to be read.
+abbrev pub StreamBatchesReachTheHost : {R W : Type 0} → (R → Option (List ℕ)) → (W → Option (List ℕ)) → Type 0
+StreamBatchesReachTheHost {R} {W} remaining contents = (l m : Connection R W) (bodies : List (List ℕ)) (o : BatchOutcome) (exchanges : List Exchange) (host after : Host) (bytes : List ℕ)
+    → l.closed ≡ false → remaining l.reader ≡ Some bytes → LeadsToHost host bodies bytes after → StreamBatch remaining contents l bodies o exchanges m
+    → HostRun host exchanges after × (is_ok o ≡ true → remaining m.reader ≡ Some [])
 
-abbrev pub PausesBetween : Lines → ℕ → Lines → Type 0
-PausesBetween lines milliseconds rest = rest ≡ lines
+-- An example: the host of a device of one block, to which a STORE of ones and a FETCH of its only path are sent. The dialer
+-- opens connections in memory, and is the number of those that it has opened. Its clock can't be read.
+abbrev pub ones : List ℕ
+ones = replicate 88 1
 
-abbrev pub ReadsNoClock : Lines → Option ℕ → Lines → Type 0
-ReadsNoClock lines now rest = (now ≡ None) × (rest ≡ lines)
+abbrev pub messages : List (List ℕ)
+messages = store_body 0 0 ones ∷ fetch_body 0 0 ∷ []
 
--- the refusal of a message of no bytes, and its frame
-abbrev pub refusal : List ℕ
-refusal = refusal_answer 7
+-- the host, once it has carried out the STORE
+abbrev pub ones_host : Host
+ones_host = (0, record { depth = 0; record_len = 88; records = (0, ones) ∷ [] }) ∷ []
 
--- A batch of two messages of no bytes. Over the first connection only one answer comes, and over the second one both.
+-- the frames of its answers to the STORE and to the FETCH
+abbrev pub done_frame : List ℕ
+done_frame = frame done_answer
+
+abbrev pub path_frame : List ℕ
+path_frame = frame (payload_answer ones)
+
+-- What comes back over each connection. The first one breaks off after the first answer, the second one gives both, and any
+-- later one breaks off at once.
+abbrev pub comes_over : ℕ → List ℕ
+comes_over zero = done_frame
+comes_over (suc zero) = done_frame ++ path_frame
+comes_over (suc (suc count)) = []
+
+-- the host after so many connections
+abbrev pub host_after : ℕ → Host
+host_after zero = new_host
+host_after (suc count) = ones_host
+
+abbrev pub Bytes : Type 0
+Bytes = Connection (List ℕ) (List ℕ)
+
+abbrev pub OpensNext : ℕ → Limits → Bytes → ℕ → Type 0
+OpensNext count limits line more = (line ≡ connection (comes_over count) []) × (more ≡ suc count)
+
+abbrev pub NeverFails : ℕ → Limits → Trouble → ℕ → Type 0
+NeverFails count limits trouble more = ⊥
+
+abbrev pub PausesBetween : ℕ → ℕ → ℕ → Type 0
+PausesBetween count milliseconds more = more ≡ count
+
+abbrev pub ReadsNoClock : ℕ → Option ℕ → ℕ → Type 0
+ReadsNoClock count now more = (now ≡ None) × (more ≡ count)
+
+-- The host to which the newest connection leads, which is closed or not and still has these bytes to be read: the host as it
+-- was when the connection was opened, and once all was read, as it is after that connection.
+abbrev pub host_over : ℕ → Bool → List ℕ → Option Host
+host_over count true unread = None
+host_over count false [] = Some (host_after (suc count))
+host_over count false (byte ∷ unread) = if bytes_eq (byte ∷ unread) (comes_over count) then Some (host_after count) else None
+
+abbrev pub host_over_line : ℕ → Bytes → Option Host
+host_over_line zero line = None
+host_over_line (suc count) line = host_over count line.closed line.reader
+
+abbrev pub host_now : ℕ → Option Bytes → Option Host
+host_now count None = Some (host_after count)
+host_now count (Some line) = host_over_line count line
+
+-- over the first connection the FETCH has no answer, and over the second one both messages have
 abbrev pub two_tries : List Exchange
-two_tries = ([], Ok refusal) ∷ ([], Err Closed) ∷ ([], Ok refusal) ∷ ([], Ok refusal) ∷ []
+two_tries = (store_body 0 0 ones, Ok done_answer) ∷ (fetch_body 0 0, Err Closed)
+    ∷ (store_body 0 0 ones, Ok done_answer) ∷ (fetch_body 0 0, Ok (payload_answer ones)) ∷ []
 
 -- a link with one second to try, before it opened a connection
-abbrev pub fresh : Lines → ReconnectState Lines (Connection (List ℕ) (List ℕ))
-fresh lines = record { dialer = lines; line = None; reconnect_timeout = 1000; trouble = None }
+abbrev pub fresh : ReconnectState ℕ Bytes
+fresh = record { dialer = 0; line = None; reconnect_timeout = 1000; trouble = None }
 
--- The batch sends both messages again, and an empty host is honest in all exchanges.
+-- the second connection, after it has carried the batch
+abbrev pub emptied : Bytes
+emptied = record { reader = []; writer = frame (store_body 0 0 ones) ++ frame (fetch_body 0 0); closed = false }
+
+abbrev pub done_link : ReconnectState ℕ Bytes
+done_link = record { dialer = 2; line = Some emptied; reconnect_timeout = 1000; trouble = None }
+
+-- The batch sends both messages again, and all connections lead to the host, which is honest in all exchanges.
 abbrev pub TwoTriesExample : Type 0
-TwoTriesExample = (m : ReconnectState Lines (Connection (List ℕ) (List ℕ)))
-    × ReconnectBatch OpensNext NeverFails PausesBetween ReadsNoClock (StreamBatch known known)
-    (fresh (connection (frame refusal) [] ∷ connection (frame refusal ++ frame refusal) [] ∷ [])) ([] ∷ [] ∷ []) (Ok (refusal ∷ refusal ∷ [])) two_tries m
-    × HostRun [] two_tries []
+TwoTriesExample = ((may_lie : Bool) → LeadToOneHost OpensNext NeverFails PausesBetween ReadsNoClock (StreamBatch known known) may_lie one_block messages host_now)
+    × (host_now fresh.dialer fresh.line ≡ Some new_host)
+    × ReconnectBatch OpensNext NeverFails PausesBetween ReadsNoClock (StreamBatch known known) fresh messages (Ok (done_answer ∷ payload_answer ones ∷ [])) two_tries done_link
+    × HostRun new_host two_tries ones_host
+    × Supplies ones_host messages (comes_over 1) × LeadsToHost new_host messages (comes_over 0) ones_host

@@ -1,6 +1,6 @@
 -- The file that is found after the machine has lost its power.
 use Rattle.std.specs.Prelude.{◌≡◌, ◌⊎◌, ℕ, Bool, true, false, List, [], ◌∷◌, Option, None, Some, ⊤, MatchBool}
-use Rattle.oram_client.specs.Replacement.{Deed, Writes, SetsAside, Renames, SyncsFolder, Clears, Names, deeds_of, found}
+use Rattle.oram_client.specs.Replacement.{FileDeed, Writes, SetsAside, Renames, SyncsFolder, Clears, Names, deeds_of, found}
 
 -- a file: once it is synced, its bytes are on the disk
 pub record File : Type 0 where
@@ -55,20 +55,20 @@ first_file None aside = aside
 first_file (Some file) aside = Some file
 
 -- a disk after a deed
-abbrev pub after_deed : FolderHistory → Deed → FolderHistory
+abbrev pub after_deed : FolderHistory → FileDeed → FolderHistory
 after_deed d (Writes sync bytes) = changed d (record d.now { fresh = Some (record { synced = sync; bytes = bytes }) })
 after_deed d SetsAside = changed d (record d.now { kept = None; aside = first_file d.now.kept d.now.aside })
 after_deed d Renames = changed d (record d.now { kept = first_file d.now.fresh d.now.kept; fresh = None })
 after_deed d SyncsFolder = record d { before = [] }
 after_deed d Clears = changed d (record d.now { aside = None })
 
-abbrev pub after_deeds : FolderHistory → List Deed → FolderHistory
+abbrev pub after_deeds : FolderHistory → List FileDeed → FolderHistory
 after_deeds d [] = d
 after_deeds d (deed ∷ deeds) = after_deeds (after_deed d deed) deeds
 
--- What a deed leaves that fails. The new file may be torn, and isn't synced; each other deed is done at once, or not at
+-- What a step leaves if it fails. The new file may be torn, and isn't synced; each other deed is done at once, or not at
 -- all.
-abbrev pub LeavesFolder : FolderHistory → Deed → FolderHistory → Type 0
+abbrev pub LeavesFolder : FolderHistory → FileDeed → FolderHistory → Type 0
 LeavesFolder d (Writes sync bytes) e = (e ≡ d) ⊎ ((torn : List ℕ) × (e ≡ after_deed d (Writes false torn)))
 LeavesFolder d SetsAside e = (e ≡ d) ⊎ (e ≡ after_deed d SetsAside)
 LeavesFolder d Renames e = (e ≡ d) ⊎ (e ≡ after_deed d Renames)
@@ -76,26 +76,26 @@ LeavesFolder d SyncsFolder e = e ≡ d
 LeavesFolder d Clears e = (e ≡ d) ⊎ (e ≡ after_deed d Clears)
 
 -- a deed is done, or fails
-abbrev pub DoesToFolder : FolderHistory → Deed → Bool → FolderHistory → Type 0
+abbrev pub DoesToFolder : FolderHistory → FileDeed → Bool → FolderHistory → Type 0
 DoesToFolder d deed done e = MatchBool done (e ≡ after_deed d deed) (LeavesFolder d deed e)
 
 -- what a deed makes of the folders that were possible before it
-abbrev pub FoldersAfter : (FolderHistory → Type 0) → Deed → Bool → FolderHistory → Type 0
+abbrev pub FoldersAfter : (FolderHistory → Type 0) → FileDeed → Bool → FolderHistory → Type 0
 FoldersAfter before deed done e = (d : FolderHistory) × before d × DoesToFolder d deed done e
 
 -- a disk during a deed: a file isn't synced before it is whole
-abbrev pub during_deed : FolderHistory → Deed → FolderHistory
+abbrev pub during_deed : FolderHistory → FileDeed → FolderHistory
 during_deed d (Writes sync bytes) = after_deed d (Writes false bytes)
 during_deed d deed = d
 
 -- The machine loses its power during one of the deeds, or after all of them, and leaves this.
-abbrev pub LosesPowerIn : FolderHistory → List Deed → Names → Type 0
+abbrev pub LosesPowerIn : FolderHistory → List FileDeed → Names → Type 0
 LosesPowerIn d [] m = IsLeftByLoss d m
 LosesPowerIn d (deed ∷ deeds) m = IsLeftByLoss (during_deed d deed) m ⊎ LosesPowerIn (after_deed d deed) deeds m
 
 -- These deeds keep a file even if the machine loses its power: during them, the file that is found is the one that was
 -- sure before or the new one; after them it is the new one.
-pub record AreLasting (file : List ℕ) (deeds : List Deed) : Type 0 where
+pub record AreLasting (file : List ℕ) (deeds : List FileDeed) : Type 0 where
   pub meanwhile : (old : Option (List ℕ)) (d : FolderHistory) → IsSure d old → (m : Names) → LosesPowerIn d deeds m → (found m ≡ old) ⊎ (found m ≡ Some file)
   pub afterwards : (d : FolderHistory) → IsSure (after_deeds d deeds) (Some file)
 

@@ -1,5 +1,5 @@
 -- A link that tries until its host answers or its reconnect timeout has passed. All times are in milliseconds.
-use Rattle.std.specs.Prelude.{◌≡◌, ℕ, ◌-◌, ◌*◌, ◌<◌, min, max, cond, List, [], ◌++◌, Option, None, Some, Result, Ok, Err, MatchOption, MatchResult, ◌⊎◌}
+use Rattle.std.specs.Prelude.{◌≡◌, ℕ, ◌-◌, ◌*◌, ◌<◌, min, max, cond, true, false, List, [], ◌++◌, Option, None, Some, Result, Ok, Err, IsOk, MatchOption, MatchResult, ◌⊎◌}
 use Rattle.std.specs.Global.{Vec}
 use Rattle.std.specs.List.{FoldsTo, flat_map}
 use Rattle.oram_wire.specs.HostMessages.{no_room_answer}
@@ -7,7 +7,7 @@ use Rattle.oram_session.specs.declared.link.LinkFault.TheVariants.{Closed}
 use Rattle.oram_link_laws.specs.Repair.{IsAmong}
 use Rattle.oram_link_laws.specs.Runs.{Exchange}
 use Rattle.oram_rounds.specs.Batches.{BatchOutcome, texts}
-use Rattle.oram_client.specs.Dialer.{may_pass, fault_of}
+use Rattle.oram_client.specs.Dialer.{fault_of, lacks_memory, may_pass}
 use Rattle.oram_client.specs.declared.dialer.Limits.{Limits}
 use Rattle.oram_client.specs.declared.dialer.Trouble.{Trouble}
 use Rattle.oram_client.specs.declared.dialer.Trouble.TheVariants.{OutOfReach, NoRoom}
@@ -28,17 +28,23 @@ abbrev pub attempt_of : Result (Vec (Vec ℕ)) Trouble → Attempt
 attempt_of (Ok answers) = Ok (texts answers.items)
 attempt_of (Err trouble) = Err trouble
 
--- Why an attempt brought nothing to give to the caller: not all messages were answered, or the host had no room for one of
--- them. `None` where it brought answers to give.
+-- Why an attempt has to be made again: not all messages were answered, or the host had no room for one of them. `None` where
+-- it brought something to give to the caller: the answers, or that memory ran out.
 abbrev pub IsTroubleIn : Attempt → Option Trouble → Type 0
 IsTroubleIn (Ok answers) None = ¬ IsAmong no_room_answer answers
 IsTroubleIn (Ok answers) (Some trouble) = IsAmong no_room_answer answers × (trouble ≡ NoRoom)
-IsTroubleIn (Err why) trouble = trouble ≡ Some why
+IsTroubleIn (Err why) None = lacks_memory why ≡ true
+IsTroubleIn (Err why) (Some trouble) = (trouble ≡ why) × (lacks_memory why ≡ false)
 
 -- what the caller receives for an attempt
 abbrev pub link_outcome : Attempt → BatchOutcome
 link_outcome (Ok answers) = Ok answers
 link_outcome (Err trouble) = Err (fault_of trouble)
+
+-- what a program is told that asks whether the host is there: the host has answered, or this is why it hasn't
+abbrev pub IsReached : {A : Type 0} → BatchOutcome → Option Trouble → Result A Trouble → Type 0
+IsReached outcome None result = MatchResult outcome (λ answers. IsOk result) (λ fault. result ≡ Err (OutOfReach fault))
+IsReached outcome (Some trouble) result = result ≡ Err trouble
 
 -- the first pause, and the longest
 abbrev pub first_pause : ℕ
@@ -49,7 +55,7 @@ most_pause = 5000
 
 -- how long a try may take, given the reconnect timeout and the time that is left of it
 abbrev pub limits : ℕ → ℕ → Limits
-limits reconnect_timeout left = record { opening = max left 1; silence = max 1000 (min reconnect_timeout 60000); answering = max reconnect_timeout 1000 }
+limits reconnect_timeout left = record { opening = max left 1; silence = max 1000 (min reconnect_timeout 60000) }
 
 -- the time between two readings of the clock, or 0 where one of them failed
 abbrev pub elapsed : Option ℕ → Option ℕ → ℕ
@@ -117,7 +123,7 @@ pub record Waiting (D L : Type 0) : Type 0 where
   pub pause : ℕ  -- the next one
   pub left : ℕ  -- what is left of the reconnect timeout
 
--- a try that brought nothing to give: why, and the exchanges over its connection
+-- a try that failed: why, and the exchanges over its connection
 pub record VainTry : Type 0 where
   pub trouble : Trouble
   pub exchanges : List Exchange
@@ -125,7 +131,7 @@ pub record VainTry : Type 0 where
 -- for dialers and connections that do all of this by these relations
 module _ {D L : Type 0} (opens : D → Limits → L → D → Type 0) (fails : D → Limits → Trouble → D → Type 0) (pauses : D → ℕ → D → Type 0)
     (reads : D → Option ℕ → D → Type 0) (batches : L → List (List ℕ) → BatchOutcome → List Exchange → L → Type 0) where
-  -- A try brings nothing to give, and there is a pause.
+  -- A try fails, and there is a pause.
   pub record IsDelayed (reconnect_timeout : ℕ) (begin : Option ℕ) (bodies : List (List ℕ)) (w : Waiting D L) (vain : VainTry) (x : Waiting D L) : Type 0 where
     pub came : Attempt
     pub mid : D
@@ -133,8 +139,8 @@ module _ {D L : Type 0} (opens : D → Limits → L → D → Type 0) (fails : D
     pub shows : IsTroubleIn came (Some vain.trouble)
     pub paused : IsPaused pauses reads reconnect_timeout begin mid w.pause w.left vain.trouble x.dialer x.pause x.left
 
-  -- All messages are tried again and again, with a pause after each try but the last. The last one brings answers to give,
-  -- or no time is left after it.
+  -- All messages are tried again and again, with a pause after each try but the last. The last one brings answers to give, or
+  -- memory ran out in it, or no time is left after it.
   pub record MakesTries (l : ReconnectState D L) (bodies : List (List ℕ)) (outcome : BatchOutcome) (exchanges : List Exchange) (dialer : D) (line : Option L) (trouble : Option Trouble) : Type 0 where
     pub begin : Option ℕ
     pub first : D

@@ -4,21 +4,21 @@ use Rattle.oram_client.specs.declared.file_step.FileStep.{FileStep}
 use Rattle.oram_client.specs.declared.file_step.FileStep.TheVariants as step
 
 -- what is done to a file, to the new one beside it, and to the one that was set aside
-pub data Deed : Type 0 where
-  Writes : Bool → List ℕ → Deed  -- the new one; true where it is synced too
-  SetsAside : Deed  -- the file, if there is one
-  Renames : Deed  -- the new one takes the file's place, if there is one
-  SyncsFolder : Deed
-  Clears : Deed  -- the one that was set aside goes
+pub data FileDeed : Type 0 where
+  Writes : Bool → List ℕ → FileDeed  -- the new one; true where it is synced too
+  SetsAside : FileDeed  -- the file, if there is one
+  Renames : FileDeed  -- the new one takes the file's place, if there is one
+  SyncsFolder : FileDeed
+  Clears : FileDeed  -- the one that was set aside goes
 
 -- Without sync, no rename replaces the old file: some file systems would then write the new one to the disk first, and
 -- each keeping would wait for that.
-abbrev pub deeds_of : Bool → List ℕ → List Deed
+abbrev pub deeds_of : Bool → List ℕ → List FileDeed
 deeds_of true file = Writes true file ∷ Renames ∷ SyncsFolder ∷ Clears ∷ []
 deeds_of false file = Writes false file ∷ SetsAside ∷ Renames ∷ Clears ∷ []
 
 -- the steps in which a deed may fail
-abbrev pub IsStepOf : Deed → FileStep → Type 0
+abbrev pub IsStepOf : FileDeed → FileStep → Type 0
 IsStepOf (Writes sync file) at = (at ≡ step.Create) ⊎ (at ≡ step.Write) ⊎ ((sync ≡ true) × (at ≡ step.Sync))
 IsStepOf SetsAside at = at ≡ step.SetAside
 IsStepOf Renames at = at ≡ step.Rename
@@ -26,14 +26,14 @@ IsStepOf SyncsFolder at = at ≡ step.SyncFolder
 IsStepOf Clears at = at ≡ step.Clear
 
 -- for places where deeds are done, or fail, by `does`
-module _ {P : Type 0} (does : P → Deed → Bool → P → Type 0) where
+module _ {P : Type 0} (does : P → FileDeed → Bool → P → Type 0) where
   -- All deeds are done, one after the other.
-  abbrev pub DoesAll : P → List Deed → P → Type 0
+  abbrev pub DoesAll : P → List FileDeed → P → Type 0
   DoesAll p [] q = q ≡ p
   DoesAll p (deed ∷ deeds) q = (between : P) × does p deed true between × DoesAll between deeds q
 
   -- One deed fails, in this step, and none after it is done.
-  abbrev pub IsBrokenOff : P → List Deed → FileStep → P → Type 0
+  abbrev pub IsBrokenOff : P → List FileDeed → FileStep → P → Type 0
   IsBrokenOff p [] at q = ⊥
   IsBrokenOff p (deed ∷ deeds) at q =
       (does p deed false q × IsStepOf deed at) ⊎ ((between : P) × does p deed true between × IsBrokenOff between deeds at q)
@@ -53,7 +53,7 @@ abbrev pub found : Names → Option (List ℕ)
 found n = first_of n.kept n.aside
 
 -- how a deed changes the names
-abbrev pub Makes : Names → Deed → Names → Type 0
+abbrev pub Makes : Names → FileDeed → Names → Type 0
 Makes n (Writes sync file) m = m ≡ record n { fresh = Some file }
 Makes n SetsAside m = m ≡ record n { kept = None; aside = first_of n.kept n.aside }
 Makes n Renames m = m ≡ record n { kept = first_of n.fresh n.kept; fresh = None }
@@ -62,7 +62,7 @@ Makes n Clears m = m ≡ record n { aside = None }
 
 -- What a process leaves if it ends during a deed. The new file may be torn; each other deed is done at once, or not at
 -- all.
-abbrev pub Leaves : Names → Deed → Names → Type 0
+abbrev pub Leaves : Names → FileDeed → Names → Type 0
 Leaves n (Writes sync file) m = (torn : Option (List ℕ)) × (m ≡ record n { fresh = torn })
 Leaves n SetsAside m = (m ≡ n) ⊎ Makes n SetsAside m
 Leaves n Renames m = (m ≡ n) ⊎ Makes n Renames m
@@ -70,7 +70,7 @@ Leaves n SyncsFolder m = m ≡ n
 Leaves n Clears m = (m ≡ n) ⊎ Makes n Clears m
 
 -- A process that does these deeds ends during one of them, or after all of them.
-abbrev pub EndsIn : Names → List Deed → Names → Type 0
+abbrev pub EndsIn : Names → List FileDeed → Names → Type 0
 EndsIn n [] m = m ≡ n
 EndsIn n (deed ∷ deeds) m = Leaves n deed m ⊎ ((between : Names) × Makes n deed between × EndsIn between deeds m)
 
@@ -83,7 +83,7 @@ abbrev pub FilesAreKept : Type 0
 FilesAreKept = (sync : Bool) (file : List ℕ) (n m : Names) → DoesAll (λ k deed _. Makes k deed) n (deeds_of sync file) m → found m ≡ Some file
 
 -- A deed is done, or fails and leaves what a process leaves if it ends during it.
-abbrev pub DoesToNames : Names → Deed → Bool → Names → Type 0
+abbrev pub DoesToNames : Names → FileDeed → Bool → Names → Type 0
 DoesToNames n deed done m = MatchBool done (Makes n deed m) (Leaves n deed m)
 
 -- Whichever step fails, what is found is what was there or the new file.

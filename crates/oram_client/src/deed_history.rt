@@ -1,7 +1,7 @@
-//! A list of deeds that only contracts read.
-ghost use Rattle.std.specs.Prelude.{◌≡◌, ◌∷◌, List, []};
+//! A list of notes that only contracts read.
+ghost use Rattle.std.specs.Prelude.{◌≡◌, ◌∷◌, List, [], None, Some};
 ghost use Rattle.std.specs.Borrow.{ftrue};
-ghost use Rattle.oram_client.specs.DeedHistory.{IsNoted, NotedDeed, noted_of};
+ghost use Rattle.oram_client.specs.DeedHistory.{Found, IsNoted, PlaceNote, noted_of};
 ghost use Rattle.oram_client.specs.KeptFile.{kept_file};
 ghost use Rattle.oram_client.specs.Replacement.{Clears, Renames, SetsAside, SyncsFolder, Writes};
 
@@ -19,21 +19,26 @@ const SYNC_FOLDER: u64 = 4;
 
 const CLEAR: u64 = 5;
 
-/// The deeds that were done in a place, and those that failed there, the newest first. It takes no bytes at run time.
+const FOUND: u64 = 6;
+
+const NOT_FOUND: u64 = 7;
+
+/// The deeds that were done in a place, those that failed there, and the files that were found there, the newest first.
+/// It takes no bytes at run time.
 ///
-/// A [`Place`](crate::Place) whose files no contract knows notes its deeds here, so that they define what its folder may
+/// A [`Place`](crate::Place) whose files no contract knows notes all this here, so that it defines what the folder may
 /// be.
 #[derive(Drop)]
 pub struct DeedHistory {
     marker: PhantomData<u8>,
-    pub ghost deeds: { List NotedDeed },
+    pub ghost notes: { List PlaceNote },
 }
 
 impl Model for DeedHistory {
     ghost also_owns = { λ _. ftrue };
 }
 
-// No code can read the deeds.
+// No code can read the notes.
 impl fmt::Debug for DeedHistory {
     fn fmt<W: fmt::Write>(&self, f: &mut fmt::Formatter<W>) -> fmt::Result {
         f.write_str("DeedHistory")
@@ -41,9 +46,9 @@ impl fmt::Debug for DeedHistory {
 }
 
 impl DeedHistory {
-    /// Makes the history of a place in which nothing was done yet.
+    /// Makes the history of a place in which nothing was done yet, and of which nothing is known.
     pub fn new() -> DeedHistory
-        ensures { result.deeds ≡ [] }
+        ensures { result.notes ≡ [] }
     {
         DeedHistory {
             marker: PhantomData,
@@ -52,7 +57,7 @@ impl DeedHistory {
 
     /// Notes that the new file was written with this head and process, or that it failed.
     pub fn note_write(&mut self, head: &Head, process: &[u8], sync: bool, is_done: bool)
-        ensures { IsNoted self.old.deeds (Writes sync (kept_file head.now process.now)) is_done self.new.deeds }
+        ensures { IsNoted self.old.notes (Writes sync (kept_file head.now process.now)) is_done self.new.notes }
     {
         let sealer = u64::from(head.sealer.byte());
         let numbers = [WRITE, u64::from(is_done), u64::from(sync), sealer];
@@ -61,34 +66,48 @@ impl DeedHistory {
 
     /// Notes that the file was set aside, or that it failed.
     pub fn note_set_aside(&mut self, is_done: bool)
-        ensures { IsNoted self.old.deeds SetsAside is_done self.new.deeds }
+        ensures { IsNoted self.old.notes SetsAside is_done self.new.notes }
     {
         self.note(&[SET_ASIDE, u64::from(is_done)], &[], &[], &[]);
     }
 
     /// Notes that the new file took the file's place, or that it failed.
     pub fn note_rename(&mut self, is_done: bool)
-        ensures { IsNoted self.old.deeds Renames is_done self.new.deeds }
+        ensures { IsNoted self.old.notes Renames is_done self.new.notes }
     {
         self.note(&[RENAME, u64::from(is_done)], &[], &[], &[]);
     }
 
     /// Notes that the folder was synced, or that it failed.
     pub fn note_sync_folder(&mut self, is_done: bool)
-        ensures { IsNoted self.old.deeds SyncsFolder is_done self.new.deeds }
+        ensures { IsNoted self.old.notes SyncsFolder is_done self.new.notes }
     {
         self.note(&[SYNC_FOLDER, u64::from(is_done)], &[], &[], &[]);
     }
 
     /// Notes that the file that was set aside was removed, or that it failed.
     pub fn note_clear(&mut self, is_done: bool)
-        ensures { IsNoted self.old.deeds Clears is_done self.new.deeds }
+        ensures { IsNoted self.old.notes Clears is_done self.new.notes }
     {
         self.note(&[CLEAR, u64::from(is_done)], &[], &[], &[]);
     }
 
-    /// Notes a deed: `noted_of` says what the numbers and the bytes stand for.
-    fn note(&mut self, _numbers: &[u64], _salt: &[u8], _key_check: &[u8], _process: &[u8])
-        ensures { self.new.deeds ≡ noted_of _numbers.now _salt.now _key_check.now _process.now ∷ self.old.deeds }
+    /// Notes that a reader has found the file with these bytes.
+    pub fn note_found(&mut self, file: &[u8])
+        ensures { self.new.notes ≡ Found (Some file.now) ∷ self.old.notes }
+    {
+        self.note(&[FOUND], &[], &[], file);
+    }
+
+    /// Notes that a reader has found no file.
+    pub fn note_not_found(&mut self)
+        ensures { self.new.notes ≡ Found None ∷ self.old.notes }
+    {
+        self.note(&[NOT_FOUND], &[], &[], &[]);
+    }
+
+    /// Makes a note: `noted_of` says what the numbers and the bytes stand for.
+    fn note(&mut self, _numbers: &[u64], _salt: &[u8], _key_check: &[u8], _file: &[u8])
+        ensures { self.new.notes ≡ noted_of _numbers.now _salt.now _key_check.now _file.now ∷ self.old.notes }
     {}
 }

@@ -2,7 +2,7 @@
 ghost use Rattle.std.specs.Prelude.{◌≡◌, ℕ, Option, IfOk, IfErr};
 ghost use Rattle.oram_client.specs.Dialer as spec;
 
-use oram_cli::HostFault;
+use oram_cli::{HostFault, SocketFault};
 use oram_rounds::BatchLink;
 use oram_session::LinkFault;
 use std::alloc::Global;
@@ -11,7 +11,7 @@ use std::io;
 /// Why a host gives no answer that is of use.
 #[derive(Clone, Copy, Debug, PartialEq, Eq)]
 pub enum Trouble {
-    /// No connection could be opened, or it broke, or the host was silent for too long.
+    /// No connection could be opened, or it broke, or the host was silent for too long; or memory ran out here.
     OutOfReach(LinkFault),
     /// The host has no room.
     NoRoom,
@@ -23,7 +23,7 @@ pub enum Trouble {
 
 impl Trouble {
     ghost use Rattle.std.specs.Prelude.{◌≡◌};
-    ghost use Rattle.oram_client.specs.Dialer.{fault_of, may_pass};
+    ghost use Rattle.oram_client.specs.Dialer.{fault_of, lacks_memory, may_pass};
 
     /// Returns whether the trouble may pass if one waits. A host that keeps another disk goes on doing so.
     pub fn may_pass(self) -> bool
@@ -32,6 +32,17 @@ impl Trouble {
         match self {
             Trouble::OutOfReach(_) | Trouble::NoRoom => true,
             Trouble::AnotherDisk | Trouble::NoDisk => false,
+        }
+    }
+
+    /// Returns whether the host is well, and this program has no memory for what it sends or receives.
+    pub fn lacks_memory(self) -> bool
+        ensures { result ≡ lacks_memory self }
+    {
+        match self {
+            Trouble::OutOfReach(LinkFault::OutOfMemory) => true,
+            Trouble::OutOfReach(_) | Trouble::NoRoom | Trouble::AnotherDisk | Trouble::NoDisk =>
+                false,
         }
     }
 
@@ -81,15 +92,28 @@ impl From<io::Error> for Trouble {
     }
 }
 
+impl From<SocketFault> for Trouble {
+    ghost use Rattle.std.specs.Prelude.{◌≡◌};
+    ghost use Rattle.oram_client.specs.Dialer.{socket_told};
+
+    ghost from_gives = { λ fault trouble. trouble ≡ socket_told fault };
+
+    fn from(fault: SocketFault) -> Trouble {
+        Trouble::OutOfReach(match fault {
+            SocketFault::Failed => LinkFault::Io,
+            SocketFault::OutOfMemory => LinkFault::OutOfMemory,
+        })
+    }
+}
+
 /// The times that a host may take, in milliseconds.
 #[derive(Clone, Copy, Debug, PartialEq, Eq)]
 pub struct Limits {
     /// To accept a connection and answer the greeting.
     pub opening: u64,
-    /// To take or give the next bytes over an open connection.
+    /// To take or give the next bytes over an open connection. A batch over it has no other limit: a host that goes on
+    /// taking or giving bytes, however slowly, isn't silent.
     pub silence: u64,
-    /// To give a whole answer over an open connection.
-    pub answering: u64,
 }
 
 /// Opens connections to a host, and has the clock that measures the waiting.

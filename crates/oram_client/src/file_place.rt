@@ -1,9 +1,11 @@
 //! A place for a file in a folder.
 //!
 //! No contract says what the system does to its files. So each method notes its deed, and whether it was done, in a
-//! record that only contracts read, and that record defines what a reader may find. The prover can't check that a method
-//! really makes the calls of the deed that it notes: for that, read the code here.
-ghost use Rattle.std.specs.Prelude.{◌≡◌, ◌⊎◌, ◌++◌, [], codes, string_bytes, IfErr, IfOk, IfSome};
+//! record that only contracts read, and that record defines what a reader may find. [`FilePlace::read`] notes the file
+//! that it has read there. The prover can't check that a method really makes the calls of the deed that it notes, or that
+//! the file which is noted is the one in the folder: for that, read the code here.
+ghost use Rattle.std.specs.Prelude.{◌≡◌, ◌⊎◌, ◌++◌, [], None, Some, codes, string_bytes, IfErr, IfOk, IfSome, MatchOption, OnErr};
+ghost use Rattle.oram_client.specs.FilePlace.{NotesFound};
 ghost use Rattle.oram_client.specs.KeptFile.{kept_file};
 ghost use Rattle.oram_client.specs.Replacement.{IsStepOf, Writes};
 
@@ -67,18 +69,18 @@ impl<R> Model for FilePlace<R> {
 
     ghost Value = { FilePlaceState };
 
-    ghost view = { λ p. record { name = string_bytes p.name; deeds = p.history.deeds } };
+    ghost view = { λ p. record { name = string_bytes p.name; notes = p.history.notes } };
 
     ghost invariant = { λ p. (string_bytes p.new_name ≡ string_bytes p.name ++ codes ".new")
         × (string_bytes p.aside_name ≡ string_bytes p.name ++ codes ".aside") };
 }
 
 impl<R> FilePlace<R> {
-    /// Makes the place of the file `name`. Creates and opens no file yet.
+    /// Makes the place of the file `name`, of which nothing is known yet. Creates and opens no file.
     pub fn new(rt: R, alloc: Global, name: &str) -> Result<FilePlace<R>, AllocError>
     where
         R: Drop,
-        ensures { IfOk result (λ place. place ≡ record { name = name.now; deeds = [] }) }
+        ensures { IfOk result (λ place. place ≡ record { name = name.now; notes = [] }) }
     {
         Ok(FilePlace {
             rt,
@@ -88,6 +90,32 @@ impl<R> FilePlace<R> {
             folder: String::from_str(alloc, folder_of(name))?,
             history: DeedHistory::new(),
         })
+    }
+}
+
+impl<R: Files + AllocGlobal> FilePlace<R> {
+    /// Reads the file, as [`kept_bytes`] does, and notes that readers find it. Nobody else may change the file from now
+    /// on: a process that keeps itself in the file holds a lock meanwhile.
+    pub fn read(&mut self) -> Result<Vec<u8>, FileFault>
+        ensures ok { IfOk result (λ file. NotesFound self.old (Some file.items) self.new) }
+        ensures err { OnErr result (self.new ≡ self.old) }
+    {
+        let file = kept_bytes(&self.rt, self.name.as_str())?;
+        self.history.note_found(&file);
+        Ok(file)
+    }
+
+    /// Returns the name under which the file is found now, as [`kept_name`] does. If it is found under none, the place
+    /// notes that readers find no file. Nobody else may make one from then on.
+    pub fn kept_name(&mut self) -> Result<Option<String>, AllocError>
+        ensures ok { IfOk result (λ name. MatchOption name (NotesFound self.old None self.new) (λ _. self.new ≡ self.old)) }
+        ensures err { OnErr result (self.new ≡ self.old) }
+    {
+        let name = kept_name(&self.rt, self.rt.alloc(), self.name.as_str())?;
+        if name.is_none() {
+            self.history.note_not_found();
+        }
+        Ok(name)
     }
 }
 
@@ -120,16 +148,16 @@ impl<R: Files> FilePlace<R> {
 }
 
 impl<R: Files> Place for FilePlace<R> {
-    ghost use Rattle.oram_client.specs.DeedHistory.{IsPossible, possible_after, some_possible};
-    ghost use Rattle.oram_client.specs.FilePlace.{NotesDeed};
+    ghost use Rattle.oram_client.specs.DeedHistory.{possible_after, some_possible};
+    ghost use Rattle.oram_client.specs.FilePlace.{NotesDeed, PlaceMayBe};
 
     ghost does = { NotesDeed };
 
-    ghost may_be = { λ p. IsPossible p.deeds };
+    ghost may_be = { PlaceMayBe };
 
-    ghost some_folder = { λ p. some_possible p.deeds };
+    ghost some_folder = { λ p. some_possible p.notes };
 
-    ghost folders_after = { λ p deed done q does. possible_after p.deeds deed done q.deeds does.noted };
+    ghost folders_after = { λ p deed done q does. possible_after p.notes deed done q.notes does.noted };
 
     fn write(&mut self, head: &Head, process: &[u8], sync: bool) -> Result<(), FileFailure> {
         let result = self.write_new(head, process, sync);

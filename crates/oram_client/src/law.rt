@@ -1,5 +1,5 @@
 //! Laws about batches over connections that lead to one host.
-ghost use Rattle.oram_client.specs.OneHost.{AnswersAreTheHosts, ExchangesAreOfTheTries, StreamBatchesAreRun, TwoTriesExample};
+ghost use Rattle.oram_client.specs.OneHost.{AnswersAreTheHosts, ExchangesAreOfOneHost, ExchangesAreOfTheTries, FaultsAreOfMemory, StreamBatchesAreRun, StreamBatchesReachTheHost, TwoTriesExample};
 
 use crate::dialer::Dial;
 use std::io::{Read, Write};
@@ -18,13 +18,34 @@ pub fn answers_are_the_hosts<D: Dial>()
     ensures { AnswersAreTheHosts D.opens D.fails D.pauses D.reads D.Line.batches }
 {}
 
+/// A law about definitions: such a link returns a fault only if it has given up, or if memory ran out.
+pub fn faults_are_of_memory<D: Dial>()
+    ensures { FaultsAreOfMemory D.opens D.fails D.pauses D.reads D.Line.batches }
+{}
+
+/// A law about definitions: all connections that a [`ReconnectLink`](crate::ReconnectLink) opens lead to one host, also
+/// those that break off. Then the exchanges of a batch over it are those of that host, from connection to connection, and
+/// afterwards the link leads to the host again.
+pub fn exchanges_are_of_one_host<D: Dial>()
+    ensures { ExchangesAreOfOneHost D.opens D.fails D.pauses D.reads D.Line.batches }
+{}
+
+/// A law about definitions: a batch goes over a [`StreamBatches`](crate::StreamBatches) whose reader is known to give a
+/// host's answers to the first messages, or a beginning of them. Then that host is honest in the exchanges of the batch,
+/// whatever comes of it. So a connection that breaks off leads to its host as [`exchanges_are_of_one_host`] wants it.
+pub fn stream_batches_reach_the_host<R: Read, W: Write>()
+    ensures { StreamBatchesReachTheHost R.remaining W.contents }
+{}
+
 /// A law about definitions: a batch goes over a [`StreamBatches`](crate::StreamBatches) whose reader is known to give a
 /// server's answers to the messages. Then that server is honest in the exchanges of the batch, also if it has a fault.
 pub fn stream_batches_are_run<R: Read, W: Write>()
     ensures { StreamBatchesAreRun R.remaining W.contents }
 {}
 
-/// A batch of two messages whose first connection breaks after one answer: both messages go over the second one.
+/// A STORE and a FETCH go to the host of a small device in one batch. The first connection breaks off after the answer to
+/// the STORE, and the second one answers both. All connections lead to the host, so the premises of the laws about batches
+/// over a link hold.
 pub fn two_tries_example()
     ensures { TwoTriesExample }
 {}

@@ -4,7 +4,8 @@
 //! process.
 //! [`keys_for`] returns the keys of the disk with a head, if it gets the key that the disk was formatted with.
 //! A [`FileKeeper`] keeps a process in such a file, in a [`FilePlace`]. It does so in steps ([`put_file`]), and wherever
-//! the process ends between them, the file is found whole; [`kept_bytes`] reads it back.
+//! the process ends between them, the file is found whole; [`FilePlace::read`] reads it back for the next process, which
+//! finds what was kept ([`next_process_finds_what_was_kept`]).
 //! A [`ReconnectLink`] carries batches of messages, and tries until the host answers all of them or the reconnect timeout
 //! has passed. A [`TcpDialer`] opens its connections, and only to a host that keeps the disk. [`given_up`] says what is
 //! wrong with a host once a link has given up.
@@ -24,6 +25,7 @@ mod identity;
 mod kept_file;
 mod keys;
 mod law;
+mod next_process;
 mod place;
 mod reconnect_link;
 mod refusals;
@@ -47,9 +49,13 @@ pub use keys::{
     tape_key,
 };
 pub use law::{
-    answers_are_the_hosts, exchanges_are_of_the_tries, stream_batches_are_run, two_tries_example,
+    answers_are_the_hosts, exchanges_are_of_one_host, exchanges_are_of_the_tries,
+    faults_are_of_memory, stream_batches_are_run, stream_batches_reach_the_host, two_tries_example,
 };
-pub use place::{Place, files_stay_whole, put_file, synced_files_last};
+pub use next_process::{
+    found_file_is_read_back, next_process_example, next_process_finds_what_was_kept,
+};
+pub use place::{Place, files_stay_whole, folder_example, put_file, synced_files_last};
 pub use reconnect_link::ReconnectLink;
 pub use stream_batches::StreamBatches;
 pub use tcp_dialer::TcpDialer;

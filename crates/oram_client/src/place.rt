@@ -1,5 +1,6 @@
 //! How a new file replaces an old one, so that whenever the process ends, the old one or the new one is found whole.
 ghost use Rattle.std.specs.Prelude.{true, false, OnOk, IfErr};
+ghost use Rattle.oram_client.specs.FolderExample.{FolderExample};
 ghost use Rattle.oram_client.specs.KeptFile.{kept_file};
 ghost use Rattle.oram_client.specs.Replacement.{DoesAll, FilesAreKept, FilesOutlastFailures, FilesStayWhole, IsBrokenOff, deeds_of};
 ghost use Rattle.oram_client.specs.PowerLoss.{SyncedFilesLast, SyncsAreNeeded};
@@ -11,14 +12,14 @@ use crate::kept_file::Head;
 pub trait Place {
     ghost use Rattle.std.specs.Prelude.{◌↔◌, Bool, true, false, OnOk, IfErr};
     ghost use Rattle.oram_client.specs.KeptFile.{kept_file};
-    ghost use Rattle.oram_client.specs.Replacement.{Deed, IsStepOf, Writes, SetsAside, Renames, SyncsFolder, Clears};
+    ghost use Rattle.oram_client.specs.Replacement.{FileDeed, IsStepOf, Writes, SetsAside, Renames, SyncsFolder, Clears};
     ghost use Rattle.oram_client.specs.PowerLoss.{FolderHistory, FoldersAfter};
 
     /// `does old deed done new`: the deed may be done, or fail where `done` is false, and turns the place from `old`
     /// into `new`.
-    ghost does: { Self → Deed → Bool → Self → Type 0 };
+    ghost does: { Self → FileDeed → Bool → Self → Type 0 };
 
-    /// `may_be place folder`: the folder may be so now. It says what readers find, and what a loss of power would leave.
+    /// `may_be place folder`: the folder may now be this one. It says what readers find, and what a loss of power would leave.
     ghost may_be: { Self → FolderHistory → Type 0 };
 
     /// Writes the new file with this head and process, and syncs it if `sync` is set.
@@ -51,7 +52,7 @@ pub trait Place {
 
     /// After a deed, done or failed, the folder may be what the deed makes of one that there might have been before, and
     /// nothing else.
-    ghost folders_after: { (old : Self) (deed : Deed) (done : Bool) (new : Self) → does old deed done new → (folder : FolderHistory) → may_be new folder ↔ FoldersAfter (may_be old) deed done folder };
+    ghost folders_after: { (old : Self) (deed : FileDeed) (done : Bool) (new : Self) → does old deed done new → (folder : FolderHistory) → may_be new folder ↔ FoldersAfter (may_be old) deed done folder };
 }
 
 /// Replaces the old file by the new one in a single rename. The new one is on the disk afterwards.
@@ -109,4 +110,10 @@ pub fn files_stay_whole()
 pub fn synced_files_last()
     ensures last { SyncedFilesLast }
     ensures needed { SyncsAreNeeded }
+{}
+
+/// A new file that is put into a folder with a file meets the premises of [`files_stay_whole`] and
+/// [`synced_files_last`].
+pub fn folder_example()
+    ensures { FolderExample }
 {}

@@ -1,10 +1,10 @@
 //! A link that tries until its host answers.
-ghost use Rattle.std.specs.Prelude.{◌≡◌, ◌≢◌, ◌++◌, ◌*◌, ◌-◌, ◌<◌, ◌≤◌, ◌^◌, [], ◌∷◌, List, None, Some, min, IfOk, IfErr, IfSome, IsOk, MatchBool, MatchOption};
+ghost use Rattle.std.specs.Prelude.{◌≡◌, ◌≢◌, ◌++◌, ◌*◌, ◌-◌, ◌<◌, ◌≤◌, ◌^◌, [], ◌∷◌, List, None, Some, min, IfOk, IfErr, IfSome, MatchBool, MatchOption};
 ghost use Rattle.oram_wire.specs.HostMessages.{no_room_answer};
 ghost use Rattle.oram_link_laws.specs.Repair.{IsAmong};
 ghost use Rattle.oram_link_laws.specs.Runs.{Exchange};
 ghost use Rattle.oram_rounds.specs.Batches.{BatchOutcome, batch_outcome_of, texts};
-ghost use Rattle.oram_client.specs.Reconnect.{HasLine, IsPaused, IsTimedOut, IsTried, IsTroubleIn, MakesTries, ReconnectBatch, attempt_of, elapsed, limits, link_outcome, time_left};
+ghost use Rattle.oram_client.specs.Reconnect.{HasLine, IsPaused, IsReached, IsTimedOut, IsTried, IsTroubleIn, MakesTries, ReconnectBatch, attempt_of, elapsed, limits, link_outcome, time_left};
 
 use crate::dialer::{Dial, HostWatch, Limits, Trouble};
 use oram_host::HostRefusal;
@@ -20,10 +20,10 @@ const FIRST_PAUSE: u64 = 100;
 /// The longest pause, in milliseconds.
 const MOST_PAUSE: u64 = 5_000;
 
-/// The least time that a host has to answer over a connection, in milliseconds.
-const LEAST_LIMIT: u64 = 1_000;
+/// The shortest time for which a host may be silent over a connection, in milliseconds.
+const LEAST_SILENCE: u64 = 1_000;
 
-/// The longest time that a host may be silent over a connection, in milliseconds.
+/// The longest time for which a host may be silent over a connection, in milliseconds.
 const MOST_SILENCE: u64 = 60_000;
 
 /// Reports to the watch, and each trouble only once until the host has answered again.
@@ -75,7 +75,8 @@ struct Wait {
 ///
 /// A batch is tried until all of it is answered, or until the reconnect timeout. If a batch over a connection has a
 /// fault, the link closes that connection and sends the whole batch over a new one; if the host has no room for one of
-/// the messages, it sends the whole batch again over the same one. So a STORE that was refused is sent again before the
+/// the messages, it sends the whole batch again over the same one. If memory runs out, that isn't tried again: the link
+/// returns this fault at once, and goes on being usable. So a STORE that was refused is sent again before the
 /// messages behind it count. The link pauses before each try but the first. Sending a batch again changes nothing at an
 /// honest host, which carries it out once more, in the same order and with the same result; a session repeats a message
 /// after a fault in the same manner. The reconnect timeout is time by the clock from the beginning of the batch: while
@@ -119,13 +120,20 @@ fn has_no_room(answers: &[Vec<u8>]) -> bool
     false
 }
 
-/// Returns why an attempt brought nothing to give to the caller; `None` if it brought answers to give.
+/// Returns why an attempt has to be made again; `None` if there is something to give to the caller: the answers, or that
+/// memory ran out.
 fn trouble_in(came: &Result<Vec<Vec<u8>>, Trouble>) -> Option<Trouble>
     ensures { IsTroubleIn (attempt_of came.now) result }
 {
     match came {
         Ok(answers) => has_no_room(answers).then_some(Trouble::NoRoom),
-        Err(trouble) => Some(*trouble),
+        Err(trouble) => {
+            if trouble.lacks_memory() {
+                None
+            } else {
+                Some(*trouble)
+            }
+        }
     }
 }
 
@@ -136,6 +144,16 @@ fn link_outcome(came: Result<Vec<Vec<u8>>, Trouble>) -> Result<Vec<Vec<u8>>, Lin
     match came {
         Ok(answers) => Ok(answers),
         Err(trouble) => Err(trouble.fault()),
+    }
+}
+
+/// Returns what [`ReconnectLink::reach`] tells of the answers to its message, if the link hasn't given up.
+fn reached(answers: Result<Vec<Vec<u8>>, LinkFault>) -> Result<(), Trouble>
+    ensures { IsReached (batch_outcome_of answers) None result }
+{
+    match answers {
+        Ok(_) => Ok(()),
+        Err(fault) => Err(Trouble::OutOfReach(fault)),
     }
 }
 
@@ -195,15 +213,15 @@ impl<D: Dial, W: HostWatch> ReconnectLink<D, W> {
 
     /// Waits until the host answers. A program calls this at its start, to know that the host is there and keeps the
     /// disk. It sends a message of no bytes, which a host refuses. Fails with the trouble for which the link has given
-    /// up.
+    /// up, or if memory ran out.
     pub fn reach(&mut self, alloc: Global) -> Result<(), Trouble>
-        ensures called { (outcome : BatchOutcome) × (exchanges : List Exchange)
-            × ReconnectBatch D.opens D.fails D.pauses D.reads D.Line.batches self.old ([] ∷ []) outcome exchanges self.new }
-        ensures link_outcome { MatchOption self.new.trouble (IsOk result) (λ trouble. result ≡ Err trouble) }
+        ensures { (outcome : BatchOutcome) × (exchanges : List Exchange)
+            × ReconnectBatch D.opens D.fails D.pauses D.reads D.Line.batches self.old ([] ∷ []) outcome exchanges self.new
+            × IsReached outcome self.new.trouble result }
     {
-        let _answer = self.call_all(alloc, &[], &[Vec::new(alloc)]);
+        let answers = self.call_all(alloc, &[], &[Vec::new(alloc)]);
         match self.trouble {
-            None => Ok(()),
+            None => reached(answers),
             Some(trouble) => Err(trouble),
         }
     }
@@ -221,8 +239,7 @@ impl<D: Dial, W: HostWatch> ReconnectLink<D, W> {
             None => {
                 let limits = Limits {
                     opening: left.max(1),
-                    silence: self.reconnect_timeout.clamp(LEAST_LIMIT, MOST_SILENCE),
-                    answering: self.reconnect_timeout.max(LEAST_LIMIT),
+                    silence: self.reconnect_timeout.clamp(LEAST_SILENCE, MOST_SILENCE),
                 };
                 self.dialer.dial(alloc, limits)
             }
@@ -296,13 +313,16 @@ impl<D: Dial, W: HostWatch> ReconnectLink<D, W> {
         self.news.report_trouble(trouble);
     }
 
-    fn report_answer(&mut self)
+    /// Reports that the host has answered, if it has.
+    fn report_answer(&mut self, came: &Result<Vec<Vec<u8>>, Trouble>)
         ensures { self.new ≡ self.old }
     {
-        self.news.report_answer();
+        if came.is_ok() {
+            self.news.report_answer();
+        }
     }
 
-    /// Tries until there are answers to give, or no time is left.
+    /// Tries until there are answers to give, memory runs out, or no time is left.
     fn make_tries(
         &mut self,
         alloc: Global,
@@ -322,7 +342,7 @@ impl<D: Dial, W: HostWatch> ReconnectLink<D, W> {
         loop {
             let came = self.attempt(alloc, first, last, wait.left);
             let Some(trouble) = trouble_in(&came) else {
-                self.report_answer();
+                self.report_answer(&came);
                 return link_outcome(came);
             };
             self.report_trouble(trouble);

@@ -134,10 +134,7 @@ impl<R: Net + Clock + Copy> Dial for TcpDialer<R> {
     fn dial(&mut self, alloc: Global, limits: Limits) -> Result<TimedLink<R::Stream, R>, Trouble> {
         let begin = self.now();
         let connecting = Duration::from_millis(limits.opening.min(LONGEST_CONNECTING));
-        let Ok((reader, writer)) = connect_within(&self.rt, self.address.as_str(), connecting)
-        else {
-            return Err(Trouble::OutOfReach(LinkFault::Io));
-        };
+        let (reader, writer) = connect_within(&self.rt, self.address.as_str(), connecting)?;
         let both = reader.try_clone()?;
         let left = limits
             .opening
@@ -147,7 +144,7 @@ impl<R: Net + Clock + Copy> Dial for TcpDialer<R> {
         match greet(alloc, reader, writer, self.rt, left, &self.identity) {
             Ok(mut line) => {
                 limit_silence(&both, limits.silence)?;
-                line.set_limit(limits.answering);
+                line.lift_limit();
                 Ok(line)
             }
             Err(trouble) => Err(trouble),

@@ -52,7 +52,7 @@ module _ {M : Type 1} {𝓤 : Ura M} (𝓛 : Logic 𝓤) (at_mem : Memory → SP
   x = (record { ref_ptr = (b, o); ghost_name = γ; now = h }, (k, (s, (t, (u, tt)))))
 
   abbrev h' : DeedHistory
-  h' = record { marker = h.marker; deeds = noted_of k.now s.now t.now u.now ∷ h.deeds }
+  h' = record { marker = h.marker; notes = noted_of k.now s.now t.now u.now ∷ h.notes }
 
   abbrev at : List Val × (List Val × (List Val × (List Val × (List Val × Unit {0}))))
   at = (vptr b o ∷ [], (slice_val k.ref_ptr (length k.now) ∷ [], (slice_val s.ref_ptr (length s.now) ∷ [], (slice_val t.ref_ptr (length t.now) ∷ [], (slice_val u.ref_ptr (length u.now) ∷ [], tt)))))

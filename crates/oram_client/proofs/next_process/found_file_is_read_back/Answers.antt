@@ -1,0 +1,8 @@
+use Rattle.oram_client.proofs.NextProcess.{found_begins, found_is_read_back}
+use Rattle.oram_client.proofs.next_process.found_file_is_read_back.Goals as goal
+
+pub returns-clause-only : goal.returns-clause-only
+returns-clause-only g c = found_is_read_back
+
+pub returns-clause-begins : goal.returns-clause-begins
+returns-clause-begins g c = found_begins _
