@@ -1,12 +1,14 @@
 pub mod Calls
 pub mod Beside
 pub mod Splices
-pub mod Carrying
+pub mod Edges
+pub mod ListSteps
 pub mod Texts
+pub mod WholeRequests
 pub mod Wanted
 pub mod Pieces
 pub mod Served
-pub mod Batching
+pub mod Gathered
 pub mod Batched
 pub mod Negotiated
 pub mod Rows

@@ -5,8 +5,8 @@ use Rattle.std.proofs.lemmas.List.Elements.{All-append, All-nil}
 use Rattle.std.proofs.lemmas.Grind.{flat_map-append}
 use Rattle.std.specs.Io.KnownBytes.{Appends, Consumes}
 use Rattle.std.proofs.KnownBytes.{Appends-nil, Appends-trans, Consumes-nil, Consumes-trans}
-use Rattle.oram_nbd.specs.Batches.{asked_in, HasAnswered, HasBegun}
-use Rattle.oram_nbd.specs.Service.{asked_text, asking, greatest_flags, misfit, refusal_of, replying, requests_text, replies_text, Asked, IsAsked, IsPartly, IsReplied, IsService, NeverFails, FailsForGood, SaysFailed, Turn}
+use Rattle.oram_nbd.specs.Batches.{asked_in, HasRepliedToAll, HasBegun}
+use Rattle.oram_nbd.specs.Service.{whole_requests_text, asking, greatest_flags, misfit, refusal_of, replying, requests_text, replies_text, WholeRequest, IsWholeRequest, IsPartly, IsReplied, IsService, NeverFails, FailsForGood, SaysFailed, Turn}
 use Rattle.oram_nbd.specs.Messages.SimpleReply.{Refused}
 use Rattle.oram_nbd.specs.Transmission.{HasExchanged, HasServed, IsBehind, StopsServing}
 use Rattle.oram_nbd.specs.declared.faults.NbdError.{NbdError}
@@ -87,7 +87,7 @@ refuses_join failed failed' (t ∷ xs) ys (first, rest) tells more = (
 )
 
 -- what was asked at some turns
-pub asked_of_turns : (turns : List Turn) → requests_text turns ≡ asked_text (map asked_in turns)
+pub asked_of_turns : (turns : List Turn) → requests_text turns ≡ whole_requests_text (map asked_in turns)
 asked_of_turns [] = refl
 asked_of_turns (t ∷ turns) = ap (λ (l : List ℕ). asking t ++ l) (asked_of_turns turns)
 
@@ -138,12 +138,12 @@ module _ {D W E : Type 0} (had : D → List E → D → Type 0) (hears : Bool �
     }
 
     -- a batch of what was read is answered
-    pub all_served : (new : D) (asked : List Asked) (turns : List Turn) → HasAnswered had hears holds (failed mid) (failed new) size mid new asked turns
+    pub all_served : (new : D) (asked : List WholeRequest) (turns : List Turn) → HasRepliedToAll had hears holds (failed mid) (failed new) size mid new asked turns
         → HasServed had hears holds (failed old) size old new (s.turns ++ turns)
     all_served new asked turns a = served_join mid new s.turns turns s.served (λ e. elim e [ inl f ↦ s.still f | inr says ↦ s.told says ]) a.served
 
-    unfoldable pub answered : (new : D) (told'' : Option (List ℕ)) (asked : List Asked) (turns : List Turn) (rest : List ℕ) → part ≡ asked_text asked ++ rest → (failed mid → failed new)
-        → HasAnswered had hears holds (failed mid) (failed new) size mid new asked turns → Appends told' told'' (replies_text turns)
+    unfoldable pub answered : (new : D) (told'' : Option (List ℕ)) (asked : List WholeRequest) (turns : List Turn) (rest : List ℕ) → part ≡ whole_requests_text asked ++ rest → (failed mid → failed new)
+        → HasRepliedToAll had hears holds (failed mid) (failed new) size mid new asked turns → Appends told' told'' (replies_text turns)
         → Served from text (count + length turns) new to rest told''
     answered new told'' asked turns rest split still a wrote = record {
       turns = s.turns ++ turns;
@@ -152,7 +152,7 @@ module _ {D W E : Type 0} (had : D → List E → D → Type 0) (hears : Bool �
       still = λ f. still (s.still f);
       told = λ e. elim (says_either s.turns turns e) [ inl before ↦ still (s.told before) | inr says ↦ a.told says ];
       read = subst (Consumes from to)
-          (ap (λ (l : List ℕ). requests_text s.turns ++ l) (split ∙ ap (λ (l : List ℕ). l ++ rest) (sym (asked_of_turns turns ∙ ap asked_text a.same)))
+          (ap (λ (l : List ℕ). requests_text s.turns ++ l) (split ∙ ap (λ (l : List ℕ). l ++ rest) (sym (asked_of_turns turns ∙ ap whole_requests_text a.same)))
           ∙ sym (append_assoc (requests_text s.turns) (requests_text turns) rest) ∙ ap (λ (l : List ℕ). l ++ rest) (sym (flat_map-append asking s.turns turns))) s.read;
       wrote = subst (Appends text told'') (sym (flat_map-append replying s.turns turns)) (Appends-trans text told' told'' (replies_text s.turns) (replies_text turns) s.wrote wrote);
     }
@@ -161,8 +161,8 @@ module _ {D W E : Type 0} (had : D → List E → D → Type 0) (hears : Bool �
     exchanged = record { read = s.read; wrote = subst (Appends text told') (sym (append-nil (replies_text s.turns))) s.wrote }
 
     -- only a beginning of the replies to a batch was written
-    pub stopped_at_replies : (new : D) (told'' : Option (List ℕ)) (asked : List Asked) (turns : List Turn) (rest : List ℕ) (count' : ℕ) → part ≡ asked_text asked ++ rest → IsBehind rest
-        → HasAnswered had hears holds (failed mid) (failed new) size mid new asked turns → Appends told' told'' (take count' (replies_text turns))
+    pub stopped_at_replies : (new : D) (told'' : Option (List ℕ)) (asked : List WholeRequest) (turns : List Turn) (rest : List ℕ) (count' : ℕ) → part ≡ whole_requests_text asked ++ rest → IsBehind rest
+        → HasRepliedToAll had hears holds (failed mid) (failed new) size mid new asked turns → Appends told' told'' (take count' (replies_text turns))
         → StopsServing had hears holds (failed old) size old new fault.Write from to text told''
     stopped_at_replies new told'' asked turns rest count' split behind a wrote = (
       s.turns,
@@ -172,7 +172,7 @@ module _ {D W E : Type 0} (had : D → List E → D → Type 0) (hears : Bool �
       all_served new asked turns a,
       behind,
       record {
-        read = subst (Consumes from to) (ap (λ (l : List ℕ). requests_text s.turns ++ l) (split ∙ ap (λ (l : List ℕ). l ++ rest) (sym (asked_of_turns turns ∙ ap asked_text a.same)))) s.read;
+        read = subst (Consumes from to) (ap (λ (l : List ℕ). requests_text s.turns ++ l) (split ∙ ap (λ (l : List ℕ). l ++ rest) (sym (asked_of_turns turns ∙ ap whole_requests_text a.same)))) s.read;
         wrote = Appends-trans text told' told'' (replies_text s.turns) (take count' (replies_text turns)) s.wrote wrote;
       },
     )
@@ -190,7 +190,7 @@ module _ {D W E : Type 0} (had : D → List E → D → Type 0) (hears : Bool �
     )
 
     -- the device stopped at a batch
-    pub stopped_at_batch : (new : D) (asked : List Asked) (rest : List ℕ) → part ≡ asked_text asked ++ rest → IsBehind rest → All IsAsked asked → HasBegun had hears holds (failed mid) (failed new) size mid new asked
+    pub stopped_at_batch : (new : D) (asked : List WholeRequest) (rest : List ℕ) → part ≡ whole_requests_text asked ++ rest → IsBehind rest → All IsWholeRequest asked → HasBegun had hears holds (failed mid) (failed new) size mid new asked
         → StopsServing had hears holds (failed old) size old new fault.Stopped from to text told'
     stopped_at_batch new asked rest split behind are h = (
       s.turns,

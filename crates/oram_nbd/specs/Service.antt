@@ -73,38 +73,45 @@ IsReply size r (Done bytes) = (refusal_of size r ≡ None) × (length bytes ≡ 
 IsReply size r (Refused e) = (refusal_of size r ≡ Some e) ⊎ ((refusal_of size r ≡ None) × ((e ≡ Io) ⊎ (e ≡ NoMemory)))
 
 -- a request, and the bytes after it
-pub record Asked : Type 0 where
+pub record WholeRequest : Type 0 where
   pub request : Request
   pub payload : List ℕ
 
 -- they can be sent
-pub record IsAsked (a : Asked) : Type 0 where
+pub record IsWholeRequest (a : WholeRequest) : Type 0 where
   pub request : IsRequest a.request
   pub payload : length a.payload ≡ payload_len a.request.command a.request.length
 
+-- the bytes begin with a whole request: its 28 bytes, and those of its write
+pub record BeginsWithRequest (bytes : List ℕ) : Type 0 where
+  pub first : WholeRequest
+  pub whole : IsWholeRequest first
+  pub rest : List ℕ
+  pub split : bytes ≡ request_text first.request ++ first.payload ++ rest
+
 -- what the client sends for these requests
-abbrev pub asked_text : List Asked → List ℕ
-asked_text asked = flat_map (λ a. request_text a.request ++ a.payload) asked
+abbrev pub whole_requests_text : List WholeRequest → List ℕ
+whole_requests_text asked = flat_map (λ a. request_text a.request ++ a.payload) asked
 
 -- the array after a request, and the array if it came as far as some byte of its range: one that is refused leaves it as it is
 abbrev pub left_if : Option NbdError → List ℕ → List ℕ → List ℕ
 left_if (Some e) old new = old
 left_if None old new = new
 
-abbrev pub left_by : Asked → List ℕ → List ℕ
-left_by a old = left_if (refusal_of (length old) a.request) old (after a.request.command old a.request.offset a.request.length a.payload)
+abbrev pub array_after_request : WholeRequest → List ℕ → List ℕ
+array_after_request a old = left_if (refusal_of (length old) a.request) old (after a.request.command old a.request.offset a.request.length a.payload)
 
 abbrev pub IsLeftIf : Option NbdError → List ℕ → Type 0 → List ℕ → Type 0
 IsLeftIf (Some e) old partly new = new ≡ old
 IsLeftIf None old partly new = partly
 
-abbrev pub IsLeftBy : Asked → List ℕ → List ℕ → Type 0
+abbrev pub IsLeftBy : WholeRequest → List ℕ → List ℕ → Type 0
 IsLeftBy a old new = IsLeftIf (refusal_of (length old) a.request) old (IsPartly a.request.command old a.request.offset a.request.length a.payload new) new
 
 -- The first of these requests are done, one may be done in part, and the others aren't begun.
-abbrev pub AreRequestsBegun : List Asked → List ℕ → List ℕ → Type 0
+abbrev pub AreRequestsBegun : List WholeRequest → List ℕ → List ℕ → Type 0
 AreRequestsBegun [] old new = new ≡ old
-AreRequestsBegun (a ∷ asked) old new = IsLeftBy a old new ⊎ AreRequestsBegun asked (left_by a old) new
+AreRequestsBegun (a ∷ asked) old new = IsLeftBy a old new ⊎ AreRequestsBegun asked (array_after_request a old) new
 
 -- a request, the bytes after it, and the reply
 pub record Turn : Type 0 where

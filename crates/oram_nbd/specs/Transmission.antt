@@ -3,7 +3,7 @@ use Rattle.std.specs.Prelude.{◌≡◌, ◌⊎◌, ℕ, ◌<◌, Bool, false, L
 use Rattle.std.specs.Io.KnownBytes.{Appends, Consumes, IsAtEnd}
 use Rattle.oram_nbd.specs.Beside.{GoesOn}
 use Rattle.oram_nbd.specs.Messages.{payload_len, request_text, IsRequest}
-use Rattle.oram_nbd.specs.Service.{asked_text, refusal_of, requests_text, replies_text, AreRequestsBegun, Asked, FailsForGood, IsAsked, IsReplied, IsService, NeverFails, Turn}
+use Rattle.oram_nbd.specs.Service.{whole_requests_text, refusal_of, requests_text, replies_text, AreRequestsBegun, WholeRequest, FailsForGood, IsWholeRequest, IsReplied, IsService, NeverFails, Turn}
 use Rattle.oram_nbd.specs.declared.faults.NbdFault.{NbdFault}
 use Rattle.oram_nbd.specs.declared.faults.NbdFault.TheVariants.{Read, Truncated, Magic, Write, OldClient, UnknownExport, TooManyOptions, OutOfMemory, Stopped}
 use Rattle.oram_nbd.specs.declared.requests.Command.TheVariants.{Disconnect}
@@ -38,7 +38,7 @@ IsCutOff Stopped part new = ⊥
 
 -- What was read behind the requests of a batch: nothing, or one more request, whole or in part, or bytes that are none.
 abbrev pub IsBehind : List ℕ → Type 0
-IsBehind part = (part ≡ []) ⊎ (((a : Asked) × IsAsked a × (part ≡ request_text a.request ++ a.payload)) ⊎ (IsUnfinished part ⊎ IsNoRequest part))
+IsBehind part = (part ≡ []) ⊎ (((a : WholeRequest) × IsWholeRequest a × (part ≡ request_text a.request ++ a.payload)) ⊎ (IsUnfinished part ⊎ IsNoRequest part))
 
 -- The turns were read and their replies written. Then `part` was read, and `more` was written.
 pub record HasExchanged (turns : List Turn) (unread unread' : Option (List ℕ)) (part : List ℕ) (written written' : Option (List ℕ)) (more : List ℕ) : Type 0 where
@@ -54,13 +54,12 @@ module _ {D W E : Type 0} (had : D → List E → D → Type 0) (hears : Bool �
     pub refused : FailsForGood failed turns
     pub service : GoesOn had hears holds old (λ may_lie bytes later. IsService bytes turns later × (may_lie ≡ false → NeverFails turns)) new
 
-  -- The turns were made, and then these requests were collected, at which the device stopped. One of them, at least, isn't
-  -- refused.
-  pub record HasStopped (turns : List Turn) (asked : List Asked) : Type 0 where
+  -- These turns were served. Then the device stopped while it carried out a batch, in which at least one request isn't refused.
+  pub record HasStopped (turns : List Turn) (asked : List WholeRequest) : Type 0 where
     pub fits : All (λ turn. IsReplied size turn) turns
     pub refused : FailsForGood failed turns
-    pub asked_for : All IsAsked asked
-    pub accepted : (before after : List Asked) × (a : Asked) × (asked ≡ before ++ a ∷ after) × (refusal_of size a.request ≡ None)
+    pub asked_for : All IsWholeRequest asked
+    pub accepted : (before after : List WholeRequest) × (a : WholeRequest) × (asked ≡ before ++ a ∷ after) × (refusal_of size a.request ≡ None)
     pub service : GoesOn had hears holds old (λ may_lie bytes later. (mid : List ℕ) × IsService bytes turns mid × (may_lie ≡ false → NeverFails turns)
         × AreRequestsBegun asked mid later) new
 
@@ -81,7 +80,7 @@ module _ {D W E : Type 0} (had : D → List E → D → Type 0) (hears : Bool �
       (turns batch : List Turn) × (part : List ℕ) × (count : ℕ) × HasServed (turns ++ batch) × IsBehind part
       × HasExchanged turns unread unread' (requests_text batch ++ part) written written' (take count (replies_text batch))
   StopsServing Stopped unread unread' written written' =
-      (turns : List Turn) × (asked : List Asked) × (part : List ℕ) × HasStopped turns asked × IsBehind part
-      × HasExchanged turns unread unread' (asked_text asked ++ part) written written' []
+      (turns : List Turn) × (asked : List WholeRequest) × (part : List ℕ) × HasStopped turns asked × IsBehind part
+      × HasExchanged turns unread unread' (whole_requests_text asked ++ part) written written' []
   StopsServing fault unread unread' written written' =
       (turns : List Turn) × (part : List ℕ) × HasServed turns × HasExchanged turns unread unread' part written written' [] × IsCutOff fault part unread'

@@ -1,9 +1,12 @@
 //! What has arrived of a client's requests.
 
+ghost use Rattle.std.specs.Prelude.{◌↔◌, IsTrue};
+ghost use Rattle.oram_nbd.specs.Service.{BeginsWithRequest};
+
 use crate::requests::Request;
 use std::io::{BufReader, Read};
 
-/// A reader that shows what has arrived of its input. What it shows decides only which requests are carried out together.
+/// A reader that shows which bytes it has received and not handed out yet. They only decide which requests go into one batch.
 pub trait Arrived {
     /// Returns bytes that were received and weren't read yet, in their order. There may be more than these.
     fn arrived(&self) -> &[u8];
@@ -23,9 +26,10 @@ impl Arrived for &[u8] {
     }
 }
 
-/// Returns whether a whole request has arrived, with the bytes of its write.
-pub(crate) fn has_request<R: Arrived>(reader: &R) -> bool {
-    let arrived = reader.arrived();
+/// Returns whether what has arrived begins with a whole request, with the bytes of its write.
+pub(crate) fn has_request(arrived: &[u8]) -> bool
+    ensures { IsTrue result ↔ BeginsWithRequest arrived.now }
+{
     if arrived.len() < Request::BYTES {
         return false;
     }

@@ -2,23 +2,23 @@
 
 ghost use Rattle.std.specs.Prelude.{◌≡◌, ◌<◌, ◌≤◌, ◌++◌, ◌∷◌, ℕ, true, false, List, [], IfErr, IfSome, None, OnErr, OnOk, length};
 ghost use Rattle.std.specs.Io.KnownBytes.{Consumes};
-ghost use Rattle.oram_nbd.specs.Batches.{EndsBy, HasGathered, IsLayout, Serves, ServesIf};
+ghost use Rattle.oram_nbd.specs.Batches.{EndsBy, HasGathered, AreDiskSizes, DoesRequest, DoesIfAccepted};
 ghost use Rattle.oram_nbd.specs.Messages.{payload_len, request_text};
-ghost use Rattle.oram_nbd.specs.Service.{refusal_of, Asked, IsAsked};
+ghost use Rattle.oram_nbd.specs.Service.{refusal_of, WholeRequest, IsWholeRequest};
 
 use crate::arrivals::{Arrived, has_request};
+use crate::disk_sizes::DiskSizes;
 use crate::faults::NbdFault;
-use crate::layout::Layout;
 use crate::operations::Operation;
 use crate::ranges::Cover;
-use crate::reading::{next_request, read_payload};
+use crate::request_reader::{next_request, read_payload};
 use crate::requests::{Command, Request};
 use crate::service::refusal;
 use oram_bytes::Bytes;
 use std::alloc::Global;
 use std::io::Read;
 
-/// The most requests of a batch. A batch takes no further one either once it lies over as many blocks.
+/// The most requests of a batch. A batch is also full once its operations cover this many blocks.
 const MOST: u64 = 64;
 
 /// Why a batch takes no further request.
@@ -53,19 +53,19 @@ pub(crate) struct Batch {
     weight: u64,
 }
 
-/// Returns the operation of a request that isn't refused. That of a read is on all blocks over which its range lies.
-fn operation_of(layout: Layout, request: &Request, payload: Vec<u8>) -> Operation
-    requires layout { IsLayout layout.block layout.size }
-    requires fits { refusal_of layout.size request.now ≡ None }
+/// Returns the operation of a request that isn't refused. A READ reads every block that its range touches.
+fn operation_of(sizes: DiskSizes, request: &Request, payload: Vec<u8>) -> Operation
+    requires sizes { AreDiskSizes sizes.block sizes.size }
+    requires fits { refusal_of sizes.size request.now ≡ None }
     requires payload { length payload.items ≡ payload_len request.now.command request.now.length }
-    ensures { let a : Asked = record { request = request.now; payload = payload.items } in Serves layout.block layout.size a result }
+    ensures { let a : WholeRequest = record { request = request.now; payload = payload.items } in DoesRequest sizes.block sizes.size a result }
 {
     match request.command {
         Command::Read if request.length > 0 => {
-            let cover = Cover::over(layout.block, request.offset, u64::from(request.length));
+            let cover = Cover::over(sizes.block, request.offset, u64::from(request.length));
             Operation::Read {
-                at: layout.block * cover.first,
-                count: layout.block * cover.count,
+                at: sizes.block * cover.first,
+                count: sizes.block * cover.count,
             }
         }
         Command::Write => Operation::Write {
@@ -114,21 +114,21 @@ impl Batch {
     /// many. A request that isn't refused is kept only with these bytes.
     fn add(
         &mut self,
-        layout: Layout,
+        sizes: DiskSizes,
         request: Request,
         payload: Option<Vec<u8>>,
     ) -> Result<(), Close>
-        requires layout { IsLayout layout.block layout.size }
+        requires sizes { AreDiskSizes sizes.block sizes.size }
         requires payload { IfSome payload (λ p. length p.items ≡ payload_len request.command request.length) }
         ensures ok { (text : List ℕ) → IfSome payload (λ p. p.items ≡ text) → OnOk result ((self.new.requests.items ≡ self.old.requests.items ++ request ∷ [])
             × (op : Operation) × (self.new.operations.items ≡ self.old.operations.items ++ op ∷ [])
-            × (let a : Asked = record { request = request; payload = text } in ServesIf (refusal_of layout.size request) layout.block layout.size a op)) }
+            × (let a : WholeRequest = record { request = request; payload = text } in DoesIfAccepted (refusal_of sizes.size request) sizes.block sizes.size a op)) }
         ensures err { IfErr result (λ close. close ≡ Close.NoRoom request) }
         ensures same { OnErr result ((self.new.requests.items ≡ self.old.requests.items) × (self.new.operations.items ≡ self.old.operations.items)) }
     {
-        let operation = match (refusal(&request, layout.size), payload) {
+        let operation = match (refusal(&request, sizes.size), payload) {
             (Some(_), _) => Operation::Read { at: 0, count: 0 },
-            (None, Some(payload)) => operation_of(layout, &request, payload),
+            (None, Some(payload)) => operation_of(sizes, &request, payload),
             (None, None) => return Err(Close::NoRoom(request)),
         };
         if self.push(request, operation) {
@@ -143,12 +143,12 @@ impl Batch {
         &mut self,
         alloc: Global,
         reader: &mut R,
-        layout: Layout,
+        sizes: DiskSizes,
     ) -> Result<(), Close>
-        requires { IsLayout layout.block layout.size }
-        ensures ok { OnOk result ((a : Asked) × IsAsked a × Consumes (R.remaining reader.old) (R.remaining reader.new) (request_text a.request ++ a.payload)
+        requires { AreDiskSizes sizes.block sizes.size }
+        ensures ok { OnOk result ((a : WholeRequest) × IsWholeRequest a × Consumes (R.remaining reader.old) (R.remaining reader.new) (request_text a.request ++ a.payload)
             × (self.new.requests.items ≡ self.old.requests.items ++ a.request ∷ [])
-            × ((op : Operation) × (self.new.operations.items ≡ self.old.operations.items ++ op ∷ []) × ServesIf (refusal_of layout.size a.request) layout.block layout.size a op)) }
+            × ((op : Operation) × (self.new.operations.items ≡ self.old.operations.items ++ op ∷ []) × DoesIfAccepted (refusal_of sizes.size a.request) sizes.block sizes.size a op)) }
         ensures err { IfErr result (λ close. (part : List ℕ) × Consumes (R.remaining reader.old) (R.remaining reader.new) part × EndsBy close part (R.remaining reader.new)) }
         ensures same { OnErr result ((self.new.requests.items ≡ self.old.requests.items) × (self.new.operations.items ≡ self.old.operations.items)) }
     {
@@ -159,12 +159,12 @@ impl Batch {
             return Err(Close::Leaves);
         }
         let payload = read_payload(alloc, reader, request.payload_len())?;
-        self.add(layout, request, payload)
+        self.add(sizes, request, payload)
     }
 
-    /// Returns whether the batch lies over as many blocks as go ahead together.
-    fn is_heavy(&self, layout: Layout) -> bool {
-        self.weight >= layout.block.saturating_mul(MOST)
+    /// Returns whether the operations cover 64 blocks or more.
+    fn is_heavy(&self, sizes: DiskSizes) -> bool {
+        self.weight >= sizes.block.saturating_mul(MOST)
     }
 }
 
@@ -173,19 +173,19 @@ impl Batch {
 pub(crate) fn gather<R: Read + Arrived>(
     alloc: Global,
     reader: &mut R,
-    layout: Layout,
+    sizes: DiskSizes,
 ) -> (Batch, Close)
-    requires { IsLayout layout.block layout.size }
+    requires { AreDiskSizes sizes.block sizes.size }
     ensures few { length result.0.requests.items ≤ 64 }
-    ensures gathered { HasGathered layout.block layout.size result.0.requests.items result.0.operations.items result.1 (R.remaining reader.old) (R.remaining reader.new) }
+    ensures gathered { HasGathered sizes.block sizes.size result.0.requests.items result.0.operations.items result.1 (R.remaining reader.old) (R.remaining reader.new) }
 {
     let mut batch = Batch::new(alloc);
     for _number in 0..MOST {
-        match batch.collect(alloc, reader, layout) {
+        match batch.collect(alloc, reader, sizes) {
             Ok(()) => {}
             Err(close) => return (batch, close),
         }
-        if batch.is_heavy(layout) || !has_request(reader) {
+        if batch.is_heavy(sizes) || !has_request(reader.arrived()) {
             return (batch, Close::Waits);
         }
     }

@@ -1,4 +1,4 @@
-//! Serves a whole connection.
+//! DoesRequest a whole connection.
 
 ghost use Rattle.std.specs.Prelude.{◌≡◌, ◌≤◌, ◌↔◌, length, Err, IfOk, IfErr, IsTrue};
 ghost use Rattle.oram_nbd.specs.Calls.{Stays};
@@ -32,7 +32,7 @@ pub trait HandshakeWatch {
     fn agreed(&self);
 }
 
-/// Serves one connection, from its greeting until its client leaves, and returns the number of requests that were
+/// DoesRequest one connection, from its greeting until its client leaves, and returns the number of requests that were
 /// answered.
 ///
 /// The device is the only export, under the name `name` and under the empty one. `watch` is notified when the handshake

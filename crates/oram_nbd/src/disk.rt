@@ -1,9 +1,9 @@
 //! A device of whole blocks.
 
 ghost use Rattle.std.specs.Prelude.{◌≡◌, ℕ, Bool, false, List, ◌*◌, ◌<◌, ◌^◌, ◌↔◌, All, length, map, IfOk, OnOk, IsTrue, MatchResult};
-ghost use Rattle.oram_nbd.specs.Beside.{GoesOn};
+ghost use Rattle.oram_nbd.specs.Beside.{GoesOn, KeepsOn};
 ghost use Rattle.oram_nbd.specs.Calls.{FailsByLies, IsCall};
-ghost use Rattle.oram_nbd.specs.Operations.{AreBegun, IsWhole, IsWithin, all_done, all_given, read_len};
+ghost use Rattle.oram_nbd.specs.Operations.{AreBegun, IsWhole, IsWithin, TouchSomeByte, all_done, all_given, read_len};
 
 use crate::faults::DiskFault;
 use crate::operations::Operation;
@@ -36,6 +36,9 @@ pub trait BlockDevice {
     /// Beside this world, which may lie or not, the device holds these bytes, block after block.
     ghost holds: { Bool → Self → World → List ℕ → Type 0 };
 
+    /// Beside this world, the next process would hold these bytes: it would begin with what outlasts this one.
+    ghost kept: { Bool → Self → World → List ℕ → Type 0 };
+
     /// The device has failed, for good: it acknowledges nothing.
     ghost failed: { Self → Type 0 };
 
@@ -58,6 +61,9 @@ pub trait BlockDevice {
 
     /// Carries out operations on whole blocks, one after the other, and returns what each of them read: nothing for one
     /// that reads nothing. After an `Err` the first ones are done, one may be done in part, and the others aren't begun.
+    ///
+    /// An `Ok` says that what was done is kept: the next process would hold it too. A list that touches no byte asks for
+    /// nothing; then what was kept before still is.
     fn carry_out(
         &mut self,
         alloc: Global,
@@ -69,6 +75,8 @@ pub trait BlockDevice {
         ensures goes { GoesOn had hears holds self.old (λ may_lie bytes later. MatchResult result
             (λ given. (given.items ≡ all_given operations.now bytes) × (later ≡ all_done operations.now bytes))
             (λ _. AreBegun operations.now bytes later) × FailsByLies result may_lie) self.new }
+        ensures keeps { OnOk result (KeepsOn had hears holds kept self.old (TouchSomeByte operations.now)
+            (λ may_lie bytes later. later ≡ all_done operations.now bytes) self.new) }
         ensures refused { OnOk result (failed self.old → ⊥) }
         ensures call { IsCall block_len size failed (stops self.old self.new) self.old result self.new };
 }

@@ -13,7 +13,8 @@ pub enum DiskFault {
     Failed,
     /// There was not enough memory.
     OutOfMemory,
-    /// The device can't go on. The connection ends, and the command in progress is done, or isn't.
+    /// The device can't go on. The connection ends. Of the commands in progress the first are done, one perhaps in part, and
+    /// the others not.
     Stopped,
 }
 

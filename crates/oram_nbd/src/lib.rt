@@ -2,17 +2,17 @@
 //!
 //! The protocol is the public one (NetworkBlockDevice/nbd, doc/proto.md): the fixed newstyle handshake, simple replies,
 //! and the commands READ, WRITE, FLUSH, TRIM, WRITE_ZEROES and DISC. The server serves a [`BlockDevice`]: an array of bytes
-//! that carries out lists of operations on whole blocks. [`negotiate`] does the handshake, [`transmit`] answers the requests after it, and [`serve`] serves a whole
-//! connection. [`is_stop`] says whether a connection ended because its disk has stopped.
+//! that carries out lists of operations on whole blocks. [`negotiate`] does the handshake, [`transmit`] answers the requests
+//! after it, and [`serve`] serves a whole connection. [`is_stop`] says whether a connection ended because its disk has stopped.
 #![tactic(auto)]
 
 mod arrivals;
 mod batches;
 mod connection;
 mod disk;
+mod disk_sizes;
 mod faults;
 mod handshake;
-mod layout;
 mod lists;
 mod mem_disk;
 mod negotiation;
@@ -20,8 +20,8 @@ mod numbers;
 mod operations;
 mod options;
 mod ranges;
-mod reading;
 mod replies;
+mod request_reader;
 mod requests;
 mod service;
 mod streams;

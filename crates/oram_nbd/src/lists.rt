@@ -1,9 +1,9 @@
 //! Carries out operations on byte ranges, as many at once as are on whole blocks.
 
 ghost use Rattle.std.specs.Prelude.{◌≡◌, ◌<◌, ◌≤◌, All, length, map, take, IfOk, IsTrue, MatchResult, OnErr, OnOk};
-ghost use Rattle.oram_nbd.specs.Beside.{GoesOn, IsStopped};
+ghost use Rattle.oram_nbd.specs.Beside.{GoesOn, IsStopped, KeepsOn};
 ghost use Rattle.oram_nbd.specs.Calls.{FailsByLies, IsCall};
-ghost use Rattle.oram_nbd.specs.Operations.{AreBegun, IsPartOf, IsWhole, IsWithin, ReadsWhole, all_done, all_given, done_by, given_by, read_len};
+ghost use Rattle.oram_nbd.specs.Operations.{AreBegun, IsPartOf, IsWhole, IsWithin, ReadsWhole, TouchSomeByte, all_done, all_given, done_by, given_by, len_of, read_len};
 
 use crate::disk::BlockDevice;
 use crate::faults::DiskFault;
@@ -46,6 +46,8 @@ fn carry_out_alone<D: BlockDevice>(
     ensures goes { GoesOn D.had D.hears D.holds disk.old (λ may_lie bytes later. MatchResult result
         (λ given. (given ≡ given_by operation.now bytes) × (later ≡ done_by operation.now bytes))
         (λ _. IsPartOf operation.now bytes later) × FailsByLies result may_lie) disk.new }
+    ensures keeps { OnOk result (KeepsOn D.had D.hears D.holds D.kept disk.old (0 < len_of operation.now)
+        (λ may_lie bytes later. later ≡ done_by operation.now bytes) disk.new) }
     ensures call { IsCall D.block_len D.size D.failed (IsStopped D.stops disk.new) disk.old result disk.new }
 {
     match operation {
@@ -81,6 +83,8 @@ fn carry_out_front<D: BlockDevice>(
     ensures goes { GoesOn D.had D.hears D.holds disk.old (λ may_lie bytes later. MatchResult result
         (λ given. (given.items ≡ all_given (take (length given.items) operations.now) bytes) × (later ≡ all_done (take (length given.items) operations.now) bytes))
         (λ _. AreBegun operations.now bytes later) × FailsByLies result may_lie) disk.new }
+    ensures keeps { IfOk result (λ given. KeepsOn D.had D.hears D.holds D.kept disk.old (TouchSomeByte (take (length given.items) operations.now))
+        (λ may_lie bytes later. later ≡ all_done (take (length given.items) operations.now) bytes) disk.new) }
     ensures call { IsCall D.block_len D.size D.failed (IsStopped D.stops disk.new) disk.old result disk.new }
 {
     let count = whole_front(u64::from(disk.block_bytes()), operations);
@@ -97,7 +101,7 @@ fn carry_out_front<D: BlockDevice>(
 
 /// Carries out operations, one after the other, and returns what each of them read. Those that are on whole blocks go
 /// ahead together, up to the next one that isn't. After an `Err` the first ones are done, one may be done in part, and the
-/// others aren't begun.
+/// others aren't begun. An `Ok` says that what was done is kept.
 pub(crate) fn carry_out_all<D: BlockDevice>(
     alloc: Global,
     disk: &mut D,
@@ -109,6 +113,8 @@ pub(crate) fn carry_out_all<D: BlockDevice>(
     ensures goes { GoesOn D.had D.hears D.holds disk.old (λ may_lie bytes later. MatchResult result
         (λ given. (given.items ≡ all_given operations.now bytes) × (later ≡ all_done operations.now bytes))
         (λ _. AreBegun operations.now bytes later) × FailsByLies result may_lie) disk.new }
+    ensures keeps { OnOk result (KeepsOn D.had D.hears D.holds D.kept disk.old (TouchSomeByte operations.now)
+        (λ may_lie bytes later. later ≡ all_done operations.now bytes) disk.new) }
     ensures refused { OnOk result (D.failed disk.old → ⊥) }
     ensures call { IsCall D.block_len D.size D.failed (IsStopped D.stops disk.new) disk.old result disk.new }
 {

@@ -1,9 +1,10 @@
 //! Writes byte ranges by operations on whole blocks.
 
-ghost use Rattle.std.specs.Prelude.{◌≡◌, ℕ, ◌+◌, ◌*◌, ◌%◌, ◌<◌, ◌≤◌, ◌^◌, length, take, IfOk, MatchResult};
-ghost use Rattle.oram_nbd.specs.Beside.{GoesOn, IsStopped};
-ghost use Rattle.oram_nbd.specs.Bytes.{bytes_at, written, zeroes, IsBegun};
+ghost use Rattle.std.specs.Prelude.{◌≡◌, ℕ, ◌+◌, ◌*◌, ◌%◌, ◌<◌, ◌≤◌, ◌^◌, [], ◌∷◌, ◌++◌, drop, length, map, take, IfOk, OnOk};
+ghost use Rattle.oram_nbd.specs.Beside.{GoesOn, IsStopped, KeepsOn};
+ghost use Rattle.oram_nbd.specs.Bytes.{bytes_at, written, zeroes};
 ghost use Rattle.oram_nbd.specs.Calls.{FailsByLies, IsCall, Writes};
+ghost use Rattle.oram_nbd.specs.Operations.{IsWhole};
 
 use crate::disk::BlockDevice;
 use crate::faults::DiskFault;
@@ -31,6 +32,8 @@ impl Cover {
         ensures start { result.start ≡ at % block }
         ensures within { (blocks : ℕ) → at + len ≤ block * blocks → block * result.first + block * result.count ≤ block * blocks }
         ensures covers { result.start + len ≤ block * result.count }
+        ensures tight { block * result.count < result.start + len + block }
+        ensures some { 0 < result.count }
     {
         let first = at / block;
         let last = (at + len - 1) / block;
@@ -48,6 +51,9 @@ impl Cover {
         ensures place { D.block_len disk.now * result.first + result.start ≡ at }
         ensures within { D.block_len disk.now * result.first + D.block_len disk.now * result.count ≤ D.size disk.now }
         ensures covers { result.start + len ≤ D.block_len disk.now * result.count }
+        ensures tight { D.block_len disk.now * result.count < result.start + len + D.block_len disk.now }
+        ensures start { result.start < D.block_len disk.now }
+        ensures some { 0 < result.count }
     {
         let _blocks = disk.blocks();
         Cover::over(u64::from(disk.block_bytes()), at, len)
@@ -65,6 +71,7 @@ pub(crate) fn read_blocks<D: BlockDevice>(
     ensures len { IfOk result (λ v. length v.items ≡ D.block_len disk.old * count) }
     ensures goes { GoesOn D.had D.hears D.holds disk.old (λ may_lie bytes later. (later ≡ bytes)
         × IfOk result (λ v. v.items ≡ bytes_at bytes (D.block_len disk.old * first) (D.block_len disk.old * count)) × FailsByLies result may_lie) disk.new }
+    ensures keeps { OnOk result (KeepsOn D.had D.hears D.holds D.kept disk.old (0 < D.block_len disk.old * count) (λ may_lie bytes later. later ≡ bytes) disk.new) }
     ensures call { IsCall D.block_len D.size D.failed (IsStopped D.stops disk.new) disk.old result disk.new }
 {
     let _blocks = disk.blocks();
@@ -90,6 +97,8 @@ fn write_blocks<D: BlockDevice>(
     requires within { D.block_len disk.old * first + length payload ≤ D.size disk.old }
     requires whole { (count : ℕ) × (length payload ≡ D.block_len disk.old * count) }
     ensures goes { GoesOn D.had D.hears D.holds disk.old (Writes (D.block_len disk.old * first) payload result) disk.new }
+    ensures keeps { OnOk result (KeepsOn D.had D.hears D.holds D.kept disk.old (0 < length payload)
+        (λ may_lie bytes later. later ≡ written bytes (D.block_len disk.old * first) payload) disk.new) }
     ensures call { IsCall D.block_len D.size D.failed (IsStopped D.stops disk.new) disk.old result disk.new }
 {
     let _blocks = disk.blocks();
@@ -99,45 +108,6 @@ fn write_blocks<D: BlockDevice>(
     };
     disk.carry_out(alloc, &[operation])?;
     Ok(())
-}
-
-/// Makes `count` blocks zeroes, from the block `first` on.
-fn zero_blocks<D: BlockDevice>(
-    alloc: Global,
-    disk: &mut D,
-    first: u64,
-    count: u64,
-) -> Result<(), DiskFault>
-    requires { D.block_len disk.old * first + D.block_len disk.old * count ≤ D.size disk.old }
-    ensures goes { GoesOn D.had D.hears D.holds disk.old (Writes (D.block_len disk.old * first) (zeroes (D.block_len disk.old * count)) result) disk.new }
-    ensures call { IsCall D.block_len D.size D.failed (IsStopped D.stops disk.new) disk.old result disk.new }
-{
-    let _blocks = disk.blocks();
-    let block = u64::from(disk.block_bytes());
-    let operation = Operation::Zero {
-        at: block * first,
-        count: block * count,
-    };
-    disk.carry_out(alloc, &[operation])?;
-    Ok(())
-}
-
-/// Returns how many bytes of a range are written at once, from its place on: its whole blocks where it begins with one; all
-/// of it where it lies over two blocks at most; else those of its first block.
-fn front_len(block: u64, at: u64, most: u64) -> u64
-    requires block { 0 < block }
-    requires some { 0 < most }
-    ensures some { 0 < result }
-    ensures most { result ≤ most }
-{
-    let start = at % block;
-    if start == 0 && most >= block {
-        most - most % block
-    } else if most <= block - start || most - (block - start) <= block {
-        most
-    } else {
-        block - start
-    }
 }
 
 /// Returns blocks after `payload` is written into them from `start` on.
@@ -166,8 +136,11 @@ fn write_covered<D: BlockDevice>(
     payload: &[u8],
 ) -> Result<(), DiskFault>
     requires within { D.block_len disk.old * cover.first + D.block_len disk.old * cover.count ≤ D.size disk.old }
+    requires some { 0 < length payload.now }
     requires fits { cover.start + length payload.now ≤ D.block_len disk.old * cover.count }
     ensures goes { GoesOn D.had D.hears D.holds disk.old (Writes (D.block_len disk.old * cover.first + cover.start) payload.now result) disk.new }
+    ensures keeps { OnOk result (KeepsOn D.had D.hears D.holds D.kept disk.old (0 < length payload.now)
+        (λ may_lie bytes later. later ≡ written bytes (D.block_len disk.old * cover.first + cover.start) payload.now) disk.new) }
     ensures call { IsCall D.block_len D.size D.failed (IsStopped D.stops disk.new) disk.old result disk.new }
 {
     let _blocks = disk.blocks();
@@ -180,29 +153,110 @@ fn write_covered<D: BlockDevice>(
     write_blocks(alloc, disk, cover.first, Bytes::from_vec(whole))
 }
 
-/// Writes those bytes at the front of the payload that are written at once, and returns their number.
-fn write_part<D: BlockDevice>(
+/// The bytes of the blocks of a range that lie outside of it.
+#[derive(Debug, Drop)]
+struct Edges {
+    /// Those of its first block that lie before it.
+    before: Bytes,
+    /// Those of its last block that lie behind it.
+    after: Bytes,
+}
+
+/// Returns two pieces of bytes and what lies between them as one piece.
+fn joined(alloc: Global, first: &[u8], middle: &[u8], last: &[u8]) -> Result<Vec<u8>, AllocError>
+    ensures { IfOk result (λ v. v.items ≡ first.now ++ middle.now ++ last.now) }
+{
+    let mut whole = Vec::with_capacity(alloc, middle.len())?;
+    whole.extend_from_slice(first)?;
+    whole.extend_from_slice(middle)?;
+    whole.extend_from_slice(last)?;
+    Ok(whole)
+}
+
+/// Reads two ranges of whole blocks by one call, of `count` and of `more` bytes.
+fn read_two<D: BlockDevice>(
     alloc: Global,
     disk: &mut D,
     at: u64,
-    payload: &[u8],
-) -> Result<usize, DiskFault>
-    requires within { at + length payload.now ≤ D.size disk.old }
-    requires some { 0 < length payload.now }
-    ensures some { IfOk result (λ n. 0 < n) }
-    ensures most { IfOk result (λ n. n ≤ length payload.now) }
-    ensures goes { GoesOn D.had D.hears D.holds disk.old (λ may_lie bytes later.
-        MatchResult result (λ n. later ≡ written bytes at (take n payload.now)) (λ _. IsBegun bytes at payload.now later) × FailsByLies result may_lie) disk.new }
+    count: u64,
+    last: u64,
+    more: u64,
+) -> Result<Vec<Bytes>, DiskFault>
+    requires whole { IsWhole (D.block_len disk.old) (Operation.Read at count) }
+    requires within { at + count ≤ D.size disk.old }
+    requires whole_last { IsWhole (D.block_len disk.old) (Operation.Read last more) }
+    requires within_last { last + more ≤ D.size disk.old }
+    ensures len { IfOk result (λ given. map length given.items ≡ count ∷ more ∷ []) }
+    ensures goes { GoesOn D.had D.hears D.holds disk.old (λ may_lie bytes later. (later ≡ bytes)
+        × IfOk result (λ given. given.items ≡ bytes_at bytes at count ∷ bytes_at bytes last more ∷ []) × FailsByLies result may_lie) disk.new }
     ensures call { IsCall D.block_len D.size D.failed (IsStopped D.stops disk.new) disk.old result disk.new }
 {
+    let reads = [
+        Operation::Read { at, count },
+        Operation::Read {
+            at: last,
+            count: more,
+        },
+    ];
+    disk.carry_out(alloc, &reads)
+}
+
+/// Returns the number of bytes of the block at an edge of a range, of which `len` bytes lie outside of the range; or 0 if the
+/// range has no such block.
+fn edge_len(block: u64, len: u64) -> u64
+    requires { len < block }
+    ensures most { result ≤ block }
+    ensures least { len ≤ result }
+    ensures none { len ≡ 0 → result ≡ 0 }
+    ensures one { 0 < len → result ≡ block }
+{
+    if len > 0 { block } else { 0 }
+}
+
+/// Reads what lies around a range of `len` bytes in the blocks of its cover. Only blocks that lie in part outside of the range
+/// are read, both by one call.
+fn read_edges<D: BlockDevice>(
+    alloc: Global,
+    disk: &mut D,
+    cover: Cover,
+    len: u64,
+) -> Result<Edges, DiskFault>
+    requires within { D.block_len disk.old * cover.first + D.block_len disk.old * cover.count ≤ D.size disk.old }
+    requires some { 0 < cover.count }
+    requires start { cover.start < D.block_len disk.old }
+    requires covers { cover.start + len ≤ D.block_len disk.old * cover.count }
+    requires tight { D.block_len disk.old * cover.count < cover.start + len + D.block_len disk.old }
+    ensures before { IfOk result (λ e. length e.before ≡ cover.start) }
+    ensures after { IfOk result (λ e. cover.start + len + length e.after ≡ D.block_len disk.old * cover.count) }
+    ensures goes { GoesOn D.had D.hears D.holds disk.old (λ may_lie bytes later. (later ≡ bytes)
+        × IfOk result (λ e. let blocks = bytes_at bytes (D.block_len disk.old * cover.first) (D.block_len disk.old * cover.count) in
+        (e.before ≡ take cover.start blocks) × (e.after ≡ drop (cover.start + len) blocks)) × FailsByLies result may_lie) disk.new }
+    ensures call { IsCall D.block_len D.size D.failed (IsStopped D.stops disk.new) disk.old result disk.new }
+{
+    let _blocks = disk.blocks();
     let block = u64::from(disk.block_bytes());
-    let len = front_len(block, at, payload.len() as u64);
-    let cover = Cover::of(disk, at, len);
-    write_covered(alloc, disk, cover, &payload[..len as usize])?;
-    Ok(len as usize)
+    let at = block * cover.first;
+    let end = at + block * cover.count;
+    let rest = end - at - (cover.start as u64 + len);
+    let ahead = edge_len(block, cover.start as u64);
+    let behind = edge_len(block, rest);
+    if ahead + behind == 0 {
+        return Ok(Edges {
+            before: Bytes::from_vec(Vec::new(alloc)),
+            after: Bytes::from_vec(Vec::new(alloc)),
+        });
+    }
+    let given = read_two(alloc, disk, at, ahead, end - behind, behind)?;
+    let before = Bytes::copy(alloc, &given[0].as_slice()[..cover.start])?;
+    let back = given[1].as_slice();
+    let after = Bytes::copy(alloc, &back[(behind - rest) as usize..])?;
+    Ok(Edges { before, after })
 }
 
 /// Writes a range. No byte outside of it changes. On an error, a beginning of the payload may be written.
+///
+/// The device is called twice at most: the blocks at the edges are read if they lie in part outside of the range, and then all
+/// its blocks are written.
 pub(crate) fn write_range<D: BlockDevice>(
     alloc: Global,
     disk: &mut D,
@@ -211,46 +265,81 @@ pub(crate) fn write_range<D: BlockDevice>(
 ) -> Result<(), DiskFault>
     requires { offset + length payload.now ≤ D.size disk.old }
     ensures goes { GoesOn D.had D.hears D.holds disk.old (Writes offset payload.now result) disk.new }
+    ensures keeps { OnOk result (KeepsOn D.had D.hears D.holds D.kept disk.old (0 < length payload.now) (λ may_lie bytes later. later ≡ written bytes offset payload.now) disk.new) }
     ensures call { IsCall D.block_len D.size D.failed (IsStopped D.stops disk.new) disk.old result disk.new }
 {
     let _blocks = disk.blocks();
-    let mut done = 0;
-    while done < payload.len() {
-        done += write_part(alloc, disk, offset + done as u64, &payload[done..])?;
+    let len = payload.len() as u64;
+    if len == 0 {
+        return Ok(());
     }
+    let cover = Cover::of(disk, offset, len);
+    if cover.count == 1 {
+        return write_covered(alloc, disk, cover, payload);
+    }
+    let edges = read_edges(alloc, disk, cover, len)?;
+    let whole = joined(
+        alloc,
+        edges.before.as_slice(),
+        payload,
+        edges.after.as_slice(),
+    )?;
+    write_blocks(alloc, disk, cover.first, Bytes::from_vec(whole))
+}
+
+/// Makes a range of `len` bytes zeroes by one call. It has the whole blocks between the edges zeroed, and writes the blocks
+/// at the edges.
+fn zero_between<D: BlockDevice>(
+    alloc: Global,
+    disk: &mut D,
+    cover: Cover,
+    len: u64,
+    edges: &Edges,
+) -> Result<(), DiskFault>
+    requires within { D.block_len disk.old * cover.first + D.block_len disk.old * cover.count ≤ D.size disk.old }
+    requires some { 0 < cover.count }
+    requires before { length edges.now.before < D.block_len disk.old }
+    requires after { length edges.now.after < D.block_len disk.old }
+    requires all { length edges.now.before + len + length edges.now.after ≡ D.block_len disk.old * cover.count }
+    requires apart { cover.count ≡ 1 → length edges.now.before + length edges.now.after ≡ 0 }
+    ensures goes { GoesOn D.had D.hears D.holds disk.old
+        (Writes (D.block_len disk.old * cover.first) (edges.now.before ++ zeroes len ++ edges.now.after) result) disk.new }
+    ensures keeps { OnOk result (KeepsOn D.had D.hears D.holds D.kept disk.old (0 < len)
+        (λ may_lie bytes later. later ≡ written bytes (D.block_len disk.old * cover.first) (edges.now.before ++ zeroes len ++ edges.now.after)) disk.new) }
+    ensures call { IsCall D.block_len D.size D.failed (IsStopped D.stops disk.new) disk.old result disk.new }
+{
+    let _blocks = disk.blocks();
+    let block = u64::from(disk.block_bytes());
+    let at = block * cover.first;
+    let end = at + block * cover.count;
+    let ahead = edge_len(block, edges.before.len() as u64);
+    let behind = edge_len(block, edges.after.len() as u64);
+    let front = vec![in alloc; 0u8; ahead as usize - edges.before.len()]?;
+    let back = vec![in alloc; 0u8; behind as usize - edges.after.len()]?;
+    let first = joined(alloc, edges.before.as_slice(), &front, &[])?;
+    let last = joined(alloc, &[], &back, edges.after.as_slice())?;
+    let operations = [
+        Operation::Write {
+            at,
+            payload: Bytes::from_vec(first),
+        },
+        Operation::Zero {
+            at: at + ahead,
+            count: end - behind - (at + ahead),
+        },
+        Operation::Write {
+            at: end - behind,
+            payload: Bytes::from_vec(last),
+        },
+    ];
+    disk.carry_out(alloc, &operations)?;
     Ok(())
 }
 
-/// Makes those bytes at the front of a range zeroes that are written at once, and returns their number. Whole blocks are
-/// made zeroes by the device.
-fn zero_part<D: BlockDevice>(
-    alloc: Global,
-    disk: &mut D,
-    at: u64,
-    most: u64,
-) -> Result<u64, DiskFault>
-    requires within { at + most ≤ D.size disk.old }
-    requires some { 0 < most }
-    ensures some { IfOk result (λ n. 0 < n) }
-    ensures most { IfOk result (λ n. n ≤ most) }
-    ensures goes { GoesOn D.had D.hears D.holds disk.old (λ may_lie bytes later.
-        MatchResult result (λ n. later ≡ written bytes at (zeroes n)) (λ _. IsBegun bytes at (zeroes most) later) × FailsByLies result may_lie) disk.new }
-    ensures call { IsCall D.block_len D.size D.failed (IsStopped D.stops disk.new) disk.old result disk.new }
-{
-    let block = u64::from(disk.block_bytes());
-    let len = front_len(block, at, most);
-    let cover = Cover::of(disk, at, len);
-    let _blocks = disk.blocks();
-    if len == block * cover.count {
-        zero_blocks(alloc, disk, cover.first, cover.count)?;
-    } else {
-        let none = vec![in alloc; 0u8; len as usize]?;
-        write_covered(alloc, disk, cover, &none)?;
-    }
-    Ok(len)
-}
-
 /// Makes the bytes of a range zeroes.
+///
+/// The device is called twice at most: the blocks at the edges are read if they lie in part outside of the range, and then they
+/// are written, and the whole blocks between them zeroed.
 pub(crate) fn zero_range<D: BlockDevice>(
     alloc: Global,
     disk: &mut D,
@@ -259,12 +348,18 @@ pub(crate) fn zero_range<D: BlockDevice>(
 ) -> Result<(), DiskFault>
     requires { offset + count ≤ D.size disk.old }
     ensures goes { GoesOn D.had D.hears D.holds disk.old (Writes offset (zeroes count) result) disk.new }
+    ensures keeps { OnOk result (KeepsOn D.had D.hears D.holds D.kept disk.old (0 < count) (λ may_lie bytes later. later ≡ written bytes offset (zeroes count)) disk.new) }
     ensures call { IsCall D.block_len D.size D.failed (IsStopped D.stops disk.new) disk.old result disk.new }
 {
     let _blocks = disk.blocks();
-    let mut done = 0;
-    while done < count {
-        done += zero_part(alloc, disk, offset + done, count - done)?;
+    if count == 0 {
+        return Ok(());
     }
-    Ok(())
+    let cover = Cover::of(disk, offset, count);
+    if cover.count == 1 && count < u64::from(disk.block_bytes()) {
+        let none = vec![in alloc; 0u8; count as usize]?;
+        return write_covered(alloc, disk, cover, &none);
+    }
+    let edges = read_edges(alloc, disk, cover, count)?;
+    zero_between(alloc, disk, cover, count, &edges)
 }

@@ -9,8 +9,8 @@ use crate::LONGEST_PAYLOAD;
 use crate::faults::NbdError;
 use crate::requests::{Command, Request};
 
-/// Returns why a request is refused before a device of `size` bytes is asked, if it is. The known flags are the lowest
-/// bits, so a greater number has an unknown flag.
+/// Returns the reason to refuse a request on a device of `size` bytes, or `None`. Doesn't ask the device. The known flags are
+/// the lowest bits, so a greater number has an unknown flag.
 pub(crate) fn refusal(request: &Request, size: u64) -> Option<NbdError>
     ensures { result ≡ refusal_of size request.now }
 {

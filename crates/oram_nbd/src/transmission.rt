@@ -3,18 +3,18 @@
 ghost use Rattle.std.specs.Prelude.{◌≡◌, ◌≤◌, ℕ, [], List, Option, IfOk, IfErr, OnOk, length, map};
 ghost use Rattle.std.specs.Bool.{MatchBool};
 ghost use Rattle.std.specs.Io.KnownBytes.{Appends};
-ghost use Rattle.oram_nbd.specs.Batches.{refusals_text, AreKept, BreaksBatch, EndsBatch, EndsBy, IsLayout, IsUnkept, LeftBy};
+ghost use Rattle.oram_nbd.specs.Batches.{refusals_text, AreCollected, BreaksBatch, EndsBatch, EndsBy, HasKept, AreDiskSizes, IsWithoutMemory, LeftBy};
 ghost use Rattle.oram_nbd.specs.Beside.{IsStopped};
 ghost use Rattle.oram_nbd.specs.Calls.{Stays};
-ghost use Rattle.oram_nbd.specs.Service.{Asked};
+ghost use Rattle.oram_nbd.specs.Service.{WholeRequest};
 ghost use Rattle.oram_nbd.specs.Streams.{IsBegunText};
 ghost use Rattle.oram_nbd.specs.Transmission.{HasTransmitted, IsCutOff, IsLast, StopsServing};
 
 use crate::arrivals::Arrived;
 use crate::batches::{Batch, Close, gather};
 use crate::disk::BlockDevice;
+use crate::disk_sizes::DiskSizes;
 use crate::faults::{DiskFault, NbdError, NbdFault};
-use crate::layout::Layout;
 use crate::lists::carry_out_all;
 use crate::replies::{put_answers, put_refusals};
 use crate::service::is_any_accepted;
@@ -26,35 +26,36 @@ use std::io::{Read, Write};
 const MOST_BATCHES: u64 = 1 << 56;
 
 /// Carries out a batch, and writes the replies. Running out of memory, or a failure of the device, refuses all requests of the
-/// batch; some of them may be done all the same.
+/// batch; some of them may be done all the same. A reply that acknowledges its request says that what the batch did is kept.
 fn carry_out_batch<W: Write, D: BlockDevice>(
     alloc: Global,
     writer: &mut W,
     disk: &mut D,
-    layout: Layout,
+    sizes: DiskSizes,
     batch: &Batch,
 ) -> Result<(), NbdFault>
-    requires block { layout.block ≡ D.block_len disk.old }
-    requires size { layout.size ≡ D.size disk.old }
-    requires layout { IsLayout layout.block layout.size }
-    requires kept { (asked : List Asked) × AreKept layout.block layout.size asked batch.now.requests.items batch.now.operations.items }
-    ensures ok { OnOk result ((asked : List Asked) → AreKept layout.block layout.size asked batch.now.requests.items batch.now.operations.items →
-        EndsBatch D.had D.hears D.holds (D.failed disk.old) (D.failed disk.new) layout.size disk.old disk.new asked (W.contents writer.old) (W.contents writer.new)) }
-    ensures err { IfErr result (λ fault. (asked : List Asked) → AreKept layout.block layout.size asked batch.now.requests.items batch.now.operations.items →
-        BreaksBatch D.had D.hears D.holds (D.failed disk.old) (D.failed disk.new) layout.size disk.old disk.new asked fault (W.contents writer.old) (W.contents writer.new)) }
+    requires block { sizes.block ≡ D.block_len disk.old }
+    requires size { sizes.size ≡ D.size disk.old }
+    requires sizes { AreDiskSizes sizes.block sizes.size }
+    requires collected { (asked : List WholeRequest) × AreCollected sizes.block sizes.size asked batch.now.requests.items batch.now.operations.items }
+    ensures ok { OnOk result ((asked : List WholeRequest) → AreCollected sizes.block sizes.size asked batch.now.requests.items batch.now.operations.items →
+        EndsBatch D.had D.hears D.holds (D.failed disk.old) (D.failed disk.new) sizes.size disk.old disk.new asked (W.contents writer.old) (W.contents writer.new)) }
+    ensures err { IfErr result (λ fault. (asked : List WholeRequest) → AreCollected sizes.block sizes.size asked batch.now.requests.items batch.now.operations.items →
+        BreaksBatch D.had D.hears D.holds (D.failed disk.old) (D.failed disk.new) sizes.size disk.old disk.new asked fault (W.contents writer.old) (W.contents writer.new)) }
+    ensures keeps { OnOk result (HasKept D.had D.hears D.holds D.kept batch.now.operations.items disk.old disk.new (W.contents writer.old) (W.contents writer.new)) }
     ensures stopped { IfErr result (λ fault. fault ≡ NbdFault.Stopped → IsStopped D.stops disk.new) }
     ensures stays { Stays D.block_len D.size D.failed disk.old disk.new }
 {
     let _blocks = disk.blocks();
-    if !is_any_accepted(&batch.requests, layout.size) {
-        return put_refusals(writer, layout.size, &batch.requests, NbdError::NoMemory);
+    if !is_any_accepted(&batch.requests, sizes.size) {
+        return put_refusals(writer, sizes.size, &batch.requests, NbdError::NoMemory);
     }
     match carry_out_all(alloc, disk, &batch.operations) {
-        Ok(given) => put_answers(writer, layout, &batch.requests, &given),
-        Err(DiskFault::Failed) => put_refusals(writer, layout.size, &batch.requests, NbdError::Io),
+        Ok(given) => put_answers(writer, sizes, &batch.requests, &given),
+        Err(DiskFault::Failed) => put_refusals(writer, sizes.size, &batch.requests, NbdError::Io),
         Err(DiskFault::OutOfMemory) => put_refusals(
             writer,
-            layout.size,
+            sizes.size,
             &batch.requests,
             NbdError::NoMemory,
         ),
@@ -63,11 +64,11 @@ fn carry_out_batch<W: Write, D: BlockDevice>(
 }
 
 /// Refuses the request for which there was no memory, if there is one, and returns their number.
-fn refuse_unkept<W: Write>(writer: &mut W, size: u64, close: Close) -> Result<u64, NbdFault>
-    ensures ok { IfOk result (λ count. (part : List ℕ) (unread : Option (List ℕ)) → EndsBy close part unread → (asked : List Asked) × (rest : List ℕ) × IsUnkept close part unread asked rest
+fn refuse_without_memory<W: Write>(writer: &mut W, size: u64, close: Close) -> Result<u64, NbdFault>
+    ensures ok { IfOk result (λ count. (part : List ℕ) (unread : Option (List ℕ)) → EndsBy close part unread → (asked : List WholeRequest) × (rest : List ℕ) × IsWithoutMemory close part unread asked rest
         × (length asked ≡ count) × Appends (W.contents writer.old) (W.contents writer.new) (refusals_text size (map (λ a. a.request) asked) NbdError.NoMemory)) }
     ensures few { IfOk result (λ count. count ≤ 1) }
-    ensures err { IfErr result (λ fault. (fault ≡ NbdFault.Write) × ((part : List ℕ) (unread : Option (List ℕ)) → EndsBy close part unread → (asked : List Asked) × (rest : List ℕ) × IsUnkept close part unread asked rest
+    ensures err { IfErr result (λ fault. (fault ≡ NbdFault.Write) × ((part : List ℕ) (unread : Option (List ℕ)) → EndsBy close part unread → (asked : List WholeRequest) × (rest : List ℕ) × IsWithoutMemory close part unread asked rest
         × IsBegunText (W.contents writer.old) (W.contents writer.new) (refusals_text size (map (λ a. a.request) asked) NbdError.NoMemory))) }
 {
     match close {
@@ -111,15 +112,15 @@ pub fn transmit<R: Read + Arrived, W: Write, D: BlockDevice>(
     ensures stopped { IfErr result (λ fault. fault ≡ NbdFault.Stopped → IsStopped D.stops disk.new) }
     ensures stays { Stays D.block_len D.size D.failed disk.old disk.new }
 {
-    let layout = Layout::of(disk);
+    let sizes = DiskSizes::of(disk);
     let mut served = 0;
     for _batch_number in 0..MOST_BATCHES {
-        let (batch, close) = gather(alloc, reader, layout);
-        carry_out_batch(alloc, writer, disk, layout, &batch)?;
+        let (batch, close) = gather(alloc, reader, sizes);
+        carry_out_batch(alloc, writer, disk, sizes, &batch)?;
         let _blocks = disk.blocks();
-        let unkept = refuse_unkept(writer, layout.size, close)?;
+        let without_memory = refuse_without_memory(writer, sizes.size, close)?;
         flush(writer)?;
-        served += batch.requests.len() as u64 + unkept;
+        served += batch.requests.len() as u64 + without_memory;
         let more = goes_on(close)?;
         if !more {
             return Ok(served);

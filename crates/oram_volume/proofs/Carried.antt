@@ -1,5 +1,5 @@
 -- A round of commands behind what waited: what it leaves, by what each of its parts says.
-use Rattle.std.proofs.Common.{◌≡◌, ◌≢◌, ◌⊎◌, ℕ, ◌<◌, ◌≤◌, Bool, true, false, List, [], ◌∷◌, ◌++◌, length, map, take, count_by, All, None, Option, Some, Result, Ok, Err, IfErr, IfOk, IsErrOf, MatchResult, refl, sym, ap, ◌∙◌, subst, append_assoc, arith, inl, inr}
+use Rattle.std.proofs.Common.{◌≡◌, ◌≢◌, ◌⊎◌, ℕ, ◌<◌, ◌≤◌, Bool, true, false, List, [], ◌∷◌, ◌++◌, length, map, take, count_by, All, None, Option, Some, Result, Ok, Err, IfErr, IfOk, IsErrOf, MatchResult, OnOk, refl, sym, ap, ◌∙◌, subst, append_assoc, arith, inl, inr}
 use Rattle.std.proofs.lemmas.List.{length-map, map-append, take-append-le, append-nil, nil_from_length}
 use Rattle.std.proofs.Math.Seq.{take-nil}
 use Rattle.std.proofs.lemmas.List.Elements.{All-cons, All-head, All-nil, All-tail}
@@ -24,8 +24,8 @@ use Rattle.oram_session.proofs.CoreSteps.{same_scheme, same_trans}
 use Rattle.oram_session.specs.Settled.{IsSettled}
 use Rattle.oram_link_laws.specs.Runs.{Exchange}
 use Rattle.oram_link_laws.proofs.Exchanged.{folds_join}
-use Rattle.oram_nbd.specs.Beside.{GoesOn}
-use Rattle.oram_nbd.proofs.Beside.{joined_calls, weaker}
+use Rattle.oram_nbd.specs.Beside.{GoesOn, KeepsOn}
+use Rattle.oram_nbd.proofs.Beside.{joined_calls, kept_behind, weaker}
 use Rattle.oram_rounds.specs.Batches.{BatchOutcome}
 use Rattle.oram_rounds.specs.Law.{AreBatches}
 use Rattle.oram_rounds.specs.Process.Act.{Keeps}
@@ -33,13 +33,13 @@ use Rattle.oram_rounds.specs.Process.{Act, DoesAll, Process, process, replies_of
 use Rattle.oram_rounds.specs.Start.{AreAsked, Asked, array_with}
 use Rattle.oram_volume.specs.CarriedOut.{Had, Step, Stops, Takes, TakesAll, after_commands, bodies_from}
 use Rattle.oram_volume.specs.CarriedOut.Step.{Acts, Asks}
-use Rattle.oram_volume.specs.HeldArrays.{Hears, HoldsArray, Running, running}
+use Rattle.oram_volume.specs.HeldArrays.{Hears, HoldsArray, KeepsArray, Running, running}
 use Rattle.oram_volume.specs.RangeCommands.{Fits}
 use Rattle.oram_volume.specs.declared.volume.Volume.{Volume}
 use Rattle.oram_rounds.specs.Rounds.{Round}
 use Rattle.oram_rounds.proofs.Start.{resting}
 use Rattle.oram_volume.proofs.Answered.{NoneFailed, bodies, none_failed, replies_go_on}
-use Rattle.oram_volume.proofs.HeldArrays.{acts_taken, asked_go_on, asked_taken}
+use Rattle.oram_volume.proofs.HeldArrays.{acts_taken, asked_go_on, asked_taken, kept_go_on}
 use Rattle.oram_volume.proofs.Submitted.{AllFit, accepted_in, all_accepted, first_accepted, one_refused}
 
 pub lies_if : (may_lie : Bool) → (may_lie ≡ false → ⊥) → may_lie ≡ true
@@ -273,6 +273,27 @@ module _ {S B K T : Type 0} (cipher : S → Cipher) (words : T → ℕ → ℕ �
             step.1 ∙ whole.1 array ∙ ap (λ (cs : List Command). after_commands old.core.device cs array) k.1,
           ))
 
+      -- The acts began with a keeping. Then what the volume holds is kept.
+      pub all_kept : (rest : List Act) → acts ≡ Keeps true ∷ rest → length commands ≤ length replies → length core.state.queue ≡ count_by is_accepted notes
+          → KeepsOn (Had batches reads_back) Hears HoldsArray (KeepsArray reads_back) (running cipher words old) (Unit {0})
+          (λ may_lie array later. later ≡ after_commands old.core.device commands array) (running cipher words new)
+      all_kept rest begin enough count =
+          let v = scheme_of cipher old.core in
+          let chain = chain_under cipher words batches reads_back are old mid kept tape goes k.0 core.state k.3 in
+          let counted : accepted_in v (words old.tape) 0 k.0 ≡ count_by is_accepted notes = ap (λ (ns : List Note). count_by is_accepted ns) k.2 in
+          let size : length k.0 ≡ length commands = sym (length-map k.0 (λ (a : Asked). a.command)) ∙ ap length k.1 in
+          let whole = all_accepted v (words old.tape) 0 k.0 mid.core.state core.state chain (omega (arith, counted, size, enough, many, count)) in
+          let there : Process B K = process after.state link keeper in
+          let does_so : DoesAll v batches reads_back (process core.state mid.link mid.keeper) (Keeps true ∷ rest) there =
+          subst (λ (done : List Act). DoesAll v batches reads_back (process core.state mid.link mid.keeper) done there) begin does_under in
+          subst (λ (r : Running B K). KeepsOn (Had batches reads_back) Hears HoldsArray (KeepsArray reads_back) (running cipher words old) (Unit {0})
+          (λ may_lie array later. later ≡ after_commands old.core.device commands array) r)
+          (sym (same_running cipher words old new (same_trans old.core core after kept_core kept_then) (same_tape ∙ tape)))
+          (kept_behind (resumed cipher words batches reads_back are old mid kept tape goes)
+          (kept_go_on batches reads_back are v (words old.tape) k.0 rest 0 mid.core.state core.state mid.link mid.keeper there chain does_so) tt
+          (λ may_lie world array between later h first second.
+          second ∙ ap (array_with old.core.device k.0) first ∙ whole.1 array ∙ ap (λ (cs : List Command). after_commands old.core.device cs array) k.1))
+
 -- what becomes of no commands, and of commands that were all refused
 pub none_begun : {R : Type 0} (items : R → List Reply) (r : Result R DiskFault) (d : Sizes) (count : ℕ) (commands : List Command) → count ≡ length commands
     → IfOk r (λ x. (items x ≡ []) × (count ≡ 0)) → IfErr r (λ e. (e ≡ Stopped) × (0 < count)) → (may_lie : Bool) (array later : ℕ → List ℕ) → (n : ℕ) × (later ≡ after_commands d (take n commands) array)
@@ -286,6 +307,11 @@ none_begun items (Ok x) d count commands size ok err may_lie array later some =
       λ e. cc,
     )
 none_begun items (Err e) d count commands size ok err may_lie array later some = (some, λ f. let is : e ≡ Failed = cc in absurd (let both : Stopped ≡ Failed = sym err.0 ∙ is in cc))
+
+-- Where no command is accepted, only an empty list of them has replies.
+pub none_accepted : {R : Type 0} (P : Type 0) (items : R → List Reply) (r : Result R DiskFault) (count many : ℕ) → count ≡ many → IfOk r (λ x. (items x ≡ []) × (count ≡ 0)) → OnOk r (0 < many → P)
+none_accepted P items (Ok x) count many size ok = λ some. absurd (omega (arith, some, size, ok.1))
+none_accepted P items (Err e) count many size ok = tt
 
 pub some_left : {R : Type 0} (r : Result R DiskFault) (count : ℕ) → IsErrOf r Stopped → IfErr r (λ e. (e ≡ Stopped) × (0 < count)) → 0 < count
 some_left (Ok x) count is err = absurd cc

@@ -8,16 +8,16 @@ use Rattle.oram_core.specs.Core.{IsSameDevice}
 use Rattle.oram_session.specs.Honesty.{HasFailed}
 use Rattle.oram_link_laws.specs.Runs.{Exchange}
 use Rattle.oram_link_laws.proofs.Exchanged.{folds_join}
-use Rattle.oram_nbd.specs.Beside.{GoesOn}
+use Rattle.oram_nbd.specs.Beside.{GoesOn, KeepsOn}
 use Rattle.oram_nbd.specs.Calls.{Stays}
-use Rattle.oram_nbd.proofs.Beside.{one_call}
+use Rattle.oram_nbd.proofs.Beside.{one_call, one_kept}
 use Rattle.oram_rounds.specs.Batches.{BatchOutcome}
 use Rattle.oram_rounds.specs.Process.Act.{Keeps}
 use Rattle.oram_volume.specs.Blocks.{IsLaidOut}
 use Rattle.oram_volume.specs.CarriedOut.{Had, Step, Stops, Takes, TakesAll, exchanges_in}
 use Rattle.oram_volume.specs.CarriedOut.Step.{Acts, Asks}
-use Rattle.oram_volume.specs.DiskCalls.{VolumeGoesOn}
-use Rattle.oram_volume.specs.HeldArrays.{Hears, HoldsArray, Running, running}
+use Rattle.oram_volume.specs.DiskCalls.{VolumeGoesOn, VolumeKeepsOn}
+use Rattle.oram_volume.specs.HeldArrays.{Hears, HoldsArray, KeepsArray, Running, running}
 use Rattle.oram_volume.specs.declared.volume.Volume.{Volume}
 
 module _ {B K : Type 0} (batches : B → List (List ℕ) → BatchOutcome → List Exchange → B → Type 0) (reads_back : K → List ℕ → Type 0) where
@@ -75,6 +75,20 @@ module _ {S B K T : Type 0} (cipher : S → Cipher) (words : T → ℕ → ℕ �
       let k = g.leads may_lie world later run h.array h.holds in
       let r = laid may_lie h.array k.0 bytes h.laid k.1 in
       (r.0, r.1, record { array = k.0; holds = k.2; laid = subst (λ (d : Sizes). IsLaidOut d k.0 r.0) (sym kept.0) r.2 }))
+
+  -- The same for what is kept.
+  pub kept_as_bytes : (old new : Volume S B K T) → IsSameDevice old.core new.core → {sure : Type 0} {step : Bool → (ℕ → List ℕ) → (ℕ → List ℕ) → Type 0} {step' : Bool → List ℕ → List ℕ → Type 0}
+      → KeepsOn (Had batches reads_back) Hears HoldsArray (KeepsArray reads_back) (running cipher words old) (Unit {0}) step (running cipher words new)
+      → ((may_lie : Bool) (array later : ℕ → List ℕ) (bytes : List ℕ) → IsLaidOut old.core.device array bytes → step may_lie array later
+      → (next : List ℕ) × step' may_lie bytes next × IsLaidOut old.core.device later next)
+      → VolumeKeepsOn cipher words batches reads_back old sure step' new
+  kept_as_bytes old new kept k laid = one_kept (flat_map (λ (es : List Exchange). es) k.calls)
+      (all_had batches reads_back k.calls (running cipher words old) (running cipher words new) k.made)
+      (λ may_lie world later run bytes h.
+      let j = k.leads may_lie world later run h.array h.holds in
+      let r = laid may_lie h.array j.0 bytes h.laid j.1 in
+      let there : IsLaidOut new.core.device j.0 r.0 = subst (λ (d : Sizes). IsLaidOut d j.0 r.0) (sym kept.0) r.2 in
+      (r.0, r.1, record { array = j.0; holds = j.2; laid = there }, λ was. record { array = j.0; keeps = j.3 (inl tt); laid = there }))
 
   -- A volume that stops after it has gone on has stopped since then.
   pub stops_after : (old mid new : Volume S B K T) {step : Bool → (ℕ → List ℕ) → (ℕ → List ℕ) → Type 0} → GoesOn (Had batches reads_back) Hears HoldsArray (running cipher words old) step (running cipher words mid)

@@ -1,29 +1,31 @@
 -- What a process goes on holding beside a host, whatever it does.
 use Rattle.std.proofs.Common.{◌≡◌, ◌⊎◌, ℕ, Bool, true, false, List, [], ◌∷◌, ◌++◌, map, None, refl, sym, ap, ◌∙◌, subst, inl, inr}
 use Rattle.std.proofs.lemmas.Grind.{flat_map-append}
-use Rattle.std.proofs.lemmas.List.{map-append}
-use Rattle.std.specs.List.{FoldsTo, flat_map}
+use Rattle.std.proofs.lemmas.List.{append-nil, map-append}
+use Rattle.std.specs.List.{AllByRecursion, FoldsTo, flat_map}
 use Rattle.oram_geometry.specs.Sizes.{IsDevice}
 use Rattle.oram_semantics.specs.Scheme.{Scheme}
 use Rattle.oram_semantics.specs.Progress.Status.{Stalling}
 use Rattle.oram_semantics.specs.State.{State, status_in}
+use Rattle.oram_link_laws.specs.Repair.{IsAmong}
 use Rattle.oram_link_laws.specs.Runs.{Exchange}
 use Rattle.oram_link_laws.proofs.Exchanged.{folds_join}
-use Rattle.oram_nbd.specs.Beside.{GoesOn}
-use Rattle.oram_nbd.proofs.Beside.{one_call}
+use Rattle.oram_nbd.specs.Beside.{GoesOn, KeepsOn}
+use Rattle.oram_nbd.proofs.Beside.{one_call, one_kept}
 use Rattle.oram_rounds.specs.Batches.{BatchOutcome}
 use Rattle.oram_rounds.specs.CatchUp.{PlainRun}
-use Rattle.oram_rounds.specs.Law.{AreBatches}
-use Rattle.oram_rounds.specs.Process.{Act, DoesAll, IsSafe, Process, exchanges_of, process}
+use Rattle.oram_rounds.specs.Law.{AreBatches, IsFetchNow}
+use Rattle.oram_rounds.specs.Process.{Act, Does, DoesAll, IsSafe, Process, earlier, exchanges_of, process}
 use Rattle.oram_rounds.specs.Process.Act.{Calls, GoesAhead, Hears as HearsOf, Keeps, Misses}
-use Rattle.oram_rounds.specs.Rounds.{Round}
+use Rattle.oram_rounds.specs.Rounds.{Round, waiting}
+use Rattle.oram_rounds.specs.Service.{WillHoldAfter}
 use Rattle.oram_rounds.specs.Start.{AreAsked, Asked, array_with}
 use Rattle.oram_rounds.proofs.Asked.{asked_is_submitted}
 use Rattle.oram_rounds.proofs.Safety.{acts_are_safe}
 use Rattle.oram_rounds.proofs.Start.{held_is_safe, submitted_is_safe}
 use Rattle.oram_volume.specs.CarriedOut.{Had, Step, Stops, Takes, TakesAll, exchanges_in}
 use Rattle.oram_volume.specs.CarriedOut.Step.{Acts, Asks}
-use Rattle.oram_volume.specs.HeldArrays.{Hears, HeldDevicesHold, HoldsArray, HostBeside, Running}
+use Rattle.oram_volume.specs.HeldArrays.{Hears, HeldDevicesHold, HoldsArray, HostBeside, KeepsArray, Running}
 
 -- the host goes through exchanges
 pub heard : (may_lie : Bool) (exchanges : List Exchange) (w later : HostBeside) → FoldsTo {P = HostBeside} {A = Exchange} (Hears may_lie) w exchanges later
@@ -34,8 +36,18 @@ heard may_lie (e ∷ exchanges) w later all =
     (rest.0 ∙ all.1.0, (all.0.host, all.1.1, subst (λ (v : Scheme). PlainRun may_lie v all.0.host exchanges later.host) all.1.0 rest.1))
 
 -- a keeper at which nothing is read back
-abbrev Nothing : {K : Type 0} → K → List ℕ → Type 0
+abbrev pub Nothing : {K : Type 0} → K → List ℕ → Type 0
 Nothing keeper bytes = ⊥
+
+-- where the array that may be read back is the present one, it stays so
+earlier_same : (acts : List Act) (array : ℕ → List ℕ) → earlier acts array array ≡ array
+earlier_same [] array = refl
+earlier_same (HearsOf event x ∷ acts) array = earlier_same acts array
+earlier_same (Calls o exchanges x ∷ acts) array = earlier_same acts array
+earlier_same (Misses o exchanges ∷ acts) array = earlier_same acts array
+earlier_same (GoesAhead exchanges ∷ acts) array = earlier_same acts array
+earlier_same (Keeps true ∷ acts) array = earlier_same acts array
+earlier_same (Keeps false ∷ acts) array = earlier_same acts array
 
 -- of a device with this scheme, and a tape with these words
 module _ {B K : Type 0} (batches : B → List (List ℕ) → BatchOutcome → List Exchange → B → Type 0) (reads_back : K → List ℕ → Type 0) (are : AreBatches batches) (v : Scheme) (words : ℕ → ℕ → List ℕ) where
@@ -109,6 +121,39 @@ module _ {B K : Type 0} (batches : B → List (List ℕ) → BatchOutcome → Li
         held_by q later _ array (went.0 ∙ h.same) h.device
         (acts_are_safe batches Nothing are may_lie v acts p q w.host later.host array array h.device (safe_by p w array h) (forgotten acts p q does) ran)
 
+    -- A process that has kept itself has kept the array that it holds.
+    kept_now : (p m : Process B K) (w : HostBeside) (array : ℕ → List ℕ) → Holds p w array → Does v batches reads_back p (Keeps true) m → IsSafe may_lie v reads_back m w.host array array
+    kept_now p m w array h does =
+        let all : waiting m.link ≡ waiting p.link = ap (λ (l : Round B). waiting l) does.2 ∙ append-nil (waiting p.link) in
+        let none : m.link.ahead ≡ [] = ap (λ (l : Round B). l.ahead) does.2 in
+        record {
+          device = ap (λ (l : Round B). l.device) does.2 ∙ h.same_device;
+          record_len_is = ap (λ (l : Round B). l.record_len) does.2 ∙ h.same_len;
+          live = subst (λ (stores : List (List ℕ)). WillHoldAfter may_lie v m.core stores w.host array) (sym all)
+              (subst (λ (s : State). WillHoldAfter may_lie v s (waiting p.link) w.host array) (sym does.1) h.will_hold);
+          kept = λ bytes back. record {
+            stores = waiting p.link;
+            core = p.core;
+            file = does.0 bytes back;
+            covers = λ b among. subst (IsAmong b) (ap (λ (l : Round B). l.kept) does.2) among;
+            holds = inl h.will_hold;
+          };
+          ahead = record { each = subst (AllByRecursion (IsFetchNow may_lie v w.host)) (sym none) tt; alone = inl none };
+        }
+
+    -- and it goes on so, whatever it does then
+    keeps_on : (acts : List Act) (p q : Process B K) (w later : HostBeside) (array : ℕ → List ℕ) → DoesAll v batches reads_back p (Keeps true ∷ acts) q
+        → FoldsTo {P = HostBeside} {A = Exchange} (Hears may_lie) w (flat_map exchanges_of acts) later → Holds p w array → KeepsArray reads_back may_lie (at q) later array
+    keeps_on acts p q w later array does run h =
+        let went = heard may_lie (flat_map exchanges_of acts) w later run in
+        let ran : PlainRun may_lie v w.host (flat_map exchanges_of acts) later.host = subst (λ (u : Scheme). PlainRun may_lie u w.host (flat_map exchanges_of acts) later.host) h.same went.1 in
+        let safe = acts_are_safe batches reads_back are may_lie v acts does.0 q w.host later.host array array h.device (kept_now p does.0 w array h does.1) does.2 ran in
+        record {
+          same = went.0 ∙ h.same;
+          device = h.device;
+          safe = subst (λ (b : ℕ → List ℕ). IsSafe may_lie v reads_back q later.host b array) (earlier_same acts array) safe;
+        }
+
     -- once commands were submitted it holds the array after those that were accepted
     pub asked_hold : (asked : List Asked) (session : ℕ) (s t : State) (l : Round B) (k : K) (w : HostBeside) (array : ℕ → List ℕ) → AreAsked v words session s asked t
         → Holds (process s l k) w array → Holds (process t l k) w (array_with v.device asked array)
@@ -133,6 +178,19 @@ module _ {B K : Type 0} (batches : B → List (List ℕ) → BatchOutcome → Li
         array_with v.device asked array,
         refl,
         acts_hold may_lie acts (process t l k) q w later (array_with v.device asked array) does run (asked_hold may_lie asked session s t l k w array chain h),
+      ))
+
+  -- Submissions, and then acts that begin with a keeping: what the process holds then is kept.
+  pub kept_go_on : (asked : List Asked) (acts : List Act) (session : ℕ) (s t : State) (l : Round B) (k : K) (q : Process B K) → AreAsked v words session s asked t
+      → DoesAll v batches reads_back (process t l k) (Keeps true ∷ acts) q
+      → KeepsOn (Had batches reads_back) Hears HoldsArray (KeepsArray reads_back) (at (process s l k)) (Unit {0}) (λ _ array later. later ≡ array_with v.device asked array) (at q)
+  kept_go_on asked acts session s t l k q chain does = one_kept (flat_map exchanges_of acts) (had asked (Keeps true ∷ acts) session s t l k q chain does)
+      (λ may_lie w later run array h.
+      let now = asked_hold may_lie asked session s t l k w array chain h in (
+        array_with v.device asked array,
+        refl,
+        acts_hold may_lie (Keeps true ∷ acts) (process t l k) q w later (array_with v.device asked array) does run now,
+        λ was. keeps_on may_lie acts (process t l k) q w later (array_with v.device asked array) does run now,
       ))
 
   -- where acts stop, the process does

@@ -1,8 +1,8 @@
 -- What the commands of operations do to an array that is laid out.
-use Rattle.std.proofs.Common.{◌≡◌, inl, inr, ℕ, zero, suc, ◌+◌, ◌-◌, ◌*◌, ◌/◌, ◌<◌, ◌≤◌, ◌^◌, List, [], ◌∷◌, ◌++◌, All, length, map, take, drop, add-zero, refl, sym, ap, ◌∙◌, subst, arith, append_assoc, drop_at}
+use Rattle.std.proofs.Common.{◌≡◌, inl, inr, ℕ, zero, suc, ◌+◌, ◌-◌, ◌*◌, ◌/◌, ◌<◌, ◌≤◌, ◌^◌, List, [], ◌∷◌, ◌++◌, All, length, map, take, drop, add-zero, refl, sym, ap, ◌∙◌, subst, arith, append_assoc, drop_at, length-append, mul-zero}
 use Rattle.std.proofs.lemmas.Bool.{cases_lt}
 use Rattle.std.proofs.lemmas.Grind.{flat_map-append}
-use Rattle.std.proofs.lemmas.List.{take-append-drop, take-append-le, take_at}
+use Rattle.std.proofs.lemmas.List.{nil_from_length, take-append-drop, take-append-le, take_at}
 use Rattle.std.proofs.lemmas.List.Elements.{All-append, All-cons, All-head, All-nil, All-tail}
 use Rattle.std.proofs.lemmas.Nat.{div-mul-add}
 use Rattle.std.proofs.Math.Nat.{mul_comm}
@@ -10,10 +10,10 @@ use Rattle.std.proofs.Math.Seq.{take-append-add}
 use Rattle.std.specs.List.{flat_map}
 use Rattle.oram_geometry.specs.declared.Sizes.{Sizes}
 use Rattle.oram_nbd.specs.Bytes.{IsBegun, bytes_at, written, zeroes}
-use Rattle.oram_nbd.specs.Operations.{AreBegun, IsPartOf, IsWhole, IsWithin, all_done, all_given, done_by, given_by, len_of, place_of, read_len}
+use Rattle.oram_nbd.specs.Operations.{AreBegun, IsPartOf, IsWhole, IsWithin, TouchSomeByte, all_done, all_given, done_by, given_by, len_of, place_of, read_len}
 use Rattle.oram_nbd.specs.declared.operations.Operation.{Operation}
 use Rattle.oram_nbd.specs.declared.operations.Operation.TheVariants as operation
-use Rattle.oram_nbd.proofs.Carrying.{given_lens}
+use Rattle.oram_nbd.proofs.ListSteps.{given_lens}
 use Rattle.oram_semantics.specs.ArrayReplies.{array_after}
 use Rattle.oram_semantics.specs.Blocks.{body_from}
 use Rattle.oram_semantics.specs.Events.{address_of}
@@ -24,6 +24,7 @@ use Rattle.oram_volume.specs.Blocks.{IsLaidOut}
 use Rattle.oram_volume.specs.CarriedOut.{after_commands, bodies_from}
 use Rattle.oram_volume.specs.DiskCalls.{data_of}
 use Rattle.oram_volume.specs.RangeCommands.{Fits, all_commands, commands_of, discard_commands, read_commands, write_commands}
+use Rattle.oram_volume.proofs.RangeCommands.{length_commands}
 use Rattle.oram_volume.proofs.LaidRanges.{begun_discards, begun_reads, begun_writes, blocks_within, data_discards, data_read, data_writes, discards_fit, laid_after_discards, laid_after_reads, laid_after_writes, reads_fit, writes_fit}
 
 -- ---- Commands, and then others
@@ -49,6 +50,21 @@ of_bodies (r ∷ replies) = ap (λ (l : List ℕ). data_of r.body ++ l) (of_bodi
 -- a number of whole blocks
 blocks_are : (b n k : ℕ) → 0 < b → n ≡ b * k → n / b ≡ k
 blocks_are b n k some is = ap (λ (m : ℕ). m / b) (is ∙ mul_comm b k ∙ sym (add-zero (k * b))) ∙ div-mul-add k b 0 some
+
+-- operations that touch a byte have a command
+pub touched_have_commands : (b : ℕ) → 0 < b → (ops : List Operation) → All (IsWhole b) ops → TouchSomeByte ops → all_commands b ops ≡ [] → ⊥
+touched_have_commands b some [] whole touched none = touched
+touched_have_commands b some (op ∷ ops) whole (inl here) none =
+    let is = All-head (IsWhole b) op ops whole in
+    let many : len_of op / b ≡ is.count = blocks_are b (len_of op) is.count some is.len in
+    let size : length (commands_of b op ++ all_commands b ops) ≡ 0 = ap length none in
+    let none_of_it : is.count ≡ 0 = omega (arith, size, length-append (commands_of b op) (all_commands b ops), length_commands b op, many) in
+    let empty : len_of op ≡ 0 = is.len ∙ ap (λ (n : ℕ). b * n) none_of_it ∙ mul-zero b in
+    omega (arith, here, empty)
+touched_have_commands b some (op ∷ ops) whole (inr behind) none =
+    let size : length (commands_of b op ++ all_commands b ops) ≡ 0 = ap length none in
+    let short : length (all_commands b ops) ≡ 0 = omega (arith, size, length-append (commands_of b op) (all_commands b ops)) in
+    touched_have_commands b some ops (All-tail (IsWhole b) op ops whole) behind (nil_from_length (all_commands b ops) short)
 
 -- its blocks, by their numbers
 pub record AreBlocks (b blocks : ℕ) (op : Operation) : Type 0 where

@@ -13,7 +13,7 @@ use Rattle.oram_volume.specs.Blocks.{IsLaidOut}
 use Rattle.oram_volume.specs.CarriedOut.{after_commands, bodies_from}
 use Rattle.oram_volume.specs.DiskCalls.{data_of}
 use Rattle.oram_volume.specs.RangeCommands.{Fits, discard_commands, read_commands, write_commands}
-use Rattle.oram_volume.proofs.Laying.{laid_after_discard, laid_after_read, laid_after_write, length_laid, read_laid}
+use Rattle.oram_volume.proofs.Layouts.{laid_after_discard, laid_after_read, laid_after_write, length_laid, read_laid}
 
 -- a range of blocks whose bytes lie within the bytes of a device is one of its blocks
 pub blocks_within : (b first count n : ℕ) → 0 < b → b * first + b * count ≤ b * n → first + count ≤ n

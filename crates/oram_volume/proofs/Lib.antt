@@ -1,8 +1,10 @@
-pub mod Laying
+pub mod Layouts
 pub mod RangeCommands
 pub mod LaidRanges
 pub mod LaidOperations
 pub mod HeldArrays
+pub mod NextProcess
+pub mod Example
 pub mod Submitted
 pub mod Answered
 pub mod Carried

@@ -18,11 +18,12 @@ use Rattle.oram_rounds.specs.Process.Act.{Keeps}
 use Rattle.oram_rounds.specs.Start.{Asked, Submits}
 use Rattle.oram_volume.specs.HeldArrays.{Running}
 
--- the replies of an array to commands, one after the other, and the array after them
+-- the replies of an array to commands, one after the other
 abbrev pub bodies_from : Sizes → List Command → (ℕ → List ℕ) → List ReplyBody
 bodies_from d [] array = []
 bodies_from d (c ∷ commands) array = body_from (array (address_of c)) c ∷ bodies_from d commands (array_after d c array)
 
+-- the array after these commands
 abbrev pub after_commands : Sizes → List Command → (ℕ → List ℕ) → ℕ → List ℕ
 after_commands d [] array = array
 after_commands d (c ∷ commands) array = after_commands d commands (array_after d c array)
@@ -32,6 +33,7 @@ pub data Step : Type 0 where
   Asks : Asked → Step
   Acts : Act → Step
 
+-- the exchanges with the host in a step
 abbrev pub exchanges_in : Step → List Exchange
 exchanges_in (Asks a) = []
 exchanges_in (Acts act) = exchanges_of act
@@ -44,6 +46,7 @@ module _ {B K : Type 0} (batches : B → List (List ℕ) → BatchOutcome → Li
       (q.scheme ≡ p.scheme) × (q.words ≡ p.words) × Submits p.scheme p.process a q.process × (a.words ≡ p.words p.process.core.next (2 * trees_of p.scheme.device))
   Takes p (Acts act) q = (q.scheme ≡ p.scheme) × (q.words ≡ p.words) × Does p.scheme batches reads_back p.process act q.process
 
+  -- it takes some steps, one after the other
   abbrev pub TakesAll : Running B K → List Step → Running B K → Type 0
   TakesAll p steps q = FoldsTo {P = Running B K} Takes p steps q
 

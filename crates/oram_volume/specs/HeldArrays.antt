@@ -9,7 +9,7 @@ use Rattle.oram_semantics.specs.State.{State}
 use Rattle.oram_link_laws.specs.Runs.{Exchange, IsHeldBy}
 use Rattle.oram_rounds.specs.CatchUp.{IsPlainCall}
 use Rattle.oram_rounds.specs.Law.{AreAhead}
-use Rattle.oram_rounds.specs.Process.{Process, begun, process}
+use Rattle.oram_rounds.specs.Process.{IsSafe, Process, begun, process}
 use Rattle.oram_rounds.specs.Rounds.{waiting}
 use Rattle.oram_rounds.specs.Service.{WillHoldAfter}
 use Rattle.oram_volume.specs.Blocks.{IsLaidOut}
@@ -48,6 +48,18 @@ pub record HoldsArray {B K : Type 0} (may_lie : Bool) (p : Running B K) (w : Hos
 pub record HoldsBytes {B K : Type 0} (may_lie : Bool) (p : Running B K) (w : HostBeside) (bytes : List ℕ) : Type 0 where
   pub array : ℕ → List ℕ
   pub holds : HoldsArray may_lie p w array
+  pub laid : IsLaidOut p.scheme.device array bytes
+
+-- Beside this host the process holds the array, and so will the next process, whatever is read back of the keeper.
+pub record KeepsArray {B K : Type 0} (reads_back : K → List ℕ → Type 0) (may_lie : Bool) (p : Running B K) (w : HostBeside) (array : ℕ → List ℕ) : Type 0 where
+  pub same : w.scheme ≡ p.scheme
+  pub device : IsDevice p.scheme.device
+  pub safe : IsSafe may_lie p.scheme reads_back p.process w.host array array
+
+-- the array that has these bytes
+pub record KeepsBytes {B K : Type 0} (reads_back : K → List ℕ → Type 0) (may_lie : Bool) (p : Running B K) (w : HostBeside) (bytes : List ℕ) : Type 0 where
+  pub array : ℕ → List ℕ
+  pub keeps : KeepsArray reads_back may_lie p w array
   pub laid : IsLaidOut p.scheme.device array bytes
 
 -- A process that begins with a device as a host keeps it between two requests holds the bytes of its array beside that host,

@@ -3,3 +3,5 @@ pub mod RangeCommands
 pub mod HeldArrays
 pub mod CarriedOut
 pub mod DiskCalls
+pub mod NextProcess
+pub mod Examples

@@ -7,10 +7,12 @@ use Rattle.oram_nbd.specs.declared.operations.Operation.TheVariants as operation
 use Rattle.oram_semantics.specs.declared.events.Command.{Command}
 use Rattle.oram_semantics.specs.declared.events.Command.TheVariants.{Discard, Read, Write}
 
+-- the commands that read n blocks, from the block `first` on
 abbrev pub read_commands : ℕ → ℕ → List Command
 read_commands first zero = []
 read_commands first (suc n) = Read first ∷ read_commands (suc first) n
 
+-- the commands that discard n blocks, from the block `first` on
 abbrev pub discard_commands : ℕ → ℕ → List Command
 discard_commands first zero = []
 discard_commands first (suc n) = Discard first ∷ discard_commands (suc first) n

@@ -1,17 +1,14 @@
 //! The commands of a list of operations.
 
-ghost use Rattle.std.specs.Prelude.{◌≡◌, ◌+◌, ◌/◌, ◌∷◌, ◌++◌, ◌<◌, ◌≤◌, ◌^◌, [], All, drop, length, slice_index_or, IfOk};
+ghost use Rattle.std.specs.Prelude.{◌≡◌, ◌⊎◌, ◌+◌, ◌/◌, ◌∷◌, ◌++◌, ◌<◌, ◌≤◌, ◌^◌, [], All, drop, length, slice_index_or, IfOk};
 ghost use Rattle.oram_nbd.specs.Operations.{IsWhole, len_of, place_of};
 ghost use Rattle.oram_nbd.specs.declared.operations.Operation.{Operation};
 ghost use Rattle.oram_volume.specs.RangeCommands.{commands_of, rest_of};
 
 use oram_bytes::Bytes;
-use oram_core::Command;
+use oram_core::{Command, MOST_WAITING};
 use oram_nbd::Operation;
 use std::alloc::{AllocError, Global};
-
-/// The most commands of a round.
-const ROUND: u64 = 64;
 
 /// How far a list of operations was made commands: those before `operation` were, and `block` blocks of this one.
 #[derive(Clone, Copy, Debug)]
@@ -61,7 +58,7 @@ fn pass_over(block: u64, operations: &[Operation], cursor: &mut Cursor)
     }
 }
 
-/// Returns the commands of the next round, from the cursor on: 64 of them, or as many as are left.
+/// Returns the commands of the next round, from the cursor on: as many as may wait at a core, or all that are left.
 pub(crate) fn next_round(
     alloc: Global,
     block: u64,
@@ -73,10 +70,11 @@ pub(crate) fn next_round(
     requires bound { All (λ op. place_of op + len_of op < 2 ^ 63) operations.now }
     requires numbers { All (λ op. place_of op / block + len_of op / block < 2 ^ 32) operations.now }
     ensures next { IfOk result (λ v. rest_of block operations.now cursor.old.operation cursor.old.block ≡ v.items ++ rest_of block operations.now cursor.new.operation cursor.new.block) }
+    ensures full { IfOk result (λ v. (length v.items ≡ MOST_WAITING) ⊎ (rest_of block operations.now cursor.new.operation cursor.new.block ≡ [])) }
     ensures end { IfOk result (λ v. v.items ≡ [] → rest_of block operations.now cursor.new.operation cursor.new.block ≡ []) }
 {
-    let mut commands = Vec::with_capacity(alloc, ROUND as usize)?;
-    for _number in 0..ROUND {
+    let mut commands = Vec::with_capacity(alloc, MOST_WAITING)?;
+    for _number in 0..MOST_WAITING {
         pass_over(block, operations, cursor);
         if cursor.operation >= operations.len() {
             return Ok(commands);

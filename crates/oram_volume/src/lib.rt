@@ -1,8 +1,8 @@
 //! A process of a device as a disk.
 //!
 //! A [`Volume`] is a core with the link to its host, the keeper of what has to outlive the process, and the tape of its
-//! words. `oram_nbd` asks it for ranges of blocks, which it carries out in rounds of up to 64 commands. It first carries
-//! out what waits from before.
+//! words. `oram_nbd` hands it lists of operations on whole blocks, which it carries out in rounds of up to 64 commands. It
+//! first carries out what waits from before.
 #![tactic(auto)]
 
 mod commands;
@@ -10,5 +10,5 @@ mod disk;
 mod law;
 mod volume;
 
-pub use law::held_devices_hold;
+pub use law::{begun_devices_hold, held_devices_hold, kept_bytes_outlast, next_process_example};
 pub use volume::Volume;

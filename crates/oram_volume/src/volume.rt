@@ -1,14 +1,14 @@
 //! A core with its link, its keeper and its tape.
 
-ghost use Rattle.std.specs.Prelude.{◌≡◌, ◌≢◌, ◌⊎◌, ◌<◌, ℕ, false, List, [], All, map, take, IsOk, IfOk, IfErr, IsErrOf, IsTrue, MatchResult, OnOk};
+ghost use Rattle.std.specs.Prelude.{◌≡◌, ◌≢◌, ◌⊎◌, ◌<◌, ℕ, false, List, [], All, length, map, take, IsOk, IfOk, IfErr, IsErrOf, IsTrue, MatchResult, OnOk};
 ghost use Rattle.oram_core.specs.Core.{IsSameDevice};
 ghost use Rattle.oram_session.specs.Honesty.{HasFailed};
 ghost use Rattle.oram_session.specs.Settled.{IsSettled};
-ghost use Rattle.oram_nbd.specs.Beside.{GoesOn};
+ghost use Rattle.oram_nbd.specs.Beside.{GoesOn, KeepsOn};
 ghost use Rattle.oram_nbd.specs.Calls.{FailsByLies};
 ghost use Rattle.oram_volume.specs.CarriedOut.{Had, Stops, after_commands, bodies_from};
 ghost use Rattle.oram_volume.specs.RangeCommands.{Fits};
-ghost use Rattle.oram_volume.specs.HeldArrays.{Hears, HoldsArray, running};
+ghost use Rattle.oram_volume.specs.HeldArrays.{Hears, HoldsArray, KeepsArray, running};
 
 use oram_bucket::Sealer;
 use oram_core::{Command, Core, Reply, ReplyBody};
@@ -91,7 +91,7 @@ impl<S: Sealer, B: BatchLink, K: Keeper, T: Tape> Volume<S, B, K, T> {
     }
 
     /// Carries out commands in one round, behind what waits, and returns their replies, in their order. After an `Err` the
-    /// first ones, some or none of them, are carried out or will be.
+    /// first ones, some or none of them, are carried out or will be. An `Ok` of commands says that what they have done is kept.
     pub(crate) fn carry_out_all(
         &mut self,
         alloc: Global,
@@ -105,6 +105,9 @@ impl<S: Sealer, B: BatchLink, K: Keeper, T: Tape> Volume<S, B, K, T> {
             (λ replies. (map (λ reply. reply.body) replies.items ≡ bodies_from d commands.items array) × (later ≡ after_commands d commands.items array))
             (λ _. (n : ℕ) × (later ≡ after_commands d (take n commands.items) array)) × FailsByLies result may_lie)
             (running S.cipher T.words self.new) }
+        ensures keeps { OnOk result (0 < length commands.items → KeepsOn (Had B.batches K.reads_back) Hears HoldsArray (KeepsArray K.reads_back)
+            (running S.cipher T.words self.old) (Unit {0}) (λ may_lie array later. later ≡ after_commands self.old.core.device commands.items array)
+            (running S.cipher T.words self.new)) }
         ensures refused { OnOk result (HasFailed self.old.core.state → ⊥) }
         ensures failing { IsErrOf result DiskFault.Failed → HasFailed self.new.core.state }
         ensures still { HasFailed self.old.core.state → HasFailed self.new.core.state }

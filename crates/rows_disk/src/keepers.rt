@@ -171,13 +171,13 @@ impl<'a> FailingPlace<'a> {
 impl<'a> Place for FailingPlace<'a> {
     ghost use Rattle.oram_client.specs.DeedHistory.{IsNoted, IsPossible, possible_after, some_possible};
 
-    ghost does = { λ p deed done q. IsNoted p.history.deeds deed done q.history.deeds };
+    ghost does = { λ p deed done q. IsNoted p.history.notes deed done q.history.notes };
 
-    ghost may_be = { λ p. IsPossible p.history.deeds };
+    ghost may_be = { λ p. IsPossible p.history.notes };
 
-    ghost some_folder = { λ p. some_possible p.history.deeds };
+    ghost some_folder = { λ p. some_possible p.history.notes };
 
-    ghost folders_after = { λ p deed done q noted. possible_after p.history.deeds deed done q.history.deeds noted };
+    ghost folders_after = { λ p deed done q noted. possible_after p.history.notes deed done q.history.notes noted };
 
     fn write(&mut self, head: &Head, process: &[u8], sync: bool) -> Result<(), FileFailure> {
         let result = self.next(FileStep::Create);

@@ -32,6 +32,8 @@ struct Play<'a> {
     lost: Cell<u64>,
     full: Cell<u64>,
     back: Cell<u64>,
+    /// How many letters said that memory runs out.
+    short: Cell<u64>,
 }
 
 /// Adds to a count, up to the greatest number.
@@ -53,6 +55,7 @@ impl<'a> Play<'a> {
             lost: Cell::new(0),
             full: Cell::new(0),
             back: Cell::new(0),
+            short: Cell::new(0),
         }
     }
 
@@ -60,14 +63,18 @@ impl<'a> Play<'a> {
     fn next(&self) -> u8 {
         let place = self.place.get();
         self.place.set(place.saturating_add(1));
-        self.letters.get(place).copied().unwrap_or(b'f')
+        let letter = self.letters.get(place).copied().unwrap_or(b'f');
+        if letter == b'm' {
+            add(&self.short, 1);
+        }
+        letter
     }
 }
 
 /// A connection whose calls go by the letters. For `a` the host refuses an empty message, for `e` it gives the message
 /// back, and for `r` it has no room.
-/// For `s` it is silent for as long as it may be, for `t` it gives no whole answer in the time for one, for `w` the
-/// call fails after some time, and for any other letter at once.
+/// For `s` it is silent for as long as it may be, for `m` memory runs out, for `w` the call fails after some time, and for
+/// any other letter at once.
 #[derive(Drop)]
 struct Way<'a> {
     play: &'a Play<'a>,
@@ -85,10 +92,7 @@ impl<'a> Way<'a> {
                 add(&self.play.time, self.limits.silence);
                 Err(LinkFault::Io)
             }
-            b't' => {
-                add(&self.play.time, self.limits.answering);
-                Err(LinkFault::Io)
-            }
+            b'm' => Err(LinkFault::OutOfMemory),
             b'w' => {
                 add(&self.play.time, SLOW);
                 Err(LinkFault::Io)
@@ -123,8 +127,8 @@ impl<'a> Link for Way<'a> {
 }
 
 /// Opens connections by the letters. For `o` it opens one. For `d` the host keeps another disk, for `n` it keeps none,
-/// and for `r` it has no room. For `s` the host gives no answer within the limit, for `w` the try fails after some
-/// time, and for any other letter at once.
+/// and for `r` it has no room. For `s` the host gives no answer within the limit, for `m` memory runs out, for `w` the try
+/// fails after some time, and for any other letter at once.
 #[derive(Drop)]
 struct Script<'a>(&'a Play<'a>);
 
@@ -154,6 +158,7 @@ impl<'a> Dial for Script<'a> {
             b'd' => Err(Trouble::AnotherDisk),
             b'n' => Err(Trouble::NoDisk),
             b'r' => Err(Trouble::NoRoom),
+            b'm' => Err(Trouble::OutOfReach(LinkFault::OutOfMemory)),
             b's' => {
                 add(&self.0.time, limits.opening);
                 Err(Trouble::OutOfReach(LinkFault::Io))
@@ -224,6 +229,22 @@ pub fn write_answers(
     Ok(())
 }
 
+/// Writes the answers to a batch over a link, or why they are missing. If memory ran out because of a letter, that is an
+/// answer too.
+fn write_batch(
+    play: &Play<'_>,
+    outcome: Result<Vec<Vec<u8>>, LinkFault>,
+    page: &mut Page,
+) -> Result<(), RowFault> {
+    match outcome {
+        Err(LinkFault::OutOfMemory) if play.short.get() > 0 => {
+            page.show(&LinkFault::OutOfMemory);
+            Ok(())
+        }
+        outcome => write_answers(outcome, page),
+    }
+}
+
 /// Does with the link what a word says: it makes a `call` with an empty message, sends a `batch FIRST LAST` of two lists
 /// with FIRST and LAST messages that are their own numbers, tries to `reach` the host, or stays `idle` for a thousand seconds.
 fn ask<'a>(
@@ -234,14 +255,17 @@ fn ask<'a>(
     page: &mut Page,
 ) -> Result<(), RowFault> {
     match words.text() {
-        "call" => write_answers(link.call_all(alloc, &[], &[Vec::new(alloc)]), page)?,
+        "call" => write_batch(play, link.call_all(alloc, &[], &[Vec::new(alloc)]), page)?,
         "batch" => {
             let first = numbered(alloc, 0x10, words.number())?;
             let last = numbered(alloc, 0x20, words.number())?;
-            write_answers(link.call_all(alloc, &first, &last), page)?;
+            write_batch(play, link.call_all(alloc, &first, &last), page)?;
         }
         "reach" => match link.reach(alloc) {
             Ok(()) => page.word("reached"),
+            Err(trouble) if trouble.lacks_memory() && play.short.get() == 0 => {
+                return Err(RowFault::OutOfMemory);
+            }
             Err(trouble) => page.show(&trouble),
         },
         "idle" => add(&play.time, IDLE),

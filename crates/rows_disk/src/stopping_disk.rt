@@ -50,6 +50,8 @@ impl BlockDevice for StoppingDisk {
 
     ghost holds = { λ may_lie d world bytes. ⟦<MemDisk as BlockDevice>⟧.holds may_lie d.disk world bytes };
 
+    ghost kept = { λ may_lie d world bytes. ⟦<MemDisk as BlockDevice>⟧.kept may_lie d.disk world bytes };
+
     ghost failed = { λ _. ⊥ };
 
     ghost stops = { λ d e. (d.calls_left ≡ 0) × (e.calls_left ≡ 0) };

@@ -1,6 +1,6 @@
 use Rattle.std.proofs.Common.{[], ◌∷◌, length, refl, ap, arith, length-append}
 use Rattle.oram_nbd.specs.declared.batches.Close.TheVariants.{Waits}
-use Rattle.oram_nbd.proofs.Batching.{collected_more, gathered}
+use Rattle.oram_nbd.proofs.Gathered.{collected_more, gathered}
 use Rattle.oram_nbd.proofs.batches.gather.Goals as goal
 
 pub returns-then-is_heavy-clause-gathered : goal.returns-then-is_heavy-clause-gathered

@@ -1,6 +1,7 @@
-use Rattle.std.proofs.Common.{◌<◌, ap, length, ◌∙◌, arith}
-use Rattle.oram_nbd.proofs.Beside.{weaker}
-use Rattle.oram_nbd.proofs.Carrying.{read_count, read_done, read_given}
+use Rattle.std.proofs.Common.{◌<◌, ℕ, ap, length, sym, ◌∙◌, subst, arith}
+use Rattle.oram_nbd.proofs.Beside.{weaker, weaker_kept}
+use Rattle.oram_nbd.specs.Operations.{len_of, read_len}
+use Rattle.oram_nbd.proofs.ListSteps.{read_count, read_done, read_given}
 use Rattle.oram_nbd.proofs.lists.carry_out_alone.Goals as goal
 
 pub returns-in_ok-bytes-in-Read-clause-len : goal.returns-in_ok-bytes-in-Read-clause-len
@@ -17,3 +18,12 @@ returns-in_ok-bytes-in-Read-clause-goes g c =
       (c.from_vec.ensures ∙ step.1 ∙ read_given _ c.from-block.result _ _ c.args.operation.now c.in-Read.is c.requires.reads same some bytes, step.0 ∙ read_done _ c.from-block.result _ _ c.args.operation.now c.in-Read.is c.requires.reads same some bytes),
       λ e. cc,
     ))
+
+pub returns-in_ok-bytes-in-Read-clause-keeps : goal.returns-in_ok-bytes-in-Read-clause-keeps
+returns-in_ok-bytes-in-Read-clause-keeps g c =
+    let same = c.from-block.ensures ∙ c.block_bytes.ensures.value in
+    let some : 0 < c.from-block.result = omega (arith, c.from-block.ensures, c.block_bytes.ensures.some) in
+    let count = read_count _ c.from-block.result _ _ c.args.operation.now c.in-Read.is c.requires.reads same some in
+    let all = ap len_of c.in-Read.is ∙ sym (ap read_len c.in-Read.is) in
+    weaker_kept c.in_ok-bytes-in-Read.ensures.keeps (λ more. subst (λ (n : ℕ). 0 < n) (all ∙ sym count) more)
+    (λ may_lie world bytes later h step. step ∙ read_done _ c.from-block.result _ _ c.args.operation.now c.in-Read.is c.requires.reads same some bytes)

@@ -6,7 +6,7 @@ use Rattle.oram_nbd.specs.Messages.SimpleReply.{Refused}
 use Rattle.oram_nbd.specs.Service.{refusal_of}
 use Rattle.oram_nbd.specs.declared.faults.NbdError.{NbdError}
 use Rattle.oram_nbd.specs.declared.requests.Request.{Request}
-use Rattle.oram_nbd.proofs.Batching.{refusals_end, refusals_next, told_all, told_begun, told_next}
+use Rattle.oram_nbd.proofs.Gathered.{refusals_end, refusals_next, told_all, told_begun, told_next}
 use Rattle.oram_nbd.proofs.Pieces.{if_err}
 use Rattle.oram_nbd.proofs.replies.put_refusals.Goals as goal
 

@@ -1,6 +1,6 @@
 use Rattle.std.proofs.Common.{drop}
 use Rattle.oram_nbd.specs.Batches.{refusals_text}
-use Rattle.oram_nbd.proofs.Batching.{Told}
+use Rattle.oram_nbd.proofs.Gathered.{Told}
 use Rattle.oram_nbd.proofs.replies.put_refusals.Given as goal
 
 abbrev pub invariant-loop-i : goal.invariant-loop-i

@@ -1,7 +1,7 @@
 use Rattle.std.proofs.Common.{◌≡◌, ◌≢◌, suc, None, take, drop, subst, rules, ◌∙◌, sym}
 use Rattle.std.proofs.lemmas.List.Elements.{All-more}
 use Rattle.oram_nbd.specs.Service.{refusal_of}
-use Rattle.oram_nbd.proofs.Batching.{split_there}
+use Rattle.oram_nbd.proofs.Gathered.{split_there}
 use Rattle.oram_nbd.proofs.service.is_any_accepted.Goals as goal
 
 pub returns-then-is_none-clause-yes : goal.returns-then-is_none-clause-yes

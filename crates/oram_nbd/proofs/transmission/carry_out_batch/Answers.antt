@@ -1,150 +1,151 @@
-use Rattle.std.proofs.Common.{inl, inr, ℕ, List, All, length, refl, sym, ap, ◌∙◌, subst, arith}
+use Rattle.std.proofs.Common.{inl, inr, ◌≡◌, ℕ, List, All, length, refl, sym, ap, ◌∙◌, subst, arith}
 use Rattle.std.proofs.lemmas.Result.{on_ok_weaker, MatchResult-weaker}
 use Rattle.std.specs.Io.KnownBytes.{Appends}
-use Rattle.oram_nbd.specs.Operations.{IsWithin, ReadsWhole}
+use Rattle.oram_nbd.specs.Operations.{IsWithin, ReadsWhole, TouchSomeByte, all_done}
 use Rattle.oram_nbd.specs.Streams.{IsBegunText}
 use Rattle.oram_nbd.specs.declared.faults.NbdError.TheVariants.{Io, NoMemory}
 use Rattle.oram_nbd.specs.declared.operations.Operation.{Operation}
-use Rattle.oram_nbd.proofs.Batching.{all_answered, all_begun, all_refused, all_whole, all_within, answered_turns, kept_as, many_given, refused_at_rest, refused_turns, text_answered, text_refused}
+use Rattle.oram_nbd.proofs.Gathered.{all_answered, all_begun, all_refusals, all_refused, all_whole, all_within, answered_turns, collected_as, many_given, refused_at_rest, refused_turns, text_answered, text_refused}
+use Rattle.oram_nbd.specs.Beside.{KeepsOn}
 use Rattle.oram_nbd.proofs.Beside.{weaker}
 use Rattle.oram_nbd.proofs.transmission.carry_out_batch.Goals as goal
 
 pub returns-then-not-is_any_accepted-clause-ok : goal.returns-then-not-is_any_accepted-clause-ok
 returns-then-not-is_any_accepted-clause-ok g c =
-    let b = c.args.layout.block in
-    let n = c.args.layout.size in
+    let b = c.args.sizes.block in
+    let n = c.args.sizes.size in
     let reqs = c.args.batch.now.requests.items in
     let ops = c.args.batch.now.operations.items in
-    on_ok_weaker c.put_refusals.result (λ wrote asked kept. (
+    on_ok_weaker c.put_refusals.result (λ wrote asked collected. (
       refused_turns n asked NoMemory,
-      refused_at_rest g.D.BlockDevice.failed n c.args.disk.now asked (λ may_lie world bytes h. c.blocks-blocks.ensures.held may_lie world bytes h ∙ sym c.requires.size) kept.all,
-      subst (Appends (g.W.Write.contents c.args.writer.now) (g.W.Write.contents c.put_refusals.new.writer)) (text_refused n asked NoMemory reqs _ kept.same c.deref-then-not-is_any_accepted.ensures.value) wrote,
+      refused_at_rest g.D.BlockDevice.failed n c.args.disk.now asked (λ may_lie world bytes h. c.blocks-blocks.ensures.held may_lie world bytes h ∙ sym c.requires.size) collected.all,
+      subst (Appends (g.W.Write.contents c.args.writer.now) (g.W.Write.contents c.put_refusals.new.writer)) (text_refused n asked NoMemory reqs _ collected.same c.deref-then-not-is_any_accepted.ensures.value) wrote,
     )) c.put_refusals.ensures.ok
 
 pub returns-then-not-is_any_accepted-clause-err : goal.returns-then-not-is_any_accepted-clause-err
 returns-then-not-is_any_accepted-clause-err g c =
-    let b = c.args.layout.block in
-    let n = c.args.layout.size in
+    let b = c.args.sizes.block in
+    let n = c.args.sizes.size in
     let reqs = c.args.batch.now.requests.items in
     let ops = c.args.batch.now.operations.items in
-    MatchResult-weaker c.put_refusals.result c.put_refusals.ensures.err (λ x h. tt) (λ f wrote asked kept. inl (
+    MatchResult-weaker c.put_refusals.result c.put_refusals.ensures.err (λ x h. tt) (λ f wrote asked collected. inl (
       wrote.0,
       (
         refused_turns n asked NoMemory,
-        refused_at_rest g.D.BlockDevice.failed n c.args.disk.now asked (λ may_lie world bytes h. c.blocks-blocks.ensures.held may_lie world bytes h ∙ sym c.requires.size) kept.all,
-        subst (IsBegunText (g.W.Write.contents c.args.writer.now) (g.W.Write.contents c.put_refusals.new.writer)) (text_refused n asked NoMemory reqs _ kept.same c.deref-then-not-is_any_accepted.ensures.value) wrote.1,
+        refused_at_rest g.D.BlockDevice.failed n c.args.disk.now asked (λ may_lie world bytes h. c.blocks-blocks.ensures.held may_lie world bytes h ∙ sym c.requires.size) collected.all,
+        subst (IsBegunText (g.W.Write.contents c.args.writer.now) (g.W.Write.contents c.put_refusals.new.writer)) (text_refused n asked NoMemory reqs _ collected.same c.deref-then-not-is_any_accepted.ensures.value) wrote.1,
       ),
     ))
 
 pub carry_out_all-requires-clause-within : goal.carry_out_all-requires-clause-within
 carry_out_all-requires-clause-within g c =
-    let k = c.requires.kept in
+    let k = c.requires.collected in
     subst (λ (size : ℕ). All (IsWithin size) c.deref-2.result.now) c.requires.size
-    (subst (λ (os : List Operation). All (IsWithin c.args.layout.size) os) (sym c.deref-2.ensures.value) (all_within c.args.layout.block c.args.layout.size k.0 _ k.1.served))
+    (subst (λ (os : List Operation). All (IsWithin c.args.sizes.size) os) (sym c.deref-2.ensures.value) (all_within c.args.sizes.block c.args.sizes.size k.0 _ k.1.served))
 
 pub carry_out_all-requires-clause-reads : goal.carry_out_all-requires-clause-reads
 carry_out_all-requires-clause-reads g c =
-    let k = c.requires.kept in
+    let k = c.requires.collected in
     subst (λ (block : ℕ). All (ReadsWhole block) c.deref-2.result.now) c.requires.block
-    (subst (λ (os : List Operation). All (ReadsWhole c.args.layout.block) os) (sym c.deref-2.ensures.value) (all_whole c.args.layout.block c.args.layout.size k.0 _ k.1.served))
+    (subst (λ (os : List Operation). All (ReadsWhole c.args.sizes.block) os) (sym c.deref-2.ensures.value) (all_whole c.args.sizes.block c.args.sizes.size k.0 _ k.1.served))
 
 pub put_answers-requires-clause-each : goal.put_answers-requires-clause-each
 put_answers-requires-clause-each g c =
-    let k = c.requires.kept in
+    let k = c.requires.collected in
     ap length c.deref-in-Ok-2.ensures.value
-    ∙ many_given c.args.layout.block c.args.layout.size k.0 _ c.deref-2.result.now c.in-Ok.given.items (kept_as _ _ k.0 _ _ _ c.deref-2.ensures.value k.1) c.in-Ok.ensures.len ∙ sym (ap length c.deref-in-Ok.ensures.value)
+    ∙ many_given c.args.sizes.block c.args.sizes.size k.0 _ c.deref-2.result.now c.in-Ok.given.items (collected_as _ _ k.0 _ _ _ c.deref-2.ensures.value k.1) c.in-Ok.ensures.len ∙ sym (ap length c.deref-in-Ok.ensures.value)
 
 pub returns-in-Ok-clause-ok : goal.returns-in-Ok-clause-ok
 returns-in-Ok-clause-ok g c =
-    let b = c.args.layout.block in
-    let n = c.args.layout.size in
+    let b = c.args.sizes.block in
+    let n = c.args.sizes.size in
     let reqs = c.args.batch.now.requests.items in
     let ops = c.args.batch.now.operations.items in
-    on_ok_weaker c.put_answers.result (λ wrote asked kept. (
+    on_ok_weaker c.put_answers.result (λ wrote asked collected. (
       answered_turns b n asked c.in-Ok.given.items,
       all_answered g.D.BlockDevice.failed b n c.args.disk.now c.carry_out_all.new.disk asked (λ may_lie world bytes h. c.blocks-blocks.ensures.held may_lie world bytes h ∙ sym c.requires.size) reqs c.deref-2.result.now
-          c.in-Ok.given.items (kept_as b n asked reqs ops _ c.deref-2.ensures.value kept) c.in-Ok.ensures.len c.in-Ok.ensures.refused (weaker c.in-Ok.ensures.goes (λ may_lie world bytes later h step. step.0)),
-      subst (Appends (g.W.Write.contents c.args.writer.now) (g.W.Write.contents c.put_answers.new.writer)) (text_answered b n asked reqs _ c.in-Ok.given.items _ kept.same c.deref-in-Ok.ensures.value c.deref-in-Ok-2.ensures.value) wrote,
+          c.in-Ok.given.items (collected_as b n asked reqs ops _ c.deref-2.ensures.value collected) c.in-Ok.ensures.len c.in-Ok.ensures.refused (weaker c.in-Ok.ensures.goes (λ may_lie world bytes later h step. step.0)),
+      subst (Appends (g.W.Write.contents c.args.writer.now) (g.W.Write.contents c.put_answers.new.writer)) (text_answered b n asked reqs _ c.in-Ok.given.items _ collected.same c.deref-in-Ok.ensures.value c.deref-in-Ok-2.ensures.value) wrote,
     )) c.put_answers.ensures.ok
 
 pub returns-in-Ok-clause-err : goal.returns-in-Ok-clause-err
 returns-in-Ok-clause-err g c =
-    let b = c.args.layout.block in
-    let n = c.args.layout.size in
+    let b = c.args.sizes.block in
+    let n = c.args.sizes.size in
     let reqs = c.args.batch.now.requests.items in
     let ops = c.args.batch.now.operations.items in
-    MatchResult-weaker c.put_answers.result c.put_answers.ensures.err (λ x h. tt) (λ f wrote asked kept. inl (
+    MatchResult-weaker c.put_answers.result c.put_answers.ensures.err (λ x h. tt) (λ f wrote asked collected. inl (
       wrote.0,
       (
         answered_turns b n asked c.in-Ok.given.items,
         all_answered g.D.BlockDevice.failed b n c.args.disk.now c.carry_out_all.new.disk asked (λ may_lie world bytes h. c.blocks-blocks.ensures.held may_lie world bytes h ∙ sym c.requires.size) reqs c.deref-2.result.now
-            c.in-Ok.given.items (kept_as b n asked reqs ops _ c.deref-2.ensures.value kept) c.in-Ok.ensures.len c.in-Ok.ensures.refused (weaker c.in-Ok.ensures.goes (λ may_lie world bytes later h step. step.0)),
-        subst (IsBegunText (g.W.Write.contents c.args.writer.now) (g.W.Write.contents c.put_answers.new.writer)) (text_answered b n asked reqs _ c.in-Ok.given.items _ kept.same c.deref-in-Ok.ensures.value c.deref-in-Ok-2.ensures.value) wrote.1,
+            c.in-Ok.given.items (collected_as b n asked reqs ops _ c.deref-2.ensures.value collected) c.in-Ok.ensures.len c.in-Ok.ensures.refused (weaker c.in-Ok.ensures.goes (λ may_lie world bytes later h step. step.0)),
+        subst (IsBegunText (g.W.Write.contents c.args.writer.now) (g.W.Write.contents c.put_answers.new.writer)) (text_answered b n asked reqs _ c.in-Ok.given.items _ collected.same c.deref-in-Ok.ensures.value c.deref-in-Ok-2.ensures.value) wrote.1,
       ),
     ))
 
 pub returns-in-Err-Failed-clause-ok : goal.returns-in-Err-Failed-clause-ok
 returns-in-Err-Failed-clause-ok g c =
-    let b = c.args.layout.block in
-    let n = c.args.layout.size in
+    let b = c.args.sizes.block in
+    let n = c.args.sizes.size in
     let reqs = c.args.batch.now.requests.items in
     let ops = c.args.batch.now.operations.items in
-    on_ok_weaker c.put_refusals-in-Err-Failed.result (λ wrote asked kept. (
+    on_ok_weaker c.put_refusals-in-Err-Failed.result (λ wrote asked collected. (
       refused_turns n asked Io,
       all_refused g.D.BlockDevice.failed b n c.args.disk.now c.carry_out_all.new.disk asked (λ may_lie world bytes h. c.blocks-blocks.ensures.held may_lie world bytes h ∙ sym c.requires.size) reqs c.deref-2.result.now
-          Io (kept_as b n asked reqs ops _ c.deref-2.ensures.value kept) (inl refl) (λ io. c.in-Err-Failed.ensures.call.has_failed cc) (weaker c.in-Err-Failed.ensures.goes (λ may_lie world bytes later h step. (step.0, λ io. step.1 cc))),
-      subst (Appends (g.W.Write.contents c.args.writer.now) (g.W.Write.contents c.put_refusals-in-Err-Failed.new.writer)) (text_refused n asked Io reqs _ kept.same c.deref-in-Err-Failed.ensures.value) wrote,
+          Io (collected_as b n asked reqs ops _ c.deref-2.ensures.value collected) (inl refl) (λ io. c.in-Err-Failed.ensures.call.has_failed cc) (weaker c.in-Err-Failed.ensures.goes (λ may_lie world bytes later h step. (step.0, λ io. step.1 cc))),
+      subst (Appends (g.W.Write.contents c.args.writer.now) (g.W.Write.contents c.put_refusals-in-Err-Failed.new.writer)) (text_refused n asked Io reqs _ collected.same c.deref-in-Err-Failed.ensures.value) wrote,
     )) c.put_refusals-in-Err-Failed.ensures.ok
 
 pub returns-in-Err-Failed-clause-err : goal.returns-in-Err-Failed-clause-err
 returns-in-Err-Failed-clause-err g c =
-    let b = c.args.layout.block in
-    let n = c.args.layout.size in
+    let b = c.args.sizes.block in
+    let n = c.args.sizes.size in
     let reqs = c.args.batch.now.requests.items in
     let ops = c.args.batch.now.operations.items in
-    MatchResult-weaker c.put_refusals-in-Err-Failed.result c.put_refusals-in-Err-Failed.ensures.err (λ x h. tt) (λ f wrote asked kept. inl (
+    MatchResult-weaker c.put_refusals-in-Err-Failed.result c.put_refusals-in-Err-Failed.ensures.err (λ x h. tt) (λ f wrote asked collected. inl (
       wrote.0,
       (
         refused_turns n asked Io,
         all_refused g.D.BlockDevice.failed b n c.args.disk.now c.carry_out_all.new.disk asked (λ may_lie world bytes h. c.blocks-blocks.ensures.held may_lie world bytes h ∙ sym c.requires.size) reqs c.deref-2.result.now
-            Io (kept_as b n asked reqs ops _ c.deref-2.ensures.value kept) (inl refl) (λ io. c.in-Err-Failed.ensures.call.has_failed cc) (weaker c.in-Err-Failed.ensures.goes (λ may_lie world bytes later h step. (step.0, λ io. step.1 cc))),
-        subst (IsBegunText (g.W.Write.contents c.args.writer.now) (g.W.Write.contents c.put_refusals-in-Err-Failed.new.writer)) (text_refused n asked Io reqs _ kept.same c.deref-in-Err-Failed.ensures.value) wrote.1,
+            Io (collected_as b n asked reqs ops _ c.deref-2.ensures.value collected) (inl refl) (λ io. c.in-Err-Failed.ensures.call.has_failed cc) (weaker c.in-Err-Failed.ensures.goes (λ may_lie world bytes later h step. (step.0, λ io. step.1 cc))),
+        subst (IsBegunText (g.W.Write.contents c.args.writer.now) (g.W.Write.contents c.put_refusals-in-Err-Failed.new.writer)) (text_refused n asked Io reqs _ collected.same c.deref-in-Err-Failed.ensures.value) wrote.1,
       ),
     ))
 
 pub returns-in-Err-OutOfMemory-clause-ok : goal.returns-in-Err-OutOfMemory-clause-ok
 returns-in-Err-OutOfMemory-clause-ok g c =
-    let b = c.args.layout.block in
-    let n = c.args.layout.size in
+    let b = c.args.sizes.block in
+    let n = c.args.sizes.size in
     let reqs = c.args.batch.now.requests.items in
     let ops = c.args.batch.now.operations.items in
-    on_ok_weaker c.put_refusals-in-Err-OutOfMemory.result (λ wrote asked kept. (
+    on_ok_weaker c.put_refusals-in-Err-OutOfMemory.result (λ wrote asked collected. (
       refused_turns n asked NoMemory,
       all_refused g.D.BlockDevice.failed b n c.args.disk.now c.carry_out_all.new.disk asked (λ may_lie world bytes h. c.blocks-blocks.ensures.held may_lie world bytes h ∙ sym c.requires.size) reqs c.deref-2.result.now
-          NoMemory (kept_as b n asked reqs ops _ c.deref-2.ensures.value kept) (inr refl) (λ io. absurd cc) (weaker c.in-Err-OutOfMemory.ensures.goes (λ may_lie world bytes later h step. (step.0, λ io. cc))),
-      subst (Appends (g.W.Write.contents c.args.writer.now) (g.W.Write.contents c.put_refusals-in-Err-OutOfMemory.new.writer)) (text_refused n asked NoMemory reqs _ kept.same c.deref-in-Err-OutOfMemory.ensures.value) wrote,
+          NoMemory (collected_as b n asked reqs ops _ c.deref-2.ensures.value collected) (inr refl) (λ io. absurd cc) (weaker c.in-Err-OutOfMemory.ensures.goes (λ may_lie world bytes later h step. (step.0, λ io. cc))),
+      subst (Appends (g.W.Write.contents c.args.writer.now) (g.W.Write.contents c.put_refusals-in-Err-OutOfMemory.new.writer)) (text_refused n asked NoMemory reqs _ collected.same c.deref-in-Err-OutOfMemory.ensures.value) wrote,
     )) c.put_refusals-in-Err-OutOfMemory.ensures.ok
 
 pub returns-in-Err-OutOfMemory-clause-err : goal.returns-in-Err-OutOfMemory-clause-err
 returns-in-Err-OutOfMemory-clause-err g c =
-    let b = c.args.layout.block in
-    let n = c.args.layout.size in
+    let b = c.args.sizes.block in
+    let n = c.args.sizes.size in
     let reqs = c.args.batch.now.requests.items in
     let ops = c.args.batch.now.operations.items in
-    MatchResult-weaker c.put_refusals-in-Err-OutOfMemory.result c.put_refusals-in-Err-OutOfMemory.ensures.err (λ x h. tt) (λ f wrote asked kept. inl (
+    MatchResult-weaker c.put_refusals-in-Err-OutOfMemory.result c.put_refusals-in-Err-OutOfMemory.ensures.err (λ x h. tt) (λ f wrote asked collected. inl (
       wrote.0,
       (
         refused_turns n asked NoMemory,
         all_refused g.D.BlockDevice.failed b n c.args.disk.now c.carry_out_all.new.disk asked (λ may_lie world bytes h. c.blocks-blocks.ensures.held may_lie world bytes h ∙ sym c.requires.size) reqs c.deref-2.result.now
-            NoMemory (kept_as b n asked reqs ops _ c.deref-2.ensures.value kept) (inr refl) (λ io. absurd cc) (weaker c.in-Err-OutOfMemory.ensures.goes (λ may_lie world bytes later h step. (step.0, λ io. cc))),
-        subst (IsBegunText (g.W.Write.contents c.args.writer.now) (g.W.Write.contents c.put_refusals-in-Err-OutOfMemory.new.writer)) (text_refused n asked NoMemory reqs _ kept.same c.deref-in-Err-OutOfMemory.ensures.value) wrote.1,
+            NoMemory (collected_as b n asked reqs ops _ c.deref-2.ensures.value collected) (inr refl) (λ io. absurd cc) (weaker c.in-Err-OutOfMemory.ensures.goes (λ may_lie world bytes later h step. (step.0, λ io. cc))),
+        subst (IsBegunText (g.W.Write.contents c.args.writer.now) (g.W.Write.contents c.put_refusals-in-Err-OutOfMemory.new.writer)) (text_refused n asked NoMemory reqs _ collected.same c.deref-in-Err-OutOfMemory.ensures.value) wrote.1,
       ),
     ))
 
 pub returns-in-Err-Stopped-clause-err : goal.returns-in-Err-Stopped-clause-err
-returns-in-Err-Stopped-clause-err g c = λ asked kept.
-    let b = c.args.layout.block in
-    let n = c.args.layout.size in
+returns-in-Err-Stopped-clause-err g c = λ asked collected.
+    let b = c.args.sizes.block in
+    let n = c.args.sizes.size in
     let reqs = c.args.batch.now.requests.items in
     let ops = c.args.batch.now.operations.items in
     let some = c.if-not-is_any_accepted.ensures.yes (grind arith) in
@@ -152,7 +153,51 @@ returns-in-Err-Stopped-clause-err g c = λ asked kept.
       refl,
       (
         all_begun g.D.BlockDevice.failed b n c.args.disk.now c.carry_out_all.new.disk asked (λ may_lie world bytes h. c.blocks-blocks.ensures.held may_lie world bytes h ∙ sym c.requires.size) reqs c.deref-2.result.now
-            (kept_as b n asked reqs ops _ c.deref-2.ensures.value kept) some.0 some.1 some.2 (sym c.deref.ensures.value ∙ some.3) some.4 (weaker c.in-Err-Stopped.ensures.goes (λ may_lie world bytes later h step. step.0)),
+            (collected_as b n asked reqs ops _ c.deref-2.ensures.value collected) some.0 some.1 some.2 (sym c.deref.ensures.value ∙ some.3) some.4 (weaker c.in-Err-Stopped.ensures.goes (λ may_lie world bytes later h step. step.0)),
         refl,
       ),
     )
+
+pub returns-then-not-is_any_accepted-clause-keeps : goal.returns-then-not-is_any_accepted-clause-keeps
+returns-then-not-is_any_accepted-clause-keeps g c =
+    let n = c.args.sizes.size in
+    let k = c.requires.collected in
+    on_ok_weaker c.put_refusals.result (λ wrote. record {
+      turns = refused_turns n k.0 NoMemory;
+      wrote = subst (Appends (g.W.Write.contents c.args.writer.now) (g.W.Write.contents c.put_refusals.new.writer)) (text_refused n k.0 NoMemory c.args.batch.now.requests.items _ k.1.same c.deref-then-not-is_any_accepted.ensures.value) wrote;
+      keeps = inl (all_refusals n k.0 NoMemory);
+    }) c.put_refusals.ensures.ok
+
+pub returns-in-Err-Failed-clause-keeps : goal.returns-in-Err-Failed-clause-keeps
+returns-in-Err-Failed-clause-keeps g c =
+    let n = c.args.sizes.size in
+    let k = c.requires.collected in
+    on_ok_weaker c.put_refusals-in-Err-Failed.result (λ wrote. record {
+      turns = refused_turns n k.0 Io;
+      wrote = subst (Appends (g.W.Write.contents c.args.writer.now) (g.W.Write.contents c.put_refusals-in-Err-Failed.new.writer)) (text_refused n k.0 Io c.args.batch.now.requests.items _ k.1.same c.deref-in-Err-Failed.ensures.value) wrote;
+      keeps = inl (all_refusals n k.0 Io);
+    }) c.put_refusals-in-Err-Failed.ensures.ok
+
+pub returns-in-Err-OutOfMemory-clause-keeps : goal.returns-in-Err-OutOfMemory-clause-keeps
+returns-in-Err-OutOfMemory-clause-keeps g c =
+    let n = c.args.sizes.size in
+    let k = c.requires.collected in
+    on_ok_weaker c.put_refusals-in-Err-OutOfMemory.result (λ wrote. record {
+      turns = refused_turns n k.0 NoMemory;
+      wrote = subst (Appends (g.W.Write.contents c.args.writer.now) (g.W.Write.contents c.put_refusals-in-Err-OutOfMemory.new.writer)) (text_refused n k.0 NoMemory c.args.batch.now.requests.items _ k.1.same c.deref-in-Err-OutOfMemory.ensures.value) wrote;
+      keeps = inl (all_refusals n k.0 NoMemory);
+    }) c.put_refusals-in-Err-OutOfMemory.ensures.ok
+
+pub returns-in-Ok-clause-keeps : goal.returns-in-Ok-clause-keeps
+returns-in-Ok-clause-keeps g c =
+    let b = c.args.sizes.block in
+    let n = c.args.sizes.size in
+    let k = c.requires.collected in
+    let given = c.in-Ok.given.items in
+    on_ok_weaker c.put_answers.result (λ wrote. record {
+      turns = answered_turns b n k.0 given;
+      wrote = subst (Appends (g.W.Write.contents c.args.writer.now) (g.W.Write.contents c.put_answers.new.writer))
+          (text_answered b n k.0 c.args.batch.now.requests.items _ given _ k.1.same c.deref-in-Ok.ensures.value c.deref-in-Ok-2.ensures.value) wrote;
+      keeps = inr (subst (λ (ops : List Operation). KeepsOn g.D.BlockDevice.had g.D.BlockDevice.hears g.D.BlockDevice.holds g.D.BlockDevice.kept c.args.disk.now (TouchSomeByte ops)
+          (λ may_lie bytes later. later ≡ all_done ops bytes) c.carry_out_all.new.disk) c.deref-2.ensures.value c.in-Ok.ensures.keeps);
+    }) c.put_answers.ensures.ok

@@ -3,10 +3,10 @@ use Rattle.std.proofs.KnownBytes.{Consumes-trans}
 use Rattle.std.proofs.lemmas.Result.{err_from_is_err_and, MatchResult-weaker}
 use Rattle.oram_nbd.specs.Batches.{EndsBy}
 use Rattle.oram_nbd.specs.Messages.{request_text}
-use Rattle.oram_nbd.specs.Service.{Asked}
+use Rattle.oram_nbd.specs.Service.{WholeRequest}
 use Rattle.oram_nbd.specs.Streams.{ComesShort}
 use Rattle.oram_nbd.specs.declared.batches.Close.{Close}
-use Rattle.oram_nbd.proofs.Batching.{payload_cut}
+use Rattle.oram_nbd.proofs.Gathered.{payload_cut}
 use Rattle.oram_nbd.proofs.Pieces.{if_err}
 use Rattle.oram_nbd.proofs.batches.Batch.collect.Goals as goal
 
@@ -24,7 +24,7 @@ returns-clause-err g c =
     let r = c.in-Some.request in
     let came = rw c.in-Some.is at c.in_ok-request.ensures.ok in
     let got = c.in_ok-payload.ensures.ok in
-    let a : Asked = record { request = r; payload = got.0 } in
+    let a : WholeRequest = record { request = r; payload = got.0 } in
     let text : List ℕ = request_text r ++ got.0 in
     let all = Consumes-trans _ _ _ (request_text r) got.0 came.1 got.2 in
     MatchResult-weaker c.add.result c.add.ensures.err (λ x h. tt) (λ close is. (

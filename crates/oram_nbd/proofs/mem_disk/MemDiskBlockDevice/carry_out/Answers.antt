@@ -2,8 +2,8 @@ use Rattle.std.proofs.Common.{[], List, ℕ, length, map, refl, sym, ap, ◌∙�
 use Rattle.std.proofs.lemmas.Result.{err_from_is_err_and}
 use Rattle.oram_nbd.specs.MemBlocks.{MemBlocks}
 use Rattle.oram_nbd.specs.Operations.{AreBegun, all_done, all_given}
-use Rattle.oram_nbd.proofs.Beside.{at_rest, one_call}
-use Rattle.oram_nbd.proofs.Carrying.{begun_nothing, carried_all, carried_one, carried_stopped, given_lens}
+use Rattle.oram_nbd.proofs.Beside.{at_rest, one_call, one_kept}
+use Rattle.oram_nbd.proofs.ListSteps.{begun_nothing, carried_all, carried_one, carried_stopped, given_lens}
 use Rattle.oram_nbd.proofs.mem_disk.MemDiskBlockDevice.carry_out.Goals as goal
 
 pub returns-in_err-given-clause-goes : goal.returns-in_err-given-clause-goes
@@ -46,3 +46,8 @@ returns-clause-goes c =
       ((all.0 ∙ ap (all_given c.args.operations.now) (sym h), all.1 ∙ ap (all_done c.args.operations.now) (sym h)), λ e. cc),
       refl,
     ))
+
+pub returns-clause-keeps : goal.returns-clause-keeps
+returns-clause-keeps c =
+    let all = carried_all _ _ _ _ _ c.loop-operation.invariant.so_far (omega (arith, c.loop-operation-test.false)) in
+    one_kept [] refl (λ may_lie world later run bytes h. (c.loop-operation.self.bytes, all.1 ∙ ap (all_done c.args.operations.now) (sym h), refl, λ was. refl))

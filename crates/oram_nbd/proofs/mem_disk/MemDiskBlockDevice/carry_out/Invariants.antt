@@ -1,5 +1,5 @@
 use Rattle.std.proofs.Common.{◌≡◌, length}
-use Rattle.oram_nbd.proofs.Carrying.{Carried}
+use Rattle.oram_nbd.proofs.ListSteps.{Carried}
 use Rattle.oram_nbd.proofs.mem_disk.MemDiskBlockDevice.carry_out.Given as goal
 
 abbrev pub invariant-loop-operation : goal.invariant-loop-operation

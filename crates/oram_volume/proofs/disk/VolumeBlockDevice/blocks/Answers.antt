@@ -1,4 +1,4 @@
-use Rattle.oram_volume.proofs.Laying.{length_laid}
+use Rattle.oram_volume.proofs.Layouts.{length_laid}
 use Rattle.oram_volume.proofs.disk.VolumeBlockDevice.blocks.Goals as goal
 
 pub returns-clause-held : goal.returns-clause-held

@@ -1,13 +1,17 @@
-use Rattle.std.proofs.Common.{◌<◌, ◌*◌, refl, sym, ◌∙◌, subst, arith}
+use Rattle.std.proofs.Common.{inl, inr, ◌≡◌, ◌<◌, ◌*◌, List, refl, sym, ◌∙◌, subst, arith}
 use Rattle.std.proofs.lemmas.Result.{err_from_is_err_and}
-use Rattle.oram_nbd.specs.Operations.{all_done}
-use Rattle.oram_nbd.proofs.Beside.{at_rest as calls_none}
-use Rattle.oram_nbd.proofs.Carrying.{begun_nothing}
+use Rattle.oram_nbd.specs.Operations.{TouchSomeByte, all_done}
+use Rattle.oram_nbd.proofs.Beside.{at_rest as calls_none, kept_at_rest}
+use Rattle.oram_semantics.specs.declared.events.Command.{Command}
+use Rattle.oram_nbd.proofs.ListSteps.{begun_nothing}
 use Rattle.oram_volume.specs.Blocks.{IsLaidOut}
+use Rattle.oram_volume.specs.CarriedOut.{after_commands}
+use Rattle.oram_volume.specs.DiskCalls.{VolumeKeepsOn}
 use Rattle.oram_volume.specs.HeldArrays.{HoldsBytes, running}
-use Rattle.oram_volume.proofs.DiskCalls.{as_bytes, by_lies}
-use Rattle.oram_volume.proofs.LaidOperations.{begun_all_of, given_are, laid_data, laid_done, laid_front}
-use Rattle.oram_volume.proofs.Laying.{length_laid}
+use Rattle.oram_volume.specs.declared.volume.Volume.{Volume}
+use Rattle.oram_volume.proofs.DiskCalls.{as_bytes, by_lies, kept_as_bytes}
+use Rattle.oram_volume.proofs.LaidOperations.{begun_all_of, given_are, laid_data, laid_done, laid_front, touched_have_commands}
+use Rattle.oram_volume.proofs.Layouts.{length_laid}
 use Rattle.oram_volume.proofs.disk.VolumeBlockDevice.carry_out.Goals as goal
 
 pub returns-then-has_failed-clause-goes : goal.returns-then-has_failed-clause-goes
@@ -58,3 +62,24 @@ returns-clause-goes g c =
       ),
       subst (λ a. IsLaidOut d a (all_done ops bytes)) (sym step.0.1) (laid_done d some ops c.requires.whole c.requires.within array bytes laid),
     ))
+
+pub returns-clause-keeps : goal.returns-clause-keeps
+returns-clause-keeps g c =
+    let d = c.args.self.now.core.device in
+    let ops = c.args.operations.now in
+    let some : 0 < d.block_bytes = omega (arith, c.blocks_in_all-blocks.ensures.block.0) in
+    elim c.in_ok-found.ensures.keeps [
+      | inl unasked ↦
+          subst (λ n. VolumeKeepsOn g.S.Sealer.cipher g.T.Tape.words g.B.BatchLink.batches g.K.Keeper.reads_back c.args.self.now (TouchSomeByte ops) (λ may_lie bytes later. later ≡ all_done ops bytes) n) (sym unasked.1)
+          (kept_at_rest (λ touched. touched_have_commands d.block_bytes some ops c.requires.whole touched unasked.0)
+          (λ may_lie world bytes h.
+          let after = subst (λ (cs : List Command). IsLaidOut d (after_commands d cs h.array) (all_done ops bytes)) unasked.0 (laid_done d some ops c.requires.whole c.requires.within h.array bytes h.laid) in
+          h.laid.all ∙ sym after.all))
+      | inr k ↦
+          kept_as_bytes g.S.Sealer.cipher g.T.Tape.words g.B.BatchLink.batches g.K.Keeper.reads_back c.args.self.now c.carry_out_rounds.new.self c.in_ok-found.ensures.kept k
+          (λ may_lie array later bytes laid step. (
+            all_done ops bytes,
+            refl,
+            subst (λ a. IsLaidOut d a (all_done ops bytes)) (sym step) (laid_done d some ops c.requires.whole c.requires.within array bytes laid),
+          ))
+    ]

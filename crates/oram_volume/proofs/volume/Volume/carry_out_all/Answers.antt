@@ -6,7 +6,7 @@ use Rattle.oram_nbd.proofs.Beside.{told_after, weaker}
 use Rattle.oram_rounds.specs.Process.Act.{Keeps}
 use Rattle.oram_volume.specs.HeldArrays.{HoldsArray, running}
 use Rattle.oram_volume.proofs.Answered.{NoneFailed}
-use Rattle.oram_volume.proofs.Carried.{all_done, front_of, has_failed_by, lied, lies_if, none_begun, performed_done, performed_left, performed_stops, some_left, submitted_done}
+use Rattle.oram_volume.proofs.Carried.{all_done, all_kept, front_of, has_failed_by, lied, lies_if, none_accepted, none_begun, performed_done, performed_left, performed_stops, some_left, submitted_done}
 use Rattle.oram_volume.proofs.HeldArrays.{alive}
 use Rattle.oram_volume.proofs.volume.Volume.carry_out_all.Goals as goal
 
@@ -52,6 +52,10 @@ returns-in_default-clause-stopped g c = λ e.
     performed_stops g.S.Sealer.cipher g.T.Tape.words g.B.BatchLink.batches g.K.Keeper.reads_back g.met.B.BatchLink.are_batches c.args.self.now c.resume.new.self c.resume.ensures.kept c.resume.ensures.tape
     c.resume.ensures.goes c.args.commands.items c.requires c.submit_all.new.core c.submit_all.new.tape c.submit_all.ensures.kept c.submit_all.ensures.tape
     c.submit_all.new.core c.resume.new.self.link c.resume.new.self.keeper (refl, refl) [] refl c.in_ok-begun.field-0.notes.items c.in_ok-begun.ensures.ok (omega (arith, size, more, none))
+
+pub returns-in_default-clause-keeps : goal.returns-in_default-clause-keeps
+returns-in_default-clause-keeps g c =
+    none_accepted _ (λ r. r.items) c.unanswered.result c.len-count.result (length c.args.commands.items) (let size : c.len-count.result ≡ length c.args.commands.items = search rules in size) c.unanswered.ensures.ok
 
 -- some are, and they are carried out
 
@@ -105,6 +109,17 @@ returns-in-Ok-3-clause-goes g c =
     c.perform-performed.new.core c.perform-performed.new.link c.perform-performed.new.keeper c.perform-performed.ensures.kept (Keeps true ∷ k.0) k.2 c.in_ok-begun.field-0.notes.items c.in_ok-begun.ensures.ok
     c.in_ok-resume.ensures.settled lives c.in-Ok.replies.items k.1 c.in-Ok.ensures.count none (omega (arith, size, enough)) c.in_ok-begun.ensures.count)
     (λ may_lie world array later h step. (step, λ e. cc))
+
+pub returns-in-Ok-3-clause-keeps : goal.returns-in-Ok-3-clause-keeps
+returns-in-Ok-3-clause-keeps g c = λ some.
+    let k = c.in-Ok.ensures.ok in
+    let lives = none_by c.resume.new.self.core.state.failure (ap is_some (sym c.failure.ensures) ∙ sym c.is_some.ensures ∙ c.if-is_some.false) in
+    let size : c.len-count.result ≡ length c.args.commands.items = search rules in
+    let enough : c.len-count.result ≤ length c.in-Ok.replies.items = search rules in
+    all_kept g.S.Sealer.cipher g.T.Tape.words g.B.BatchLink.batches g.K.Keeper.reads_back g.met.B.BatchLink.are_batches c.args.self.now c.resume.new.self c.resume.ensures.kept c.resume.ensures.tape
+    c.resume.ensures.goes c.args.commands.items c.requires c.submit_all.new.core c.submit_all.new.tape c.submit_all.ensures.kept c.submit_all.ensures.tape
+    c.perform-performed.new.core c.perform-performed.new.link c.perform-performed.new.keeper c.perform-performed.ensures.kept (Keeps true ∷ k.0) k.2 c.in_ok-begun.field-0.notes.items c.in_ok-begun.ensures.ok
+    c.in_ok-resume.ensures.settled lives c.in-Ok.replies.items k.1 c.in-Ok.ensures.count k.0 refl (omega (arith, size, enough)) c.in_ok-begun.ensures.count
 
 pub returns-in-Err-clause-goes : goal.returns-in-Err-clause-goes
 returns-in-Err-clause-goes g c =

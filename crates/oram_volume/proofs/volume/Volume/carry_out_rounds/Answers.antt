@@ -1,4 +1,4 @@
-use Rattle.std.proofs.Common.{◌≡◌, ◌+◌, ◌/◌, ◌^◌, ◌<◌, ◌≤◌, ◌++◌, [], All, List, ℕ, length, take, drop, refl, sym, ap, ◌∙◌, subst, append_assoc, append-nil, arith, rules}
+use Rattle.std.proofs.Common.{inl, inr, ◌≡◌, ◌+◌, ◌/◌, ◌^◌, ◌<◌, ◌≤◌, ◌++◌, [], All, List, ℕ, length, take, drop, refl, sym, ap, ◌∙◌, subst, append_assoc, append-nil, arith, rules}
 use Rattle.std.proofs.lemmas.Bool.Decides.{nat_tests}
 use Rattle.std.proofs.lemmas.Grind.{common_steps}
 use Rattle.std.proofs.lemmas.List.{nil_from_length}
@@ -6,7 +6,7 @@ use Rattle.std.proofs.lemmas.Result.{err_from_is_err_and}
 use Rattle.std.specs.List.{flat_map}
 use Rattle.oram_geometry.specs.declared.Sizes.{Sizes}
 use Rattle.oram_nbd.specs.Operations.{IsWhole, len_of, place_of}
-use Rattle.oram_nbd.proofs.Beside.{at_rest as calls_none, joined_calls, weaker}
+use Rattle.oram_nbd.proofs.Beside.{at_rest as calls_none, joined_calls, kept_behind, weaker, weaker_kept}
 use Rattle.oram_semantics.specs.declared.events.Command.{Command}
 use Rattle.oram_semantics.specs.declared.events.Reply.{Reply}
 use Rattle.oram_session.proofs.CoreSteps.{same_trans}
@@ -25,6 +25,7 @@ loop-round_number-init g c = record {
   done = [];
   split = sym (rest_all c.args.self.now.core.device.block_bytes c.args.operations.now);
   so_far = calls_none (λ may_lie world array h. (c.new-found.ensures.items, refl));
+  keeps = inl (refl, refl);
 }
 
 pub returns-clause-goes : goal.returns-clause-goes
@@ -103,6 +104,29 @@ returns-then-is_empty-clause-goes g c =
       λ e. cc,
     ))
 
+pub returns-then-is_empty-clause-keeps : goal.returns-then-is_empty-clause-keeps
+returns-then-is_empty-clause-keeps g c =
+    let d = c.args.self.now.core.device in
+    let b = d.block_bytes in
+    let ops = c.args.operations.now in
+    let inv = c.loop-round_number.invariant in
+    let same : c.block_bytes-block.result ≡ b = search rules in
+    let rest = rest_of b ops c.next_round.new.cursor.operation c.next_round.new.cursor.block in
+    let commands = c.in_ok-commands.commands.items in
+    let next : rest_of b ops c.loop-round_number.cursor.operation c.loop-round_number.cursor.block ≡ commands ++ rest =
+    subst (λ (n : ℕ). rest_of n ops c.loop-round_number.cursor.operation c.loop-round_number.cursor.block ≡ commands ++ rest_of n ops c.next_round.new.cursor.operation c.next_round.new.cursor.block) same
+    c.in_ok-commands.ensures.next in
+    let split : all_commands b ops ≡ inv.done ++ (commands ++ rest) = inv.split ∙ ap (λ (l : List Command). inv.done ++ l) next in
+    let zero : length commands ≡ 0 = first_of (grind (arith, nat_tests, c.is_empty.ensures), grind (arith, nat_tests, common_steps), search (rules, nat_tests)) in
+    let none : commands ≡ [] = nil_from_length commands zero in
+    let end : rest ≡ [] = subst (λ (n : ℕ). rest_of n ops c.next_round.new.cursor.operation c.next_round.new.cursor.block ≡ []) same (c.in_ok-commands.ensures.end none) in
+    let all : inv.done ≡ all_commands b ops =
+    sym (split ∙ ap (λ (l : List Command). inv.done ++ (l ++ rest)) none ∙ ap (λ (l : List Command). inv.done ++ l) end ∙ append-nil inv.done) in
+    elim inv.keeps [
+      | inl unasked ↦ inl (sym all ∙ unasked.0, unasked.1)
+      | inr k ↦ inr (weaker_kept k (λ yes. yes) (λ may_lie world array later h step. step ∙ ap (λ (cs : List Command). after_commands d cs array) all))
+    ]
+
 pub returns-in_err-replies-clause-goes : goal.returns-in_err-replies-clause-goes
 returns-in_err-replies-clause-goes g c =
     let p = err_from_is_err_and c.from_residual-in_err-replies.result c.from_residual-in_err-replies.ensures.1 in
@@ -165,6 +189,7 @@ loop-round_number-preserved g c =
     c.in_ok-commands.ensures.next in
     let split : all_commands b ops ≡ inv.done ++ (commands ++ rest) = inv.split ∙ ap (λ (l : List Command). inv.done ++ l) next in
     let replies = c.in_ok-replies.replies.items in
+    let some : 0 < length commands = first_of (grind (arith, nat_tests, c.is_empty.ensures), grind (arith, nat_tests, common_steps), search (rules, nat_tests)) in
     let added : c.append_data.new.out.items ≡ c.loop-round_number.found.items ++ flat_map (λ (r : Reply). data_of r.body) replies =
     c.in_ok-append_data.ensures ∙ ap (λ (l : List Reply). c.loop-round_number.found.items ++ flat_map (λ (r : Reply). data_of r.body) l) c.deref.ensures.value in
     record {
@@ -179,6 +204,8 @@ loop-round_number-preserved g c =
             ∙ sym (data_append d inv.done commands array),
         second.0.1 ∙ on_device d _ inv.kept.0 commands mid ∙ ap (after_commands d commands) first.1 ∙ sym (after_append d inv.done commands array),
       ));
+      keeps = inr (kept_behind inv.so_far (c.in_ok-replies.ensures.keeps some) tt (λ may_lie world array mid later h first second.
+          second ∙ on_device d _ inv.kept.0 commands mid ∙ ap (after_commands d commands) first.1 ∙ sym (after_append d inv.done commands array)));
     }
 
 pub returns-in_err-replies-clause-stopped : goal.returns-in_err-replies-clause-stopped

@@ -1,12 +1,12 @@
 -- Lists of operations, part by part.
-use Rattle.std.proofs.Common.{◌≡◌, inl, inr, ℕ, ◌+◌, ◌*◌, ◌/◌, ◌<◌, add-zero, ◌≤◌, List, [], ◌∷◌, ◌++◌, All, length, map, take, drop, refl, sym, ap, ◌∙◌, subst, arith, append_assoc, length-take-le, get_or, suc, Bool, true, false, ◌-◌, length-drop, drop-cons, Result, Ok, Err, MatchResult, length-append}
+use Rattle.std.proofs.Common.{◌≡◌, ◌⊎◌, inl, inr, ℕ, ◌+◌, ◌*◌, ◌/◌, ◌<◌, add-zero, ◌≤◌, List, [], ◌∷◌, ◌++◌, All, length, map, take, drop, refl, sym, ap, ◌∙◌, subst, arith, append_assoc, length-take-le, get_or, suc, Bool, true, false, ◌-◌, length-drop, drop-cons, Result, Ok, Err, IfOk, MatchResult, OnOk, length-append}
 use Rattle.std.proofs.lemmas.Nat.{div-mul-add}
 use Rattle.std.proofs.Math.Nat.{mul_comm}
 use Rattle.std.proofs.lemmas.List.Elements.{All-head, All-tail}
-use Rattle.std.proofs.lemmas.List.{append-nil, drop-drop, drop_all, length-replicate, map-append, take-append-drop, take_all}
+use Rattle.std.proofs.lemmas.List.{append-nil, drop-drop, drop_all, length-map, length-replicate, map-append, take-append-drop, take_all}
 use Rattle.std.proofs.Math.Seq.{take-add}
 use Rattle.oram_nbd.specs.Bytes.{bytes_at, zeroes, IsBegun}
-use Rattle.oram_nbd.specs.Operations.{AreBegun, IsPartOf, IsWhole, IsWithin, ReadsWhole, all_done, all_given, done_by, given_by, read_len}
+use Rattle.oram_nbd.specs.Operations.{AreBegun, IsPartOf, IsWhole, IsWithin, ReadsWhole, TouchSomeByte, all_done, all_given, done_by, given_by, read_len}
 use Rattle.oram_nbd.specs.declared.operations.Operation.{Operation}
 use Rattle.oram_nbd.specs.declared.operations.Operation.TheVariants.{Read, Write, Zero}
 use Rattle.oram_nbd.proofs.Splices.{begun_none, begun_whole, length-written}
@@ -205,3 +205,24 @@ carried_slice ops old given now so_far k here more next most gave led =
     let same = slice_is ops given more k here most in
     subst (λ (n : ℕ). Carried ops old n (given ++ more) next) (sym (length-append given more))
     (carried_more ops old (length given) given now so_far (length more) more next (gave ∙ ap (λ (l : List Operation). all_given l now) same) (led ∙ ap (λ (l : List Operation). all_done l now) same))
+
+-- one of some operations touches a byte, or one of the others
+pub touch_split : (xs ys : List Operation) → TouchSomeByte (xs ++ ys) → TouchSomeByte xs ⊎ TouchSomeByte ys
+touch_split [] ys touched = inr touched
+touch_split (x ∷ xs) ys (inl here) = inl (inl here)
+touch_split (x ∷ xs) ys (inr behind) = elim (touch_split xs ys behind) [ inl first ↦ inl (inr first) | inr second ↦ inr second ]
+
+-- the operations that have results, once there are more of them
+pub slice_split : (ops : List Operation) (given more : List (List ℕ)) (k : ℕ) → k ≡ length given → length more ≤ length (take (length ops - k) (drop k ops))
+    → take (length (given ++ more)) ops ≡ take (length given) ops ++ take (length more) (take (length ops - k) (drop k ops))
+slice_split ops given more k here most =
+    ap (λ (n : ℕ). take n ops) (length-append given more) ∙ take-add (length given) (length more) ops
+    ∙ ap (λ (l : List Operation). take (length given) ops ++ l) (sym (slice_is ops given more k here most))
+
+-- what is kept after the first n operations, by the number of those that have a result
+pub front_kept : {T E : Type 0} (result : Result T E) (items : T → List (List ℕ)) (ops : List Operation) (n : ℕ) (P : ℕ → Type 0) → n ≤ length ops → IfOk result (λ g. map length (items g) ≡ map read_len (take n ops))
+    → OnOk result (P n) → IfOk result (λ g. P (length (items g)))
+front_kept (Ok g) items ops n P few lens kept =
+    let many : length (items g) ≡ n = sym (length-map (items g) length) ∙ ap length lens ∙ length-map (take n ops) read_len ∙ length-take-le n ops few in
+    subst P (sym many) kept
+front_kept (Err e) items ops n P few lens kept = tt

@@ -7,7 +7,7 @@ use Rattle.std.proofs.lemmas.Grind.{flat_map-append}
 use Rattle.std.specs.Io.KnownBytes.{Appends, Consumes}
 use Rattle.std.proofs.KnownBytes.{Appends-nil, Appends-trans, Consumes-nil, Consumes-trans}
 use Rattle.std.proofs.lemmas.List.Elements.{All-append, All-cons, All-head, All-nil, All-tail}
-use Rattle.oram_nbd.specs.Batches.{answers_text, asked_in, asked_part, refusals_text, reply_if, reply_of, AreKept, AreServedBy, EndsBy, HasAnswered, HasBegun, HasGathered, IsUnkept, LeftBy, Serves, ServesIf}
+use Rattle.oram_nbd.specs.Batches.{answers_text, asked_in, asked_part, refusals_text, reply_if, reply_of, AreCollected, AreServedBy, EndsBy, HasRepliedToAll, HasBegun, HasGathered, IsWithoutMemory, LeftBy, DoesRequest, DoesIfAccepted}
 use Rattle.oram_nbd.specs.Beside.{GoesOn}
 use Rattle.oram_nbd.specs.Bytes.{bytes_at}
 use Rattle.oram_nbd.specs.Streams.{ComesShort, IsBegunText}
@@ -21,48 +21,48 @@ use Rattle.oram_nbd.specs.declared.requests.Command.TheVariants as command
 use Rattle.oram_nbd.specs.Messages.{payload_len, reply_text, request_text, IsRequest, SimpleReply}
 use Rattle.oram_nbd.specs.Messages.SimpleReply.{Done, Refused}
 use Rattle.oram_nbd.specs.Operations.{all_done, all_given, done_by, given_by, read_len, AreBegun, IsPartOf, IsWithin, ReadsWhole}
-use Rattle.oram_nbd.specs.Service.{after, given, given_len, left_by, left_if, refusal_of, asked_text, replies_text, AreRequestsBegun, Asked, FailsForGood, IsAnswer, IsAsked, IsLeftIf, IsPartly, IsRefusal, IsReplied, IsReply, IsService, IsTurn, NeverFails, SaysFailed, Turn}
+use Rattle.oram_nbd.specs.Service.{after, given, given_len, array_after_request, left_if, refusal_of, whole_requests_text, replies_text, AreRequestsBegun, WholeRequest, FailsForGood, IsAnswer, IsWholeRequest, IsLeftIf, IsPartly, IsRefusal, IsReplied, IsReply, IsService, IsTurn, NeverFails, SaysFailed, Turn}
 use Rattle.oram_nbd.specs.declared.faults.NbdError.{NbdError}
 use Rattle.oram_nbd.specs.declared.faults.NbdError.TheVariants.{Io, NoMemory}
 use Rattle.oram_nbd.specs.declared.operations.Operation.{Operation}
 use Rattle.oram_nbd.specs.declared.operations.Operation.TheVariants.{Read}
 use Rattle.oram_nbd.specs.declared.requests.Request.{Request}
 use Rattle.oram_nbd.proofs.Beside.{at_rest, weaker}
-use Rattle.oram_nbd.proofs.Carrying.{length_done, length_part, part_whole}
+use Rattle.oram_nbd.proofs.ListSteps.{length_done, length_part, part_whole}
 use Rattle.oram_nbd.proofs.Served.{partly_none, refusal_is_other}
 use Rattle.oram_nbd.proofs.Splices.{part_of_block}
 
-abbrev pub turn_for : Asked → SimpleReply → Turn
+abbrev pub turn_for : WholeRequest → SimpleReply → Turn
 turn_for a reply = record { request = a.request; payload = a.payload; reply = reply }
 
 -- ---- The operations of a batch
 
-served_one : (block size : ℕ) (o : Option NbdError) (a : Asked) (op : Operation) → ServesIf o block size a op → IsWithin size op × ReadsWhole block op
+served_one : (block size : ℕ) (o : Option NbdError) (a : WholeRequest) (op : Operation) → DoesIfAccepted o block size a op → IsWithin size op × ReadsWhole block op
 served_one block size (Some e) a op is =
     subst (λ (x : Operation). IsWithin size x × ReadsWhole block x) (sym is) ((let within : 0 + 0 ≤ size = omega arith in within), record { first = 0; count = 0; place = omega arith; len = omega arith })
 served_one block size None a op s = (s.within, s.reads)
 
-pub all_within : (block size : ℕ) (asked : List Asked) (ops : List Operation) → AreServedBy block size asked ops → All (IsWithin size) ops
+pub all_within : (block size : ℕ) (asked : List WholeRequest) (ops : List Operation) → AreServedBy block size asked ops → All (IsWithin size) ops
 all_within block size [] [] served = All-nil (IsWithin size)
 all_within block size [] (op ∷ ops) served = absurd served
 all_within block size (a ∷ asked) [] served = absurd served
 all_within block size (a ∷ asked) (op ∷ ops) served =
     All-cons (IsWithin size) op ops (served_one block size (refusal_of size a.request) a op served.0).0 (all_within block size asked ops served.1)
 
-pub all_whole : (block size : ℕ) (asked : List Asked) (ops : List Operation) → AreServedBy block size asked ops → All (ReadsWhole block) ops
+pub all_whole : (block size : ℕ) (asked : List WholeRequest) (ops : List Operation) → AreServedBy block size asked ops → All (ReadsWhole block) ops
 all_whole block size [] [] served = All-nil (ReadsWhole block)
 all_whole block size [] (op ∷ ops) served = absurd served
 all_whole block size (a ∷ asked) [] served = absurd served
 all_whole block size (a ∷ asked) (op ∷ ops) served =
     All-cons (ReadsWhole block) op ops (served_one block size (refusal_of size a.request) a op served.0).1 (all_whole block size asked ops served.1)
 
-pub as_many : (block size : ℕ) (asked : List Asked) (ops : List Operation) → AreServedBy block size asked ops → length ops ≡ length asked
+pub as_many : (block size : ℕ) (asked : List WholeRequest) (ops : List Operation) → AreServedBy block size asked ops → length ops ≡ length asked
 as_many block size [] [] served = refl
 as_many block size [] (op ∷ ops) served = absurd served
 as_many block size (a ∷ asked) [] served = absurd served
 as_many block size (a ∷ asked) (op ∷ ops) served = ap (λ (n : ℕ). suc n) (as_many block size asked ops served.1)
 
-pub served_by_more : (block size : ℕ) (asked : List Asked) (ops : List Operation) (a : Asked) (op : Operation) → AreServedBy block size asked ops → ServesIf (refusal_of size a.request) block size a op
+pub served_by_more : (block size : ℕ) (asked : List WholeRequest) (ops : List Operation) (a : WholeRequest) (op : Operation) → AreServedBy block size asked ops → DoesIfAccepted (refusal_of size a.request) block size a op
     → AreServedBy block size (asked ++ a ∷ []) (ops ++ op ∷ [])
 served_by_more block size [] [] a op served one = (one, tt)
 served_by_more block size [] (x ∷ ops) a op served one = absurd served
@@ -72,14 +72,14 @@ served_by_more block size (x ∷ asked) (y ∷ ops) a op served one = (served.0,
 -- ---- One turn
 
 -- the operation was done
-answer_done : (block size : ℕ) (a : Asked) (op : Operation) (o : Option NbdError) (bytes : List ℕ) → refusal_of size a.request ≡ o → ServesIf o block size a op → length bytes ≡ size
+answer_done : (block size : ℕ) (a : WholeRequest) (op : Operation) (o : Option NbdError) (bytes : List ℕ) → refusal_of size a.request ≡ o → DoesIfAccepted o block size a op → length bytes ≡ size
     → IsAnswer bytes a.request a.payload (reply_if o (Done (asked_part block a.request (given_by op bytes)))) (done_by op bytes)
 answer_done block size a op (Some e) bytes is nothing long =
     inl (ap (λ (n : ℕ). refusal_of n a.request) long ∙ is, ap (λ (x : Operation). done_by x bytes) nothing)
 answer_done block size a op None bytes is s long = (ap (λ (n : ℕ). refusal_of n a.request) long ∙ is, s.gives bytes, s.does bytes)
 
 -- it is refused, and was done in part
-answer_part : (block size : ℕ) (a : Asked) (op : Operation) (o : Option NbdError) (e : NbdError) (bytes later : List ℕ) → (e ≡ Io) ⊎ (e ≡ NoMemory) → refusal_of size a.request ≡ o → ServesIf o block size a op
+answer_part : (block size : ℕ) (a : WholeRequest) (op : Operation) (o : Option NbdError) (e : NbdError) (bytes later : List ℕ) → (e ≡ Io) ⊎ (e ≡ NoMemory) → refusal_of size a.request ≡ o → DoesIfAccepted o block size a op
     → length bytes ≡ size → IsPartOf op bytes later → IsAnswer bytes a.request a.payload (reply_if o (Refused e)) later
 answer_part block size a op (Some f) e bytes later why is nothing long part =
     inl (ap (λ (n : ℕ). refusal_of n a.request) long ∙ is, subst (λ (x : Operation). IsPartOf x bytes later) nothing part)
@@ -87,69 +87,69 @@ answer_part block size a op None e bytes later why is s long part =
     inr (ap (λ (n : ℕ). refusal_of n a.request) long ∙ is, why, s.in_part bytes later part)
 
 -- it is refused, and nothing of it was done
-answer_none : (size : ℕ) (a : Asked) (o : Option NbdError) (e : NbdError) (bytes : List ℕ) → (e ≡ Io) ⊎ (e ≡ NoMemory) → refusal_of size a.request ≡ o → length bytes ≡ size
+answer_none : (size : ℕ) (a : WholeRequest) (o : Option NbdError) (e : NbdError) (bytes : List ℕ) → (e ≡ Io) ⊎ (e ≡ NoMemory) → refusal_of size a.request ≡ o → length bytes ≡ size
     → IsAnswer bytes a.request a.payload (reply_if o (Refused e)) bytes
 answer_none size a (Some f) e bytes why is long = inl (ap (λ (n : ℕ). refusal_of n a.request) long ∙ is, refl)
 answer_none size a None e bytes why is long =
     inr (ap (λ (n : ℕ). refusal_of n a.request) long ∙ is, why, partly_none a.request.command bytes a.request.offset a.request.length a.payload)
 
-turn_by : (a : Asked) (reply : SimpleReply) (old new : List ℕ) → IsAsked a → IsAnswer old a.request a.payload reply new → IsTurn old (turn_for a reply) new
+turn_by : (a : WholeRequest) (reply : SimpleReply) (old new : List ℕ) → IsWholeRequest a → IsAnswer old a.request a.payload reply new → IsTurn old (turn_for a reply) new
 turn_by a reply old new is answer = record { request = is.request; payload = is.payload; answer = answer }
 
 -- ---- A batch whose operations were all done
 
-abbrev pub answered_turns : ℕ → ℕ → List Asked → List (List ℕ) → List Turn
+abbrev pub answered_turns : ℕ → ℕ → List WholeRequest → List (List ℕ) → List Turn
 answered_turns block size [] given = []
 answered_turns block size (a ∷ asked) [] = []
 answered_turns block size (a ∷ asked) (bytes ∷ given) = turn_for a (reply_of block size a.request bytes) ∷ answered_turns block size asked given
 
-pub answered_same : (block size : ℕ) (asked : List Asked) (given : List (List ℕ)) → length given ≡ length asked → map asked_in (answered_turns block size asked given) ≡ asked
+pub answered_same : (block size : ℕ) (asked : List WholeRequest) (given : List (List ℕ)) → length given ≡ length asked → map asked_in (answered_turns block size asked given) ≡ asked
 answered_same block size [] given many = refl
 answered_same block size (a ∷ asked) [] many = absurd (omega (arith, many))
-answered_same block size (a ∷ asked) (bytes ∷ given) many = ap (λ (l : List Asked). a ∷ l) (answered_same block size asked given (omega (arith, many)))
+answered_same block size (a ∷ asked) (bytes ∷ given) many = ap (λ (l : List WholeRequest). a ∷ l) (answered_same block size asked given (omega (arith, many)))
 
-pub answered_text : (block size : ℕ) (asked : List Asked) (given : List (List ℕ)) → replies_text (answered_turns block size asked given) ≡ answers_text block size (map (λ (a : Asked). a.request) asked) given
+pub answered_text : (block size : ℕ) (asked : List WholeRequest) (given : List (List ℕ)) → replies_text (answered_turns block size asked given) ≡ answers_text block size (map (λ (a : WholeRequest). a.request) asked) given
 answered_text block size [] given = refl
 answered_text block size (a ∷ asked) [] = refl
 answered_text block size (a ∷ asked) (bytes ∷ given) =
     ap (λ (l : List ℕ). reply_text a.request.cookie (reply_of block size a.request bytes) ++ l) (answered_text block size asked given)
 
-reply_done : (block size : ℕ) (a : Asked) (op : Operation) (o : Option NbdError) (bytes : List ℕ) → refusal_of size a.request ≡ o → ServesIf o block size a op → length bytes ≡ read_len op
+reply_done : (block size : ℕ) (a : WholeRequest) (op : Operation) (o : Option NbdError) (bytes : List ℕ) → refusal_of size a.request ≡ o → DoesIfAccepted o block size a op → length bytes ≡ read_len op
     → IsReply size a.request (reply_if o (Done (asked_part block a.request bytes)))
 reply_done block size a op (Some e) bytes is s long = inl is
 reply_done block size a op None bytes is s long = (is, s.long bytes long)
 
-pub answered_fit : (block size : ℕ) (asked : List Asked) (ops : List Operation) (given : List (List ℕ)) → All IsAsked asked → AreServedBy block size asked ops → map length given ≡ map read_len ops
+pub answered_fit : (block size : ℕ) (asked : List WholeRequest) (ops : List Operation) (given : List (List ℕ)) → All IsWholeRequest asked → AreServedBy block size asked ops → map length given ≡ map read_len ops
     → All (λ (t : Turn). IsReplied size t) (answered_turns block size asked given)
 answered_fit block size [] ops given are served lens = All-nil (λ (t : Turn). IsReplied size t)
 answered_fit block size (a ∷ asked) [] given are served lens = absurd served
 answered_fit block size (a ∷ asked) (op ∷ ops) [] are served lens = All-nil (λ (t : Turn). IsReplied size t)
 answered_fit block size (a ∷ asked) (op ∷ ops) (bytes ∷ given) are served lens =
-    let is = All-head IsAsked a asked are in
+    let is = All-head IsWholeRequest a asked are in
     let first : length bytes ≡ read_len op = cc in
     let rest : map length given ≡ map read_len ops = cc in
     All-cons (λ (t : Turn). IsReplied size t) (turn_for a (reply_of block size a.request bytes)) (answered_turns block size asked given)
     (record { request = is.request; payload = is.payload; reply = reply_done block size a op (refusal_of size a.request) bytes refl served.0 first })
-    (answered_fit block size asked ops given (All-tail IsAsked a asked are) served.1 rest)
+    (answered_fit block size asked ops given (All-tail IsWholeRequest a asked are) served.1 rest)
 
 -- no such reply says that the device has failed
 never_io : (size : ℕ) (r : Request) (o : Option NbdError) (bytes : List ℕ) → refusal_of size r ≡ o → reply_if o (Done bytes) ≡ Refused Io → ⊥
 never_io size r (Some e) bytes is says = refusal_is_other size r e is (let same : e ≡ Io = cc in same)
 never_io size r None bytes is says = cc
 
-pub answered_never_fail : (block size : ℕ) (asked : List Asked) (given : List (List ℕ)) → NeverFails (answered_turns block size asked given)
+pub answered_never_fail : (block size : ℕ) (asked : List WholeRequest) (given : List (List ℕ)) → NeverFails (answered_turns block size asked given)
 answered_never_fail block size [] given = tt
 answered_never_fail block size (a ∷ asked) [] = tt
 answered_never_fail block size (a ∷ asked) (bytes ∷ given) =
     (never_io size a.request (refusal_of size a.request) (asked_part block a.request bytes) refl, answered_never_fail block size asked given)
 
-pub answered_tell_none : (block size : ℕ) (asked : List Asked) (given : List (List ℕ)) → SaysFailed (answered_turns block size asked given) → ⊥
+pub answered_tell_none : (block size : ℕ) (asked : List WholeRequest) (given : List (List ℕ)) → SaysFailed (answered_turns block size asked given) → ⊥
 answered_tell_none block size [] given none = none
 answered_tell_none block size (a ∷ asked) [] none = none
 answered_tell_none block size (a ∷ asked) (bytes ∷ given) (inl says) = never_io size a.request (refusal_of size a.request) (asked_part block a.request bytes) refl says
 answered_tell_none block size (a ∷ asked) (bytes ∷ given) (inr rest) = answered_tell_none block size asked given rest
 
-pub answered_refuse : (block size : ℕ) (failed : Type 0) (asked : List Asked) (given : List (List ℕ)) → (failed → ⊥) → FailsForGood failed (answered_turns block size asked given)
+pub answered_refuse : (block size : ℕ) (failed : Type 0) (asked : List WholeRequest) (given : List (List ℕ)) → (failed → ⊥) → FailsForGood failed (answered_turns block size asked given)
 answered_refuse block size failed [] given alive = tt
 answered_refuse block size failed (a ∷ asked) [] alive = tt
 answered_refuse block size failed (a ∷ asked) (bytes ∷ given) alive = (
@@ -160,30 +160,39 @@ answered_refuse block size failed (a ∷ asked) (bytes ∷ given) alive = (
   ]),
 )
 
-pub answered_service : (block size : ℕ) (asked : List Asked) (ops : List Operation) (bytes : List ℕ) → All IsAsked asked → AreServedBy block size asked ops → length bytes ≡ size
+pub answered_service : (block size : ℕ) (asked : List WholeRequest) (ops : List Operation) (bytes : List ℕ) → All IsWholeRequest asked → AreServedBy block size asked ops → length bytes ≡ size
     → IsService bytes (answered_turns block size asked (all_given ops bytes)) (all_done ops bytes)
 answered_service block size [] [] bytes are served long = refl
 answered_service block size [] (op ∷ ops) bytes are served long = absurd served
 answered_service block size (a ∷ asked) [] bytes are served long = absurd served
 answered_service block size (a ∷ asked) (op ∷ ops) bytes are served long = (
   done_by op bytes,
-  turn_by a (reply_of block size a.request (given_by op bytes)) bytes (done_by op bytes) (All-head IsAsked a asked are)
+  turn_by a (reply_of block size a.request (given_by op bytes)) bytes (done_by op bytes) (All-head IsWholeRequest a asked are)
       (answer_done block size a op (refusal_of size a.request) bytes refl served.0 long),
-  answered_service block size asked ops (done_by op bytes) (All-tail IsAsked a asked are) served.1
+  answered_service block size asked ops (done_by op bytes) (All-tail IsWholeRequest a asked are) served.1
       (length_done size op bytes long (served_one block size (refusal_of size a.request) a op served.0).0),
 )
 
 -- ---- A batch that is refused: with this error, where its requests aren't refused already
 
-abbrev pub refused_turns : ℕ → List Asked → NbdError → List Turn
+abbrev pub refused_turns : ℕ → List WholeRequest → NbdError → List Turn
 refused_turns size [] e = []
 refused_turns size (a ∷ asked) e = turn_for a (reply_if (refusal_of size a.request) (Refused e)) ∷ refused_turns size asked e
 
-pub refused_same : (size : ℕ) (asked : List Asked) (e : NbdError) → map asked_in (refused_turns size asked e) ≡ asked
-refused_same size [] e = refl
-refused_same size (a ∷ asked) e = ap (λ (l : List Asked). a ∷ l) (refused_same size asked e)
+-- each of these replies refuses
+pub all_refusals : (size : ℕ) (asked : List WholeRequest) (e : NbdError) → All (λ (t : Turn). IsRefusal t.reply) (refused_turns size asked e)
+all_refusals size [] e = All-nil (λ (t : Turn). IsRefusal t.reply)
+all_refusals size (a ∷ asked) e = All-cons (λ (t : Turn). IsRefusal t.reply) (turn_for a (reply_if (refusal_of size a.request) (Refused e))) (refused_turns size asked e) (is_refusal (refusal_of size a.request)) (all_refusals size asked e)
+  where
+    is_refusal : (o : Option NbdError) → IsRefusal (reply_if o (Refused e))
+    is_refusal (Some why) = tt
+    is_refusal None = tt
 
-pub refused_text : (size : ℕ) (asked : List Asked) (e : NbdError) → replies_text (refused_turns size asked e) ≡ refusals_text size (map (λ (a : Asked). a.request) asked) e
+pub refused_same : (size : ℕ) (asked : List WholeRequest) (e : NbdError) → map asked_in (refused_turns size asked e) ≡ asked
+refused_same size [] e = refl
+refused_same size (a ∷ asked) e = ap (λ (l : List WholeRequest). a ∷ l) (refused_same size asked e)
+
+pub refused_text : (size : ℕ) (asked : List WholeRequest) (e : NbdError) → replies_text (refused_turns size asked e) ≡ refusals_text size (map (λ (a : WholeRequest). a.request) asked) e
 refused_text size [] e = refl
 refused_text size (a ∷ asked) e = ap (λ (l : List ℕ). reply_text a.request.cookie (reply_if (refusal_of size a.request) (Refused e)) ++ l) (refused_text size asked e)
 
@@ -191,19 +200,19 @@ reply_refused : (size : ℕ) (r : Request) (o : Option NbdError) (e : NbdError) 
 reply_refused size r (Some f) e why is = inl is
 reply_refused size r None e why is = inr (is, why)
 
-pub refused_fit : (size : ℕ) (asked : List Asked) (e : NbdError) → (e ≡ Io) ⊎ (e ≡ NoMemory) → All IsAsked asked → All (λ (t : Turn). IsReplied size t) (refused_turns size asked e)
+pub refused_fit : (size : ℕ) (asked : List WholeRequest) (e : NbdError) → (e ≡ Io) ⊎ (e ≡ NoMemory) → All IsWholeRequest asked → All (λ (t : Turn). IsReplied size t) (refused_turns size asked e)
 refused_fit size [] e why are = All-nil (λ (t : Turn). IsReplied size t)
 refused_fit size (a ∷ asked) e why are =
-    let is = All-head IsAsked a asked are in
+    let is = All-head IsWholeRequest a asked are in
     All-cons (λ (t : Turn). IsReplied size t) (turn_for a (reply_if (refusal_of size a.request) (Refused e))) (refused_turns size asked e)
     (record { request = is.request; payload = is.payload; reply = reply_refused size a.request (refusal_of size a.request) e why refl })
-    (refused_fit size asked e why (All-tail IsAsked a asked are))
+    (refused_fit size asked e why (All-tail IsWholeRequest a asked are))
 
 is_refused : (o : Option NbdError) (e : NbdError) → IsRefusal (reply_if o (Refused e))
 is_refused (Some f) e = tt
 is_refused None e = tt
 
-pub refused_refuse : (size : ℕ) (failed : Type 0) (asked : List Asked) (e : NbdError) → FailsForGood failed (refused_turns size asked e)
+pub refused_refuse : (size : ℕ) (failed : Type 0) (asked : List WholeRequest) (e : NbdError) → FailsForGood failed (refused_turns size asked e)
 refused_refuse size failed [] e = tt
 refused_refuse size failed (a ∷ asked) e =
     (λ f. is_refused (refusal_of size a.request) e, refused_refuse size (failed ⊎ (reply_if (refusal_of size a.request) (Refused e) ≡ Refused Io)) asked e)
@@ -212,60 +221,60 @@ io_by : (size : ℕ) (r : Request) (o : Option NbdError) (e : NbdError) → refu
 io_by size r (Some f) e is says = absurd (refusal_is_other size r f is (let same : f ≡ Io = cc in same))
 io_by size r None e is says = cc
 
-pub refused_tell : (size : ℕ) (asked : List Asked) (e : NbdError) → SaysFailed (refused_turns size asked e) → e ≡ Io
+pub refused_tell : (size : ℕ) (asked : List WholeRequest) (e : NbdError) → SaysFailed (refused_turns size asked e) → e ≡ Io
 refused_tell size [] e none = absurd none
 refused_tell size (a ∷ asked) e (inl says) = io_by size a.request (refusal_of size a.request) e refl says
 refused_tell size (a ∷ asked) e (inr rest) = refused_tell size asked e rest
 
-pub refused_never_fail : (size : ℕ) (asked : List Asked) (e : NbdError) → (e ≡ Io → ⊥) → NeverFails (refused_turns size asked e)
+pub refused_never_fail : (size : ℕ) (asked : List WholeRequest) (e : NbdError) → (e ≡ Io → ⊥) → NeverFails (refused_turns size asked e)
 refused_never_fail size [] e other = tt
 refused_never_fail size (a ∷ asked) e other = (λ says. other (io_by size a.request (refusal_of size a.request) e refl says), refused_never_fail size asked e other)
 
 -- nothing was done
-pub refused_idle : (size : ℕ) (asked : List Asked) (e : NbdError) (bytes : List ℕ) → (e ≡ Io) ⊎ (e ≡ NoMemory) → All IsAsked asked → length bytes ≡ size
+pub refused_idle : (size : ℕ) (asked : List WholeRequest) (e : NbdError) (bytes : List ℕ) → (e ≡ Io) ⊎ (e ≡ NoMemory) → All IsWholeRequest asked → length bytes ≡ size
     → IsService bytes (refused_turns size asked e) bytes
 refused_idle size [] e bytes why are long = refl
 refused_idle size (a ∷ asked) e bytes why are long = (
   bytes,
-  turn_by a (reply_if (refusal_of size a.request) (Refused e)) bytes bytes (All-head IsAsked a asked are) (answer_none size a (refusal_of size a.request) e bytes why refl long),
-  refused_idle size asked e bytes why (All-tail IsAsked a asked are) long,
+  turn_by a (reply_if (refusal_of size a.request) (Refused e)) bytes bytes (All-head IsWholeRequest a asked are) (answer_none size a (refusal_of size a.request) e bytes why refl long),
+  refused_idle size asked e bytes why (All-tail IsWholeRequest a asked are) long,
 )
 
 -- the operations were begun
-pub refused_service : (block size : ℕ) (asked : List Asked) (ops : List Operation) (e : NbdError) (bytes later : List ℕ) → (e ≡ Io) ⊎ (e ≡ NoMemory) → All IsAsked asked → AreServedBy block size asked ops
+pub refused_service : (block size : ℕ) (asked : List WholeRequest) (ops : List Operation) (e : NbdError) (bytes later : List ℕ) → (e ≡ Io) ⊎ (e ≡ NoMemory) → All IsWholeRequest asked → AreServedBy block size asked ops
     → length bytes ≡ size → AreBegun ops bytes later → IsService bytes (refused_turns size asked e) later
 refused_service block size [] [] e bytes later why are served long same = same
 refused_service block size [] (op ∷ ops) e bytes later why are served long begun = absurd served
 refused_service block size (a ∷ asked) [] e bytes later why are served long begun = absurd served
 refused_service block size (a ∷ asked) (op ∷ ops) e bytes later why are served long (inl part) =
-    let is = All-head IsAsked a asked are in
+    let is = All-head IsWholeRequest a asked are in
     let within = (served_one block size (refusal_of size a.request) a op served.0).0 in (
       later,
       turn_by a (reply_if (refusal_of size a.request) (Refused e)) bytes later is (answer_part block size a op (refusal_of size a.request) e bytes later why refl served.0 long part),
-      refused_idle size asked e later why (All-tail IsAsked a asked are) (length_part size op bytes later long within part),
+      refused_idle size asked e later why (All-tail IsWholeRequest a asked are) (length_part size op bytes later long within part),
     )
 refused_service block size (a ∷ asked) (op ∷ ops) e bytes later why are served long (inr rest) =
-    let is = All-head IsAsked a asked are in
+    let is = All-head IsWholeRequest a asked are in
     let within = (served_one block size (refusal_of size a.request) a op served.0).0 in (
       done_by op bytes,
       turn_by a (reply_if (refusal_of size a.request) (Refused e)) bytes (done_by op bytes) is
           (answer_part block size a op (refusal_of size a.request) e bytes (done_by op bytes) why refl served.0 long (part_whole op bytes)),
-      refused_service block size asked ops e (done_by op bytes) later why (All-tail IsAsked a asked are) served.1 (length_done size op bytes long within) rest,
+      refused_service block size asked ops e (done_by op bytes) later why (All-tail IsWholeRequest a asked are) served.1 (length_done size op bytes long within) rest,
     )
 
 -- ---- A batch at which the device stopped
 
-left_part : (block size : ℕ) (a : Asked) (op : Operation) (o : Option NbdError) (bytes later : List ℕ) → ServesIf o block size a op → IsPartOf op bytes later
+left_part : (block size : ℕ) (a : WholeRequest) (op : Operation) (o : Option NbdError) (bytes later : List ℕ) → DoesIfAccepted o block size a op → IsPartOf op bytes later
     → IsLeftIf o bytes (IsPartly a.request.command bytes a.request.offset a.request.length a.payload later) later
 left_part block size a op (Some e) bytes later nothing part = subst (λ (x : Operation). IsPartOf x bytes later) nothing part
 left_part block size a op None bytes later s part = s.in_part bytes later part
 
-left_done : (block size : ℕ) (a : Asked) (op : Operation) (o : Option NbdError) (bytes : List ℕ) → ServesIf o block size a op
+left_done : (block size : ℕ) (a : WholeRequest) (op : Operation) (o : Option NbdError) (bytes : List ℕ) → DoesIfAccepted o block size a op
     → done_by op bytes ≡ left_if o bytes (after a.request.command bytes a.request.offset a.request.length a.payload)
 left_done block size a op (Some e) bytes nothing = ap (λ (x : Operation). done_by x bytes) nothing
 left_done block size a op None bytes s = s.does bytes
 
-pub requests_begun : (block size : ℕ) (asked : List Asked) (ops : List Operation) (bytes later : List ℕ) → AreServedBy block size asked ops → length bytes ≡ size → AreBegun ops bytes later
+pub requests_begun : (block size : ℕ) (asked : List WholeRequest) (ops : List Operation) (bytes later : List ℕ) → AreServedBy block size asked ops → length bytes ≡ size → AreBegun ops bytes later
     → AreRequestsBegun asked bytes later
 requests_begun block size [] [] bytes later served long same = same
 requests_begun block size [] (op ∷ ops) bytes later served long begun = absurd served
@@ -275,50 +284,50 @@ requests_begun block size (a ∷ asked) (op ∷ ops) bytes later served long (in
     (left_part block size a op (refusal_of size a.request) bytes later served.0 part))
 requests_begun block size (a ∷ asked) (op ∷ ops) bytes later served long (inr rest) =
     let within = (served_one block size (refusal_of size a.request) a op served.0).0 in
-    let done : done_by op bytes ≡ left_by a bytes = left_done block size a op (refusal_of size a.request) bytes served.0
+    let done : done_by op bytes ≡ array_after_request a bytes = left_done block size a op (refusal_of size a.request) bytes served.0
     ∙ ap (λ (n : ℕ). left_if (refusal_of n a.request) bytes (after a.request.command bytes a.request.offset a.request.length a.payload)) (sym long) in
     inr (subst (λ (b : List ℕ). AreRequestsBegun asked b later) done
     (requests_begun block size asked ops (done_by op bytes) later served.1 (length_done size op bytes long within) rest))
 
 -- a request that isn't refused, among those that were asked
-pub accepted_in : (size : ℕ) (asked : List Asked) (before after : List Request) (r : Request) → map (λ (a : Asked). a.request) asked ≡ before ++ r ∷ after → refusal_of size r ≡ None
-    → (xs ys : List Asked) × (a : Asked) × (asked ≡ xs ++ a ∷ ys) × (refusal_of size a.request ≡ None)
+pub accepted_in : (size : ℕ) (asked : List WholeRequest) (before after : List Request) (r : Request) → map (λ (a : WholeRequest). a.request) asked ≡ before ++ r ∷ after → refusal_of size r ≡ None
+    → (xs ys : List WholeRequest) × (a : WholeRequest) × (asked ≡ xs ++ a ∷ ys) × (refusal_of size a.request ≡ None)
 accepted_in size [] [] after r is none = absurd cc
 accepted_in size [] (b ∷ before) after r is none = absurd cc
 accepted_in size (a ∷ asked) [] after r is none = let same : a.request ≡ r = cc in ([], asked, a, refl, ap (refusal_of size) same ∙ none)
 accepted_in size (a ∷ asked) (b ∷ before) after r is none =
-    let rest : map (λ (x : Asked). x.request) asked ≡ before ++ r ∷ after = cc in
+    let rest : map (λ (x : WholeRequest). x.request) asked ≡ before ++ r ∷ after = cc in
     let k = accepted_in size asked before after r rest none in
-    (a ∷ k.0, k.1, k.2, ap (λ (l : List Asked). a ∷ l) k.3, k.4)
+    (a ∷ k.0, k.1, k.2, ap (λ (l : List WholeRequest). a ∷ l) k.3, k.4)
 
 -- ---- Requests that are collected, one after the other
 
 pub record Collected (block size : ℕ) (requests : List Request) (operations : List Operation) (unread unread' : Option (List ℕ)) : Type 0 where
-  pub asked : List Asked
-  pub kept : AreKept block size asked requests operations
-  pub read : Consumes unread unread' (asked_text asked)
+  pub asked : List WholeRequest
+  pub collected : AreCollected block size asked requests operations
+  pub read : Consumes unread unread' (whole_requests_text asked)
 
 pub collected_none : (block size : ℕ) (requests : List Request) (operations : List Operation) (unread : Option (List ℕ)) → requests ≡ [] → operations ≡ [] → Collected block size requests operations unread unread
 collected_none block size requests operations unread no_requests no_operations = record {
   asked = [];
-  kept = record { all = All-nil IsAsked; same = sym no_requests; served = subst (AreServedBy block size []) (sym no_operations) tt };
+  collected = record { all = All-nil IsWholeRequest; same = sym no_requests; served = subst (AreServedBy block size []) (sym no_operations) tt };
   read = Consumes-nil unread;
 }
 
 module _ (block size : ℕ) (requests : List Request) (operations : List Operation) (unread mid : Option (List ℕ)) (so_far : Collected block size requests operations unread mid) where
-  pub collected_more : (requests' : List Request) (operations' : List Operation) (later : Option (List ℕ)) (a : Asked) (op : Operation) → IsAsked a → requests' ≡ requests ++ a.request ∷ [] → operations' ≡ operations ++ op ∷ []
-      → ServesIf (refusal_of size a.request) block size a op → Consumes mid later (request_text a.request ++ a.payload) → Collected block size requests' operations' unread later
+  pub collected_more : (requests' : List Request) (operations' : List Operation) (later : Option (List ℕ)) (a : WholeRequest) (op : Operation) → IsWholeRequest a → requests' ≡ requests ++ a.request ∷ [] → operations' ≡ operations ++ op ∷ []
+      → DoesIfAccepted (refusal_of size a.request) block size a op → Consumes mid later (request_text a.request ++ a.payload) → Collected block size requests' operations' unread later
   collected_more requests' operations' later a op is more more' serves came = record {
     asked = so_far.asked ++ a ∷ [];
-    kept = record {
-      all = All-append IsAsked so_far.asked (a ∷ []) so_far.kept.all (All-cons IsAsked a [] is (All-nil IsAsked));
-      same = map-append (λ (x : Asked). x.request) so_far.asked (a ∷ []) ∙ ap (λ (l : List Request). l ++ a.request ∷ []) so_far.kept.same ∙ sym more;
-      served = subst (AreServedBy block size (so_far.asked ++ a ∷ [])) (sym more') (served_by_more block size so_far.asked operations a op so_far.kept.served serves);
+    collected = record {
+      all = All-append IsWholeRequest so_far.asked (a ∷ []) so_far.collected.all (All-cons IsWholeRequest a [] is (All-nil IsWholeRequest));
+      same = map-append (λ (x : WholeRequest). x.request) so_far.asked (a ∷ []) ∙ ap (λ (l : List Request). l ++ a.request ∷ []) so_far.collected.same ∙ sym more;
+      served = subst (AreServedBy block size (so_far.asked ++ a ∷ [])) (sym more') (served_by_more block size so_far.asked operations a op so_far.collected.served serves);
     };
     read = subst (Consumes unread later)
-        (ap (λ (l : List ℕ). asked_text so_far.asked ++ l) (sym (append-nil (request_text a.request ++ a.payload)))
-        ∙ sym (flat_map-append (λ (x : Asked). request_text x.request ++ x.payload) so_far.asked (a ∷ [])))
-        (Consumes-trans unread mid later (asked_text so_far.asked) (request_text a.request ++ a.payload) so_far.read came);
+        (ap (λ (l : List ℕ). whole_requests_text so_far.asked ++ l) (sym (append-nil (request_text a.request ++ a.payload)))
+        ∙ sym (flat_map-append (λ (x : WholeRequest). request_text x.request ++ x.payload) so_far.asked (a ∷ [])))
+        (Consumes-trans unread mid later (whole_requests_text so_far.asked) (request_text a.request ++ a.payload) so_far.read came);
   }
 
   pub gathered_then : (requests' : List Request) (operations' : List Operation) (later : Option (List ℕ)) (close : Close) (part : List ℕ) → requests' ≡ requests → operations' ≡ operations → Consumes mid later part
@@ -326,8 +335,8 @@ module _ (block size : ℕ) (requests : List Request) (operations : List Operati
   gathered_then requests' operations' later close part same same' came ends = record {
     asked = so_far.asked;
     part = part;
-    kept = record { all = so_far.kept.all; same = so_far.kept.same ∙ sym same; served = subst (AreServedBy block size so_far.asked) (sym same') so_far.kept.served };
-    read = Consumes-trans unread mid later (asked_text so_far.asked) part so_far.read came;
+    collected = record { all = so_far.collected.all; same = so_far.collected.same ∙ sym same; served = subst (AreServedBy block size so_far.asked) (sym same') so_far.collected.served };
+    read = Consumes-trans unread mid later (whole_requests_text so_far.asked) part so_far.read came;
     ends = ends;
   }
 
@@ -337,23 +346,23 @@ module _ (block size : ℕ) (requests : List Request) (operations : List Operati
 
 -- ---- What the turns of a batch come to
 
-module _ {D W E : Type 0} {had : D → List E → D → Type 0} {hears : Bool → W → E → W → Type 0} {holds : Bool → D → W → List ℕ → Type 0} (failed : D → Type 0) (block size : ℕ) (old new : D) (asked : List Asked)
+module _ {D W E : Type 0} {had : D → List E → D → Type 0} {hears : Bool → W → E → W → Type 0} {holds : Bool → D → W → List ℕ → Type 0} (failed : D → Type 0) (block size : ℕ) (old new : D) (asked : List WholeRequest)
     (sized : (may_lie : Bool) (world : W) (bytes : List ℕ) → holds may_lie old world bytes → length bytes ≡ size) where
   -- all operations were done
-  pub all_answered : (requests : List Request) (ops : List Operation) (given : List (List ℕ)) → AreKept block size asked requests ops → map length given ≡ map read_len ops → (failed old → ⊥)
+  pub all_answered : (requests : List Request) (ops : List Operation) (given : List (List ℕ)) → AreCollected block size asked requests ops → map length given ≡ map read_len ops → (failed old → ⊥)
       → GoesOn had hears holds old (λ may_lie bytes later. ((given ≡ all_given ops bytes) × (later ≡ all_done ops bytes))) new
-      → HasAnswered had hears holds (failed old) (failed new) size old new asked (answered_turns block size asked given)
-  all_answered requests ops given kept lens alive goes =
-      let many : length given ≡ length asked = sym (length-map given length) ∙ ap length lens ∙ length-map ops read_len ∙ as_many block size asked ops kept.served in
+      → HasRepliedToAll had hears holds (failed old) (failed new) size old new asked (answered_turns block size asked given)
+  all_answered requests ops given collected lens alive goes =
+      let many : length given ≡ length asked = sym (length-map given length) ∙ ap length lens ∙ length-map ops read_len ∙ as_many block size asked ops collected.served in
       record {
         same = answered_same block size asked given many;
         served = record {
-          fits = answered_fit block size asked ops given kept.all kept.served lens;
+          fits = answered_fit block size asked ops given collected.all collected.served lens;
           refused = answered_refuse block size (failed old) asked given alive;
           service = weaker goes (λ may_lie world bytes later h step. (
             subst (λ (l : List ℕ). IsService bytes (answered_turns block size asked given) l) (sym step.1)
                 (subst (λ (gs : List (List ℕ)). IsService bytes (answered_turns block size asked gs) (all_done ops bytes)) (sym step.0)
-                (answered_service block size asked ops bytes kept.all kept.served (sized may_lie world bytes h))),
+                (answered_service block size asked ops bytes collected.all collected.served (sized may_lie world bytes h))),
             λ honest. answered_never_fail block size asked given,
           ));
         };
@@ -361,16 +370,16 @@ module _ {D W E : Type 0} {had : D → List E → D → Type 0} {hears : Bool �
       }
 
   -- the operations were begun, and all requests are refused
-  pub all_refused : (requests : List Request) (ops : List Operation) (e : NbdError) → AreKept block size asked requests ops → (e ≡ Io) ⊎ (e ≡ NoMemory) → (e ≡ Io → failed new)
+  pub all_refused : (requests : List Request) (ops : List Operation) (e : NbdError) → AreCollected block size asked requests ops → (e ≡ Io) ⊎ (e ≡ NoMemory) → (e ≡ Io → failed new)
       → GoesOn had hears holds old (λ may_lie bytes later. AreBegun ops bytes later × (e ≡ Io → may_lie ≡ true)) new
-      → HasAnswered had hears holds (failed old) (failed new) size old new asked (refused_turns size asked e)
-  all_refused requests ops e kept why fails goes = record {
+      → HasRepliedToAll had hears holds (failed old) (failed new) size old new asked (refused_turns size asked e)
+  all_refused requests ops e collected why fails goes = record {
     same = refused_same size asked e;
     served = record {
-      fits = refused_fit size asked e why kept.all;
+      fits = refused_fit size asked e why collected.all;
       refused = refused_refuse size (failed old) asked e;
       service = weaker goes (λ may_lie world bytes later h step. (
-        refused_service block size asked ops e bytes later why kept.all kept.served (sized may_lie world bytes h) step.0,
+        refused_service block size asked ops e bytes later why collected.all collected.served (sized may_lie world bytes h) step.0,
         λ honest. refused_never_fail size asked e (λ io. let lies : may_lie ≡ true = step.1 io in cc),
       ));
     };
@@ -378,17 +387,17 @@ module _ {D W E : Type 0} {had : D → List E → D → Type 0} {hears : Bool �
   }
 
   -- the device stopped
-  pub all_begun : (requests : List Request) (ops : List Operation) → AreKept block size asked requests ops → (before after : List Request) (r : Request) → requests ≡ before ++ r ∷ after → refusal_of size r ≡ None
+  pub all_begun : (requests : List Request) (ops : List Operation) → AreCollected block size asked requests ops → (before after : List Request) (r : Request) → requests ≡ before ++ r ∷ after → refusal_of size r ≡ None
       → GoesOn had hears holds old (λ may_lie bytes later. AreBegun ops bytes later) new → HasBegun had hears holds (failed old) (failed new) size old new asked
-  all_begun requests ops kept before after r split none goes = record {
-    accepted = accepted_in size asked before after r (kept.same ∙ split) none;
-    begun = weaker goes (λ may_lie world bytes later h step. requests_begun block size asked ops bytes later kept.served (sized may_lie world bytes h) step);
+  all_begun requests ops collected before after r split none goes = record {
+    accepted = accepted_in size asked before after r (collected.same ∙ split) none;
+    begun = weaker goes (λ may_lie world bytes later h step. requests_begun block size asked ops bytes later collected.served (sized may_lie world bytes h) step);
   }
 
 -- a device that isn't called, where all requests are refused for want of memory
-pub refused_at_rest : {D W E : Type 0} {had : D → List E → D → Type 0} {hears : Bool → W → E → W → Type 0} {holds : Bool → D → W → List ℕ → Type 0} (failed : D → Type 0) (size : ℕ) (d : D) (asked : List Asked)
-    → ((may_lie : Bool) (world : W) (bytes : List ℕ) → holds may_lie d world bytes → length bytes ≡ size) → All IsAsked asked
-    → HasAnswered had hears holds (failed d) (failed d) size d d asked (refused_turns size asked NoMemory)
+pub refused_at_rest : {D W E : Type 0} {had : D → List E → D → Type 0} {hears : Bool → W → E → W → Type 0} {holds : Bool → D → W → List ℕ → Type 0} (failed : D → Type 0) (size : ℕ) (d : D) (asked : List WholeRequest)
+    → ((may_lie : Bool) (world : W) (bytes : List ℕ) → holds may_lie d world bytes → length bytes ≡ size) → All IsWholeRequest asked
+    → HasRepliedToAll had hears holds (failed d) (failed d) size d d asked (refused_turns size asked NoMemory)
 refused_at_rest failed size d asked sized are = record {
   same = refused_same size asked NoMemory;
   served = record {
@@ -400,7 +409,7 @@ refused_at_rest failed size d asked sized are = record {
 }
 
 -- how many turns these are
-pub length_same : (asked : List Asked) (turns : List Turn) → map asked_in turns ≡ asked → length turns ≡ length asked
+pub length_same : (asked : List WholeRequest) (turns : List Turn) → map asked_in turns ≡ asked → length turns ≡ length asked
 length_same asked turns same = sym (length-map turns asked_in) ∙ ap length same
 
 pub behind_cut : (f : NbdFault) (part : List ℕ) (new : Option (List ℕ)) → IsCutOff f part new → IsBehind part
@@ -420,7 +429,7 @@ behind_ends Waits part new none = inl none
 behind_ends (NoRoom r) part new h = inr (inl (h.0, h.1, h.3))
 behind_ends Leaves part new (inl h) = inl h.0
 behind_ends Leaves part new (inr h) =
-    let a : Asked = record { request = h.0; payload = [] } in
+    let a : WholeRequest = record { request = h.0; payload = [] } in
     inr (inl (a, record { request = h.1; payload = sym (ap (λ (c : Command). payload_len c h.0.length) h.2) }, h.3 ∙ sym (append-nil (request_text h.0))))
 behind_ends (Breaks f) part new h = behind_cut f part new h
 
@@ -496,8 +505,8 @@ pub refusals_end : (size : ℕ) (requests : List Request) (e : NbdError) (i : �
 refusals_end size requests e i end = ap (λ (l : List Request). refusals_text size l e) (drop_all i requests end)
 
 -- the operation of a read
-pub serves_read : (block size : ℕ) (a : Asked) (first count : ℕ) → a.request.command ≡ command.Read → block * first + a.request.offset % block ≡ a.request.offset → a.request.offset % block + a.request.length ≤ block * count
-    → block * first + block * count ≤ size → Serves block size a (Read (block * first) (block * count))
+pub serves_read : (block size : ℕ) (a : WholeRequest) (first count : ℕ) → a.request.command ≡ command.Read → block * first + a.request.offset % block ≡ a.request.offset → a.request.offset % block + a.request.length ≤ block * count
+    → block * first + block * count ≤ size → DoesRequest block size a (Read (block * first) (block * count))
 serves_read block size a first count is place covers within =
     let o = a.request.offset in
     let n = a.request.length in
@@ -533,14 +542,14 @@ split_there xs i x more is =
     sym (take-append-drop i xs) ∙ ap (λ l. take i xs ++ l) (drop-cons xs i x more ∙ ap (λ y. y ∷ drop (suc i) xs) (sym is))
 
 -- the request for which there was no memory
-pub unkept_one : (close : Close) (r : Request) (part : List ℕ) (unread : Option (List ℕ)) → close ≡ NoRoom r → EndsBy close part unread
-    → (a : Asked) × IsUnkept close part unread (a ∷ []) [] × (a.request ≡ r)
-unkept_one close r part unread is ends =
+pub without_memory_one : (close : Close) (r : Request) (part : List ℕ) (unread : Option (List ℕ)) → close ≡ NoRoom r → EndsBy close part unread
+    → (a : WholeRequest) × IsWithoutMemory close part unread (a ∷ []) [] × (a.request ≡ r)
+without_memory_one close r part unread is ends =
     let h = subst (λ (k : Close). EndsBy k part unread) is ends in
     let a = h.0 in (
       a,
       record {
-        all = All-cons IsAsked a [] h.1 (All-nil IsAsked);
+        all = All-cons IsWholeRequest a [] h.1 (All-nil IsWholeRequest);
         split = h.3 ∙ sym (append-nil (request_text a.request ++ a.payload)) ∙ sym (append-nil ((request_text a.request ++ a.payload) ++ []));
         left = subst (λ (k : Close). LeftBy k [] unread) (sym is) refl;
       },
@@ -549,19 +558,19 @@ unkept_one close r part unread is ends =
 
 -- ---- The texts of the replies to a batch, and what was asked
 
-pub text_refused : (size : ℕ) (asked : List Asked) (e : NbdError) (requests shown : List Request) → map (λ (a : Asked). a.request) asked ≡ requests → shown ≡ requests
+pub text_refused : (size : ℕ) (asked : List WholeRequest) (e : NbdError) (requests shown : List Request) → map (λ (a : WholeRequest). a.request) asked ≡ requests → shown ≡ requests
     → refusals_text size shown e ≡ replies_text (refused_turns size asked e)
 text_refused size asked e requests shown are same = ap (λ (l : List Request). refusals_text size l e) (same ∙ sym are) ∙ sym (refused_text size asked e)
 
-pub text_answered : (block size : ℕ) (asked : List Asked) (requests shown : List Request) (given shown' : List (List ℕ)) → map (λ (a : Asked). a.request) asked ≡ requests → shown ≡ requests → shown' ≡ given
+pub text_answered : (block size : ℕ) (asked : List WholeRequest) (requests shown : List Request) (given shown' : List (List ℕ)) → map (λ (a : WholeRequest). a.request) asked ≡ requests → shown ≡ requests → shown' ≡ given
     → answers_text block size shown shown' ≡ replies_text (answered_turns block size asked given)
 text_answered block size asked requests shown given shown' are same same' =
-    ap (λ (l : List Request). answers_text block size l shown') (same ∙ sym are) ∙ ap (answers_text block size (map (λ (a : Asked). a.request) asked)) same' ∙ sym (answered_text block size asked given)
+    ap (λ (l : List Request). answers_text block size l shown') (same ∙ sym are) ∙ ap (answers_text block size (map (λ (a : WholeRequest). a.request) asked)) same' ∙ sym (answered_text block size asked given)
 
-pub kept_as : (block size : ℕ) (asked : List Asked) (requests : List Request) (operations shown : List Operation) → shown ≡ operations → AreKept block size asked requests operations → AreKept block size asked requests shown
-kept_as block size asked requests operations shown same kept = subst (λ (ops : List Operation). AreKept block size asked requests ops) (sym same) kept
+pub collected_as : (block size : ℕ) (asked : List WholeRequest) (requests : List Request) (operations shown : List Operation) → shown ≡ operations → AreCollected block size asked requests operations → AreCollected block size asked requests shown
+collected_as block size asked requests operations shown same collected = subst (λ (ops : List Operation). AreCollected block size asked requests ops) (sym same) collected
 
 -- as many bytes were given as there are requests
-pub many_given : (block size : ℕ) (asked : List Asked) (requests : List Request) (ops : List Operation) (given : List (List ℕ)) → AreKept block size asked requests ops → map length given ≡ map read_len ops → length given ≡ length requests
-many_given block size asked requests ops given kept lens =
-    sym (length-map given length) ∙ ap length lens ∙ length-map ops read_len ∙ as_many block size asked ops kept.served ∙ sym (length-map asked (λ (a : Asked). a.request)) ∙ ap length kept.same
+pub many_given : (block size : ℕ) (asked : List WholeRequest) (requests : List Request) (ops : List Operation) (given : List (List ℕ)) → AreCollected block size asked requests ops → map length given ≡ map read_len ops → length given ≡ length requests
+many_given block size asked requests ops given collected lens =
+    sym (length-map given length) ∙ ap length lens ∙ length-map ops read_len ∙ as_many block size asked ops collected.served ∙ sym (length-map asked (λ (a : WholeRequest). a.request)) ∙ ap length collected.same

@@ -5,13 +5,13 @@ use Rattle.oram_nbd.specs.Batches.{refusals_text}
 use Rattle.oram_nbd.specs.Streams.{IsBegunText}
 use Rattle.oram_nbd.specs.declared.faults.NbdError.TheVariants.{NoMemory}
 use Rattle.oram_nbd.specs.declared.requests.Request.{Request}
-use Rattle.oram_nbd.proofs.Batching.{unkept_one}
+use Rattle.oram_nbd.proofs.Gathered.{without_memory_one}
 use Rattle.oram_nbd.proofs.Pieces.{if_err}
-use Rattle.oram_nbd.proofs.transmission.refuse_unkept.Goals as goal
+use Rattle.oram_nbd.proofs.transmission.refuse_without_memory.Goals as goal
 
 pub returns-in_ok-put_refusals-in-NoRoom-clause-ok : goal.returns-in_ok-put_refusals-in-NoRoom-clause-ok
 returns-in_ok-put_refusals-in-NoRoom-clause-ok g c = λ part unread ends.
-    let k = unkept_one c.args.close c.in-NoRoom.request part unread c.in-NoRoom.is ends in (
+    let k = without_memory_one c.args.close c.in-NoRoom.request part unread c.in-NoRoom.is ends in (
       k.0 ∷ [],
       [],
       k.1,
@@ -26,7 +26,7 @@ returns-in_err-put_refusals-in-NoRoom-clause-err g c =
     if_err _ _ _ _ p.1 (p.2 ∙ c.in_err-put_refusals-in-NoRoom.ensures.err.0) (
       refl,
       λ part unread ends.
-          let k = unkept_one c.args.close c.in-NoRoom.request part unread c.in-NoRoom.is ends in (
+          let k = without_memory_one c.args.close c.in-NoRoom.request part unread c.in-NoRoom.is ends in (
             k.0 ∷ [],
             [],
             k.1,

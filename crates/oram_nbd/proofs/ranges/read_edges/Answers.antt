@@ -1,0 +1,77 @@
+use Rattle.std.proofs.Common.{◌≡◌, ◌⊎◌, ◌+◌, ◌-◌, ◌*◌, ◌≤◌, ◌∷◌, ℕ, List, [], length, take, drop, refl, sym, ap, ◌∙◌, subst, arith, rules}
+use Rattle.oram_nbd.specs.Bytes.{bytes_at}
+use Rattle.oram_nbd.specs.declared.operations.Operation.TheVariants.{Read}
+use Rattle.oram_nbd.proofs.Beside.{weaker, at_rest as calls_none}
+use Rattle.oram_nbd.proofs.Edges.{after_at, after_none, back_whole, before_at, block_least, edge_either, front_whole, rest_of}
+use Rattle.oram_nbd.proofs.ranges.read_edges.Goals as goal
+
+pub returns-then-ahead-behind-eq0-clause-goes : goal.returns-then-ahead-behind-eq0-clause-goes
+returns-then-ahead-behind-eq0-clause-goes g c =
+    let b = g.D.BlockDevice.block_len c.args.disk.now in
+    let same : c.from-block.result ≡ b = c.from-block.ensures ∙ c.block_bytes.ensures.value in
+    let none : c.from_vec.result ≡ [] = c.from_vec.ensures ∙ c.new.ensures.items in
+    let none' : c.from_vec-then-ahead-behind-eq0.result ≡ [] = c.from_vec-then-ahead-behind-eq0.ensures ∙ c.new-then-ahead-behind-eq0.ensures.items in
+    let start : c.args.cover.start ≡ 0 = omega (arith, c.if-ahead-behind-eq0.true, c.edge_len-ahead.ensures.least) in
+    let whole : c.from-block.result * c.args.cover.count ≡ c.args.cover.start + c.args.len =
+    omega (arith, c.if-ahead-behind-eq0.true, c.edge_len-behind.ensures.least, subst (λ (n : ℕ). c.args.cover.start + c.args.len ≤ n * c.args.cover.count) (sym same) c.requires.covers) in
+    let long : b * c.args.cover.count ≡ c.args.cover.start + c.args.len = ap (λ (n : ℕ). n * c.args.cover.count) (sym same) ∙ whole in
+    calls_none (λ may_lie world bytes h. (
+      refl,
+      (
+        none ∙ sym (ap (λ (n : ℕ). take n (bytes_at bytes (b * c.args.cover.first) (b * c.args.cover.count))) start),
+        none' ∙ after_none bytes (b * c.args.cover.first) (c.args.cover.start + c.args.len) (b * c.args.cover.count) long,
+      ),
+      λ e. cc,
+    ))
+
+pub read_two-requires-clause-whole : goal.read_two-requires-clause-whole
+read_two-requires-clause-whole g c =
+    let b = g.D.BlockDevice.block_len c.args.disk.now in
+    let same : c.from-block.result ≡ b = c.from-block.ensures ∙ c.block_bytes.ensures.value in
+    front_whole b c.args.cover.first c.args.cover.count (Read (c.from-block.result * c.args.cover.first) c.edge_len-ahead.result) c.edge_len-ahead.result (ap (λ (n : ℕ). n * c.args.cover.first) same) refl
+    (edge_either b c.args.cover.start c.edge_len-ahead.result c.edge_len-ahead.ensures.none (λ some. c.edge_len-ahead.ensures.one some ∙ same))
+
+pub read_two-requires-clause-whole_last : goal.read_two-requires-clause-whole_last
+read_two-requires-clause-whole_last g c =
+    let b = g.D.BlockDevice.block_len c.args.disk.now in
+    let same : c.from-block.result ≡ b = c.from-block.ensures ∙ c.block_bytes.ensures.value in
+    back_whole b c.args.cover.first c.args.cover.count _ c.edge_len-behind.result c.requires.some
+    (ap (λ (n : ℕ). (n * c.args.cover.first + n * c.args.cover.count) - c.edge_len-behind.result) same) refl
+    (edge_either b _ c.edge_len-behind.result c.edge_len-behind.ensures.none (λ some. c.edge_len-behind.ensures.one some ∙ same))
+
+pub returns-clause-goes : goal.returns-clause-goes
+returns-clause-goes g c =
+    let b = g.D.BlockDevice.block_len c.args.disk.now in
+    let k : ℕ = c.from-block.result in
+    let first : ℕ = c.args.cover.first in
+    let count : ℕ = c.args.cover.count in
+    let e : ℕ = c.args.cover.start + c.args.len in
+    let same : c.from-block.result ≡ b = c.from-block.ensures ∙ c.block_bytes.ensures.value in
+    let covers : e ≤ k * count = subst (λ (n : ℕ). e ≤ n * count) (sym same) c.requires.covers in
+    let least : b ≤ b * count = block_least b count c.requires.some in
+    let short : c.edge_len-behind.result ≤ k * count =
+    subst (λ (n : ℕ). c.edge_len-behind.result ≤ n * count) (sym same) (let few : c.edge_len-behind.result ≤ b * count = omega (arith, least, c.edge_len-behind.ensures.most, same) in few) in
+    let rest : ℕ = k * count - e in
+    let in_all : (k * first + k * count) - k * first - e ≡ rest = omega arith in
+    let enough : rest ≤ c.edge_len-behind.result = subst (λ (n : ℕ). n ≤ c.edge_len-behind.result) in_all c.edge_len-behind.ensures.least in
+    let whole : e + rest ≡ k * count = omega (arith, covers) in
+    let ends : ((k * first + k * count) - c.edge_len-behind.result) + c.edge_len-behind.result ≡ k * first + (e + rest) = omega (arith, short, whole) in
+    weaker c.in_ok-given.ensures.goes (λ may_lie world bytes later h step.
+    let front : c.as_slice.result.now ≡ bytes_at bytes (k * first) c.edge_len-ahead.result = search rules in
+    let back : c.as_slice-back.result.now ≡ bytes_at bytes ((k * first + k * count) - c.edge_len-behind.result) c.edge_len-behind.result = search rules in
+    let cut : c.in_ok-before.before ≡ take c.args.cover.start c.as_slice.result.now = search rules in
+    let cut' : c.in_ok-after.after ≡ drop (c.edge_len-behind.result - ((k * first + k * count) - k * first - e)) c.as_slice-back.result.now = c.in_ok-after.ensures ∙ rest_of _ c.as_slice-back.result.now in
+    let before : c.in_ok-before.before ≡ take c.args.cover.start (bytes_at bytes (k * first) (k * count)) =
+    cut ∙ ap (take c.args.cover.start) front
+    ∙ before_at bytes (k * first) c.args.cover.start c.edge_len-ahead.result (k * count) c.edge_len-ahead.ensures.least (let less : c.args.cover.start ≤ k * count = omega (arith, covers) in less) in
+    let after : c.in_ok-after.after ≡ drop e (bytes_at bytes (k * first) (k * count)) =
+    cut' ∙ ap (λ (n : ℕ). drop (c.edge_len-behind.result - n) c.as_slice-back.result.now) in_all ∙ ap (drop (c.edge_len-behind.result - rest)) back
+    ∙ after_at bytes (k * first) ((k * first + k * count) - c.edge_len-behind.result) e rest c.edge_len-behind.result enough ends
+    ∙ ap (λ (n : ℕ). drop e (bytes_at bytes (k * first) n)) whole in (
+      step.0,
+      (
+        subst (λ (n : ℕ). c.in_ok-before.before ≡ take c.args.cover.start (bytes_at bytes (n * first) (n * count))) same before,
+        subst (λ (n : ℕ). c.in_ok-after.after ≡ drop e (bytes_at bytes (n * first) (n * count))) same after,
+      ),
+      λ e. cc,
+    ))
