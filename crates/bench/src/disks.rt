@@ -13,12 +13,13 @@ use oram_client::{DiskKey, FileKeeper, FilePlace, Head, Salt, SealerKind};
 use oram_core::{Command, Core, Note};
 use oram_geometry::Device;
 use oram_host::Server;
-use oram_nbd::transmit;
+use oram_nbd::{Arrived, transmit};
 use oram_rounds::{KeepError, Keeper, OneByOne, RoundLink, perform, record_len};
 use oram_session::{ChaChaTape, Direct, is_settled, submit};
 use oram_volume::Volume;
 use requests::{Access, BLOCK_BYTES, BLOCKS, REQUESTS, said, some_accesses};
 use std::alloc::Global;
+use std::io::Read;
 use std::rt::{Clock, Files};
 use std::time::{Duration, Instant};
 use std::{fs, io};
@@ -53,6 +54,24 @@ impl Keeper for MemoryKeeper {
             }
             Err(_) => Err(KeepError),
         }
+    }
+}
+
+/// Requests that arrive one at a time, so that each of them is carried out by itself.
+#[derive(Drop)]
+struct OneAtATime<'a> {
+    unread: &'a [u8],
+}
+
+impl Read for OneAtATime<'_> {
+    fn read(&mut self, buf: &mut [u8]) -> io::Result<usize> {
+        self.unread.read(buf)
+    }
+}
+
+impl Arrived for OneAtATime<'_> {
+    fn arrived(&self) -> &[u8] {
+        &[]
     }
 }
 
@@ -138,7 +157,7 @@ fn by_requests<K: Keeper + Drop>(
 ) -> io::Result<Duration> {
     let alloc = rt.alloc();
     let mut disk = formatted(alloc, keeper)?;
-    let mut reader = said;
+    let mut reader = OneAtATime { unread: said };
     let mut told = Vec::new(alloc);
     let start = Instant::now(rt)?;
     let served = transmit(alloc, &mut reader, &mut told, &mut disk);

@@ -40,6 +40,7 @@ abbrev pub reason_of : ErrorKind → FileReason
 reason_of error.NotFound = reason.Missing
 reason_of error.PermissionDenied = reason.NotPermitted
 reason_of error.StorageFull = reason.DiskFull
+reason_of error.IsADirectory = reason.Folder
 reason_of any_other = reason.Other
 
 -- the fault of the program for such an error of a call on the file or folder `name`

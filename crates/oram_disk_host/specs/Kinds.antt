@@ -5,7 +5,7 @@ use Rattle.oram_settings.specs.declared.differences.FixedKey.{FixedKey}
 use Rattle.oram_settings.specs.declared.differences.FixedKey.TheVariants as fixed
 use Rattle.oram_disk_host.specs.declared.kinds.FileReason.TheVariants as reason
 use Rattle.oram_disk_host.specs.declared.kinds.FaultKind.{FaultKind}
-use Rattle.oram_disk_host.specs.declared.kinds.FaultKind.TheVariants.{CommandLine, Settings, Device, File, Unformatted, Address, NotABucketFile, OlderFile, NewerFile, WithoutLog, LogOfAnotherFile, LogWithoutFile, Damaged, Busy, NoFile, FileExists, Exists, Formatted, NotADisk, OlderState, WrongKey, Changed, Host, StateNotKept, UsedUp, InUse, Failed, NotFailed}
+use Rattle.oram_disk_host.specs.declared.kinds.FaultKind.TheVariants.{CommandLine, Settings, File, Unformatted, Address, NotABucketFile, OlderFile, NewerFile, WithoutLog, LogOfAnotherFile, LogWithoutFile, Damaged, Busy, NoFile, FileExists, Exists, Formatted, NotADisk, OlderState, WrongKey, Changed, Host, StateNotKept, UsedUp, InUse, Failed, NotFailed}
 
 -- the text before the name of the settings with a changed value
 abbrev pub changed : FixedKey → List ℕ
@@ -17,7 +17,6 @@ changed fixed.Sealer = codes "oramdisk: sealer in "
 
 -- the text before the name
 abbrev pub front : FaultKind → List ℕ
-front Device = codes "oramdisk: bad numbers in "
 front Unformatted = codes "oramdisk: the disk isn't formatted yet: start its host, and then say oramdisk format "
 front (File reason.Other) = codes "oramdisk: can't open, read or write "
 front Address = codes "oramdisk: can't listen at "
@@ -45,10 +44,10 @@ abbrev pub rest : FaultKind → List ℕ
 rest CommandLine = codes "\n"
 rest Settings = codes "\n"
 rest Unformatted = codes "\n"
-rest Device = codes ": size has to be from 1 to 16777216 blocks, block from 16 to 4096 and a multiple of 4, slots from 1 to 8, and table from 1 to 16777216\n"
 rest (File reason.Missing) = codes ": no such file or folder: see that its name is right\n"
 rest (File reason.NotPermitted) = codes ": permission denied: see that you may read and write it\n"
 rest (File reason.DiskFull) = codes ": the disk is full: make room on it\n"
+rest (File reason.Folder) = codes " is a folder: name a file in it\n"
 rest (File reason.Other) = codes ": see that it is there and may be written, and that its disk has room\n"
 rest Address = codes ": end the program that listens there, or name another place\n"
 rest NotABucketFile = codes " isn't a file of buckets, and is left as it is: name another file\n"
@@ -88,7 +87,6 @@ rest NotFailed = codes " has not failed, and is left as it is\n"
 abbrev pub status : FaultKind → ℕ
 status CommandLine = 2
 status Settings = 2
-status Device = 2
 status (File why) = 4
 status Unformatted = 4
 status Address = 5

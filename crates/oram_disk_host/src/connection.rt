@@ -63,19 +63,20 @@ fn failing(failure: Option<StoreFault>) -> &'static str
     }
 }
 
-/// Returns the line of a connection.
-pub fn line(alloc: Global, visit: &ConnectionReport) -> Result<String, AllocError>
-    ensures { IfOk result (λ text. string_bytes text ≡ spec.line_of visit.now) }
+/// Returns the line of a connection. It counts what the host received and sent; the line that `oramdisk serve` prints of a
+/// client counts requests.
+pub fn line(alloc: Global, report: &ConnectionReport) -> Result<String, AllocError>
+    ensures { IfOk result (λ text. string_bytes text ≡ spec.line_of report.now) }
 {
-    let peer = visit.peer.as_str();
-    let from = visit.from.as_str();
-    let until = visit.until.as_str();
-    let messages = counted(alloc, visit.tally.messages, "message")?;
+    let peer = report.peer.as_str();
+    let from = report.from.as_str();
+    let until = report.until.as_str();
+    let messages = counted(alloc, report.tally.messages, "message")?;
     let messages = messages.as_str();
-    let received = visit.tally.received;
-    let sent = visit.tally.sent;
-    let ended = ending(visit.ended);
-    let failed = failing(visit.tally.failure);
+    let received = report.tally.received;
+    let sent = report.tally.sent;
+    let ended = ending(report.ended);
+    let failed = failing(report.tally.failure);
     format!(in alloc;
         "oramdisk: {peer} from {from} until {until}, {messages}, {received} bytes in, {sent} bytes out{ended}{failed}\n"
     )

@@ -19,6 +19,7 @@ fn reason_of(kind: ErrorKind) -> FileReason
         ErrorKind::NotFound => FileReason::Missing,
         ErrorKind::PermissionDenied => FileReason::NotPermitted,
         ErrorKind::StorageFull => FileReason::DiskFull,
+        ErrorKind::IsADirectory => FileReason::Folder,
         _ => FileReason::Other,
     }
 }

@@ -29,6 +29,8 @@ const RETRY_AFTER: u64 = 1;
 
 /// Reads the settings file `name`. It gives the file of buckets relative to the folder of the settings; this makes its
 /// name one that can be opened from here.
+///
+/// `disk_in` of `oramdisk` does the same with a disk's settings. It stands there since a client also makes a device of them.
 fn settings_in<R: Files + AllocGlobal>(rt: &R, name: String) -> Result<HostSettings, Fault> {
     let alloc = rt.alloc();
     let bytes = settings_bytes(rt, name.as_str())?;
@@ -113,14 +115,14 @@ fn serve_client<
     let peer = format!(in alloc; "{peer}")?;
     let from = time(rt)?;
     let ended = serve(rt, listener, stream, hosted);
-    let visit = ConnectionReport {
+    let report = ConnectionReport {
         peer,
         from,
         until: time(rt)?,
         tally: hosted.tally(),
         ended,
     };
-    let line = line(alloc, &visit)?;
+    let line = line(alloc, &report)?;
     let _passed_over = rt.eprint(line.as_str());
     Ok(())
 }

@@ -15,6 +15,8 @@ pub enum FileReason {
     NotPermitted,
     /// The disk that it is on has no room.
     DiskFull,
+    /// It is a folder, where a file is wanted.
+    Folder,
     Other,
 }
 
@@ -27,8 +29,6 @@ pub enum FaultKind {
     /// A file doesn't have the settings that it must have. Instead of a name, it comes with which file it is, and what
     /// is wrong with it.
     Settings,
-    /// No disk can have the numbers in the file of this name.
-    Device,
     /// The file or folder of this name can't be opened, read or written.
     File(FileReason),
     /// The disk whose settings are in the file of this name isn't formatted yet.
@@ -98,7 +98,6 @@ impl FaultKind {
         ensures { result.now ≡ spec.front self }
     {
         match self {
-            FaultKind::Device => "oramdisk: bad numbers in ",
             FaultKind::Unformatted =>
                 "oramdisk: the disk isn't formatted yet: start its host, and then say oramdisk format ",
             FaultKind::File(FileReason::Other) => "oramdisk: can't open, read or write ",
@@ -126,13 +125,12 @@ impl FaultKind {
     {
         match self {
             FaultKind::CommandLine | FaultKind::Settings | FaultKind::Unformatted => "\n",
-            FaultKind::Device =>
-                ": size has to be from 1 to 16777216 blocks, block from 16 to 4096 and a multiple of 4, slots from 1 to 8, and table from 1 to 16777216\n",
             FaultKind::File(FileReason::Missing) =>
                 ": no such file or folder: see that its name is right\n",
             FaultKind::File(FileReason::NotPermitted) =>
                 ": permission denied: see that you may read and write it\n",
             FaultKind::File(FileReason::DiskFull) => ": the disk is full: make room on it\n",
+            FaultKind::File(FileReason::Folder) => " is a folder: name a file in it\n",
             FaultKind::File(FileReason::Other) =>
                 ": see that it is there and may be written, and that its disk has room\n",
             FaultKind::Address => ": end the program that listens there, or name another place\n",
@@ -192,7 +190,7 @@ impl FaultKind {
         ensures { result ≡ spec.status self }
     {
         match self {
-            FaultKind::CommandLine | FaultKind::Settings | FaultKind::Device => 2,
+            FaultKind::CommandLine | FaultKind::Settings => 2,
             FaultKind::File(_) | FaultKind::Unformatted => 4,
             FaultKind::Address => 5,
             FaultKind::NotABucketFile => 6,

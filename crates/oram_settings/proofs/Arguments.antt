@@ -58,6 +58,9 @@ module _ (a b : Command) (app : App) (is : app_of a ≡ app) where
   with_subcommand_required wanted set = ap app_of_fields set ∙ ap (λ (x : App). on_top (λ s. record s { subcommand_required = wanted }) x) is
 
 module _ (a b : Command) (local : (out-Command a).has_globals ≡ false) where
+  pub version_local : (text : Bor (List ℕ)) → out-Command b ≡ record (out-Command a) { version = Some text } → (out-Command b).has_globals ≡ false
+  version_local text set = ap (λ f. f.has_globals) set ∙ local
+
   pub about_local : (text : Option (Bor (List ℕ))) → out-Command b ≡ record (out-Command a) { about = text } → (out-Command b).has_globals ≡ false
   about_local text set = ap (λ f. f.has_globals) set ∙ local
 

@@ -41,17 +41,19 @@ word_rule = record (new_rule (codes "word")) { value_names = 1; required = true 
 abbrev pub folder_maker : Shape
 folder_maker = record (new_shape (codes "new")) {
   rules = word_rule ∷ record (new_rule (codes "size")) { long = Some (codes "size"); value_names = 1; required = true } ∷ [];
+  has_version = true;
 }
 
 -- the subcommand that takes a word, and a flag
 abbrev pub host_runner : Shape
 host_runner = record (new_shape (codes "host")) {
   rules = word_rule ∷ record (new_rule (codes "new")) { long = Some (codes "new"); action = Some SetTrue } ∷ [];
+  has_version = true;
 }
 
 -- a subcommand that takes a word
 abbrev pub disk_command : Text → Shape
-disk_command name = record (new_shape name) { rules = word_rule ∷ [] }
+disk_command name = record (new_shape name) { rules = word_rule ∷ []; has_version = true }
 
 -- the command without its subcommands
 abbrev pub bare : App

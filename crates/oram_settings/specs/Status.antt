@@ -6,6 +6,7 @@ use Rattle.oram_geometry.specs.Sizes.{trees_of}
 use Rattle.oram_semantics.specs.State.{State}
 use Rattle.oram_semantics.specs.declared.events.Reason.{Reason}
 use Rattle.oram_semantics.specs.declared.events.Reason.TheVariants.{Malformed, Tampered, HostRefused}
+use Rattle.oram_settings.specs.Amounts.{counted}
 use Rattle.oram_settings.specs.declared.status.Status.{Status}
 
 abbrev pub stands_as : Sizes → State → Status
@@ -34,7 +35,7 @@ size_of s = min (s.blocks * s.block_bytes) (2 ^ 64 - 1)
 -- the lines that describe the status of a disk: its size, its trees, the accesses made and left, the commands that
 -- wait, and a failure
 abbrev pub report : Status → List ℕ
-report s = concat (codes "size: " ∷ decimal (size_of s) ∷ codes " bytes, " ∷ decimal s.blocks ∷ codes " blocks of " ∷ decimal s.block_bytes
+report s = concat (codes "size: " ∷ decimal (size_of s) ∷ codes " bytes, " ∷ counted s.blocks (codes "block") ∷ codes " of " ∷ decimal s.block_bytes
     ∷ codes "\ntrees: " ∷ decimal s.trees
     ∷ codes "\naccesses: " ∷ decimal s.accesses ∷ codes " made, " ∷ decimal (s.lifetime - s.accesses)
     ∷ codes " left\nwaiting: " ∷ decimal s.waiting

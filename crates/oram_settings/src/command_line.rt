@@ -88,6 +88,7 @@ fn folder_maker<'a>(alloc: Global) -> Result<Command<'a>, AllocError>
         .help(help::SIZE)
         .required(true);
     let new = Command::new(alloc, "new")
+        .version(help::VERSION)
         .about(help::NEW)
         .after_help(help::NEW_MORE);
     with_args(new, word(alloc, "FOLDER", help::FOLDER), size)
@@ -103,6 +104,7 @@ fn host_runner<'a>(alloc: Global) -> Result<Command<'a>, AllocError>
         .help(help::NEW_FILE)
         .action(ArgAction::SetTrue);
     let host = Command::new(alloc, "host")
+        .version(help::VERSION)
         .about(help::HOST)
         .after_help(help::HOST_MORE);
     with_args(host, word(alloc, "SETTINGS", help::HOST_SETTINGS), new)
@@ -119,6 +121,7 @@ fn disk_command<'a>(
     ensures shape { IfOk result (λ c. shape_of c ≡ spec.disk_command name.entry.now) }
 {
     Command::new(alloc, name)
+        .version(help::VERSION)
         .about(about)
         .after_help(more)
         .arg(word(alloc, "SETTINGS", help::DISK_SETTINGS))

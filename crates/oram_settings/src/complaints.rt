@@ -1,6 +1,6 @@
 //! Complaints about a settings file, for whoever wrote it.
 
-use crate::disk_file::{flag_at, place_at, sealing_at};
+use crate::disk_file::{DiskSettings, flag_at, place_at, sealing_at};
 use oram_cli::{address_at, count_at, key_at, name_at, number_at};
 use std::alloc::{AllocError, Global};
 use std::fmt;
@@ -193,7 +193,19 @@ fn unknown_key<'a>(table: &'a Table, settings: &[Setting]) -> Option<&'a str> {
     None
 }
 
-/// Returns the complaint that a key belongs to no setting, and which key may have been meant.
+/// Returns the keys of settings, as a sentence lists them: `listen, file`.
+fn listed(alloc: Global, settings: &[Setting]) -> Result<String, AllocError> {
+    let mut text = String::new(alloc);
+    for setting in settings {
+        if !text.is_empty() {
+            text.push_str(", ")?;
+        }
+        text.push_str(setting.key)?;
+    }
+    Ok(text)
+}
+
+/// Returns the complaint that a key belongs to no setting, and which key may have been meant, or which keys there are.
 fn unknown_key_complaint(
     alloc: Global,
     name: &str,
@@ -205,7 +217,11 @@ fn unknown_key_complaint(
     let place = place.as_str();
     match nearest_key(alloc, key, settings)? {
         Some(near) => format!(in alloc; "{place}: unknown key \"{key}\"; did you mean \"{near}\"?"),
-        None => format!(in alloc; "{place}: unknown key \"{key}\""),
+        None => {
+            let keys = listed(alloc, settings)?;
+            let keys = keys.as_str();
+            format!(in alloc; "{place}: unknown key \"{key}\"; the keys are {keys}")
+        }
     }
 }
 
@@ -292,6 +308,53 @@ fn complaint(
 /// known, the key, and what its value has to be.
 pub fn disk_complaint(alloc: Global, name: &str, text: &str) -> Result<String, AllocError> {
     complaint(alloc, name, text, &DISK)
+}
+
+/// The settings whose numbers make the disk.
+#[derive(Clone, Copy, Debug, PartialEq, Eq)]
+enum Number {
+    Block,
+    Size,
+    Slots,
+    Table,
+}
+
+/// Returns the first of these settings that no disk can have. Where the others are right, it is the table.
+fn wrong_number(settings: &DiskSettings) -> Number {
+    let block = settings.block;
+    if block < 16 || 4096 < block || block % 4 != 0 {
+        return Number::Block;
+    }
+    let blocks = settings.size / block;
+    if settings.size % block != 0 || blocks == 0 || (1 << 24) < blocks {
+        return Number::Size;
+    }
+    if settings.slots == 0 || 8 < settings.slots {
+        return Number::Slots;
+    }
+    Number::Table
+}
+
+/// Returns what is wrong with the settings in the file `name`, whose numbers no disk can have: the file, the line if it is
+/// known, the key, and what its value has to be.
+pub fn numbers_complaint(
+    alloc: Global,
+    name: &str,
+    text: &str,
+    settings: &DiskSettings,
+) -> Result<String, AllocError> {
+    let (key, range) = match wrong_number(settings) {
+        Number::Block => ("block", "a multiple of 4, from 16 to 4096"),
+        Number::Size => (
+            "size",
+            "a whole number of blocks, from 1 to 16777216 of them",
+        ),
+        Number::Slots => ("slots", "from 1 to 8"),
+        Number::Table => ("table", "from 1 to 16777216"),
+    };
+    let place = place_of(alloc, name, text, key)?;
+    let place = place.as_str();
+    format!(in alloc; "{place}: {key} has to be {range}")
 }
 
 /// Returns what is wrong with the text of the file `name`, which isn't a host's settings.

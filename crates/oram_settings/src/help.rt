@@ -24,7 +24,7 @@ pub(crate) const NEW_MORE: &str =
     "The folder then holds disk.toml, with the disk's key, and host.toml, which is for the rented machine. Both are commented.
 A size is a number and a unit: KiB, MiB, GiB and TiB, or kB, MB, GB and TB. The greatest is 64GiB.
 
-disk.toml sets size, key and host, and may set more. What holds where it is left out:
+disk.toml has to set size, key and host. It may set more; the defaults are:
   block = 4096               the bytes of a block
   slots = 4                  how many blocks a bucket has room for
   table = 1024               the most entries of the table that the client keeps
@@ -70,7 +70,7 @@ or any other client of NBD: nbdinfo, nbdcopy, qemu-img, fio
   nbdinfo 'nbd+unix:///?socket=mydisk/disk.sock'";
 
 pub(crate) const STATUS: &str =
-    "Tells how the disk stands: its size, its accesses, what waits, and why it failed";
+    "Shows the disk's status: its size, its accesses, what waits, and why it failed";
 
 pub(crate) const STATUS_MORE: &str =
     "It asks no host, and may be used while the disk is served. Each setting is described in the disk.toml that
@@ -80,7 +80,7 @@ Example:
   oramdisk status mydisk/disk.toml";
 
 pub(crate) const RETRY: &str =
-    "Has a disk that failed go on from its kept state when it is served next";
+    "Lets a failed disk be served again, from the state that was kept last";
 
 pub(crate) const RETRY_MORE: &str =
     "'oramdisk status' says why the disk failed. Use this once its own host is reached again, with its own file. Each setting

@@ -1,8 +1,8 @@
 //! The settings that the owner of a disk gives, and what the program shows of the disk.
 //!
 //! [`read_disk_settings`] reads the settings file of a disk, [`disk_text`] writes a first one, [`disk_complaint`] says
-//! what is wrong with one, and [`read_size`] reads a size as people write it. [`first_difference`] finds a setting that
-//! isn't as the disk was formatted. [`status_of`] and [`report`] are for the status of a disk, [`progress_text`] and
+//! what is wrong with one, [`numbers_complaint`] with its numbers, and [`read_size`] reads a size as people write it.
+//! [`first_difference`] finds a setting that isn't as the disk was formatted. [`status_of`] and [`report`] are for the status of a disk, [`progress_text`] and
 //! [`Meter`] for the progress of a formatting, and [`stored_bytes`] for the room that a disk takes at its host.
 //! [`made_text`] and the functions beside it return what the program says when all goes well. [`read_command_line`] reads the
 //! command line, and answers a request for help.
@@ -24,7 +24,7 @@ mod status;
 pub use amounts::{amount_text, counted, size_text};
 pub use announcements::{begun_text, hosting_text, made_text, serving_text};
 pub use command_line::{NoRequest, Subcommand, read_command_line};
-pub use complaints::{disk_complaint, host_complaint};
+pub use complaints::{disk_complaint, host_complaint, numbers_complaint};
 pub use differences::{FixedKey, first_difference};
 pub use disk_file::{
     DEFAULT_BLOCK, DEFAULT_SLOTS, DEFAULT_TABLE, DiskSettings, LIFETIME, Sealing, device_of,

@@ -3,6 +3,7 @@
 ghost use Rattle.std.specs.Prelude.{◌≡◌, IfOk, string_bytes};
 ghost use Rattle.oram_settings.specs.Status as spec;
 
+use crate::amounts::counted;
 use oram_bucket::Sealer;
 use oram_core::{Core, Reason};
 use std::alloc::{AllocError, Global};
@@ -63,7 +64,8 @@ pub fn report(alloc: Global, status: &Status) -> Result<String, AllocError>
     ensures { IfOk result (λ text. string_bytes text ≡ spec.report status.now) }
 {
     let size = status.blocks.saturating_mul(status.block_bytes);
-    let blocks = status.blocks;
+    let blocks = counted(alloc, status.blocks, "block")?;
+    let blocks = blocks.as_str();
     let block_bytes = status.block_bytes;
     let trees = status.trees;
     let accesses = status.accesses;
@@ -72,6 +74,6 @@ pub fn report(alloc: Global, status: &Status) -> Result<String, AllocError>
     let failing = failure_text(alloc, status.failure)?;
     let failing = failing.as_str();
     format!(in alloc;
-        "size: {size} bytes, {blocks} blocks of {block_bytes}\ntrees: {trees}\naccesses: {accesses} made, {left} left\nwaiting: {waiting}\nstate: {failing}\n"
+        "size: {size} bytes, {blocks} of {block_bytes}\ntrees: {trees}\naccesses: {accesses} made, {left} left\nwaiting: {waiting}\nstate: {failing}\n"
     )
 }

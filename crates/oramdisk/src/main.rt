@@ -2,15 +2,11 @@
 #![tactic(auto)]
 
 mod clients;
-mod disk_files;
-mod failures;
-mod format_command;
-mod new_disk;
 mod serve_command;
-mod status_command;
 mod watched_disk;
 
 use oram_cli::{InputFault, arguments, texts_of};
+use oram_disk_client::{format_disk, make_folder, print_status, retry};
 use oram_disk_host::{Fault, FaultKind, host, report};
 use oram_settings::{NoRequest, Subcommand, read_command_line};
 use std::process::ExitCode;
@@ -35,11 +31,11 @@ fn read_arguments<R: Env + AllocGlobal>(rt: &R) -> Result<Subcommand, NoRequest>
 fn run(rt: &HostRuntime) -> Result<(), Fault> {
     match read_arguments(rt) {
         Ok(Subcommand::Host { settings, is_new }) => host(rt, settings, is_new),
-        Ok(Subcommand::New { folder, size }) => new_disk::make_folder(rt, folder, size.as_str()),
-        Ok(Subcommand::Format(name)) => format_command::format_disk(rt, name),
+        Ok(Subcommand::New { folder, size }) => make_folder(rt, folder, size.as_str()),
+        Ok(Subcommand::Format(name)) => format_disk(rt, name),
         Ok(Subcommand::Serve(name)) => serve_command::serve_disk(rt, name),
-        Ok(Subcommand::Status(name)) => status_command::print_status(rt, name),
-        Ok(Subcommand::Retry(name)) => status_command::retry(rt, name),
+        Ok(Subcommand::Status(name)) => print_status(rt, name),
+        Ok(Subcommand::Retry(name)) => retry(rt, name),
         Err(NoRequest::Help(text)) => {
             let _passed_over = rt.print(text.as_str());
             Ok(())

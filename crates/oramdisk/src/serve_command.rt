@@ -1,16 +1,16 @@
 //! Serves a disk to NBD clients, one connection after the other.
 
 use crate::clients::{ClientAttendant, Dismissal};
-use crate::disk_files::{
-    check_settings, disk_settings_in, kept_in, keys_in, named, process_in, state_bytes, take_lock,
-};
-use crate::failures::{keep_failure, kept_failure};
 use crate::watched_disk::{FailureKeeper, WatchedDisk};
 use oram_bucket::{ChaChaSeal, PlainSeal, Sealer};
 use oram_client::{
-    FileKeeper, FilePlace, Head, HostWatch, Keys, ReconnectLink, SealerKind, TcpDialer, given_up,
+    FileKeeper, FilePlace, HostWatch, Keys, ReconnectLink, SealerKind, TcpDialer, given_up,
 };
 use oram_core::{Core, Reason};
+use oram_disk_client::{
+    check_settings, disk_in, keep_failure, kept_failure, kept_in, keys_in, named, process_in,
+    state_bytes, take_lock,
+};
 use oram_disk_host::{Fault, FaultKind, listen_at, not_accepted, time};
 use oram_nbd::{BlockDevice, DiskFault, NbdFault, is_stop, serve};
 use oram_rounds::{BatchLink, Keeper, KeptCore, RoundLink, record_len};
@@ -155,10 +155,12 @@ struct FailureFile<'a> {
 }
 
 impl<'a> FailureFile<'a> {
-    fn keep(&self, reason: Reason) -> Result<(), Fault> {
-        keep_failure(self.rt, self.state.as_str(), reason)?;
-        let why = failure_text(self.rt.alloc(), Some(reason))?;
-        let line = format!(in self.rt.alloc(); "oramdisk: the disk: {why}\n")?;
+    fn print(&self, reason: Reason) -> Result<(), AllocError> {
+        let alloc = self.rt.alloc();
+        let why = failure_text(alloc, Some(reason))?;
+        let why = why.as_str();
+        let why = why.strip_prefix("it ").unwrap_or(why);
+        let line = format!(in alloc; "oramdisk: the disk {why}\n")?;
         let _passed_over = self.rt.eprint(line.as_str());
         Ok(())
     }
@@ -168,8 +170,9 @@ impl<'a, S: Sealer, B: BatchLink, K: Keeper, T: Tape> FailureKeeper<Volume<S, B,
     for FailureFile<'a> {
     fn keep_failure(&mut self, volume: &Volume<S, B, K, T>) {
         if let Some(reason) = volume.core.failure() {
+            let _passed_over = self.print(reason);
             // If it can't be kept, the next process finds the failure again.
-            let _found_again = self.keep(reason);
+            let _found_again = keep_failure(self.rt, self.state.as_str(), reason);
         }
     }
 }
@@ -228,13 +231,11 @@ fn serve_clients<D: BlockDevice>(
 /// The link to a disk's host.
 type HostLink<'a> = ReconnectLink<TcpDialer<&'a HostRuntime>, HostStatusPrinter<'a, HostRuntime>>;
 
+/// Keeps a process in the file of a disk.
+type DiskKeeper<'a> = FileKeeper<FilePlace<&'a HostRuntime>>;
+
 /// A core with the keeper of its file and the link to its host.
-type DiskVolume<'a, S> = Volume<
-    S,
-    HostLink<'a>,
-    FileKeeper<FilePlace<&'a HostRuntime>>,
-    ChaChaTape,
->;
+type DiskVolume<'a, S> = Volume<S, HostLink<'a>, DiskKeeper<'a>, ChaChaTape>;
 
 /// Returns why a disk stopped.
 fn stopped<S: Sealer>(volume: &DiskVolume<'_, S>, settings: DiskSettings) -> Fault {
@@ -243,8 +244,11 @@ fn stopped<S: Sealer>(volume: &DiskVolume<'_, S>, settings: DiskSettings) -> Fau
     } else if volume.core.next_ticket() >= volume.core.device().lifetime() {
         Fault::About(FaultKind::UsedUp, settings.state)
     } else {
-        let why = given_up(volume.link.inner().trouble());
-        Fault::About(FaultKind::Host(why), settings.host)
+        match volume.link.inner().trouble() {
+            // The link returns a fault without giving up only if memory ran out.
+            None if volume.core.failure().is_none() => Fault::OutOfMemory,
+            trouble => Fault::About(FaultKind::Host(given_up(trouble)), settings.host),
+        }
     }
 }
 
@@ -298,9 +302,13 @@ fn reached<'a, S: Sealer>(
 ) -> Result<(Core<S>, RoundLink<HostLink<'a>>), Fault> {
     let alloc = rt.alloc();
     let mut link = link_to(rt, settings, keys)?;
-    if let Err(trouble) = link.reach(alloc) {
-        let why = FaultKind::Host(given_up(Some(trouble)));
-        return Err(named(alloc, why, settings.host.as_str()));
+    match link.reach(alloc) {
+        Ok(()) => {}
+        Err(trouble) if trouble.lacks_memory() => return Err(Fault::OutOfMemory),
+        Err(trouble) => {
+            let why = FaultKind::Host(given_up(Some(trouble)));
+            return Err(named(alloc, why, settings.host.as_str()));
+        }
     }
     let KeptCore { stores, core } = kept;
     let device = core.device().copy();
@@ -310,19 +318,17 @@ fn reached<'a, S: Sealer>(
     }
 }
 
-/// Serves the disk of a process that was kept, until it stops.
+/// Serves the disk of a process that was kept, until it stops. The process goes on with `keeper`, whose place has found the
+/// file that the process was read from.
 fn serve_process<S: Sealer>(
     rt: &HostRuntime,
     settings: DiskSettings,
     clients: &Clients,
-    head: Head,
+    keeper: DiskKeeper<'_>,
     keys: &Keys,
     kept: KeptCore<S>,
 ) -> Result<(), Fault> {
-    let alloc = rt.alloc();
     let (core, link) = reached(rt, &settings, keys, kept)?;
-    let place = FilePlace::new(rt, alloc, settings.state.as_str())?;
-    let keeper = FileKeeper::new(place, head, settings.sync);
     let trees = core.device().trees();
     let tape = ChaChaTape {
         key: keys.tape.0,
@@ -391,21 +397,23 @@ fn serve_kept(
     clients: &Clients,
 ) -> Result<(), Fault> {
     let alloc = rt.alloc();
-    let file = state_bytes(rt, settings.state.as_str(), name.as_str())?;
-    let kept = kept_in(alloc, file.as_slice(), settings.state.as_str())?;
-    let keys = keys_in(alloc, &settings, &kept.head, name.as_str())?;
     let state = settings.state.as_str();
+    let mut place = FilePlace::new(rt, alloc, state)?;
+    let file = state_bytes(rt, place.read(), state, name.as_str())?;
+    let kept = kept_in(alloc, file.as_slice(), state)?;
+    let keys = keys_in(alloc, &settings, &kept.head, name.as_str())?;
+    let keeper = FileKeeper::new(place, kept.head, settings.sync);
     match kept.head.sealer {
         SealerKind::Plain => {
             let process = process_in(alloc, PlainSeal, kept.process, state)?;
             check_settings(&settings, process.core.device(), kept.head.sealer, name)?;
-            serve_process(rt, settings, clients, kept.head, &keys, process)
+            serve_process(rt, settings, clients, keeper, &keys, process)
         }
         SealerKind::ChaCha20 => {
             let sealer = ChaChaSeal { key: keys.sealer.0 };
             let process = process_in(alloc, sealer, kept.process, state)?;
             check_settings(&settings, process.core.device(), kept.head.sealer, name)?;
-            serve_process(rt, settings, clients, kept.head, &keys, process)
+            serve_process(rt, settings, clients, keeper, &keys, process)
         }
     }
 }
@@ -415,8 +423,7 @@ fn serve_kept(
 /// It takes the lock and listens for clients before it reads the state. Otherwise another process could still advance
 /// the state, and this one would go on from an older one.
 pub(crate) fn serve_disk(rt: &HostRuntime, name: String) -> Result<(), Fault> {
-    let alloc = rt.alloc();
-    let settings = disk_settings_in(rt, String::from_str(alloc, name.as_str())?)?;
+    let (settings, _) = disk_in(rt, name.as_str())?;
     let _lock = take_lock(rt, settings.state.as_str())?;
     if kept_failure(rt, settings.state.as_str())?.is_some() {
         return Err(Fault::About(FaultKind::Failed, settings.state));

@@ -49,6 +49,8 @@ impl<D: BlockDevice, F: FailureKeeper<D>> BlockDevice for WatchedDisk<D, F> {
 
     ghost holds = { λ may_lie d world bytes. D.holds may_lie d.disk world bytes };
 
+    ghost kept = { λ may_lie d world bytes. D.kept may_lie d.disk world bytes };
+
     ghost failed = { λ d. D.failed d.disk };
 
     ghost stops = { λ d e. D.stops d.disk e.disk };

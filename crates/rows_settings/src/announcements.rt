@@ -2,14 +2,16 @@
 
 use oram_settings::{
     Sealing, amount_text, begun_text, counted, device_of, disk_complaint, host_complaint,
-    hosting_text, made_text, serving_text, size_text, stored_bytes,
+    hosting_text, made_text, numbers_complaint, read_disk_settings, serving_text, size_text,
+    stored_bytes,
 };
 use rows::{Page, RowFault, RowWords};
 use std::alloc::Global;
 
 /// `says amount BYTES`, `says size BYTES`, `says counted COUNT NAME`, `says stored SIZE BLOCK SLOTS TABLE SEALER`,
 /// `says made FOLDER SIZE STORED`, `says begun STORED HOST`, `says hosting FILE LISTEN`, `says serving SIZE URI`, and,
-/// about the text of a file, `says bad-disk NAME TEXT` and `says bad-host NAME TEXT`: writes what `oramdisk` prints.
+/// about the text of a file, `says bad-disk NAME TEXT`, `says bad-host NAME TEXT` and `says bad-numbers NAME TEXT`: writes
+/// what `oramdisk` prints.
 pub fn says(alloc: Global, words: &mut RowWords, page: &mut Page) -> Result<(), RowFault> {
     let kind = words.text();
     let text = match kind {
@@ -23,10 +25,19 @@ pub fn says(alloc: Global, words: &mut RowWords, page: &mut Page) -> Result<(), 
         "serving" => serving_text(alloc, words.number(), words.text())?,
         "bad-disk" => disk_complaint(alloc, words.text(), words.lines(alloc).as_str())?,
         "bad-host" => host_complaint(alloc, words.text(), words.lines(alloc).as_str())?,
+        "bad-numbers" => bad_numbers(alloc, words.text(), words.lines(alloc).as_str())?,
         _ => return Err(RowFault::NoRow),
     };
     page.lines(text.as_str());
     Ok(())
+}
+
+/// Returns what is wrong with the numbers of a disk's settings, which can be read otherwise.
+fn bad_numbers(alloc: Global, name: &str, text: &str) -> Result<String, RowFault> {
+    match read_disk_settings(alloc, text) {
+        Ok(settings) => Ok(numbers_complaint(alloc, name, text, &settings)?),
+        Err(_) => Err(RowFault::NoRow),
+    }
 }
 
 /// Returns how many bytes a disk with these settings takes at its host.

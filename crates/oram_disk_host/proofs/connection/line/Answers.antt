@@ -10,7 +10,7 @@ written bytes (Err x) a b h e = tt
 
 pub returns : goal.returns
 returns c =
-    let v = c.args.visit.now in
+    let v = c.args.report.now in
     written string_bytes c.format.result _ _ c.format.ensures.ok
     (rw (c.as_str-peer.ensures.value, c.as_str-from.ensures.value, c.as_str-until.ensures.value, c.as_str-messages.ensures.value, c.in_ok-messages.ensures, c.ending-ended.ensures, c.failing-failed.ensures)
     (grouped (codes "oramdisk: ") (string_bytes v.peer) (codes " from ") (string_bytes v.from) (codes " until ") (string_bytes v.until) (codes ", ")

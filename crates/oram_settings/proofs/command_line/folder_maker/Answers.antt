@@ -1,7 +1,7 @@
 use Rattle.std.proofs.Common.{◌∙◌, ap, ap₂}
 use Rattle.std.proofs.lemmas.Result.{IfOk-weaker}
 use Rattle.clap.specs.Simple.{App, with_rule}
-use Rattle.oram_settings.proofs.Arguments.{about_local, after_help_local, help_local, long_local, name_local, need_local, with_about, with_after_help, with_help, with_long, with_name, with_need}
+use Rattle.oram_settings.proofs.Arguments.{about_local, after_help_local, help_local, long_local, name_local, need_local, version_local, with_about, with_after_help, with_help, with_long, with_name, with_need, with_version}
 use Rattle.oram_settings.proofs.command_line.folder_maker.Goals as goal
 
 pub with_args-requires-clause-word : goal.with_args-requires-clause-word
@@ -16,7 +16,8 @@ with_args-requires-clause-more c =
 
 pub with_args-requires-clause-local : goal.with_args-requires-clause-local
 with_args-requires-clause-local c =
-    let about = about_local c.new-2.result c.about.result c.new-2.ensures.local _ c.about.ensures in
+    let version = version_local c.new-2.result c.version.result c.new-2.ensures.local _ c.version.ensures in
+    let about = about_local c.version.result c.about.result version _ c.about.ensures in
     after_help_local c.about.result c.after_help-new.result about _ c.after_help-new.ensures
 
 pub returns-clause-local : goal.returns-clause-local
@@ -28,6 +29,7 @@ returns-clause-shape c =
     let named = with_name c.long.result c.value_name.result _ longer _ c.value_name.ensures in
     let helped = with_help c.value_name.result c.help.result _ named _ c.help.ensures in
     let size = with_need c.help.result c.required-size.result _ helped _ c.required-size.ensures in
-    let about = with_about c.new-2.result c.about.result _ c.new-2.ensures.app _ c.about.ensures in
+    let version = with_version c.new-2.result c.version.result _ c.new-2.ensures.app _ c.version.ensures in
+    let about = with_about c.version.result c.about.result _ version _ c.about.ensures in
     let base = with_after_help c.about.result c.after_help-new.result _ about _ c.after_help-new.ensures in
     IfOk-weaker c.with_args.result _ _ (λ m is. ap (λ (a : App). a.top) (is ∙ ap₂ with_rule (ap₂ with_rule base c.word.ensures.rule) size)) c.with_args.ensures.app

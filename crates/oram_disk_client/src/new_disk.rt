@@ -91,7 +91,7 @@ fn tell<R: Eprint + AllocGlobal>(rt: &R, folder: &str, disk: &FirstDisk) -> Resu
 
 /// Makes a folder with `host.toml` and `disk.toml` in it, for a disk of this size. Fails if the folder exists, and
 /// leaves it as it is. If the folder can't be filled, it is removed again.
-pub(crate) fn make_folder<R: Files + RandomSource + Eprint + AllocGlobal>(
+pub fn make_folder<R: Files + RandomSource + Eprint + AllocGlobal>(
     rt: &R,
     folder: String,
     size: &str,

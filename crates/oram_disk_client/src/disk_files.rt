@@ -3,69 +3,108 @@
 use oram_bucket::Sealer;
 use oram_cli::{FileFault, InputFault, LockFault, StateLock, lock_state};
 use oram_client::{
-    DiskKey, Head, KeptFault, KeptFile, Keys, SealerKind, WrongKey, kept_bytes, kept_name,
-    keys_for, read_kept_file,
+    DiskKey, Head, KeptFault, KeptFile, Keys, SealerKind, WrongKey, kept_name, keys_for,
+    read_kept_file,
 };
-use oram_disk_host::{Fault, FaultKind, FileReason, settings_bytes, text_of};
+use oram_disk_host::{Fault, FaultKind, FileReason, file_fault, settings_bytes, text_of};
 use oram_geometry::Device;
 use oram_rounds::{KeptCore, KeptCoreFault, decode_kept};
 use oram_settings::{
-    DiskSettings, Sealing, disk_complaint, first_difference, read_disk_settings, relative_to,
+    DiskSettings, Sealing, device_of, disk_complaint, first_difference, numbers_complaint,
+    read_disk_settings, relative_to,
 };
 use std::alloc::Global;
+use std::fs::{File, OpenOptions};
+use std::os::unix::fs::OpenOptionsExt;
 use std::rt::Files;
 
-/// Reads the settings in the file `name`. In the result, the path of the state's file is as seen from the
-/// working directory, not from the folder of `name`.
-pub(crate) fn disk_settings_in<R: Files + AllocGlobal>(
-    rt: &R,
-    name: String,
-) -> Result<DiskSettings, Fault> {
-    let alloc = rt.alloc();
-    let bytes = settings_bytes(rt, name.as_str())?;
-    let text = text_of(alloc, bytes.as_slice(), name.as_str())?;
+/// Reads a disk's settings from the text of the file `name`.
+fn settings_of(alloc: Global, name: &str, text: &str) -> Result<DiskSettings, Fault> {
     match read_disk_settings(alloc, text) {
-        Ok(mut settings) => {
-            settings.state = relative_to(alloc, name.as_str(), settings.state.as_str())?;
-            Ok(settings)
-        }
+        Ok(settings) => Ok(settings),
         Err(InputFault::Bad) => {
-            let complaint = disk_complaint(alloc, name.as_str(), text)?;
+            let complaint = disk_complaint(alloc, name, text)?;
             Err(Fault::About(FaultKind::Settings, complaint))
         }
         Err(InputFault::OutOfMemory) => Err(Fault::OutOfMemory),
     }
 }
 
-/// Reads the kept file `state` of the disk whose settings are in the file `settings`. Fails with
-/// [`FaultKind::Unformatted`] if there is no kept file.
-pub(crate) fn state_bytes<R: Files + AllocGlobal>(
+/// Reads the settings in the file `name`, and makes the device that they describe. In the result, the path of the
+/// state's file is as seen from the working directory, not from the folder of `name`.
+pub fn disk_in<R: Files + AllocGlobal>(
     rt: &R,
+    name: &str,
+) -> Result<(DiskSettings, Device), Fault> {
+    let alloc = rt.alloc();
+    let bytes = settings_bytes(rt, name)?;
+    let text = text_of(alloc, bytes.as_slice(), name)?;
+    let mut settings = settings_of(alloc, name, text)?;
+    settings.state = relative_to(alloc, name, settings.state.as_str())?;
+    match device_of(
+        settings.size,
+        settings.block,
+        settings.slots,
+        settings.table,
+    ) {
+        Some(device) => Ok((settings, device)),
+        None => {
+            let complaint = numbers_complaint(alloc, name, text, &settings)?;
+            Err(Fault::About(FaultKind::Settings, complaint))
+        }
+    }
+}
+
+/// Returns the fault for a file that can't be read, with the reason that the system gives when it is opened once more.
+fn unreadable<R: Files>(rt: &R, name: String) -> Fault {
+    match File::open(rt, name.as_str()) {
+        Ok(_) => Fault::About(FaultKind::File(FileReason::Other), name),
+        Err(error) => file_fault(name, &error),
+    }
+}
+
+/// Returns the bytes that were read of the kept file `state` of the disk whose settings are in the file `settings`. Fails
+/// with [`FaultKind::Unformatted`] if there is no kept file.
+pub fn state_bytes<R: Files + AllocGlobal>(
+    rt: &R,
+    read: Result<Vec<u8>, FileFault>,
     state: &str,
     settings: &str,
 ) -> Result<Vec<u8>, Fault> {
     let alloc = rt.alloc();
-    match kept_bytes(rt, state) {
+    match read {
         Ok(bytes) => Ok(bytes),
         Err(FileFault::File(name)) => match kept_name(rt, alloc, state)? {
-            Some(_) => Err(Fault::About(FaultKind::File(FileReason::Other), name)),
+            Some(_) => Err(unreadable(rt, name)),
             None => Err(named(alloc, FaultKind::Unformatted, settings)),
         },
         Err(FileFault::OutOfMemory) => Err(Fault::OutOfMemory),
     }
 }
 
+/// Returns the fault for a lock file that can't be made or locked, with the reason that the system gives when it is opened
+/// once more.
+fn unlockable(rt: &HostRuntime, name: String) -> Fault {
+    let mut options = OpenOptions::new();
+    options.write(true).create(true).mode(0o600);
+    match options.open(rt, name.as_str()) {
+        Ok(_) => Fault::About(FaultKind::File(FileReason::Other), name),
+        Err(error) => file_fault(name, &error),
+    }
+}
+
 /// Takes the lock of a disk's state, so that no other process serves, formats or retries that disk.
-pub(crate) fn take_lock(rt: &HostRuntime, state: &str) -> Result<StateLock, Fault> {
+pub fn take_lock(rt: &HostRuntime, state: &str) -> Result<StateLock, Fault> {
     match lock_state(rt, state) {
         Ok(lock) => Ok(lock),
         Err(LockFault::InUse) => Err(named(rt.alloc(), FaultKind::InUse, state)),
-        Err(LockFault::File(why)) => Err(why.into()),
+        Err(LockFault::File(FileFault::File(name))) => Err(unlockable(rt, name)),
+        Err(LockFault::File(FileFault::OutOfMemory)) => Err(Fault::OutOfMemory),
     }
 }
 
 /// Makes a fault of this kind about `name`.
-pub(crate) fn named(alloc: Global, kind: FaultKind, name: &str) -> Fault {
+pub fn named(alloc: Global, kind: FaultKind, name: &str) -> Fault {
     match String::from_str(alloc, name) {
         Ok(name) => Fault::About(kind, name),
         Err(_) => Fault::OutOfMemory,
@@ -73,7 +112,7 @@ pub(crate) fn named(alloc: Global, kind: FaultKind, name: &str) -> Fault {
 }
 
 /// Decodes the core and the STOREs that wait in `process`, which the file `name` holds.
-pub(crate) fn process_in<S: Sealer>(
+pub fn process_in<S: Sealer>(
     alloc: Global,
     sealer: S,
     process: &[u8],
@@ -89,11 +128,7 @@ pub(crate) fn process_in<S: Sealer>(
 }
 
 /// Reads the bytes of the kept file `name`.
-pub(crate) fn kept_in<'a>(
-    alloc: Global,
-    file: &'a [u8],
-    name: &str,
-) -> Result<KeptFile<'a>, Fault> {
+pub fn kept_in<'a>(alloc: Global, file: &'a [u8], name: &str) -> Result<KeptFile<'a>, Fault> {
     match read_kept_file(file) {
         Ok(kept) => Ok(kept),
         Err(KeptFault::Older) => Err(named(alloc, FaultKind::OlderState, name)),
@@ -102,7 +137,7 @@ pub(crate) fn kept_in<'a>(
 }
 
 /// Returns the keys of the disk with this head, from the key in the settings of the file `name`.
-pub(crate) fn keys_in(
+pub fn keys_in(
     alloc: Global,
     settings: &DiskSettings,
     head: &Head,
@@ -115,7 +150,7 @@ pub(crate) fn keys_in(
 }
 
 /// Returns the word of the settings for a sealer.
-pub(crate) fn sealing_of(sealer: SealerKind) -> Sealing {
+fn sealing_of(sealer: SealerKind) -> Sealing {
     match sealer {
         SealerKind::Plain => Sealing::Plain,
         SealerKind::ChaCha20 => Sealing::ChaCha,
@@ -131,7 +166,7 @@ pub(crate) fn sealer_of(sealing: Sealing) -> SealerKind {
 }
 
 /// Fails if the settings in the file `name` aren't those that the disk was formatted with.
-pub(crate) fn check_settings(
+pub fn check_settings(
     settings: &DiskSettings,
     device: &Device,
     sealer: SealerKind,

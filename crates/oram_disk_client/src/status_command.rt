@@ -1,9 +1,9 @@
 //! Reports how a disk is, and lets a failed one be tried again.
 
-use crate::disk_files::{disk_settings_in, kept_in, process_in, state_bytes, take_lock};
+use crate::disk_files::{disk_in, kept_in, process_in, state_bytes, take_lock};
 use crate::failures::{forget_failure, kept_failure};
 use oram_bucket::{ChaChaSeal, PlainSeal};
-use oram_client::SealerKind;
+use oram_client::{SealerKind, kept_bytes};
 use oram_disk_host::{Fault, FaultKind};
 use oram_settings::{report, status_of};
 use std::alloc::{AllocError, Global};
@@ -22,22 +22,22 @@ fn with_failure(alloc: Global, report: &str, why: &str) -> Result<String, AllocE
 }
 
 /// Prints the report of the disk whose settings are in the file `name`, from its kept state. It doesn't ask the host.
-pub(crate) fn print_status(rt: &HostRuntime, name: String) -> Result<(), Fault> {
+pub fn print_status(rt: &HostRuntime, name: String) -> Result<(), Fault> {
     let alloc = rt.alloc();
-    let settings = disk_settings_in(rt, String::from_str(alloc, name.as_str())?)?;
-    let file = state_bytes(rt, settings.state.as_str(), name.as_str())?;
-    let name = settings.state.as_str();
-    let kept = kept_in(alloc, file.as_slice(), name)?;
+    let (settings, _) = disk_in(rt, name.as_str())?;
+    let state = settings.state.as_str();
+    let file = state_bytes(rt, kept_bytes(rt, state), state, name.as_str())?;
+    let kept = kept_in(alloc, file.as_slice(), state)?;
     let status = match kept.head.sealer {
-        SealerKind::Plain => { status_of(&process_in(alloc, PlainSeal, kept.process, name)?.core) }
+        SealerKind::Plain => { status_of(&process_in(alloc, PlainSeal, kept.process, state)?.core) }
         // No bucket is opened, so any key will do.
         SealerKind::ChaCha20 => {
             let sealer = ChaChaSeal { key: [0; 32] };
-            status_of(&process_in(alloc, sealer, kept.process, name)?.core)
+            status_of(&process_in(alloc, sealer, kept.process, state)?.core)
         }
     };
     let text = report(alloc, &status)?;
-    let text = match kept_failure(rt, name)? {
+    let text = match kept_failure(rt, state)? {
         Some(why) => with_failure(
             alloc,
             text.as_str(),
@@ -51,9 +51,8 @@ pub(crate) fn print_status(rt: &HostRuntime, name: String) -> Result<(), Fault> 
 
 /// Lets the failed disk whose settings are in the file `name` be tried again: the next process that serves it goes on
 /// from its kept state. Fails with [`FaultKind::NotFailed`] if the disk hasn't failed.
-pub(crate) fn retry(rt: &HostRuntime, name: String) -> Result<(), Fault> {
-    let alloc = rt.alloc();
-    let settings = disk_settings_in(rt, name)?;
+pub fn retry(rt: &HostRuntime, name: String) -> Result<(), Fault> {
+    let (settings, _) = disk_in(rt, name.as_str())?;
     let _lock = take_lock(rt, settings.state.as_str())?;
     if forget_failure(rt, settings.state.as_str())? {
         let _passed_over = rt.print("oramdisk serve goes on from the kept state\n");

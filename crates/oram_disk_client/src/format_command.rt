@@ -1,20 +1,18 @@
 //! Formats a disk on its host.
 
-use crate::disk_files::{disk_settings_in, keys_in, sealer_of, take_lock};
+use crate::disk_files::{disk_in, keys_in, sealer_of, take_lock};
 use crate::failures::forget_failure;
 use oram_bucket::{ChaChaSeal, PlainSeal, Sealer};
 use oram_cli::{HostFault, buffered};
 use oram_client::{
     Ahead, DiskKey, FileKeeper, FilePlace, FormattingFault, Head, Identity, Progress, Salt,
-    SealerKind, format_ahead, kept_name,
+    SealerKind, format_ahead,
 };
 use oram_core::Core;
 use oram_disk_host::{Fault, FaultKind};
 use oram_geometry::Device;
 use oram_rounds::{Keeper, encode_kept};
-use oram_settings::{
-    DiskSettings, Meter, begun_text, device_of, percent, progress_text, stored_bytes,
-};
+use oram_settings::{DiskSettings, Meter, begun_text, percent, progress_text, stored_bytes};
 use std::alloc::{AllocError, Global};
 use std::io;
 use std::io::{ErrorKind, IsTerminal};
@@ -60,9 +58,10 @@ impl<'a, R: Clock + Eprint + AllocGlobal> ProgressPrinter<'a, R> {
         let line = if !self.on_terminal {
             format!(in alloc; "oramdisk: {text}\n")?
         } else if messages < of {
-            format!(in alloc; "\r{text}\x1b[K")?
+            // The next line, be it a fault's, is written over this one.
+            format!(in alloc; "{text}\x1b[K\r")?
         } else {
-            format!(in alloc; "\r{text}\x1b[K\n")?
+            format!(in alloc; "{text}\x1b[K\n")?
         };
         self.rt.eprint(line.as_str())
     }
@@ -131,14 +130,11 @@ fn format_with<S: Sealer>(
     rt: &HostRuntime,
     device: Device,
     sealer: S,
-    head: Head,
+    mut keeper: FileKeeper<FilePlace<&HostRuntime>>,
     identity: &Identity,
     settings: DiskSettings,
 ) -> Result<(), Fault> {
     let alloc = rt.alloc();
-    let name = settings.state.as_str();
-    let place = FilePlace::new(rt, alloc, name)?;
-    let mut keeper = FileKeeper::new(place, head, settings.sync);
     let stored = stored_bytes(&device, settings.sealer);
     let core = formatted(rt, device, sealer, identity, settings.host, stored)?;
     let file = encode_kept(alloc, &[], &core)?;
@@ -159,19 +155,12 @@ fn new_salt<R: RandomSource>(rt: &R) -> Result<Salt, Fault> {
 
 /// Formats the disk whose settings are in the file `name`. Refuses a disk that already has a kept file, and leaves that
 /// as it is.
-pub(crate) fn format_disk(rt: &HostRuntime, name: String) -> Result<(), Fault> {
+pub fn format_disk(rt: &HostRuntime, name: String) -> Result<(), Fault> {
     let alloc = rt.alloc();
-    let settings = disk_settings_in(rt, String::from_str(alloc, name.as_str())?)?;
-    let Some(device) = device_of(
-        settings.size,
-        settings.block,
-        settings.slots,
-        settings.table,
-    ) else {
-        return Err(Fault::About(FaultKind::Device, name));
-    };
+    let (settings, device) = disk_in(rt, name.as_str())?;
     let _lock = take_lock(rt, settings.state.as_str())?;
-    if let Some(found) = kept_name(rt, alloc, settings.state.as_str())? {
+    let mut place = FilePlace::new(rt, alloc, settings.state.as_str())?;
+    if let Some(found) = place.kept_name()? {
         return Err(Fault::About(FaultKind::Formatted, found));
     }
     // A failure that an earlier disk left, which has been removed since, says nothing about this one.
@@ -179,11 +168,14 @@ pub(crate) fn format_disk(rt: &HostRuntime, name: String) -> Result<(), Fault> {
     let sealer = sealer_of(settings.sealer);
     let head = Head::new(&DiskKey(settings.key), new_salt(rt)?, sealer);
     let keys = keys_in(alloc, &settings, &head, name.as_str())?;
+    let keeper = FileKeeper::new(place, head, settings.sync);
     match sealer {
-        SealerKind::Plain => { format_with(rt, device, PlainSeal, head, &keys.identity, settings) }
+        SealerKind::Plain => {
+            format_with(rt, device, PlainSeal, keeper, &keys.identity, settings)
+        }
         SealerKind::ChaCha20 => {
             let sealer = ChaChaSeal { key: keys.sealer.0 };
-            format_with(rt, device, sealer, head, &keys.identity, settings)
+            format_with(rt, device, sealer, keeper, &keys.identity, settings)
         }
     }
 }

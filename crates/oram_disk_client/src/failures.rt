@@ -16,7 +16,7 @@ fn failure_name(alloc: Global, state: &str) -> Result<String, AllocError> {
 }
 
 /// Saves why and when the disk of a state failed.
-pub(crate) fn keep_failure<R: Files + Clock + AllocGlobal>(
+pub fn keep_failure<R: Files + Clock + AllocGlobal>(
     rt: &R,
     state: &str,
     reason: Reason,
@@ -29,10 +29,7 @@ pub(crate) fn keep_failure<R: Files + Clock + AllocGlobal>(
 }
 
 /// Returns the line that says why and when the disk of a state failed; `None` if it hasn't.
-pub(crate) fn kept_failure<R: Files + AllocGlobal>(
-    rt: &R,
-    state: &str,
-) -> Result<Option<Vec<u8>>, Fault> {
+pub fn kept_failure<R: Files + AllocGlobal>(rt: &R, state: &str) -> Result<Option<Vec<u8>>, Fault> {
     let name = failure_name(rt.alloc(), state)?;
     match fs::exists(rt, name.as_str()) {
         Ok(false) => Ok(None),
