@@ -1,5 +1,6 @@
 //! What `oramdisk` prints when all goes well, the amounts in it, and what it prints about a wrong settings file.
 
+use oram_cli::InputFault;
 use oram_settings::{
     Sealing, amount_text, begun_text, counted, device_of, disk_complaint, host_complaint,
     hosting_text, made_text, numbers_complaint, read_disk_settings, serving_text, size_text,
@@ -36,7 +37,8 @@ pub fn says(alloc: Global, words: &mut RowWords, page: &mut Page) -> Result<(), 
 fn bad_numbers(alloc: Global, name: &str, text: &str) -> Result<String, RowFault> {
     match read_disk_settings(alloc, text) {
         Ok(settings) => Ok(numbers_complaint(alloc, name, text, &settings)?),
-        Err(_) => Err(RowFault::NoRow),
+        Err(InputFault::Bad) => Err(RowFault::NoRow),
+        Err(InputFault::OutOfMemory) => Err(RowFault::OutOfMemory),
     }
 }
 
