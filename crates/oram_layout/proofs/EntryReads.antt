@@ -3,8 +3,9 @@ use Rattle.std.proofs.Common.{◌≡◌, ℕ, ◌+◌, ◌*◌, ◌^◌, ◌<◌
 use Rattle.std.proofs.lemmas.Bool.{and_from, false≢true, le-leb, lt-ltb}
 use Rattle.std.proofs.lemmas.List.{drop_at, length-drop, take-append-drop, take_all, take_at}
 use Rattle.oram_wire.specs.declared.TheConstants.{LONGEST_BODY}
+use Rattle.oram_host.specs.ImageReader.{is_shape}
 use Rattle.oram_layout.specs.Header.{eight_bytes, entry_bytes, four_bytes}
-use Rattle.oram_layout.specs.Limits.{cells_len, is_shape}
+use Rattle.oram_layout.specs.Limits.{cells_len}
 use Rattle.oram_layout.specs.Trees.{sizes_of}
 use Rattle.oram_layout.specs.declared.shapes.Shape.{Shape}
 use Rattle.oram_layout.specs.declared.trees.Tree.{Tree}

@@ -1,6 +1,7 @@
 -- The first bytes of a bucket file and of its log.
 use Rattle.std.specs.Prelude.{◌≡◌, ◌<◌, ℕ, ◌^◌, List, [], ◌∷◌, ◌++◌, length, take}
 use Rattle.oram_layout.specs.Header.{eight_bytes}
+use Rattle.oram_layout.specs.declared.fronts.TheConstants.{FRONT_LEN, LETTERS_LEN}
 use Rattle.oram_layout.specs.declared.fronts.Front.{Front}
 use Rattle.oram_layout.specs.declared.fronts.Front.TheVariants.{Ours, NewerVersion, Sqlite, Empty, Another}
 use Rattle.oram_layout.specs.declared.fronts.Identity.{Identity}
@@ -24,14 +25,14 @@ front_bytes letters identity = letters ++ identity.0
 -- the bytes begin with these letters and this identity
 pub record IsFront (letters : List ℕ) (identity : Identity) (bytes : List ℕ) : Type 0 where
   pub whole : length identity.0 ≡ 16
-  pub begins : take 32 bytes ≡ front_bytes letters identity
+  pub begins : take FRONT_LEN bytes ≡ front_bytes letters identity
 
 -- the bytes begin with a bucket file's letters and a version above 1
 pub record IsNewer (bytes : List ℕ) : Type 0 where
   pub version : ℕ
   pub above : 1 < version
   pub fits : version < 2 ^ 64
-  pub begins : take 16 bytes ≡ bucket_name ++ eight_bytes version
+  pub begins : take LETTERS_LEN bytes ≡ bucket_name ++ eight_bytes version
 
 -- where the file is one of ours, this holds of its identity
 abbrev pub IfOurs : Front → (Identity → Type 0) → Type 0

@@ -1,9 +1,11 @@
--- The header of a bucket file: 16 bytes of letters and version, 16 of the file's identity, and from place 4096 on, for each of 256 trees,
--- an entry of 16 bytes. The cells of trees begin at place 8192.
+-- The header of a bucket file: 16 bytes of letters and version, 16 of the file's identity, and from place 4096 on, for
+-- each of 256 trees, an entry of 16 bytes. The cells of trees begin at place 8192.
 use Rattle.std.specs.Prelude.{◌≡◌, ◌<◌, ℕ, ◌+◌, ◌*◌, List, [], ◌∷◌, ◌++◌, length, Option, Some, None}
 use Rattle.std.specs.Int.{w32, w64, to_le_bytes}
 use Rattle.oram_redo.specs.Content.{Content, bytes_at}
 use Rattle.oram_layout.specs.Trees.{Trees, tree_at}
+use Rattle.oram_layout.specs.declared.entries.TheConstants.{ENTRIES_AT, TREES}
+use Rattle.oram_layout.specs.declared.trees.TheConstants.{ENTRY_LEN}
 use Rattle.oram_layout.specs.declared.trees.Tree.{Tree}
 
 -- "VIDLAQEB", and the version, 1, in 8 bytes
@@ -24,9 +26,9 @@ entry_bytes None = 0 ∷ 0 ∷ 0 ∷ 0 ∷ 0 ∷ 0 ∷ 0 ∷ 0 ∷ 0 ∷ 0 ∷ 0
 entry_bytes (Some tree) = 1 ∷ tree.shape.depth ∷ 0 ∷ 0 ∷ (four_bytes tree.shape.record_len ++ eight_bytes tree.base)
 
 abbrev pub entry_at : ℕ → ℕ
-entry_at number = 4096 + 16 * number
+entry_at number = ENTRIES_AT + ENTRY_LEN * number
 
 -- the header has these trees
 pub record HasTrees (trees : Trees) (c : Content) : Type 0 where
-  pub all : length trees ≡ 256
-  pub each : (number : ℕ) → number < 256 → bytes_at 16 (entry_at number) c ≡ entry_bytes (tree_at trees number)
+  pub all : length trees ≡ TREES
+  pub each : (number : ℕ) → number < TREES → bytes_at ENTRY_LEN (entry_at number) c ≡ entry_bytes (tree_at trees number)

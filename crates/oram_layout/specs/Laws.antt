@@ -10,7 +10,9 @@ use Rattle.oram_layout.specs.Header.{HasTrees, letters}
 use Rattle.oram_layout.specs.Limits.{nodes_of}
 use Rattle.oram_layout.specs.Records.{AreKept, IsPathOf, KeepsOffPath, KeepsOthers, records_in}
 use Rattle.oram_layout.specs.Trees.{AddsTree, AreApart, HasNoTree, Trees, cell_at, next_of, sizes_of, tree_at}
+use Rattle.oram_layout.specs.declared.entries.TheConstants.{TREES}
 use Rattle.oram_layout.specs.declared.fronts.Identity.{Identity}
+use Rattle.oram_layout.specs.declared.trees.TheConstants.{CELLS_END}
 use Rattle.oram_layout.specs.declared.trees.Tree.{Tree}
 
 -- the tree has this number, and the node is one of its nodes
@@ -92,8 +94,8 @@ abbrev pub TreeIsAdded : Type 0
 TreeIsAdded = (trees more : Trees) (c new : Content) (number : ℕ) (tree : Tree) → IsBucketFile trees c → AddsTree trees number tree more
     → tree.base ≡ next_of trees → Agrees new (put_all (tree_patch number tree ∷ []) c) → KeepsRecords trees c more new
 
--- A cell's mark and the first byte of its record lie in one block of the disk, if blocks have an even length: a write of one of the two
--- finds out whether the disk has room for both.
+-- A cell's mark and the first byte of its record lie in one block of the disk, if blocks have an even length: a write of
+-- one of the two finds out whether the disk has room for both.
 abbrev pub MarkSharesBlock : Type 0
 MarkSharesBlock = (trees : Trees) (number : ℕ) (tree : Tree) (node half : ℕ) → AreApart trees → HasNode trees number tree node
     → cell_at tree node / (2 * half) ≡ suc (cell_at tree node) / (2 * half)
@@ -104,8 +106,8 @@ pub record PatchesFit (bounds : Bounds) : Type 0 where
   pub of_path : (tree : Tree) (leaf : ℕ) (bytes : List ℕ) → leaf < 2 ^ tree.shape.depth → length bytes ≡ (tree.shape.depth + 1) * tree.shape.record_len
       → All (Fits bounds) (path_patches tree leaf bytes 0 (tree.shape.depth + 1))
   pub of_marks : (trees : Trees) (cells : List ℕ) → All (IsCell trees) cells → All (Fits bounds) (marks cells)
-  pub of_tree : (number : ℕ) (tree : Tree) → number < 256 → Fits bounds (tree_patch number tree)
+  pub of_tree : (number : ℕ) (tree : Tree) → number < TREES → Fits bounds (tree_patch number tree)
 
--- Each fits if the records' file may have 2^62 bytes.
+-- Each fits if the records end where the cells of all trees must end.
 abbrev pub AllPatchesFit : Type 0
-AllPatchesFit = (bounds : Bounds) → bounds.records_end ≡ 2 ^ 62 → PatchesFit bounds
+AllPatchesFit = (bounds : Bounds) → bounds.records_end ≡ CELLS_END → PatchesFit bounds

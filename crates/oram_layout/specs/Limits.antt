@@ -1,10 +1,5 @@
--- Which shapes a tree may have.
-use Rattle.std.specs.Prelude.{ℕ, ◌+◌, ◌*◌, ◌-◌, ◌^◌, ◌/◌, ◌&&◌, nat_le, nat_lt, Bool}
-use Rattle.oram_wire.specs.declared.TheConstants.{LONGEST_BODY}
-
--- whether a tree may have this shape: a STORE of one of its paths has to fit in a frame
-abbrev pub is_shape : ℕ → ℕ → Bool
-is_shape depth record_len = nat_le depth 24 && nat_lt 0 record_len && nat_le ((depth + 1) * record_len + 6) LONGEST_BODY
+-- The shape of a tree, and the length of its cells. Which shapes a tree may have, `is_shape` says in oram_host.
+use Rattle.std.specs.Prelude.{ℕ, ◌+◌, ◌*◌, ◌-◌, ◌^◌, ◌/◌}
 
 pub record TreeShape : Type 0 where
   pub depth : ℕ

@@ -14,7 +14,7 @@ use std::alloc::Global;
 pub const TREES: usize = 256;
 
 /// Where the header's entries begin.
-const ENTRIES_AT: u64 = 4096;
+pub(crate) const ENTRIES_AT: u64 = 4096;
 
 /// Returns the place of a tree's entry in the header.
 pub fn entry_place(number: u8) -> u64
@@ -25,11 +25,11 @@ pub fn entry_place(number: u8) -> u64
 
 /// Reads the entries of a header, one tree after the other, from tree 0 on.
 pub fn read_trees(alloc: Global, bytes: &[u8]) -> Result<Vec<Option<Tree>>, LayoutFault>
-    requires { length bytes.now ≡ 4096 }
-    ensures trees { IfOk result (λ trees. (c : Content) → Has bytes.now 4096 c → HasTrees trees.items c) }
+    requires { length bytes.now ≡ ENTRY_LEN * TREES }
+    ensures trees { IfOk result (λ trees. (c : Content) → Has bytes.now ENTRIES_AT c → HasTrees trees.items c) }
     ensures apart { IfOk result (λ trees. AreApart trees.items) }
     ensures damaged { IsErrOf result LayoutFault.Damaged
-        → (trees : Trees) (c : Content) → Has bytes.now 4096 c → HasTrees trees c → AreApart trees → ⊥ }
+        → (trees : Trees) (c : Content) → Has bytes.now ENTRIES_AT c → HasTrees trees c → AreApart trees → ⊥ }
 {
     let trees = listed(alloc, bytes)?;
     if !are_apart(&trees) {
@@ -54,9 +54,9 @@ pub fn next_base(trees: &[Option<Tree>]) -> u64
 
 // Returns the trees that the entries describe. They may share bytes.
 fn listed(alloc: Global, bytes: &[u8]) -> Result<Vec<Option<Tree>>, LayoutFault>
-    requires { length bytes.now ≡ 4096 }
-    ensures trees { IfOk result (λ trees. (c : Content) → Has bytes.now 4096 c → HasTrees trees.items c) }
-    ensures damaged { IsErrOf result LayoutFault.Damaged → (trees : Trees) (c : Content) → Has bytes.now 4096 c → HasTrees trees c → ⊥ }
+    requires { length bytes.now ≡ ENTRY_LEN * TREES }
+    ensures trees { IfOk result (λ trees. (c : Content) → Has bytes.now ENTRIES_AT c → HasTrees trees.items c) }
+    ensures damaged { IsErrOf result LayoutFault.Damaged → (trees : Trees) (c : Content) → Has bytes.now ENTRIES_AT c → HasTrees trees c → ⊥ }
 {
     let mut trees = Vec::with_capacity(alloc, TREES)?;
     for number in 0..TREES {

@@ -10,7 +10,7 @@ use crate::numbers::eight_bytes_in;
 pub const FRONT_LEN: usize = 32;
 
 /// The number of these bytes that are letters and version.
-const LETTERS_LEN: usize = 16;
+pub(crate) const LETTERS_LEN: usize = 16;
 
 /// The number of these bytes that are letters.
 const NAME_LEN: usize = 8;

@@ -1,7 +1,7 @@
 //! The shape of a tree.
 ghost use Rattle.std.specs.Prelude.{◌≤◌, ◌<◌, ◌+◌, ◌-◌, ◌*◌, ◌^◌, ◌≡◌, true, false, MatchOption};
+ghost use Rattle.oram_host.specs.ImageReader.{is_shape};
 ghost use Rattle.oram_host.specs.Path.{node_on};
-ghost use Rattle.oram_layout.specs.Limits.{is_shape};
 
 use oram_wire::{HEADER_LEN, LONGEST_BODY};
 

@@ -4,7 +4,7 @@ use Rattle.std.proofs.lemmas.List.{take_more, map-append, append-nil, length-map
 use Rattle.std.specs.Prelude.{All, ◌==◌, false}
 use Rattle.oram_redo.specs.Batch.{patch_of, patches_of}
 use Rattle.oram_redo.specs.Content.{Content, put}
-use Rattle.oram_redo.specs.Log as model
+use Rattle.oram_redo.specs.Log as spec
 use Rattle.oram_redo.specs.Log.{entry, entries, place_and_length, put_all, Spares}
 use Rattle.oram_redo.specs.declared.batch.Patch.{Patch}
 use Rattle.oram_redo.proofs.Logs.{entries-append}
@@ -21,15 +21,15 @@ entries_more xs k d h =
 pub put_all_more : (xs : List Patch) (k : ℕ) (d : Patch) (c : Content) → k < length xs
     → put_all (patches_of (take (k + 1) xs)) c ≡ put (get_or xs k d).bytes.now (get_or xs k d).at (put_all (patches_of (take k xs)) c)
 put_all_more xs k d c h =
-    ap (λ (ps : List model.Patch). put_all ps c) (patches_more xs k d h) ∙ put_all-append (patches_of (take k xs)) (patch_of (get_or xs k d) ∷ []) c
+    ap (λ (ps : List spec.Patch). put_all ps c) (patches_more xs k d h) ∙ put_all-append (patches_of (take k xs)) (patch_of (get_or xs k d) ∷ []) c
 
-pub get_or-patches : (xs : List Patch) (k : ℕ) (d : Patch) (e : model.Patch) → k < length xs → get_or (patches_of xs) k e ≡ patch_of (get_or xs k d)
+pub get_or-patches : (xs : List Patch) (k : ℕ) (d : Patch) (e : spec.Patch) → k < length xs → get_or (patches_of xs) k e ≡ patch_of (get_or xs k d)
 get_or-patches [] k d e h = absurd (omega arith)
 get_or-patches (x ∷ xs) zero d e h = refl
 get_or-patches (x ∷ xs) (suc k) d e h = get_or-patches xs k d e (omega arith)
 
 -- what holds of all patches holds of the one at k
-pub patch_has : (P : model.Patch → Type 0) (xs : List Patch) (k : ℕ) (d : Patch) → All P (patches_of xs) → k < length xs → P (patch_of (get_or xs k d))
+pub patch_has : (P : spec.Patch → Type 0) (xs : List Patch) (k : ℕ) (d : Patch) → All P (patches_of xs) → k < length xs → P (patch_of (get_or xs k d))
 patch_has P xs k d all h =
     let long : length (patches_of xs) ≡ length xs = length-map xs patch_of in
     subst P (get_or-patches xs k d (0, []) h) (all k (0, []) (omega arith))

@@ -4,9 +4,9 @@ use Rattle.std.proofs.lemmas.Bool.{cases_eq}
 use Rattle.std.proofs.lemmas.List.{take_rest}
 use Rattle.std.specs.Prelude.{All}
 use Rattle.oram_redo.specs.Content.{Content, Agrees, Has, put}
-use Rattle.oram_redo.specs.FilePair.{Contents, Follows, Torn, Wrote, IsSure}
+use Rattle.oram_redo.specs.FilePair.{Contents, Follows, Torn, Wrote}
 use Rattle.oram_redo.specs.Log.{Patch, Fits, IsLog, put_all, Spares, entries, StandsFor, Keeps, AllOrNothing, Smeared}
-use Rattle.oram_redo.specs.Redo.{IsSettled, bounds_of, end_of}
+use Rattle.oram_redo.specs.Redo.{AreCrashConsistent, bounds_of, end_of}
 use Rattle.oram_redo.specs.Steps.{Tears, Smears}
 use Rattle.oram_redo.specs.declared.bounds.Bounds.{Bounds}
 use Rattle.oram_redo.specs.declared.redo.Redo.{Redo}
@@ -14,7 +14,7 @@ use Rattle.oram_redo.specs.declared.file_pair.FileKind.TheVariants.{Records, Log
 use Rattle.oram_redo.proofs.Bytes.{has_same, has_front, has_back, has-append, has-put, put_outside}
 use Rattle.oram_redo.proofs.Heal.{put_all_heals, put_all-append}
 use Rattle.oram_redo.proofs.Logs.{log_kept, log_more, entries-append}
-use Rattle.oram_redo.proofs.Settled.{gate_written}
+use Rattle.oram_redo.proofs.Consistent.{gate_written}
 
 pub nothing_yet : (bounds : Bounds) (loose : List Patch) (before : Contents) (batch : List Patch) (c : Contents) → Keeps bounds loose before c → AllOrNothing bounds loose before batch c
 nothing_yet bounds loose before batch c keeps = record { front = keeps.front; stands = inl keeps.stands }
@@ -29,7 +29,7 @@ tail_written batch tail body at seen seen' spelled is wrote =
     subst (λ (l : List ℕ). Has l at (seen' Log)) rest there
 
 -- a write after the shut gate
-module _ (redo : Redo) (loose : List Patch) (seen : Contents) (leave : Contents → Type 0) (s : IsSettled redo loose seen leave) (at n : ℕ) (behind : end_of redo < at) where
+module _ (redo : Redo) (loose : List Patch) (seen : Contents) (leave : Contents → Type 0) (s : AreCrashConsistent redo loose seen leave) (at n : ℕ) (behind : end_of redo < at) where
   pub keeps_behind : (c : Contents) → Tears Log at n leave c → Keeps (bounds_of redo) loose seen c
   keeps_behind c (d, was, torn) =
       let same : (i : ℕ) → i ≤ end_of redo → c Log i ≡ seen Log i = λ i le. torn.before i (omega arith) ∙ s.sure d was i le in
@@ -42,8 +42,8 @@ module _ (redo : Redo) (loose : List Patch) (seen : Contents) (leave : Contents 
         };
       }
 
-  pub settled_behind : (seen' : Contents) (leave' : Contents → Type 0) → Torn Log at n seen seen' → Follows (Torn Log at n) leave leave' → IsSettled redo loose seen' leave'
-  settled_behind seen' leave' torn follows = record {
+  pub consistent_behind : (seen' : Contents) (leave' : Contents → Type 0) → Torn Log at n seen seen' → Follows (Torn Log at n) leave leave' → AreCrashConsistent redo loose seen' leave'
+  consistent_behind seen' leave' torn follows = record {
     patches = s.patches;
     log = log_kept (bounds_of redo) s.patches (seen Log) (seen' Log) s.log (λ i le. torn.before i (omega (arith, s.end)));
     end = s.end;
@@ -70,7 +70,7 @@ module _ (redo : Redo) (loose : List Patch) (seen : Contents) (leave : Contents 
       }
 
 -- The batch's entries are after the shut gate, all but their first gate, and a shut gate is after them.
-module _ (redo : Redo) (loose : List Patch) (seen : Contents) (leave : Contents → Type 0) (s : IsSettled redo loose seen leave) (sure : IsSure Log seen leave)
+module _ (redo : Redo) (loose : List Patch) (seen : Contents) (leave : Contents → Type 0) (s : AreCrashConsistent redo loose seen leave) (sure : (c : Contents) → leave c → Agrees (c Log) (seen Log))
     (batch : List Patch) (tail : List ℕ) (spelled : entries batch ≡ 1 ∷ tail) (whole : Has (tail ++ 0 ∷ []) (end_of redo + 1) (seen Log))
     (room : end_of redo + length (entries batch) < redo.bounds.log_end) (fits : All (Fits (bounds_of redo)) batch) where
   abbrev end : ℕ
@@ -128,7 +128,7 @@ module _ (redo : Redo) (loose : List Patch) (seen : Contents) (leave : Contents 
       }
 
   -- the gate is open
-  module _ (seen' : Contents) (leave' : Contents → Type 0) (wrote : Wrote Log end (1 ∷ []) seen seen') (sure' : IsSure Log seen' leave') (follows : Follows (Torn Log end 1) leave leave') where
+  module _ (seen' : Contents) (leave' : Contents → Type 0) (wrote : Wrote Log end (1 ∷ []) seen seen') (sure' : (c : Contents) → leave' c → Agrees (c Log) (seen' Log)) (follows : Follows (Torn Log end 1) leave leave') where
     opened : IsLog (bounds_of redo) (s.patches ++ batch) (seen' Log)
     opened = log_open (seen' Log) (λ i out. wrote.there i ∙ put_outside (1 ∷ []) end (seen Log) i out) (wrote.there end ∙ gate_written 1 end (seen Log))
 
@@ -151,9 +151,9 @@ module _ (redo : Redo) (loose : List Patch) (seen : Contents) (leave : Contents 
       });
     }
 
-    pub settled_after : (after : ℕ) (seen'' : Contents) (leave'' : Contents → Type 0) → after ≡ end + length (entries batch) → Agrees (seen'' Records) (put_all batch (seen' Records)) → Agrees (seen'' Log) (seen' Log)
-        → Follows (Smeared batch) leave' leave'' → IsSettled (record { bounds = redo.bounds; end = after }) loose seen'' leave''
-    settled_after after seen'' leave'' is records log then_follows = record {
+    pub consistent_after : (after : ℕ) (seen'' : Contents) (leave'' : Contents → Type 0) → after ≡ end + length (entries batch) → Agrees (seen'' Records) (put_all batch (seen' Records)) → Agrees (seen'' Log) (seen' Log)
+        → Follows (Smeared batch) leave' leave'' → AreCrashConsistent (record { bounds = redo.bounds; end = after }) loose seen'' leave''
+    consistent_after after seen'' leave'' is records log then_follows = record {
       patches = s.patches ++ batch;
       log = log_kept (bounds_of redo) (s.patches ++ batch) (seen' Log) (seen'' Log) opened (λ i le. log i);
       end = is ∙ omega (arith, s.end, ap length (entries-append s.patches batch), length-append (entries s.patches) (entries batch));

@@ -5,7 +5,7 @@ pub mod Logs
 pub mod Moments
 mod Outcomes
 pub mod Smears
-pub mod Settled
+pub mod Consistent
 pub mod Commit
 pub mod LogReads
 pub mod Replay

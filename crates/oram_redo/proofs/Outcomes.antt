@@ -1,12 +1,12 @@
 -- What a function owes where it ends early, because a call in it has failed, and how several calls add up.
 use Rattle.std.proofs.Common.{◌≡◌, ◌⊎◌, ⊎_elim, inl, inr, ℕ, true, ap, subst, sym, ◌∙◌, Result, Ok, Err, is_err, Option, Some, None}
 use Rattle.std.specs.Prelude.{IfErr, IfOk, IfSome, IsErr, IsErrAnd, IsErrOf, OnOk}
-use Rattle.oram_redo.specs.FilePair.{ComesAfter, HasCause, HasFailed}
+use Rattle.oram_redo.specs.FilePair.{ComesAfter, FileModel, HasCause, HasFailed}
 use Rattle.oram_redo.specs.Redo.{IsRefused}
 use Rattle.oram_redo.specs.declared.faults.RedoError.{RedoError}
 use Rattle.oram_redo.specs.declared.faults.RedoError.TheVariants.{Damaged, Failed, LogFull, Memory, NoRoom}
 
--- an error owes nothing that is said of success
+-- a clause about success says nothing of an error
 pub on_ok_none : {T E : Type 0} (result : Result T E) (P : Type 0) → IsErr result → OnOk result P
 on_ok_none {T} {E} (Ok x) P is = absurd (not_err is)
   where
@@ -21,7 +21,7 @@ if_ok_none {T} {E} (Ok x) P is = absurd (not_err is)
     not_err h = cc
 if_ok_none (Err e) P is = tt
 
--- and success nothing that is said of an error
+-- and a clause about an error says nothing of success
 pub no_error : {T E : Type 0} (x : T) (e : E) (P : Type 0) → IsErrOf (Ok x) e → P
 no_error x e P is = cc
 
@@ -90,13 +90,13 @@ not_refused error P failed (Err e) passed refused = absurd (subst (λ (x : RedoE
 if_same : {T U E : Type 0} (e error which : E) → e ≡ error → IsErrOf {T = U} (Err e) which → IsErrOf {T = T} (Err error) which
 if_same e error which is of = cc
 
-module _ {F : Type 0} (failures shortages : F → ℕ → Type 0) (is_honest : F → Type 0) where
+module _ {F : Type 0} (model : FileModel F) where
   -- no call
-  pub after_none : (old : F) → ComesAfter failures shortages is_honest old old
+  pub after_none : (old : F) → ComesAfter model old old
   after_none old = record { honest = λ h. h; failed = λ n had. had; short = λ n had. had }
 
   -- one call after another
-  pub after_then : (old mid new : F) → ComesAfter failures shortages is_honest old mid → ComesAfter failures shortages is_honest mid new → ComesAfter failures shortages is_honest old new
+  pub after_then : (old mid new : F) → ComesAfter model old mid → ComesAfter model mid new → ComesAfter model old new
   after_then old mid new first second = record {
     honest = λ h. first.honest (second.honest h);
     failed = λ n had. second.failed n (first.failed n had);
@@ -104,27 +104,27 @@ module _ {F : Type 0} (failures shortages : F → ℕ → Type 0) (is_honest : F
   }
 
   -- the last call failed
-  pub failed_last : (old mid new : F) → ComesAfter failures shortages is_honest old mid → HasFailed failures shortages mid new → HasFailed failures shortages old new
+  pub failed_last : (old mid new : F) → ComesAfter model old mid → HasFailed model mid new → HasFailed model old new
   failed_last old mid new first has = ⊎_elim (λ rises. inl (λ n had. rises n (first.failed n had))) (λ rises. inr (λ n had. rises n (first.short n had))) has
 
   -- a call that found no room, or failed otherwise
-  pub has_failed : {T : Type 0} (result : Result T RedoError) (old new : F) → is_err result ≡ true → IfErr result (λ e. e ≡ NoRoom ⊎ e ≡ Failed) → HasCause failures shortages old new result
-      → HasFailed failures shortages old new
+  pub has_failed : {T : Type 0} (result : Result T RedoError) (old new : F) → is_err result ≡ true → IfErr result (λ e. e ≡ NoRoom ⊎ e ≡ Failed) → HasCause model old new result
+      → HasFailed model old new
   has_failed (Ok x) old new is errors cause = cc
   has_failed (Err e) old new is (inl full) cause = inr (cause.no_room (ap Err full))
   has_failed (Err e) old new is (inr failed) cause = inl (cause.failed (ap Err failed))
 
-  pub cause_of : {T : Type 0} (error : RedoError) (old new : F) → (error ≡ NoRoom ⊎ error ≡ Failed) → HasCause {T = T} failures shortages old new (Err error) → HasFailed failures shortages old new
+  pub cause_of : {T : Type 0} (error : RedoError) (old new : F) → (error ≡ NoRoom ⊎ error ≡ Failed) → HasCause {T = T} model old new (Err error) → HasFailed model old new
   cause_of error old new (inl full) cause = inr (cause.no_room (ap Err full))
   cause_of error old new (inr failed) cause = inl (cause.failed (ap Err failed))
 
-  pub cause_passed : {T U : Type 0} (result : Result U RedoError) (error : RedoError) (old new : F) → IsErrAnd result (λ e. e ≡ error) → HasCause {T = T} failures shortages old new (Err error)
-      → HasCause failures shortages old new result
+  pub cause_passed : {T U : Type 0} (result : Result U RedoError) (error : RedoError) (old new : F) → IsErrAnd result (λ e. e ≡ error) → HasCause {T = T} model old new (Err error)
+      → HasCause model old new result
   cause_passed (Ok x) error old new is cause = absurd is
   cause_passed (Err e) error old new is cause = record { failed = λ of. cause.failed (if_same e error Failed is of); no_room = λ of. cause.no_room (if_same e error NoRoom is of) }
 
   -- the last call's cause
-  pub cause_last : {T : Type 0} (result : Result T RedoError) (old mid new : F) → ComesAfter failures shortages is_honest old mid → HasCause failures shortages mid new result → HasCause failures shortages old new result
+  pub cause_last : {T : Type 0} (result : Result T RedoError) (old mid new : F) → ComesAfter model old mid → HasCause model mid new result → HasCause model old new result
   cause_last result old mid new first cause = record {
     failed = λ of n had. cause.failed of n (first.failed n had);
     no_room = λ of n had. cause.no_room of n (first.short n had);

@@ -1,7 +1,8 @@
--- A pair of the system's files fulfils the contract of a pair, by its record of calls.
+-- A pair of the system's files fulfils the contract of a pair, by the history of its calls.
 use Rattle.std.proofs.Common.{◌≡◌, inl, inr, ⊎_elim, ℕ, suc, ◌-◌, ◌≤◌, true, false, List, [], ◌∷◌, length, refl, sym, subst, arith}
 use Rattle.std.specs.Prelude.{if◌then◌else◌, Bool}
-use Rattle.oram_redo.specs.FilePair.{Contents, Torn, Wrote, Elapses, Follows, IsSure}
+use Rattle.oram_redo.specs.Content.{Agrees}
+use Rattle.oram_redo.specs.FilePair.{Contents, Torn, Wrote, Elapses, Follows}
 use Rattle.oram_redo.specs.Memory.{IsOutside, LeavesBut}
 use Rattle.oram_redo.specs.Note.{Call}
 use Rattle.oram_redo.specs.System.{put_in, seen_after, is_same, ranges_of_other, ranges_after, MayLeaveAfter, HadLeftBefore, LeftSince}
@@ -60,8 +61,8 @@ module _ (first : Contents) (calls later : List Call) where
   elapses_to call is = subst (λ (l : List Call). Elapses (length calls) (length l) (LeftSince first calls) (LeftSince first l) (MayLeaveAfter first l)) (sym is) (elapses_call first calls call)
 
   module _ (file : FileKind) (is : later ≡ record { kind = 3; file = file; at = 0; is_ok = true; bytes = [] } ∷ calls) where
-    pub sync_sure : IsSure file (seen_after first later) (MayLeaveAfter first later)
-    sync_sure = subst (λ (l : List Call). IsSure file (seen_after first l) (MayLeaveAfter first l)) (sym is) (λ c left i. left file i (none_of_file file (ranges_after calls) i))
+    pub sync_sure : (c : Contents) → MayLeaveAfter first later c → Agrees (c file) (seen_after first later file)
+    sync_sure = subst (λ (l : List Call). (c : Contents) → MayLeaveAfter first l c → Agrees (c file) (seen_after first l file)) (sym is) (λ c left i. left file i (none_of_file file (ranges_after calls) i))
 
     pub sync_crash : (c : Contents) → MayLeaveAfter first later c → MayLeaveAfter first calls c
     sync_crash = subst (λ (l : List Call). (c : Contents) → MayLeaveAfter first l c → MayLeaveAfter first calls c) (sym is) (λ c left f i out. left f i (fewer_ranges file (ranges_after calls) f i out))

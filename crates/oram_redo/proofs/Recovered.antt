@@ -3,7 +3,7 @@ use Rattle.std.proofs.Common.{◌≡◌, ℕ, ◌+◌, List, [], length, refl, s
 use Rattle.oram_redo.specs.Content.{Agrees}
 use Rattle.oram_redo.specs.FilePair.{Contents, Same, Follows}
 use Rattle.oram_redo.specs.Log.{Patch, IsLog, StandsFor, StandsAlike, Smeared, entries, put_all}
-use Rattle.oram_redo.specs.Redo.{IsSettled}
+use Rattle.oram_redo.specs.Redo.{AreCrashConsistent}
 use Rattle.oram_redo.specs.Steps.{Smears}
 use Rattle.oram_redo.specs.declared.bounds.Bounds.{Bounds}
 use Rattle.oram_redo.specs.declared.file_pair.FileKind.TheVariants.{Records, Log}
@@ -34,9 +34,9 @@ module _ (bounds : Bounds) (ps : List Patch) (seen mid : Contents) (leave : Cont
     pub stands : StandsFor bounds [] (after Records) seen
     stands = record { patches = ps; log = log; gives = λ i spared. replayed i }
 
-    pub settled : (end : ℕ) (leave' : Contents → Type 0) → end ≡ bounds.log_start + length (entries ps) → Agrees (after Log) (mid Log) → Follows (Smeared ps) leave leave'
-        → IsSettled (record { bounds = bounds; end = end }) [] after leave'
-    settled end leave' ends kept follows = record {
+    pub consistent : (end : ℕ) (leave' : Contents → Type 0) → end ≡ bounds.log_start + length (entries ps) → Agrees (after Log) (mid Log) → Follows (Smeared ps) leave leave'
+        → AreCrashConsistent (record { bounds = bounds; end = end }) [] after leave'
+    consistent end leave' ends kept follows = record {
       patches = ps;
       log = log_kept bounds ps (seen Log) (after Log) log (λ i le. kept i ∙ same Log i);
       end = ends;

@@ -1,7 +1,7 @@
 -- One step of a replay: the next entry is found and read, and its patch is written.
 use Rattle.std.proofs.Common.{◌≡◌, ◌⊎◌, ℕ, ◌+◌, ◌<◌, ◌≤◌, List, [], ◌∷◌, ◌++◌, length, sym, ◌∙◌, ap, subst}
 use Rattle.oram_redo.specs.Content.{Content, Agrees, put, bytes_at}
-use Rattle.oram_redo.specs.FilePair.{Contents, Same, Follows, Torn, Wrote, Elapses, LeavesOnly, WritesNothing}
+use Rattle.oram_redo.specs.FilePair.{Contents, FileModel, Follows, LeavesOnly, Same, TimeGoesOn, Torn, WritesNothing, Wrote}
 use Rattle.oram_redo.specs.Log.{Patch, IsLog, Spares, Smeared, put_all}
 use Rattle.oram_redo.specs.Recovery.{IsEntryAt}
 use Rattle.oram_redo.specs.Steps.{Smears}
@@ -40,17 +40,17 @@ module _ (bounds : Bounds) (seen0 seen1 : Contents) (at : ℕ) (found : Entry) (
             ∙ ap (λ (c : Content). c i) (sym (put_all-append so_far.done (patch ∷ []) (seen0 Records)));
       }
 
-module _ {D : Type 0} (seen : D → Contents) (may_leave : D → Contents → Type 0) (moment : D → ℕ) (left_since : D → ℕ → Contents → Type 0) (ps : List Patch) (old one two three four : D) (at n : ℕ)
-    (crash : Follows (Smeared ps) (may_leave old) (may_leave one)) (found : WritesNothing seen may_leave moment left_since one two) (read : WritesNothing seen may_leave moment left_since two three)
-    (torn : Follows (Torn Records at n) (may_leave three) (may_leave four)) (outside : (i : ℕ) → Spares ps i → (i < at ⊎ at + n ≤ i)) where
-  pub crash_more : Follows (Smeared ps) (may_leave old) (may_leave four)
-  crash_more = smears_more may_leave moment left_since ps old three four at n (λ c now. crash c (found.leaves c (read.leaves c now))) torn outside
+module _ {D : Type 0} (model : FileModel D) (ps : List Patch) (old one two three four : D) (at n : ℕ)
+    (crash : Follows (Smeared ps) (model.may_leave old) (model.may_leave one)) (found : WritesNothing model one two) (read : WritesNothing model two three)
+    (torn : Follows (Torn Records at n) (model.may_leave three) (model.may_leave four)) (outside : (i : ℕ) → Spares ps i → (i < at ⊎ at + n ≤ i)) where
+  pub crash_more : Follows (Smeared ps) (model.may_leave old) (model.may_leave four)
+  crash_more = smears_more model ps old three four at n (λ c now. crash c (found.leaves c (read.leaves c now))) torn outside
 
-  pub moments_read : LeavesOnly moment left_since old one (Smears ps (may_leave old)) → LeavesOnly moment left_since old three (Smears ps (may_leave old))
+  pub moments_read : LeavesOnly model old one (Smears ps (model.may_leave old)) → LeavesOnly model old three (Smears ps (model.may_leave old))
   moments_read so_far =
-      let at_found = then_leaves moment left_since old one two (Smears ps (may_leave old)) (may_leave one) so_far found.moments crash in
-      then_leaves moment left_since old two three (Smears ps (may_leave old)) (may_leave two) at_found read.moments (λ c now. crash c (found.leaves c now))
+      let at_found = then_leaves model old one two (Smears ps (model.may_leave old)) (model.may_leave one) so_far found.moments crash in
+      then_leaves model old two three (Smears ps (model.may_leave old)) (model.may_leave two) at_found read.moments (λ c now. crash c (found.leaves c now))
 
-  pub moments_more : LeavesOnly moment left_since old one (Smears ps (may_leave old)) → Elapses (moment three) (moment four) (left_since three) (left_since four) (may_leave four)
-      → LeavesOnly moment left_since old four (Smears ps (may_leave old))
-  moments_more so_far time = goes_on moment left_since old three four (Smears ps (may_leave old)) (may_leave four) (moments_read so_far) time crash_more
+  pub moments_more : LeavesOnly model old one (Smears ps (model.may_leave old)) → TimeGoesOn model three four
+      → LeavesOnly model old four (Smears ps (model.may_leave old))
+  moments_more so_far time = goes_on model old three four (Smears ps (model.may_leave old)) (model.may_leave four) (moments_read so_far) time crash_more

@@ -2,8 +2,8 @@
 use Rattle.std.proofs.Common.{◌⊎◌, ⊎_elim, ℕ, ◌+◌, ◌<◌, ◌≤◌, List, length, get_or, take, refl, sym, ◌∙◌, ap}
 use Rattle.oram_redo.specs.Batch.{patches_of}
 use Rattle.oram_redo.specs.Content.{Content, Agrees}
-use Rattle.oram_redo.specs.FilePair.{Contents, Follows, Torn, Wrote, Elapses, LeavesOnly}
-use Rattle.oram_redo.specs.Log as model
+use Rattle.oram_redo.specs.FilePair.{Contents, FileModel, Follows, LeavesOnly, TimeGoesOn, Torn, Wrote}
+use Rattle.oram_redo.specs.Log as spec
 use Rattle.oram_redo.specs.Log.{put_all, Spares, Smeared}
 use Rattle.oram_redo.specs.Steps.{Smears}
 use Rattle.oram_redo.specs.declared.batch.Patch.{Patch}
@@ -12,34 +12,34 @@ use Rattle.oram_redo.proofs.Batches.{put_all_more}
 use Rattle.oram_redo.proofs.Heal.{put_heals}
 use Rattle.oram_redo.proofs.Moments.{started, goes_on}
 
-pub smeared_not : (ps : List model.Patch) (c : Contents) → Smeared ps c c
+pub smeared_not : (ps : List spec.Patch) (c : Contents) → Smeared ps c c
 smeared_not ps c = record { records = λ i spared. refl; log = λ i. refl }
 
-pub smeared_more : (ps : List model.Patch) (old mid new : Contents) (at n : ℕ) → Smeared ps old mid → Torn Records at n mid new
+pub smeared_more : (ps : List spec.Patch) (old mid new : Contents) (at n : ℕ) → Smeared ps old mid → Torn Records at n mid new
     → ((i : ℕ) → Spares ps i → (i < at ⊎ at + n ≤ i)) → Smeared ps old new
 smeared_more ps old mid new at n smeared torn outside = record {
   records = λ i spared. ⊎_elim (λ low. torn.before i low) (λ high. torn.after i high) (outside i spared) ∙ smeared.records i spared;
   log = λ i. torn.other i ∙ smeared.log i;
 }
 
-module _ {D : Type 0} (may_leave : D → Contents → Type 0) (moment : D → ℕ) (left_since : D → ℕ → Contents → Type 0) (ps : List model.Patch) where
-  pub smears_not : (old : D) → Follows (Smeared ps) (may_leave old) (may_leave old)
+module _ {D : Type 0} (model : FileModel D) (ps : List spec.Patch) where
+  pub smears_not : (old : D) → Follows (Smeared ps) (model.may_leave old) (model.may_leave old)
   smears_not old c now = (c, now, smeared_not ps c)
 
-  pub smears_more : (old mid new : D) (at n : ℕ) → Follows (Smeared ps) (may_leave old) (may_leave mid) → Follows (Torn Records at n) (may_leave mid) (may_leave new)
-      → ((i : ℕ) → Spares ps i → (i < at ⊎ at + n ≤ i)) → Follows (Smeared ps) (may_leave old) (may_leave new)
+  pub smears_more : (old mid new : D) (at n : ℕ) → Follows (Smeared ps) (model.may_leave old) (model.may_leave mid) → Follows (Torn Records at n) (model.may_leave mid) (model.may_leave new)
+      → ((i : ℕ) → Spares ps i → (i < at ⊎ at + n ≤ i)) → Follows (Smeared ps) (model.may_leave old) (model.may_leave new)
   smears_more old mid new at n was torn outside c now =
       let before = torn c now in
       let first = was before.0 before.1 in
       (first.0, first.1, smeared_more ps first.0 before.0 c at n first.2 before.2 outside)
 
-  pub smears_start : (old : D) → ((c : Contents) → left_since old (moment old) c → may_leave old c) → LeavesOnly moment left_since old old (Smears ps (may_leave old))
-  smears_start old only_now = started moment left_since old (Smears ps (may_leave old)) (λ c left. smears_not old c (only_now c left))
+  pub smears_start : (old : D) → ((c : Contents) → model.left_since old (model.moment old) c → model.may_leave old c) → LeavesOnly model old old (Smears ps (model.may_leave old))
+  smears_start old only_now = started model old (Smears ps (model.may_leave old)) (λ c left. smears_not old c (only_now c left))
 
-  pub smears_on : (old mid new : D) → LeavesOnly moment left_since old mid (Smears ps (may_leave old))
-      → Elapses (moment mid) (moment new) (left_since mid) (left_since new) (may_leave new) → Follows (Smeared ps) (may_leave old) (may_leave new)
-      → LeavesOnly moment left_since old new (Smears ps (may_leave old))
-  smears_on old mid new so_far time now = goes_on moment left_since old mid new (Smears ps (may_leave old)) (may_leave new) so_far time now
+  pub smears_on : (old mid new : D) → LeavesOnly model old mid (Smears ps (model.may_leave old))
+      → TimeGoesOn model mid new → Follows (Smeared ps) (model.may_leave old) (model.may_leave new)
+      → LeavesOnly model old new (Smears ps (model.may_leave old))
+  smears_on old mid new so_far time now = goes_on model old mid new (Smears ps (model.may_leave old)) (model.may_leave new) so_far time now
 
 pub records_more : (xs : List Patch) (k : ℕ) (d : Patch) (old mid new : Contents) → k < length xs → Agrees (mid Records) (put_all (patches_of (take k xs)) (old Records))
     → Wrote Records (get_or xs k d).at (get_or xs k d).bytes.now mid new → Agrees (new Records) (put_all (patches_of (take (k + 1) xs)) (old Records))

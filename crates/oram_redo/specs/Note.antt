@@ -1,4 +1,4 @@
--- A call on a pair of files, as the record notes it.
+-- A call on a pair of files, as a history notes it.
 use Rattle.std.specs.Prelude.{ℕ, Bool, List, slice_index, ◌==◌, if◌then◌else◌}
 use Rattle.oram_redo.specs.declared.file_pair.FileKind.{FileKind}
 use Rattle.oram_redo.specs.declared.file_pair.FileKind.TheVariants.{Records, Log}

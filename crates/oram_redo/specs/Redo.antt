@@ -1,6 +1,6 @@
 -- The state of a redo log between two calls.
 use Rattle.std.specs.Prelude.{◌≡◌, ◌≤◌, ℕ, ◌+◌, List, length, Result, Ok, Err}
-use Rattle.oram_redo.specs.FilePair.{Contents}
+use Rattle.oram_redo.specs.FilePair.{Contents, FileModel}
 use Rattle.oram_redo.specs.Log.{Patch, IsLog, AgreesBut, entries, put_all}
 use Rattle.oram_redo.specs.declared.file_pair.FileKind.TheVariants.{Records, Log}
 use Rattle.oram_redo.specs.declared.bounds.Bounds.{Bounds}
@@ -15,14 +15,18 @@ bounds_of redo = redo.bounds
 abbrev pub end_of : Redo → ℕ
 end_of redo = redo.end
 
--- The log is sure up to the shut gate after its last entry. Whatever a crash leaves stands for the records that are
--- read, except in the places of `loose`.
-pub record IsSettled (redo : Redo) (loose : List Patch) (seen : Contents) (may_leave : Contents → Type 0) : Type 0 where
+-- What a read returns (`seen`) and what a crash may leave are crash consistent: the log is sure up to the shut gate after
+-- its last entry, and whatever a crash leaves stands for the records that are read, except in the places of `loose`.
+pub record AreCrashConsistent (redo : Redo) (loose : List Patch) (seen : Contents) (may_leave : Contents → Type 0) : Type 0 where
   pub patches : List Patch
   pub log : IsLog (bounds_of redo) patches (seen Log)
   pub end : end_of redo ≡ redo.bounds.log_start + length (entries patches)
   pub sure : (c : Contents) → may_leave c → (i : ℕ) → i ≤ end_of redo → c Log i ≡ seen Log i
   pub stands : (c : Contents) → may_leave c → AgreesBut loose (put_all patches (c Records)) (seen Records)
+
+-- a pair of files is crash consistent
+abbrev pub IsCrashConsistent : {D : Type 0} → FileModel D → Redo → List Patch → D → Type 0
+IsCrashConsistent model redo loose files = AreCrashConsistent redo loose (model.seen files) (model.may_leave files)
 
 -- The call was refused: it did nothing, and the next call may be made.
 abbrev pub IsRefused : Result Unit RedoError → Type 0

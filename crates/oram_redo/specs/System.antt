@@ -1,4 +1,4 @@
--- What a record of calls says about a pair of the system's files, which held `first` when they were opened.
+-- What a history of calls says about a pair of the system's files, which held `first` when they were opened.
 use Rattle.std.specs.Prelude.{◌≡◌, ◌⊎◌, ℕ, zero, suc, ◌-◌, ◌==◌, ◌&&◌, Bool, true, false, if◌then◌else◌, List, [], ◌∷◌, length, ⊤}
 use mathlib.Core.Logic.{inl, inr}
 use mathlib.Core.Path.{subst}
@@ -54,9 +54,9 @@ abbrev pub LeftSince : Contents → List Call → ℕ → Contents → Type 0
 LeftSince first calls t c = MayLeaveAfter first calls c ⊎ HadLeftBefore first calls (length calls - t) c
 
 -- each read has returned what was there
-abbrev pub IsHonestRecord : Contents → List Call → Type 0
-IsHonestRecord first [] = ⊤
-IsHonestRecord first (call ∷ calls) = (call.kind ≡ 2 → call.bytes ≡ bytes_at (length call.bytes) call.at (seen_after first calls call.file)) × IsHonestRecord first calls
+abbrev pub IsHonestHistory : Contents → List Call → Type 0
+IsHonestHistory first [] = ⊤
+IsHonestHistory first (call ∷ calls) = (call.kind ≡ 2 → call.bytes ≡ bytes_at (length call.bytes) call.at (seen_after first calls call.file)) × IsHonestHistory first calls
 
 none_before : (first : Contents) (calls : List Call) (n : ℕ) (c : Contents) → n ≡ zero → HadLeftBefore first calls n c → ⊥
 none_before first calls n c none had = subst (λ (k : ℕ). HadLeftBefore first calls k c) none had

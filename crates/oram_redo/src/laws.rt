@@ -5,7 +5,7 @@ ghost use Rattle.oram_redo.specs.Batch.{patches_of};
 ghost use Rattle.oram_redo.specs.FilePair.{Contents};
 ghost use Rattle.oram_redo.specs.Laws.{FilesStandForOne, LogsAreOne, ReplayHeals};
 ghost use Rattle.oram_redo.specs.Log.{Fits, Keeps, StandsFor, put_all};
-ghost use Rattle.oram_redo.specs.Redo.{IsSettled, bounds_of};
+ghost use Rattle.oram_redo.specs.Redo.{IsCrashConsistent, bounds_of};
 
 use crate::{Bounds, FilePair, Patch, Redo, RedoError, recover};
 use std::alloc::Global;
@@ -22,9 +22,9 @@ pub fn replay_heals()
 {}
 
 /// Between two calls, whatever a crash leaves stands for the records that are read, except in loose places.
-pub fn settled_keeps<F: FilePair>(redo: &Redo, files: &F)
-    ensures { (loose : _) (c : Contents) → IsSettled redo.now loose (F.seen files.now) (F.may_leave files.now)
-        → F.may_leave files.now c → Keeps (bounds_of redo.now) loose (F.seen files.now) c }
+pub fn crash_keeps_records<F: FilePair>(redo: &Redo, files: &F)
+    ensures { (loose : _) (c : Contents) → IsCrashConsistent F.model redo.now loose files.now
+        → F.model.may_leave files.now c → Keeps (bounds_of redo.now) loose (F.model.seen files.now) c }
 {}
 
 /// Opens empty files and commits one batch. Each crash from then on leaves files that have the batch, and nothing else.
@@ -35,8 +35,8 @@ pub fn first_commit<F: FilePair>(
     batch: &[Patch],
 ) -> Result<Redo, RedoError>
     requires fits { All (Fits bounds) (patches_of batch.now) }
-    requires empty { (file : _) (i : ℕ) → F.seen files.old file i ≡ 0 }
-    ensures { OnOk result (F.is_honest files.new → (c : Contents) → F.may_leave files.new c → StandsFor bounds [] (put_all (patches_of batch.now) (λ i. 0)) c) }
+    requires empty { (file : _) (i : ℕ) → F.model.seen files.old file i ≡ 0 }
+    ensures { OnOk result (F.model.is_honest files.new → (c : Contents) → F.model.may_leave files.new c → StandsFor bounds [] (put_all (patches_of batch.now) (λ i. 0)) c) }
 {
     let mut redo = recover(alloc, files, bounds)?;
     redo.commit(alloc, files, batch)?;

@@ -35,7 +35,7 @@ pub use batch::Patch;
 pub use bounds::Bounds;
 pub use faults::RedoError;
 pub use file_pair::{FileKind, FilePair};
-pub use laws::{first_commit, one_reading, replay_heals, settled_keeps};
+pub use laws::{crash_keeps_records, first_commit, one_reading, replay_heals};
 pub use memory::MemoryPair;
 pub use redo::{Redo, recover};
 pub use system::{Start, SystemPair, Unknown};

@@ -182,20 +182,16 @@ impl MemoryPair {
 }
 
 impl FilePair for MemoryPair {
-    ghost seen = { λ m. contents_of m.held };
-
-    ghost may_leave = { λ m. MayLeave m.held };
-
-    ghost moment = { λ m. length m.past.items };
-
-    ghost left_since = { λ m t c. MayLeave m.held c ⊎ HadLeft (drop t m.past.items) c };
-
-    ghost is_honest = { λ m. Unit {0} };
-
-    // Memory may run out at any call.
-    ghost failures = { λ m n. Unit {0} };
-
-    ghost shortages = { λ m n. Unit {0} };
+    // Memory may run out at any call, so nothing is known of failures and shortages.
+    ghost model = { record {
+      seen = λ m. contents_of m.held;
+      may_leave = λ m. MayLeave m.held;
+      moment = λ m. length m.past.items;
+      left_since = λ m t c. MayLeave m.held c ⊎ HadLeft (drop t m.past.items) c;
+      is_honest = λ m. Unit {0};
+      failures = λ m n. Unit {0};
+      shortages = λ m n. Unit {0};
+    } };
 
     ghost counts_now = { λ m t c le now. inl now };
 

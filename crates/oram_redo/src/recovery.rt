@@ -45,13 +45,13 @@ fn find_entry<F: FilePair>(
     bounds: Bounds,
     at: u64,
 ) -> Result<Option<Entry>, RedoError>
-    ensures nothing_written { WritesNothing F.seen F.may_leave F.moment F.left_since files.old files.new }
-    ensures found { IfOk result (λ found. F.is_honest files.new → IfSome found (IsEntryAt bounds (F.seen files.old FileKind.Log) at)) }
+    ensures nothing_written { WritesNothing F.model files.old files.new }
+    ensures found { IfOk result (λ found. F.model.is_honest files.new → IfSome found (IsEntryAt bounds (F.model.seen files.old FileKind.Log) at)) }
     ensures next { IfOk result (λ found. IfSome found (λ entry. (entry.next ≡ at + 13 + entry.len) × (entry.next < bounds.log_end))) }
-    ensures end { F.is_honest files.new → result ≡ Ok None → IsEndAt bounds (F.seen files.old FileKind.Log) at }
-    ensures damaged { F.is_honest files.new → IsErrOf result RedoError.Damaged → IsDamagedAt bounds (F.seen files.old FileKind.Log) at }
-    ensures failed { IsErrOf result RedoError.Failed → HasFailed F.failures F.shortages files.old files.new }
-    ensures after { ComesAfter F.failures F.shortages F.is_honest files.old files.new }
+    ensures end { F.model.is_honest files.new → result ≡ Ok None → IsEndAt bounds (F.model.seen files.old FileKind.Log) at }
+    ensures damaged { F.model.is_honest files.new → IsErrOf result RedoError.Damaged → IsDamagedAt bounds (F.model.seen files.old FileKind.Log) at }
+    ensures failed { IsErrOf result RedoError.Failed → HasFailed F.model files.old files.new }
+    ensures after { ComesAfter F.model files.old files.new }
     ensures errors { IfErr result (λ e. (e ≡ RedoError.Memory) ⊎ (e ≡ RedoError.Failed) ⊎ (e ≡ RedoError.Damaged)) }
 {
     if at >= bounds.log_end {
@@ -73,12 +73,12 @@ pub fn end_of_log<F: FilePair>(
     files: &mut F,
     bounds: Bounds,
 ) -> Result<u64, RedoError>
-    ensures nothing_written { WritesNothing F.seen F.may_leave F.moment F.left_since files.old files.new }
-    ensures end { IfOk result (λ end. F.is_honest files.new → (patches : _) × IsLog bounds patches (F.seen files.old FileKind.Log)
+    ensures nothing_written { WritesNothing F.model files.old files.new }
+    ensures end { IfOk result (λ end. F.model.is_honest files.new → (patches : _) × IsLog bounds patches (F.model.seen files.old FileKind.Log)
         × (end ≡ bounds.log_start + length (entries patches))) }
-    ensures damaged { F.is_honest files.new → IsErrOf result RedoError.Damaged → (patches : _) → IsLog bounds patches (F.seen files.old FileKind.Log) → ⊥ }
-    ensures failed { IsErrOf result RedoError.Failed → HasFailed F.failures F.shortages files.old files.new }
-    ensures after { ComesAfter F.failures F.shortages F.is_honest files.old files.new }
+    ensures damaged { F.model.is_honest files.new → IsErrOf result RedoError.Damaged → (patches : _) → IsLog bounds patches (F.model.seen files.old FileKind.Log) → ⊥ }
+    ensures failed { IsErrOf result RedoError.Failed → HasFailed F.model files.old files.new }
+    ensures after { ComesAfter F.model files.old files.new }
     ensures errors { IfErr result (λ e. (e ≡ RedoError.Memory) ⊎ (e ≡ RedoError.Failed) ⊎ (e ≡ RedoError.Damaged)) }
 {
     let mut at = bounds.log_start;
@@ -91,16 +91,16 @@ pub fn end_of_log<F: FilePair>(
 /// Writes the log's patches to their places, without a sync. Call it after [`end_of_log`] has found that the log isn't
 /// damaged.
 pub fn replay<F: FilePair>(alloc: Global, files: &mut F, bounds: Bounds) -> Result<(), RedoError>
-    ensures log { Agrees (F.seen files.new FileKind.Log) (F.seen files.old FileKind.Log) }
-    ensures records { F.is_honest files.new → (patches : _) → IsLog bounds patches (F.seen files.old FileKind.Log)
-        → OnOk result (Agrees (F.seen files.new FileKind.Records) (put_all patches (F.seen files.old FileKind.Records))) }
-    ensures crash { F.is_honest files.new → (patches : _) → IsLog bounds patches (F.seen files.old FileKind.Log)
-        → Follows (Smeared patches) (F.may_leave files.old) (F.may_leave files.new) }
-    ensures moments { F.is_honest files.new → (patches : _) → IsLog bounds patches (F.seen files.old FileKind.Log)
-        → LeavesOnly F.moment F.left_since files.old files.new (Smears patches (F.may_leave files.old)) }
-    ensures damaged { F.is_honest files.new → (patches : _) → IsLog bounds patches (F.seen files.old FileKind.Log) → IsErrOf result RedoError.Damaged → ⊥ }
-    ensures failed { IsErrOf result RedoError.Failed → HasFailed F.failures F.shortages files.old files.new }
-    ensures after { ComesAfter F.failures F.shortages F.is_honest files.old files.new }
+    ensures log { Agrees (F.model.seen files.new FileKind.Log) (F.model.seen files.old FileKind.Log) }
+    ensures records { F.model.is_honest files.new → (patches : _) → IsLog bounds patches (F.model.seen files.old FileKind.Log)
+        → OnOk result (Agrees (F.model.seen files.new FileKind.Records) (put_all patches (F.model.seen files.old FileKind.Records))) }
+    ensures crash { F.model.is_honest files.new → (patches : _) → IsLog bounds patches (F.model.seen files.old FileKind.Log)
+        → Follows (Smeared patches) (F.model.may_leave files.old) (F.model.may_leave files.new) }
+    ensures moments { F.model.is_honest files.new → (patches : _) → IsLog bounds patches (F.model.seen files.old FileKind.Log)
+        → LeavesOnly F.model files.old files.new (Smears patches (F.model.may_leave files.old)) }
+    ensures damaged { F.model.is_honest files.new → (patches : _) → IsLog bounds patches (F.model.seen files.old FileKind.Log) → IsErrOf result RedoError.Damaged → ⊥ }
+    ensures failed { IsErrOf result RedoError.Failed → HasFailed F.model files.old files.new }
+    ensures after { ComesAfter F.model files.old files.new }
     ensures errors { IfErr result (λ e. (e ≡ RedoError.Memory) ⊎ (e ≡ RedoError.Failed) ⊎ (e ≡ RedoError.Damaged)) }
 {
     let mut at = bounds.log_start;

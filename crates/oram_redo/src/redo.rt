@@ -8,7 +8,7 @@ ghost use Rattle.oram_redo.specs.Batch.{patches_of};
 ghost use Rattle.oram_redo.specs.Content.{Content, Agrees, bytes_at, put};
 ghost use Rattle.oram_redo.specs.FilePair.{ComesAfter, Contents, HasFailed, LeavesOnly, ReadOnto, Rises, Torn, WritesNothing};
 ghost use Rattle.oram_redo.specs.Log.{AllOrNothing, Fits, Keeps, StandsAlike, StandsFor, entries, put_all};
-ghost use Rattle.oram_redo.specs.Redo.{IsRefused, IsSettled, bounds_of, end_of};
+ghost use Rattle.oram_redo.specs.Redo.{IsCrashConsistent, IsRefused, bounds_of, end_of};
 
 use crate::batch::{OPEN, SHUT, body_of};
 use crate::recovery::{end_of_log, replay};
@@ -30,20 +30,20 @@ pub struct Redo {
 /// changed. If the log isn't a list of patches, this fails with `Damaged` and writes nothing.
 pub fn recover<F: FilePair>(alloc: Global, files: &mut F, bounds: Bounds) -> Result<Redo, RedoError>
     // Reads return the records that the files stood for.
-    ensures records { OnOk result (F.is_honest files.new → StandsFor bounds [] (F.seen files.new FileKind.Records) (F.seen files.old)) }
-    ensures settled { IfOk result (λ redo. F.is_honest files.new → IsSettled redo [] (F.seen files.new) (F.may_leave files.new)) }
+    ensures records { OnOk result (F.model.is_honest files.new → StandsFor bounds [] (F.model.seen files.new FileKind.Records) (F.model.seen files.old)) }
+    ensures consistent { IfOk result (λ redo. F.model.is_honest files.new → IsCrashConsistent F.model redo [] files.new) }
     ensures bounds { IfOk result (λ redo. bounds_of redo ≡ bounds) }
-    ensures log { Agrees (F.seen files.new FileKind.Log) (F.seen files.old FileKind.Log) }
+    ensures log { Agrees (F.model.seen files.new FileKind.Log) (F.model.seen files.old FileKind.Log) }
 
     // A crash at any moment leaves what a crash before the call might have left, or files that stand for the same
     // records.
-    ensures any_moment { F.is_honest files.new → LeavesOnly F.moment F.left_since files.old files.new
-        (λ c. F.may_leave files.old c ⊎ StandsAlike bounds (F.seen files.old) c) }
+    ensures any_moment { F.model.is_honest files.new → LeavesOnly F.model files.old files.new
+        (λ c. F.model.may_leave files.old c ⊎ StandsAlike bounds (F.model.seen files.old) c) }
 
-    ensures damaged { F.is_honest files.new → IsErrOf result RedoError.Damaged → (records : Content) → StandsFor bounds [] records (F.seen files.old) → ⊥ }
-    ensures untouched { F.is_honest files.new → IsErrOf result RedoError.Damaged → WritesNothing F.seen F.may_leave F.moment F.left_since files.old files.new }
-    ensures after { ComesAfter F.failures F.shortages F.is_honest files.old files.new }
-    ensures failed { IsErrOf result RedoError.Failed → HasFailed F.failures F.shortages files.old files.new }
+    ensures damaged { F.model.is_honest files.new → IsErrOf result RedoError.Damaged → (records : Content) → StandsFor bounds [] records (F.model.seen files.old) → ⊥ }
+    ensures untouched { F.model.is_honest files.new → IsErrOf result RedoError.Damaged → WritesNothing F.model files.old files.new }
+    ensures after { ComesAfter F.model files.old files.new }
+    ensures failed { IsErrOf result RedoError.Failed → HasFailed F.model files.old files.new }
     ensures errors { IfErr result (λ e. (e ≡ RedoError.Memory) ⊎ (e ≡ RedoError.Failed) ⊎ (e ≡ RedoError.Damaged)) }
 {
     sync_both(files)?;
@@ -62,12 +62,12 @@ impl Redo {
         len: usize,
     ) -> Result<Vec<u8>, RedoError>
         ensures len { IfOk result (λ bytes. length bytes.items ≡ len) }
-        ensures bytes { IfOk result (λ bytes. F.is_honest files.new → bytes.items ≡ bytes_at len at (F.seen files.old FileKind.Records)) }
-        ensures settled { (loose : _) → IsSettled self.now loose (F.seen files.old) (F.may_leave files.old)
-            → IsSettled self.now loose (F.seen files.new) (F.may_leave files.new) }
-        ensures nothing_written { WritesNothing F.seen F.may_leave F.moment F.left_since files.old files.new }
-        ensures after { ComesAfter F.failures F.shortages F.is_honest files.old files.new }
-        ensures failed { IsErrOf result RedoError.Failed → HasFailed F.failures F.shortages files.old files.new }
+        ensures bytes { IfOk result (λ bytes. F.model.is_honest files.new → bytes.items ≡ bytes_at len at (F.model.seen files.old FileKind.Records)) }
+        ensures consistent { (loose : _) → IsCrashConsistent F.model self.now loose files.old
+            → IsCrashConsistent F.model self.now loose files.new }
+        ensures nothing_written { WritesNothing F.model files.old files.new }
+        ensures after { ComesAfter F.model files.old files.new }
+        ensures failed { IsErrOf result RedoError.Failed → HasFailed F.model files.old files.new }
         ensures errors { IfErr result (λ e. (e ≡ RedoError.Memory) ⊎ (e ≡ RedoError.Failed)) }
     {
         read(alloc, files, FileKind::Records, at, len)
@@ -81,12 +81,12 @@ impl Redo {
         len: usize,
         bytes: &mut Vec<u8>,
     ) -> Result<(), RedoError>
-        ensures bytes { OnOk result (ReadOnto len at (F.seen files.old FileKind.Records) (F.is_honest files.new) bytes.old.items bytes.new.items) }
-        ensures settled { (loose : _) → IsSettled self.now loose (F.seen files.old) (F.may_leave files.old)
-            → IsSettled self.now loose (F.seen files.new) (F.may_leave files.new) }
-        ensures nothing_written { WritesNothing F.seen F.may_leave F.moment F.left_since files.old files.new }
-        ensures after { ComesAfter F.failures F.shortages F.is_honest files.old files.new }
-        ensures failed { IsErrOf result RedoError.Failed → HasFailed F.failures F.shortages files.old files.new }
+        ensures bytes { OnOk result (ReadOnto len at (F.model.seen files.old FileKind.Records) (F.model.is_honest files.new) bytes.old.items bytes.new.items) }
+        ensures consistent { (loose : _) → IsCrashConsistent F.model self.now loose files.old
+            → IsCrashConsistent F.model self.now loose files.new }
+        ensures nothing_written { WritesNothing F.model files.old files.new }
+        ensures after { ComesAfter F.model files.old files.new }
+        ensures failed { IsErrOf result RedoError.Failed → HasFailed F.model files.old files.new }
         ensures errors { IfErr result (λ e. (e ≡ RedoError.Memory) ⊎ (e ≡ RedoError.Failed)) }
     {
         read_onto(files, FileKind::Records, at, len, bytes)
@@ -103,26 +103,26 @@ impl Redo {
         requires { All (Fits (bounds_of self.old)) (patches_of batch.now) }
 
         // After Ok the batch is acknowledged: each crash from then on leaves files that have it.
-        ensures acknowledged { OnOk result ((loose : _) → IsSettled self.old loose (F.seen files.old) (F.may_leave files.old)
-            → IsSettled self.new loose (F.seen files.new) (F.may_leave files.new)) }
-        ensures records { OnOk result (Agrees (F.seen files.new FileKind.Records) (put_all (patches_of batch.now) (F.seen files.old FileKind.Records))) }
+        ensures acknowledged { OnOk result ((loose : _) → IsCrashConsistent F.model self.old loose files.old
+            → IsCrashConsistent F.model self.new loose files.new) }
+        ensures records { OnOk result (Agrees (F.model.seen files.new FileKind.Records) (put_all (patches_of batch.now) (F.model.seen files.old FileKind.Records))) }
 
         // A crash at any moment of the call leaves what was there before it, with the whole batch or with none of it.
-        ensures any_moment { (loose : _) → IsSettled self.old loose (F.seen files.old) (F.may_leave files.old)
-            → LeavesOnly F.moment F.left_since files.old files.new
-            (AllOrNothing (bounds_of self.old) loose (F.seen files.old) (patches_of batch.now)) }
+        ensures any_moment { (loose : _) → IsCrashConsistent F.model self.old loose files.old
+            → LeavesOnly F.model files.old files.new
+            (AllOrNothing (bounds_of self.old) loose (F.model.seen files.old) (patches_of batch.now)) }
 
         // A call that is refused has done nothing: no crash leaves the batch.
-        ensures refused { IsRefused result → (loose : _) → IsSettled self.old loose (F.seen files.old) (F.may_leave files.old)
-            → IsSettled self.new loose (F.seen files.new) (F.may_leave files.new)
-            × LeavesOnly F.moment F.left_since files.old files.new (Keeps (bounds_of self.old) loose (F.seen files.old)) }
-        ensures refused_records { IsRefused result → Agrees (F.seen files.new FileKind.Records) (F.seen files.old FileKind.Records) }
+        ensures refused { IsRefused result → (loose : _) → IsCrashConsistent F.model self.old loose files.old
+            → IsCrashConsistent F.model self.new loose files.new
+            × LeavesOnly F.model files.old files.new (Keeps (bounds_of self.old) loose (F.model.seen files.old)) }
+        ensures refused_records { IsRefused result → Agrees (F.model.seen files.new FileKind.Records) (F.model.seen files.old FileKind.Records) }
 
         ensures bounds { bounds_of self.new ≡ bounds_of self.old }
         ensures full { IsErrOf result RedoError.LogFull → (bounds_of self.old).log_end ≤ end_of self.old + length (entries (patches_of batch.now)) }
-        ensures no_room { IsErrOf result RedoError.NoRoom → Rises F.shortages files.old files.new }
-        ensures after { ComesAfter F.failures F.shortages F.is_honest files.old files.new }
-        ensures failed { IsErrOf result RedoError.Failed → HasFailed F.failures F.shortages files.old files.new }
+        ensures no_room { IsErrOf result RedoError.NoRoom → Rises F.model.shortages files.old files.new }
+        ensures after { ComesAfter F.model files.old files.new }
+        ensures failed { IsErrOf result RedoError.Failed → HasFailed F.model files.old files.new }
         ensures damaged { IsErrOf result RedoError.Damaged → ⊥ }
     {
         if batch.is_empty() {
@@ -161,16 +161,16 @@ impl Redo {
         at: u64,
         bytes: &[u8],
     ) -> Result<(), RedoError>
-        ensures loose { (loose : _) → IsSettled self.now loose (F.seen files.old) (F.may_leave files.old)
-            → IsSettled self.now ((at, bytes.now) ∷ loose) (F.seen files.new) (F.may_leave files.new) }
-        ensures bytes { OnOk result (Agrees (F.seen files.new FileKind.Records) (put bytes.now at (F.seen files.old FileKind.Records))) }
-        ensures any_moment { (loose : _) → IsSettled self.now loose (F.seen files.old) (F.may_leave files.old)
-            → LeavesOnly F.moment F.left_since files.old files.new
-            (Keeps (bounds_of self.now) ((at, bytes.now) ∷ loose) (F.seen files.old)) }
-        ensures elsewhere { Torn FileKind.Records at (length bytes.now) (F.seen files.old) (F.seen files.new) }
-        ensures no_room { IsErrOf result RedoError.NoRoom → Rises F.shortages files.old files.new }
-        ensures after { ComesAfter F.failures F.shortages F.is_honest files.old files.new }
-        ensures failed { IsErrOf result RedoError.Failed → HasFailed F.failures F.shortages files.old files.new }
+        ensures loose { (loose : _) → IsCrashConsistent F.model self.now loose files.old
+            → IsCrashConsistent F.model self.now ((at, bytes.now) ∷ loose) files.new }
+        ensures bytes { OnOk result (Agrees (F.model.seen files.new FileKind.Records) (put bytes.now at (F.model.seen files.old FileKind.Records))) }
+        ensures any_moment { (loose : _) → IsCrashConsistent F.model self.now loose files.old
+            → LeavesOnly F.model files.old files.new
+            (Keeps (bounds_of self.now) ((at, bytes.now) ∷ loose) (F.model.seen files.old)) }
+        ensures elsewhere { Torn FileKind.Records at (length bytes.now) (F.model.seen files.old) (F.model.seen files.new) }
+        ensures no_room { IsErrOf result RedoError.NoRoom → Rises F.model.shortages files.old files.new }
+        ensures after { ComesAfter F.model files.old files.new }
+        ensures failed { IsErrOf result RedoError.Failed → HasFailed F.model files.old files.new }
         ensures errors { IfErr result (λ e. (e ≡ RedoError.NoRoom) ⊎ (e ≡ RedoError.Failed)) }
     {
         files.write_at(FileKind::Records, at, bytes)
@@ -179,18 +179,18 @@ impl Redo {
     /// Syncs the records, so that loose patches are durable, and then empties the log. The places have to be on the
     /// disk first: an empty log heals nothing.
     pub fn restart<F: FilePair>(&mut self, files: &mut F) -> Result<(), RedoError>
-        ensures settled { OnOk result ((loose : _) → IsSettled self.old loose (F.seen files.old) (F.may_leave files.old)
-            → IsSettled self.new [] (F.seen files.new) (F.may_leave files.new)) }
+        ensures consistent { OnOk result ((loose : _) → IsCrashConsistent F.model self.old loose files.old
+            → IsCrashConsistent F.model self.new [] files.new) }
         ensures empty { OnOk result (end_of self.new ≡ (bounds_of self.old).log_start) }
-        ensures records { Agrees (F.seen files.new FileKind.Records) (F.seen files.old FileKind.Records) }
+        ensures records { Agrees (F.model.seen files.new FileKind.Records) (F.model.seen files.old FileKind.Records) }
 
         // A crash at any moment leaves the same records.
-        ensures any_moment { (loose : _) → IsSettled self.old loose (F.seen files.old) (F.may_leave files.old)
-            → LeavesOnly F.moment F.left_since files.old files.new (Keeps (bounds_of self.old) loose (F.seen files.old)) }
+        ensures any_moment { (loose : _) → IsCrashConsistent F.model self.old loose files.old
+            → LeavesOnly F.model files.old files.new (Keeps (bounds_of self.old) loose (F.model.seen files.old)) }
 
         ensures bounds { bounds_of self.new ≡ bounds_of self.old }
-        ensures after { ComesAfter F.failures F.shortages F.is_honest files.old files.new }
-        ensures failed { IfErr result (λ e. (e ≡ RedoError.Failed) × HasFailed F.failures F.shortages files.old files.new) }
+        ensures after { ComesAfter F.model files.old files.new }
+        ensures failed { IfErr result (λ e. (e ≡ RedoError.Failed) × HasFailed F.model files.old files.new) }
     {
         files.sync(FileKind::Records)?;
         // A shut gate isn't shut again: a crash might tear that write and open the gate, and the old entries after it

@@ -18,10 +18,10 @@ pub fn read_onto<F: FilePair>(
     len: usize,
     bytes: &mut Vec<u8>,
 ) -> Result<(), RedoError>
-    ensures bytes { OnOk result (ReadOnto len at (F.seen files.old file) (F.is_honest files.new) bytes.old.items bytes.new.items) }
-    ensures nothing_written { WritesNothing F.seen F.may_leave F.moment F.left_since files.old files.new }
-    ensures failed { IsErrOf result RedoError.Failed → HasFailed F.failures F.shortages files.old files.new }
-    ensures after { ComesAfter F.failures F.shortages F.is_honest files.old files.new }
+    ensures bytes { OnOk result (ReadOnto len at (F.model.seen files.old file) (F.model.is_honest files.new) bytes.old.items bytes.new.items) }
+    ensures nothing_written { WritesNothing F.model files.old files.new }
+    ensures failed { IsErrOf result RedoError.Failed → HasFailed F.model files.old files.new }
+    ensures after { ComesAfter F.model files.old files.new }
     ensures errors { IfErr result (λ e. (e ≡ RedoError.Memory) ⊎ (e ≡ RedoError.Failed)) }
 {
     files.read_onto(file, at, len, bytes)
@@ -36,10 +36,10 @@ pub fn read<F: FilePair>(
     len: usize,
 ) -> Result<Vec<u8>, RedoError>
     ensures len { IfOk result (λ bytes. length bytes.items ≡ len) }
-    ensures bytes { IfOk result (λ bytes. F.is_honest files.new → bytes.items ≡ bytes_at len at (F.seen files.old file)) }
-    ensures nothing_written { WritesNothing F.seen F.may_leave F.moment F.left_since files.old files.new }
-    ensures failed { IsErrOf result RedoError.Failed → HasFailed F.failures F.shortages files.old files.new }
-    ensures after { ComesAfter F.failures F.shortages F.is_honest files.old files.new }
+    ensures bytes { IfOk result (λ bytes. F.model.is_honest files.new → bytes.items ≡ bytes_at len at (F.model.seen files.old file)) }
+    ensures nothing_written { WritesNothing F.model files.old files.new }
+    ensures failed { IsErrOf result RedoError.Failed → HasFailed F.model files.old files.new }
+    ensures after { ComesAfter F.model files.old files.new }
     ensures errors { IfErr result (λ e. (e ≡ RedoError.Memory) ⊎ (e ≡ RedoError.Failed)) }
 {
     let mut bytes = Vec::with_capacity(alloc, len)?;
@@ -49,11 +49,11 @@ pub fn read<F: FilePair>(
 
 /// Syncs both files. After `Ok`, a crash leaves what a read returns.
 pub fn sync_both<F: FilePair>(files: &mut F) -> Result<(), RedoError>
-    ensures log { OnOk result (IsSure FileKind.Log (F.seen files.new) (F.may_leave files.new)) }
-    ensures records { OnOk result (IsSure FileKind.Records (F.seen files.new) (F.may_leave files.new)) }
-    ensures nothing_written { WritesNothing F.seen F.may_leave F.moment F.left_since files.old files.new }
-    ensures failed { IfErr result (λ e. (e ≡ RedoError.Failed) × HasFailed F.failures F.shortages files.old files.new) }
-    ensures after { ComesAfter F.failures F.shortages F.is_honest files.old files.new }
+    ensures log { OnOk result (IsSure F.model FileKind.Log files.new) }
+    ensures records { OnOk result (IsSure F.model FileKind.Records files.new) }
+    ensures nothing_written { WritesNothing F.model files.old files.new }
+    ensures failed { IfErr result (λ e. (e ≡ RedoError.Failed) × HasFailed F.model files.old files.new) }
+    ensures after { ComesAfter F.model files.old files.new }
 {
     files.sync(FileKind::Log)?;
     files.sync(FileKind::Records)
@@ -66,13 +66,13 @@ pub fn write_synced<F: FilePair>(
     at: u64,
     bytes: &[u8],
 ) -> Result<(), RedoError>
-    ensures written { OnOk result (Wrote file at bytes.now (F.seen files.old) (F.seen files.new)) }
-    ensures sure { OnOk result (IsSure file (F.seen files.new) (F.may_leave files.new)) }
-    ensures torn { Torn file at (length bytes.now) (F.seen files.old) (F.seen files.new) }
-    ensures crash { Follows (Torn file at (length bytes.now)) (F.may_leave files.old) (F.may_leave files.new) }
-    ensures moments { LeavesOnly F.moment F.left_since files.old files.new (Tears file at (length bytes.now) (F.may_leave files.old)) }
-    ensures after { ComesAfter F.failures F.shortages F.is_honest files.old files.new }
-    ensures cause { HasCause F.failures F.shortages files.old files.new result }
+    ensures written { OnOk result (Wrote file at bytes.now (F.model.seen files.old) (F.model.seen files.new)) }
+    ensures sure { OnOk result (IsSure F.model file files.new) }
+    ensures torn { Torn file at (length bytes.now) (F.model.seen files.old) (F.model.seen files.new) }
+    ensures crash { Follows (Torn file at (length bytes.now)) (F.model.may_leave files.old) (F.model.may_leave files.new) }
+    ensures moments { LeavesOnly F.model files.old files.new (Tears file at (length bytes.now) (F.model.may_leave files.old)) }
+    ensures after { ComesAfter F.model files.old files.new }
+    ensures cause { HasCause F.model files.old files.new result }
     ensures errors { IfErr result (λ e. (e ≡ RedoError.NoRoom) ⊎ (e ≡ RedoError.Failed)) }
 {
     files.write_at(file, at, bytes)?;
@@ -82,13 +82,13 @@ pub fn write_synced<F: FilePair>(
 /// Writes a byte over a gate of the log, and syncs the log. That can't be taken back, so it fails with `Failed` even if
 /// it finds no room.
 pub fn set_gate<F: FilePair>(files: &mut F, at: u64, gate: u8) -> Result<(), RedoError>
-    ensures written { OnOk result (Wrote FileKind.Log at (gate ∷ []) (F.seen files.old) (F.seen files.new)) }
-    ensures sure { OnOk result (IsSure FileKind.Log (F.seen files.new) (F.may_leave files.new)) }
-    ensures torn { Torn FileKind.Log at 1 (F.seen files.old) (F.seen files.new) }
-    ensures crash { Follows (Torn FileKind.Log at 1) (F.may_leave files.old) (F.may_leave files.new) }
-    ensures moments { LeavesOnly F.moment F.left_since files.old files.new (Tears FileKind.Log at 1 (F.may_leave files.old)) }
-    ensures failed { IfErr result (λ e. (e ≡ RedoError.Failed) × HasFailed F.failures F.shortages files.old files.new) }
-    ensures after { ComesAfter F.failures F.shortages F.is_honest files.old files.new }
+    ensures written { OnOk result (Wrote FileKind.Log at (gate ∷ []) (F.model.seen files.old) (F.model.seen files.new)) }
+    ensures sure { OnOk result (IsSure F.model FileKind.Log files.new) }
+    ensures torn { Torn FileKind.Log at 1 (F.model.seen files.old) (F.model.seen files.new) }
+    ensures crash { Follows (Torn FileKind.Log at 1) (F.model.may_leave files.old) (F.model.may_leave files.new) }
+    ensures moments { LeavesOnly F.model files.old files.new (Tears FileKind.Log at 1 (F.model.may_leave files.old)) }
+    ensures failed { IfErr result (λ e. (e ≡ RedoError.Failed) × HasFailed F.model files.old files.new) }
+    ensures after { ComesAfter F.model files.old files.new }
 {
     match write_synced(files, FileKind::Log, at, &[gate]) {
         Ok(()) => Ok(()),
@@ -98,12 +98,12 @@ pub fn set_gate<F: FilePair>(files: &mut F, at: u64, gate: u8) -> Result<(), Red
 
 /// Writes each patch to its place, without a sync.
 pub fn put_in_place<F: FilePair>(files: &mut F, batch: &[Patch]) -> Result<(), RedoError>
-    ensures records { OnOk result (Agrees (F.seen files.new FileKind.Records) (put_all (patches_of batch.now) (F.seen files.old FileKind.Records))) }
-    ensures log { Agrees (F.seen files.new FileKind.Log) (F.seen files.old FileKind.Log) }
-    ensures crash { Follows (Smeared (patches_of batch.now)) (F.may_leave files.old) (F.may_leave files.new) }
-    ensures moments { LeavesOnly F.moment F.left_since files.old files.new (Smears (patches_of batch.now) (F.may_leave files.old)) }
-    ensures failed { IfErr result (λ e. (e ≡ RedoError.Failed) × HasFailed F.failures F.shortages files.old files.new) }
-    ensures after { ComesAfter F.failures F.shortages F.is_honest files.old files.new }
+    ensures records { OnOk result (Agrees (F.model.seen files.new FileKind.Records) (put_all (patches_of batch.now) (F.model.seen files.old FileKind.Records))) }
+    ensures log { Agrees (F.model.seen files.new FileKind.Log) (F.model.seen files.old FileKind.Log) }
+    ensures crash { Follows (Smeared (patches_of batch.now)) (F.model.may_leave files.old) (F.model.may_leave files.new) }
+    ensures moments { LeavesOnly F.model files.old files.new (Smears (patches_of batch.now) (F.model.may_leave files.old)) }
+    ensures failed { IfErr result (λ e. (e ≡ RedoError.Failed) × HasFailed F.model files.old files.new) }
+    ensures after { ComesAfter F.model files.old files.new }
 {
     for patch in batch {
         if files

@@ -1,13 +1,13 @@
 //! A pair of the operating system's files.
 //!
-//! No contract says what a file of the system returns. So each method notes its call and the result in a record that
-//! only contracts read, and that record defines what the files hold: `is_honest` says that each read has returned what
+//! No contract says what a file of the system returns. So each method notes its call and the result in a history that
+//! only contracts read, and that history defines what the files hold: `is_honest` says that each read has returned what
 //! was written. The prover can't check that a method really makes the call that it notes: for that, read the code here.
 ghost use Rattle.std.specs.Prelude.{◌≡◌, ◌⊎◌, ◌+◌, ◌∷◌, true, false, List, ℕ, length, take, IfErr, IfOk, OnOk, refl, if◌then◌else◌};
 ghost use Rattle.std.proofs.Common.{inl};
 ghost use Rattle.oram_redo.specs.FilePair.{Contents};
 ghost use Rattle.oram_redo.specs.Note.{Call};
-ghost use Rattle.oram_redo.specs.System.{IsHonestRecord, LeftSince, MayLeaveAfter, only_after, seen_after};
+ghost use Rattle.oram_redo.specs.System.{IsHonestHistory, LeftSince, MayLeaveAfter, only_after, seen_after};
 
 use crate::call_history::CallHistory;
 use crate::{FileKind, FilePair, RedoError};
@@ -211,20 +211,16 @@ fn error_of(error: &io::Error) -> RedoError
 }
 
 impl<S: Start> FilePair for SystemPair<S> {
-    ghost seen = { λ m. seen_after S.first m.history.calls };
-
-    ghost may_leave = { λ m. MayLeaveAfter S.first m.history.calls };
-
-    ghost moment = { λ m. length m.history.calls };
-
-    ghost left_since = { λ m. LeftSince S.first m.history.calls };
-
-    ghost is_honest = { λ m. IsHonestRecord S.first m.history.calls };
-
     // Nothing is known about what makes a call fail.
-    ghost failures = { λ m n. Unit {0} };
-
-    ghost shortages = { λ m n. Unit {0} };
+    ghost model = { record {
+      seen = λ m. seen_after S.first m.history.calls;
+      may_leave = λ m. MayLeaveAfter S.first m.history.calls;
+      moment = λ m. length m.history.calls;
+      left_since = λ m. LeftSince S.first m.history.calls;
+      is_honest = λ m. IsHonestHistory S.first m.history.calls;
+      failures = λ m n. Unit {0};
+      shortages = λ m n. Unit {0};
+    } };
 
     ghost counts_now = { λ m t c le now. inl now };
 

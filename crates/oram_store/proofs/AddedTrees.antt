@@ -11,8 +11,8 @@ use Rattle.oram_layout.specs.Trees.{AddsTree, Trees, next_of, shape_at, shape_of
 use Rattle.oram_layout.specs.declared.trees.Tree.{Tree}
 use Rattle.oram_layout.proofs.Added.{tree_added}
 use Rattle.oram_layout.proofs.Contents.{content_is}
+use Rattle.oram_redo.specs.FilePair.{FileModel}
 use Rattle.oram_redo.specs.Content.{Agrees, Content}
-use Rattle.oram_redo.specs.FilePair.{Contents}
 use Rattle.oram_redo.specs.Log.{AgreesBut, put_all}
 use Rattle.oram_redo.specs.declared.file_pair.FileKind.TheVariants.{Records}
 use Rattle.oram_store.specs.Crashes.{IsCarriedOut, MayBeFound, MayHold, Serves, ServesWhole}
@@ -48,57 +48,57 @@ leads_there old new number depth record_len tree adds sizes other = go (other ==
         let differs : other ≢ number = grind (arith, nat_tests, e) in
         ap shape_of (adds.others other differs) ∙ sym (cond-false (other == number) (Some (record { depth = depth; record_len = record_len })) (shape_at old other) e)
 
-module _ {F : Type 0} (seen : F → Contents) (may_leave : F → Contents → Type 0) (moment : F → ℕ) (left_since : F → ℕ → Contents → Type 0)
-    (number depth record_len : ℕ) (tree : Tree) (more : Trees) (mid new : StoreValue F) (s : IsSound seen may_leave mid) (none : mid.pending ≡ []) (still : new.pending ≡ [])
+module _ {F : Type 0} (model : FileModel F)
+    (number depth record_len : ℕ) (tree : Tree) (more : Trees) (mid new : StoreValue F) (s : IsSound model mid) (none : mid.pending ≡ []) (still : new.pending ≡ [])
     (adds : AddsTree mid.trees number tree more) (leads : ChangesTrees mid.trees (request.Shape number depth record_len) more) (base : tree.base ≡ next_of mid.trees) where
-  before : sure_records seen mid ≡ records_of seen mid
-  before = ap (λ (l : List ℕ). λ t n. records_in mid.trees (put_all (marks l) (seen mid.file.files Records)) t n) (sym none)
+  before : sure_records model mid ≡ records_of model mid
+  before = ap (λ (l : List ℕ). λ t n. records_in mid.trees (put_all (marks l) (model.seen mid.file.files Records)) t n) (sym none)
 
-  after : records_in new.trees (seen new.file.files Records) ≡ records_of seen new
-  after = ap (λ (l : List ℕ). λ t n. records_in new.trees (put_all (marks l) (seen new.file.files Records)) t n) (sym still)
+  after : records_in new.trees (model.seen new.file.files Records) ≡ records_of model new
+  after = ap (λ (l : List ℕ). λ t n. records_in new.trees (put_all (marks l) (model.seen new.file.files Records)) t n) (sym still)
 
-  made : (c : Content) → Agrees c (put_all (tree_patch number tree ∷ []) (seen mid.file.files Records)) → Holds more (records_of seen mid) c
+  made : (c : Content) → Agrees c (put_all (tree_patch number tree ∷ []) (model.seen mid.file.files Records)) → Holds more (records_of model mid) c
   made c agrees =
-      let added = tree_added mid.trees more (seen mid.file.files Records) c number tree s.file.file adds base agrees in
+      let added = tree_added mid.trees more (model.seen mid.file.files Records) c number tree s.file.file adds base agrees in
       record { file = added.is_file; kept = subst (λ (r : RecordsOf). AreKept r (records_in more c)) before added.kept }
 
   whole : (r : Result Unit StoreFault) (given : HostAnswer) → (OnErr r (new.file.has_stopped ≡ true) → MayBeFound given new.file.has_stopped)
-      → Commits seen may_leave moment left_since (tree_patch number tree ∷ []) r mid.file new.file → ServesWhole seen moment left_since (request.Shape number depth record_len) given mid new
-  whole r given allows commits = found_leads seen may_leave moment left_since mid.file.files new.file.files
-      (λ c. AgreesBut s.file.loose c (seen mid.file.files Records) ⊎ OnlyIf (OnErr r (new.file.has_stopped ≡ true)) (Agrees c (put_all (tree_patch number tree ∷ []) (seen mid.file.files Records))))
-      (λ c. MayHold mid.trees (sure_records seen mid) (records_of seen mid) c ⊎ OnlyIf (MayBeFound given new.file.has_stopped) (IsCarriedOut mid.trees (records_of seen mid) (request.Shape number depth record_len) c))
+      → Commits model (tree_patch number tree ∷ []) r mid.file new.file → ServesWhole model (request.Shape number depth record_len) given mid new
+  whole r given allows commits = found_leads model mid.file.files new.file.files
+      (λ c. AgreesBut s.file.loose c (model.seen mid.file.files Records) ⊎ OnlyIf (OnErr r (new.file.has_stopped ≡ true)) (Agrees c (put_all (tree_patch number tree ∷ []) (model.seen mid.file.files Records))))
+      (λ c. MayHold mid.trees (sure_records model mid) (records_of model mid) c ⊎ OnlyIf (MayBeFound given new.file.has_stopped) (IsCarriedOut mid.trees (records_of model mid) (request.Shape number depth record_len) c))
       (commits.moments s.file.loose s.file.steady)
-      (λ c either. ⊎_elim (λ but. inl (inl (holds_but mid.trees s.file.loose (seen mid.file.files Records) c s.file.file s.file.off but)))
+      (λ c either. ⊎_elim (λ but. inl (inl (holds_but mid.trees s.file.loose (model.seen mid.file.files Records) c s.file.file s.file.off but)))
       (λ found. inr (record { allowed = allows found.allowed; holds = (more, leads, made c found.holds) })) either)
 
   no_cells : All (IsCell new.trees) new.pending
   no_cells = subst (λ (l : List ℕ). All (IsCell new.trees) l) (sym still) (λ k d h. absurd (omega arith))
 
-  pub serves_shape : (x : Unit {0}) → Commits seen may_leave moment left_since (tree_patch number tree ∷ []) (Ok x) mid.file new.file → new.trees ≡ more
-      → Serves seen may_leave moment left_since (request.Shape number depth record_len) answer.Done mid new
+  pub serves_shape : (x : Unit {0}) → Commits model (tree_patch number tree ∷ []) (Ok x) mid.file new.file → new.trees ≡ more
+      → Serves model (request.Shape number depth record_len) answer.Done mid new
   serves_shape x commits is =
-      let held = made (seen new.file.files Records) commits.done in
+      let held = made (model.seen new.file.files Records) commits.done in
       record {
         sound = λ running. record {
           file = record {
             loose = [];
             steady = commits.sure s.file.loose s.file.steady running;
             off = λ k d h. absurd (omega arith);
-            file = subst (λ (t : Trees). IsBucketFile t (seen new.file.files Records)) (sym is) held.file;
+            file = subst (λ (t : Trees). IsBucketFile t (model.seen new.file.files Records)) (sym is) held.file;
           };
           cells = no_cells;
         };
-        records = λ running. subst (λ (r : RecordsOf). AreKept (records_of seen mid) r) after (subst (λ (t : Trees). AreKept (records_of seen mid) (records_in t (seen new.file.files Records))) (sym is) held.kept);
+        records = λ running. subst (λ (r : RecordsOf). AreKept (records_of model mid) r) after (subst (λ (t : Trees). AreKept (records_of model mid) (records_in t (model.seen new.file.files Records))) (sym is) held.kept);
         any_moment = whole (Ok x) answer.Done (λ done. tt) commits;
       }
 
-  pub serves_no_shape : (e : StoreFault) → Commits seen may_leave moment left_since (tree_patch number tree ∷ []) (Err e) mid.file new.file → new.trees ≡ mid.trees
-      → Serves seen may_leave moment left_since (request.Shape number depth record_len) (answer.Refused 8) mid new
+  pub serves_no_shape : (e : StoreFault) → Commits model (tree_patch number tree ∷ []) (Err e) mid.file new.file → new.trees ≡ mid.trees
+      → Serves model (request.Shape number depth record_len) (answer.Refused 8) mid new
   serves_no_shape e commits is = record {
     sound = λ running.
-        let same : seen new.file.files Records ≡ seen mid.file.files Records = content_is (seen mid.file.files Records) (seen new.file.files Records) (commits.undone running) in
+        let same : model.seen new.file.files Records ≡ model.seen mid.file.files Records = content_is (model.seen mid.file.files Records) (model.seen new.file.files Records) (commits.undone running) in
         record {
-          file = subst (λ (t : Trees). IsSoundFile seen may_leave t new.file) (sym is) (record {
+          file = subst (λ (t : Trees). IsSoundFile model t new.file) (sym is) (record {
             loose = s.file.loose;
             steady = commits.steady s.file.loose s.file.steady running;
             off = subst (λ (c : Content). All (IsOffRecords mid.trees c) s.file.loose) (sym same) s.file.off;
@@ -107,8 +107,8 @@ module _ {F : Type 0} (seen : F → Contents) (may_leave : F → Contents → Ty
           cells = no_cells;
         };
     records = λ running t n.
-        let same : seen new.file.files Records ≡ seen mid.file.files Records = content_is (seen mid.file.files Records) (seen new.file.files Records) (commits.undone running) in
-        ap (λ (r : RecordsOf). r t n) (sym after) ∙ ap (λ (ts : Trees). records_in ts (seen new.file.files Records) t n) is
+        let same : model.seen new.file.files Records ≡ model.seen mid.file.files Records = content_is (model.seen mid.file.files Records) (model.seen new.file.files Records) (commits.undone running) in
+        ap (λ (r : RecordsOf). r t n) (sym after) ∙ ap (λ (ts : Trees). records_in ts (model.seen new.file.files Records) t n) is
         ∙ ap (λ (c : Content). records_in mid.trees c t n) same ∙ ap (λ (r : RecordsOf). r t n) before;
     any_moment = whole (Err e) (answer.Refused 8) (λ stopped. stopped) commits;
   }

@@ -5,13 +5,13 @@ use Rattle.std.proofs.lemmas.Bool.{cond-true}
 use Rattle.std.proofs.lemmas.Bool.Decides.{nat_tests}
 use Rattle.oram_host.specs.declared.refusals.HostRefusal.{HostRefusal}
 use Rattle.oram_host.specs.declared.refusals.HostRefusal.TheVariants as refusal
-use Rattle.oram_layout.specs.Limits.{is_shape}
+use Rattle.oram_host.specs.ImageReader.{is_shape}
 use Rattle.oram_layout.specs.Trees.{Trees, shape_at, shape_of, tree_at}
 use Rattle.oram_layout.specs.declared.trees.Tree.{Tree}
 use Rattle.oram_store.specs.Refusals.{refusal_by}
 use Rattle.oram_wire.specs.declared.host_messages.HostRequest.TheVariants as request
 
--- a request that isn't refused owes nothing that is said of one that is
+-- a clause about refused requests says nothing of one that isn't refused
 pub not_refused : (why : Option HostRefusal) (P : Type 0) → why ≡ None → IsSome why → P
 not_refused None P is some = absurd (true≢false (sym some))
 not_refused (Some x) P is some = absurd (differs is)

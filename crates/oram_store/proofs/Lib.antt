@@ -7,9 +7,9 @@ pub mod Allowed
 pub mod Sound
 pub mod Levels
 pub mod BatchBytes
-pub mod SettledPuts
+pub mod CommittedPuts
 pub mod Served
 pub mod AddedRecords
 pub mod Puts
 pub mod AddedTrees
-pub mod Told
+pub mod Responses

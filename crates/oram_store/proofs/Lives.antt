@@ -2,7 +2,7 @@
 use Rattle.std.proofs.Common.{◌≡◌, ℕ, List, [], Option, None, Some, refl, sym, ◌∙◌, ap, subst, Bool, eq-eqb}
 use Rattle.std.specs.Prelude.{replicate, if◌then◌else◌, ◌==◌}
 use Rattle.oram_redo.specs.Content.{Content}
-use Rattle.oram_redo.specs.FilePair.{Contents}
+use Rattle.oram_redo.specs.FilePair.{Contents, FileModel}
 use Rattle.oram_redo.specs.Log.{AgreesBut, IsLog, StandsFor, put_all}
 use Rattle.oram_redo.specs.declared.file_pair.FileKind.TheVariants.{Log, Records}
 use Rattle.oram_layout.specs.Limits.{TreeShape}
@@ -20,13 +20,13 @@ use Rattle.oram_store.specs.RecordFile.{Finds, bounds}
 use Rattle.oram_store.proofs.Crashes.{found_more, found_now}
 use Rattle.oram_store.proofs.Sound.{holds_but}
 
-module _ {F : Type 0} (seen : F → Contents) (may_leave : F → Contents → Type 0) (moment : F → ℕ) (left_since : F → ℕ → Contents → Type 0) where
-  pub found_sure : (s : StoreValue F) → IsSound seen may_leave s → (c : Contents) → may_leave s.file.files c
-      → Finds (seen s.file.files) (Holds s.trees (sure_records seen s)) c
+module _ {F : Type 0} (model : FileModel F) where
+  pub found_sure : (s : StoreValue F) → IsSound model s → (c : Contents) → model.may_leave s.file.files c
+      → Finds (model.seen s.file.files) (Holds s.trees (sure_records model s)) c
   found_sure s sound c now =
-      found_more (seen s.file.files) c (λ r. AgreesBut sound.file.loose r (seen s.file.files Records)) (Holds s.trees (sure_records seen s))
-      (λ r but. holds_but s.trees sound.file.loose (seen s.file.files Records) r sound.file.file sound.file.off but)
-      (found_now seen may_leave moment left_since s.file sound.file.loose c sound.file.steady now)
+      found_more (model.seen s.file.files) c (λ r. AgreesBut sound.file.loose r (model.seen s.file.files Records)) (Holds s.trees (sure_records model s))
+      (λ r but. holds_but s.trees sound.file.loose (model.seen s.file.files Records) r sound.file.file sound.file.off but)
+      (found_now model s.file sound.file.loose c sound.file.steady now)
 
 -- files whose log is empty stand for their records
 pub stands_alone : (files : Contents) → IsLog bounds [] (files Log) → StandsFor bounds [] (files Records) files
@@ -50,24 +50,24 @@ shape_given a b tree = ap (λ (test : Bool). if test then a else b) (eq-eqb tree
 one_shape : (a b : TreeShape) → Some a ≡ Some b → a ≡ b
 one_shape a b e = cc
 
-module _ {F : Type 0} (seen : F → Contents) (may_leave : F → Contents → Type 0) (moment : F → ℕ) (left_since : F → ℕ → Contents → Type 0) where
+module _ {F : Type 0} (model : FileModel F) where
   -- if no record waits, the records that the answers are about are sure
-  pub sure_is : (s : StoreValue F) → s.pending ≡ [] → AreKept (records_of seen s) (sure_records seen s)
-  sure_is s none tree node = sym (ap (λ (cells : List ℕ). records_in s.trees (put_all (marks cells) (seen s.file.files Records)) tree node) none)
+  pub sure_is : (s : StoreValue F) → s.pending ≡ [] → AreKept (records_of model s) (sure_records model s)
+  sure_is s none tree node = sym (ap (λ (cells : List ℕ). records_in s.trees (put_all (marks cells) (model.seen s.file.files Records)) tree node) none)
 
   -- a path that was stored over no records
-  pub path_found : (shaped stored : StoreValue F) (tree : ℕ) (shape : TreeShape) (leaf : ℕ) (bytes : List ℕ) → AreKept no_records (records_of seen shaped)
+  pub path_found : (shaped stored : StoreValue F) (tree : ℕ) (shape : TreeShape) (leaf : ℕ) (bytes : List ℕ) → AreKept no_records (records_of model shaped)
       → shape_at shaped.trees tree ≡ Some shape → stored.trees ≡ shaped.trees
-      → Answers shaped.trees (records_of seen shaped) (request.Store tree leaf bytes) answer.Done (records_of seen stored)
-      → stored.pending ≡ [] → IsSound seen may_leave stored → (c : Contents) → may_leave stored.file.files c
-      → Finds (seen stored.file.files) (HoldsPath stored.trees tree shape leaf bytes) c
+      → Answers shaped.trees (records_of model shaped) (request.Store tree leaf bytes) answer.Done (records_of model stored)
+      → stored.pending ≡ [] → IsSound model stored → (c : Contents) → model.may_leave stored.file.files c
+      → Finds (model.seen stored.file.files) (HoldsPath stored.trees tree shape leaf bytes) c
   path_found shaped stored tree shape leaf bytes empty there same stores none sound c now =
-      found_more (seen stored.file.files) c (Holds stored.trees (sure_records seen stored)) (HoldsPath stored.trees tree shape leaf bytes)
+      found_more (model.seen stored.file.files) c (Holds stored.trees (sure_records model stored)) (HoldsPath stored.trees tree shape leaf bytes)
       (λ r holds. record {
         file = holds.file;
         shape = ap (λ (trees : Trees). shape_at trees tree) same ∙ there;
         records = subst (λ (s : TreeShape). Stores tree s leaf bytes no_records (records_in stored.trees r)) (one_shape stores.0 shape (sym stores.1 ∙ there))
-            (stores_then tree stores.0 leaf bytes no_records (records_of seen shaped) (records_of seen stored) (records_in stored.trees r) empty stores.2
+            (stores_then tree stores.0 leaf bytes no_records (records_of model shaped) (records_of model stored) (records_in stored.trees r) empty stores.2
             (λ number node. holds.kept number node ∙ sure_is stored none number node));
       })
-      (found_sure seen may_leave moment left_since stored sound c now)
+      (found_sure model stored sound c now)

@@ -1,13 +1,13 @@
 -- What a function owes where it ends early, because a call in it has failed.
 use Rattle.std.proofs.Common.{◌≡◌, ℕ, true, false, true≢false, inl, sym, ◌∙◌, subst, Result, Ok, Err}
 use Rattle.std.specs.Prelude.{IfErr, IfOk, IsErr, IsErrAnd, OnErr, OnOk}
-use Rattle.oram_redo.specs.FilePair.{ComesAfter}
+use Rattle.oram_redo.specs.FilePair.{ComesAfter, FileModel}
 use Rattle.oram_store.specs.RecordFile.{Calls, FileValue, IsReason, Runs}
 use Rattle.oram_store.specs.declared.faults.StoreFault.{StoreFault}
 use Rattle.oram_store.specs.declared.faults.StoreFault.TheVariants.{Closed, OutOfMemory}
 use Rattle.oram_store.proofs.Crashes.{calls_err, runs_none}
 
--- an error owes nothing that is said of success
+-- a clause about success says nothing of an error
 pub on_ok_none : {T E : Type 0} (result : Result T E) (P : Type 0) → IsErr result → OnOk result P
 on_ok_none {T} {E} (Ok x) P is = absurd (not_err is)
   where
@@ -36,23 +36,23 @@ pub if_err_passed : {T E : Type 0} (result : Result T E) (error : E) (P : E → 
 if_err_passed (Ok x) error P is holds = absurd is
 if_err_passed (Err e) error P is holds = subst P (sym is) holds
 
-module _ {F : Type 0} (failures shortages : F → ℕ → Type 0) (is_honest : F → Type 0) where
+module _ {F : Type 0} (model : FileModel F) where
   -- the error of the only call is passed on
   pub calls_passed : {T U : Type 0} (result : Result U StoreFault) (fault : StoreFault) (old new : FileValue F) → IsErrAnd result (λ e. e ≡ fault)
-      → Calls {T = T} failures shortages is_honest (Err fault) old new → Calls failures shortages is_honest result old new
+      → Calls {T = T} model (Err fault) old new → Calls model result old new
   calls_passed {T} (Ok x) fault old new is calls = absurd is
   calls_passed {T} {U} (Err e) fault old new is calls =
-      subst (λ (f : StoreFault). Calls {T = U} failures shortages is_honest (Err f) old new) (sym is) (calls_err failures shortages is_honest {T = T} fault old new calls)
+      subst (λ (f : StoreFault). Calls {T = U} model (Err f) old new) (sym is) (calls_err model {T = T} fault old new calls)
 
   -- memory ran out after calls that went well
-  pub calls_memory : {U : Type 0} (result : Result U StoreFault) (old new : FileValue F) → IsErrAnd result (λ e. e ≡ OutOfMemory) → Runs failures shortages is_honest old new
-      → Calls failures shortages is_honest result old new
+  pub calls_memory : {U : Type 0} (result : Result U StoreFault) (old new : FileValue F) → IsErrAnd result (λ e. e ≡ OutOfMemory) → Runs model old new
+      → Calls model result old new
   calls_memory (Ok x) old new is runs = absurd is
-  calls_memory (Err e) old new is runs = record { runs = runs; goes_on = tt; reason = subst (λ (f : StoreFault). IsReason failures shortages old new f) (sym is) tt }
+  calls_memory (Err e) old new is runs = record { runs = runs; goes_on = tt; reason = subst (λ (f : StoreFault). IsReason model old new f) (sym is) tt }
 
   -- a call after which the file goes on
-  pub calls_made : {T : Type 0} (result : Result T StoreFault) (old new : FileValue F) → old.has_stopped ≡ false → ComesAfter failures shortages is_honest old.files new.files
-      → new.has_stopped ≡ old.has_stopped → IfErr result (IsReason failures shortages old new) → Calls failures shortages is_honest result old new
+  pub calls_made : {T : Type 0} (result : Result T StoreFault) (old new : FileValue F) → old.has_stopped ≡ false → ComesAfter model old.files new.files
+      → new.has_stopped ≡ old.has_stopped → IfErr result (IsReason model old new) → Calls model result old new
   calls_made result old new running after same reason = record {
     runs = record { after = after; stops = λ stopped. inl (sym same ∙ stopped); stays = λ stopped. absurd (true≢false (sym stopped ∙ running)) };
     goes_on = on_ok_holds result _ same;
@@ -60,5 +60,5 @@ module _ {F : Type 0} (failures shortages : F → ℕ → Type 0) (is_honest : F
   }
 
   -- a call of a file that has stopped
-  pub calls_closed : {T : Type 0} (v : FileValue F) → v.has_stopped ≡ true → Calls {T = T} failures shortages is_honest (Err Closed) v v
-  calls_closed v stopped = record { runs = runs_none failures shortages is_honest v; goes_on = tt; reason = stopped }
+  pub calls_closed : {T : Type 0} (v : FileValue F) → v.has_stopped ≡ true → Calls {T = T} model (Err Closed) v v
+  calls_closed v stopped = record { runs = runs_none model v; goes_on = tt; reason = stopped }

@@ -2,9 +2,9 @@
 use Rattle.std.proofs.Common.{◌≡◌, ◌⊎◌, inl, inr, ⊎_elim, ℕ, ◌≤◌, false, List, [], length, None, refl, sym, ◌∙◌, ap, subst, arith}
 use Rattle.std.specs.Prelude.{replicate}
 use Rattle.oram_redo.specs.Content.{Content, Agrees, Has, put}
-use Rattle.oram_redo.specs.FilePair.{ComesAfter, Contents, HasFailed, Same, WritesNothing}
+use Rattle.oram_redo.specs.FilePair.{ComesAfter, Contents, FileModel, HasFailed, Same, WritesNothing}
 use Rattle.oram_redo.specs.Log.{StandsAlike, StandsFor}
-use Rattle.oram_redo.specs.Redo.{IsSettled, bounds_of}
+use Rattle.oram_redo.specs.Redo.{IsCrashConsistent, bounds_of}
 use Rattle.oram_redo.specs.declared.faults.RedoError.{RedoError}
 use Rattle.oram_redo.specs.declared.faults.RedoError.TheVariants as error
 use Rattle.oram_redo.specs.declared.file_pair.FileKind.TheVariants.{Records}
@@ -45,104 +45,103 @@ first_file n identity front c all is whole same =
 pub same_contents : (mid c : Content) (files : Contents) → StandsFor bounds [] mid files → StandsFor bounds [] c files → mid ≡ c
 same_contents mid c files one two = content_is c mid (λ i. files_stand_for_one bounds [] mid c files one two i tt)
 
-module _ {F : Type 0} (failures shortages : F → ℕ → Type 0) (is_honest : F → Type 0) where
-  pub comes_then : (old mid new : F) → ComesAfter failures shortages is_honest old mid → ComesAfter failures shortages is_honest mid new → ComesAfter failures shortages is_honest old new
+module _ {F : Type 0} (model : FileModel F) where
+  pub comes_then : (old mid new : F) → ComesAfter model old mid → ComesAfter model mid new → ComesAfter model old new
   comes_then old mid new first second = record {
     honest = λ h. first.honest (second.honest h);
     failed = λ n h. second.failed n (first.failed n h);
     short = λ n h. second.short n (first.short n h);
   }
 
-  pub failed_later : (old mid new : F) → ComesAfter failures shortages is_honest old mid → HasFailed failures shortages mid new → HasFailed failures shortages old new
+  pub failed_later : (old mid new : F) → ComesAfter model old mid → HasFailed model mid new → HasFailed model old new
   failed_later old mid new first (inl more) = inl (λ n h. more n (first.failed n h))
   failed_later old mid new first (inr more) = inr (λ n h. more n (first.short n h))
 
-module _ {F : Type 0} (seen : F → Contents) (may_leave : F → Contents → Type 0) (moment : F → ℕ) (left_since : F → ℕ → Contents → Type 0) where
+module _ {F : Type 0} (model : FileModel F) where
   -- nothing more is written
-  pub opens_on : (old mid new : F) → OpensAlike seen may_leave moment left_since old mid → WritesNothing seen may_leave moment left_since mid new
-      → ((t : ℕ) (c : Contents) → t ≤ moment mid → may_leave mid c → left_since mid t c) → OpensAlike seen may_leave moment left_since old new
+  pub opens_on : (old mid new : F) → OpensAlike model old mid → WritesNothing model mid new
+      → ((t : ℕ) (c : Contents) → t ≤ model.moment mid → model.may_leave mid c → model.left_since mid t c) → OpensAlike model old new
   opens_on old mid new first nothing counts_now =
-      then_leaves moment left_since old mid new (λ c. may_leave old c ⊎ StandsAlike bounds (seen old) c) (may_leave mid) first nothing.moments
-      (λ c now. first.each c (counts_now (moment old) c first.later now))
+      then_leaves model old mid new (λ c. model.may_leave old c ⊎ StandsAlike bounds (model.seen old) c) (model.may_leave mid) first nothing.moments
+      (λ c now. first.each c (counts_now (model.moment old) c first.later now))
 
-  pub opened_by : (redo : Redo) (trees : Trees) (old mid new : F) → StandsFor bounds [] (seen mid Records) (seen old) → Same (seen new) (seen mid)
-      → IsSettled redo [] (seen new) (may_leave new) → HasTrees trees (seen mid Records) → AreApart trees → IsOpened seen may_leave redo trees old new
-  opened_by redo trees old mid new stands same settled has apart =
-      let is : seen new Records ≡ seen mid Records = content_is (seen mid Records) (seen new Records) (same Records) in
+  pub opened_by : (redo : Redo) (trees : Trees) (old mid new : F) → StandsFor bounds [] (model.seen mid Records) (model.seen old) → Same (model.seen new) (model.seen mid)
+      → IsCrashConsistent model redo [] new → HasTrees trees (model.seen mid Records) → AreApart trees → IsOpened model redo trees old new
+  opened_by redo trees old mid new stands same consistent has apart =
+      let is : model.seen new Records ≡ model.seen mid Records = content_is (model.seen mid Records) (model.seen new Records) (same Records) in
       record {
-        stands = subst (λ (c : Content). StandsFor bounds [] c (seen old)) (sym is) stands;
-        settled = settled;
+        stands = subst (λ (c : Content). StandsFor bounds [] c (model.seen old)) (sym is) stands;
+        consistent = consistent;
         trees_stand = subst (λ (c : Content). HasTrees trees c) (sym is) has;
         apart = apart;
       }
 
-  module _ (failures shortages : F → ℕ → Type 0) (is_honest : F → Type 0) where
-    -- the redo log can't be recovered
-    pub not_recovered : (e : RedoError) (old new : F) → (e ≡ error.Memory) ⊎ (e ≡ error.Failed) ⊎ (e ≡ error.Damaged)
-        → ComesAfter failures shortages is_honest old new → (is_honest new → OpensAlike seen may_leave moment left_since old new)
-        → (is_honest new → e ≡ error.Damaged → (c : Content) → StandsFor bounds [] c (seen old) → ⊥) → (e ≡ error.Failed → HasFailed failures shortages old new)
-        → IsNotOpened seen may_leave moment left_since failures shortages is_honest (fault_of e) old new
-    not_recovered error.Memory old new errors after moments damaged failed =
-        record { after = after; any_moment = moments; damaged = λ is. cc; failed = λ is. cc; which = inl refl }
-    not_recovered error.NoRoom old new errors after moments damaged failed = absurd (⊎_elim (λ is. cc) (λ rest. ⊎_elim (λ is. cc) (λ is. cc) rest) errors)
-    not_recovered error.LogFull old new errors after moments damaged failed = absurd (⊎_elim (λ is. cc) (λ rest. ⊎_elim (λ is. cc) (λ is. cc) rest) errors)
-    not_recovered error.Failed old new errors after moments damaged failed =
-        record { after = after; any_moment = moments; damaged = λ is. cc; failed = λ is. failed refl; which = inr (inl refl) }
-    not_recovered error.Damaged old new errors after moments damaged failed =
-        record { after = after; any_moment = moments; damaged = λ is honest trees c stands file. damaged honest refl c stands; failed = λ is. cc; which = inr (inr refl) }
+  -- the redo log can't be recovered
+  pub not_recovered : (e : RedoError) (old new : F) → (e ≡ error.Memory) ⊎ (e ≡ error.Failed) ⊎ (e ≡ error.Damaged)
+      → ComesAfter model old new → (model.is_honest new → OpensAlike model old new)
+      → (model.is_honest new → e ≡ error.Damaged → (c : Content) → StandsFor bounds [] c (model.seen old) → ⊥) → (e ≡ error.Failed → HasFailed model old new)
+      → IsNotOpened model (fault_of e) old new
+  not_recovered error.Memory old new errors after moments damaged failed =
+      record { after = after; any_moment = moments; damaged = λ is. cc; failed = λ is. cc; which = inl refl }
+  not_recovered error.NoRoom old new errors after moments damaged failed = absurd (⊎_elim (λ is. cc) (λ rest. ⊎_elim (λ is. cc) (λ is. cc) rest) errors)
+  not_recovered error.LogFull old new errors after moments damaged failed = absurd (⊎_elim (λ is. cc) (λ rest. ⊎_elim (λ is. cc) (λ is. cc) rest) errors)
+  not_recovered error.Failed old new errors after moments damaged failed =
+      record { after = after; any_moment = moments; damaged = λ is. cc; failed = λ is. failed refl; which = inr (inl refl) }
+  not_recovered error.Damaged old new errors after moments damaged failed =
+      record { after = after; any_moment = moments; damaged = λ is honest trees c stands file. damaged honest refl c stands; failed = λ is. cc; which = inr (inr refl) }
 
-    -- the header can't be read
-    pub not_read : (why : StoreFault) (old mid new : F) → (why ≡ fault.OutOfMemory) ⊎ (why ≡ fault.Io)
-        → ComesAfter failures shortages is_honest old mid → ComesAfter failures shortages is_honest mid new
-        → (is_honest new → OpensAlike seen may_leave moment left_since old new) → (why ≡ fault.Io → HasFailed failures shortages mid new)
-        → IsNotOpened seen may_leave moment left_since failures shortages is_honest why old new
-    not_read why old mid new which first second moments failed = record {
-      after = comes_then failures shortages is_honest old mid new first second;
-      any_moment = moments;
-      damaged = λ is. absurd (⊎_elim (λ memory. cc) (λ io. cc) which);
-      failed = λ is. failed_later failures shortages is_honest old mid new first (failed is);
-      which = ⊎_elim (λ memory. inl memory) (λ io. inr (inl io)) which;
-    }
+  -- the header can't be read
+  pub not_read : (why : StoreFault) (old mid new : F) → (why ≡ fault.OutOfMemory) ⊎ (why ≡ fault.Io)
+      → ComesAfter model old mid → ComesAfter model mid new
+      → (model.is_honest new → OpensAlike model old new) → (why ≡ fault.Io → HasFailed model mid new)
+      → IsNotOpened model why old new
+  not_read why old mid new which first second moments failed = record {
+    after = comes_then model old mid new first second;
+    any_moment = moments;
+    damaged = λ is. absurd (⊎_elim (λ memory. cc) (λ io. cc) which);
+    failed = λ is. failed_later model old mid new first (failed is);
+    which = ⊎_elim (λ memory. inl memory) (λ io. inr (inl io)) which;
+  }
 
-    -- its entries aren't those of trees
-    pub not_trees : (e : LayoutFault) (bytes : List ℕ) (old mid new : F) → ComesAfter failures shortages is_honest old mid → ComesAfter failures shortages is_honest mid new
-        → (is_honest new → OpensAlike seen may_leave moment left_since old new)
-        → (is_honest mid → StandsFor bounds [] (seen mid Records) (seen old)) → (is_honest new → Has bytes 4096 (seen mid Records))
-        → (e ≡ layout.Damaged → (trees : Trees) (c : Content) → Has bytes 4096 c → HasTrees trees c → AreApart trees → ⊥)
-        → IsNotOpened seen may_leave moment left_since failures shortages is_honest (fault_in e) old new
-    not_trees layout.OutOfMemory bytes old mid new first second moments stood has damaged =
-        record { after = comes_then failures shortages is_honest old mid new first second; any_moment = moments; damaged = λ is. cc; failed = λ is. cc; which = inl refl }
-    not_trees layout.Damaged bytes old mid new first second moments stood has damaged = record {
-      after = comes_then failures shortages is_honest old mid new first second;
-      any_moment = moments;
-      damaged = λ is honest trees c stands file.
-          let same = same_contents (seen mid Records) c (seen old) (stood (second.honest honest)) stands in
-          damaged refl trees (seen mid Records) (has honest) (subst (λ (d : Content). HasTrees trees d) (sym same) file.trees_stand) file.apart;
-      failed = λ is. cc;
-      which = inr (inr refl);
-    }
+  -- its entries aren't those of trees
+  pub not_trees : (e : LayoutFault) (bytes : List ℕ) (old mid new : F) → ComesAfter model old mid → ComesAfter model mid new
+      → (model.is_honest new → OpensAlike model old new)
+      → (model.is_honest mid → StandsFor bounds [] (model.seen mid Records) (model.seen old)) → (model.is_honest new → Has bytes 4096 (model.seen mid Records))
+      → (e ≡ layout.Damaged → (trees : Trees) (c : Content) → Has bytes 4096 c → HasTrees trees c → AreApart trees → ⊥)
+      → IsNotOpened model (fault_in e) old new
+  not_trees layout.OutOfMemory bytes old mid new first second moments stood has damaged =
+      record { after = comes_then model old mid new first second; any_moment = moments; damaged = λ is. cc; failed = λ is. cc; which = inl refl }
+  not_trees layout.Damaged bytes old mid new first second moments stood has damaged = record {
+    after = comes_then model old mid new first second;
+    any_moment = moments;
+    damaged = λ is honest trees c stands file.
+        let same = same_contents (model.seen mid Records) c (model.seen old) (stood (second.honest honest)) stands in
+        damaged refl trees (model.seen mid Records) (has honest) (subst (λ (d : Content). HasTrees trees d) (sym same) file.trees_stand) file.apart;
+    failed = λ is. cc;
+    which = inr (inr refl);
+  }
 
   -- a store over files that were opened
   abbrev pub fresh : F → Redo → Trees → StoreValue F
   fresh files redo trees = record { file = record { files = files; redo = redo; is_loose = false; has_stopped = false }; trees = trees; pending = []; failure = None }
 
-  pub fresh_found : (redo : Redo) (opened : Trees) (old new : F) → IsOpened seen may_leave redo opened old new → bounds_of redo ≡ bounds
-      → (trees : Trees) (c : Content) → StandsFor bounds [] c (seen old) → IsBucketFile trees c
-      → (opened ≡ trees) × IsSound seen may_leave (fresh new redo opened) × AreKept (records_in trees c) (records_of seen (fresh new redo opened))
+  pub fresh_found : (redo : Redo) (opened : Trees) (old new : F) → IsOpened model redo opened old new → bounds_of redo ≡ bounds
+      → (trees : Trees) (c : Content) → StandsFor bounds [] c (model.seen old) → IsBucketFile trees c
+      → (opened ≡ trees) × IsSound model (fresh new redo opened) × AreKept (records_in trees c) (records_of model (fresh new redo opened))
   fresh_found redo opened old new is bounded trees c stands file =
-      let same : seen new Records ≡ c = same_contents (seen new Records) c (seen old) is.stands stands in
+      let same : model.seen new Records ≡ c = same_contents (model.seen new Records) c (model.seen old) is.stands stands in
       let has : HasTrees opened c = subst (λ (d : Content). HasTrees opened d) same is.trees_stand in
       let one : opened ≡ trees = trees_one opened trees c has file.trees_stand in
-      let file_now : IsBucketFile opened (seen new Records) = subst (λ (ts : Trees). IsBucketFile ts (seen new Records)) (sym one) (subst (λ (d : Content). IsBucketFile trees d) (sym same) file) in (
+      let file_now : IsBucketFile opened (model.seen new Records) = subst (λ (ts : Trees). IsBucketFile ts (model.seen new Records)) (sym one) (subst (λ (d : Content). IsBucketFile trees d) (sym same) file) in (
         one,
         record {
           file = record {
             loose = [];
-            steady = record { bounded = bounded; settled = is.settled; sure = λ none. is.settled };
+            steady = record { bounded = bounded; consistent = is.consistent; sure = λ none. is.consistent };
             off = λ k d h. absurd (omega arith);
             file = file_now;
           };
           cells = λ k d h. absurd (omega arith);
         },
-        λ tree node. ap (λ (ts : Trees). records_in ts (seen new Records) tree node) one ∙ ap (λ (d : Content). records_in trees d tree node) same,
+        λ tree node. ap (λ (ts : Trees). records_in ts (model.seen new Records) tree node) one ∙ ap (λ (d : Content). records_in trees d tree node) same,
       )

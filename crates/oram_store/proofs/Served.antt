@@ -1,4 +1,4 @@
--- Requests that are served: after a settling, and by each kind of call.
+-- Requests that are served: after the pending PUTs are committed, and by each kind of call.
 use Rattle.std.proofs.Common.{◌≡◌, ◌⊎◌, inl, inr, ⊎_elim, ℕ, ◌≤◌, true, true≢false, List, [], Option, Some, None, refl, sym, ◌∙◌, ap, subst, Result, Ok, Err, arith}
 use Rattle.std.specs.Prelude.{All, IfOk, IsErr, MatchOption, MatchResult, OnErr}
 use Rattle.std.proofs.lemmas.Bool.{cases_Bool}
@@ -13,11 +13,11 @@ use Rattle.oram_layout.specs.Records.{AreKept, IsPathOf, LacksOn, Records as Rec
 use Rattle.oram_layout.specs.Trees.{Trees, shape_at, sizes_of, tree_at}
 use Rattle.oram_layout.specs.declared.trees.Tree.{Tree}
 use Rattle.oram_redo.specs.Content.{Content}
-use Rattle.oram_redo.specs.FilePair.{Contents, LeavesOnly}
+use Rattle.oram_redo.specs.FilePair.{Contents, FileModel, LeavesOnly}
 use Rattle.oram_redo.specs.Log.{put_all}
 use Rattle.oram_redo.specs.declared.file_pair.FileKind.TheVariants.{Records}
 use Rattle.oram_store.specs.Answers.{Answers, answer_by}
-use Rattle.oram_store.specs.Crashes.{IsCarriedOut, MayBeFound, MayHold, Serves, ServesWhole, Settles}
+use Rattle.oram_store.specs.Crashes.{IsCarriedOut, MayBeFound, MayHold, Serves, ServesWhole, CommitsPuts}
 use Rattle.oram_store.specs.KeptRecords.{Changes, Holds, IsSound, IsSoundFile, LeavesRecords, StoreValue, Stores, content_of, records_of, sure_records}
 use Rattle.oram_store.specs.Batches.{records_of_tree}
 use Rattle.oram_store.specs.RecordFile.{FileValue, Finds, OnlyIf, ReadsOnly}
@@ -27,7 +27,7 @@ use Rattle.oram_wire.specs.declared.host_messages.HostAnswer.TheVariants as answ
 use Rattle.oram_wire.specs.declared.host_messages.HostRequest.{HostRequest}
 use Rattle.oram_wire.specs.declared.host_messages.HostRequest.TheVariants as request
 use Rattle.oram_store.proofs.Crashes.{found_leads, found_then, same_front}
-use Rattle.oram_store.proofs.SettledPuts.{settles_none}
+use Rattle.oram_store.proofs.CommittedPuts.{commits_puts_none}
 use Rattle.oram_store.proofs.Sound.{holds_then, puts_keep, reads_leave, stores_keep}
 
 path_keep : (one two : RecordsOf) (tree : ℕ) (s : TreeShape) (leaf : ℕ) (bytes : List ℕ) → AreKept one two → IsPathOf two tree s leaf bytes → IsPathOf one tree s leaf bytes
@@ -67,55 +67,55 @@ refused_kept trees old new (request.Store tree leaf records) code unlike kept = 
 refused_kept trees old new (request.Put tree node bytes) code unlike kept = kept
 refused_kept trees old new (request.Shape tree depth record_len) code unlike kept = kept
 
-module _ {F : Type 0} (seen : F → Contents) (may_leave : F → Contents → Type 0) (moment : F → ℕ) (left_since : F → ℕ → Contents → Type 0) where
-  -- PUTs were settled, or should have been, and then the request was refused
-  pub serves_settled : (message : HostRequest) (code : ℕ) (old new : StoreValue F) → (code ≡ 6 → ⊥) → Settles seen may_leave moment left_since old new
-      → Serves seen may_leave moment left_since message (answer.Refused code) old new
-  serves_settled message code old new unlike settles = record {
-    sound = settles.sound;
-    records = λ running. refused_kept old.trees (records_of seen old) (records_of seen new) message code unlike (settles.records running);
-    any_moment = found_leads seen may_leave moment left_since old.file.files new.file.files (MayHold old.trees (sure_records seen old) (records_of seen old))
-        (λ c. MayHold old.trees (sure_records seen old) (records_of seen old) c ⊎ OnlyIf (new.file.has_stopped ≡ true) (IsCarriedOut old.trees (records_of seen old) message c)) settles.any_moment (λ r holds. inl holds);
+module _ {F : Type 0} (model : FileModel F) where
+  -- PUTs were committed, or should have been, and then the request was refused
+  pub serves_committed : (message : HostRequest) (code : ℕ) (old new : StoreValue F) → (code ≡ 6 → ⊥) → CommitsPuts model old new
+      → Serves model message (answer.Refused code) old new
+  serves_committed message code old new unlike commits_puts = record {
+    sound = commits_puts.sound;
+    records = λ running. refused_kept old.trees (records_of model old) (records_of model new) message code unlike (commits_puts.records running);
+    any_moment = found_leads model old.file.files new.file.files (MayHold old.trees (sure_records model old) (records_of model old))
+        (λ c. MayHold old.trees (sure_records model old) (records_of model old) c ⊎ OnlyIf (new.file.has_stopped ≡ true) (IsCarriedOut old.trees (records_of model old) message c)) commits_puts.any_moment (λ r holds. inl holds);
   }
 
-  -- a request that is served after a settling
-  pub serves_after : (message : HostRequest) (given : HostAnswer) (old mid new : StoreValue F) → Settles seen may_leave moment left_since old mid → mid.pending ≡ [] → mid.trees ≡ old.trees
-      → (IsSound seen may_leave mid → Serves seen may_leave moment left_since message given mid new) → (mid.file.has_stopped ≡ true → new.file ≡ mid.file)
-      → ((t : ℕ) (c : Contents) → t ≤ moment mid.file.files → may_leave mid.file.files c → left_since mid.file.files t c) → may_leave mid.file.files (seen mid.file.files)
-      → Serves seen may_leave moment left_since message given old new
+  -- a request that is served after the pending PUTs are committed
+  pub serves_after : (message : HostRequest) (given : HostAnswer) (old mid new : StoreValue F) → CommitsPuts model old mid → mid.pending ≡ [] → mid.trees ≡ old.trees
+      → (IsSound model mid → Serves model message given mid new) → (mid.file.has_stopped ≡ true → new.file ≡ mid.file)
+      → ((t : ℕ) (c : Contents) → t ≤ model.moment mid.file.files → model.may_leave mid.file.files c → model.left_since mid.file.files t c) → model.may_leave mid.file.files (model.seen mid.file.files)
+      → Serves model message given old new
   serves_after message given old mid new first none same then stays counts_now whole = elim (cases_Bool mid.file.has_stopped) [
     | inl stopped ↦ (
         let still : new.file.has_stopped ≡ true = ap (λ (v : FileValue F). v.has_stopped) (stays stopped) ∙ stopped in
         record {
           sound = λ running. absurd (true≢false (sym still ∙ running));
           records = λ running. absurd (true≢false (sym still ∙ running));
-          any_moment = subst (λ (v : FileValue F). LeavesOnly moment left_since old.file.files v.files (Finds (seen old.file.files) Ends)) (sym (stays stopped)) began;
+          any_moment = subst (λ (v : FileValue F). LeavesOnly model old.file.files v.files (Finds (model.seen old.file.files) Ends)) (sym (stays stopped)) began;
         })
     | inr running ↦ (
         let now = then (first.sound running) in
         let kept = first.records running in
-        let sure : AreKept (records_of seen old) (sure_records seen mid) = λ tree node. ap (λ (l : List ℕ). records_in mid.trees (put_all (marks l) (seen mid.file.files Records)) tree node) (sym none) ∙ kept tree node in
+        let sure : AreKept (records_of model old) (sure_records model mid) = λ tree node. ap (λ (l : List ℕ). records_in mid.trees (put_all (marks l) (model.seen mid.file.files Records)) tree node) (sym none) ∙ kept tree node in
         record {
           sound = now.sound;
-          records = λ still. subst (λ (t : Trees). Answers t (records_of seen old) message given (records_of seen new)) same (answers_keep mid.trees (records_of seen old) (records_of seen mid) (records_of seen new) message given kept (now.records still));
-          any_moment = found_then seen may_leave moment left_since old.file.files mid.file.files new.file.files Ends
-              (λ c. MayHold mid.trees (sure_records seen mid) (records_of seen mid) c ⊎ OnlyIf (MayBeFound given new.file.has_stopped) (IsCarriedOut mid.trees (records_of seen mid) message c)) Ends
-              (same_front seen may_leave moment left_since old.file.files mid.file.files Ends began counts_now whole) began now.any_moment (λ r ends. ends)
-              (λ r either. subst (λ (t : Trees). MayHold t (sure_records seen old) (records_of seen old) r ⊎ OnlyIf (MayBeFound given new.file.has_stopped) (IsCarriedOut t (records_of seen old) message r)) same (⊎_elim
-              (λ may. inl (inr (⊎_elim (λ holds. holds_then mid.trees (records_of seen old) (sure_records seen mid) r sure holds) (λ holds. holds_then mid.trees (records_of seen old) (records_of seen mid) r kept holds) may)))
-              (λ out. inr (record { allowed = out.allowed; holds = carried_keep mid.trees (records_of seen old) (records_of seen mid) message r kept out.holds })) either));
+          records = λ still. subst (λ (t : Trees). Answers t (records_of model old) message given (records_of model new)) same (answers_keep mid.trees (records_of model old) (records_of model mid) (records_of model new) message given kept (now.records still));
+          any_moment = found_then model old.file.files mid.file.files new.file.files Ends
+              (λ c. MayHold mid.trees (sure_records model mid) (records_of model mid) c ⊎ OnlyIf (MayBeFound given new.file.has_stopped) (IsCarriedOut mid.trees (records_of model mid) message c)) Ends
+              (same_front model old.file.files mid.file.files Ends began counts_now whole) began now.any_moment (λ r ends. ends)
+              (λ r either. subst (λ (t : Trees). MayHold t (sure_records model old) (records_of model old) r ⊎ OnlyIf (MayBeFound given new.file.has_stopped) (IsCarriedOut t (records_of model old) message r)) same (⊎_elim
+              (λ may. inl (inr (⊎_elim (λ holds. holds_then mid.trees (records_of model old) (sure_records model mid) r sure holds) (λ holds. holds_then mid.trees (records_of model old) (records_of model mid) r kept holds) may)))
+              (λ out. inr (record { allowed = out.allowed; holds = carried_keep mid.trees (records_of model old) (records_of model mid) message r kept out.holds })) either));
         })
   ]
     where
       Ends : Content → Type 0
-      Ends c = MayHold old.trees (sure_records seen old) (records_of seen old) c ⊎ OnlyIf (MayBeFound given new.file.has_stopped) (IsCarriedOut old.trees (records_of seen old) message c)
+      Ends c = MayHold old.trees (sure_records model old) (records_of model old) c ⊎ OnlyIf (MayBeFound given new.file.has_stopped) (IsCarriedOut old.trees (records_of model old) message c)
 
-      began : LeavesOnly moment left_since old.file.files mid.file.files (Finds (seen old.file.files) Ends)
-      began = found_leads seen may_leave moment left_since old.file.files mid.file.files (MayHold old.trees (sure_records seen old) (records_of seen old)) Ends first.any_moment (λ r holds. inl holds)
+      began : LeavesOnly model old.file.files mid.file.files (Finds (model.seen old.file.files) Ends)
+      began = found_leads model old.file.files mid.file.files (MayHold old.trees (sure_records model old) (records_of model old)) Ends first.any_moment (λ r holds. inl holds)
 
   -- the reason why there is no room doesn't matter for what is served
-  pub serves_failure : (message : HostRequest) (given : HostAnswer) (old new : StoreValue F) (failure : Option StoreFault) → Serves seen may_leave moment left_since message given old new
-      → Serves seen may_leave moment left_since message given old (record { file = new.file; trees = new.trees; pending = new.pending; failure = failure })
+  pub serves_failure : (message : HostRequest) (given : HostAnswer) (old new : StoreValue F) (failure : Option StoreFault) → Serves model message given old new
+      → Serves model message given old (record { file = new.file; trees = new.trees; pending = new.pending; failure = failure })
   serves_failure message given old new failure serves = record {
     sound = λ running. let sound = serves.sound running in record { file = sound.file; cells = sound.cells };
     records = serves.records;
@@ -125,108 +125,108 @@ module _ {F : Type 0} (seen : F → Contents) (may_leave : F → Contents → Ty
   -- records that are changed, where nothing is pending
   module _ (message : HostRequest) (change : RecordsOf → RecordsOf → Type 0) (old new : StoreValue F) (none : old.pending ≡ []) (same : new.trees ≡ old.trees) (still : new.pending ≡ [])
       (granted : (one two : RecordsOf) → change one two → Answers old.trees one message answer.Done two)
-      (carried : (c : Content) → IsBucketFile old.trees c → change (records_of seen old) (records_in old.trees c) → IsCarriedOut old.trees (records_of seen old) message c) where
-    before : sure_records seen old ≡ records_of seen old
-    before = ap (λ (l : List ℕ). λ tree node. records_in old.trees (put_all (marks l) (seen old.file.files Records)) tree node) (sym none)
+      (carried : (c : Content) → IsBucketFile old.trees c → change (records_of model old) (records_in old.trees c) → IsCarriedOut old.trees (records_of model old) message c) where
+    before : sure_records model old ≡ records_of model old
+    before = ap (λ (l : List ℕ). λ tree node. records_in old.trees (put_all (marks l) (model.seen old.file.files Records)) tree node) (sym none)
 
-    after : records_in old.trees (seen new.file.files Records) ≡ records_of seen new
-    after = ap (λ (l : List ℕ). λ tree node. records_in old.trees (put_all (marks l) (seen new.file.files Records)) tree node) (sym still) ∙ ap (λ (t : Trees). λ tree node. records_in t (content_of seen new) tree node) (sym same)
+    after : records_in old.trees (model.seen new.file.files Records) ≡ records_of model new
+    after = ap (λ (l : List ℕ). λ tree node. records_in old.trees (put_all (marks l) (model.seen new.file.files Records)) tree node) (sym still) ∙ ap (λ (t : Trees). λ tree node. records_in t (content_of model new) tree node) (sym same)
 
-    sound : IsSoundFile seen may_leave old.trees new.file → IsSound seen may_leave new
+    sound : IsSoundFile model old.trees new.file → IsSound model new
     sound file = record {
-      file = subst (λ (t : Trees). IsSoundFile seen may_leave t new.file) (sym same) file;
+      file = subst (λ (t : Trees). IsSoundFile model t new.file) (sym same) file;
       cells = subst (λ (l : List ℕ). All (IsCell new.trees) l) (sym still) (λ k d h. absurd (omega arith));
     }
 
     whole : (r : Result Unit StoreFault) (given : HostAnswer) → (OnErr r (new.file.has_stopped ≡ true) → MayBeFound given new.file.has_stopped)
-        → Changes seen may_leave moment left_since old.trees change r old.file new.file → ServesWhole seen moment left_since message given old new
-    whole r given allows changes = found_leads seen may_leave moment left_since old.file.files new.file.files
-        (λ c. Holds old.trees (sure_records seen old) c ⊎ OnlyIf (OnErr r (new.file.has_stopped ≡ true)) (IsBucketFile old.trees c × change (sure_records seen old) (records_in old.trees c)))
-        (λ c. MayHold old.trees (sure_records seen old) (records_of seen old) c ⊎ OnlyIf (MayBeFound given new.file.has_stopped) (IsCarriedOut old.trees (records_of seen old) message c)) changes.moments
+        → Changes model old.trees change r old.file new.file → ServesWhole model message given old new
+    whole r given allows changes = found_leads model old.file.files new.file.files
+        (λ c. Holds old.trees (sure_records model old) c ⊎ OnlyIf (OnErr r (new.file.has_stopped ≡ true)) (IsBucketFile old.trees c × change (sure_records model old) (records_in old.trees c)))
+        (λ c. MayHold old.trees (sure_records model old) (records_of model old) c ⊎ OnlyIf (MayBeFound given new.file.has_stopped) (IsCarriedOut old.trees (records_of model old) message c)) changes.moments
         (λ c either. ⊎_elim (λ holds. inl (inl holds))
         (λ made. inr (record { allowed = allows made.allowed; holds = carried c made.holds.0 (subst (λ (r : RecordsOf). change r (records_in old.trees c)) before made.holds.1) })) either)
 
-    pub serves_change : (x : Unit {0}) → Changes seen may_leave moment left_since old.trees change (Ok x) old.file new.file → Serves seen may_leave moment left_since message answer.Done old new
+    pub serves_change : (x : Unit {0}) → Changes model old.trees change (Ok x) old.file new.file → Serves model message answer.Done old new
     serves_change x changes = record {
       sound = λ running. sound (changes.sound running);
-      records = λ running. granted (records_of seen old) (records_of seen new)
-          (subst (λ (r : RecordsOf). change r (records_of seen new)) before (subst (λ (r : RecordsOf). change (sure_records seen old) r) after (changes.done running)));
+      records = λ running. granted (records_of model old) (records_of model new)
+          (subst (λ (r : RecordsOf). change r (records_of model new)) before (subst (λ (r : RecordsOf). change (sure_records model old) r) after (changes.done running)));
       any_moment = whole (Ok x) answer.Done (λ done. tt) changes;
     }
 
-    pub serves_no_change : (e : StoreFault) → Changes seen may_leave moment left_since old.trees change (Err e) old.file new.file → Serves seen may_leave moment left_since message (answer.Refused 8) old new
+    pub serves_no_change : (e : StoreFault) → Changes model old.trees change (Err e) old.file new.file → Serves model message (answer.Refused 8) old new
     serves_no_change e changes = record {
       sound = λ running. sound (changes.sound running);
-      records = λ running. refused_kept old.trees (records_of seen old) (records_of seen new) message 8 (λ six. absurd (omega arith))
-          (subst (λ (r : RecordsOf). AreKept r (records_of seen new)) before (subst (λ (r : RecordsOf). AreKept (sure_records seen old) r) after (changes.undone running)));
+      records = λ running. refused_kept old.trees (records_of model old) (records_of model new) message 8 (λ six. absurd (omega arith))
+          (subst (λ (r : RecordsOf). AreKept r (records_of model new)) before (subst (λ (r : RecordsOf). AreKept (sure_records model old) r) after (changes.undone running)));
       any_moment = whole (Err e) (answer.Refused 8) (λ stopped. stopped) changes;
     }
 
   -- records that are read, where nothing is pending
   module _ (message : HostRequest) (old new : StoreValue F) (none : old.pending ≡ []) (same : new.trees ≡ old.trees) (still : new.pending ≡ [])
-      (leaves : LeavesRecords seen may_leave moment left_since old.trees old.file new.file) where
-    pub serves_reads : (given : HostAnswer) → (AreKept (records_of seen old) (records_of seen new) → Answers old.trees (records_of seen old) message given (records_of seen new))
-        → Serves seen may_leave moment left_since message given old new
+      (leaves : LeavesRecords model old.trees old.file new.file) where
+    pub serves_reads : (given : HostAnswer) → (AreKept (records_of model old) (records_of model new) → Answers old.trees (records_of model old) message given (records_of model new))
+        → Serves model message given old new
     serves_reads given answers = record {
       sound = λ running. record {
-        file = subst (λ (t : Trees). IsSoundFile seen may_leave t new.file) (sym same) (leaves.sound running);
+        file = subst (λ (t : Trees). IsSoundFile model t new.file) (sym same) (leaves.sound running);
         cells = subst (λ (l : List ℕ). All (IsCell new.trees) l) (sym still) (λ k d h. absurd (omega arith));
       };
       records = λ running. answers (λ tree node.
-          ap (λ (t : Trees). records_in t (content_of seen new) tree node) same
-          ∙ ap (λ (l : List ℕ). records_in old.trees (put_all (marks l) (seen new.file.files Records)) tree node) still
+          ap (λ (t : Trees). records_in t (content_of model new) tree node) same
+          ∙ ap (λ (l : List ℕ). records_in old.trees (put_all (marks l) (model.seen new.file.files Records)) tree node) still
           ∙ leaves.kept running tree node
-          ∙ ap (λ (l : List ℕ). records_in old.trees (put_all (marks l) (seen old.file.files Records)) tree node) (sym none));
-      any_moment = found_leads seen may_leave moment left_since old.file.files new.file.files (Holds old.trees (sure_records seen old))
-          (λ c. MayHold old.trees (sure_records seen old) (records_of seen old) c ⊎ OnlyIf (MayBeFound given new.file.has_stopped) (IsCarriedOut old.trees (records_of seen old) message c)) leaves.moments (λ c holds. inl (inl holds));
+          ∙ ap (λ (l : List ℕ). records_in old.trees (put_all (marks l) (model.seen old.file.files Records)) tree node) (sym none));
+      any_moment = found_leads model old.file.files new.file.files (Holds old.trees (sure_records model old))
+          (λ c. MayHold old.trees (sure_records model old) (records_of model old) c ⊎ OnlyIf (MayBeFound given new.file.has_stopped) (IsCarriedOut old.trees (records_of model old) message c)) leaves.moments (λ c holds. inl (inl holds));
     }
 
-  pub serves_err : (message : HostRequest) (result : Result Unit StoreFault) (old new : StoreValue F) → IsErr result → Settles seen may_leave moment left_since old new
-      → Serves seen may_leave moment left_since message (answer_by result) old new
-  serves_err message (Ok x) old new is settles = absurd (not_err is)
+  pub serves_err : (message : HostRequest) (result : Result Unit StoreFault) (old new : StoreValue F) → IsErr result → CommitsPuts model old new
+      → Serves model message (answer_by result) old new
+  serves_err message (Ok x) old new is commits_puts = absurd (not_err is)
     where
       not_err : IsErr {E = StoreFault} (Ok x) → ⊥
       not_err h = cc
-  serves_err message (Err e) old new is settles = serves_settled message 8 old new (λ six. absurd (omega arith)) settles
+  serves_err message (Err e) old new is commits_puts = serves_committed message 8 old new (λ six. absurd (omega arith)) commits_puts
 
-  pub serves_untouched : (message : HostRequest) (code : ℕ) (v : StoreValue F) → (code ≡ 6 → ⊥) → IsSound seen may_leave v → ((c : Contents) → left_since v.file.files (moment v.file.files) c → may_leave v.file.files c)
-      → Serves seen may_leave moment left_since message (answer.Refused code) v v
-  serves_untouched message code v unlike s only_now = serves_settled message code v v unlike (settles_none seen may_leave moment left_since v s only_now)
+  pub serves_untouched : (message : HostRequest) (code : ℕ) (v : StoreValue F) → (code ≡ 6 → ⊥) → IsSound model v → ((c : Contents) → model.left_since v.file.files (model.moment v.file.files) c → model.may_leave v.file.files c)
+      → Serves model message (answer.Refused code) v v
+  serves_untouched message code v unlike s only_now = serves_committed message code v v unlike (commits_puts_none model v s only_now)
 
-  -- a change after a settling
+  -- a change after the pending PUTs are committed
   pub serves_made : (message : HostRequest) (change : RecordsOf → RecordsOf → Type 0) (old mid new : StoreValue F) (result : Result Unit StoreFault)
-      → Settles seen may_leave moment left_since old mid → mid.pending ≡ [] → mid.trees ≡ old.trees → new.trees ≡ mid.trees → new.pending ≡ mid.pending
+      → CommitsPuts model old mid → mid.pending ≡ [] → mid.trees ≡ old.trees → new.trees ≡ mid.trees → new.pending ≡ mid.pending
       → ((one two : RecordsOf) → change one two → Answers mid.trees one message answer.Done two)
-      → ((c : Content) → IsBucketFile mid.trees c → change (records_of seen mid) (records_in mid.trees c) → IsCarriedOut mid.trees (records_of seen mid) message c)
-      → (IsSound seen may_leave mid → Changes seen may_leave moment left_since mid.trees change result mid.file new.file) → (mid.file.has_stopped ≡ true → new.file ≡ mid.file)
-      → ((t : ℕ) (c : Contents) → t ≤ moment mid.file.files → may_leave mid.file.files c → left_since mid.file.files t c) → may_leave mid.file.files (seen mid.file.files)
-      → Serves seen may_leave moment left_since message (answer_by result) old new
-  serves_made message change old mid new (Ok x) settles none same trees_same still granted carried makes stays counts_now whole =
-      serves_after message answer.Done old mid new settles none same
+      → ((c : Content) → IsBucketFile mid.trees c → change (records_of model mid) (records_in mid.trees c) → IsCarriedOut mid.trees (records_of model mid) message c)
+      → (IsSound model mid → Changes model mid.trees change result mid.file new.file) → (mid.file.has_stopped ≡ true → new.file ≡ mid.file)
+      → ((t : ℕ) (c : Contents) → t ≤ model.moment mid.file.files → model.may_leave mid.file.files c → model.left_since mid.file.files t c) → model.may_leave mid.file.files (model.seen mid.file.files)
+      → Serves model message (answer_by result) old new
+  serves_made message change old mid new (Ok x) commits_puts none same trees_same still granted carried makes stays counts_now whole =
+      serves_after message answer.Done old mid new commits_puts none same
       (λ sound. serves_change message change mid new none trees_same (still ∙ none) granted carried x (makes sound)) stays counts_now whole
-  serves_made message change old mid new (Err e) settles none same trees_same still granted carried makes stays counts_now whole =
-      serves_after message (answer.Refused 8) old mid new settles none same
+  serves_made message change old mid new (Err e) commits_puts none same trees_same still granted carried makes stays counts_now whole =
+      serves_after message (answer.Refused 8) old mid new commits_puts none same
       (λ sound. serves_no_change message change mid new none trees_same (still ∙ none) granted carried e (makes sound)) stays counts_now whole
 
   pub serves_stored : (number leaf : ℕ) (records : List ℕ) (s : TreeShape) (old mid new : StoreValue F) (result : Result Unit StoreFault)
-      → Settles seen may_leave moment left_since old mid → mid.pending ≡ [] → mid.trees ≡ old.trees → new.trees ≡ mid.trees → new.pending ≡ mid.pending → shape_at mid.trees number ≡ Some s
-      → (IsSound seen may_leave mid → Changes seen may_leave moment left_since mid.trees (Stores number s leaf records) result mid.file new.file) → (mid.file.has_stopped ≡ true → new.file ≡ mid.file)
-      → ((t : ℕ) (c : Contents) → t ≤ moment mid.file.files → may_leave mid.file.files c → left_since mid.file.files t c) → may_leave mid.file.files (seen mid.file.files)
-      → Serves seen may_leave moment left_since (request.Store number leaf records) (answer_by result) old new
-  serves_stored number leaf records s old mid new result settles none same trees_same still shaped makes stays counts_now whole =
-      serves_made (request.Store number leaf records) (Stores number s leaf records) old mid new result settles none same trees_same still
+      → CommitsPuts model old mid → mid.pending ≡ [] → mid.trees ≡ old.trees → new.trees ≡ mid.trees → new.pending ≡ mid.pending → shape_at mid.trees number ≡ Some s
+      → (IsSound model mid → Changes model mid.trees (Stores number s leaf records) result mid.file new.file) → (mid.file.has_stopped ≡ true → new.file ≡ mid.file)
+      → ((t : ℕ) (c : Contents) → t ≤ model.moment mid.file.files → model.may_leave mid.file.files c → model.left_since mid.file.files t c) → model.may_leave mid.file.files (model.seen mid.file.files)
+      → Serves model (request.Store number leaf records) (answer_by result) old new
+  serves_stored number leaf records s old mid new result commits_puts none same trees_same still shaped makes stays counts_now whole =
+      serves_made (request.Store number leaf records) (Stores number s leaf records) old mid new result commits_puts none same trees_same still
       (λ one two stores. (s, shaped, stores)) (λ c file stores. (file, s, shaped, stores)) makes stays counts_now whole
 
-  -- a path that is fetched, after a settling
+  -- a path that is fetched after the pending PUTs are committed
   pub serves_fetched : (message : HostRequest) (given : HostAnswer) (old mid new : StoreValue F)
-      → Settles seen may_leave moment left_since old mid → mid.pending ≡ [] → mid.trees ≡ old.trees → new.trees ≡ mid.trees → new.pending ≡ mid.pending
-      → ReadsOnly seen may_leave moment left_since mid.file new.file
-      → ((two : RecordsOf) → AreKept (records_of seen mid) two → Answers mid.trees (records_of seen mid) message given two) → (mid.file.has_stopped ≡ true → new.file ≡ mid.file)
-      → ((t : ℕ) (c : Contents) → t ≤ moment mid.file.files → may_leave mid.file.files c → left_since mid.file.files t c) → may_leave mid.file.files (seen mid.file.files)
-      → Serves seen may_leave moment left_since message given old new
-  serves_fetched message given old mid new settles none same trees_same still reads answers stays counts_now whole =
-      serves_after message given old mid new settles none same
-      (λ sound. serves_reads message mid new none trees_same (still ∙ none) (reads_leave seen may_leave moment left_since mid.trees mid.file new.file sound.file reads) given (answers (records_of seen new)))
+      → CommitsPuts model old mid → mid.pending ≡ [] → mid.trees ≡ old.trees → new.trees ≡ mid.trees → new.pending ≡ mid.pending
+      → ReadsOnly model mid.file new.file
+      → ((two : RecordsOf) → AreKept (records_of model mid) two → Answers mid.trees (records_of model mid) message given two) → (mid.file.has_stopped ≡ true → new.file ≡ mid.file)
+      → ((t : ℕ) (c : Contents) → t ≤ model.moment mid.file.files → model.may_leave mid.file.files c → model.left_since mid.file.files t c) → model.may_leave mid.file.files (model.seen mid.file.files)
+      → Serves model message given old new
+  serves_fetched message given old mid new commits_puts none same trees_same still reads answers stays counts_now whole =
+      serves_after message given old mid new commits_puts none same
+      (λ sound. serves_reads message mid new none trees_same (still ∙ none) (reads_leave model mid.trees mid.file new.file sound.file reads) given (answers (records_of model new)))
       stays counts_now whole
 
 -- a path of one tree, by its number
@@ -269,12 +269,12 @@ answer_of_err (Ok x) is = absurd (not_err is)
 answer_of_err (Err e) is = refl
 
 -- a refusal with its reason kept
-module _ {F : Type 0} (seen : F → Contents) (may_leave : F → Contents → Type 0) (moment : F → ℕ) (left_since : F → ℕ → Contents → Type 0) (is_honest : F → Type 0) where
+module _ {F : Type 0} (model : FileModel F) where
   pub serves_refused : (message : HostRequest) (old mid new : StoreValue F) (why : HostRefusal) (failure : Option StoreFault) → why ≡ OutOfMemory
       → new ≡ record { file = mid.file; trees = mid.trees; pending = mid.pending; failure = failure }
-      → (is_honest mid.file.files → Serves seen may_leave moment left_since message (answer.Refused 8) old mid) → is_honest new.file.files
-      → Serves seen may_leave moment left_since message (answer.Refused (code_of why)) old new
+      → (model.is_honest mid.file.files → Serves model message (answer.Refused 8) old mid) → model.is_honest new.file.files
+      → Serves model message (answer.Refused (code_of why)) old new
   serves_refused message old mid new why failure is kept serves honest =
-      subst (λ (w : HostRefusal). Serves seen may_leave moment left_since message (answer.Refused (code_of w)) old new) (sym is)
-      (subst (λ (v : StoreValue F). Serves seen may_leave moment left_since message (answer.Refused 8) old v) (sym kept)
-      (serves_failure seen may_leave moment left_since message (answer.Refused 8) old mid failure (serves (subst (λ (v : StoreValue F). is_honest v.file.files) kept honest))))
+      subst (λ (w : HostRefusal). Serves model message (answer.Refused (code_of w)) old new) (sym is)
+      (subst (λ (v : StoreValue F). Serves model message (answer.Refused 8) old v) (sym kept)
+      (serves_failure model message (answer.Refused 8) old mid failure (serves (subst (λ (v : StoreValue F). model.is_honest v.file.files) kept honest))))

@@ -9,13 +9,13 @@ use Rattle.oram_layout.specs.Trees.{Trees}
 use Rattle.oram_layout.proofs.Changes.{loose_kept, off_stays}
 use Rattle.oram_layout.proofs.Contents.{content_is}
 use Rattle.oram_redo.specs.Content.{Agrees, Content, bytes_at, put}
-use Rattle.oram_redo.specs.FilePair.{Contents}
+use Rattle.oram_redo.specs.FilePair.{Contents, FileModel}
 use Rattle.oram_redo.specs.Log.{AgreesBut, Patch, put_all}
-use Rattle.oram_redo.specs.Redo.{IsSettled, bounds_of}
+use Rattle.oram_redo.specs.Redo.{IsCrashConsistent, bounds_of}
 use Rattle.oram_redo.specs.declared.file_pair.FileKind.TheVariants.{Records}
 use Rattle.oram_redo.specs.declared.redo.Redo.{Redo}
 use Rattle.oram_redo.proofs.Moments.{leads_to, nothing_more_written, nothing_yet_written}
-use Rattle.oram_redo.proofs.Settled.{settled_same}
+use Rattle.oram_redo.proofs.Consistent.{consistent_same}
 use Rattle.oram_layout.specs.Limits.{TreeShape}
 use Rattle.oram_store.specs.KeptRecords.{Changes, Holds, IsSoundFile, LeavesRecords, Puts, Stores}
 use Rattle.oram_store.specs.declared.faults.StoreFault.{StoreFault}
@@ -65,26 +65,26 @@ holds_but trees loose c r is off but =
 pub holds_then : (trees : Trees) (one two : RecordsOf) (r : Content) → AreKept one two → Holds trees two r → Holds trees one r
 holds_then trees one two r same holds = record { file = holds.file; kept = λ tree node. holds.kept tree node ∙ same tree node }
 
-module _ {F : Type 0} (seen : F → Contents) (may_leave : F → Contents → Type 0) (moment : F → ℕ) (left_since : F → ℕ → Contents → Type 0) where
-  steady_same : (old new : FileValue F) (loose : List Patch) → IsSteady seen may_leave old loose → ReadsOnly seen may_leave moment left_since old new → IsSteady seen may_leave new loose
+module _ {F : Type 0} (model : FileModel F) where
+  steady_same : (old new : FileValue F) (loose : List Patch) → IsSteady model old loose → ReadsOnly model old new → IsSteady model new loose
   steady_same old new loose s reads = record {
     bounded = ap bounds_of reads.redo ∙ s.bounded;
-    settled = settled loose s.settled;
-    sure = λ none. settled [] (s.sure (sym reads.loose ∙ none));
+    consistent = consistent loose s.consistent;
+    sure = λ none. consistent [] (s.sure (sym reads.loose ∙ none));
   }
     where
-      settled : (l : List Patch) → IsSettled old.redo l (seen old.files) (may_leave old.files) → IsSettled new.redo l (seen new.files) (may_leave new.files)
-      settled l was = subst (λ (r : Redo). IsSettled r l (seen new.files) (may_leave new.files)) (sym reads.redo)
-          (settled_same old.redo l (seen old.files) (may_leave old.files) was (seen new.files) (may_leave new.files) reads.nothing.seen_same reads.nothing.leaves)
+      consistent : (l : List Patch) → IsCrashConsistent model old.redo l old.files → IsCrashConsistent model new.redo l new.files
+      consistent l was = subst (λ (r : Redo). IsCrashConsistent model r l new.files) (sym reads.redo)
+          (consistent_same old.redo l (model.seen old.files) (model.may_leave old.files) was (model.seen new.files) (model.may_leave new.files) reads.nothing.seen_same reads.nothing.leaves)
 
-  pub holds_now : (trees : Trees) (v : FileValue F) (c : Contents) → IsSoundFile seen may_leave trees v → may_leave v.files c → Finds (seen v.files) (Holds trees (records_in trees (seen v.files Records))) c
+  pub holds_now : (trees : Trees) (v : FileValue F) (c : Contents) → IsSoundFile model trees v → model.may_leave v.files c → Finds (model.seen v.files) (Holds trees (records_in trees (model.seen v.files Records))) c
   holds_now trees v c s now =
-      found_more (seen v.files) c (λ r. AgreesBut s.loose r (seen v.files Records)) (Holds trees (records_in trees (seen v.files Records)))
-      (λ r but. holds_but trees s.loose (seen v.files Records) r s.file s.off but) (found_now seen may_leave moment left_since v s.loose c s.steady now)
+      found_more (model.seen v.files) c (λ r. AgreesBut s.loose r (model.seen v.files Records)) (Holds trees (records_in trees (model.seen v.files Records)))
+      (λ r but. holds_but trees s.loose (model.seen v.files Records) r s.file s.off but) (found_now model v s.loose c s.steady now)
 
-  pub reads_leave : (trees : Trees) (old new : FileValue F) → IsSoundFile seen may_leave trees old → ReadsOnly seen may_leave moment left_since old new → LeavesRecords seen may_leave moment left_since trees old new
+  pub reads_leave : (trees : Trees) (old new : FileValue F) → IsSoundFile model trees old → ReadsOnly model old new → LeavesRecords model trees old new
   reads_leave trees old new s reads =
-      let same : seen new.files Records ≡ seen old.files Records = content_is (seen old.files Records) (seen new.files Records) (reads.nothing.seen_same Records) in
+      let same : model.seen new.files Records ≡ model.seen old.files Records = content_is (model.seen old.files Records) (model.seen new.files Records) (reads.nothing.seen_same Records) in
       record {
         sound = λ running. record {
           loose = s.loose;
@@ -93,83 +93,83 @@ module _ {F : Type 0} (seen : F → Contents) (may_leave : F → Contents → Ty
           file = subst (λ (c : Content). IsBucketFile trees c) (sym same) s.file;
         };
         kept = λ running tree node. ap (λ (c : Content). records_in trees c tree node) same;
-        moments = leads_to moment left_since old.files new.files (may_leave old.files) (Finds (seen old.files) (Holds trees (records_in trees (seen old.files Records)))) reads.nothing.moments
+        moments = leads_to model old.files new.files (model.may_leave old.files) (Finds (model.seen old.files) (Holds trees (records_in trees (model.seen old.files Records)))) reads.nothing.moments
             (λ c now. holds_now trees old c s now);
       }
 
-  pub loose_leaves : (trees : Trees) (old new : FileValue F) (p : Patch) → IsSoundFile seen may_leave trees old → IsOffRecords trees (seen old.files Records) p
-      → ((loose : List Patch) → IsSteady seen may_leave old loose → Passes seen may_leave moment left_since (p ∷ loose) (λ r. AgreesBut (p ∷ loose) r (seen old.files Records)) old new)
-      → AgreesBut (p ∷ []) (seen new.files Records) (seen old.files Records) → LeavesRecords seen may_leave moment left_since trees old new
+  pub loose_leaves : (trees : Trees) (old new : FileValue F) (p : Patch) → IsSoundFile model trees old → IsOffRecords trees (model.seen old.files Records) p
+      → ((loose : List Patch) → IsSteady model old loose → Passes model (p ∷ loose) (λ r. AgreesBut (p ∷ loose) r (model.seen old.files Records)) old new)
+      → AgreesBut (p ∷ []) (model.seen new.files Records) (model.seen old.files Records) → LeavesRecords model trees old new
   loose_leaves trees old new p s one passes but =
       let passed = passes s.loose s.steady in
-      let all = all_first (IsOffRecords trees (seen old.files Records)) p s.loose one s.off in
-      let holds = holds_but trees (p ∷ []) (seen old.files Records) (seen new.files Records) s.file (all_first (IsOffRecords trees (seen old.files Records)) p [] one (λ k d h. absurd (omega arith))) but in
+      let all = all_first (IsOffRecords trees (model.seen old.files Records)) p s.loose one s.off in
+      let holds = holds_but trees (p ∷ []) (model.seen old.files Records) (model.seen new.files Records) s.file (all_first (IsOffRecords trees (model.seen old.files Records)) p [] one (λ k d h. absurd (omega arith))) but in
       record {
         sound = λ running. record {
           loose = p ∷ s.loose;
           steady = passed.steady running;
-          off = off_still trees s.loose (seen old.files Records) (seen new.files Records) p s.file s.off one but;
+          off = off_still trees s.loose (model.seen old.files Records) (model.seen new.files Records) p s.file s.off one but;
           file = holds.file;
         };
         kept = λ running. holds.kept;
-        moments = found_leads seen may_leave moment left_since old.files new.files (λ r. AgreesBut (p ∷ s.loose) r (seen old.files Records)) (Holds trees (records_in trees (seen old.files Records))) passed.moments
-            (λ r agrees. holds_but trees (p ∷ s.loose) (seen old.files Records) r s.file all agrees);
+        moments = found_leads model old.files new.files (λ r. AgreesBut (p ∷ s.loose) r (model.seen old.files Records)) (Holds trees (records_in trees (model.seen old.files Records))) passed.moments
+            (λ r agrees. holds_but trees (p ∷ s.loose) (model.seen old.files Records) r s.file all agrees);
       }
 
   -- one call more
-  pub leaves_then : (trees : Trees) (old mid new : FileValue F) → LeavesRecords seen may_leave moment left_since trees old mid
-      → (IsSoundFile seen may_leave trees mid → LeavesRecords seen may_leave moment left_since trees mid new) → (mid.has_stopped ≡ true → new ≡ mid)
-      → ((t : ℕ) (c : Contents) → t ≤ moment mid.files → may_leave mid.files c → left_since mid.files t c) → may_leave mid.files (seen mid.files)
-      → LeavesRecords seen may_leave moment left_since trees old new
+  pub leaves_then : (trees : Trees) (old mid new : FileValue F) → LeavesRecords model trees old mid
+      → (IsSoundFile model trees mid → LeavesRecords model trees mid new) → (mid.has_stopped ≡ true → new ≡ mid)
+      → ((t : ℕ) (c : Contents) → t ≤ model.moment mid.files → model.may_leave mid.files c → model.left_since mid.files t c) → model.may_leave mid.files (model.seen mid.files)
+      → LeavesRecords model trees old new
   leaves_then trees old mid new first second stays counts_now whole = elim (cases_Bool mid.has_stopped) [
-    | inl stopped ↦ subst (λ (v : FileValue F). LeavesRecords seen may_leave moment left_since trees old v) (sym (stays stopped)) first
+    | inl stopped ↦ subst (λ (v : FileValue F). LeavesRecords model trees old v) (sym (stays stopped)) first
     | inr running ↦ (
         let then = second (first.sound running) in
         record {
           sound = then.sound;
           kept = λ still tree node. then.kept still tree node ∙ first.kept running tree node;
-          moments = found_then seen may_leave moment left_since old.files mid.files new.files (Holds trees (records_in trees (seen old.files Records))) (Holds trees (records_in trees (seen mid.files Records)))
-              (Holds trees (records_in trees (seen old.files Records)))
-              (same_front seen may_leave moment left_since old.files mid.files (Holds trees (records_in trees (seen old.files Records))) first.moments counts_now whole)
-              first.moments then.moments (λ r holds. holds) (λ r holds. holds_then trees (records_in trees (seen old.files Records)) (records_in trees (seen mid.files Records)) r (first.kept running) holds);
+          moments = found_then model old.files mid.files new.files (Holds trees (records_in trees (model.seen old.files Records))) (Holds trees (records_in trees (model.seen mid.files Records)))
+              (Holds trees (records_in trees (model.seen old.files Records)))
+              (same_front model old.files mid.files (Holds trees (records_in trees (model.seen old.files Records))) first.moments counts_now whole)
+              first.moments then.moments (λ r holds. holds) (λ r holds. holds_then trees (records_in trees (model.seen old.files Records)) (records_in trees (model.seen mid.files Records)) r (first.kept running) holds);
         })
   ]
 
   -- nothing is called
-  pub reads_nothing : (v : FileValue F) → ((c : Contents) → left_since v.files (moment v.files) c → may_leave v.files c) → ReadsOnly seen may_leave moment left_since v v
-  reads_nothing v only_now = record { nothing = nothing_yet_written seen may_leave moment left_since v.files only_now; redo = refl; loose = refl }
+  pub reads_nothing : (v : FileValue F) → ((c : Contents) → model.left_since v.files (model.moment v.files) c → model.may_leave v.files c) → ReadsOnly model v v
+  reads_nothing v only_now = record { nothing = nothing_yet_written model v.files only_now; redo = refl; loose = refl }
 
-  pub reads_then : (old mid new : FileValue F) → ReadsOnly seen may_leave moment left_since old mid → ReadsOnly seen may_leave moment left_since mid new → ReadsOnly seen may_leave moment left_since old new
+  pub reads_then : (old mid new : FileValue F) → ReadsOnly model old mid → ReadsOnly model mid new → ReadsOnly model old new
   reads_then old mid new first second = record {
-    nothing = nothing_more_written seen may_leave moment left_since old.files mid.files new.files first.nothing second.nothing;
+    nothing = nothing_more_written model old.files mid.files new.files first.nothing second.nothing;
     redo = second.redo ∙ first.redo;
     loose = second.loose ∙ first.loose;
   }
 
   -- patches that change the records in this way
-  pub commits_change : (trees : Trees) (change : RecordsOf → RecordsOf → Type 0) (batch : List Patch) (result : Result Unit StoreFault) (old new : FileValue F) → IsSoundFile seen may_leave trees old
-      → Commits seen may_leave moment left_since batch result old new
-      → ((c : Content) → Agrees c (put_all batch (seen old.files Records)) → IsBucketFile trees c × change (records_in trees (seen old.files Records)) (records_in trees c))
-      → Changes seen may_leave moment left_since trees change result old new
+  pub commits_change : (trees : Trees) (change : RecordsOf → RecordsOf → Type 0) (batch : List Patch) (result : Result Unit StoreFault) (old new : FileValue F) → IsSoundFile model trees old
+      → Commits model batch result old new
+      → ((c : Content) → Agrees c (put_all batch (model.seen old.files Records)) → IsBucketFile trees c × change (records_in trees (model.seen old.files Records)) (records_in trees c))
+      → Changes model trees change result old new
   commits_change trees change batch result old new s commits makes = record {
     sound = sound result commits;
     done = done result commits;
     undone = undone result commits;
-    moments = found_leads seen may_leave moment left_since old.files new.files (λ r. AgreesBut s.loose r (seen old.files Records) ⊎ OnlyIf (OnErr result (new.has_stopped ≡ true)) (Agrees r (put_all batch (seen old.files Records))))
-        (λ c. Holds trees (records_in trees (seen old.files Records)) c ⊎ OnlyIf (OnErr result (new.has_stopped ≡ true)) (IsBucketFile trees c × change (records_in trees (seen old.files Records)) (records_in trees c)))
+    moments = found_leads model old.files new.files (λ r. AgreesBut s.loose r (model.seen old.files Records) ⊎ OnlyIf (OnErr result (new.has_stopped ≡ true)) (Agrees r (put_all batch (model.seen old.files Records))))
+        (λ c. Holds trees (records_in trees (model.seen old.files Records)) c ⊎ OnlyIf (OnErr result (new.has_stopped ≡ true)) (IsBucketFile trees c × change (records_in trees (model.seen old.files Records)) (records_in trees c)))
         (commits.moments s.loose s.steady)
-        (λ r found. ⊎_elim (λ but. inl (holds_but trees s.loose (seen old.files Records) r s.file s.off but)) (λ made. inr (record { allowed = made.allowed; holds = makes r made.holds })) found);
+        (λ r found. ⊎_elim (λ but. inl (holds_but trees s.loose (model.seen old.files Records) r s.file s.off but)) (λ made. inr (record { allowed = made.allowed; holds = makes r made.holds })) found);
   }
     where
-      sound : (r : Result Unit StoreFault) → Commits seen may_leave moment left_since batch r old new → new.has_stopped ≡ false → IsSoundFile seen may_leave trees new
+      sound : (r : Result Unit StoreFault) → Commits model batch r old new → new.has_stopped ≡ false → IsSoundFile model trees new
       sound (Ok x) commits running = record {
         loose = [];
         steady = commits.sure s.loose s.steady running;
         off = λ k d h. absurd (omega arith);
-        file = (makes (seen new.files Records) commits.done).0;
+        file = (makes (model.seen new.files Records) commits.done).0;
       }
       sound (Err e) commits running =
-          let same : seen new.files Records ≡ seen old.files Records = content_is (seen old.files Records) (seen new.files Records) (commits.undone running) in
+          let same : model.seen new.files Records ≡ model.seen old.files Records = content_is (model.seen old.files Records) (model.seen new.files Records) (commits.undone running) in
           record {
             loose = s.loose;
             steady = commits.steady s.loose s.steady running;
@@ -177,69 +177,69 @@ module _ {F : Type 0} (seen : F → Contents) (may_leave : F → Contents → Ty
             file = subst (λ (c : Content). IsBucketFile trees c) (sym same) s.file;
           }
 
-      done : (r : Result Unit StoreFault) → Commits seen may_leave moment left_since batch r old new
-          → OnOk r (new.has_stopped ≡ false → change (records_in trees (seen old.files Records)) (records_in trees (seen new.files Records)))
-      done (Ok x) commits = λ running. (makes (seen new.files Records) commits.done).1
+      done : (r : Result Unit StoreFault) → Commits model batch r old new
+          → OnOk r (new.has_stopped ≡ false → change (records_in trees (model.seen old.files Records)) (records_in trees (model.seen new.files Records)))
+      done (Ok x) commits = λ running. (makes (model.seen new.files Records) commits.done).1
       done (Err e) commits = tt
 
-      undone : (r : Result Unit StoreFault) → Commits seen may_leave moment left_since batch r old new
-          → OnErr r (new.has_stopped ≡ false → AreKept (records_in trees (seen old.files Records)) (records_in trees (seen new.files Records)))
+      undone : (r : Result Unit StoreFault) → Commits model batch r old new
+          → OnErr r (new.has_stopped ≡ false → AreKept (records_in trees (model.seen old.files Records)) (records_in trees (model.seen new.files Records)))
       undone (Ok x) commits = tt
       undone (Err e) commits = λ running tree node.
-          ap (λ (c : Content). records_in trees c tree node) (content_is (seen old.files Records) (seen new.files Records) (commits.undone running))
+          ap (λ (c : Content). records_in trees c tree node) (content_is (model.seen old.files Records) (model.seen new.files Records) (commits.undone running))
 
   -- a change after calls that change no record
   pub changes_then : (trees : Trees) (change : RecordsOf → RecordsOf → Type 0) (result : Result Unit StoreFault) (old mid new : FileValue F)
       → ((one two three : RecordsOf) → AreKept one two → change two three → change one three)
-      → LeavesRecords seen may_leave moment left_since trees old mid → (IsSoundFile seen may_leave trees mid → Changes seen may_leave moment left_since trees change result mid new)
+      → LeavesRecords model trees old mid → (IsSoundFile model trees mid → Changes model trees change result mid new)
       → (mid.has_stopped ≡ true → new ≡ mid)
-      → ((t : ℕ) (c : Contents) → t ≤ moment mid.files → may_leave mid.files c → left_since mid.files t c) → may_leave mid.files (seen mid.files)
-      → Changes seen may_leave moment left_since trees change result old new
+      → ((t : ℕ) (c : Contents) → t ≤ model.moment mid.files → model.may_leave mid.files c → model.left_since mid.files t c) → model.may_leave mid.files (model.seen mid.files)
+      → Changes model trees change result old new
   changes_then trees change result old mid new keeps first second stays counts_now whole = elim (cases_Bool mid.has_stopped) [
-    | inl stopped ↦ subst (λ (v : FileValue F). Changes seen may_leave moment left_since trees change result old v) (sym (stays stopped)) (stopped_changes result stopped)
+    | inl stopped ↦ subst (λ (v : FileValue F). Changes model trees change result old v) (sym (stays stopped)) (stopped_changes result stopped)
     | inr running ↦ (let then = second (first.sound running) in record {
       sound = then.sound;
       done = done result running then;
       undone = undone result running then;
-      moments = found_then seen may_leave moment left_since old.files mid.files new.files (Holds trees (records_in trees (seen old.files Records)))
-          (λ c. Holds trees (records_in trees (seen mid.files Records)) c ⊎ OnlyIf (OnErr result (new.has_stopped ≡ true)) (IsBucketFile trees c × change (records_in trees (seen mid.files Records)) (records_in trees c)))
-          (λ c. Holds trees (records_in trees (seen old.files Records)) c ⊎ OnlyIf (OnErr result (new.has_stopped ≡ true)) (IsBucketFile trees c × change (records_in trees (seen old.files Records)) (records_in trees c)))
-          (same_front seen may_leave moment left_since old.files mid.files (Holds trees (records_in trees (seen old.files Records))) first.moments counts_now whole)
+      moments = found_then model old.files mid.files new.files (Holds trees (records_in trees (model.seen old.files Records)))
+          (λ c. Holds trees (records_in trees (model.seen mid.files Records)) c ⊎ OnlyIf (OnErr result (new.has_stopped ≡ true)) (IsBucketFile trees c × change (records_in trees (model.seen mid.files Records)) (records_in trees c)))
+          (λ c. Holds trees (records_in trees (model.seen old.files Records)) c ⊎ OnlyIf (OnErr result (new.has_stopped ≡ true)) (IsBucketFile trees c × change (records_in trees (model.seen old.files Records)) (records_in trees c)))
+          (same_front model old.files mid.files (Holds trees (records_in trees (model.seen old.files Records))) first.moments counts_now whole)
           first.moments then.moments (λ r holds. inl holds)
-          (λ r either. ⊎_elim (λ holds. inl (holds_then trees (records_in trees (seen old.files Records)) (records_in trees (seen mid.files Records)) r (first.kept running) holds))
+          (λ r either. ⊎_elim (λ holds. inl (holds_then trees (records_in trees (model.seen old.files Records)) (records_in trees (model.seen mid.files Records)) r (first.kept running) holds))
           (λ made. inr (record { allowed = made.allowed; holds = (made.holds.0, keeps _ _ _ (first.kept running) made.holds.1) })) either);
     })
   ]
     where
-      stopped_changes : (r : Result Unit StoreFault) → mid.has_stopped ≡ true → Changes seen may_leave moment left_since trees change r old mid
+      stopped_changes : (r : Result Unit StoreFault) → mid.has_stopped ≡ true → Changes model trees change r old mid
       stopped_changes (Ok x) stopped = record {
         sound = λ running. absurd (true≢false (sym stopped ∙ running));
         done = λ running. absurd (true≢false (sym stopped ∙ running));
         undone = tt;
-        moments = found_leads seen may_leave moment left_since old.files mid.files (Holds trees (records_in trees (seen old.files Records)))
-            (λ c. Holds trees (records_in trees (seen old.files Records)) c ⊎ OnlyIf ⊤ (IsBucketFile trees c × change (records_in trees (seen old.files Records)) (records_in trees c))) first.moments (λ r holds. inl holds);
+        moments = found_leads model old.files mid.files (Holds trees (records_in trees (model.seen old.files Records)))
+            (λ c. Holds trees (records_in trees (model.seen old.files Records)) c ⊎ OnlyIf ⊤ (IsBucketFile trees c × change (records_in trees (model.seen old.files Records)) (records_in trees c))) first.moments (λ r holds. inl holds);
       }
       stopped_changes (Err e) stopped = record {
         sound = λ running. absurd (true≢false (sym stopped ∙ running));
         done = tt;
         undone = λ running. absurd (true≢false (sym stopped ∙ running));
-        moments = found_leads seen may_leave moment left_since old.files mid.files (Holds trees (records_in trees (seen old.files Records)))
-            (λ c. Holds trees (records_in trees (seen old.files Records)) c ⊎ OnlyIf (mid.has_stopped ≡ true) (IsBucketFile trees c × change (records_in trees (seen old.files Records)) (records_in trees c))) first.moments (λ r holds. inl holds);
+        moments = found_leads model old.files mid.files (Holds trees (records_in trees (model.seen old.files Records)))
+            (λ c. Holds trees (records_in trees (model.seen old.files Records)) c ⊎ OnlyIf (mid.has_stopped ≡ true) (IsBucketFile trees c × change (records_in trees (model.seen old.files Records)) (records_in trees c))) first.moments (λ r holds. inl holds);
       }
 
-      done : (r : Result Unit StoreFault) → mid.has_stopped ≡ false → Changes seen may_leave moment left_since trees change r mid new
-          → OnOk r (new.has_stopped ≡ false → change (records_in trees (seen old.files Records)) (records_in trees (seen new.files Records)))
+      done : (r : Result Unit StoreFault) → mid.has_stopped ≡ false → Changes model trees change r mid new
+          → OnOk r (new.has_stopped ≡ false → change (records_in trees (model.seen old.files Records)) (records_in trees (model.seen new.files Records)))
       done (Ok x) running then = λ still. keeps _ _ _ (first.kept running) (then.done still)
       done (Err e) running then = tt
 
-      undone : (r : Result Unit StoreFault) → mid.has_stopped ≡ false → Changes seen may_leave moment left_since trees change r mid new
-          → OnErr r (new.has_stopped ≡ false → AreKept (records_in trees (seen old.files Records)) (records_in trees (seen new.files Records)))
+      undone : (r : Result Unit StoreFault) → mid.has_stopped ≡ false → Changes model trees change r mid new
+          → OnErr r (new.has_stopped ≡ false → AreKept (records_in trees (model.seen old.files Records)) (records_in trees (model.seen new.files Records)))
       undone (Ok x) running then = tt
       undone (Err e) running then = λ still tree node. then.undone still tree node ∙ first.kept running tree node
 
   -- an error before the change
   pub changes_err : (trees : Trees) (change : RecordsOf → RecordsOf → Type 0) (result : Result Unit StoreFault) (old new : FileValue F) → IsErr result
-      → LeavesRecords seen may_leave moment left_since trees old new → Changes seen may_leave moment left_since trees change result old new
+      → LeavesRecords model trees old new → Changes model trees change result old new
   changes_err trees change (Ok x) old new is leaves = absurd (not_err is)
     where
       not_err : IsErr {E = StoreFault} (Ok x) → ⊥
@@ -248,8 +248,8 @@ module _ {F : Type 0} (seen : F → Contents) (may_leave : F → Contents → Ty
     sound = leaves.sound;
     done = tt;
     undone = leaves.kept;
-    moments = found_leads seen may_leave moment left_since old.files new.files (Holds trees (records_in trees (seen old.files Records)))
-        (λ c. Holds trees (records_in trees (seen old.files Records)) c ⊎ OnlyIf (new.has_stopped ≡ true) (IsBucketFile trees c × change (records_in trees (seen old.files Records)) (records_in trees c))) leaves.moments (λ r holds. inl holds);
+    moments = found_leads model old.files new.files (Holds trees (records_in trees (model.seen old.files Records)))
+        (λ c. Holds trees (records_in trees (model.seen old.files Records)) c ⊎ OnlyIf (new.has_stopped ≡ true) (IsBucketFile trees c × change (records_in trees (model.seen old.files Records)) (records_in trees c))) leaves.moments (λ r holds. inl holds);
   }
 
 pub stores_keep : (tree : ℕ) (s : TreeShape) (leaf : ℕ) (bytes : List ℕ) (one two three : RecordsOf) → AreKept one two → Stores tree s leaf bytes two three → Stores tree s leaf bytes one three

@@ -1,7 +1,7 @@
 -- What a crash may leave of a store's records.
 use Rattle.std.specs.Prelude.{◌≡◌, ◌⊎◌, ℕ, Bool, Some, true, false, ⊤}
 use Rattle.oram_redo.specs.Content.{Content}
-use Rattle.oram_redo.specs.FilePair.{Contents, LeavesOnly}
+use Rattle.oram_redo.specs.FilePair.{FileModel, LeavesOnly}
 use Rattle.oram_wire.specs.declared.host_messages.HostAnswer.{HostAnswer}
 use Rattle.oram_wire.specs.declared.host_messages.HostAnswer.TheVariants as answer
 use Rattle.oram_wire.specs.declared.host_messages.HostRequest.{HostRequest}
@@ -27,17 +27,17 @@ IsCarriedOut trees old (request.Shape tree depth record_len) c = (new : Trees) �
 abbrev pub MayHold : Trees → Records → Records → Content → Type 0
 MayHold trees sure all c = Holds trees sure c ⊎ Holds trees all c
 
--- A crash while these PUTs are settled finds them all, or only the records that were sure.
-abbrev pub SettlesWhole : {F : Type 0} → (F → Contents) → (F → ℕ) → (F → ℕ → Contents → Type 0) → StoreValue F → StoreValue F → Type 0
-SettlesWhole seen moment left_since old new =
-    LeavesOnly moment left_since old.file.files new.file.files (Finds (seen old.file.files) (MayHold old.trees (sure_records seen old) (records_of seen old)))
+-- A crash while these PUTs are committed finds them all, or only the records that were sure.
+abbrev pub CommitsPutsWhole : {F : Type 0} → FileModel F → StoreValue F → StoreValue F → Type 0
+CommitsPutsWhole model old new =
+    LeavesOnly model old.file.files new.file.files (Finds (model.seen old.file.files) (MayHold old.trees (sure_records model old) (records_of model old)))
 
--- The store has settled its PUTs, or tried to, and answers as before.
-pub record Settles {F : Type 0} (seen : F → Contents) (may_leave : F → Contents → Type 0) (moment : F → ℕ) (left_since : F → ℕ → Contents → Type 0)
+-- The store has committed its PUTs, or tried to, and answers as before.
+pub record CommitsPuts {F : Type 0} (model : FileModel F)
     (old new : StoreValue F) : Type 0 where
-  pub sound : new.file.has_stopped ≡ false → IsSound seen may_leave new
-  pub records : new.file.has_stopped ≡ false → AreKept (records_of seen old) (records_of seen new)
-  pub any_moment : SettlesWhole seen moment left_since old new
+  pub sound : new.file.has_stopped ≡ false → IsSound model new
+  pub records : new.file.has_stopped ≡ false → AreKept (records_of model old) (records_of model new)
+  pub any_moment : CommitsPutsWhole model old new
 
 -- A crash may find what a request makes if the request is answered as carried out, or if the file has stopped, because
 -- nobody knows then.
@@ -47,15 +47,15 @@ MayBeFound answer has_stopped = ⊤
 
 -- A crash while this request is carried out finds what was there before, or what the request makes of it: all of that
 -- or nothing. If the request is refused, it finds nothing of it, unless the file has stopped.
-abbrev pub ServesWhole : {F : Type 0} → (F → Contents) → (F → ℕ) → (F → ℕ → Contents → Type 0) → HostRequest → HostAnswer → StoreValue F → StoreValue F → Type 0
-ServesWhole seen moment left_since message answer old new =
-    LeavesOnly moment left_since old.file.files new.file.files
-    (Finds (seen old.file.files) (λ c. MayHold old.trees (sure_records seen old) (records_of seen old) c
-    ⊎ OnlyIf (MayBeFound answer new.file.has_stopped) (IsCarriedOut old.trees (records_of seen old) message c)))
+abbrev pub ServesWhole : {F : Type 0} → FileModel F → HostRequest → HostAnswer → StoreValue F → StoreValue F → Type 0
+ServesWhole model message answer old new =
+    LeavesOnly model old.file.files new.file.files
+    (Finds (model.seen old.file.files) (λ c. MayHold old.trees (sure_records model old) (records_of model old) c
+    ⊎ OnlyIf (MayBeFound answer new.file.has_stopped) (IsCarriedOut old.trees (records_of model old) message c)))
 
 -- The store gives this answer to a request, and is `new` afterwards.
-pub record Serves {F : Type 0} (seen : F → Contents) (may_leave : F → Contents → Type 0) (moment : F → ℕ) (left_since : F → ℕ → Contents → Type 0)
+pub record Serves {F : Type 0} (model : FileModel F)
     (message : HostRequest) (answer : HostAnswer) (old new : StoreValue F) : Type 0 where
-  pub sound : new.file.has_stopped ≡ false → IsSound seen may_leave new
-  pub records : new.file.has_stopped ≡ false → Answers old.trees (records_of seen old) message answer (records_of seen new)
-  pub any_moment : ServesWhole seen moment left_since message answer old new
+  pub sound : new.file.has_stopped ≡ false → IsSound model new
+  pub records : new.file.has_stopped ≡ false → Answers old.trees (records_of model old) message answer (records_of model new)
+  pub any_moment : ServesWhole model message answer old new

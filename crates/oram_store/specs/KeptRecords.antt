@@ -1,7 +1,7 @@
 -- What a store keeps.
 use Rattle.std.specs.Prelude.{◌≡◌, ◌⊎◌, ℕ, true, false, List, Option, Some, All, OnErr, OnOk, Result}
 use Rattle.oram_redo.specs.Content.{Content}
-use Rattle.oram_redo.specs.FilePair.{Contents, LeavesOnly}
+use Rattle.oram_redo.specs.FilePair.{FileModel, LeavesOnly}
 use Rattle.oram_redo.specs.Log.{Patch, put_all}
 use Rattle.oram_redo.specs.declared.file_pair.FileKind.TheVariants.{Records as OfRecords}
 use Rattle.oram_layout.specs.BucketFile.{IsBucketFile}
@@ -19,19 +19,19 @@ pub record StoreValue (F : Type 0) : Type 0 where
   pub failure : Option StoreFault  -- why there was no room, the last time that there was none
 
 -- the content of the file, and the content that the answers are about
-abbrev pub sure_content : {F : Type 0} → (F → Contents) → StoreValue F → Content
-sure_content seen s = seen s.file.files OfRecords
+abbrev pub sure_content : {F : Type 0} → FileModel F → StoreValue F → Content
+sure_content model s = model.seen s.file.files OfRecords
 
-abbrev pub content_of : {F : Type 0} → (F → Contents) → StoreValue F → Content
-content_of seen s = put_all (marks s.pending) (sure_content seen s)
+abbrev pub content_of : {F : Type 0} → FileModel F → StoreValue F → Content
+content_of model s = put_all (marks s.pending) (sure_content model s)
 
 -- the records that are found again if a crash comes now
-abbrev pub sure_records : {F : Type 0} → (F → Contents) → StoreValue F → Records
-sure_records seen s = records_in s.trees (sure_content seen s)
+abbrev pub sure_records : {F : Type 0} → FileModel F → StoreValue F → Records
+sure_records model s = records_in s.trees (sure_content model s)
 
 -- the records that the answers are about
-abbrev pub records_of : {F : Type 0} → (F → Contents) → StoreValue F → Records
-records_of seen s = records_in s.trees (content_of seen s)
+abbrev pub records_of : {F : Type 0} → FileModel F → StoreValue F → Records
+records_of model s = records_in s.trees (content_of model s)
 
 -- the content is that of a bucket file with these trees and records
 pub record Holds (trees : Trees) (records : Records) (c : Content) : Type 0 where
@@ -39,33 +39,33 @@ pub record Holds (trees : Trees) (records : Records) (c : Content) : Type 0 wher
   pub kept : AreKept records (records_in trees c)
 
 -- The file is a bucket file with these trees, and a crash changes no record in it.
-pub record IsSoundFile {F : Type 0} (seen : F → Contents) (may_leave : F → Contents → Type 0) (trees : Trees) (v : FileValue F) : Type 0 where
+pub record IsSoundFile {F : Type 0} (model : FileModel F) (trees : Trees) (v : FileValue F) : Type 0 where
   pub loose : List Patch
-  pub steady : IsSteady seen may_leave v loose
-  pub off : All (IsOffRecords trees (seen v.files OfRecords)) loose
-  pub file : IsBucketFile trees (seen v.files OfRecords)
+  pub steady : IsSteady model v loose
+  pub off : All (IsOffRecords trees (model.seen v.files OfRecords)) loose
+  pub file : IsBucketFile trees (model.seen v.files OfRecords)
 
--- A store whose file is as the store has left it.
-pub record IsSound {F : Type 0} (seen : F → Contents) (may_leave : F → Contents → Type 0) (s : StoreValue F) : Type 0 where
-  pub file : IsSoundFile seen may_leave s.trees s.file
+-- The file holds the store's trees, a crash changes no record in it, and each pending cell is a cell of these trees.
+pub record IsSound {F : Type 0} (model : FileModel F) (s : StoreValue F) : Type 0 where
+  pub file : IsSoundFile model s.trees s.file
   pub cells : All (IsCell s.trees) s.pending
 
 -- no record was changed, and a crash at any moment changes none
-pub record LeavesRecords {F : Type 0} (seen : F → Contents) (may_leave : F → Contents → Type 0) (moment : F → ℕ) (left_since : F → ℕ → Contents → Type 0)
+pub record LeavesRecords {F : Type 0} (model : FileModel F)
     (trees : Trees) (old new : FileValue F) : Type 0 where
-  pub sound : new.has_stopped ≡ false → IsSoundFile seen may_leave trees new
-  pub kept : new.has_stopped ≡ false → AreKept (records_in trees (seen old.files OfRecords)) (records_in trees (seen new.files OfRecords))
-  pub moments : LeavesOnly moment left_since old.files new.files (Finds (seen old.files) (Holds trees (records_in trees (seen old.files OfRecords))))
+  pub sound : new.has_stopped ≡ false → IsSoundFile model trees new
+  pub kept : new.has_stopped ≡ false → AreKept (records_in trees (model.seen old.files OfRecords)) (records_in trees (model.seen new.files OfRecords))
+  pub moments : LeavesOnly model old.files new.files (Finds (model.seen old.files) (Holds trees (records_in trees (model.seen old.files OfRecords))))
 
 -- The records are changed in this way or not at all, whenever a crash comes. On an error they aren't changed, unless
 -- the file has stopped.
-pub record Changes {F : Type 0} (seen : F → Contents) (may_leave : F → Contents → Type 0) (moment : F → ℕ) (left_since : F → ℕ → Contents → Type 0)
+pub record Changes {F : Type 0} (model : FileModel F)
     (trees : Trees) (change : Records → Records → Type 0) (result : Result Unit StoreFault) (old new : FileValue F) : Type 0 where
-  pub sound : new.has_stopped ≡ false → IsSoundFile seen may_leave trees new
-  pub done : OnOk result (new.has_stopped ≡ false → change (records_in trees (seen old.files OfRecords)) (records_in trees (seen new.files OfRecords)))
-  pub undone : OnErr result (new.has_stopped ≡ false → AreKept (records_in trees (seen old.files OfRecords)) (records_in trees (seen new.files OfRecords)))
-  pub moments : LeavesOnly moment left_since old.files new.files (Finds (seen old.files) (λ c. Holds trees (records_in trees (seen old.files OfRecords)) c
-      ⊎ OnlyIf (OnErr result (new.has_stopped ≡ true)) (IsBucketFile trees c × change (records_in trees (seen old.files OfRecords)) (records_in trees c))))
+  pub sound : new.has_stopped ≡ false → IsSoundFile model trees new
+  pub done : OnOk result (new.has_stopped ≡ false → change (records_in trees (model.seen old.files OfRecords)) (records_in trees (model.seen new.files OfRecords)))
+  pub undone : OnErr result (new.has_stopped ≡ false → AreKept (records_in trees (model.seen old.files OfRecords)) (records_in trees (model.seen new.files OfRecords)))
+  pub moments : LeavesOnly model old.files new.files (Finds (model.seen old.files) (λ c. Holds trees (records_in trees (model.seen old.files OfRecords)) c
+      ⊎ OnlyIf (OnErr result (new.has_stopped ≡ true)) (IsBucketFile trees c × change (records_in trees (model.seen old.files OfRecords)) (records_in trees c))))
 
 -- the records of a path are `bytes` now, and all others are as they were
 abbrev pub Stores : ℕ → TreeShape → ℕ → List ℕ → Records → Records → Type 0

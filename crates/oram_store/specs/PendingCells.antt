@@ -1,4 +1,4 @@
--- The cells of records that wait to be settled.
+-- The cells of records that wait to be committed.
 use Rattle.std.specs.Prelude.{ℕ, ◌^◌, ◌<◌, ◌≤◌, List, All, length}
 
 -- at most 4096 cells, each at a place where cells may be

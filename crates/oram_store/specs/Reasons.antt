@@ -1,4 +1,5 @@
 -- Why there was no room for a request.
+use Rattle.oram_redo.specs.FilePair.{FileModel}
 use Rattle.std.specs.Prelude.{◌≡◌, ◌⊎◌, ℕ, ◌+◌, ◌^◌, ◌<◌, IsSomeAnd}
 use Rattle.oram_wire.specs.declared.host_messages.HostRequest.{HostRequest}
 use Rattle.oram_wire.specs.declared.host_messages.HostRequest.TheVariants as request
@@ -16,9 +17,9 @@ HasNoPlace trees message = ⊥
 
 -- Why a request that the trees don't refuse wasn't carried out: a call of the file gives the reason, or there is no
 -- place for a tree.
-abbrev pub IsReasonFor : {F : Type 0} → (F → ℕ → Type 0) → (F → ℕ → Type 0) → StoreValue F → StoreValue F → HostRequest → StoreFault → Type 0
-IsReasonFor failures shortages old new message fault = IsReason failures shortages old.file new.file fault ⊎ ((fault ≡ NoRoom) × HasNoPlace old.trees message)
+abbrev pub IsReasonFor : {F : Type 0} → FileModel F → StoreValue F → StoreValue F → HostRequest → StoreFault → Type 0
+IsReasonFor model old new message fault = IsReason model old.file new.file fault ⊎ ((fault ≡ NoRoom) × HasNoPlace old.trees message)
 
--- the store keeps such a reason
-abbrev pub TellsWhy : {F : Type 0} → (F → ℕ → Type 0) → (F → ℕ → Type 0) → StoreValue F → StoreValue F → HostRequest → Type 0
-TellsWhy failures shortages old new message = IsSomeAnd new.failure (IsReasonFor failures shortages old new message)
+-- the store reports such a reason
+abbrev pub ReportsWhy : {F : Type 0} → FileModel F → StoreValue F → StoreValue F → HostRequest → Type 0
+ReportsWhy model old new message = IsSomeAnd new.failure (IsReasonFor model old new message)

@@ -4,10 +4,11 @@ use Rattle.oram_wire.specs.declared.host_messages.HostAnswer.{HostAnswer}
 use Rattle.oram_wire.specs.declared.host_messages.HostAnswer.TheVariants as answer
 use Rattle.oram_wire.specs.declared.host_messages.HostRequest.{HostRequest}
 use Rattle.oram_wire.specs.declared.host_messages.HostRequest.TheVariants as request
+use Rattle.oram_host.specs.ImageReader.{is_shape}
 use Rattle.oram_host.specs.Refusals.{code_of}
 use Rattle.oram_host.specs.declared.refusals.HostRefusal.{HostRefusal}
 use Rattle.oram_host.specs.declared.refusals.HostRefusal.TheVariants.{NoShape, BadLeaf, BadNode, BadLength, ShapeTaken, Missing, OutOfMemory}
-use Rattle.oram_layout.specs.Limits.{TreeShape, is_shape}
+use Rattle.oram_layout.specs.Limits.{TreeShape}
 use Rattle.oram_layout.specs.Trees.{Trees, shape_at}
 
 -- the refusal `why` if the condition doesn't hold, or else `rest`

@@ -5,7 +5,7 @@ ghost use Rattle.oram_redo.specs.FilePair.{Contents};
 ghost use Rattle.oram_store.specs.Answers.{IsGranted, IsKeptAtOnce};
 ghost use Rattle.oram_store.specs.Crashes.{Serves};
 ghost use Rattle.oram_store.specs.KeptRecords.{IsSound};
-ghost use Rattle.oram_store.specs.Reasons.{TellsWhy};
+ghost use Rattle.oram_store.specs.Reasons.{ReportsWhy};
 ghost use Rattle.oram_store.specs.Refusals.{IsRefused, RespondsWith, ChangesTrees, refusal_by};
 ghost use Rattle.oram_store.specs.RecordFile.{Runs};
 ghost use Rattle.oram_store.specs.AnswerBytes.{StandsBehind, StandsFor};
@@ -39,14 +39,14 @@ impl<F: FilePair> FileStore<F> {
         ensures untouched { IsSome (refusal_by self.old.trees (request_of request.entry)) → self.new ≡ self.old }
         ensures after { OnOk result (ChangesTrees self.old.trees (request_of request.entry) self.new.trees) }
         ensures same { OnErr result (self.new.trees ≡ self.old.trees) }
-        ensures settled { OnOk result (IsKeptAtOnce (request_of request.entry) → self.new.pending ≡ []) }
-        ensures serves { F.is_honest self.new.file.files → IsSound F.seen F.may_leave self.old → MatchResult result
+        ensures none_pending { OnOk result (IsKeptAtOnce (request_of request.entry) → self.new.pending ≡ []) }
+        ensures serves { F.model.is_honest self.new.file.files → IsSound F.model self.old → MatchResult result
             (λ served. (answer : HostAnswer) × StandsFor front.now served answer
-            × Serves F.seen F.may_leave F.moment F.left_since (request_of request.entry) answer self.old self.new)
-            (λ why. Serves F.seen F.may_leave F.moment F.left_since (request_of request.entry) (HostAnswer.Refused (code_of why)) self.old self.new) }
-        ensures runs { Runs F.failures F.shortages F.is_honest self.old.file self.new.file }
+            × Serves F.model (request_of request.entry) answer self.old self.new)
+            (λ why. Serves F.model (request_of request.entry) (HostAnswer.Refused (code_of why)) self.old self.new) }
+        ensures runs { Runs F.model self.old.file self.new.file }
         ensures running { OnOk result (self.new.file.has_stopped ≡ false) }
-        ensures failure { result ≡ Err HostRefusal.OutOfMemory → TellsWhy F.failures F.shortages self.old self.new (request_of request.entry) }
+        ensures failure { result ≡ Err HostRefusal.OutOfMemory → ReportsWhy F.model self.old self.new (request_of request.entry) }
     {
         match request {
             HostView::Fetch { tree, leaf } => {
@@ -76,21 +76,21 @@ impl<F: FilePair> FileStore<F> {
         ensures untouched { (message : HostRequest) → HasNumbers message → body.now ≡ request_body message
             → IsSome (refusal_by self.old.trees message) → self.new ≡ self.old }
         ensures served { IfOk result (λ served. (message : HostRequest) × StandsBehind front.now message served) }
-        ensures told { (message : HostRequest) → HasNumbers message → body.now ≡ request_body message
+        ensures responds { (message : HostRequest) → HasNumbers message → body.now ≡ request_body message
             → MatchResult result
             (λ served. StandsBehind front.now message served × (refusal_by self.old.trees message ≡ None)
             × ChangesTrees self.old.trees message self.new.trees
             × (IsKeptAtOnce message → self.new.pending ≡ []))
             (λ why. IsRefused self.old.trees message why × (self.new.trees ≡ self.old.trees)) }
         ensures serves { (message : HostRequest) → HasNumbers message → body.now ≡ request_body message
-            → F.is_honest self.new.file.files → IsSound F.seen F.may_leave self.old
+            → F.model.is_honest self.new.file.files → IsSound F.model self.old
             → MatchResult result
-            (λ served. (answer : HostAnswer) × StandsFor front.now served answer × Serves F.seen F.may_leave F.moment F.left_since message answer self.old self.new)
-            (λ why. Serves F.seen F.may_leave F.moment F.left_since message (HostAnswer.Refused (code_of why)) self.old self.new) }
-        ensures runs { Runs F.failures F.shortages F.is_honest self.old.file self.new.file }
+            (λ served. (answer : HostAnswer) × StandsFor front.now served answer × Serves F.model message answer self.old self.new)
+            (λ why. Serves F.model message (HostAnswer.Refused (code_of why)) self.old self.new) }
+        ensures runs { Runs F.model self.old.file self.new.file }
         ensures running { OnOk result (self.new.file.has_stopped ≡ false) }
         ensures failure { (message : HostRequest) → HasNumbers message → body.now ≡ request_body message
-            → result ≡ Err HostRefusal.OutOfMemory → TellsWhy F.failures F.shortages self.old self.new message }
+            → result ≡ Err HostRefusal.OutOfMemory → ReportsWhy F.model self.old self.new message }
     {
         match HostView::read(body) {
             Ok(request) => self.serve(request, front),
@@ -116,19 +116,19 @@ impl<F: FilePair> FileStore<F> {
         // If there is no room, the store keeps the reason: a call of the files has failed or found no room, now or
         // before, or the files end before the tree would. No clause can say when memory runs out.
         ensures failure { (message : HostRequest) → HasNumbers message → body.now ≡ request_body message
-            → result ≡ HostAnswer.Refused 8 → TellsWhy F.failures F.shortages self.old self.new message }
+            → result ≡ HostAnswer.Refused 8 → ReportsWhy F.model self.old self.new message }
 
         // The answer, and the records after it, follow from the records before it, by tree and node. A crash at any
         // moment finds what was there before, or what the request makes of it; if the request is refused and the file
         // hasn't stopped, only what was there before.
         ensures serves { (message : HostRequest) → HasNumbers message → body.now ≡ request_body message
-            → F.is_honest self.new.file.files → IsSound F.seen F.may_leave self.old
-            → Serves F.seen F.may_leave F.moment F.left_since message result self.old self.new }
+            → F.model.is_honest self.new.file.files → IsSound F.model self.old
+            → Serves F.model message result self.old self.new }
 
-        // After an answer that isn't a refusal, no record waits to be settled, unless the request was a PUT.
+        // After an answer that isn't a refusal, no record waits to be committed, unless the request was a PUT.
         ensures committed { (message : HostRequest) → HasNumbers message → body.now ≡ request_body message → IsKeptAtOnce message
             → IsGranted result → self.new.pending ≡ [] }
-        ensures runs { Runs F.failures F.shortages F.is_honest self.old.file self.new.file }
+        ensures runs { Runs F.model self.old.file self.new.file }
 
         // A store that has stopped carries out nothing.
         ensures running { IsGranted result → self.new.file.has_stopped ≡ false }
@@ -152,11 +152,11 @@ impl<F: FilePair> FileStore<F> {
             × ((message : HostRequest) → HasNumbers message → body.now ≡ request_body message → RespondsWith self.old.trees message answer self.new.trees
             × (IsKeptAtOnce message → IsGranted answer → self.new.pending ≡ [])
             × (IsGranted answer → self.new.file.has_stopped ≡ false)
-            × (answer ≡ HostAnswer.Refused 8 → TellsWhy F.failures F.shortages self.old self.new message)
-            × (F.is_honest self.new.file.files → IsSound F.seen F.may_leave self.old → Serves F.seen F.may_leave F.moment F.left_since message answer self.old self.new))) }
+            × (answer ≡ HostAnswer.Refused 8 → ReportsWhy F.model self.old self.new message)
+            × (F.model.is_honest self.new.file.files → IsSound F.model self.old → Serves F.model message answer self.old self.new))) }
         ensures op { names_request body.now ≡ false → IfOk result (λ v. v.items ≡ answer_body (HostAnswer.Refused 7)) }
         ensures misfit { IsMisfit body.now → IfOk result (λ v. v.items ≡ answer_body (HostAnswer.Refused 4)) }
-        ensures runs { Runs F.failures F.shortages F.is_honest self.old.file self.new.file }
+        ensures runs { Runs F.model self.old.file self.new.file }
         // The answer fits in a frame.
         ensures fits { IfOk result (λ v. IsBody v.items) }
         ensures err { OnErr result (self.new ≡ self.old) }

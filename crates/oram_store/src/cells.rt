@@ -27,9 +27,9 @@ pub(crate) fn has_record<F: FilePair>(
     node: u32,
 ) -> Result<bool, StoreFault>
     requires { node < nodes_of (sizes_of tree.now.shape) }
-    ensures found { IfOk result (λ found. F.is_honest file.new.files → IsTrue found ↔ (F.seen file.old.files Records (cell_at tree.now node) ≡ 1)) }
-    ensures reads { ReadsOnly F.seen F.may_leave F.moment F.left_since file.old file.new }
-    ensures calls { Calls F.failures F.shortages F.is_honest result file.old file.new }
+    ensures found { IfOk result (λ found. F.model.is_honest file.new.files → IsTrue found ↔ (F.model.seen file.old.files Records (cell_at tree.now node) ≡ 1)) }
+    ensures reads { ReadsOnly F.model file.old file.new }
+    ensures calls { Calls F.model result file.old file.new }
     ensures running { OnOk result (file.new.has_stopped ≡ false) }
 {
     let first = file.read(alloc, tree.cell_at(node), 1)?;
@@ -47,10 +47,10 @@ fn read_record<F: FilePair>(
 ) -> Result<bool, StoreFault>
     requires { node < nodes_of (sizes_of tree.now.shape) }
     ensures found { IfOk result (λ found. found ≡ true
-        → RecordOnto (F.is_honest file.new.files) tree.now node (F.seen file.old.files Records) bytes.old.items bytes.new.items) }
-    ensures missing { IfOk result (λ found. found ≡ false → F.is_honest file.new.files → record_in (Some tree.now) node (F.seen file.old.files Records) ≡ None) }
-    ensures reads { ReadsOnly F.seen F.may_leave F.moment F.left_since file.old file.new }
-    ensures calls { Calls F.failures F.shortages F.is_honest result file.old file.new }
+        → RecordOnto (F.model.is_honest file.new.files) tree.now node (F.model.seen file.old.files Records) bytes.old.items bytes.new.items) }
+    ensures missing { IfOk result (λ found. found ≡ false → F.model.is_honest file.new.files → record_in (Some tree.now) node (F.model.seen file.old.files Records) ≡ None) }
+    ensures reads { ReadsOnly F.model file.old file.new }
+    ensures calls { Calls F.model result file.old file.new }
     ensures running { OnOk result (file.new.has_stopped ≡ false) }
 {
     if !has_record(alloc, file, tree, node)? {
@@ -72,12 +72,12 @@ pub(crate) fn read_path<F: FilePair>(
     requires leaf { leaf < 2 ^ tree.now.shape.depth }
     requires short { length front.now ≤ 1 }
     ensures fits { IfOk result (λ found. IfSome found (λ v. IsBehind front.now FitsAnswer v.items)) }
-    ensures path { let records = records_of_tree tree.now (F.seen file.old.files Records) in
-        IfOk result (λ found. F.is_honest file.new.files → MatchOption found
+    ensures path { let records = records_of_tree tree.now (F.model.seen file.old.files Records) in
+        IfOk result (λ found. F.model.is_honest file.new.files → MatchOption found
         (LacksOn records 0 (sizes_of tree.now.shape) leaf)
         (λ v. IsBehind front.now (IsPathOf records 0 (sizes_of tree.now.shape) leaf) v.items)) }
-    ensures reads { ReadsOnly F.seen F.may_leave F.moment F.left_since file.old file.new }
-    ensures calls { Calls F.failures F.shortages F.is_honest result file.old file.new }
+    ensures reads { ReadsOnly F.model file.old file.new }
+    ensures calls { Calls F.model result file.old file.new }
     ensures running { OnOk result (file.new.has_stopped ≡ false) }
 {
     let mut bytes = Vec::with_capacity(alloc, front.len() + tree.shape.path_len())?;
@@ -101,9 +101,9 @@ fn write_if_missing<F: FilePair>(
 ) -> Result<(), StoreFault>
     requires node { node < nodes_of (sizes_of tree.now.shape) }
     requires whole { length bytes.now ≡ tree.now.shape.record_len }
-    ensures kept { (trees : Trees) (number : ℕ) → tree_at trees number ≡ Some tree.now → IsSoundFile F.seen F.may_leave trees file.old → F.is_honest file.new.files
-        → LeavesRecords F.seen F.may_leave F.moment F.left_since trees file.old file.new }
-    ensures calls { Calls F.failures F.shortages F.is_honest result file.old file.new }
+    ensures kept { (trees : Trees) (number : ℕ) → tree_at trees number ≡ Some tree.now → IsSoundFile F.model trees file.old → F.model.is_honest file.new.files
+        → LeavesRecords F.model trees file.old file.new }
+    ensures calls { Calls F.model result file.old file.new }
     ensures running { OnOk result (file.new.has_stopped ≡ false) }
 {
     if has_record(alloc, file, tree, node)? {
@@ -123,9 +123,9 @@ pub(crate) fn write_missing<F: FilePair>(
 ) -> Result<(), StoreFault>
     requires leaf { leaf < 2 ^ tree.now.shape.depth }
     requires whole { length records.now ≡ (tree.now.shape.depth + 1) * tree.now.shape.record_len }
-    ensures kept { (trees : Trees) (number : ℕ) → tree_at trees number ≡ Some tree.now → IsSoundFile F.seen F.may_leave trees file.old → F.is_honest file.new.files
-        → LeavesRecords F.seen F.may_leave F.moment F.left_since trees file.old file.new }
-    ensures calls { Calls F.failures F.shortages F.is_honest result file.old file.new }
+    ensures kept { (trees : Trees) (number : ℕ) → tree_at trees number ≡ Some tree.now → IsSoundFile F.model trees file.old → F.model.is_honest file.new.files
+        → LeavesRecords F.model trees file.old file.new }
+    ensures calls { Calls F.model result file.old file.new }
 {
     let len = tree.shape.record_len as usize;
     for level in 0..tree.shape.depth + 1 {

@@ -8,7 +8,7 @@ ghost use Rattle.oram_layout.specs.Trees.{Trees};
 ghost use Rattle.oram_redo.specs.Content.{Content, Has};
 ghost use Rattle.oram_redo.specs.FilePair.{ComesAfter, Contents, HasFailed, IsSure, Rises, WritesNothing};
 ghost use Rattle.oram_redo.specs.Log.{IsLog, StandsFor};
-ghost use Rattle.oram_redo.specs.Redo.{IsSettled, bounds_of};
+ghost use Rattle.oram_redo.specs.Redo.{IsCrashConsistent, bounds_of};
 ghost use Rattle.oram_redo.specs.declared.file_pair.FileKind.TheVariants.{Log, Records};
 ghost use Rattle.oram_store.specs.KeptRecords.{IsSound, records_of};
 ghost use Rattle.oram_store.specs.OpenOutcomes.{IsNotOpened, IsOpened, OpensAlike};
@@ -26,18 +26,18 @@ use std::alloc::Global;
 /// Makes two empty files a store without trees, with this identity. After `Ok` they are on the disk. After `Err` they
 /// are neither empty nor a store's, and have to be made again.
 pub fn create<F: FilePair>(files: &mut F, identity: &Identity) -> Result<(), StoreFault>
-    requires { (file : _) (i : ℕ) → F.seen files.old file i ≡ 0 }
-    ensures records { OnOk result (IsBucketFile (replicate 256 None) (F.seen files.new Records)) }
-    ensures log { OnOk result (IsLog bounds [] (F.seen files.new Log)) }
+    requires { (file : _) (i : ℕ) → F.model.seen files.old file i ≡ 0 }
+    ensures records { OnOk result (IsBucketFile (replicate 256 None) (F.model.seen files.new Records)) }
+    ensures log { OnOk result (IsLog bounds [] (F.model.seen files.new Log)) }
 
     // Each file says that it has this identity.
-    ensures front { OnOk result (Has (front_bytes letters identity.now) 0 (F.seen files.new Records)) }
-    ensures log_front { OnOk result (Has (front_bytes log_letters identity.now) 0 (F.seen files.new Log)) }
-    ensures sure { OnOk result ((file : _) → IsSure file (F.seen files.new) (F.may_leave files.new)) }
-    ensures no_room { IsErrOf result StoreFault.NoRoom → Rises F.shortages files.old files.new }
-    ensures failed { IsErrOf result StoreFault.Io → HasFailed F.failures F.shortages files.old files.new }
+    ensures front { OnOk result (Has (front_bytes letters identity.now) 0 (F.model.seen files.new Records)) }
+    ensures log_front { OnOk result (Has (front_bytes log_letters identity.now) 0 (F.model.seen files.new Log)) }
+    ensures sure { OnOk result ((file : _) → IsSure F.model file files.new) }
+    ensures no_room { IsErrOf result StoreFault.NoRoom → Rises F.model.shortages files.old files.new }
+    ensures failed { IsErrOf result StoreFault.Io → HasFailed F.model files.old files.new }
     ensures errors { IfErr result (λ fault. (fault ≡ StoreFault.NoRoom) ⊎ (fault ≡ StoreFault.Io)) }
-    ensures after { ComesAfter F.failures F.shortages F.is_honest files.old files.new }
+    ensures after { ComesAfter F.model files.old files.new }
 {
     files.write_at(FileKind::Log, 0, &log_front_of(identity))?;
     files.write_at(FileKind::Records, 0, &front_of(identity))?;
@@ -53,13 +53,13 @@ fn read_entries<F: FilePair>(
     redo: &Redo,
 ) -> Result<Vec<u8>, StoreFault>
     ensures len { IfOk result (λ bytes. length bytes.items ≡ 4096) }
-    ensures entries { IfOk result (λ bytes. F.is_honest files.new → Has bytes.items 4096 (F.seen files.old Records)) }
-    ensures settled { (loose : _) → IsSettled redo.now loose (F.seen files.old) (F.may_leave files.old)
-        → IsSettled redo.now loose (F.seen files.new) (F.may_leave files.new) }
-    ensures nothing_written { WritesNothing F.seen F.may_leave F.moment F.left_since files.old files.new }
-    ensures failed { IsErrOf result StoreFault.Io → HasFailed F.failures F.shortages files.old files.new }
+    ensures entries { IfOk result (λ bytes. F.model.is_honest files.new → Has bytes.items 4096 (F.model.seen files.old Records)) }
+    ensures consistent { (loose : _) → IsCrashConsistent F.model redo.now loose files.old
+        → IsCrashConsistent F.model redo.now loose files.new }
+    ensures nothing_written { WritesNothing F.model files.old files.new }
+    ensures failed { IsErrOf result StoreFault.Io → HasFailed F.model files.old files.new }
     ensures errors { IfErr result (λ fault. (fault ≡ StoreFault.OutOfMemory) ⊎ (fault ≡ StoreFault.Io)) }
-    ensures after { ComesAfter F.failures F.shortages F.is_honest files.old files.new }
+    ensures after { ComesAfter F.model files.old files.new }
 {
     let bytes = redo.read(alloc, files, entry_place(0), ENTRY_LEN * TREES)?;
     Ok(bytes)
@@ -70,12 +70,12 @@ fn recover_trees<F: FilePair>(
     alloc: Global,
     files: &mut F,
 ) -> Result<(Redo, Vec<Option<Tree>>), StoreFault>
-    ensures opened { IfOk result (λ found. F.is_honest files.new → IsOpened F.seen F.may_leave found.0 found.1.items files.old files.new) }
+    ensures opened { IfOk result (λ found. F.model.is_honest files.new → IsOpened F.model found.0 found.1.items files.old files.new) }
     ensures bounds { IfOk result (λ found. bounds_of found.0 ≡ bounds) }
     ensures all { IfOk result (λ found. length found.1.items ≡ 256) }
-    ensures any_moment { F.is_honest files.new → OpensAlike F.seen F.may_leave F.moment F.left_since files.old files.new }
-    ensures err { IfErr result (λ why. IsNotOpened F.seen F.may_leave F.moment F.left_since F.failures F.shortages F.is_honest why files.old files.new) }
-    ensures after { ComesAfter F.failures F.shortages F.is_honest files.old files.new }
+    ensures any_moment { F.model.is_honest files.new → OpensAlike F.model files.old files.new }
+    ensures err { IfErr result (λ why. IsNotOpened F.model why files.old files.new) }
+    ensures after { ComesAfter F.model files.old files.new }
 {
     let redo = recover(alloc, files, BOUNDS)?;
     let entries = read_entries(alloc, files, &redo)?;
@@ -88,17 +88,17 @@ impl<F: FilePair + Drop> FileStore<F> {
     /// before.
     pub fn over(alloc: Global, mut files: F) -> Result<FileStore<F>, StoreFault>
         // If the files stand for the content of a bucket file, the store has its trees and its records.
-        ensures found { IfOk result (λ store. F.is_honest store.file.files → (trees : Trees) (c : Content) → StandsFor bounds [] c (F.seen files) → IsBucketFile trees c
-            → (store.trees ≡ trees) × IsSound F.seen F.may_leave store × AreKept (records_in trees c) (records_of F.seen store)) }
-        ensures opened { IfOk result (λ store. F.is_honest store.file.files → IsOpened F.seen F.may_leave store.file.redo store.trees files store.file.files) }
+        ensures found { IfOk result (λ store. F.model.is_honest store.file.files → (trees : Trees) (c : Content) → StandsFor bounds [] c (F.model.seen files) → IsBucketFile trees c
+            → (store.trees ≡ trees) × IsSound F.model store × AreKept (records_in trees c) (records_of F.model store)) }
+        ensures opened { IfOk result (λ store. F.model.is_honest store.file.files → IsOpened F.model store.file.redo store.trees files store.file.files) }
 
-        // No record waits to be settled, and the store hasn't stopped.
+        // No record waits to be committed, and the store hasn't stopped.
         ensures fresh { IfOk result (λ store. (store.pending ≡ []) × (store.failure ≡ None) × (store.file.has_stopped ≡ false)) }
-        ensures any_moment { IfOk result (λ store. F.is_honest store.file.files → OpensAlike F.seen F.may_leave F.moment F.left_since files store.file.files) }
-        ensures after { IfOk result (λ store. ComesAfter F.failures F.shortages F.is_honest files store.file.files) }
+        ensures any_moment { IfOk result (λ store. F.model.is_honest store.file.files → OpensAlike F.model files store.file.files) }
+        ensures after { IfOk result (λ store. ComesAfter F.model files store.file.files) }
 
         // On an error, the files are dropped. `Damaged` comes only if they hold no bucket file.
-        ensures err { IfErr result (λ why. (last : F) × IsNotOpened F.seen F.may_leave F.moment F.left_since F.failures F.shortages F.is_honest why files last) }
+        ensures err { IfErr result (λ why. (last : F) × IsNotOpened F.model why files last) }
     {
         let (redo, trees) = recover_trees(alloc, &mut files)?;
         Ok(FileStore::new(alloc, RecordFile::new(files, redo), trees))

@@ -36,9 +36,9 @@ const OWNERS_ALONE: u32 = 0o600;
 /// only the header of the file. It reads the log, which has 64 MiB at most, once; after a clean end the log is empty.
 ///
 /// After the disk has failed (`StoreFault::Io`, `StoreFault::Closed`), drop the store and open its file again with this
-/// function: everything that was acknowledged and settled is there.
+/// function: everything that was acknowledged and committed is there.
 pub fn open_store(rt: &HostRuntime, alloc: Global, path: &str) -> Result<BucketFile, StoreFault>
-    // No record waits to be settled, and the store hasn't stopped. No clause can say what it found in the files: for
+    // No record waits to be committed, and the store hasn't stopped. No clause can say what it found in the files: for
     // files that are known, see `FileStore::over`.
     ensures { IfOk result (λ store. (store.pending ≡ []) × (store.failure ≡ None) × (store.file.has_stopped ≡ false)) }
 {

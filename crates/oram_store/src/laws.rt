@@ -24,8 +24,8 @@ use std::alloc::{AllocError, Global};
 
 /// A crash between two calls leaves files in which the sure records are found.
 pub fn found_again<F: FilePair>(store: &FileStore<F>)
-    ensures { IsSound F.seen F.may_leave store.now → (c : Contents) → F.may_leave store.now.file.files c
-        → Finds (F.seen store.now.file.files) (Holds store.now.trees (sure_records F.seen store.now)) c }
+    ensures { IsSound F.model store.now → (c : Contents) → F.model.may_leave store.now.file.files c
+        → Finds (F.model.seen store.now.file.files) (Holds store.now.trees (sure_records F.model store.now)) c }
 {}
 
 /// Makes a store of empty files, gives it a tree, and stores the records of one path. Each crash from then on leaves
@@ -39,9 +39,9 @@ pub fn first_life<F: FilePair + Drop>(
     leaf: u32,
     records: Bytes,
 ) -> Result<Option<FileStore<F>>, StoreFault>
-    requires { (file : _) (i : ℕ) → F.seen files file i ≡ 0 }
-    ensures { IfOk result (λ stored. IfSome stored (λ store. F.is_honest store.file.files → (c : Contents) → F.may_leave store.file.files c
-        → Finds (F.seen store.file.files) (HoldsPath store.trees tree (sizes_of shape) leaf records) c)) }
+    requires { (file : _) (i : ℕ) → F.model.seen files file i ≡ 0 }
+    ensures { IfOk result (λ stored. IfSome stored (λ store. F.model.is_honest store.file.files → (c : Contents) → F.model.may_leave store.file.files c
+        → Finds (F.model.seen store.file.files) (HoldsPath store.trees tree (sizes_of shape) leaf records) c)) }
 {
     create(&mut files, identity)?;
     let mut store = FileStore::over(alloc, files)?;
@@ -60,9 +60,9 @@ fn is_stored<F: FilePair>(
     leaf: u32,
     records: Bytes,
 ) -> Result<bool, AllocError>
-    ensures found { IfOk result (λ stored. stored ≡ true → F.is_honest store.new.file.files → IsSound F.seen F.may_leave store.old → AreKept no_records (records_of F.seen store.old)
-        → (c : Contents) → F.may_leave store.new.file.files c → Finds (F.seen store.new.file.files) (HoldsPath store.new.trees tree (sizes_of shape) leaf records) c) }
-    ensures runs { Runs F.failures F.shortages F.is_honest store.old.file store.new.file }
+    ensures found { IfOk result (λ stored. stored ≡ true → F.model.is_honest store.new.file.files → IsSound F.model store.old → AreKept no_records (records_of F.model store.old)
+        → (c : Contents) → F.model.may_leave store.new.file.files c → Finds (F.model.seen store.new.file.files) (HoldsPath store.new.trees tree (sizes_of shape) leaf records) c) }
+    ensures runs { Runs F.model store.old.file store.new.file }
 {
     let shaping = HostRequest::Shape {
         tree,
@@ -87,12 +87,12 @@ fn is_done<F: FilePair>(
     request: &HostRequest,
 ) -> Result<bool, AllocError>
     requires { HasNumbers request.now }
-    ensures told { IfOk result (λ done. done ≡ true → RespondsWith store.old.trees request.now HostAnswer.Done store.new.trees) }
+    ensures responds { IfOk result (λ done. done ≡ true → RespondsWith store.old.trees request.now HostAnswer.Done store.new.trees) }
     ensures goes_on { IfOk result (λ done. done ≡ true → store.new.file.has_stopped ≡ false) }
     ensures committed { IfOk result (λ done. done ≡ true → IsKeptAtOnce request.now → store.new.pending ≡ []) }
-    ensures serves { IfOk result (λ done. done ≡ true → F.is_honest store.new.file.files → IsSound F.seen F.may_leave store.old
-        → Serves F.seen F.may_leave F.moment F.left_since request.now HostAnswer.Done store.old store.new) }
-    ensures runs { Runs F.failures F.shortages F.is_honest store.old.file store.new.file }
+    ensures serves { IfOk result (λ done. done ≡ true → F.model.is_honest store.new.file.files → IsSound F.model store.old
+        → Serves F.model request.now HostAnswer.Done store.old store.new) }
+    ensures runs { Runs F.model store.old.file store.new.file }
 {
     let body = request.encode(alloc)?;
     match store.handle(&body) {

@@ -82,9 +82,9 @@ impl<F: FilePair> RecordFile<F> {
     /// Reads `len` bytes of the records.
     pub(crate) fn read(&mut self, alloc: Global, at: u64, len: usize) -> Result<Vec<u8>, StoreFault>
         ensures len { IfOk result (λ bytes. length bytes.items ≡ len) }
-        ensures bytes { IfOk result (λ bytes. F.is_honest self.new.files → bytes.items ≡ bytes_at len at (F.seen self.old.files Records)) }
-        ensures reads { ReadsOnly F.seen F.may_leave F.moment F.left_since self.old self.new }
-        ensures calls { Calls F.failures F.shortages F.is_honest result self.old self.new }
+        ensures bytes { IfOk result (λ bytes. F.model.is_honest self.new.files → bytes.items ≡ bytes_at len at (F.model.seen self.old.files Records)) }
+        ensures reads { ReadsOnly F.model self.old self.new }
+        ensures calls { Calls F.model result self.old self.new }
         ensures running { OnOk result (self.new.has_stopped ≡ false) }
     {
         if self.has_stopped {
@@ -103,9 +103,9 @@ impl<F: FilePair> RecordFile<F> {
         len: usize,
         bytes: &mut Vec<u8>,
     ) -> Result<(), StoreFault>
-        ensures bytes { OnOk result (ReadOnto len at (F.seen self.old.files Records) (F.is_honest self.new.files) bytes.old.items bytes.new.items) }
-        ensures reads { ReadsOnly F.seen F.may_leave F.moment F.left_since self.old self.new }
-        ensures calls { Calls F.failures F.shortages F.is_honest result self.old self.new }
+        ensures bytes { OnOk result (ReadOnto len at (F.model.seen self.old.files Records) (F.model.is_honest self.new.files) bytes.old.items bytes.new.items) }
+        ensures reads { ReadsOnly F.model self.old self.new }
+        ensures calls { Calls F.model result self.old self.new }
         ensures running { OnOk result (self.new.has_stopped ≡ false) }
     {
         if self.has_stopped {
@@ -119,12 +119,12 @@ impl<F: FilePair> RecordFile<F> {
 
     /// Writes a patch that doesn't count yet. After `Err`, part of it may be written.
     pub(crate) fn write_loose(&mut self, at: u64, bytes: &[u8]) -> Result<(), StoreFault>
-        ensures passes { (loose : _) → IsSteady F.seen F.may_leave self.old loose
-            → Passes F.seen F.may_leave F.moment F.left_since ((at, bytes.now) ∷ loose)
-            (λ r. AgreesBut ((at, bytes.now) ∷ loose) r (F.seen self.old.files Records)) self.old self.new }
-        ensures written { OnOk result (Agrees (F.seen self.new.files Records) (put bytes.now at (F.seen self.old.files Records))) }
-        ensures elsewhere { AgreesBut ((at, bytes.now) ∷ []) (F.seen self.new.files Records) (F.seen self.old.files Records) }
-        ensures calls { Calls F.failures F.shortages F.is_honest result self.old self.new }
+        ensures passes { (loose : _) → IsSteady F.model self.old loose
+            → Passes F.model ((at, bytes.now) ∷ loose)
+            (λ r. AgreesBut ((at, bytes.now) ∷ loose) r (F.model.seen self.old.files Records)) self.old self.new }
+        ensures written { OnOk result (Agrees (F.model.seen self.new.files Records) (put bytes.now at (F.model.seen self.old.files Records))) }
+        ensures elsewhere { AgreesBut ((at, bytes.now) ∷ []) (F.model.seen self.new.files Records) (F.model.seen self.old.files Records) }
+        ensures calls { Calls F.model result self.old self.new }
         ensures running { OnOk result (self.new.has_stopped ≡ false) }
     {
         if self.has_stopped {
@@ -139,12 +139,12 @@ impl<F: FilePair> RecordFile<F> {
 
     /// Makes everything that was written durable, and empties the log.
     pub(crate) fn restart(&mut self) -> Result<(), StoreFault>
-        ensures passes { (loose : _) → IsSteady F.seen F.may_leave self.old loose
-            → Passes F.seen F.may_leave F.moment F.left_since [] (λ r. AgreesBut loose r (F.seen self.old.files Records)) self.old self.new }
+        ensures passes { (loose : _) → IsSteady F.model self.old loose
+            → Passes F.model [] (λ r. AgreesBut loose r (F.model.seen self.old.files Records)) self.old self.new }
         ensures empty { OnOk result (end_of self.new.redo ≡ bounds.log_start) }
         ensures sure { OnOk result (self.new.is_loose ≡ false) }
-        ensures same { Agrees (F.seen self.new.files Records) (F.seen self.old.files Records) }
-        ensures calls { Calls F.failures F.shortages F.is_honest result self.old self.new }
+        ensures same { Agrees (F.model.seen self.new.files Records) (F.model.seen self.old.files Records) }
+        ensures calls { Calls F.model result self.old self.new }
         ensures running { OnOk result (self.new.has_stopped ≡ false) }
     {
         if self.has_stopped {
@@ -161,11 +161,11 @@ impl<F: FilePair> RecordFile<F> {
 
     /// Makes the loose patches durable.
     fn make_sure(&mut self) -> Result<(), StoreFault>
-        ensures passes { (loose : _) → IsSteady F.seen F.may_leave self.old loose
-            → Passes F.seen F.may_leave F.moment F.left_since [] (λ r. AgreesBut loose r (F.seen self.old.files Records)) self.old self.new }
+        ensures passes { (loose : _) → IsSteady F.model self.old loose
+            → Passes F.model [] (λ r. AgreesBut loose r (F.model.seen self.old.files Records)) self.old self.new }
         ensures sure { OnOk result (self.new.is_loose ≡ false) }
-        ensures same { Agrees (F.seen self.new.files Records) (F.seen self.old.files Records) }
-        ensures calls { Calls F.failures F.shortages F.is_honest result self.old self.new }
+        ensures same { Agrees (F.model.seen self.new.files Records) (F.model.seen self.old.files Records) }
+        ensures calls { Calls F.model result self.old self.new }
     {
         if self.is_loose {
             self.restart()?;
@@ -176,14 +176,14 @@ impl<F: FilePair> RecordFile<F> {
     /// Commits a batch, and returns whether the log had room for it.
     fn commit_if_room(&mut self, alloc: Global, batch: &[Patch]) -> Result<bool, StoreFault>
         requires { All (Fits bounds) (patches_of batch.now) }
-        ensures passes { IsSteady F.seen F.may_leave self.old []
-            → Passes F.seen F.may_leave F.moment F.left_since []
-            (MayHave F.seen (MatchResult result (λ fits. fits ≡ true) (λ _. self.new.has_stopped ≡ true)) (patches_of batch.now) self.old) self.old self.new }
-        ensures done { IfOk result (λ fits. fits ≡ true → Agrees (F.seen self.new.files Records) (put_all (patches_of batch.now) (F.seen self.old.files Records))) }
+        ensures passes { IsSteady F.model self.old []
+            → Passes F.model []
+            (MayHave F.model (MatchResult result (λ fits. fits ≡ true) (λ _. self.new.has_stopped ≡ true)) (patches_of batch.now) self.old) self.old self.new }
+        ensures done { IfOk result (λ fits. fits ≡ true → Agrees (F.model.seen self.new.files Records) (put_all (patches_of batch.now) (F.model.seen self.old.files Records))) }
         ensures full { IfOk result (λ fits. fits ≡ false → bounds.log_end ≤ end_of self.old.redo + length (entries (patches_of batch.now))) }
-        ensures not_done { IfOk result (λ fits. fits ≡ false → Agrees (F.seen self.new.files Records) (F.seen self.old.files Records)) }
-        ensures refused { OnErr result (self.new.has_stopped ≡ false → Agrees (F.seen self.new.files Records) (F.seen self.old.files Records)) }
-        ensures calls { Calls F.failures F.shortages F.is_honest result self.old self.new }
+        ensures not_done { IfOk result (λ fits. fits ≡ false → Agrees (F.model.seen self.new.files Records) (F.model.seen self.old.files Records)) }
+        ensures refused { OnErr result (self.new.has_stopped ≡ false → Agrees (F.model.seen self.new.files Records) (F.model.seen self.old.files Records)) }
+        ensures calls { Calls F.model result self.old self.new }
         ensures running { OnOk result (self.new.has_stopped ≡ false) }
     {
         if self.has_stopped {
@@ -202,12 +202,12 @@ impl<F: FilePair> RecordFile<F> {
     fn commit_sure(&mut self, alloc: Global, batch: &[Patch]) -> Result<(), StoreFault>
         requires fits { All (Fits bounds) (patches_of batch.now) }
         requires short { bounds.log_start + length (entries (patches_of batch.now)) < bounds.log_end }
-        ensures passes { IsSteady F.seen F.may_leave self.old []
-            → Passes F.seen F.may_leave F.moment F.left_since []
-            (MayHave F.seen (OnErr result (self.new.has_stopped ≡ true)) (patches_of batch.now) self.old) self.old self.new }
-        ensures done { OnOk result (Agrees (F.seen self.new.files Records) (put_all (patches_of batch.now) (F.seen self.old.files Records))) }
-        ensures undone { OnErr result (self.new.has_stopped ≡ false → Agrees (F.seen self.new.files Records) (F.seen self.old.files Records)) }
-        ensures calls { Calls F.failures F.shortages F.is_honest result self.old self.new }
+        ensures passes { IsSteady F.model self.old []
+            → Passes F.model []
+            (MayHave F.model (OnErr result (self.new.has_stopped ≡ true)) (patches_of batch.now) self.old) self.old self.new }
+        ensures done { OnOk result (Agrees (F.model.seen self.new.files Records) (put_all (patches_of batch.now) (F.model.seen self.old.files Records))) }
+        ensures undone { OnErr result (self.new.has_stopped ≡ false → Agrees (F.model.seen self.new.files Records) (F.model.seen self.old.files Records)) }
+        ensures calls { Calls F.model result self.old self.new }
         ensures running { OnOk result (self.new.has_stopped ≡ false) }
     {
         if self.commit_if_room(alloc, batch)? {
@@ -226,8 +226,8 @@ impl<F: FilePair> RecordFile<F> {
     pub(crate) fn commit(&mut self, alloc: Global, batch: &[Patch]) -> Result<(), StoreFault>
         requires fits { All (Fits bounds) (patches_of batch.now) }
         requires short { bounds.log_start + length (entries (patches_of batch.now)) < bounds.log_end }
-        ensures commits { Commits F.seen F.may_leave F.moment F.left_since (patches_of batch.now) result self.old self.new }
-        ensures calls { Calls F.failures F.shortages F.is_honest result self.old self.new }
+        ensures commits { Commits F.model (patches_of batch.now) result self.old self.new }
+        ensures calls { Calls F.model result self.old self.new }
         ensures running { OnOk result (self.new.has_stopped ≡ false) }
     {
         self.make_sure()?;

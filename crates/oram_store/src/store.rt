@@ -10,10 +10,10 @@ ghost use Rattle.oram_layout.specs.Trees.{Trees, cell_at, next_of, sizes_of, tre
 ghost use Rattle.oram_redo.specs.FilePair.{Contents, Rises};
 ghost use Rattle.oram_store.specs.Answers.{answer_by};
 ghost use Rattle.oram_store.specs.Close.{Closes};
-ghost use Rattle.oram_store.specs.Crashes.{Serves, Settles};
+ghost use Rattle.oram_store.specs.Crashes.{CommitsPuts, Serves};
 ghost use Rattle.oram_store.specs.KeptRecords.{Changes, IsSound, IsSoundFile, Puts, Stores, records_of};
 ghost use Rattle.oram_store.specs.PendingCells.{AreCells};
-ghost use Rattle.oram_store.specs.Reasons.{IsReasonFor, TellsWhy};
+ghost use Rattle.oram_store.specs.Reasons.{IsReasonFor, ReportsWhy};
 ghost use Rattle.oram_store.specs.Refusals.{IsRefused, ChangesTrees, refusal_by};
 ghost use Rattle.oram_store.specs.RecordFile.{Calls, Commits, FileValue, IsReason, Runs};
 ghost use Rattle.oram_wire.specs.declared.host_messages.HostAnswer.{HostAnswer};
@@ -29,7 +29,7 @@ use oram_redo::{FileKind, FilePair, Patch};
 use std::alloc::Global;
 use std::marker::Model;
 
-/// The greatest number of records of a formatting that are settled together.
+/// The greatest number of records of a formatting that are committed together.
 const MOST_PENDING: usize = 4_096;
 
 /// A bucket server that keeps its records in a file.
@@ -64,8 +64,8 @@ fn commit_marks<F: FilePair>(
     cells: &[u64],
 ) -> Result<(), StoreFault>
     requires { AreCells cells.now }
-    ensures commits { Commits F.seen F.may_leave F.moment F.left_since (marks cells.now) result file.old file.new }
-    ensures calls { Calls F.failures F.shortages F.is_honest result file.old file.new }
+    ensures commits { Commits F.model (marks cells.now) result file.old file.new }
+    ensures calls { Calls F.model result file.old file.new }
     ensures running { OnOk result (file.new.has_stopped ≡ false) }
 {
     let batch = marks_of(alloc, cells)?;
@@ -81,8 +81,8 @@ fn commit_one<F: FilePair>(
 ) -> Result<(), StoreFault>
     requires within { at + length bytes.now ≤ 2 ^ 62 }
     requires short { length bytes.now ≤ 2 ^ 21 }
-    ensures commits { Commits F.seen F.may_leave F.moment F.left_since ((at, bytes.now) ∷ []) result file.old file.new }
-    ensures calls { Calls F.failures F.shortages F.is_honest result file.old file.new }
+    ensures commits { Commits F.model ((at, bytes.now) ∷ []) result file.old file.new }
+    ensures calls { Calls F.model result file.old file.new }
     ensures running { OnOk result (file.new.has_stopped ≡ false) }
 {
     file.commit(alloc, &[Patch { at, bytes }])
@@ -98,8 +98,8 @@ fn commit_record<F: FilePair>(
 ) -> Result<(), StoreFault>
     requires node { node < nodes_of (sizes_of tree.now.shape) }
     requires whole { length bytes.now ≡ tree.now.shape.record_len }
-    ensures commits { Commits F.seen F.may_leave F.moment F.left_since (record_patch tree.now node bytes.now ∷ []) result file.old file.new }
-    ensures calls { Calls F.failures F.shortages F.is_honest result file.old file.new }
+    ensures commits { Commits F.model (record_patch tree.now node bytes.now ∷ []) result file.old file.new }
+    ensures calls { Calls F.model result file.old file.new }
     ensures running { OnOk result (file.new.has_stopped ≡ false) }
 {
     let mut cell = Vec::with_capacity(alloc, bytes.len() + 1)?;
@@ -115,8 +115,8 @@ fn commit_entry<F: FilePair>(
     number: u8,
     tree: &Tree,
 ) -> Result<(), StoreFault>
-    ensures commits { Commits F.seen F.may_leave F.moment F.left_since ((entry_at number, entry_bytes (Some tree.now)) ∷ []) result file.old file.new }
-    ensures calls { Calls F.failures F.shortages F.is_honest result file.old file.new }
+    ensures commits { Commits F.model ((entry_at number, entry_bytes (Some tree.now)) ∷ []) result file.old file.new }
+    ensures calls { Calls F.model result file.old file.new }
     ensures running { OnOk result (file.new.has_stopped ≡ false) }
 {
     commit_one(alloc, file, entry_place(number), &tree.entry())
@@ -132,8 +132,8 @@ fn commit_path<F: FilePair>(
 ) -> Result<(), StoreFault>
     requires leaf { leaf < 2 ^ tree.now.shape.depth }
     requires whole { length records.now ≡ (tree.now.shape.depth + 1) * tree.now.shape.record_len }
-    ensures commits { Commits F.seen F.may_leave F.moment F.left_since (path_patches tree.now leaf records.now 0 (tree.now.shape.depth + 1)) result file.old file.new }
-    ensures calls { Calls F.failures F.shortages F.is_honest result file.old file.new }
+    ensures commits { Commits F.model (path_patches tree.now leaf records.now 0 (tree.now.shape.depth + 1)) result file.old file.new }
+    ensures calls { Calls F.model result file.old file.new }
     ensures running { OnOk result (file.new.has_stopped ≡ false) }
 {
     let cells = cells_of(alloc, tree, records)?;
@@ -151,9 +151,9 @@ fn store_path<F: FilePair>(
 ) -> Result<(), StoreFault>
     requires leaf { leaf < 2 ^ tree.now.shape.depth }
     requires whole { length records.now ≡ (tree.now.shape.depth + 1) * tree.now.shape.record_len }
-    ensures changes { (trees : Trees) (number : ℕ) → tree_at trees number ≡ Some tree.now → IsSoundFile F.seen F.may_leave trees file.old → F.is_honest file.new.files
-        → Changes F.seen F.may_leave F.moment F.left_since trees (Stores number (sizes_of tree.now.shape) leaf records.now) result file.old file.new }
-    ensures calls { Calls F.failures F.shortages F.is_honest result file.old file.new }
+    ensures changes { (trees : Trees) (number : ℕ) → tree_at trees number ≡ Some tree.now → IsSoundFile F.model trees file.old → F.model.is_honest file.new.files
+        → Changes F.model trees (Stores number (sizes_of tree.now.shape) leaf records.now) result file.old file.new }
+    ensures calls { Calls F.model result file.old file.new }
     ensures running { OnOk result (file.new.has_stopped ≡ false) }
 {
     write_missing(alloc, file, tree, leaf, records)?;
@@ -199,14 +199,14 @@ impl<F: FilePair> FileStore<F> {
     }
 
     /// Makes the records durable that a formatting has put so far. After `Err`, none of them is, and they still wait to
-    /// be settled.
+    /// be committed.
     pub fn commit_puts(&mut self) -> Result<(), StoreFault>
         ensures none { self.old.pending ≡ [] → IsOk result × (self.new ≡ self.old) }
         ensures none_pending { OnOk result (self.new.pending ≡ []) }
         ensures trees { self.new.trees ≡ self.old.trees }
-        ensures settles { IsSound F.seen F.may_leave self.old → Settles F.seen F.may_leave F.moment F.left_since self.old self.new }
+        ensures commits_puts { IsSound F.model self.old → CommitsPuts F.model self.old self.new }
         ensures failure { MatchResult result (λ _. self.new.failure ≡ self.old.failure) (λ fault. self.new.failure ≡ Some fault) }
-        ensures calls { Calls F.failures F.shortages F.is_honest result self.old.file self.new.file }
+        ensures calls { Calls F.model result self.old.file self.new.file }
     {
         if self.pending.is_empty() {
             return Ok(());
@@ -223,7 +223,7 @@ impl<F: FilePair> FileStore<F> {
         }
     }
 
-    /// Settles what was put before, and returns `front` and then the records of a path. Returns `None` if a record is
+    /// Commits the pending PUTs, and returns `front` and then the records of a path. Returns `None` if a record is
     /// missing.
     fn commit_puts_and_fetch(
         &mut self,
@@ -234,13 +234,13 @@ impl<F: FilePair> FileStore<F> {
         requires leaf { leaf < 2 ^ tree.now.shape.depth }
         requires short { length front.now ≤ 1 }
         ensures fits { IfOk result (λ found. IfSome found (λ v. IsBehind front.now FitsAnswer v.items)) }
-        ensures serves { (number : ℕ) → tree_at self.old.trees number ≡ Some tree.now → F.is_honest self.new.file.files → IsSound F.seen F.may_leave self.old → MatchResult result
-            (λ found. MatchOption found (Serves F.seen F.may_leave F.moment F.left_since (HostRequest.Fetch number leaf) (HostAnswer.Refused 6) self.old self.new)
-            (λ v. IsBehind front.now (λ bytes. Serves F.seen F.may_leave F.moment F.left_since (HostRequest.Fetch number leaf) (HostAnswer.Payload bytes) self.old self.new) v.items))
-            (λ _. Serves F.seen F.may_leave F.moment F.left_since (HostRequest.Fetch number leaf) (HostAnswer.Refused 8) self.old self.new) }
+        ensures serves { (number : ℕ) → tree_at self.old.trees number ≡ Some tree.now → F.model.is_honest self.new.file.files → IsSound F.model self.old → MatchResult result
+            (λ found. MatchOption found (Serves F.model (HostRequest.Fetch number leaf) (HostAnswer.Refused 6) self.old self.new)
+            (λ v. IsBehind front.now (λ bytes. Serves F.model (HostRequest.Fetch number leaf) (HostAnswer.Payload bytes) self.old self.new) v.items))
+            (λ _. Serves F.model (HostRequest.Fetch number leaf) (HostAnswer.Refused 8) self.old self.new) }
         ensures none_pending { OnOk result (self.new.pending ≡ []) }
         ensures trees { self.new.trees ≡ self.old.trees }
-        ensures calls { Calls F.failures F.shortages F.is_honest result self.old.file self.new.file }
+        ensures calls { Calls F.model result self.old.file self.new.file }
         ensures running { OnOk result (self.new.file.has_stopped ≡ false) }
     {
         self.commit_puts()?;
@@ -261,12 +261,12 @@ impl<F: FilePair> FileStore<F> {
         ensures untouched { IsSome (refusal_by self.old.trees (HostRequest.Fetch number leaf)) → self.new ≡ self.old }
         ensures trees { self.new.trees ≡ self.old.trees }
         ensures none_pending { OnOk result (self.new.pending ≡ []) }
-        ensures serves { F.is_honest self.new.file.files → IsSound F.seen F.may_leave self.old → MatchResult result
-            (λ v. IsBehind front.now (λ bytes. Serves F.seen F.may_leave F.moment F.left_since (HostRequest.Fetch number leaf) (HostAnswer.Payload bytes) self.old self.new) v.items)
-            (λ why. Serves F.seen F.may_leave F.moment F.left_since (HostRequest.Fetch number leaf) (HostAnswer.Refused (code_of why)) self.old self.new) }
-        ensures runs { Runs F.failures F.shortages F.is_honest self.old.file self.new.file }
+        ensures serves { F.model.is_honest self.new.file.files → IsSound F.model self.old → MatchResult result
+            (λ v. IsBehind front.now (λ bytes. Serves F.model (HostRequest.Fetch number leaf) (HostAnswer.Payload bytes) self.old self.new) v.items)
+            (λ why. Serves F.model (HostRequest.Fetch number leaf) (HostAnswer.Refused (code_of why)) self.old self.new) }
+        ensures runs { Runs F.model self.old.file self.new.file }
         ensures running { OnOk result (self.new.file.has_stopped ≡ false) }
-        ensures failure { result ≡ Err HostRefusal.OutOfMemory → IsSomeAnd self.new.failure (IsReason F.failures F.shortages self.old.file self.new.file) }
+        ensures failure { result ≡ Err HostRefusal.OutOfMemory → IsSomeAnd self.new.failure (IsReason F.model self.old.file self.new.file) }
     {
         let Some(tree) = self.tree_of(number) else {
             return Err(HostRefusal::NoShape);
@@ -281,7 +281,7 @@ impl<F: FilePair> FileStore<F> {
         }
     }
 
-    /// Settles what was put before, and replaces the records of a path.
+    /// Commits the pending PUTs, and replaces the records of a path.
     fn commit_puts_and_store(
         &mut self,
         tree: &Tree,
@@ -290,10 +290,10 @@ impl<F: FilePair> FileStore<F> {
     ) -> Result<(), StoreFault>
         requires leaf { leaf < 2 ^ tree.now.shape.depth }
         requires whole { length records.now ≡ (tree.now.shape.depth + 1) * tree.now.shape.record_len }
-        ensures serves { (number : ℕ) → tree_at self.old.trees number ≡ Some tree.now → F.is_honest self.new.file.files → IsSound F.seen F.may_leave self.old → Serves F.seen F.may_leave F.moment F.left_since (HostRequest.Store number leaf records.now) (answer_by result) self.old self.new }
+        ensures serves { (number : ℕ) → tree_at self.old.trees number ≡ Some tree.now → F.model.is_honest self.new.file.files → IsSound F.model self.old → Serves F.model (HostRequest.Store number leaf records.now) (answer_by result) self.old self.new }
         ensures none_pending { OnOk result (self.new.pending ≡ []) }
         ensures trees { self.new.trees ≡ self.old.trees }
-        ensures calls { Calls F.failures F.shortages F.is_honest result self.old.file self.new.file }
+        ensures calls { Calls F.model result self.old.file self.new.file }
         ensures running { OnOk result (self.new.file.has_stopped ≡ false) }
     {
         self.commit_puts()?;
@@ -306,12 +306,12 @@ impl<F: FilePair> FileStore<F> {
         ensures untouched { IsSome (refusal_by self.old.trees (HostRequest.Store number leaf records.now)) → self.new ≡ self.old }
         ensures trees { self.new.trees ≡ self.old.trees }
         ensures none_pending { OnOk result (self.new.pending ≡ []) }
-        ensures serves { F.is_honest self.new.file.files → IsSound F.seen F.may_leave self.old → MatchResult result
-            (λ _. Serves F.seen F.may_leave F.moment F.left_since (HostRequest.Store number leaf records.now) HostAnswer.Done self.old self.new)
-            (λ why. Serves F.seen F.may_leave F.moment F.left_since (HostRequest.Store number leaf records.now) (HostAnswer.Refused (code_of why)) self.old self.new) }
-        ensures runs { Runs F.failures F.shortages F.is_honest self.old.file self.new.file }
+        ensures serves { F.model.is_honest self.new.file.files → IsSound F.model self.old → MatchResult result
+            (λ _. Serves F.model (HostRequest.Store number leaf records.now) HostAnswer.Done self.old self.new)
+            (λ why. Serves F.model (HostRequest.Store number leaf records.now) (HostAnswer.Refused (code_of why)) self.old self.new) }
+        ensures runs { Runs F.model self.old.file self.new.file }
         ensures running { OnOk result (self.new.file.has_stopped ≡ false) }
-        ensures failure { result ≡ Err HostRefusal.OutOfMemory → IsSomeAnd self.new.failure (IsReason F.failures F.shortages self.old.file self.new.file) }
+        ensures failure { result ≡ Err HostRefusal.OutOfMemory → IsSomeAnd self.new.failure (IsReason F.model self.old.file self.new.file) }
     {
         let Some(tree) = self.tree_of(number) else {
             return Err(HostRefusal::NoShape);
@@ -333,12 +333,12 @@ impl<F: FilePair> FileStore<F> {
         ensures refused { IfErr result (IsRefused self.old.trees (HostRequest.Put number node bytes.now)) }
         ensures untouched { IsSome (refusal_by self.old.trees (HostRequest.Put number node bytes.now)) → self.new ≡ self.old }
         ensures trees { self.new.trees ≡ self.old.trees }
-        ensures serves { F.is_honest self.new.file.files → IsSound F.seen F.may_leave self.old → MatchResult result
-            (λ _. Serves F.seen F.may_leave F.moment F.left_since (HostRequest.Put number node bytes.now) HostAnswer.Done self.old self.new)
-            (λ why. Serves F.seen F.may_leave F.moment F.left_since (HostRequest.Put number node bytes.now) (HostAnswer.Refused (code_of why)) self.old self.new) }
-        ensures runs { Runs F.failures F.shortages F.is_honest self.old.file self.new.file }
+        ensures serves { F.model.is_honest self.new.file.files → IsSound F.model self.old → MatchResult result
+            (λ _. Serves F.model (HostRequest.Put number node bytes.now) HostAnswer.Done self.old self.new)
+            (λ why. Serves F.model (HostRequest.Put number node bytes.now) (HostAnswer.Refused (code_of why)) self.old self.new) }
+        ensures runs { Runs F.model self.old.file self.new.file }
         ensures running { OnOk result (self.new.file.has_stopped ≡ false) }
-        ensures failure { result ≡ Err HostRefusal.OutOfMemory → IsSomeAnd self.new.failure (IsReason F.failures F.shortages self.old.file self.new.file) }
+        ensures failure { result ≡ Err HostRefusal.OutOfMemory → IsSomeAnd self.new.failure (IsReason F.model self.old.file self.new.file) }
     {
         let Some(tree) = self.tree_of(number) else {
             return Err(HostRefusal::NoShape);
@@ -355,14 +355,14 @@ impl<F: FilePair> FileStore<F> {
         }
     }
 
-    /// Settles if too many PUTs wait, or if one of the same cell waits.
+    /// Commits the pending PUTs if there are too many, or if one of them is for this cell.
     fn make_room(&mut self, cell: u64) -> Result<(), StoreFault>
         ensures room { OnOk result (length self.new.pending < 4096) }
         ensures fresh { OnOk result (Contains self.new.pending cell → ⊥) }
         ensures stays { OnOk result ((self.new ≡ self.old) ⊎ (self.new.pending ≡ [])) }
-        ensures settles { IsSound F.seen F.may_leave self.old → Settles F.seen F.may_leave F.moment F.left_since self.old self.new }
+        ensures commits_puts { IsSound F.model self.old → CommitsPuts F.model self.old self.new }
         ensures trees { self.new.trees ≡ self.old.trees }
-        ensures calls { Calls F.failures F.shortages F.is_honest result self.old.file self.new.file }
+        ensures calls { Calls F.model result self.old.file self.new.file }
     {
         if self.pending.len() >= MOST_PENDING || self.pending.contains(&cell) {
             return self.commit_puts();
@@ -371,13 +371,13 @@ impl<F: FilePair> FileStore<F> {
     }
 
     /// Puts a record. If the node has one already, it commits the new one at once; if not, the new one waits to be
-    /// settled.
+    /// committed.
     fn put_record(&mut self, tree: &Tree, node: u32, bytes: &[u8]) -> Result<(), StoreFault>
         requires node { node < nodes_of (sizes_of tree.now.shape) }
         requires whole { length bytes.now ≡ tree.now.shape.record_len }
-        ensures serves { (number : ℕ) → tree_at self.old.trees number ≡ Some tree.now → F.is_honest self.new.file.files → IsSound F.seen F.may_leave self.old → Serves F.seen F.may_leave F.moment F.left_since (HostRequest.Put number node bytes.now) (answer_by result) self.old self.new }
+        ensures serves { (number : ℕ) → tree_at self.old.trees number ≡ Some tree.now → F.model.is_honest self.new.file.files → IsSound F.model self.old → Serves F.model (HostRequest.Put number node bytes.now) (answer_by result) self.old self.new }
         ensures trees { self.new.trees ≡ self.old.trees }
-        ensures calls { Calls F.failures F.shortages F.is_honest result self.old.file self.new.file }
+        ensures calls { Calls F.model result self.old.file self.new.file }
         ensures running { OnOk result (self.new.file.has_stopped ≡ false) }
     {
         self.make_room(tree.cell_at(node))?;
@@ -389,11 +389,11 @@ impl<F: FilePair> FileStore<F> {
         requires node { node < nodes_of (sizes_of tree.now.shape) }
         requires whole { length bytes.now ≡ tree.now.shape.record_len }
         requires room { length self.old.pending < 4096 }
-        ensures serves { (number : ℕ) → tree_at self.old.trees number ≡ Some tree.now → F.is_honest self.new.file.files → IsSound F.seen F.may_leave self.old
+        ensures serves { (number : ℕ) → tree_at self.old.trees number ≡ Some tree.now → F.model.is_honest self.new.file.files → IsSound F.model self.old
             → (Contains self.old.pending (cell_at tree.now node) → ⊥)
-            → Serves F.seen F.may_leave F.moment F.left_since (HostRequest.Put number node bytes.now) (answer_by result) self.old self.new }
+            → Serves F.model (HostRequest.Put number node bytes.now) (answer_by result) self.old self.new }
         ensures trees { self.new.trees ≡ self.old.trees }
-        ensures calls { Calls F.failures F.shortages F.is_honest result self.old.file self.new.file }
+        ensures calls { Calls F.model result self.old.file self.new.file }
         ensures running { OnOk result (self.new.file.has_stopped ≡ false) }
     {
         if has_record(self.alloc, &mut self.file, tree, node)? {
@@ -407,24 +407,24 @@ impl<F: FilePair> FileStore<F> {
     fn replace_record(&mut self, tree: &Tree, node: u32, bytes: &[u8]) -> Result<(), StoreFault>
         requires node { node < nodes_of (sizes_of tree.now.shape) }
         requires whole { length bytes.now ≡ tree.now.shape.record_len }
-        ensures serves { (number : ℕ) → tree_at self.old.trees number ≡ Some tree.now → IsSound F.seen F.may_leave self.old → Serves F.seen F.may_leave F.moment F.left_since (HostRequest.Put number node bytes.now) (answer_by result) self.old self.new }
+        ensures serves { (number : ℕ) → tree_at self.old.trees number ≡ Some tree.now → IsSound F.model self.old → Serves F.model (HostRequest.Put number node bytes.now) (answer_by result) self.old self.new }
         ensures trees { self.new.trees ≡ self.old.trees }
-        ensures calls { Calls F.failures F.shortages F.is_honest result self.old.file self.new.file }
+        ensures calls { Calls F.model result self.old.file self.new.file }
         ensures running { OnOk result (self.new.file.has_stopped ≡ false) }
     {
         self.commit_puts()?;
         commit_record(self.alloc, &mut self.file, tree, node, bytes)
     }
 
-    /// Writes a record into a cell that has none, and for which none waits. Then this record waits to be settled.
+    /// Writes a record into a cell that has none, and for which none waits. Then this record waits to be committed.
     fn add_record(&mut self, tree: &Tree, node: u32, bytes: &[u8]) -> Result<(), StoreFault>
         requires node { node < nodes_of (sizes_of tree.now.shape) }
         requires whole { length bytes.now ≡ tree.now.shape.record_len }
         requires room { length self.old.pending < 4096 }
-        ensures serves { (number : ℕ) → tree_at self.old.trees number ≡ Some tree.now → IsSound F.seen F.may_leave self.old
-            → (Contains self.old.pending (cell_at tree.now node) → ⊥) → F.seen self.old.file.files FileKind.Records (cell_at tree.now node) ≢ 1 → Serves F.seen F.may_leave F.moment F.left_since (HostRequest.Put number node bytes.now) (answer_by result) self.old self.new }
+        ensures serves { (number : ℕ) → tree_at self.old.trees number ≡ Some tree.now → IsSound F.model self.old
+            → (Contains self.old.pending (cell_at tree.now node) → ⊥) → F.model.seen self.old.file.files FileKind.Records (cell_at tree.now node) ≢ 1 → Serves F.model (HostRequest.Put number node bytes.now) (answer_by result) self.old self.new }
         ensures trees { self.new.trees ≡ self.old.trees }
-        ensures calls { Calls F.failures F.shortages F.is_honest result self.old.file self.new.file }
+        ensures calls { Calls F.model result self.old.file self.new.file }
         ensures running { OnOk result (self.new.file.has_stopped ≡ false) }
     {
         let cell = tree.cell_at(node);
@@ -445,12 +445,12 @@ impl<F: FilePair> FileStore<F> {
         ensures after { OnOk result (ChangesTrees self.old.trees (HostRequest.Shape number depth record_len) self.new.trees) }
         ensures same { OnErr result (self.new.trees ≡ self.old.trees) }
         ensures none_pending { OnOk result (self.new.pending ≡ []) }
-        ensures serves { F.is_honest self.new.file.files → IsSound F.seen F.may_leave self.old → MatchResult result
-            (λ _. Serves F.seen F.may_leave F.moment F.left_since (HostRequest.Shape number depth record_len) HostAnswer.Done self.old self.new)
-            (λ why. Serves F.seen F.may_leave F.moment F.left_since (HostRequest.Shape number depth record_len) (HostAnswer.Refused (code_of why)) self.old self.new) }
-        ensures runs { Runs F.failures F.shortages F.is_honest self.old.file self.new.file }
+        ensures serves { F.model.is_honest self.new.file.files → IsSound F.model self.old → MatchResult result
+            (λ _. Serves F.model (HostRequest.Shape number depth record_len) HostAnswer.Done self.old self.new)
+            (λ why. Serves F.model (HostRequest.Shape number depth record_len) (HostAnswer.Refused (code_of why)) self.old self.new) }
+        ensures runs { Runs F.model self.old.file self.new.file }
         ensures running { OnOk result (self.new.file.has_stopped ≡ false) }
-        ensures failure { result ≡ Err HostRefusal.OutOfMemory → TellsWhy F.failures F.shortages self.old self.new (HostRequest.Shape number depth record_len) }
+        ensures failure { result ≡ Err HostRefusal.OutOfMemory → ReportsWhy F.model self.old self.new (HostRequest.Shape number depth record_len) }
     {
         let Some(shape) = Shape::new(depth, record_len) else {
             return Err(HostRefusal::BadLength);
@@ -464,16 +464,16 @@ impl<F: FilePair> FileStore<F> {
         }
     }
 
-    /// Settles what was put before, and adds a tree after all others.
+    /// Commits the pending PUTs, and adds a tree after all others.
     fn commit_puts_and_add(&mut self, number: u8, shape: Shape) -> Result<(), StoreFault>
         requires { tree_at self.old.trees number ≡ None }
-        ensures serves { IsSound F.seen F.may_leave self.old → Serves F.seen F.may_leave F.moment F.left_since (HostRequest.Shape number shape.depth shape.record_len) (answer_by result) self.old self.new }
+        ensures serves { IsSound F.model self.old → Serves F.model (HostRequest.Shape number shape.depth shape.record_len) (answer_by result) self.old self.new }
         ensures after { OnOk result (ChangesTrees self.old.trees (HostRequest.Shape number shape.depth shape.record_len) self.new.trees) }
         ensures same { OnErr result (self.new.trees ≡ self.old.trees) }
         ensures none_pending { OnOk result (self.new.pending ≡ []) }
-        ensures runs { Runs F.failures F.shortages F.is_honest self.old.file self.new.file }
+        ensures runs { Runs F.model self.old.file self.new.file }
         ensures running { OnOk result (self.new.file.has_stopped ≡ false) }
-        ensures reason { IfErr result (IsReasonFor F.failures F.shortages self.old self.new (HostRequest.Shape number shape.depth shape.record_len)) }
+        ensures reason { IfErr result (IsReasonFor F.model self.old self.new (HostRequest.Shape number shape.depth shape.record_len)) }
     {
         self.commit_puts()?;
         let Some(tree) = Tree::place(shape, next_base(&self.trees)) else {
@@ -486,10 +486,11 @@ impl<F: FilePair> FileStore<F> {
 }
 
 impl<F: FilePair + Drop> FileStore<F> {
-    /// Settles, and empties the log, so that the next opening is quick. After `Ok` all records are on the disk.
+    /// Commits the pending PUTs, and empties the log, so that the next opening is quick. After `Ok` all records are on
+    /// the disk.
     pub fn close(mut self) -> Result<(), StoreFault>
         // `last` is the file when it is dropped.
-        ensures { (last : FileValue F) × Closes F.seen F.may_leave F.moment F.left_since F.failures F.shortages F.is_honest result self last }
+        ensures { (last : FileValue F) × Closes F.model result self last }
     {
         self.commit_puts()?;
         self.file.restart()

@@ -12,20 +12,16 @@ pub struct FailingFiles<'a, F: FilePair> {
 }
 
 impl<F: FilePair> FilePair for FailingFiles<'_, F> {
-    ghost seen = { λ l. F.seen l.files.now };
-
-    ghost may_leave = { λ l. F.may_leave l.files.now };
-
-    ghost moment = { λ l. F.moment l.files.now };
-
-    ghost left_since = { λ l. F.left_since l.files.now };
-
-    ghost is_honest = { λ l. F.is_honest l.files.now };
-
     // Any call may be one too many.
-    ghost failures = { λ l n. Unit {0} };
-
-    ghost shortages = { λ l n. Unit {0} };
+    ghost model = { record {
+      seen = λ l. F.model.seen l.files.now;
+      may_leave = λ l. F.model.may_leave l.files.now;
+      moment = λ l. F.model.moment l.files.now;
+      left_since = λ l. F.model.left_since l.files.now;
+      is_honest = λ l. F.model.is_honest l.files.now;
+      failures = λ l n. Unit {0};
+      shortages = λ l n. Unit {0};
+    } };
 
     ghost counts_now = { λ l t c le now. F.counts_now l.files.now t c le now };
 

@@ -106,7 +106,7 @@ fn answer_of(
         "alone" => alone(alloc, store, words, page),
         "full" => full(alloc, store, words, page),
         "put" => put(alloc, store, words, page),
-        "settle" => write_end(page, store.commit_puts()),
+        "commit" => write_end(page, store.commit_puts()),
         "failure" => {
             write_failure(store, page);
             Ok(())

@@ -1,7 +1,7 @@
 use Rattle.std.proofs.Common.{rules, ◌≡◌, ◌<◌, ◌^◌, [], ◌∷◌, ◌++◌, length, ap, ◌∙◌, arith, ℕ, List, append_assoc, get_or}
 use Rattle.std.proofs.lemmas.List.{take_all}
 use Rattle.oram_redo.specs.Batch.{patches_of}
-use Rattle.oram_redo.specs.Log as model
+use Rattle.oram_redo.specs.Log as spec
 use Rattle.oram_redo.specs.Log.{entries, place_bytes, length_bytes}
 use Rattle.oram_redo.specs.declared.batch.Patch.{Patch}
 use Rattle.oram_redo.proofs.Batches.{entries_more, patch_has}
@@ -17,7 +17,7 @@ regroup a pb lb bs = simp append_assoc
 pub overflow_cast-patch : goal.overflow_cast-patch
 overflow_cast-patch c =
     let fits : length (get_or c.args.batch.now c.loop-patch.patch-index none).bytes.now < 2 ^ 32 =
-    patch_has (λ (p : model.Patch). length p.1 < 2 ^ 32) c.args.batch.now c.loop-patch.patch-index none c.requires c.loop-patch-test.true in
+    patch_has (λ (p : spec.Patch). length p.1 < 2 ^ 32) c.args.batch.now c.loop-patch.patch-index none c.requires c.loop-patch-test.true in
     search rules
 
 pub loop-patch-preserved : goal.loop-patch-preserved

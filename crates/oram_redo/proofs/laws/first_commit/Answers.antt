@@ -5,18 +5,18 @@ use Rattle.oram_redo.specs.declared.bounds.Bounds.{Bounds}
 use Rattle.oram_redo.specs.declared.file_pair.FileKind.TheVariants.{Records}
 use Rattle.oram_redo.proofs.Heal.{put_all_heals}
 use Rattle.oram_redo.proofs.LawProofs.{empty_stands}
-use Rattle.oram_redo.proofs.Settled.{keeps_now}
+use Rattle.oram_redo.proofs.Consistent.{keeps_now}
 use Rattle.oram_redo.proofs.laws.first_commit.Goals as goal
 
 pub returns : goal.returns
 returns g c honest f now =
     let was_honest = c.commit.ensures.after.honest honest in
     let opened = c.in_ok-redo.ensures.records was_honest in
-    let mid = g.F.FilePair.seen c.recover.new.files Records in
-    let zero_mid = λ (i : ℕ). sym (opened.gives i tt) ∙ empty_stands c.args.bounds opened.patches (g.F.FilePair.seen c.args.files.now) c.requires.empty opened.log i in
-    let kept = keeps_now c.commit.new.self [] _ _ (c.in_ok-commit.ensures.acknowledged [] (c.in_ok-redo.ensures.settled was_honest)) f now in
+    let mid = g.F.FilePair.model.seen c.recover.new.files Records in
+    let zero_mid = λ (i : ℕ). sym (opened.gives i tt) ∙ empty_stands c.args.bounds opened.patches (g.F.FilePair.model.seen c.args.files.now) c.requires.empty opened.log i in
+    let kept = keeps_now c.commit.new.self [] _ _ (c.in_ok-commit.ensures.acknowledged [] (c.in_ok-redo.ensures.consistent was_honest)) f now in
     let same = c.in_ok-commit.ensures.bounds ∙ c.in_ok-redo.ensures.bounds in
-    let stands = subst (λ (b : Bounds). StandsFor b [] (g.F.FilePair.seen c.commit.new.files Records) f) same kept.stands in
+    let stands = subst (λ (b : Bounds). StandsFor b [] (g.F.FilePair.model.seen c.commit.new.files Records) f) same kept.stands in
     record {
       patches = stands.patches;
       log = stands.log;

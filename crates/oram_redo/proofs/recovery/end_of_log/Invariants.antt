@@ -7,9 +7,9 @@ use Rattle.oram_redo.proofs.recovery.end_of_log.Given as goal
 
 abbrev pub invariant-loop-found : goal.invariant-loop-found
 invariant-loop-found g l = record {
-  nothing_written : WritesNothing g.F.FilePair.seen g.F.FilePair.may_leave g.F.FilePair.moment g.F.FilePair.left_since l.initial.files l.files;
-  so_far : g.F.FilePair.is_honest l.files → (done : List Patch) × Opens l.bounds done (g.F.FilePair.seen l.initial.files Log) l.at;
-  after : ComesAfter g.F.FilePair.failures g.F.FilePair.shortages g.F.FilePair.is_honest l.initial.files l.files;
+  nothing_written : WritesNothing g.F.FilePair.model l.initial.files l.files;
+  so_far : g.F.FilePair.model.is_honest l.files → (done : List Patch) × Opens l.bounds done (g.F.FilePair.model.seen l.initial.files Log) l.at;
+  after : ComesAfter g.F.FilePair.model l.initial.files l.files;
 }
 
 abbrev pub decreases-loop-found : goal.decreases-loop-found

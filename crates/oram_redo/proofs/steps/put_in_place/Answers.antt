@@ -15,24 +15,24 @@ ok_has (Err e) P well has = cc
 
 pub returns-then-is_err-clause-crash : goal.returns-then-is_err-clause-crash
 returns-then-is_err-clause-crash g c =
-    smears_more g.F.FilePair.may_leave g.F.FilePair.moment g.F.FilePair.left_since (patches_of c.args.batch.now) c.args.files.now c.loop-patch.files c.write_at.new.self _ _
+    smears_more g.F.FilePair.model (patches_of c.args.batch.now) c.args.files.now c.loop-patch.files c.write_at.new.self _ _
     c.loop-patch.invariant.crash c.write_at.ensures.crash (λ i spared. spares_each c.args.batch.now c.loop-patch.patch-index none i c.loop-patch-test.true spared)
 
 pub returns-then-is_err-clause-moments : goal.returns-then-is_err-clause-moments
 returns-then-is_err-clause-moments g c =
-    smears_on g.F.FilePair.may_leave g.F.FilePair.moment g.F.FilePair.left_since (patches_of c.args.batch.now) c.args.files.now c.loop-patch.files c.write_at.new.self
+    smears_on g.F.FilePair.model (patches_of c.args.batch.now) c.args.files.now c.loop-patch.files c.write_at.new.self
     c.loop-patch.invariant.moments c.write_at.ensures.time (returns-then-is_err-clause-crash g c)
 
 pub loop-patch-preserved : goal.loop-patch-preserved
 loop-patch-preserved g c =
-    let now = smears_more g.F.FilePair.may_leave g.F.FilePair.moment g.F.FilePair.left_since (patches_of c.args.batch.now) c.args.files.now c.loop-patch.files c.write_at.new.self _ _
+    let now = smears_more g.F.FilePair.model (patches_of c.args.batch.now) c.args.files.now c.loop-patch.files c.write_at.new.self _ _
     c.loop-patch.invariant.crash c.write_at.ensures.crash (λ i spared. spares_each c.args.batch.now c.loop-patch.patch-index none i c.loop-patch-test.true spared) in
     record {
-      records = records_more c.args.batch.now c.loop-patch.patch-index none (g.F.FilePair.seen c.args.files.now) (g.F.FilePair.seen c.loop-patch.files) (g.F.FilePair.seen c.write_at.new.self)
+      records = records_more c.args.batch.now c.loop-patch.patch-index none (g.F.FilePair.model.seen c.args.files.now) (g.F.FilePair.model.seen c.loop-patch.files) (g.F.FilePair.model.seen c.write_at.new.self)
           c.loop-patch-test.true c.loop-patch.invariant.records (ok_has c.write_at.result _ (sym c.if-is_err.ensures.value) c.write_at.ensures.written);
       log = λ i. c.write_at.ensures.torn.other i ∙ c.loop-patch.invariant.log i;
       crash = now;
-      moments = smears_on g.F.FilePair.may_leave g.F.FilePair.moment g.F.FilePair.left_since (patches_of c.args.batch.now) c.args.files.now c.loop-patch.files c.write_at.new.self
+      moments = smears_on g.F.FilePair.model (patches_of c.args.batch.now) c.args.files.now c.loop-patch.files c.write_at.new.self
           c.loop-patch.invariant.moments c.write_at.ensures.time now;
       after = record {
         honest = λ now. c.loop-patch.invariant.after.honest (c.write_at.ensures.after.honest now);
@@ -45,10 +45,10 @@ pub returns-then-is_err-clause-log : goal.returns-then-is_err-clause-log
 returns-then-is_err-clause-log g c i = c.write_at.ensures.torn.other i ∙ c.loop-patch.invariant.log i
 
 pub returns-then-is_err-clause-failed : goal.returns-then-is_err-clause-failed
-returns-then-is_err-clause-failed g c = (refl, failed_last g.F.FilePair.failures g.F.FilePair.shortages g.F.FilePair.is_honest c.args.files.now c.loop-patch.files c.write_at.new.self c.loop-patch.invariant.after (has_failed g.F.FilePair.failures g.F.FilePair.shortages g.F.FilePair.is_honest c.write_at.result c.loop-patch.files c.write_at.new.self (sym c.if-is_err.ensures.value) c.write_at.ensures.errors c.write_at.ensures.cause))
+returns-then-is_err-clause-failed g c = (refl, failed_last g.F.FilePair.model c.args.files.now c.loop-patch.files c.write_at.new.self c.loop-patch.invariant.after (has_failed g.F.FilePair.model c.write_at.result c.loop-patch.files c.write_at.new.self (sym c.if-is_err.ensures.value) c.write_at.ensures.errors c.write_at.ensures.cause))
 
 pub returns-then-is_err-clause-after : goal.returns-then-is_err-clause-after
-returns-then-is_err-clause-after g c = after_then g.F.FilePair.failures g.F.FilePair.shortages g.F.FilePair.is_honest c.args.files.now c.loop-patch.files c.write_at.new.self c.loop-patch.invariant.after c.write_at.ensures.after
+returns-then-is_err-clause-after g c = after_then g.F.FilePair.model c.args.files.now c.loop-patch.files c.write_at.new.self c.loop-patch.invariant.after c.write_at.ensures.after
 
 pub returns-clause-log : goal.returns-clause-log
 returns-clause-log g c = c.loop-patch.invariant.log

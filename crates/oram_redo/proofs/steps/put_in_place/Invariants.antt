@@ -9,9 +9,9 @@ use Rattle.oram_redo.proofs.steps.put_in_place.Given as goal
 
 abbrev pub invariant-loop-patch : goal.invariant-loop-patch
 invariant-loop-patch g l = record {
-  records : Agrees (g.F.FilePair.seen l.files Records) (put_all (patches_of (take l.patch-index l.batch)) (g.F.FilePair.seen l.initial.files Records));
-  log : Agrees (g.F.FilePair.seen l.files Log) (g.F.FilePair.seen l.initial.files Log);
-  crash : Follows (Smeared (patches_of l.batch)) (g.F.FilePair.may_leave l.initial.files) (g.F.FilePair.may_leave l.files);
-  moments : LeavesOnly g.F.FilePair.moment g.F.FilePair.left_since l.initial.files l.files (Smears (patches_of l.batch) (g.F.FilePair.may_leave l.initial.files));
-  after : ComesAfter g.F.FilePair.failures g.F.FilePair.shortages g.F.FilePair.is_honest l.initial.files l.files;
+  records : Agrees (g.F.FilePair.model.seen l.files Records) (put_all (patches_of (take l.patch-index l.batch)) (g.F.FilePair.model.seen l.initial.files Records));
+  log : Agrees (g.F.FilePair.model.seen l.files Log) (g.F.FilePair.model.seen l.initial.files Log);
+  crash : Follows (Smeared (patches_of l.batch)) (g.F.FilePair.model.may_leave l.initial.files) (g.F.FilePair.model.may_leave l.files);
+  moments : LeavesOnly g.F.FilePair.model l.initial.files l.files (Smears (patches_of l.batch) (g.F.FilePair.model.may_leave l.initial.files));
+  after : ComesAfter g.F.FilePair.model l.initial.files l.files;
 }

@@ -33,4 +33,4 @@ pub returns-in-Err-clause-after : goal.returns-in-Err-clause-after
 returns-in-Err-clause-after g c = c.write_synced.ensures.after
 
 pub returns-in-Err-clause-failed : goal.returns-in-Err-clause-failed
-returns-in-Err-clause-failed g c = (refl, cause_of g.F.FilePair.failures g.F.FilePair.shortages g.F.FilePair.is_honest c.in-Err.field-0 c.args.files.now c.write_synced.new.files c.in-Err.ensures.errors c.in-Err.ensures.cause)
+returns-in-Err-clause-failed g c = (refl, cause_of g.F.FilePair.model c.in-Err.field-0 c.args.files.now c.write_synced.new.files c.in-Err.ensures.errors c.in-Err.ensures.cause)

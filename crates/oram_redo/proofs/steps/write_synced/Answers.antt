@@ -20,14 +20,14 @@ returns-in_err-write_at-clause-crash g c = c.write_at.ensures.crash
 
 pub returns-in_err-write_at-clause-moments : goal.returns-in_err-write_at-clause-moments
 returns-in_err-write_at-clause-moments g c =
-    one_call g.F.FilePair.moment g.F.FilePair.left_since c.args.files.now c.write_at.new.self (Tears c.args.file c.args.at (length c.args.bytes.now) (g.F.FilePair.may_leave c.args.files.now)) _
+    one_call g.F.FilePair.model c.args.files.now c.write_at.new.self (Tears c.args.file c.args.at (length c.args.bytes.now) (g.F.FilePair.model.may_leave c.args.files.now)) _
     (λ f left. (f, g.met.F.FilePair.only_now c.args.files.now f left, torn_not c.args.file c.args.at (length c.args.bytes.now) f)) c.write_at.ensures.time c.write_at.ensures.crash
 
 pub returns-in_err-write_at-clause-after : goal.returns-in_err-write_at-clause-after
 returns-in_err-write_at-clause-after g c = c.write_at.ensures.after
 
 pub returns-in_err-write_at-clause-cause : goal.returns-in_err-write_at-clause-cause
-returns-in_err-write_at-clause-cause g c = cause_passed g.F.FilePair.failures g.F.FilePair.shortages g.F.FilePair.is_honest c.from_residual.result c.in_err-write_at.field-0.0 c.args.files.now c.write_at.new.self c.from_residual.ensures.1 c.in_err-write_at.ensures.cause
+returns-in_err-write_at-clause-cause g c = cause_passed g.F.FilePair.model c.from_residual.result c.in_err-write_at.field-0.0 c.args.files.now c.write_at.new.self c.from_residual.ensures.1 c.in_err-write_at.ensures.cause
 
 pub returns-in_err-write_at-clause-errors : goal.returns-in_err-write_at-clause-errors
 returns-in_err-write_at-clause-errors g c = if_err_passed c.from_residual.result c.in_err-write_at.field-0.0 _ c.from_residual.ensures.1 c.in_err-write_at.ensures.errors
@@ -52,15 +52,15 @@ returns-clause-crash g c f now = c.write_at.ensures.crash f (c.sync.ensures.cras
 
 pub returns-clause-moments : goal.returns-clause-moments
 returns-clause-moments g c =
-    let first = one_call g.F.FilePair.moment g.F.FilePair.left_since c.args.files.now c.write_at.new.self (Tears c.args.file c.args.at (length c.args.bytes.now) (g.F.FilePair.may_leave c.args.files.now)) _
+    let first = one_call g.F.FilePair.model c.args.files.now c.write_at.new.self (Tears c.args.file c.args.at (length c.args.bytes.now) (g.F.FilePair.model.may_leave c.args.files.now)) _
     (λ f left. (f, g.met.F.FilePair.only_now c.args.files.now f left, torn_not c.args.file c.args.at (length c.args.bytes.now) f)) c.write_at.ensures.time c.write_at.ensures.crash in
-    goes_on g.F.FilePair.moment g.F.FilePair.left_since c.args.files.now c.write_at.new.self c.sync.new.self (Tears c.args.file c.args.at (length c.args.bytes.now) (g.F.FilePair.may_leave c.args.files.now)) (g.F.FilePair.may_leave c.sync.new.self) first c.sync.ensures.time (λ f now. c.write_at.ensures.crash f (c.sync.ensures.crash f now))
+    goes_on g.F.FilePair.model c.args.files.now c.write_at.new.self c.sync.new.self (Tears c.args.file c.args.at (length c.args.bytes.now) (g.F.FilePair.model.may_leave c.args.files.now)) (g.F.FilePair.model.may_leave c.sync.new.self) first c.sync.ensures.time (λ f now. c.write_at.ensures.crash f (c.sync.ensures.crash f now))
 
 pub returns-clause-after : goal.returns-clause-after
-returns-clause-after g c = after_then g.F.FilePair.failures g.F.FilePair.shortages g.F.FilePair.is_honest c.args.files.now c.write_at.new.self c.sync.new.self c.write_at.ensures.after c.sync.ensures.after
+returns-clause-after g c = after_then g.F.FilePair.model c.args.files.now c.write_at.new.self c.sync.new.self c.write_at.ensures.after c.sync.ensures.after
 
 pub returns-clause-cause : goal.returns-clause-cause
-returns-clause-cause g c = cause_last g.F.FilePair.failures g.F.FilePair.shortages g.F.FilePair.is_honest c.sync.result c.args.files.now c.write_at.new.self c.sync.new.self c.write_at.ensures.after c.sync.ensures.cause
+returns-clause-cause g c = cause_last g.F.FilePair.model c.sync.result c.args.files.now c.write_at.new.self c.sync.new.self c.write_at.ensures.after c.sync.ensures.cause
 
 pub returns-clause-errors : goal.returns-clause-errors
 returns-clause-errors g c = either_failed c.sync.result c.sync.ensures.errors

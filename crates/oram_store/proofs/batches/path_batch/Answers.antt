@@ -6,7 +6,7 @@ use Rattle.oram_host.specs.Path.{node_on, record_at}
 use Rattle.oram_layout.specs.Changes.{path_patches}
 use Rattle.oram_layout.specs.Trees.{cell_at}
 use Rattle.oram_redo.specs.Batch.{patch_of, patches_of}
-use Rattle.oram_redo.specs.Log as model
+use Rattle.oram_redo.specs.Log as spec
 use Rattle.oram_store.proofs.BatchBytes.{path_more}
 use Rattle.oram_store.proofs.batches.path_batch.Goals as goal
 
@@ -20,7 +20,7 @@ loop-level-preserved c records held =
     let place : c.cell_at.result ≡ cell_at c.args.tree.now (node_on c.args.tree.now.shape.depth c.args.leaf level) = c.cell_at.ensures.place ∙ ap (cell_at c.args.tree.now) c.node_at.ensures.place in
     let piece : List ℕ = 1 ∷ record_at c.args.tree.now.shape.record_len records level in
     ap patches_of c.in_ok-push.ensures.items ∙ map-append patch_of c.loop-level.batch.items (_ ∷ [])
-    ∙ ap (λ (ps : List model.Patch). ps ++ (c.cell_at.result, slice_range c.args.cells.now (level * width) (level * width + width)) ∷ []) (c.loop-level.invariant records held)
+    ∙ ap (λ (ps : List spec.Patch). ps ++ (c.cell_at.result, slice_range c.args.cells.now (level * width) (level * width + width)) ∷ []) (c.loop-level.invariant records held)
     ∙ ap (λ (b : List ℕ). path_patches c.args.tree.now c.args.leaf records 0 level ++ (c.cell_at.result, b) ∷ []) bytes
     ∙ ap (λ (at : ℕ). path_patches c.args.tree.now c.args.leaf records 0 level ++ (at, piece) ∷ []) place
     ∙ sym (path_more c.args.tree.now c.args.leaf records level)

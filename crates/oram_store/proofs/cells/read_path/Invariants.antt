@@ -10,10 +10,10 @@ invariant-loop-level g l = record {
   rest : List ℕ;
   grown : l.bytes.items ≡ l.front ++ rest;
   whole : length rest ≡ l.level * l.tree.shape.record_len;
-  reads : ReadsOnly g.F.FilePair.seen g.F.FilePair.may_leave g.F.FilePair.moment g.F.FilePair.left_since l.fn.file l.file;
-  runs : Runs g.F.FilePair.failures g.F.FilePair.shortages g.F.FilePair.is_honest l.fn.file l.file;
+  reads : ReadsOnly g.F.FilePair.model l.fn.file l.file;
+  runs : Runs g.F.FilePair.model l.fn.file l.file;
   same : l.file.has_stopped ≡ l.fn.file.has_stopped;
   running : 0 < l.level → l.file.has_stopped ≡ false;
-  each : g.F.FilePair.is_honest l.file.files → (k : ℕ) → k < l.level
-      → records_of_tree l.tree (g.F.FilePair.seen l.fn.file.files Records) 0 (node_on l.tree.shape.depth l.leaf k) ≡ Some (record_at l.tree.shape.record_len rest k);
+  each : g.F.FilePair.model.is_honest l.file.files → (k : ℕ) → k < l.level
+      → records_of_tree l.tree (g.F.FilePair.model.seen l.fn.file.files Records) 0 (node_on l.tree.shape.depth l.leaf k) ≡ Some (record_at l.tree.shape.record_len rest k);
 }

@@ -15,7 +15,7 @@ returns-in_err-has_record-clause-reads g c = c.has_record.ensures.reads
 
 pub returns-in_err-has_record-clause-calls : goal.returns-in_err-has_record-clause-calls
 returns-in_err-has_record-clause-calls g c =
-    calls_passed g.F.FilePair.failures g.F.FilePair.shortages g.F.FilePair.is_honest c.from_residual.result c.in_err-has_record.field-0.0 c.args.file.now c.has_record.new.file
+    calls_passed g.F.FilePair.model c.from_residual.result c.in_err-has_record.field-0.0 c.args.file.now c.has_record.new.file
     c.from_residual.ensures.1 c.in_err-has_record.ensures.calls
 
 pub returns-in_err-has_record-clause-running : goal.returns-in_err-has_record-clause-running
@@ -29,7 +29,7 @@ returns-then-not-branch-clause-reads g c = c.has_record.ensures.reads
 
 pub returns-then-not-branch-clause-calls : goal.returns-then-not-branch-clause-calls
 returns-then-not-branch-clause-calls g c =
-    calls_ok g.F.FilePair.failures g.F.FilePair.shortages g.F.FilePair.is_honest c.in_ok-has_record.field-0 false c.args.file.now c.has_record.new.file c.in_ok-has_record.ensures.calls
+    calls_ok g.F.FilePair.model c.in_ok-has_record.field-0 false c.args.file.now c.has_record.new.file c.in_ok-has_record.ensures.calls
 
 pub returns-then-not-branch-clause-running : goal.returns-then-not-branch-clause-running
 returns-then-not-branch-clause-running g c = c.in_ok-has_record.ensures.running
@@ -42,11 +42,11 @@ returns-in_err-read_onto-clause-missing g c = if_ok_none c.from_residual-in_err-
 
 pub returns-in_err-read_onto-clause-reads : goal.returns-in_err-read_onto-clause-reads
 returns-in_err-read_onto-clause-reads g c =
-    reads_then g.F.FilePair.seen g.F.FilePair.may_leave g.F.FilePair.moment g.F.FilePair.left_since c.args.file.now c.has_record.new.file c.read_onto.new.self c.has_record.ensures.reads c.read_onto.ensures.reads
+    reads_then g.F.FilePair.model c.args.file.now c.has_record.new.file c.read_onto.new.self c.has_record.ensures.reads c.read_onto.ensures.reads
 
 pub returns-in_err-read_onto-clause-calls : goal.returns-in_err-read_onto-clause-calls
 returns-in_err-read_onto-clause-calls g c =
-    calls_residual g.F.FilePair.failures g.F.FilePair.shortages g.F.FilePair.is_honest c.from_residual-in_err-read_onto.result c.in_err-read_onto.field-0.0 c.args.file.now c.has_record.new.file c.read_onto.new.self
+    calls_residual g.F.FilePair.model c.from_residual-in_err-read_onto.result c.in_err-read_onto.field-0.0 c.args.file.now c.has_record.new.file c.read_onto.new.self
     c.from_residual-in_err-read_onto.ensures.1 c.has_record.ensures.calls.runs c.in_ok-has_record.ensures.calls.goes_on c.in_err-read_onto.ensures.calls
 
 pub returns-in_err-read_onto-clause-running : goal.returns-in_err-read_onto-clause-running
@@ -57,12 +57,12 @@ returns-clause-missing g c is = absurd (true≢false is)
 
 pub returns-clause-reads : goal.returns-clause-reads
 returns-clause-reads g c =
-    reads_then g.F.FilePair.seen g.F.FilePair.may_leave g.F.FilePair.moment g.F.FilePair.left_since c.args.file.now c.has_record.new.file c.read_onto.new.self c.has_record.ensures.reads c.read_onto.ensures.reads
+    reads_then g.F.FilePair.model c.args.file.now c.has_record.new.file c.read_onto.new.self c.has_record.ensures.reads c.read_onto.ensures.reads
 
 pub returns-clause-calls : goal.returns-clause-calls
 returns-clause-calls g c =
-    calls_ok g.F.FilePair.failures g.F.FilePair.shortages g.F.FilePair.is_honest c.in_ok-read_onto.field-0 true c.args.file.now c.read_onto.new.self
-    (calls_then g.F.FilePair.failures g.F.FilePair.shortages g.F.FilePair.is_honest (Ok c.in_ok-read_onto.field-0) c.args.file.now c.has_record.new.file c.read_onto.new.self
+    calls_ok g.F.FilePair.model c.in_ok-read_onto.field-0 true c.args.file.now c.read_onto.new.self
+    (calls_then g.F.FilePair.model (Ok c.in_ok-read_onto.field-0) c.args.file.now c.has_record.new.file c.read_onto.new.self
     c.has_record.ensures.calls.runs c.in_ok-has_record.ensures.calls.goes_on c.in_ok-read_onto.ensures.calls)
 
 pub returns-clause-running : goal.returns-clause-running

@@ -5,10 +5,10 @@ use Rattle.oram_store.proofs.cells.write_missing.Goals as goal
 
 pub loop-level-init : goal.loop-level-init
 loop-level-init g c = record {
-  runs = runs_none g.F.FilePair.failures g.F.FilePair.shortages g.F.FilePair.is_honest c.args.file.now;
+  runs = runs_none g.F.FilePair.model c.args.file.now;
   same = refl;
-  kept = λ trees number there sound honest. reads_leave g.F.FilePair.seen g.F.FilePair.may_leave g.F.FilePair.moment g.F.FilePair.left_since trees c.args.file.now c.args.file.now sound
-      (reads_nothing g.F.FilePair.seen g.F.FilePair.may_leave g.F.FilePair.moment g.F.FilePair.left_since c.args.file.now (g.met.F.FilePair.only_now c.args.file.now.files));
+  kept = λ trees number there sound honest. reads_leave g.F.FilePair.model trees c.args.file.now c.args.file.now sound
+      (reads_nothing g.F.FilePair.model c.args.file.now (g.met.F.FilePair.only_now c.args.file.now.files));
 }
 
 pub loop-level-preserved : goal.loop-level-preserved
@@ -16,10 +16,10 @@ loop-level-preserved g c =
     let mid = c.loop-level.file in
     let call = c.write_if_missing.ensures in
     record {
-      runs = runs_then g.F.FilePair.failures g.F.FilePair.shortages g.F.FilePair.is_honest c.args.file.now mid c.write_if_missing.new.file c.loop-level.invariant.runs call.calls.runs;
+      runs = runs_then g.F.FilePair.model c.args.file.now mid c.write_if_missing.new.file c.loop-level.invariant.runs call.calls.runs;
       same = c.in_ok-write_if_missing.ensures.calls.goes_on ∙ c.loop-level.invariant.same;
       kept = λ trees number there sound honest.
-          leaves_then g.F.FilePair.seen g.F.FilePair.may_leave g.F.FilePair.moment g.F.FilePair.left_since trees c.args.file.now mid c.write_if_missing.new.file
+          leaves_then g.F.FilePair.model trees c.args.file.now mid c.write_if_missing.new.file
           (c.loop-level.invariant.kept trees number there sound (call.calls.runs.after.honest honest))
           (λ mid_sound. call.kept trees number there mid_sound honest) call.calls.runs.stays (g.met.F.FilePair.counts_now mid.files) (g.met.F.FilePair.whole mid.files);
     }
@@ -28,11 +28,11 @@ pub returns-in_err-write_if_missing-clause-kept : goal.returns-in_err-write_if_m
 returns-in_err-write_if_missing-clause-kept g c trees number there sound honest =
     let mid = c.loop-level.file in
     let call = c.write_if_missing.ensures in
-    leaves_then g.F.FilePair.seen g.F.FilePair.may_leave g.F.FilePair.moment g.F.FilePair.left_since trees c.args.file.now mid c.write_if_missing.new.file
+    leaves_then g.F.FilePair.model trees c.args.file.now mid c.write_if_missing.new.file
     (c.loop-level.invariant.kept trees number there sound (call.calls.runs.after.honest honest))
     (λ mid_sound. call.kept trees number there mid_sound honest) call.calls.runs.stays (g.met.F.FilePair.counts_now mid.files) (g.met.F.FilePair.whole mid.files)
 
 pub returns-in_err-write_if_missing-clause-calls : goal.returns-in_err-write_if_missing-clause-calls
 returns-in_err-write_if_missing-clause-calls g c =
-    calls_residual g.F.FilePair.failures g.F.FilePair.shortages g.F.FilePair.is_honest c.from_residual.result c.in_err-write_if_missing.field-0.0 c.args.file.now c.loop-level.file c.write_if_missing.new.file
+    calls_residual g.F.FilePair.model c.from_residual.result c.in_err-write_if_missing.field-0.0 c.args.file.now c.loop-level.file c.write_if_missing.new.file
     c.from_residual.ensures.1 c.loop-level.invariant.runs c.loop-level.invariant.same c.in_err-write_if_missing.ensures.calls

@@ -6,8 +6,8 @@ use Rattle.oram_store.proofs.cells.write_missing.Given as goal
 
 abbrev pub invariant-loop-level : goal.invariant-loop-level
 invariant-loop-level g l = record {
-  runs : Runs g.F.FilePair.failures g.F.FilePair.shortages g.F.FilePair.is_honest l.fn.file l.file;
+  runs : Runs g.F.FilePair.model l.fn.file l.file;
   same : l.file.has_stopped ≡ l.fn.file.has_stopped;
-  kept : (trees : Trees) (number : ℕ) → tree_at trees number ≡ Some l.tree → IsSoundFile g.F.FilePair.seen g.F.FilePair.may_leave trees l.fn.file → g.F.FilePair.is_honest l.file.files
-      → LeavesRecords g.F.FilePair.seen g.F.FilePair.may_leave g.F.FilePair.moment g.F.FilePair.left_since trees l.fn.file l.file;
+  kept : (trees : Trees) (number : ℕ) → tree_at trees number ≡ Some l.tree → IsSoundFile g.F.FilePair.model trees l.fn.file → g.F.FilePair.model.is_honest l.file.files
+      → LeavesRecords g.F.FilePair.model trees l.fn.file l.file;
 }

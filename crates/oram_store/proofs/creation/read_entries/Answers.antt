@@ -5,7 +5,7 @@ use Rattle.oram_store.proofs.creation.read_entries.Goals as goal
 
 pub returns-clause-entries : goal.returns-clause-entries
 returns-clause-entries g c honest =
-    let seen = g.F.FilePair.seen c.args.files.now Records in
+    let seen = g.F.FilePair.model.seen c.args.files.now Records in
     has_along c.in_ok-bytes.bytes.items c.entry_place.result 4096 seen c.entry_place.ensures
     (has_read 4096 c.entry_place.result seen c.in_ok-bytes.bytes.items (c.in_ok-bytes.ensures.bytes honest))
 

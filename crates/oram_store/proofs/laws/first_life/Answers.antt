@@ -6,8 +6,8 @@ use Rattle.oram_store.proofs.laws.first_life.Goals as goal
 
 pub returns : goal.returns
 returns g c honest left now =
-    let seen = g.F.FilePair.seen in
+    let model = g.F.FilePair.model in
     let made = c.create.new.files in
     let was_opened = c.is_stored.ensures.runs.after.honest honest in
-    let opened = c.in_ok-store.ensures.found was_opened (replicate 256 None) (seen made Records) (stands_alone (seen made) c.in_ok-create.ensures.log) c.in_ok-create.ensures.records in
-    c.in_ok-is_stored.ensures.found c.if-not-branch.false honest opened.1 (λ tree node. opened.2 tree node ∙ none_at_first 256 (seen made Records) refl tree node) left now
+    let opened = c.in_ok-store.ensures.found was_opened (replicate 256 None) (model.seen made Records) (stands_alone (model.seen made) c.in_ok-create.ensures.log) c.in_ok-create.ensures.records in
+    c.in_ok-is_stored.ensures.found c.if-not-branch.false honest opened.1 (λ tree node. opened.2 tree node ∙ none_at_first 256 (model.seen made Records) refl tree node) left now

@@ -24,18 +24,18 @@ pub returns-clause-found : goal.returns-clause-found
 returns-clause-found g c =
     let shaped = c.is_done.new.store in
     let shape_done = c.if-not-branch.false in
-    let shape_told = c.in_ok-is_done.ensures.told shape_done in
+    let shape_responds = c.in_ok-is_done.ensures.responds shape_done in
     let goes_on = c.in_ok-is_done.ensures.goes_on shape_done in
     let call = c.is_done-2.ensures in
     if_ok_by c.is_done-2.result _ _ _ _ _
-    (λ done told stored_goes_on committed serves is honest sound none left now.
+    (λ done responds stored_goes_on committed serves is honest sound none left now.
     let shape_served = c.in_ok-is_done.ensures.serves shape_done (call.runs.after.honest honest) sound in
     let served = serves is honest (shape_served.sound goes_on) in
-    path_found g.F.FilePair.seen g.F.FilePair.may_leave g.F.FilePair.moment g.F.FilePair.left_since shaped c.is_done-2.new.store c.args.tree (sizes_of c.args.shape) c.args.leaf c.args.records
+    path_found g.F.FilePair.model shaped c.is_done-2.new.store c.args.tree (sizes_of c.args.shape) c.args.leaf c.args.records
     (λ tree node. shape_served.records goes_on tree node ∙ none tree node)
-    (shape_told.1 c.args.tree ∙ shape_given (Some (sizes_of c.args.shape)) (shape_at c.args.store.now.trees c.args.tree) c.args.tree)
-    (told is).1 (served.records (stored_goes_on is)) (committed is tt) (served.sound (stored_goes_on is)) left now)
-    call.told call.goes_on call.committed call.serves
+    (shape_responds.1 c.args.tree ∙ shape_given (Some (sizes_of c.args.shape)) (shape_at c.args.store.now.trees c.args.tree) c.args.tree)
+    (responds is).1 (served.records (stored_goes_on is)) (committed is tt) (served.sound (stored_goes_on is)) left now)
+    call.responds call.goes_on call.committed call.serves
 
 pub returns-clause-runs : goal.returns-clause-runs
-returns-clause-runs g c = runs_then g.F.FilePair.failures g.F.FilePair.shortages g.F.FilePair.is_honest c.args.store.now.file c.is_done.new.store.file c.is_done-2.new.store.file c.is_done.ensures.runs c.is_done-2.ensures.runs
+returns-clause-runs g c = runs_then g.F.FilePair.model c.args.store.now.file c.is_done.new.store.file c.is_done-2.new.store.file c.is_done.ensures.runs c.is_done-2.ensures.runs

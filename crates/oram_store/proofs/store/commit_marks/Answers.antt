@@ -11,7 +11,7 @@ use Rattle.oram_store.proofs.store.commit_marks.Goals as goal
 
 pub returns-in_err-batch-clause-commits : goal.returns-in_err-batch-clause-commits
 returns-in_err-batch-clause-commits g c =
-    commits_none g.F.FilePair.seen g.F.FilePair.may_leave g.F.FilePair.moment g.F.FilePair.left_since (marks c.args.cells.now) c.args.file.now c.from_residual.result
+    commits_none g.F.FilePair.model (marks c.args.cells.now) c.args.file.now c.from_residual.result
     c.from_residual.ensures.0 (g.met.F.FilePair.only_now c.args.file.now.files)
 
 pub commit-requires-clause-fits : goal.commit-requires-clause-fits
@@ -25,7 +25,7 @@ commit-requires-clause-short g c =
     omega (arith, ap (λ (ps : List Patch). length (entries ps)) is, length-marks c.args.cells.now, c.requires.few)
 
 pub returns-in_err-batch-clause-calls : goal.returns-in_err-batch-clause-calls
-returns-in_err-batch-clause-calls g c = calls_memory g.F.FilePair.failures g.F.FilePair.shortages g.F.FilePair.is_honest c.from_residual.result c.args.file.now c.args.file.now c.from_residual.ensures.1 (runs_none g.F.FilePair.failures g.F.FilePair.shortages g.F.FilePair.is_honest c.args.file.now)
+returns-in_err-batch-clause-calls g c = calls_memory g.F.FilePair.model c.from_residual.result c.args.file.now c.args.file.now c.from_residual.ensures.1 (runs_none g.F.FilePair.model c.args.file.now)
 
 pub returns-in_err-batch-clause-running : goal.returns-in_err-batch-clause-running
 returns-in_err-batch-clause-running g c = on_ok_none c.from_residual.result _ c.from_residual.ensures.0

@@ -13,12 +13,12 @@ use Rattle.oram_store.proofs.store.commit_path.Goals as goal
 
 pub returns-in_err-cells-clause-commits : goal.returns-in_err-cells-clause-commits
 returns-in_err-cells-clause-commits g c =
-    commits_none g.F.FilePair.seen g.F.FilePair.may_leave g.F.FilePair.moment g.F.FilePair.left_since (path_patches c.args.tree.now c.args.leaf c.args.records.now 0 (c.args.tree.now.shape.depth + 1)) c.args.file.now c.from_residual.result
+    commits_none g.F.FilePair.model (path_patches c.args.tree.now c.args.leaf c.args.records.now 0 (c.args.tree.now.shape.depth + 1)) c.args.file.now c.from_residual.result
     c.from_residual.ensures.0 (g.met.F.FilePair.only_now c.args.file.now.files)
 
 pub returns-in_err-batch-clause-commits : goal.returns-in_err-batch-clause-commits
 returns-in_err-batch-clause-commits g c =
-    commits_none g.F.FilePair.seen g.F.FilePair.may_leave g.F.FilePair.moment g.F.FilePair.left_since (path_patches c.args.tree.now c.args.leaf c.args.records.now 0 (c.args.tree.now.shape.depth + 1)) c.args.file.now c.from_residual-in_err-batch.result
+    commits_none g.F.FilePair.model (path_patches c.args.tree.now c.args.leaf c.args.records.now 0 (c.args.tree.now.shape.depth + 1)) c.args.file.now c.from_residual-in_err-batch.result
     c.from_residual-in_err-batch.ensures.0 (g.met.F.FilePair.only_now c.args.file.now.files)
 
 pub commit-requires-clause-fits : goal.commit-requires-clause-fits
@@ -40,13 +40,13 @@ commit-requires-clause-short g c =
     omega (arith, ap (λ (ps : List Patch). length (entries ps)) is, path_short c.args.tree.now c.args.leaf c.args.records.now c.requires.whole)
 
 pub returns-in_err-cells-clause-calls : goal.returns-in_err-cells-clause-calls
-returns-in_err-cells-clause-calls g c = calls_memory g.F.FilePair.failures g.F.FilePair.shortages g.F.FilePair.is_honest c.from_residual.result c.args.file.now c.args.file.now c.from_residual.ensures.1 (runs_none g.F.FilePair.failures g.F.FilePair.shortages g.F.FilePair.is_honest c.args.file.now)
+returns-in_err-cells-clause-calls g c = calls_memory g.F.FilePair.model c.from_residual.result c.args.file.now c.args.file.now c.from_residual.ensures.1 (runs_none g.F.FilePair.model c.args.file.now)
 
 pub returns-in_err-cells-clause-running : goal.returns-in_err-cells-clause-running
 returns-in_err-cells-clause-running g c = on_ok_none c.from_residual.result _ c.from_residual.ensures.0
 
 pub returns-in_err-batch-clause-calls : goal.returns-in_err-batch-clause-calls
-returns-in_err-batch-clause-calls g c = calls_memory g.F.FilePair.failures g.F.FilePair.shortages g.F.FilePair.is_honest c.from_residual-in_err-batch.result c.args.file.now c.args.file.now c.from_residual-in_err-batch.ensures.1 (runs_none g.F.FilePair.failures g.F.FilePair.shortages g.F.FilePair.is_honest c.args.file.now)
+returns-in_err-batch-clause-calls g c = calls_memory g.F.FilePair.model c.from_residual-in_err-batch.result c.args.file.now c.args.file.now c.from_residual-in_err-batch.ensures.1 (runs_none g.F.FilePair.model c.args.file.now)
 
 pub returns-in_err-batch-clause-running : goal.returns-in_err-batch-clause-running
 returns-in_err-batch-clause-running g c = on_ok_none c.from_residual-in_err-batch.result _ c.from_residual-in_err-batch.ensures.0
@@ -64,7 +64,7 @@ returns-clause-commits g c =
     ap patches_of c.deref-2.ensures.value
     ∙ c.in_ok-batch.ensures c.args.records.now
     (subst (λ (xs : List ℕ). HoldsCells xs c.args.tree.now.shape.record_len c.args.records.now (c.args.tree.now.shape.depth + 1)) (sym c.deref.ensures.value) c.in_ok-cells.ensures.cells) in
-    subst (λ (ps : List Patch). Commits g.F.FilePair.seen g.F.FilePair.may_leave g.F.FilePair.moment g.F.FilePair.left_since ps c.commit.result c.args.file.now c.commit.new.self) is c.commit.ensures.commits
+    subst (λ (ps : List Patch). Commits g.F.FilePair.model ps c.commit.result c.args.file.now c.commit.new.self) is c.commit.ensures.commits
 
 pub returns-clause-calls : goal.returns-clause-calls
 returns-clause-calls g c = c.commit.ensures.calls

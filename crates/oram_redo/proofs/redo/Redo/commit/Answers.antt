@@ -9,26 +9,26 @@ use Rattle.oram_redo.specs.Log.{AllOrNothing, Keeps, entries, put_all}
 use Rattle.oram_redo.specs.Redo.{bounds_of}
 use Rattle.oram_redo.proofs.Batches.{patches_first}
 use Rattle.oram_redo.proofs.Moments.{started, leads_to, then_leaves, same_content}
-use Rattle.oram_redo.proofs.Settled.{keeps_now}
-use Rattle.oram_redo.proofs.Commit.{nothing_yet, tail_written, keeps_behind, settled_behind, alike_behind, gate_torn, places_torn, settled_after}
+use Rattle.oram_redo.proofs.Consistent.{keeps_now}
+use Rattle.oram_redo.proofs.Commit.{nothing_yet, tail_written, keeps_behind, consistent_behind, alike_behind, gate_torn, places_torn, consistent_after}
 use Rattle.oram_redo.proofs.redo.Redo.commit.Goals as goal
 
 pub returns-then-is_empty-clause-any_moment : goal.returns-then-is_empty-clause-any_moment
 returns-then-is_empty-clause-any_moment g c loose s =
-    let P : Contents → Type 0 = AllOrNothing (bounds_of c.args.self.now) loose (g.F.FilePair.seen c.args.files.now) (patches_of c.args.batch.now) in
-    started g.F.FilePair.moment g.F.FilePair.left_since c.args.files.now P
+    let P : Contents → Type 0 = AllOrNothing (bounds_of c.args.self.now) loose (g.F.FilePair.model.seen c.args.files.now) (patches_of c.args.batch.now) in
+    started g.F.FilePair.model c.args.files.now P
     (λ f left. nothing_yet _ loose _ _ f (keeps_now c.args.self.now loose _ _ s f (g.met.F.FilePair.only_now c.args.files.now f left)))
 
 pub returns-in_err-body-clause-any_moment : goal.returns-in_err-body-clause-any_moment
 returns-in_err-body-clause-any_moment g c loose s =
-    let P : Contents → Type 0 = AllOrNothing (bounds_of c.args.self.now) loose (g.F.FilePair.seen c.args.files.now) (patches_of c.args.batch.now) in
-    started g.F.FilePair.moment g.F.FilePair.left_since c.args.files.now P
+    let P : Contents → Type 0 = AllOrNothing (bounds_of c.args.self.now) loose (g.F.FilePair.model.seen c.args.files.now) (patches_of c.args.batch.now) in
+    started g.F.FilePair.model c.args.files.now P
     (λ f left. nothing_yet _ loose _ _ f (keeps_now c.args.self.now loose _ _ s f (g.met.F.FilePair.only_now c.args.files.now f left)))
 
 pub returns-in_err-body-clause-refused : goal.returns-in_err-body-clause-refused
 returns-in_err-body-clause-refused g c refused loose s =
-    let P : Contents → Type 0 = Keeps (bounds_of c.args.self.now) loose (g.F.FilePair.seen c.args.files.now) in
-    (s, started g.F.FilePair.moment g.F.FilePair.left_since c.args.files.now P (λ f left. keeps_now c.args.self.now loose _ _ s f (g.met.F.FilePair.only_now c.args.files.now f left)))
+    let P : Contents → Type 0 = Keeps (bounds_of c.args.self.now) loose (g.F.FilePair.model.seen c.args.files.now) in
+    (s, started g.F.FilePair.model c.args.files.now P (λ f left. keeps_now c.args.self.now loose _ _ s f (g.met.F.FilePair.only_now c.args.files.now f left)))
 
 pub overflow_add-self : goal.overflow_add-self
 overflow_add-self g c =
@@ -39,47 +39,47 @@ overflow_add-self g c =
 
 pub returns-in_err-write_synced-clause-any_moment : goal.returns-in_err-write_synced-clause-any_moment
 returns-in_err-write_synced-clause-any_moment g c loose s =
-    let P : Contents → Type 0 = AllOrNothing (bounds_of c.args.self.now) loose (g.F.FilePair.seen c.args.files.now) (patches_of c.args.batch.now) in
-    leads_to g.F.FilePair.moment g.F.FilePair.left_since c.args.files.now c.write_synced.new.files _ P c.write_synced.ensures.moments
+    let P : Contents → Type 0 = AllOrNothing (bounds_of c.args.self.now) loose (g.F.FilePair.model.seen c.args.files.now) (patches_of c.args.batch.now) in
+    leads_to g.F.FilePair.model c.args.files.now c.write_synced.new.files _ P c.write_synced.ensures.moments
     (λ f torn. nothing_yet _ loose _ _ f (keeps_behind c.args.self.now loose _ _ s _ _ (omega arith) f torn))
 
 pub returns-in_err-write_synced-clause-refused : goal.returns-in_err-write_synced-clause-refused
 returns-in_err-write_synced-clause-refused g c refused loose s =
-    let P : Contents → Type 0 = Keeps (bounds_of c.args.self.now) loose (g.F.FilePair.seen c.args.files.now) in (
-      settled_behind c.args.self.now loose _ _ s _ _ (omega arith) _ _ c.write_synced.ensures.torn c.write_synced.ensures.crash,
-      leads_to g.F.FilePair.moment g.F.FilePair.left_since c.args.files.now c.write_synced.new.files _ P c.write_synced.ensures.moments
+    let P : Contents → Type 0 = Keeps (bounds_of c.args.self.now) loose (g.F.FilePair.model.seen c.args.files.now) in (
+      consistent_behind c.args.self.now loose _ _ s _ _ (omega arith) _ _ c.write_synced.ensures.torn c.write_synced.ensures.crash,
+      leads_to g.F.FilePair.model c.args.files.now c.write_synced.new.files _ P c.write_synced.ensures.moments
           (λ f torn. keeps_behind c.args.self.now loose _ _ s _ _ (omega arith) f torn),
     )
 
 pub returns-in_err-set_gate-clause-any_moment : goal.returns-in_err-set_gate-clause-any_moment
 returns-in_err-set_gate-clause-any_moment g c loose s =
-    let P : Contents → Type 0 = AllOrNothing (bounds_of c.args.self.now) loose (g.F.FilePair.seen c.args.files.now) (patches_of c.args.batch.now) in
+    let P : Contents → Type 0 = AllOrNothing (bounds_of c.args.self.now) loose (g.F.FilePair.model.seen c.args.files.now) (patches_of c.args.batch.now) in
     let behind : c.args.self.now.end < c.args.self.now.end + 1 = omega arith in
-    let staged = settled_behind c.args.self.now loose _ _ s _ _ behind _ _ c.write_synced.ensures.torn c.write_synced.ensures.crash in
+    let staged = consistent_behind c.args.self.now loose _ _ s _ _ behind _ _ c.write_synced.ensures.torn c.write_synced.ensures.crash in
     let first = patches_first c.args.batch.now (sym c.is_empty.ensures ∙ c.if-is_empty.false) in
     let whole = tail_written _ first.0 c.deref.result.now _ _ _ first.1 (c.deref.ensures.value ∙ c.in_ok-body.ensures.body) c.in_ok-write_synced.ensures.written in
     let room : c.args.self.now.end + length (entries (patches_of c.args.batch.now)) < c.args.self.now.bounds.log_end = omega (arith, c.in_ok-body.ensures.end, c.in_ok-body.ensures.within) in
-    let at_first = leads_to g.F.FilePair.moment g.F.FilePair.left_since c.args.files.now c.write_synced.new.files _ P c.write_synced.ensures.moments
+    let at_first = leads_to g.F.FilePair.model c.args.files.now c.write_synced.new.files _ P c.write_synced.ensures.moments
     (λ f torn. nothing_yet _ loose _ _ f (keeps_behind c.args.self.now loose _ _ s _ _ behind f torn)) in
-    let at_gate = then_leaves g.F.FilePair.moment g.F.FilePair.left_since c.args.files.now c.write_synced.new.files c.set_gate.new.files P _ at_first c.set_gate.ensures.moments
+    let at_gate = then_leaves g.F.FilePair.model c.args.files.now c.write_synced.new.files c.set_gate.new.files P _ at_first c.set_gate.ensures.moments
     (λ f torn. alike_behind c.args.self.now loose _ _ s _ _ behind _ _ f c.write_synced.ensures.torn
     (gate_torn c.args.self.now loose _ _ staged c.in_ok-write_synced.ensures.sure (patches_of c.args.batch.now) first.0 first.1 whole room c.requires f torn)) in
     at_gate
 
 pub returns-in_err-put_in_place-clause-any_moment : goal.returns-in_err-put_in_place-clause-any_moment
 returns-in_err-put_in_place-clause-any_moment g c loose s =
-    let P : Contents → Type 0 = AllOrNothing (bounds_of c.args.self.now) loose (g.F.FilePair.seen c.args.files.now) (patches_of c.args.batch.now) in
+    let P : Contents → Type 0 = AllOrNothing (bounds_of c.args.self.now) loose (g.F.FilePair.model.seen c.args.files.now) (patches_of c.args.batch.now) in
     let behind : c.args.self.now.end < c.args.self.now.end + 1 = omega arith in
-    let staged = settled_behind c.args.self.now loose _ _ s _ _ behind _ _ c.write_synced.ensures.torn c.write_synced.ensures.crash in
+    let staged = consistent_behind c.args.self.now loose _ _ s _ _ behind _ _ c.write_synced.ensures.torn c.write_synced.ensures.crash in
     let first = patches_first c.args.batch.now (sym c.is_empty.ensures ∙ c.if-is_empty.false) in
     let whole = tail_written _ first.0 c.deref.result.now _ _ _ first.1 (c.deref.ensures.value ∙ c.in_ok-body.ensures.body) c.in_ok-write_synced.ensures.written in
     let room : c.args.self.now.end + length (entries (patches_of c.args.batch.now)) < c.args.self.now.bounds.log_end = omega (arith, c.in_ok-body.ensures.end, c.in_ok-body.ensures.within) in
-    let at_first = leads_to g.F.FilePair.moment g.F.FilePair.left_since c.args.files.now c.write_synced.new.files _ P c.write_synced.ensures.moments
+    let at_first = leads_to g.F.FilePair.model c.args.files.now c.write_synced.new.files _ P c.write_synced.ensures.moments
     (λ f torn. nothing_yet _ loose _ _ f (keeps_behind c.args.self.now loose _ _ s _ _ behind f torn)) in
-    let at_gate = then_leaves g.F.FilePair.moment g.F.FilePair.left_since c.args.files.now c.write_synced.new.files c.set_gate.new.files P _ at_first c.set_gate.ensures.moments
+    let at_gate = then_leaves g.F.FilePair.model c.args.files.now c.write_synced.new.files c.set_gate.new.files P _ at_first c.set_gate.ensures.moments
     (λ f torn. alike_behind c.args.self.now loose _ _ s _ _ behind _ _ f c.write_synced.ensures.torn
     (gate_torn c.args.self.now loose _ _ staged c.in_ok-write_synced.ensures.sure (patches_of c.args.batch.now) first.0 first.1 whole room c.requires f torn)) in
-    then_leaves g.F.FilePair.moment g.F.FilePair.left_since c.args.files.now c.set_gate.new.files c.put_in_place.new.files P _ at_gate c.put_in_place.ensures.moments
+    then_leaves g.F.FilePair.model c.args.files.now c.set_gate.new.files c.put_in_place.new.files P _ at_gate c.put_in_place.ensures.moments
     (λ f smeared. alike_behind c.args.self.now loose _ _ s _ _ behind _ _ f c.write_synced.ensures.torn
     (places_torn c.args.self.now loose _ _ staged c.in_ok-write_synced.ensures.sure (patches_of c.args.batch.now) first.0 first.1 whole room c.requires
     _ _ c.in_ok-set_gate.ensures.written c.in_ok-set_gate.ensures.sure c.set_gate.ensures.crash f smeared))
@@ -87,28 +87,28 @@ returns-in_err-put_in_place-clause-any_moment g c loose s =
 pub returns-clause-acknowledged : goal.returns-clause-acknowledged
 returns-clause-acknowledged g c loose s =
     let behind : c.args.self.now.end < c.args.self.now.end + 1 = omega arith in
-    let staged = settled_behind c.args.self.now loose _ _ s _ _ behind _ _ c.write_synced.ensures.torn c.write_synced.ensures.crash in
+    let staged = consistent_behind c.args.self.now loose _ _ s _ _ behind _ _ c.write_synced.ensures.torn c.write_synced.ensures.crash in
     let first = patches_first c.args.batch.now (sym c.is_empty.ensures ∙ c.if-is_empty.false) in
     let whole = tail_written _ first.0 c.deref.result.now _ _ _ first.1 (c.deref.ensures.value ∙ c.in_ok-body.ensures.body) c.in_ok-write_synced.ensures.written in
     let room : c.args.self.now.end + length (entries (patches_of c.args.batch.now)) < c.args.self.now.bounds.log_end = omega (arith, c.in_ok-body.ensures.end, c.in_ok-body.ensures.within) in
-    settled_after c.args.self.now loose _ _ staged c.in_ok-write_synced.ensures.sure (patches_of c.args.batch.now) first.0 first.1 whole room c.requires
+    consistent_after c.args.self.now loose _ _ staged c.in_ok-write_synced.ensures.sure (patches_of c.args.batch.now) first.0 first.1 whole room c.requires
     _ _ c.in_ok-set_gate.ensures.written c.in_ok-set_gate.ensures.sure c.set_gate.ensures.crash
     _ _ _ c.in_ok-body.ensures.end c.in_ok-put_in_place.ensures.records c.put_in_place.ensures.log c.put_in_place.ensures.crash
 
 pub returns-clause-any_moment : goal.returns-clause-any_moment
 returns-clause-any_moment g c loose s =
-    let P : Contents → Type 0 = AllOrNothing (bounds_of c.args.self.now) loose (g.F.FilePair.seen c.args.files.now) (patches_of c.args.batch.now) in
+    let P : Contents → Type 0 = AllOrNothing (bounds_of c.args.self.now) loose (g.F.FilePair.model.seen c.args.files.now) (patches_of c.args.batch.now) in
     let behind : c.args.self.now.end < c.args.self.now.end + 1 = omega arith in
-    let staged = settled_behind c.args.self.now loose _ _ s _ _ behind _ _ c.write_synced.ensures.torn c.write_synced.ensures.crash in
+    let staged = consistent_behind c.args.self.now loose _ _ s _ _ behind _ _ c.write_synced.ensures.torn c.write_synced.ensures.crash in
     let first = patches_first c.args.batch.now (sym c.is_empty.ensures ∙ c.if-is_empty.false) in
     let whole = tail_written _ first.0 c.deref.result.now _ _ _ first.1 (c.deref.ensures.value ∙ c.in_ok-body.ensures.body) c.in_ok-write_synced.ensures.written in
     let room : c.args.self.now.end + length (entries (patches_of c.args.batch.now)) < c.args.self.now.bounds.log_end = omega (arith, c.in_ok-body.ensures.end, c.in_ok-body.ensures.within) in
-    let at_first = leads_to g.F.FilePair.moment g.F.FilePair.left_since c.args.files.now c.write_synced.new.files _ P c.write_synced.ensures.moments
+    let at_first = leads_to g.F.FilePair.model c.args.files.now c.write_synced.new.files _ P c.write_synced.ensures.moments
     (λ f torn. nothing_yet _ loose _ _ f (keeps_behind c.args.self.now loose _ _ s _ _ behind f torn)) in
-    let at_gate = then_leaves g.F.FilePair.moment g.F.FilePair.left_since c.args.files.now c.write_synced.new.files c.set_gate.new.files P _ at_first c.set_gate.ensures.moments
+    let at_gate = then_leaves g.F.FilePair.model c.args.files.now c.write_synced.new.files c.set_gate.new.files P _ at_first c.set_gate.ensures.moments
     (λ f torn. alike_behind c.args.self.now loose _ _ s _ _ behind _ _ f c.write_synced.ensures.torn
     (gate_torn c.args.self.now loose _ _ staged c.in_ok-write_synced.ensures.sure (patches_of c.args.batch.now) first.0 first.1 whole room c.requires f torn)) in
-    then_leaves g.F.FilePair.moment g.F.FilePair.left_since c.args.files.now c.set_gate.new.files c.put_in_place.new.files P _ at_gate c.put_in_place.ensures.moments
+    then_leaves g.F.FilePair.model c.args.files.now c.set_gate.new.files c.put_in_place.new.files P _ at_gate c.put_in_place.ensures.moments
     (λ f smeared. alike_behind c.args.self.now loose _ _ s _ _ behind _ _ f c.write_synced.ensures.torn
     (places_torn c.args.self.now loose _ _ staged c.in_ok-write_synced.ensures.sure (patches_of c.args.batch.now) first.0 first.1 whole room c.requires
     _ _ c.in_ok-set_gate.ensures.written c.in_ok-set_gate.ensures.sure c.set_gate.ensures.crash f smeared))
@@ -132,7 +132,7 @@ pub returns-then-is_empty-clause-no_room : goal.returns-then-is_empty-clause-no_
 returns-then-is_empty-clause-no_room g c is = no_error tt NoRoom _ is
 
 pub returns-then-is_empty-clause-after : goal.returns-then-is_empty-clause-after
-returns-then-is_empty-clause-after g c = after_none g.F.FilePair.failures g.F.FilePair.shortages g.F.FilePair.is_honest c.args.files.now
+returns-then-is_empty-clause-after g c = after_none g.F.FilePair.model c.args.files.now
 
 pub returns-then-is_empty-clause-failed : goal.returns-then-is_empty-clause-failed
 returns-then-is_empty-clause-failed g c is = no_error tt Failed _ is
@@ -159,7 +159,7 @@ pub returns-in_err-body-clause-no_room : goal.returns-in_err-body-clause-no_room
 returns-in_err-body-clause-no_room g c is = spelled_not_room c.from_residual.result _ (if_err_passed c.from_residual.result c.in_err-body.field-0.0 _ c.from_residual.ensures.1 c.in_err-body.ensures.errors) is
 
 pub returns-in_err-body-clause-after : goal.returns-in_err-body-clause-after
-returns-in_err-body-clause-after g c = after_none g.F.FilePair.failures g.F.FilePair.shortages g.F.FilePair.is_honest c.args.files.now
+returns-in_err-body-clause-after g c = after_none g.F.FilePair.model c.args.files.now
 
 pub returns-in_err-body-clause-failed : goal.returns-in_err-body-clause-failed
 returns-in_err-body-clause-failed g c is = spelled_not_failed c.from_residual.result _ (if_err_passed c.from_residual.result c.in_err-body.field-0.0 _ c.from_residual.ensures.1 c.in_err-body.ensures.errors) is
@@ -216,10 +216,10 @@ pub returns-in_err-set_gate-clause-no_room : goal.returns-in_err-set_gate-clause
 returns-in_err-set_gate-clause-no_room g c is = passed_not_room c.in_err-set_gate.field-0.0 _ c.in_err-set_gate.ensures.failed.0 c.from_residual-in_err-set_gate.result c.from_residual-in_err-set_gate.ensures.1 is
 
 pub returns-in_err-set_gate-clause-after : goal.returns-in_err-set_gate-clause-after
-returns-in_err-set_gate-clause-after g c = after_then g.F.FilePair.failures g.F.FilePair.shortages g.F.FilePair.is_honest c.args.files.now c.write_synced.new.files c.set_gate.new.files c.write_synced.ensures.after c.set_gate.ensures.after
+returns-in_err-set_gate-clause-after g c = after_then g.F.FilePair.model c.args.files.now c.write_synced.new.files c.set_gate.new.files c.write_synced.ensures.after c.set_gate.ensures.after
 
 pub returns-in_err-set_gate-clause-failed : goal.returns-in_err-set_gate-clause-failed
-returns-in_err-set_gate-clause-failed g c is = failed_last g.F.FilePair.failures g.F.FilePair.shortages g.F.FilePair.is_honest c.args.files.now c.write_synced.new.files c.set_gate.new.files c.write_synced.ensures.after c.in_err-set_gate.ensures.failed.1
+returns-in_err-set_gate-clause-failed g c is = failed_last g.F.FilePair.model c.args.files.now c.write_synced.new.files c.set_gate.new.files c.write_synced.ensures.after c.in_err-set_gate.ensures.failed.1
 
 pub returns-in_err-set_gate-clause-damaged : goal.returns-in_err-set_gate-clause-damaged
 returns-in_err-set_gate-clause-damaged g c is = passed_not_damaged c.in_err-set_gate.field-0.0 ⊥ c.in_err-set_gate.ensures.failed.0 c.from_residual-in_err-set_gate.result c.from_residual-in_err-set_gate.ensures.1 is
@@ -246,17 +246,17 @@ pub returns-in_err-put_in_place-clause-no_room : goal.returns-in_err-put_in_plac
 returns-in_err-put_in_place-clause-no_room g c is = passed_not_room c.in_err-put_in_place.field-0.0 _ c.in_err-put_in_place.ensures.failed.0 c.from_residual-in_err-put_in_place.result c.from_residual-in_err-put_in_place.ensures.1 is
 
 pub returns-in_err-put_in_place-clause-after : goal.returns-in_err-put_in_place-clause-after
-returns-in_err-put_in_place-clause-after g c = after_then g.F.FilePair.failures g.F.FilePair.shortages g.F.FilePair.is_honest c.args.files.now c.set_gate.new.files c.put_in_place.new.files (after_then g.F.FilePair.failures g.F.FilePair.shortages g.F.FilePair.is_honest c.args.files.now c.write_synced.new.files c.set_gate.new.files c.write_synced.ensures.after c.set_gate.ensures.after) c.put_in_place.ensures.after
+returns-in_err-put_in_place-clause-after g c = after_then g.F.FilePair.model c.args.files.now c.set_gate.new.files c.put_in_place.new.files (after_then g.F.FilePair.model c.args.files.now c.write_synced.new.files c.set_gate.new.files c.write_synced.ensures.after c.set_gate.ensures.after) c.put_in_place.ensures.after
 
 pub returns-in_err-put_in_place-clause-failed : goal.returns-in_err-put_in_place-clause-failed
-returns-in_err-put_in_place-clause-failed g c is = failed_last g.F.FilePair.failures g.F.FilePair.shortages g.F.FilePair.is_honest c.args.files.now c.set_gate.new.files c.put_in_place.new.files (after_then g.F.FilePair.failures g.F.FilePair.shortages g.F.FilePair.is_honest c.args.files.now c.write_synced.new.files c.set_gate.new.files c.write_synced.ensures.after c.set_gate.ensures.after) c.in_err-put_in_place.ensures.failed.1
+returns-in_err-put_in_place-clause-failed g c is = failed_last g.F.FilePair.model c.args.files.now c.set_gate.new.files c.put_in_place.new.files (after_then g.F.FilePair.model c.args.files.now c.write_synced.new.files c.set_gate.new.files c.write_synced.ensures.after c.set_gate.ensures.after) c.in_err-put_in_place.ensures.failed.1
 
 pub returns-in_err-put_in_place-clause-damaged : goal.returns-in_err-put_in_place-clause-damaged
 returns-in_err-put_in_place-clause-damaged g c is = passed_not_damaged c.in_err-put_in_place.field-0.0 ⊥ c.in_err-put_in_place.ensures.failed.0 c.from_residual-in_err-put_in_place.result c.from_residual-in_err-put_in_place.ensures.1 is
 
 pub returns-clause-records : goal.returns-clause-records
 returns-clause-records g c i =
-    let same = same_content (g.F.FilePair.seen c.set_gate.new.files Records) (g.F.FilePair.seen c.args.files.now Records) (λ k. c.set_gate.ensures.torn.other k ∙ c.write_synced.ensures.torn.other k) in
+    let same = same_content (g.F.FilePair.model.seen c.set_gate.new.files Records) (g.F.FilePair.model.seen c.args.files.now Records) (λ k. c.set_gate.ensures.torn.other k ∙ c.write_synced.ensures.torn.other k) in
     c.in_ok-put_in_place.ensures.records i ∙ ap (λ (x : Content). put_all (patches_of c.args.batch.now) x i) same
 
 pub returns-clause-refused : goal.returns-clause-refused
@@ -275,7 +275,7 @@ pub returns-clause-no_room : goal.returns-clause-no_room
 returns-clause-no_room g c is = no_error tt NoRoom _ is
 
 pub returns-clause-after : goal.returns-clause-after
-returns-clause-after g c = after_then g.F.FilePair.failures g.F.FilePair.shortages g.F.FilePair.is_honest c.args.files.now c.set_gate.new.files c.put_in_place.new.files (after_then g.F.FilePair.failures g.F.FilePair.shortages g.F.FilePair.is_honest c.args.files.now c.write_synced.new.files c.set_gate.new.files c.write_synced.ensures.after c.set_gate.ensures.after) c.put_in_place.ensures.after
+returns-clause-after g c = after_then g.F.FilePair.model c.args.files.now c.set_gate.new.files c.put_in_place.new.files (after_then g.F.FilePair.model c.args.files.now c.write_synced.new.files c.set_gate.new.files c.write_synced.ensures.after c.set_gate.ensures.after) c.put_in_place.ensures.after
 
 pub returns-clause-failed : goal.returns-clause-failed
 returns-clause-failed g c is = no_error tt Failed _ is

@@ -3,18 +3,18 @@ use Rattle.oram_redo.specs.Log.{Keeps, Patch}
 use Rattle.oram_redo.specs.Redo.{bounds_of}
 use Rattle.std.proofs.Common.{◌∷◌, inl}
 use Rattle.oram_redo.proofs.Moments.{one_call}
-use Rattle.oram_redo.proofs.Settled.{settled_loose, keeps_loose, keeps_before}
+use Rattle.oram_redo.proofs.Consistent.{consistent_loose, keeps_loose, keeps_before}
 use Rattle.oram_redo.proofs.redo.Redo.write_loose.Goals as goal
 
 pub returns-clause-loose : goal.returns-clause-loose
 returns-clause-loose g c loose s =
-    settled_loose c.args.self.now loose _ _ s (c.args.at, c.args.bytes.now) _ _ c.write_at.ensures.torn c.write_at.ensures.crash
+    consistent_loose c.args.self.now loose _ _ s (c.args.at, c.args.bytes.now) _ _ c.write_at.ensures.torn c.write_at.ensures.crash
 
 pub returns-clause-any_moment : goal.returns-clause-any_moment
 returns-clause-any_moment g c loose s =
     let patch : Patch = (c.args.at, c.args.bytes.now) in
-    one_call g.F.FilePair.moment g.F.FilePair.left_since c.args.files.now c.write_at.new.self
-    (Keeps (bounds_of c.args.self.now) (patch ∷ loose) (g.F.FilePair.seen c.args.files.now)) _
+    one_call g.F.FilePair.model c.args.files.now c.write_at.new.self
+    (Keeps (bounds_of c.args.self.now) (patch ∷ loose) (g.F.FilePair.model.seen c.args.files.now)) _
     (λ f left. keeps_before c.args.self.now loose _ _ s patch f (g.met.F.FilePair.only_now c.args.files.now f left))
     c.write_at.ensures.time (keeps_loose c.args.self.now loose _ _ s patch _ c.write_at.ensures.crash)
 

@@ -9,9 +9,9 @@ pub returns-else-self-clause-passes : goal.returns-else-self-clause-passes
 returns-else-self-clause-passes g c loose s = record {
   steady = λ running. record {
     bounded = s.bounded;
-    settled = s.sure (ap (λ (v : FileValue g.row.F.Denot). v.is_loose) (sym c.self.view_is) ∙ c.if-self.false);
+    consistent = s.sure (ap (λ (v : FileValue g.row.F.Denot). v.is_loose) (sym c.self.view_is) ∙ c.if-self.false);
     sure = s.sure;
   };
-  moments = not_begun g.F.FilePair.seen g.F.FilePair.may_leave g.F.FilePair.moment g.F.FilePair.left_since c.args.self.now loose
-      (λ r. AgreesBut loose r (g.F.FilePair.seen c.args.self.now.files Records)) s (g.met.F.FilePair.only_now c.args.self.now.files) (λ r agrees. agrees);
+  moments = not_begun g.F.FilePair.model c.args.self.now loose
+      (λ r. AgreesBut loose r (g.F.FilePair.model.seen c.args.self.now.files Records)) s (g.met.F.FilePair.only_now c.args.self.now.files) (λ r agrees. agrees);
 }

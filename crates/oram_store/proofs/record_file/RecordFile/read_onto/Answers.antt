@@ -5,9 +5,9 @@ use Rattle.oram_store.proofs.record_file.RecordFile.read_onto.Goals as goal
 
 pub returns-then-self-clause-calls : goal.returns-then-self-clause-calls
 returns-then-self-clause-calls g c =
-    calls_closed g.F.FilePair.failures g.F.FilePair.shortages g.F.FilePair.is_honest c.args.self.now (ap (λ (v : FileValue g.row.F.Denot). v.has_stopped) (sym c.self.view_is) ∙ c.if-self.true)
+    calls_closed g.F.FilePair.model c.args.self.now (ap (λ (v : FileValue g.row.F.Denot). v.has_stopped) (sym c.self.view_is) ∙ c.if-self.true)
 
 pub returns-in-Ok-clause-calls : goal.returns-in-Ok-clause-calls
 returns-in-Ok-clause-calls g c =
     let new : FileValue g.row.F.Denot = record { files = c.read_onto.new.files; redo = c.self.inside.redo; is_loose = c.self.inside.is_loose; has_stopped = c.self.inside.has_stopped } in
-    subst (λ (v : FileValue g.row.F.Denot). Calls g.F.FilePair.failures g.F.FilePair.shortages g.F.FilePair.is_honest (Ok tt) v new) c.self.view_is (calls_made g.F.FilePair.failures g.F.FilePair.shortages g.F.FilePair.is_honest (Ok tt) _ new c.if-self.false c.read_onto.ensures.after refl tt)
+    subst (λ (v : FileValue g.row.F.Denot). Calls g.F.FilePair.model (Ok tt) v new) c.self.view_is (calls_made g.F.FilePair.model (Ok tt) _ new c.if-self.false c.read_onto.ensures.after refl tt)

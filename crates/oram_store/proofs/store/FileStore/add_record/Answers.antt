@@ -19,63 +19,54 @@ use Rattle.oram_store.proofs.store.FileStore.add_record.Goals as goal
 
 pub returns-in_err-write_loose-clause-serves : goal.returns-in_err-write_loose-clause-serves
 returns-in_err-write_loose-clause-serves g c number there s fresh unset =
-    let seen = g.F.FilePair.seen in
-    let leave = g.F.FilePair.may_leave in
-    let moment = g.F.FilePair.moment in
-    let since = g.F.FilePair.left_since in
+    let model = g.F.FilePair.model in
     let tree : Tree = c.args.tree.now in
     let node : ℕ = c.args.node in
     let bytes : List ℕ = c.args.bytes.now in
     let place : c.cell_at-cell.result + 1 ≡ suc (cell_at tree node) = omega (arith, c.cell_at-cell.ensures.place) in
     let new : StoreValue g.row.F.Denot = record { file = c.write_loose.new.self; trees = c.self.inside.trees.items; pending = c.self.inside.pending.items; failure = c.self.inside.failure } in
-    let passes = subst (λ (at : ℕ). (loose : List Patch) → IsSteady seen leave c.self.inside.file loose
-    → Passes seen leave moment since ((at, bytes) ∷ loose) (λ r. AgreesBut ((at, bytes) ∷ loose) r (seen c.self.inside.file.files Records)) c.self.inside.file c.write_loose.new.self) place c.write_loose.ensures.passes in
-    let elsewhere = subst (λ (at : ℕ). AgreesBut ((at, bytes) ∷ []) (seen c.write_loose.new.self.files Records) (seen c.self.inside.file.files Records)) place c.write_loose.ensures.elsewhere in
-    let served = (subst (λ (old : StoreValue g.row.F.Denot). IsSound seen leave old → tree_at old.trees number ≡ Some tree → (Contains old.pending (cell_at tree node) → ⊥)
-    → seen old.file.files Records (cell_at tree node) ≢ 1 → Serves seen leave moment since (request.Put number node bytes) (answer.Refused 8) old new) c.self.view_is
-    (λ was here none free. serves_not_added seen leave moment since number node bytes tree _ new was (record { is_there = here; within = c.requires.node }) c.requires.whole none free passes elsewhere refl refl))
+    let passes = subst (λ (at : ℕ). (loose : List Patch) → IsSteady model c.self.inside.file loose
+    → Passes model ((at, bytes) ∷ loose) (λ r. AgreesBut ((at, bytes) ∷ loose) r (model.seen c.self.inside.file.files Records)) c.self.inside.file c.write_loose.new.self) place c.write_loose.ensures.passes in
+    let elsewhere = subst (λ (at : ℕ). AgreesBut ((at, bytes) ∷ []) (model.seen c.write_loose.new.self.files Records) (model.seen c.self.inside.file.files Records)) place c.write_loose.ensures.elsewhere in
+    let served = (subst (λ (old : StoreValue g.row.F.Denot). IsSound model old → tree_at old.trees number ≡ Some tree → (Contains old.pending (cell_at tree node) → ⊥)
+    → model.seen old.file.files Records (cell_at tree node) ≢ 1 → Serves model (request.Put number node bytes) (answer.Refused 8) old new) c.self.view_is
+    (λ was here none free. serves_not_added model number node bytes tree _ new was (record { is_there = here; within = c.requires.node }) c.requires.whole none free passes elsewhere refl refl))
     s there fresh unset in
-    subst (λ (a : HostAnswer). Serves seen leave moment since (request.Put number node bytes) a c.args.self.now new) (answer_of_err c.from_residual.result c.from_residual.ensures.0) served
+    subst (λ (a : HostAnswer). Serves model (request.Put number node bytes) a c.args.self.now new) (answer_of_err c.from_residual.result c.from_residual.ensures.0) served
 
 pub returns-in_err-push-clause-serves : goal.returns-in_err-push-clause-serves
 returns-in_err-push-clause-serves g c number there s fresh unset =
-    let seen = g.F.FilePair.seen in
-    let leave = g.F.FilePair.may_leave in
-    let moment = g.F.FilePair.moment in
-    let since = g.F.FilePair.left_since in
+    let model = g.F.FilePair.model in
     let tree : Tree = c.args.tree.now in
     let node : ℕ = c.args.node in
     let bytes : List ℕ = c.args.bytes.now in
     let place : c.cell_at-cell.result + 1 ≡ suc (cell_at tree node) = omega (arith, c.cell_at-cell.ensures.place) in
     let new : StoreValue g.row.F.Denot = record { file = c.write_loose.new.self; trees = c.self.inside.trees.items; pending = c.push.new.self.items; failure = c.self.inside.failure } in
-    let passes = subst (λ (at : ℕ). (loose : List Patch) → IsSteady seen leave c.self.inside.file loose
-    → Passes seen leave moment since ((at, bytes) ∷ loose) (λ r. AgreesBut ((at, bytes) ∷ loose) r (seen c.self.inside.file.files Records)) c.self.inside.file c.write_loose.new.self) place c.write_loose.ensures.passes in
-    let elsewhere = subst (λ (at : ℕ). AgreesBut ((at, bytes) ∷ []) (seen c.write_loose.new.self.files Records) (seen c.self.inside.file.files Records)) place c.write_loose.ensures.elsewhere in
-    let served = (subst (λ (old : StoreValue g.row.F.Denot). IsSound seen leave old → tree_at old.trees number ≡ Some tree → (Contains old.pending (cell_at tree node) → ⊥)
-    → seen old.file.files Records (cell_at tree node) ≢ 1 → Serves seen leave moment since (request.Put number node bytes) (answer.Refused 8) old new) c.self.view_is
-    (λ was here none free. serves_not_added seen leave moment since number node bytes tree _ new was (record { is_there = here; within = c.requires.node }) c.requires.whole none free passes elsewhere refl c.in_err-push.ensures.items))
+    let passes = subst (λ (at : ℕ). (loose : List Patch) → IsSteady model c.self.inside.file loose
+    → Passes model ((at, bytes) ∷ loose) (λ r. AgreesBut ((at, bytes) ∷ loose) r (model.seen c.self.inside.file.files Records)) c.self.inside.file c.write_loose.new.self) place c.write_loose.ensures.passes in
+    let elsewhere = subst (λ (at : ℕ). AgreesBut ((at, bytes) ∷ []) (model.seen c.write_loose.new.self.files Records) (model.seen c.self.inside.file.files Records)) place c.write_loose.ensures.elsewhere in
+    let served = (subst (λ (old : StoreValue g.row.F.Denot). IsSound model old → tree_at old.trees number ≡ Some tree → (Contains old.pending (cell_at tree node) → ⊥)
+    → model.seen old.file.files Records (cell_at tree node) ≢ 1 → Serves model (request.Put number node bytes) (answer.Refused 8) old new) c.self.view_is
+    (λ was here none free. serves_not_added model number node bytes tree _ new was (record { is_there = here; within = c.requires.node }) c.requires.whole none free passes elsewhere refl c.in_err-push.ensures.items))
     s there fresh unset in
-    subst (λ (a : HostAnswer). Serves seen leave moment since (request.Put number node bytes) a c.args.self.now new) (answer_of_err c.from_residual-in_err-push.result c.from_residual-in_err-push.ensures.0) served
+    subst (λ (a : HostAnswer). Serves model (request.Put number node bytes) a c.args.self.now new) (answer_of_err c.from_residual-in_err-push.result c.from_residual-in_err-push.ensures.0) served
 
 pub returns-clause-serves : goal.returns-clause-serves
 returns-clause-serves g c number there s fresh unset =
-    let seen = g.F.FilePair.seen in
-    let leave = g.F.FilePair.may_leave in
-    let moment = g.F.FilePair.moment in
-    let since = g.F.FilePair.left_since in
+    let model = g.F.FilePair.model in
     let tree : Tree = c.args.tree.now in
     let node : ℕ = c.args.node in
     let bytes : List ℕ = c.args.bytes.now in
     let place : c.cell_at-cell.result + 1 ≡ suc (cell_at tree node) = omega (arith, c.cell_at-cell.ensures.place) in
     let new : StoreValue g.row.F.Denot = record { file = c.write_loose.new.self; trees = c.self.inside.trees.items; pending = c.push.new.self.items; failure = c.self.inside.failure } in
-    let passes = subst (λ (at : ℕ). (loose : List Patch) → IsSteady seen leave c.self.inside.file loose
-    → Passes seen leave moment since ((at, bytes) ∷ loose) (λ r. AgreesBut ((at, bytes) ∷ loose) r (seen c.self.inside.file.files Records)) c.self.inside.file c.write_loose.new.self) place c.write_loose.ensures.passes in
-    let elsewhere = subst (λ (at : ℕ). AgreesBut ((at, bytes) ∷ []) (seen c.write_loose.new.self.files Records) (seen c.self.inside.file.files Records)) place c.write_loose.ensures.elsewhere in
-    let written = subst (λ (at : ℕ). Agrees (seen c.write_loose.new.self.files Records) (put bytes at (seen c.self.inside.file.files Records))) place c.in_ok-write_loose.ensures.written in
+    let passes = subst (λ (at : ℕ). (loose : List Patch) → IsSteady model c.self.inside.file loose
+    → Passes model ((at, bytes) ∷ loose) (λ r. AgreesBut ((at, bytes) ∷ loose) r (model.seen c.self.inside.file.files Records)) c.self.inside.file c.write_loose.new.self) place c.write_loose.ensures.passes in
+    let elsewhere = subst (λ (at : ℕ). AgreesBut ((at, bytes) ∷ []) (model.seen c.write_loose.new.self.files Records) (model.seen c.self.inside.file.files Records)) place c.write_loose.ensures.elsewhere in
+    let written = subst (λ (at : ℕ). Agrees (model.seen c.write_loose.new.self.files Records) (put bytes at (model.seen c.self.inside.file.files Records))) place c.in_ok-write_loose.ensures.written in
     let pushed : c.push.new.self.items ≡ c.self.inside.pending.items ++ cell_at tree node ∷ [] = c.in_ok-push.ensures.items ∙ ap (λ (cell : ℕ). c.self.inside.pending.items ++ cell ∷ []) c.cell_at-cell.ensures.place in
-    let served = (subst (λ (old : StoreValue g.row.F.Denot). IsSound seen leave old → tree_at old.trees number ≡ Some tree → (Contains old.pending (cell_at tree node) → ⊥)
-    → seen old.file.files Records (cell_at tree node) ≢ 1 → Serves seen leave moment since (request.Put number node bytes) answer.Done old new) c.self.view_is
-    (λ was here none free. serves_added seen leave moment since number node bytes tree _ new was (record { is_there = here; within = c.requires.node }) c.requires.whole none free passes elsewhere refl written pushed))
+    let served = (subst (λ (old : StoreValue g.row.F.Denot). IsSound model old → tree_at old.trees number ≡ Some tree → (Contains old.pending (cell_at tree node) → ⊥)
+    → model.seen old.file.files Records (cell_at tree node) ≢ 1 → Serves model (request.Put number node bytes) answer.Done old new) c.self.view_is
+    (λ was here none free. serves_added model number node bytes tree _ new was (record { is_there = here; within = c.requires.node }) c.requires.whole none free passes elsewhere refl written pushed))
     s there fresh unset in
     served
 
@@ -84,8 +75,8 @@ returns-in_err-write_loose-clause-trees g c = ap (λ (v : StoreValue g.row.F.Den
 
 pub returns-in_err-write_loose-clause-calls : goal.returns-in_err-write_loose-clause-calls
 returns-in_err-write_loose-clause-calls g c =
-    subst (λ (old : StoreValue g.row.F.Denot). Calls g.F.FilePair.failures g.F.FilePair.shortages g.F.FilePair.is_honest c.from_residual.result old.file c.write_loose.new.self) c.self.view_is
-    (calls_passed g.F.FilePair.failures g.F.FilePair.shortages g.F.FilePair.is_honest c.from_residual.result c.in_err-write_loose.field-0.0 c.self.inside.file c.write_loose.new.self c.from_residual.ensures.1 c.in_err-write_loose.ensures.calls)
+    subst (λ (old : StoreValue g.row.F.Denot). Calls g.F.FilePair.model c.from_residual.result old.file c.write_loose.new.self) c.self.view_is
+    (calls_passed g.F.FilePair.model c.from_residual.result c.in_err-write_loose.field-0.0 c.self.inside.file c.write_loose.new.self c.from_residual.ensures.1 c.in_err-write_loose.ensures.calls)
 
 pub returns-in_err-write_loose-clause-running : goal.returns-in_err-write_loose-clause-running
 returns-in_err-write_loose-clause-running g c = on_ok_none c.from_residual.result _ c.from_residual.ensures.0
@@ -95,8 +86,8 @@ returns-in_err-push-clause-trees g c = ap (λ (v : StoreValue g.row.F.Denot). v.
 
 pub returns-in_err-push-clause-calls : goal.returns-in_err-push-clause-calls
 returns-in_err-push-clause-calls g c =
-    subst (λ (old : StoreValue g.row.F.Denot). Calls g.F.FilePair.failures g.F.FilePair.shortages g.F.FilePair.is_honest c.from_residual-in_err-push.result old.file c.write_loose.new.self) c.self.view_is
-    (calls_memory g.F.FilePair.failures g.F.FilePair.shortages g.F.FilePair.is_honest c.from_residual-in_err-push.result c.self.inside.file c.write_loose.new.self c.from_residual-in_err-push.ensures.1 c.write_loose.ensures.calls.runs)
+    subst (λ (old : StoreValue g.row.F.Denot). Calls g.F.FilePair.model c.from_residual-in_err-push.result old.file c.write_loose.new.self) c.self.view_is
+    (calls_memory g.F.FilePair.model c.from_residual-in_err-push.result c.self.inside.file c.write_loose.new.self c.from_residual-in_err-push.ensures.1 c.write_loose.ensures.calls.runs)
 
 pub returns-in_err-push-clause-running : goal.returns-in_err-push-clause-running
 returns-in_err-push-clause-running g c = on_ok_none c.from_residual-in_err-push.result _ c.from_residual-in_err-push.ensures.0
@@ -106,8 +97,8 @@ returns-clause-trees g c = ap (λ (v : StoreValue g.row.F.Denot). v.trees) c.sel
 
 pub returns-clause-calls : goal.returns-clause-calls
 returns-clause-calls g c =
-    subst (λ (old : StoreValue g.row.F.Denot). Calls g.F.FilePair.failures g.F.FilePair.shortages g.F.FilePair.is_honest (Ok tt) old.file c.write_loose.new.self) c.self.view_is
-    (calls_ok g.F.FilePair.failures g.F.FilePair.shortages g.F.FilePair.is_honest c.in_ok-write_loose.field-0 tt c.self.inside.file c.write_loose.new.self c.in_ok-write_loose.ensures.calls)
+    subst (λ (old : StoreValue g.row.F.Denot). Calls g.F.FilePair.model (Ok tt) old.file c.write_loose.new.self) c.self.view_is
+    (calls_ok g.F.FilePair.model c.in_ok-write_loose.field-0 tt c.self.inside.file c.write_loose.new.self c.in_ok-write_loose.ensures.calls)
 
 pub returns-clause-running : goal.returns-clause-running
 returns-clause-running g c = c.in_ok-write_loose.ensures.running

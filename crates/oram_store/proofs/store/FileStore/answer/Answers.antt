@@ -7,7 +7,7 @@ use Rattle.oram_host.specs.declared.refusals.HostRefusal.TheVariants as refusal
 use Rattle.oram_store.specs.Crashes.{Serves}
 use Rattle.oram_store.specs.AnswerBytes.{StandsBehind, StandsFor}
 use Rattle.oram_store.specs.declared.answers.Served.{Served}
-use Rattle.oram_store.proofs.Told.{no_room_is, payload_is, records_behind, told_done, told_records}
+use Rattle.oram_store.proofs.Responses.{no_room_is, payload_is, records_behind, responds_done, responds_records}
 use Rattle.oram_store.proofs.store.FileStore.answer.Goals.{in-Ok-Done+in_ok-extend_from_slice-in-Ok-Done, in-Err+in_ok-extend_from_slice-in-Err}
 use Rattle.oram_store.proofs.store.FileStore.answer.Goals as goal
 
@@ -30,14 +30,14 @@ returns-in-Ok-Records-clause-ok g c =
       Payload behind.0,
       behind.2.some,
       behind.1,
-      λ message numbers is. let t = k.ensures.told message numbers is in (
-        told_records _ _ (128 ∷ []) message _ behind.0 (subst (StandsBehind (128 ∷ []) message) k.field-0-is t.0) t.1 t.2,
+      λ message numbers is. let t = k.ensures.responds message numbers is in (
+        responds_records _ _ (128 ∷ []) message _ behind.0 (subst (StandsBehind (128 ∷ []) message) k.field-0-is t.0) t.1 t.2,
         λ at_once granted. t.3 at_once,
         λ granted. k.ensures.running,
         λ full. cc,
         λ honest s. let r = k.ensures.serves message numbers is honest s in
             let same : r.0 ≡ Payload behind.0 = payload_is 128 k.answer behind.0 r.0 (subst (λ (x : Served). StandsFor (128 ∷ []) x r.0) k.field-0-is r.1) behind.1 in
-            subst (λ (a : HostAnswer). Serves g.F.FilePair.seen g.F.FilePair.may_leave g.F.FilePair.moment g.F.FilePair.left_since message a c.args.self.now c.serve_body.new.self) same r.2,
+            subst (λ (a : HostAnswer). Serves g.F.FilePair.model message a c.args.self.now c.serve_body.new.self) same r.2,
       ),
     )
 
@@ -48,14 +48,14 @@ returns-clause-ok g c =
         Done,
         tt,
         search rules,
-        λ message numbers is. let t = w.in-Ok-Done.ensures.told message numbers is in (
-          told_done _ _ (128 ∷ []) message (subst (StandsBehind (128 ∷ []) message) w.in-Ok-Done.field-0-is t.0) t.1 t.2,
+        λ message numbers is. let t = w.in-Ok-Done.ensures.responds message numbers is in (
+          responds_done _ _ (128 ∷ []) message (subst (StandsBehind (128 ∷ []) message) w.in-Ok-Done.field-0-is t.0) t.1 t.2,
           λ at_once granted. t.3 at_once,
           λ granted. w.in-Ok-Done.ensures.running,
           λ full. cc,
           λ honest s. let r = w.in-Ok-Done.ensures.serves message numbers is honest s in
               let same : r.0 ≡ Done = subst (λ (x : Served). StandsFor (128 ∷ []) x r.0) w.in-Ok-Done.field-0-is r.1 in
-              subst (λ (a : HostAnswer). Serves g.F.FilePair.seen g.F.FilePair.may_leave g.F.FilePair.moment g.F.FilePair.left_since message a c.args.self.now c.serve_body.new.self) same r.2,
+              subst (λ (a : HostAnswer). Serves g.F.FilePair.model message a c.args.self.now c.serve_body.new.self) same r.2,
         ),
       )
       | in-Err+in_ok-extend_from_slice-in-Err w ↦ (
@@ -63,7 +63,7 @@ returns-clause-ok g c =
         code_is w.in-Err.why,
         search rules,
         λ message numbers is.
-            let t = w.in-Err.ensures.told message numbers is in (
+            let t = w.in-Err.ensures.responds message numbers is in (
               (w.in-Err.why, refl, t.0, t.1),
               λ at_once granted. absurd granted,
               λ granted. absurd granted,

@@ -1,6 +1,6 @@
 use Rattle.std.proofs.Common.{◌≡◌, Err, ap, sym, ◌∙◌}
 use Rattle.oram_host.specs.declared.refusals.HostRefusal.{HostRefusal}
-use Rattle.oram_store.proofs.Told.{no_room_is}
+use Rattle.oram_store.proofs.Responses.{no_room_is}
 use Rattle.oram_store.proofs.store.FileStore.handle.Goals as goal
 
 pub returns-in-Err-clause-failure : goal.returns-in-Err-clause-failure
@@ -30,10 +30,10 @@ pub returns-in-Ok-Records-clause-running : goal.returns-in-Ok-Records-clause-run
 returns-in-Ok-Records-clause-running g c granted = c.in-Ok-Records.ensures.running
 
 pub returns-in-Ok-Records-clause-committed : goal.returns-in-Ok-Records-clause-committed
-returns-in-Ok-Records-clause-committed g c message numbers is at_once granted = (c.in-Ok-Records.ensures.told message numbers is).3 at_once
+returns-in-Ok-Records-clause-committed g c message numbers is at_once granted = (c.in-Ok-Records.ensures.responds message numbers is).3 at_once
 
 pub returns-in-Ok-Done-clause-running : goal.returns-in-Ok-Done-clause-running
 returns-in-Ok-Done-clause-running g c granted = c.in-Ok-Done.ensures.running
 
 pub returns-in-Ok-Done-clause-committed : goal.returns-in-Ok-Done-clause-committed
-returns-in-Ok-Done-clause-committed g c message numbers is at_once granted = (c.in-Ok-Done.ensures.told message numbers is).3 at_once
+returns-in-Ok-Done-clause-committed g c message numbers is at_once granted = (c.in-Ok-Done.ensures.responds message numbers is).3 at_once

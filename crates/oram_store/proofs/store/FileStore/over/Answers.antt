@@ -11,15 +11,14 @@ use Rattle.oram_store.proofs.store.FileStore.over.Goals as goal
 
 pub returns-clause-found : goal.returns-clause-found
 returns-clause-found g c honest =
-    let seen = g.F.FilePair.seen in
-    let leave = g.F.FilePair.may_leave in
+    let model = g.F.FilePair.model in
     let new = c.recover_trees.new.files in
     let redo = c.in_ok-redo.redo in
     let opened = c.in_ok-redo.trees.items in
-    let is : c.new-2.result ≡ fresh seen leave g.F.FilePair.moment g.F.FilePair.left_since new redo opened =
+    let is : c.new-2.result ≡ fresh model new redo opened =
     c.new-2.ensures ∙ ap (λ (v : FileValue g.row.F.Denot). record { file = v; trees = opened; pending = []; failure = None }) c.new.ensures in
-    let was_honest : g.F.FilePair.is_honest new = subst (λ (s : StoreValue g.row.F.Denot). g.F.FilePair.is_honest s.file.files) is honest in
+    let was_honest : model.is_honest new = subst (λ (s : StoreValue g.row.F.Denot). model.is_honest s.file.files) is honest in
     subst
-    (λ (s : StoreValue g.row.F.Denot). (trees : Trees) (d : Content) → StandsFor bounds [] d (seen c.args.files) → IsBucketFile trees d
-    → (s.trees ≡ trees) × IsSound seen leave s × AreKept (records_in trees d) (records_of seen s)) (sym is)
-    (fresh_found seen leave g.F.FilePair.moment g.F.FilePair.left_since redo opened c.args.files new (c.in_ok-redo.ensures.opened was_honest) c.in_ok-redo.ensures.bounds)
+    (λ (s : StoreValue g.row.F.Denot). (trees : Trees) (d : Content) → StandsFor bounds [] d (model.seen c.args.files) → IsBucketFile trees d
+    → (s.trees ≡ trees) × IsSound model s × AreKept (records_in trees d) (records_of model s)) (sym is)
+    (fresh_found model redo opened c.args.files new (c.in_ok-redo.ensures.opened was_honest) c.in_ok-redo.ensures.bounds)

@@ -10,17 +10,17 @@ use Rattle.oram_store.proofs.store.FileStore.put.Goals as goal
 
 pub returns-in_default-clause-serves : goal.returns-in_default-clause-serves
 returns-in_default-clause-serves g c honest s =
-    serves_untouched g.F.FilePair.seen g.F.FilePair.may_leave g.F.FilePair.moment g.F.FilePair.left_since (request.Put c.args.number c.args.node c.args.bytes.now) 1 c.args.self.now (λ six. absurd (omega arith)) s
+    serves_untouched g.F.FilePair.model (request.Put c.args.number c.args.node c.args.bytes.now) 1 c.args.self.now (λ six. absurd (omega arith)) s
     (g.met.F.FilePair.only_now c.args.self.now.file.files)
 
 pub returns-then-node-nodes-clause-serves : goal.returns-then-node-nodes-clause-serves
 returns-then-node-nodes-clause-serves g c honest s =
-    serves_untouched g.F.FilePair.seen g.F.FilePair.may_leave g.F.FilePair.moment g.F.FilePair.left_since (request.Put c.args.number c.args.node c.args.bytes.now) 3 c.args.self.now (λ six. absurd (omega arith)) s
+    serves_untouched g.F.FilePair.model (request.Put c.args.number c.args.node c.args.bytes.now) 3 c.args.self.now (λ six. absurd (omega arith)) s
     (g.met.F.FilePair.only_now c.args.self.now.file.files)
 
 pub returns-then-bytes-tree-clause-serves : goal.returns-then-bytes-tree-clause-serves
 returns-then-bytes-tree-clause-serves g c honest s =
-    serves_untouched g.F.FilePair.seen g.F.FilePair.may_leave g.F.FilePair.moment g.F.FilePair.left_since (request.Put c.args.number c.args.node c.args.bytes.now) 4 c.args.self.now (λ six. absurd (omega arith)) s
+    serves_untouched g.F.FilePair.model (request.Put c.args.number c.args.node c.args.bytes.now) 4 c.args.self.now (λ six. absurd (omega arith)) s
     (g.met.F.FilePair.only_now c.args.self.now.file.files)
 
 pub returns-in-Ok-clause-serves : goal.returns-in-Ok-clause-serves
@@ -28,7 +28,7 @@ returns-in-Ok-clause-serves g c honest s = c.in-Ok.ensures.serves c.args.number 
 
 pub returns-in-Err-clause-serves : goal.returns-in-Err-clause-serves
 returns-in-Err-clause-serves g c honest s =
-    serves_refused g.F.FilePair.seen g.F.FilePair.may_leave g.F.FilePair.moment g.F.FilePair.left_since g.F.FilePair.is_honest (request.Put c.args.number c.args.node c.args.bytes.now) c.args.self.now c.put_record.new.self c.refuse.new.self c.refuse.result (Some c.in-Err.fault)
+    serves_refused g.F.FilePair.model (request.Put c.args.number c.args.node c.args.bytes.now) c.args.self.now c.put_record.new.self c.refuse.new.self c.refuse.result (Some c.in-Err.fault)
     c.refuse.ensures.why c.refuse.ensures.kept (λ was. c.in-Err.ensures.serves c.args.number (sym c.tree_of.ensures ∙ c.in-Some.is) was s) honest
 
 pub returns-in-Ok-clause-allowed : goal.returns-in-Ok-clause-allowed
@@ -61,8 +61,8 @@ returns-in-Err-clause-trees g c = ap (λ (v : StoreValue g.row.F.Denot). v.trees
 
 pub returns-in-Err-clause-runs : goal.returns-in-Err-clause-runs
 returns-in-Err-clause-runs g c =
-    subst (λ (v : StoreValue g.row.F.Denot). Runs g.F.FilePair.failures g.F.FilePair.shortages g.F.FilePair.is_honest c.args.self.now.file v.file) (sym c.refuse.ensures.kept) c.put_record.ensures.calls.runs
+    subst (λ (v : StoreValue g.row.F.Denot). Runs g.F.FilePair.model c.args.self.now.file v.file) (sym c.refuse.ensures.kept) c.put_record.ensures.calls.runs
 
 pub returns-in-Err-clause-failure : goal.returns-in-Err-clause-failure
 returns-in-Err-clause-failure g c full =
-    subst (λ (v : StoreValue g.row.F.Denot). IsSomeAnd v.failure (IsReason g.F.FilePair.failures g.F.FilePair.shortages c.args.self.now.file v.file)) (sym c.refuse.ensures.kept) c.in-Err.ensures.calls.reason
+    subst (λ (v : StoreValue g.row.F.Denot). IsSomeAnd v.failure (IsReason g.F.FilePair.model c.args.self.now.file v.file)) (sym c.refuse.ensures.kept) c.in-Err.ensures.calls.reason

@@ -17,40 +17,31 @@ use Rattle.oram_store.proofs.store.FileStore.put_in_cell.Goals as goal
 
 pub returns-in_err-has_record-clause-serves : goal.returns-in_err-has_record-clause-serves
 returns-in_err-has_record-clause-serves g c number there honest s fresh =
-    let seen = g.F.FilePair.seen in
-    let leave = g.F.FilePair.may_leave in
-    let moment = g.F.FilePair.moment in
-    let since = g.F.FilePair.left_since in
+    let model = g.F.FilePair.model in
     let mid : StoreValue g.row.F.Denot = record { file = c.has_record.new.file; trees = c.self.inside.trees.items; pending = c.self.inside.pending.items; failure = c.self.inside.failure } in
-    let served = (subst (λ (old : StoreValue g.row.F.Denot). IsSound seen leave old → Serves seen leave moment since (request.Put number c.args.node c.args.bytes.now) (answer.Refused 8) old mid) c.self.view_is
-    (λ was. serves_unread seen leave moment since (request.Put number c.args.node c.args.bytes.now) _ mid was refl refl c.has_record.ensures.reads)) s in
-    subst (λ (a : HostAnswer). Serves seen leave moment since (request.Put number c.args.node c.args.bytes.now) a c.args.self.now mid) (answer_of_err c.from_residual.result c.from_residual.ensures.0) served
+    let served = (subst (λ (old : StoreValue g.row.F.Denot). IsSound model old → Serves model (request.Put number c.args.node c.args.bytes.now) (answer.Refused 8) old mid) c.self.view_is
+    (λ was. serves_unread model (request.Put number c.args.node c.args.bytes.now) _ mid was refl refl c.has_record.ensures.reads)) s in
+    subst (λ (a : HostAnswer). Serves model (request.Put number c.args.node c.args.bytes.now) a c.args.self.now mid) (answer_of_err c.from_residual.result c.from_residual.ensures.0) served
 
 pub returns-then-branch-clause-serves : goal.returns-then-branch-clause-serves
 returns-then-branch-clause-serves g c number there honest s fresh =
-    let seen = g.F.FilePair.seen in
-    let leave = g.F.FilePair.may_leave in
-    let moment = g.F.FilePair.moment in
-    let since = g.F.FilePair.left_since in
+    let model = g.F.FilePair.model in
     let mid : StoreValue g.row.F.Denot = record { file = c.has_record.new.file; trees = c.self.inside.trees.items; pending = c.self.inside.pending.items; failure = c.self.inside.failure } in
-    (subst (λ (old : StoreValue g.row.F.Denot). IsSound seen leave old → tree_at old.trees number ≡ Some c.args.tree.now
-    → Serves seen leave moment since (request.Put number c.args.node c.args.bytes.now) (answer_by c.replace_record.result) old c.replace_record.new.self) c.self.view_is
-    (λ was here. serves_read seen leave moment since (request.Put number c.args.node c.args.bytes.now) _ mid was refl refl c.has_record.ensures.reads (answer_by c.replace_record.result) c.replace_record.new.self
+    (subst (λ (old : StoreValue g.row.F.Denot). IsSound model old → tree_at old.trees number ≡ Some c.args.tree.now
+    → Serves model (request.Put number c.args.node c.args.bytes.now) (answer_by c.replace_record.result) old c.replace_record.new.self) c.self.view_is
+    (λ was here. serves_read model (request.Put number c.args.node c.args.bytes.now) _ mid was refl refl c.has_record.ensures.reads (answer_by c.replace_record.result) c.replace_record.new.self
     (λ sound. c.replace_record.ensures.serves number here sound) c.replace_record.ensures.calls.runs.stays (g.met.F.FilePair.counts_now mid.file.files) (g.met.F.FilePair.whole mid.file.files))) s there
 
 pub returns-else-branch-clause-serves : goal.returns-else-branch-clause-serves
 returns-else-branch-clause-serves g c number there honest s fresh =
-    let seen = g.F.FilePair.seen in
-    let leave = g.F.FilePair.may_leave in
-    let moment = g.F.FilePair.moment in
-    let since = g.F.FilePair.left_since in
+    let model = g.F.FilePair.model in
     let mid : StoreValue g.row.F.Denot = record { file = c.has_record.new.file; trees = c.self.inside.trees.items; pending = c.self.inside.pending.items; failure = c.self.inside.failure } in
     let was_honest = c.add_record.ensures.calls.runs.after.honest honest in
-    let unset : seen mid.file.files Records (cell_at c.args.tree.now c.args.node) ≢ 1 =
+    let unset : model.seen mid.file.files Records (cell_at c.args.tree.now c.args.node) ≢ 1 =
     λ one. true≢false (sym ((c.in_ok-has_record.ensures.found was_honest).1 (sym (c.has_record.ensures.reads.nothing.seen_same Records _) ∙ one)) ∙ c.if-branch.false) in
-    (subst (λ (old : StoreValue g.row.F.Denot). IsSound seen leave old → tree_at old.trees number ≡ Some c.args.tree.now → (Contains old.pending (cell_at c.args.tree.now c.args.node) → ⊥)
-    → Serves seen leave moment since (request.Put number c.args.node c.args.bytes.now) (answer_by c.add_record.result) old c.add_record.new.self) c.self.view_is
-    (λ was here free. serves_read seen leave moment since (request.Put number c.args.node c.args.bytes.now) _ mid was refl refl c.has_record.ensures.reads (answer_by c.add_record.result) c.add_record.new.self
+    (subst (λ (old : StoreValue g.row.F.Denot). IsSound model old → tree_at old.trees number ≡ Some c.args.tree.now → (Contains old.pending (cell_at c.args.tree.now c.args.node) → ⊥)
+    → Serves model (request.Put number c.args.node c.args.bytes.now) (answer_by c.add_record.result) old c.add_record.new.self) c.self.view_is
+    (λ was here free. serves_read model (request.Put number c.args.node c.args.bytes.now) _ mid was refl refl c.has_record.ensures.reads (answer_by c.add_record.result) c.add_record.new.self
     (λ sound. c.add_record.ensures.serves number here sound free unset) c.add_record.ensures.calls.runs.stays (g.met.F.FilePair.counts_now mid.file.files) (g.met.F.FilePair.whole mid.file.files))) s there fresh
 
 pub returns-in_err-has_record-clause-trees : goal.returns-in_err-has_record-clause-trees
@@ -58,8 +49,8 @@ returns-in_err-has_record-clause-trees g c = ap (λ (v : StoreValue g.row.F.Deno
 
 pub returns-in_err-has_record-clause-calls : goal.returns-in_err-has_record-clause-calls
 returns-in_err-has_record-clause-calls g c =
-    subst (λ (old : StoreValue g.row.F.Denot). Calls g.F.FilePair.failures g.F.FilePair.shortages g.F.FilePair.is_honest c.from_residual.result old.file c.has_record.new.file) c.self.view_is
-    (calls_passed g.F.FilePair.failures g.F.FilePair.shortages g.F.FilePair.is_honest c.from_residual.result c.in_err-has_record.field-0.0 c.self.inside.file c.has_record.new.file c.from_residual.ensures.1 c.in_err-has_record.ensures.calls)
+    subst (λ (old : StoreValue g.row.F.Denot). Calls g.F.FilePair.model c.from_residual.result old.file c.has_record.new.file) c.self.view_is
+    (calls_passed g.F.FilePair.model c.from_residual.result c.in_err-has_record.field-0.0 c.self.inside.file c.has_record.new.file c.from_residual.ensures.1 c.in_err-has_record.ensures.calls)
 
 pub returns-in_err-has_record-clause-running : goal.returns-in_err-has_record-clause-running
 returns-in_err-has_record-clause-running g c = on_ok_none c.from_residual.result _ c.from_residual.ensures.0
@@ -81,8 +72,8 @@ returns-then-branch-clause-trees g c = c.replace_record.ensures.trees ∙ ap (λ
 
 pub returns-then-branch-clause-calls : goal.returns-then-branch-clause-calls
 returns-then-branch-clause-calls g c =
-    subst (λ (old : StoreValue g.row.F.Denot). Calls g.F.FilePair.failures g.F.FilePair.shortages g.F.FilePair.is_honest c.replace_record.result old.file c.replace_record.new.self.file) c.self.view_is
-    (calls_then g.F.FilePair.failures g.F.FilePair.shortages g.F.FilePair.is_honest c.replace_record.result c.self.inside.file c.has_record.new.file c.replace_record.new.self.file
+    subst (λ (old : StoreValue g.row.F.Denot). Calls g.F.FilePair.model c.replace_record.result old.file c.replace_record.new.self.file) c.self.view_is
+    (calls_then g.F.FilePair.model c.replace_record.result c.self.inside.file c.has_record.new.file c.replace_record.new.self.file
     c.has_record.ensures.calls.runs c.in_ok-has_record.ensures.calls.goes_on c.replace_record.ensures.calls)
 
 pub returns-then-branch-clause-running : goal.returns-then-branch-clause-running
@@ -93,8 +84,8 @@ returns-else-branch-clause-trees g c = c.add_record.ensures.trees ∙ ap (λ (v 
 
 pub returns-else-branch-clause-calls : goal.returns-else-branch-clause-calls
 returns-else-branch-clause-calls g c =
-    subst (λ (old : StoreValue g.row.F.Denot). Calls g.F.FilePair.failures g.F.FilePair.shortages g.F.FilePair.is_honest c.add_record.result old.file c.add_record.new.self.file) c.self.view_is
-    (calls_then g.F.FilePair.failures g.F.FilePair.shortages g.F.FilePair.is_honest c.add_record.result c.self.inside.file c.has_record.new.file c.add_record.new.self.file
+    subst (λ (old : StoreValue g.row.F.Denot). Calls g.F.FilePair.model c.add_record.result old.file c.add_record.new.self.file) c.self.view_is
+    (calls_then g.F.FilePair.model c.add_record.result c.self.inside.file c.has_record.new.file c.add_record.new.self.file
     c.has_record.ensures.calls.runs c.in_ok-has_record.ensures.calls.goes_on c.add_record.ensures.calls)
 
 pub returns-else-branch-clause-running : goal.returns-else-branch-clause-running

@@ -9,19 +9,19 @@ use Rattle.oram_store.proofs.store.FileStore.put_record.Goals as goal
 
 pub returns-in_err-make_room-clause-serves : goal.returns-in_err-make_room-clause-serves
 returns-in_err-make_room-clause-serves g c number there honest s =
-    serves_err g.F.FilePair.seen g.F.FilePair.may_leave g.F.FilePair.moment g.F.FilePair.left_since (request.Put number c.args.node c.args.bytes.now) c.from_residual.result c.args.self.now c.make_room.new.self
-    c.from_residual.ensures.0 (c.make_room.ensures.settles s)
+    serves_err g.F.FilePair.model (request.Put number c.args.node c.args.bytes.now) c.from_residual.result c.args.self.now c.make_room.new.self
+    c.from_residual.ensures.0 (c.make_room.ensures.commits_puts s)
 
 pub returns-clause-serves : goal.returns-clause-serves
 returns-clause-serves g c number there honest s =
     let mid = c.make_room.new.self in
     let fresh = subst (λ (cell : ℕ). Contains mid.pending cell → ⊥) c.cell_at.ensures.place c.in_ok-make_room.ensures.fresh in
-    serves_room g.F.FilePair.seen g.F.FilePair.may_leave g.F.FilePair.moment g.F.FilePair.left_since (request.Put number c.args.node c.args.bytes.now) _ c.args.self.now mid c.put_in_cell.new.self s
-    (c.make_room.ensures.settles s) c.in_ok-make_room.ensures.stays c.make_room.ensures.trees
+    serves_room g.F.FilePair.model (request.Put number c.args.node c.args.bytes.now) _ c.args.self.now mid c.put_in_cell.new.self s
+    (c.make_room.ensures.commits_puts s) c.in_ok-make_room.ensures.stays c.make_room.ensures.trees
     (λ sound. c.put_in_cell.ensures.serves number (ap (λ (t : Trees). tree_at t number) c.make_room.ensures.trees ∙ there) honest sound fresh)
     c.put_in_cell.ensures.calls.runs.stays (g.met.F.FilePair.counts_now mid.file.files) (g.met.F.FilePair.whole mid.file.files)
 
 pub returns-clause-calls : goal.returns-clause-calls
 returns-clause-calls g c =
-    calls_then g.F.FilePair.failures g.F.FilePair.shortages g.F.FilePair.is_honest c.put_in_cell.result c.args.self.now.file c.make_room.new.self.file c.put_in_cell.new.self.file
+    calls_then g.F.FilePair.model c.put_in_cell.result c.args.self.now.file c.make_room.new.self.file c.put_in_cell.new.self.file
     c.make_room.ensures.calls.runs c.in_ok-make_room.ensures.calls.goes_on c.put_in_cell.ensures.calls

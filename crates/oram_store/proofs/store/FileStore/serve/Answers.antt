@@ -6,9 +6,9 @@ use Rattle.oram_store.specs.RecordFile.{Runs}
 use Rattle.oram_wire.specs.HostBodies.{request_of}
 use Rattle.oram_wire.specs.declared.host_messages.HostAnswer.TheVariants.{Done, Payload}
 use Rattle.oram_wire.specs.declared.host_messages.HostRequest.{HostRequest}
-use Rattle.oram_store.specs.Reasons.{TellsWhy}
+use Rattle.oram_store.specs.Reasons.{ReportsWhy}
 use Rattle.oram_store.proofs.Outcomes.{if_ok_none, on_err_holds, on_ok_none}
-use Rattle.oram_store.proofs.Told.{error_of, reason_for}
+use Rattle.oram_store.proofs.Responses.{error_of, reason_for}
 use Rattle.oram_store.proofs.store.FileStore.serve.Goals.{in-Store+in_ok-store-in-Store, in-Put+in_ok-put-in-Put, in-Shape+in_ok-shape-in-Shape}
 use Rattle.oram_store.proofs.store.FileStore.serve.Goals as goal
 
@@ -18,57 +18,57 @@ returns-in-Fetch-clause-serves g c honest s =
     let served = c.in_ok-records-in-Fetch.ensures.serves honest s in (
       Payload served.0,
       (served.0, served.1, refl),
-      subst (λ (m : HostRequest). Serves g.F.FilePair.seen g.F.FilePair.may_leave g.F.FilePair.moment g.F.FilePair.left_since m (Payload served.0) c.args.self.now c.fetch.new.self) is served.2,
+      subst (λ (m : HostRequest). Serves g.F.FilePair.model m (Payload served.0) c.args.self.now c.fetch.new.self) is served.2,
     )
 
 pub returns-clause-runs : goal.returns-clause-runs
 returns-clause-runs g c = elim c.match-request.branch [
-  | in-Store+in_ok-store-in-Store w ↦ subst (λ (v : StoreValue g.row.F.Denot). Runs g.F.FilePair.failures g.F.FilePair.shortages g.F.FilePair.is_honest c.args.self.now.file v.file) (sym w.self-is) w.store.ensures.runs
-  | in-Put+in_ok-put-in-Put w ↦ subst (λ (v : StoreValue g.row.F.Denot). Runs g.F.FilePair.failures g.F.FilePair.shortages g.F.FilePair.is_honest c.args.self.now.file v.file) (sym w.self-is) w.put.ensures.runs
-  | in-Shape+in_ok-shape-in-Shape w ↦ subst (λ (v : StoreValue g.row.F.Denot). Runs g.F.FilePair.failures g.F.FilePair.shortages g.F.FilePair.is_honest c.args.self.now.file v.file) (sym w.self-is) w.shape.ensures.runs
+  | in-Store+in_ok-store-in-Store w ↦ subst (λ (v : StoreValue g.row.F.Denot). Runs g.F.FilePair.model c.args.self.now.file v.file) (sym w.self-is) w.store.ensures.runs
+  | in-Put+in_ok-put-in-Put w ↦ subst (λ (v : StoreValue g.row.F.Denot). Runs g.F.FilePair.model c.args.self.now.file v.file) (sym w.self-is) w.put.ensures.runs
+  | in-Shape+in_ok-shape-in-Shape w ↦ subst (λ (v : StoreValue g.row.F.Denot). Runs g.F.FilePair.model c.args.self.now.file v.file) (sym w.self-is) w.shape.ensures.runs
 ]
 
 pub returns-clause-serves : goal.returns-clause-serves
 returns-clause-serves g c honest s =
     let message = request_of c.args.request in
     let old = c.args.self.now in
-    let P : StoreValue g.row.F.Denot → Type 0 = λ v. g.F.FilePair.is_honest v.file.files → Serves g.F.FilePair.seen g.F.FilePair.may_leave g.F.FilePair.moment g.F.FilePair.left_since message Done old v in
+    let P : StoreValue g.row.F.Denot → Type 0 = λ v. g.F.FilePair.model.is_honest v.file.files → Serves g.F.FilePair.model message Done old v in
     let serves : P c.match-request.self = elim c.match-request.branch [
       | in-Store+in_ok-store-in-Store w ↦
           let is : HostRequest.Store w.in-Store.tree w.in-Store.leaf w.in-Store.records.now ≡ message = search rules in
-          subst P (sym w.self-is) (λ h. subst (λ (m : HostRequest). Serves g.F.FilePair.seen g.F.FilePair.may_leave g.F.FilePair.moment g.F.FilePair.left_since m Done old w.store.new.self) is (w.in_ok-store-in-Store.ensures.serves h s))
+          subst P (sym w.self-is) (λ h. subst (λ (m : HostRequest). Serves g.F.FilePair.model m Done old w.store.new.self) is (w.in_ok-store-in-Store.ensures.serves h s))
       | in-Put+in_ok-put-in-Put w ↦
           let is : HostRequest.Put w.in-Put.tree w.in-Put.node w.in-Put.bytes.now ≡ message = search rules in
-          subst P (sym w.self-is) (λ h. subst (λ (m : HostRequest). Serves g.F.FilePair.seen g.F.FilePair.may_leave g.F.FilePair.moment g.F.FilePair.left_since m Done old w.put.new.self) is (w.in_ok-put-in-Put.ensures.serves h s))
+          subst P (sym w.self-is) (λ h. subst (λ (m : HostRequest). Serves g.F.FilePair.model m Done old w.put.new.self) is (w.in_ok-put-in-Put.ensures.serves h s))
       | in-Shape+in_ok-shape-in-Shape w ↦
           let is : HostRequest.Shape w.in-Shape.tree w.in-Shape.depth w.in-Shape.record_len ≡ message = search rules in
-          subst P (sym w.self-is) (λ h. subst (λ (m : HostRequest). Serves g.F.FilePair.seen g.F.FilePair.may_leave g.F.FilePair.moment g.F.FilePair.left_since m Done old w.shape.new.self) is (w.in_ok-shape-in-Shape.ensures.serves h s))
+          subst P (sym w.self-is) (λ h. subst (λ (m : HostRequest). Serves g.F.FilePair.model m Done old w.shape.new.self) is (w.in_ok-shape-in-Shape.ensures.serves h s))
     ] in
     (Done, refl, serves honest)
 
 pub returns-in_err-records-in-Fetch-clause-failure : goal.returns-in_err-records-in-Fetch-clause-failure
 returns-in_err-records-in-Fetch-clause-failure g c full =
     let same = error_of c.from_residual.result c.in_err-records-in-Fetch.field-0.0 _ c.from_residual.ensures.1 full in
-    reason_for g.F.FilePair.failures g.F.FilePair.shortages c.args.self.now c.fetch.new.self (request_of c.args.request) c.fetch.new.self.failure
+    reason_for g.F.FilePair.model c.args.self.now c.fetch.new.self (request_of c.args.request) c.fetch.new.self.failure
     (c.in_err-records-in-Fetch.ensures.failure (ap (λ (why : HostRefusal). Err why) same))
 
 pub returns-in_err-store-in-Store-clause-failure : goal.returns-in_err-store-in-Store-clause-failure
 returns-in_err-store-in-Store-clause-failure g c full =
     let same = error_of c.from_residual-in_err-store-in-Store.result c.in_err-store-in-Store.field-0.0 _ c.from_residual-in_err-store-in-Store.ensures.1 full in
-    reason_for g.F.FilePair.failures g.F.FilePair.shortages c.args.self.now c.store.new.self (request_of c.args.request) c.store.new.self.failure
+    reason_for g.F.FilePair.model c.args.self.now c.store.new.self (request_of c.args.request) c.store.new.self.failure
     (c.in_err-store-in-Store.ensures.failure (ap (λ (why : HostRefusal). Err why) same))
 
 pub returns-in_err-put-in-Put-clause-failure : goal.returns-in_err-put-in-Put-clause-failure
 returns-in_err-put-in-Put-clause-failure g c full =
     let same = error_of c.from_residual-in_err-put-in-Put.result c.in_err-put-in-Put.field-0.0 _ c.from_residual-in_err-put-in-Put.ensures.1 full in
-    reason_for g.F.FilePair.failures g.F.FilePair.shortages c.args.self.now c.put.new.self (request_of c.args.request) c.put.new.self.failure
+    reason_for g.F.FilePair.model c.args.self.now c.put.new.self (request_of c.args.request) c.put.new.self.failure
     (c.in_err-put-in-Put.ensures.failure (ap (λ (why : HostRefusal). Err why) same))
 
 pub returns-in_err-shape-in-Shape-clause-failure : goal.returns-in_err-shape-in-Shape-clause-failure
 returns-in_err-shape-in-Shape-clause-failure g c full =
     let same = error_of c.from_residual-in_err-shape-in-Shape.result c.in_err-shape-in-Shape.field-0.0 _ c.from_residual-in_err-shape-in-Shape.ensures.1 full in
     let is : HostRequest.Shape c.in-Shape.tree c.in-Shape.depth c.in-Shape.record_len ≡ request_of c.args.request = search rules in
-    subst (λ (m : HostRequest). TellsWhy g.F.FilePair.failures g.F.FilePair.shortages c.args.self.now c.shape.new.self m) is
+    subst (λ (m : HostRequest). ReportsWhy g.F.FilePair.model c.args.self.now c.shape.new.self m) is
     (c.in_err-shape-in-Shape.ensures.failure (ap (λ (why : HostRefusal). Err why) same))
 
 pub returns-in_err-records-in-Fetch-clause-served : goal.returns-in_err-records-in-Fetch-clause-served
@@ -80,8 +80,8 @@ returns-in_err-records-in-Fetch-clause-allowed g c = on_ok_none c.from_residual.
 pub returns-in_err-records-in-Fetch-clause-after : goal.returns-in_err-records-in-Fetch-clause-after
 returns-in_err-records-in-Fetch-clause-after g c = on_ok_none c.from_residual.result _ c.from_residual.ensures.0
 
-pub returns-in_err-records-in-Fetch-clause-settled : goal.returns-in_err-records-in-Fetch-clause-settled
-returns-in_err-records-in-Fetch-clause-settled g c = on_ok_none c.from_residual.result _ c.from_residual.ensures.0
+pub returns-in_err-records-in-Fetch-clause-none_pending : goal.returns-in_err-records-in-Fetch-clause-none_pending
+returns-in_err-records-in-Fetch-clause-none_pending g c = on_ok_none c.from_residual.result _ c.from_residual.ensures.0
 
 pub returns-in_err-records-in-Fetch-clause-running : goal.returns-in_err-records-in-Fetch-clause-running
 returns-in_err-records-in-Fetch-clause-running g c = on_ok_none c.from_residual.result _ c.from_residual.ensures.0
@@ -101,8 +101,8 @@ returns-in_err-store-in-Store-clause-allowed g c = on_ok_none c.from_residual-in
 pub returns-in_err-store-in-Store-clause-after : goal.returns-in_err-store-in-Store-clause-after
 returns-in_err-store-in-Store-clause-after g c = on_ok_none c.from_residual-in_err-store-in-Store.result _ c.from_residual-in_err-store-in-Store.ensures.0
 
-pub returns-in_err-store-in-Store-clause-settled : goal.returns-in_err-store-in-Store-clause-settled
-returns-in_err-store-in-Store-clause-settled g c = on_ok_none c.from_residual-in_err-store-in-Store.result _ c.from_residual-in_err-store-in-Store.ensures.0
+pub returns-in_err-store-in-Store-clause-none_pending : goal.returns-in_err-store-in-Store-clause-none_pending
+returns-in_err-store-in-Store-clause-none_pending g c = on_ok_none c.from_residual-in_err-store-in-Store.result _ c.from_residual-in_err-store-in-Store.ensures.0
 
 pub returns-in_err-store-in-Store-clause-running : goal.returns-in_err-store-in-Store-clause-running
 returns-in_err-store-in-Store-clause-running g c = on_ok_none c.from_residual-in_err-store-in-Store.result _ c.from_residual-in_err-store-in-Store.ensures.0
@@ -122,8 +122,8 @@ returns-in_err-put-in-Put-clause-allowed g c = on_ok_none c.from_residual-in_err
 pub returns-in_err-put-in-Put-clause-after : goal.returns-in_err-put-in-Put-clause-after
 returns-in_err-put-in-Put-clause-after g c = on_ok_none c.from_residual-in_err-put-in-Put.result _ c.from_residual-in_err-put-in-Put.ensures.0
 
-pub returns-in_err-put-in-Put-clause-settled : goal.returns-in_err-put-in-Put-clause-settled
-returns-in_err-put-in-Put-clause-settled g c = on_ok_none c.from_residual-in_err-put-in-Put.result _ c.from_residual-in_err-put-in-Put.ensures.0
+pub returns-in_err-put-in-Put-clause-none_pending : goal.returns-in_err-put-in-Put-clause-none_pending
+returns-in_err-put-in-Put-clause-none_pending g c = on_ok_none c.from_residual-in_err-put-in-Put.result _ c.from_residual-in_err-put-in-Put.ensures.0
 
 pub returns-in_err-put-in-Put-clause-running : goal.returns-in_err-put-in-Put-clause-running
 returns-in_err-put-in-Put-clause-running g c = on_ok_none c.from_residual-in_err-put-in-Put.result _ c.from_residual-in_err-put-in-Put.ensures.0
@@ -143,8 +143,8 @@ returns-in_err-shape-in-Shape-clause-allowed g c = on_ok_none c.from_residual-in
 pub returns-in_err-shape-in-Shape-clause-after : goal.returns-in_err-shape-in-Shape-clause-after
 returns-in_err-shape-in-Shape-clause-after g c = on_ok_none c.from_residual-in_err-shape-in-Shape.result _ c.from_residual-in_err-shape-in-Shape.ensures.0
 
-pub returns-in_err-shape-in-Shape-clause-settled : goal.returns-in_err-shape-in-Shape-clause-settled
-returns-in_err-shape-in-Shape-clause-settled g c = on_ok_none c.from_residual-in_err-shape-in-Shape.result _ c.from_residual-in_err-shape-in-Shape.ensures.0
+pub returns-in_err-shape-in-Shape-clause-none_pending : goal.returns-in_err-shape-in-Shape-clause-none_pending
+returns-in_err-shape-in-Shape-clause-none_pending g c = on_ok_none c.from_residual-in_err-shape-in-Shape.result _ c.from_residual-in_err-shape-in-Shape.ensures.0
 
 pub returns-in_err-shape-in-Shape-clause-running : goal.returns-in_err-shape-in-Shape-clause-running
 returns-in_err-shape-in-Shape-clause-running g c = on_ok_none c.from_residual-in_err-shape-in-Shape.result _ c.from_residual-in_err-shape-in-Shape.ensures.0

@@ -5,7 +5,7 @@ use Rattle.oram_wire.specs.declared.host_messages.HostAnswer.TheVariants as answ
 use Rattle.oram_wire.specs.declared.host_messages.HostRequest.TheVariants as request
 use Rattle.oram_layout.specs.Trees.{tree_at}
 use Rattle.oram_store.specs.KeptRecords.{StoreValue}
-use Rattle.oram_store.specs.Reasons.{IsReasonFor, TellsWhy}
+use Rattle.oram_store.specs.Reasons.{IsReasonFor, ReportsWhy}
 use Rattle.oram_store.specs.RecordFile.{Runs}
 use Rattle.oram_store.specs.Refusals.{ChangesTrees, refusal_by}
 use Rattle.oram_store.proofs.Allowed.{not_refused, shape_allowed}
@@ -14,25 +14,25 @@ use Rattle.oram_store.proofs.store.FileStore.shape.Goals as goal
 
 pub returns-in_default-clause-serves : goal.returns-in_default-clause-serves
 returns-in_default-clause-serves g c honest s =
-    serves_untouched g.F.FilePair.seen g.F.FilePair.may_leave g.F.FilePair.moment g.F.FilePair.left_since (request.Shape c.args.number c.args.depth c.args.record_len) 4 c.args.self.now (λ six. absurd (omega arith)) s
+    serves_untouched g.F.FilePair.model (request.Shape c.args.number c.args.depth c.args.record_len) 4 c.args.self.now (λ six. absurd (omega arith)) s
     (g.met.F.FilePair.only_now c.args.self.now.file.files)
 
 pub returns-then-is_some-clause-serves : goal.returns-then-is_some-clause-serves
 returns-then-is_some-clause-serves g c honest s =
-    serves_untouched g.F.FilePair.seen g.F.FilePair.may_leave g.F.FilePair.moment g.F.FilePair.left_since (request.Shape c.args.number c.args.depth c.args.record_len) 5 c.args.self.now (λ six. absurd (omega arith)) s
+    serves_untouched g.F.FilePair.model (request.Shape c.args.number c.args.depth c.args.record_len) 5 c.args.self.now (λ six. absurd (omega arith)) s
     (g.met.F.FilePair.only_now c.args.self.now.file.files)
 
 pub returns-in-Ok-clause-serves : goal.returns-in-Ok-clause-serves
 returns-in-Ok-clause-serves g c honest s =
-    subst (λ (d : ℕ). Serves g.F.FilePair.seen g.F.FilePair.may_leave g.F.FilePair.moment g.F.FilePair.left_since (request.Shape c.args.number d c.args.record_len) answer.Done c.args.self.now c.commit_puts_and_add.new.self) c.in-Some.ensures.1
-    (subst (λ (l : ℕ). Serves g.F.FilePair.seen g.F.FilePair.may_leave g.F.FilePair.moment g.F.FilePair.left_since (request.Shape c.args.number c.in-Some.shape.depth l) answer.Done c.args.self.now c.commit_puts_and_add.new.self) c.in-Some.ensures.2
+    subst (λ (d : ℕ). Serves g.F.FilePair.model (request.Shape c.args.number d c.args.record_len) answer.Done c.args.self.now c.commit_puts_and_add.new.self) c.in-Some.ensures.1
+    (subst (λ (l : ℕ). Serves g.F.FilePair.model (request.Shape c.args.number c.in-Some.shape.depth l) answer.Done c.args.self.now c.commit_puts_and_add.new.self) c.in-Some.ensures.2
     (c.in-Ok.ensures.serves s))
 
 pub returns-in-Err-clause-serves : goal.returns-in-Err-clause-serves
 returns-in-Err-clause-serves g c honest s =
-    subst (λ (d : ℕ). Serves g.F.FilePair.seen g.F.FilePair.may_leave g.F.FilePair.moment g.F.FilePair.left_since (request.Shape c.args.number d c.args.record_len) (answer.Refused (code_of c.refuse.result)) c.args.self.now c.refuse.new.self) c.in-Some.ensures.1
-    (subst (λ (l : ℕ). Serves g.F.FilePair.seen g.F.FilePair.may_leave g.F.FilePair.moment g.F.FilePair.left_since (request.Shape c.args.number c.in-Some.shape.depth l) (answer.Refused (code_of c.refuse.result)) c.args.self.now c.refuse.new.self) c.in-Some.ensures.2
-    (serves_refused g.F.FilePair.seen g.F.FilePair.may_leave g.F.FilePair.moment g.F.FilePair.left_since g.F.FilePair.is_honest (request.Shape c.args.number c.in-Some.shape.depth c.in-Some.shape.record_len) c.args.self.now c.commit_puts_and_add.new.self c.refuse.new.self c.refuse.result (Some c.in-Err.fault)
+    subst (λ (d : ℕ). Serves g.F.FilePair.model (request.Shape c.args.number d c.args.record_len) (answer.Refused (code_of c.refuse.result)) c.args.self.now c.refuse.new.self) c.in-Some.ensures.1
+    (subst (λ (l : ℕ). Serves g.F.FilePair.model (request.Shape c.args.number c.in-Some.shape.depth l) (answer.Refused (code_of c.refuse.result)) c.args.self.now c.refuse.new.self) c.in-Some.ensures.2
+    (serves_refused g.F.FilePair.model (request.Shape c.args.number c.in-Some.shape.depth c.in-Some.shape.record_len) c.args.self.now c.commit_puts_and_add.new.self c.refuse.new.self c.refuse.result (Some c.in-Err.fault)
     c.refuse.ensures.why c.refuse.ensures.kept (λ was. c.in-Err.ensures.serves s) honest))
 
 pub returns-in-Ok-clause-allowed : goal.returns-in-Ok-clause-allowed
@@ -74,10 +74,10 @@ returns-in-Err-clause-same g c = ap (λ (v : StoreValue g.row.F.Denot). v.trees)
 
 pub returns-in-Err-clause-runs : goal.returns-in-Err-clause-runs
 returns-in-Err-clause-runs g c =
-    subst (λ (v : StoreValue g.row.F.Denot). Runs g.F.FilePair.failures g.F.FilePair.shortages g.F.FilePair.is_honest c.args.self.now.file v.file) (sym c.refuse.ensures.kept) c.commit_puts_and_add.ensures.runs
+    subst (λ (v : StoreValue g.row.F.Denot). Runs g.F.FilePair.model c.args.self.now.file v.file) (sym c.refuse.ensures.kept) c.commit_puts_and_add.ensures.runs
 
 pub returns-in-Err-clause-failure : goal.returns-in-Err-clause-failure
 returns-in-Err-clause-failure g c full =
-    subst (λ (v : StoreValue g.row.F.Denot). TellsWhy g.F.FilePair.failures g.F.FilePair.shortages c.args.self.now v (request.Shape c.args.number c.args.depth c.args.record_len)) (sym c.refuse.ensures.kept)
-    (subst (λ (d : ℕ). IsReasonFor g.F.FilePair.failures g.F.FilePair.shortages c.args.self.now c.commit_puts_and_add.new.self (request.Shape c.args.number d c.args.record_len) c.in-Err.fault) c.in-Some.ensures.1
-    (subst (λ (l : ℕ). IsReasonFor g.F.FilePair.failures g.F.FilePair.shortages c.args.self.now c.commit_puts_and_add.new.self (request.Shape c.args.number c.in-Some.shape.depth l) c.in-Err.fault) c.in-Some.ensures.2 c.in-Err.ensures.reason))
+    subst (λ (v : StoreValue g.row.F.Denot). ReportsWhy g.F.FilePair.model c.args.self.now v (request.Shape c.args.number c.args.depth c.args.record_len)) (sym c.refuse.ensures.kept)
+    (subst (λ (d : ℕ). IsReasonFor g.F.FilePair.model c.args.self.now c.commit_puts_and_add.new.self (request.Shape c.args.number d c.args.record_len) c.in-Err.fault) c.in-Some.ensures.1
+    (subst (λ (l : ℕ). IsReasonFor g.F.FilePair.model c.args.self.now c.commit_puts_and_add.new.self (request.Shape c.args.number c.in-Some.shape.depth l) c.in-Err.fault) c.in-Some.ensures.2 c.in-Err.ensures.reason))

@@ -1,4 +1,5 @@
 -- The outcome of a request, as its answer.
+use Rattle.oram_redo.specs.FilePair.{FileModel}
 use Rattle.std.proofs.Common.{◌≡◌, inl, refl, arith, Err, Ok, Option, Result, Some, List, [], ◌∷◌, ℕ, None, drop, sym, ap, ◌∙◌}
 use Rattle.std.specs.Prelude.{IsErrAnd, IsSomeAnd}
 use Rattle.oram_wire.specs.declared.host_messages.HostAnswer.{HostAnswer}
@@ -25,24 +26,24 @@ records_behind front (request.Put tree node sent) bytes h = absurd h
 records_behind front (request.Shape tree depth record_len) bytes h = absurd h
 
 module _ (old new : Trees) (front : List ℕ) where
-  pub told_records : (message : HostRequest) (bytes : _) (records : List ℕ) → StandsBehind front message (served.Records bytes) → refusal_by old message ≡ None
+  pub responds_records : (message : HostRequest) (bytes : _) (records : List ℕ) → StandsBehind front message (served.Records bytes) → refusal_by old message ≡ None
       → ChangesTrees old message new → RespondsWith old message (Payload records) new
-  told_records (request.Fetch tree leaf) bytes records h allowed leads = (allowed, leads)
-  told_records (request.Store tree leaf sent) bytes records h allowed leads = absurd h
-  told_records (request.Put tree node sent) bytes records h allowed leads = absurd h
-  told_records (request.Shape tree depth record_len) bytes records h allowed leads = absurd h
+  responds_records (request.Fetch tree leaf) bytes records h allowed leads = (allowed, leads)
+  responds_records (request.Store tree leaf sent) bytes records h allowed leads = absurd h
+  responds_records (request.Put tree node sent) bytes records h allowed leads = absurd h
+  responds_records (request.Shape tree depth record_len) bytes records h allowed leads = absurd h
 
-  pub told_done : (message : HostRequest) → StandsBehind front message served.Done → refusal_by old message ≡ None → ChangesTrees old message new → RespondsWith old message Done new
-  told_done (request.Fetch tree leaf) h allowed leads = absurd h
-  told_done (request.Store tree leaf sent) h allowed leads = (allowed, leads)
-  told_done (request.Put tree node sent) h allowed leads = (allowed, leads)
-  told_done (request.Shape tree depth record_len) h allowed leads = (allowed, leads)
+  pub responds_done : (message : HostRequest) → StandsBehind front message served.Done → refusal_by old message ≡ None → ChangesTrees old message new → RespondsWith old message Done new
+  responds_done (request.Fetch tree leaf) h allowed leads = absurd h
+  responds_done (request.Store tree leaf sent) h allowed leads = (allowed, leads)
+  responds_done (request.Put tree node sent) h allowed leads = (allowed, leads)
+  responds_done (request.Shape tree depth record_len) h allowed leads = (allowed, leads)
 
 -- a reason of the file is a reason for the request
-pub reason_for : {F : Type 0} (failures shortages : F → ℕ → Type 0) (old new : StoreValue F) (message : HostRequest) (failure : Option StoreFault)
-    → IsSomeAnd failure (IsReason failures shortages old.file new.file) → IsSomeAnd failure (IsReasonFor failures shortages old new message)
-reason_for failures shortages old new message None reason = absurd reason
-reason_for failures shortages old new message (Some fault) reason = inl reason
+pub reason_for : {F : Type 0} (model : FileModel F) (old new : StoreValue F) (message : HostRequest) (failure : Option StoreFault)
+    → IsSomeAnd failure (IsReason model old.file new.file) → IsSomeAnd failure (IsReasonFor model old new message)
+reason_for model old new message None reason = absurd reason
+reason_for model old new message (Some fault) reason = inl reason
 
 -- the error that is passed on
 pub error_of : {T E : Type 0} (result : Result T E) (error given : E) → IsErrAnd result (λ e. e ≡ error) → result ≡ Err given → error ≡ given

@@ -2,10 +2,10 @@
 use Rattle.std.proofs.Common.{◌≡◌, ◌≢◌, ◌⊎◌, inl, inr, ⊎_elim, ℕ, ◌+◌, ◌<◌, ◌≤◌, List, [], ◌∷◌, length, sym, ◌∙◌, ap, subst, arith}
 use Rattle.std.proofs.lemmas.Bool.{cases_eq}
 use Rattle.std.proofs.lemmas.Bool.Decides.{nat_tests}
-use Rattle.oram_redo.specs.Content.{Content, put}
-use Rattle.oram_redo.specs.FilePair.{Contents, Same, Follows, Torn, Wrote, IsSure}
+use Rattle.oram_redo.specs.Content.{Agrees, Content, put}
+use Rattle.oram_redo.specs.FilePair.{Contents, Same, Follows, Torn, Wrote}
 use Rattle.oram_redo.specs.Log.{Patch, IsLog, put_all, Spares, entry, entries, StandsFor, Keeps}
-use Rattle.oram_redo.specs.Redo.{IsSettled, bounds_of, end_of}
+use Rattle.oram_redo.specs.Redo.{AreCrashConsistent, bounds_of, end_of}
 use Rattle.oram_redo.specs.Steps.{Tears}
 use Rattle.oram_redo.specs.declared.bounds.Bounds.{Bounds}
 use Rattle.oram_redo.specs.declared.redo.Redo.{Redo}
@@ -23,7 +23,7 @@ keeps_more bounds p loose before c keeps = record {
 pub gate_written : (b at : ℕ) (c : Content) → put (b ∷ []) at c at ≡ b
 gate_written b at c = grind (arith, nat_tests)
 
-module _ (redo : Redo) (loose : List Patch) (seen : Contents) (leave : Contents → Type 0) (s : IsSettled redo loose seen leave) where
+module _ (redo : Redo) (loose : List Patch) (seen : Contents) (leave : Contents → Type 0) (s : AreCrashConsistent redo loose seen leave) where
   pub keeps_now : (c : Contents) → leave c → Keeps (bounds_of redo) loose seen c
   keeps_now c now = record {
     front = λ i low. s.sure c now i (omega (arith, s.end));
@@ -35,8 +35,8 @@ module _ (redo : Redo) (loose : List Patch) (seen : Contents) (leave : Contents 
   }
 
   -- nothing was written
-  pub settled_same : (seen' : Contents) (leave' : Contents → Type 0) → Same seen' seen → ((c : Contents) → leave' c → leave c) → IsSettled redo loose seen' leave'
-  settled_same seen' leave' same fewer = record {
+  pub consistent_same : (seen' : Contents) (leave' : Contents → Type 0) → Same seen' seen → ((c : Contents) → leave' c → leave c) → AreCrashConsistent redo loose seen' leave'
+  consistent_same seen' leave' same fewer = record {
     patches = s.patches;
     log = log_kept (bounds_of redo) s.patches (seen Log) (seen' Log) s.log (λ i le. same Log i);
     end = s.end;
@@ -52,8 +52,8 @@ module _ (redo : Redo) (loose : List Patch) (seen : Contents) (leave : Contents 
     torn_gives : (d c : Contents) → leave d → Torn Records p.0 (length p.1) d c → (i : ℕ) → Spares (p ∷ loose) i → put_all s.patches (c Records) i ≡ seen Records i
     torn_gives d c was torn i spared = put_all_heals s.patches (c Records) (d Records) i (λ any. outside d c torn i spared.0) ∙ s.stands d was i spared.1
 
-    pub settled_loose : (seen' : Contents) (leave' : Contents → Type 0) → Torn Records p.0 (length p.1) seen seen' → Follows (Torn Records p.0 (length p.1)) leave leave' → IsSettled redo (p ∷ loose) seen' leave'
-    settled_loose seen' leave' torn follows = record {
+    pub consistent_loose : (seen' : Contents) (leave' : Contents → Type 0) → Torn Records p.0 (length p.1) seen seen' → Follows (Torn Records p.0 (length p.1)) leave leave' → AreCrashConsistent redo (p ∷ loose) seen' leave'
+    consistent_loose seen' leave' torn follows = record {
       patches = s.patches;
       log = log_kept (bounds_of redo) s.patches (seen Log) (seen' Log) s.log (λ i le. torn.other i);
       end = s.end;
@@ -77,9 +77,9 @@ module _ (redo : Redo) (loose : List Patch) (seen : Contents) (leave : Contents 
     keeps_before c now = keeps_more (bounds_of redo) p loose seen c (keeps_now c now)
 
   -- The records are on the disk, so the log may be emptied.
-  module _ (sure : IsSure Records seen leave) where
-    pub settled_empty : end_of redo ≡ redo.bounds.log_start → IsSettled redo [] seen leave
-    settled_empty empty =
+  module _ (sure : (c : Contents) → leave c → Agrees (c Records) (seen Records)) where
+    pub consistent_empty : end_of redo ≡ redo.bounds.log_start → AreCrashConsistent redo [] seen leave
+    consistent_empty empty =
         let none : s.patches ≡ [] = entries_none s.patches (omega (arith, s.end, empty)) in
         record {
           patches = [];
@@ -125,9 +125,9 @@ module _ (redo : Redo) (loose : List Patch) (seen : Contents) (leave : Contents 
           gives = λ i spared. torn.other i ∙ sure d was i;
         }
 
-    pub settled_shut : (seen' : Contents) (leave' : Contents → Type 0) → Wrote Log redo.bounds.log_start (0 ∷ []) seen seen' → IsSure Log seen' leave'
-        → Follows (Torn Log redo.bounds.log_start 1) leave leave' → IsSettled (record { bounds = redo.bounds; end = redo.bounds.log_start }) [] seen' leave'
-    settled_shut seen' leave' wrote log_sure follows =
+    pub consistent_shut : (seen' : Contents) (leave' : Contents → Type 0) → Wrote Log redo.bounds.log_start (0 ∷ []) seen seen' → ((c : Contents) → leave' c → Agrees (c Log) (seen' Log))
+        → Follows (Torn Log redo.bounds.log_start 1) leave leave' → AreCrashConsistent (record { bounds = redo.bounds; end = redo.bounds.log_start }) [] seen' leave'
+    consistent_shut seen' leave' wrote log_sure follows =
         let gate : seen' Log redo.bounds.log_start ≡ 0 = wrote.there redo.bounds.log_start ∙ gate_written 0 redo.bounds.log_start (seen Log) in
         record {
           patches = [];
