@@ -7,7 +7,7 @@ use Rattle.oram_nbd.specs.Beside.{GoesOn, HadWithin, KeepsOn}
 
 -- Two lists of steps, one after the other. The same stands in oram_link_laws, which a connection has nothing to do with.
 module _ {P A : Type 0} (R : P → A → P → Type 0) where
-  folds_join : (xs ys : List A) (p q r : P) → FoldsTo R p xs q → FoldsTo R q ys r → FoldsTo R p (xs ++ ys) r
+  pub folds_join : (xs ys : List A) (p q r : P) → FoldsTo R p xs q → FoldsTo R q ys r → FoldsTo R p (xs ++ ys) r
   folds_join [] ys p q r same more = subst (λ (k : P). FoldsTo R k ys r) (sym same) more
   folds_join (x ∷ xs) ys p q r first more = (first.0, first.1, folds_join xs ys first.0 q r first.2 more)
 

@@ -1,4 +1,4 @@
--- Requests that were carried out together: their turns.
+-- Requests that were carried out together, and their replies.
 use Rattle.std.proofs.Common.{◌≡◌, ◌⊎◌, inl, inr, Bool, true, ℕ, suc, ◌+◌, ◌-◌, ◌*◌, ◌%◌, ◌<◌, ◌≤◌, append_assoc, drop, drop-cons, get_or, length-drop, List, [], ◌∷◌, ◌++◌, All, length, map, Option, None, Some, refl, sym, ap, ◌∙◌, subst, arith, length-append, take, length-take-le}
 use Rattle.std.proofs.lemmas.List.{append-nil, drop_all, length-map, map-append, take-append-drop, take-append-le, take_all, take_at}
 use Rattle.std.proofs.lemmas.Bool.{cases_lt}
@@ -7,9 +7,10 @@ use Rattle.std.proofs.lemmas.Grind.{flat_map-append}
 use Rattle.std.specs.Io.KnownBytes.{Appends, Consumes}
 use Rattle.std.proofs.KnownBytes.{Appends-nil, Appends-trans, Consumes-nil, Consumes-trans}
 use Rattle.std.proofs.lemmas.List.Elements.{All-append, All-cons, All-head, All-nil, All-tail}
-use Rattle.oram_nbd.specs.Batches.{answers_text, asked_in, asked_part, refusals_text, reply_if, reply_of, AreCollected, AreServedBy, EndsBy, HasRepliedToAll, HasBegun, HasGathered, IsWithoutMemory, LeftBy, DoesRequest, DoesIfAccepted}
-use Rattle.oram_nbd.specs.Beside.{GoesOn}
+use Rattle.oram_nbd.specs.Batches.{answers_text, asked_part, refusals_text, reply_if, reply_of, AreCollected, AreServedBy, EndsBy, HasRepliedToAll, HasBegun, HasGathered, IsWithoutMemory, LeftBy, DoesRequest, DoesIfAccepted}
+use Rattle.oram_nbd.specs.Beside.{GoesOn, KeepsOn}
 use Rattle.oram_nbd.specs.Bytes.{bytes_at}
+use Rattle.oram_nbd.specs.DeviceKind.{DeviceKind}
 use Rattle.oram_nbd.specs.Streams.{ComesShort, IsBegunText}
 use Rattle.oram_nbd.specs.Transmission.{IsBehind, IsCutOff}
 use Rattle.oram_nbd.specs.declared.batches.Close.{Close}
@@ -20,27 +21,23 @@ use Rattle.oram_nbd.specs.declared.requests.Command.{Command}
 use Rattle.oram_nbd.specs.declared.requests.Command.TheVariants as command
 use Rattle.oram_nbd.specs.Messages.{payload_len, reply_text, request_text, IsRequest, SimpleReply}
 use Rattle.oram_nbd.specs.Messages.SimpleReply.{Done, Refused}
-use Rattle.oram_nbd.specs.Operations.{all_done, all_given, done_by, given_by, read_len, AreBegun, IsPartOf, IsWithin, ReadsWhole}
-use Rattle.oram_nbd.specs.Service.{after, given, given_len, array_after_request, left_if, refusal_of, whole_requests_text, replies_text, AreRequestsBegun, WholeRequest, FailsForGood, IsAnswer, IsWholeRequest, IsLeftIf, IsPartly, IsRefusal, IsReplied, IsReply, IsService, IsTurn, NeverFails, SaysFailed, Turn}
+use Rattle.oram_nbd.specs.Operations.{all_done, all_given, done_by, given_by, read_len, AreBegun, IsPartOf, IsWithin, ReadsWhole, TouchSomeByte}
+use Rattle.oram_nbd.specs.Service.{after, asked_in, given, given_len, refusal_of, touched_len, whole_requests_text, replies_text, AreRequestsBegun, WholeRequest, FailsForGood, IsAnswer, IsWholeRequest, IsLeftIf, IsPartly, IsRefusal, IsReplied, IsReply, IsService, IsAnsweredBy, NeverFails, SaysFailed, SaysFault, AnsweredRequest}
 use Rattle.oram_nbd.specs.declared.faults.NbdError.{NbdError}
 use Rattle.oram_nbd.specs.declared.faults.NbdError.TheVariants.{Io, NoMemory}
 use Rattle.oram_nbd.specs.declared.operations.Operation.{Operation}
 use Rattle.oram_nbd.specs.declared.operations.Operation.TheVariants.{Read}
 use Rattle.oram_nbd.specs.declared.requests.Request.{Request}
 use Rattle.oram_nbd.proofs.Beside.{at_rest, weaker}
+use Rattle.oram_nbd.proofs.KeptBatches.{done_as_asked, keeps_batch, one_batch, served_one}
 use Rattle.oram_nbd.proofs.ListSteps.{length_done, length_part, part_whole}
 use Rattle.oram_nbd.proofs.Served.{partly_none, refusal_is_other}
 use Rattle.oram_nbd.proofs.Splices.{part_of_block}
 
-abbrev pub turn_for : WholeRequest → SimpleReply → Turn
-turn_for a reply = record { request = a.request; payload = a.payload; reply = reply }
+abbrev pub answered_with : WholeRequest → SimpleReply → AnsweredRequest
+answered_with a reply = record { request = a.request; payload = a.payload; reply = reply }
 
 -- ---- The operations of a batch
-
-served_one : (block size : ℕ) (o : Option NbdError) (a : WholeRequest) (op : Operation) → DoesIfAccepted o block size a op → IsWithin size op × ReadsWhole block op
-served_one block size (Some e) a op is =
-    subst (λ (x : Operation). IsWithin size x × ReadsWhole block x) (sym is) ((let within : 0 + 0 ≤ size = omega arith in within), record { first = 0; count = 0; place = omega arith; len = omega arith })
-served_one block size None a op s = (s.within, s.reads)
 
 pub all_within : (block size : ℕ) (asked : List WholeRequest) (ops : List Operation) → AreServedBy block size asked ops → All (IsWithin size) ops
 all_within block size [] [] served = All-nil (IsWithin size)
@@ -69,7 +66,7 @@ served_by_more block size [] (x ∷ ops) a op served one = absurd served
 served_by_more block size (x ∷ asked) [] a op served one = absurd served
 served_by_more block size (x ∷ asked) (y ∷ ops) a op served one = (served.0, served_by_more block size asked ops a op served.1 one)
 
--- ---- One turn
+-- ---- One request and its reply
 
 -- the operation was done
 answer_done : (block size : ℕ) (a : WholeRequest) (op : Operation) (o : Option NbdError) (bytes : List ℕ) → refusal_of size a.request ≡ o → DoesIfAccepted o block size a op → length bytes ≡ size
@@ -93,22 +90,22 @@ answer_none size a (Some f) e bytes why is long = inl (ap (λ (n : ℕ). refusal
 answer_none size a None e bytes why is long =
     inr (ap (λ (n : ℕ). refusal_of n a.request) long ∙ is, why, partly_none a.request.command bytes a.request.offset a.request.length a.payload)
 
-turn_by : (a : WholeRequest) (reply : SimpleReply) (old new : List ℕ) → IsWholeRequest a → IsAnswer old a.request a.payload reply new → IsTurn old (turn_for a reply) new
-turn_by a reply old new is answer = record { request = is.request; payload = is.payload; answer = answer }
+answered_by : (a : WholeRequest) (reply : SimpleReply) (old new : List ℕ) → IsWholeRequest a → IsAnswer old a.request a.payload reply new → IsAnsweredBy old (answered_with a reply) new
+answered_by a reply old new is answer = record { request = is.request; payload = is.payload; answer = answer }
 
 -- ---- A batch whose operations were all done
 
-abbrev pub answered_turns : ℕ → ℕ → List WholeRequest → List (List ℕ) → List Turn
-answered_turns block size [] given = []
-answered_turns block size (a ∷ asked) [] = []
-answered_turns block size (a ∷ asked) (bytes ∷ given) = turn_for a (reply_of block size a.request bytes) ∷ answered_turns block size asked given
+abbrev pub answered_requests : ℕ → ℕ → List WholeRequest → List (List ℕ) → List AnsweredRequest
+answered_requests block size [] given = []
+answered_requests block size (a ∷ asked) [] = []
+answered_requests block size (a ∷ asked) (bytes ∷ given) = answered_with a (reply_of block size a.request bytes) ∷ answered_requests block size asked given
 
-pub answered_same : (block size : ℕ) (asked : List WholeRequest) (given : List (List ℕ)) → length given ≡ length asked → map asked_in (answered_turns block size asked given) ≡ asked
+pub answered_same : (block size : ℕ) (asked : List WholeRequest) (given : List (List ℕ)) → length given ≡ length asked → map asked_in (answered_requests block size asked given) ≡ asked
 answered_same block size [] given many = refl
 answered_same block size (a ∷ asked) [] many = absurd (omega (arith, many))
 answered_same block size (a ∷ asked) (bytes ∷ given) many = ap (λ (l : List WholeRequest). a ∷ l) (answered_same block size asked given (omega (arith, many)))
 
-pub answered_text : (block size : ℕ) (asked : List WholeRequest) (given : List (List ℕ)) → replies_text (answered_turns block size asked given) ≡ answers_text block size (map (λ (a : WholeRequest). a.request) asked) given
+pub answered_text : (block size : ℕ) (asked : List WholeRequest) (given : List (List ℕ)) → replies_text (answered_requests block size asked given) ≡ answers_text block size (map (λ (a : WholeRequest). a.request) asked) given
 answered_text block size [] given = refl
 answered_text block size (a ∷ asked) [] = refl
 answered_text block size (a ∷ asked) (bytes ∷ given) =
@@ -120,15 +117,15 @@ reply_done block size a op (Some e) bytes is s long = inl is
 reply_done block size a op None bytes is s long = (is, s.long bytes long)
 
 pub answered_fit : (block size : ℕ) (asked : List WholeRequest) (ops : List Operation) (given : List (List ℕ)) → All IsWholeRequest asked → AreServedBy block size asked ops → map length given ≡ map read_len ops
-    → All (λ (t : Turn). IsReplied size t) (answered_turns block size asked given)
-answered_fit block size [] ops given are served lens = All-nil (λ (t : Turn). IsReplied size t)
+    → All (λ (t : AnsweredRequest). IsReplied size t) (answered_requests block size asked given)
+answered_fit block size [] ops given are served lens = All-nil (λ (t : AnsweredRequest). IsReplied size t)
 answered_fit block size (a ∷ asked) [] given are served lens = absurd served
-answered_fit block size (a ∷ asked) (op ∷ ops) [] are served lens = All-nil (λ (t : Turn). IsReplied size t)
+answered_fit block size (a ∷ asked) (op ∷ ops) [] are served lens = All-nil (λ (t : AnsweredRequest). IsReplied size t)
 answered_fit block size (a ∷ asked) (op ∷ ops) (bytes ∷ given) are served lens =
     let is = All-head IsWholeRequest a asked are in
     let first : length bytes ≡ read_len op = cc in
     let rest : map length given ≡ map read_len ops = cc in
-    All-cons (λ (t : Turn). IsReplied size t) (turn_for a (reply_of block size a.request bytes)) (answered_turns block size asked given)
+    All-cons (λ (t : AnsweredRequest). IsReplied size t) (answered_with a (reply_of block size a.request bytes)) (answered_requests block size asked given)
     (record { request = is.request; payload = is.payload; reply = reply_done block size a op (refusal_of size a.request) bytes refl served.0 first })
     (answered_fit block size asked ops given (All-tail IsWholeRequest a asked are) served.1 rest)
 
@@ -137,19 +134,19 @@ never_io : (size : ℕ) (r : Request) (o : Option NbdError) (bytes : List ℕ) �
 never_io size r (Some e) bytes is says = refusal_is_other size r e is (let same : e ≡ Io = cc in same)
 never_io size r None bytes is says = cc
 
-pub answered_never_fail : (block size : ℕ) (asked : List WholeRequest) (given : List (List ℕ)) → NeverFails (answered_turns block size asked given)
+pub answered_never_fail : (block size : ℕ) (asked : List WholeRequest) (given : List (List ℕ)) → NeverFails (answered_requests block size asked given)
 answered_never_fail block size [] given = tt
 answered_never_fail block size (a ∷ asked) [] = tt
 answered_never_fail block size (a ∷ asked) (bytes ∷ given) =
     (never_io size a.request (refusal_of size a.request) (asked_part block a.request bytes) refl, answered_never_fail block size asked given)
 
-pub answered_tell_none : (block size : ℕ) (asked : List WholeRequest) (given : List (List ℕ)) → SaysFailed (answered_turns block size asked given) → ⊥
+pub answered_tell_none : (block size : ℕ) (asked : List WholeRequest) (given : List (List ℕ)) → SaysFailed (answered_requests block size asked given) → ⊥
 answered_tell_none block size [] given none = none
 answered_tell_none block size (a ∷ asked) [] none = none
 answered_tell_none block size (a ∷ asked) (bytes ∷ given) (inl says) = never_io size a.request (refusal_of size a.request) (asked_part block a.request bytes) refl says
 answered_tell_none block size (a ∷ asked) (bytes ∷ given) (inr rest) = answered_tell_none block size asked given rest
 
-pub answered_refuse : (block size : ℕ) (failed : Type 0) (asked : List WholeRequest) (given : List (List ℕ)) → (failed → ⊥) → FailsForGood failed (answered_turns block size asked given)
+pub answered_refuse : (block size : ℕ) (failed : Type 0) (asked : List WholeRequest) (given : List (List ℕ)) → (failed → ⊥) → FailsForGood failed (answered_requests block size asked given)
 answered_refuse block size failed [] given alive = tt
 answered_refuse block size failed (a ∷ asked) [] alive = tt
 answered_refuse block size failed (a ∷ asked) (bytes ∷ given) alive = (
@@ -161,13 +158,13 @@ answered_refuse block size failed (a ∷ asked) (bytes ∷ given) alive = (
 )
 
 pub answered_service : (block size : ℕ) (asked : List WholeRequest) (ops : List Operation) (bytes : List ℕ) → All IsWholeRequest asked → AreServedBy block size asked ops → length bytes ≡ size
-    → IsService bytes (answered_turns block size asked (all_given ops bytes)) (all_done ops bytes)
+    → IsService bytes (answered_requests block size asked (all_given ops bytes)) (all_done ops bytes)
 answered_service block size [] [] bytes are served long = refl
 answered_service block size [] (op ∷ ops) bytes are served long = absurd served
 answered_service block size (a ∷ asked) [] bytes are served long = absurd served
 answered_service block size (a ∷ asked) (op ∷ ops) bytes are served long = (
   done_by op bytes,
-  turn_by a (reply_of block size a.request (given_by op bytes)) bytes (done_by op bytes) (All-head IsWholeRequest a asked are)
+  answered_by a (reply_of block size a.request (given_by op bytes)) bytes (done_by op bytes) (All-head IsWholeRequest a asked are)
       (answer_done block size a op (refusal_of size a.request) bytes refl served.0 long),
   answered_service block size asked ops (done_by op bytes) (All-tail IsWholeRequest a asked are) served.1
       (length_done size op bytes long (served_one block size (refusal_of size a.request) a op served.0).0),
@@ -175,24 +172,24 @@ answered_service block size (a ∷ asked) (op ∷ ops) bytes are served long = (
 
 -- ---- A batch that is refused: with this error, where its requests aren't refused already
 
-abbrev pub refused_turns : ℕ → List WholeRequest → NbdError → List Turn
-refused_turns size [] e = []
-refused_turns size (a ∷ asked) e = turn_for a (reply_if (refusal_of size a.request) (Refused e)) ∷ refused_turns size asked e
+abbrev pub refused_requests : ℕ → List WholeRequest → NbdError → List AnsweredRequest
+refused_requests size [] e = []
+refused_requests size (a ∷ asked) e = answered_with a (reply_if (refusal_of size a.request) (Refused e)) ∷ refused_requests size asked e
 
 -- each of these replies refuses
-pub all_refusals : (size : ℕ) (asked : List WholeRequest) (e : NbdError) → All (λ (t : Turn). IsRefusal t.reply) (refused_turns size asked e)
-all_refusals size [] e = All-nil (λ (t : Turn). IsRefusal t.reply)
-all_refusals size (a ∷ asked) e = All-cons (λ (t : Turn). IsRefusal t.reply) (turn_for a (reply_if (refusal_of size a.request) (Refused e))) (refused_turns size asked e) (is_refusal (refusal_of size a.request)) (all_refusals size asked e)
+pub all_refusals : (size : ℕ) (asked : List WholeRequest) (e : NbdError) → All (λ (t : AnsweredRequest). IsRefusal t.reply) (refused_requests size asked e)
+all_refusals size [] e = All-nil (λ (t : AnsweredRequest). IsRefusal t.reply)
+all_refusals size (a ∷ asked) e = All-cons (λ (t : AnsweredRequest). IsRefusal t.reply) (answered_with a (reply_if (refusal_of size a.request) (Refused e))) (refused_requests size asked e) (is_refusal (refusal_of size a.request)) (all_refusals size asked e)
   where
     is_refusal : (o : Option NbdError) → IsRefusal (reply_if o (Refused e))
     is_refusal (Some why) = tt
     is_refusal None = tt
 
-pub refused_same : (size : ℕ) (asked : List WholeRequest) (e : NbdError) → map asked_in (refused_turns size asked e) ≡ asked
+pub refused_same : (size : ℕ) (asked : List WholeRequest) (e : NbdError) → map asked_in (refused_requests size asked e) ≡ asked
 refused_same size [] e = refl
 refused_same size (a ∷ asked) e = ap (λ (l : List WholeRequest). a ∷ l) (refused_same size asked e)
 
-pub refused_text : (size : ℕ) (asked : List WholeRequest) (e : NbdError) → replies_text (refused_turns size asked e) ≡ refusals_text size (map (λ (a : WholeRequest). a.request) asked) e
+pub refused_text : (size : ℕ) (asked : List WholeRequest) (e : NbdError) → replies_text (refused_requests size asked e) ≡ refusals_text size (map (λ (a : WholeRequest). a.request) asked) e
 refused_text size [] e = refl
 refused_text size (a ∷ asked) e = ap (λ (l : List ℕ). reply_text a.request.cookie (reply_if (refusal_of size a.request) (Refused e)) ++ l) (refused_text size asked e)
 
@@ -200,11 +197,11 @@ reply_refused : (size : ℕ) (r : Request) (o : Option NbdError) (e : NbdError) 
 reply_refused size r (Some f) e why is = inl is
 reply_refused size r None e why is = inr (is, why)
 
-pub refused_fit : (size : ℕ) (asked : List WholeRequest) (e : NbdError) → (e ≡ Io) ⊎ (e ≡ NoMemory) → All IsWholeRequest asked → All (λ (t : Turn). IsReplied size t) (refused_turns size asked e)
-refused_fit size [] e why are = All-nil (λ (t : Turn). IsReplied size t)
+pub refused_fit : (size : ℕ) (asked : List WholeRequest) (e : NbdError) → (e ≡ Io) ⊎ (e ≡ NoMemory) → All IsWholeRequest asked → All (λ (t : AnsweredRequest). IsReplied size t) (refused_requests size asked e)
+refused_fit size [] e why are = All-nil (λ (t : AnsweredRequest). IsReplied size t)
 refused_fit size (a ∷ asked) e why are =
     let is = All-head IsWholeRequest a asked are in
-    All-cons (λ (t : Turn). IsReplied size t) (turn_for a (reply_if (refusal_of size a.request) (Refused e))) (refused_turns size asked e)
+    All-cons (λ (t : AnsweredRequest). IsReplied size t) (answered_with a (reply_if (refusal_of size a.request) (Refused e))) (refused_requests size asked e)
     (record { request = is.request; payload = is.payload; reply = reply_refused size a.request (refusal_of size a.request) e why refl })
     (refused_fit size asked e why (All-tail IsWholeRequest a asked are))
 
@@ -212,7 +209,7 @@ is_refused : (o : Option NbdError) (e : NbdError) → IsRefusal (reply_if o (Ref
 is_refused (Some f) e = tt
 is_refused None e = tt
 
-pub refused_refuse : (size : ℕ) (failed : Type 0) (asked : List WholeRequest) (e : NbdError) → FailsForGood failed (refused_turns size asked e)
+pub refused_refuse : (size : ℕ) (failed : Type 0) (asked : List WholeRequest) (e : NbdError) → FailsForGood failed (refused_requests size asked e)
 refused_refuse size failed [] e = tt
 refused_refuse size failed (a ∷ asked) e =
     (λ f. is_refused (refusal_of size a.request) e, refused_refuse size (failed ⊎ (reply_if (refusal_of size a.request) (Refused e) ≡ Refused Io)) asked e)
@@ -221,28 +218,28 @@ io_by : (size : ℕ) (r : Request) (o : Option NbdError) (e : NbdError) → refu
 io_by size r (Some f) e is says = absurd (refusal_is_other size r f is (let same : f ≡ Io = cc in same))
 io_by size r None e is says = cc
 
-pub refused_tell : (size : ℕ) (asked : List WholeRequest) (e : NbdError) → SaysFailed (refused_turns size asked e) → e ≡ Io
+pub refused_tell : (size : ℕ) (asked : List WholeRequest) (e : NbdError) → SaysFailed (refused_requests size asked e) → e ≡ Io
 refused_tell size [] e none = absurd none
 refused_tell size (a ∷ asked) e (inl says) = io_by size a.request (refusal_of size a.request) e refl says
 refused_tell size (a ∷ asked) e (inr rest) = refused_tell size asked e rest
 
-pub refused_never_fail : (size : ℕ) (asked : List WholeRequest) (e : NbdError) → (e ≡ Io → ⊥) → NeverFails (refused_turns size asked e)
+pub refused_never_fail : (size : ℕ) (asked : List WholeRequest) (e : NbdError) → (e ≡ Io → ⊥) → NeverFails (refused_requests size asked e)
 refused_never_fail size [] e other = tt
 refused_never_fail size (a ∷ asked) e other = (λ says. other (io_by size a.request (refusal_of size a.request) e refl says), refused_never_fail size asked e other)
 
 -- nothing was done
 pub refused_idle : (size : ℕ) (asked : List WholeRequest) (e : NbdError) (bytes : List ℕ) → (e ≡ Io) ⊎ (e ≡ NoMemory) → All IsWholeRequest asked → length bytes ≡ size
-    → IsService bytes (refused_turns size asked e) bytes
+    → IsService bytes (refused_requests size asked e) bytes
 refused_idle size [] e bytes why are long = refl
 refused_idle size (a ∷ asked) e bytes why are long = (
   bytes,
-  turn_by a (reply_if (refusal_of size a.request) (Refused e)) bytes bytes (All-head IsWholeRequest a asked are) (answer_none size a (refusal_of size a.request) e bytes why refl long),
+  answered_by a (reply_if (refusal_of size a.request) (Refused e)) bytes bytes (All-head IsWholeRequest a asked are) (answer_none size a (refusal_of size a.request) e bytes why refl long),
   refused_idle size asked e bytes why (All-tail IsWholeRequest a asked are) long,
 )
 
 -- the operations were begun
 pub refused_service : (block size : ℕ) (asked : List WholeRequest) (ops : List Operation) (e : NbdError) (bytes later : List ℕ) → (e ≡ Io) ⊎ (e ≡ NoMemory) → All IsWholeRequest asked → AreServedBy block size asked ops
-    → length bytes ≡ size → AreBegun ops bytes later → IsService bytes (refused_turns size asked e) later
+    → length bytes ≡ size → AreBegun ops bytes later → IsService bytes (refused_requests size asked e) later
 refused_service block size [] [] e bytes later why are served long same = same
 refused_service block size [] (op ∷ ops) e bytes later why are served long begun = absurd served
 refused_service block size (a ∷ asked) [] e bytes later why are served long begun = absurd served
@@ -250,14 +247,14 @@ refused_service block size (a ∷ asked) (op ∷ ops) e bytes later why are serv
     let is = All-head IsWholeRequest a asked are in
     let within = (served_one block size (refusal_of size a.request) a op served.0).0 in (
       later,
-      turn_by a (reply_if (refusal_of size a.request) (Refused e)) bytes later is (answer_part block size a op (refusal_of size a.request) e bytes later why refl served.0 long part),
+      answered_by a (reply_if (refusal_of size a.request) (Refused e)) bytes later is (answer_part block size a op (refusal_of size a.request) e bytes later why refl served.0 long part),
       refused_idle size asked e later why (All-tail IsWholeRequest a asked are) (length_part size op bytes later long within part),
     )
 refused_service block size (a ∷ asked) (op ∷ ops) e bytes later why are served long (inr rest) =
     let is = All-head IsWholeRequest a asked are in
     let within = (served_one block size (refusal_of size a.request) a op served.0).0 in (
       done_by op bytes,
-      turn_by a (reply_if (refusal_of size a.request) (Refused e)) bytes (done_by op bytes) is
+      answered_by a (reply_if (refusal_of size a.request) (Refused e)) bytes (done_by op bytes) is
           (answer_part block size a op (refusal_of size a.request) e bytes (done_by op bytes) why refl served.0 long (part_whole op bytes)),
       refused_service block size asked ops e (done_by op bytes) later why (All-tail IsWholeRequest a asked are) served.1 (length_done size op bytes long within) rest,
     )
@@ -269,11 +266,6 @@ left_part : (block size : ℕ) (a : WholeRequest) (op : Operation) (o : Option N
 left_part block size a op (Some e) bytes later nothing part = subst (λ (x : Operation). IsPartOf x bytes later) nothing part
 left_part block size a op None bytes later s part = s.in_part bytes later part
 
-left_done : (block size : ℕ) (a : WholeRequest) (op : Operation) (o : Option NbdError) (bytes : List ℕ) → DoesIfAccepted o block size a op
-    → done_by op bytes ≡ left_if o bytes (after a.request.command bytes a.request.offset a.request.length a.payload)
-left_done block size a op (Some e) bytes nothing = ap (λ (x : Operation). done_by x bytes) nothing
-left_done block size a op None bytes s = s.does bytes
-
 pub requests_begun : (block size : ℕ) (asked : List WholeRequest) (ops : List Operation) (bytes later : List ℕ) → AreServedBy block size asked ops → length bytes ≡ size → AreBegun ops bytes later
     → AreRequestsBegun asked bytes later
 requests_begun block size [] [] bytes later served long same = same
@@ -284,9 +276,7 @@ requests_begun block size (a ∷ asked) (op ∷ ops) bytes later served long (in
     (left_part block size a op (refusal_of size a.request) bytes later served.0 part))
 requests_begun block size (a ∷ asked) (op ∷ ops) bytes later served long (inr rest) =
     let within = (served_one block size (refusal_of size a.request) a op served.0).0 in
-    let done : done_by op bytes ≡ array_after_request a bytes = left_done block size a op (refusal_of size a.request) bytes served.0
-    ∙ ap (λ (n : ℕ). left_if (refusal_of n a.request) bytes (after a.request.command bytes a.request.offset a.request.length a.payload)) (sym long) in
-    inr (subst (λ (b : List ℕ). AreRequestsBegun asked b later) done
+    inr (subst (λ (b : List ℕ). AreRequestsBegun asked b later) (done_as_asked block size a op bytes served.0 long)
     (requests_begun block size asked ops (done_by op bytes) later served.1 (length_done size op bytes long within) rest))
 
 -- a request that isn't refused, among those that were asked
@@ -299,6 +289,18 @@ accepted_in size (a ∷ asked) (b ∷ before) after r is none =
     let rest : map (λ (x : WholeRequest). x.request) asked ≡ before ++ r ∷ after = cc in
     let k = accepted_in size asked before after r rest none in
     (a ∷ k.0, k.1, k.2, ap (λ (l : List WholeRequest). a ∷ l) k.3, k.4)
+
+-- where a request isn't refused for its own sake, the reply to it says why the batch was refused
+refused_says_fault : (size : ℕ) (asked : List WholeRequest) (e : NbdError) → (e ≡ Io) ⊎ (e ≡ NoMemory)
+    → ((xs ys : List WholeRequest) × (a : WholeRequest) × (asked ≡ xs ++ a ∷ ys) × (refusal_of size a.request ≡ None)) → SaysFault (refused_requests size asked e)
+refused_says_fault size asked e why (xs, ys, a, split, none) = subst (λ (l : List WholeRequest). SaysFault (refused_requests size l e)) (sym split) (among xs)
+  where
+    says : reply_if (refusal_of size a.request) (Refused e) ≡ Refused e
+    says = ap (λ (o : Option NbdError). reply_if o (Refused e)) none
+
+    among : (front : List WholeRequest) → SaysFault (refused_requests size (front ++ a ∷ ys) e)
+    among [] = inl (elim why [ inl io ↦ inl (says ∙ ap (λ (f : NbdError). Refused f) io) | inr memory ↦ inr (says ∙ ap (λ (f : NbdError). Refused f) memory) ])
+    among (x ∷ front) = inr (among front)
 
 -- ---- Requests that are collected, one after the other
 
@@ -344,73 +346,80 @@ module _ (block size : ℕ) (requests : List Request) (operations : List Operati
   pub gathered : (close : Close) → EndsBy close [] mid → HasGathered block size requests operations close unread mid
   gathered close ends = gathered_then requests operations mid close [] refl refl (Consumes-nil mid) ends
 
--- ---- What the turns of a batch come to
+-- ---- What the replies to a batch come to
 
-module _ {D W E : Type 0} {had : D → List E → D → Type 0} {hears : Bool → W → E → W → Type 0} {holds : Bool → D → W → List ℕ → Type 0} (failed : D → Type 0) (block size : ℕ) (old new : D) (asked : List WholeRequest)
-    (sized : (may_lie : Bool) (world : W) (bytes : List ℕ) → holds may_lie old world bytes → length bytes ≡ size) where
+module _ {D W E : Type 0} {kind : DeviceKind D W E} (block size : ℕ) (old new : D) (asked : List WholeRequest)
+    (sized : (may_lie : Bool) (world : W) (bytes : List ℕ) → kind.holds may_lie old world bytes → length bytes ≡ size) where
   -- all operations were done
-  pub all_answered : (requests : List Request) (ops : List Operation) (given : List (List ℕ)) → AreCollected block size asked requests ops → map length given ≡ map read_len ops → (failed old → ⊥)
-      → GoesOn had hears holds old (λ may_lie bytes later. ((given ≡ all_given ops bytes) × (later ≡ all_done ops bytes))) new
-      → HasRepliedToAll had hears holds (failed old) (failed new) size old new asked (answered_turns block size asked given)
-  all_answered requests ops given collected lens alive goes =
+  pub all_answered : (requests : List Request) (ops : List Operation) (given : List (List ℕ)) → AreCollected block size asked requests ops → map length given ≡ map read_len ops → (kind.failed old → ⊥)
+      → GoesOn kind.had kind.hears kind.holds old (λ may_lie bytes later. ((given ≡ all_given ops bytes) × (later ≡ all_done ops bytes))) new
+      → KeepsOn kind.had kind.hears kind.holds kind.kept old (TouchSomeByte ops) (λ may_lie bytes later. later ≡ all_done ops bytes) new
+      → HasRepliedToAll kind size old new asked (answered_requests block size asked given)
+  all_answered requests ops given collected lens alive goes keeps =
       let many : length given ≡ length asked = sym (length-map given length) ∙ ap length lens ∙ length-map ops read_len ∙ as_many block size asked ops collected.served in
       record {
         same = answered_same block size asked given many;
         served = record {
           fits = answered_fit block size asked ops given collected.all collected.served lens;
-          refused = answered_refuse block size (failed old) asked given alive;
+          refused = answered_refuse block size (kind.failed old) asked given alive;
           service = weaker goes (λ may_lie world bytes later h step. (
-            subst (λ (l : List ℕ). IsService bytes (answered_turns block size asked given) l) (sym step.1)
-                (subst (λ (gs : List (List ℕ)). IsService bytes (answered_turns block size asked gs) (all_done ops bytes)) (sym step.0)
+            subst (λ (l : List ℕ). IsService bytes (answered_requests block size asked given) l) (sym step.1)
+                (subst (λ (gs : List (List ℕ)). IsService bytes (answered_requests block size asked gs) (all_done ops bytes)) (sym step.0)
                 (answered_service block size asked ops bytes collected.all collected.served (sized may_lie world bytes h))),
             λ honest. answered_never_fail block size asked given,
           ));
+          kept = one_batch kind size old new (answered_requests block size asked given)
+              (keeps_batch kind block size old new asked ops (answered_requests block size asked given) sized collected.served (answered_same block size asked given many) keeps);
         };
-        told = λ says. absurd (answered_tell_none block size asked given says);
+        reported = λ says. absurd (answered_tell_none block size asked given says);
       }
 
   -- the operations were begun, and all requests are refused
-  pub all_refused : (requests : List Request) (ops : List Operation) (e : NbdError) → AreCollected block size asked requests ops → (e ≡ Io) ⊎ (e ≡ NoMemory) → (e ≡ Io → failed new)
-      → GoesOn had hears holds old (λ may_lie bytes later. AreBegun ops bytes later × (e ≡ Io → may_lie ≡ true)) new
-      → HasRepliedToAll had hears holds (failed old) (failed new) size old new asked (refused_turns size asked e)
-  all_refused requests ops e collected why fails goes = record {
+  pub all_refused : (requests : List Request) (ops : List Operation) (e : NbdError) → AreCollected block size asked requests ops → (e ≡ Io) ⊎ (e ≡ NoMemory) → (e ≡ Io → kind.failed new)
+      → (before after : List Request) (r : Request) → requests ≡ before ++ r ∷ after → refusal_of size r ≡ None
+      → GoesOn kind.had kind.hears kind.holds old (λ may_lie bytes later. AreBegun ops bytes later × (e ≡ Io → may_lie ≡ true)) new
+      → HasRepliedToAll kind size old new asked (refused_requests size asked e)
+  all_refused requests ops e collected why fails before after r split none goes = record {
     same = refused_same size asked e;
     served = record {
       fits = refused_fit size asked e why collected.all;
-      refused = refused_refuse size (failed old) asked e;
+      refused = refused_refuse size (kind.failed old) asked e;
       service = weaker goes (λ may_lie world bytes later h step. (
         refused_service block size asked ops e bytes later why collected.all collected.served (sized may_lie world bytes h) step.0,
         λ honest. refused_never_fail size asked e (λ io. let lies : may_lie ≡ true = step.1 io in cc),
       ));
+      kept = one_batch kind size old new (refused_requests size asked e)
+          (inr (all_refusals size asked e, inr (refused_says_fault size asked e why (accepted_in size asked before after r (collected.same ∙ split) none))));
     };
-    told = λ says. fails (refused_tell size asked e says);
+    reported = λ says. fails (refused_tell size asked e says);
   }
 
   -- the device stopped
   pub all_begun : (requests : List Request) (ops : List Operation) → AreCollected block size asked requests ops → (before after : List Request) (r : Request) → requests ≡ before ++ r ∷ after → refusal_of size r ≡ None
-      → GoesOn had hears holds old (λ may_lie bytes later. AreBegun ops bytes later) new → HasBegun had hears holds (failed old) (failed new) size old new asked
+      → GoesOn kind.had kind.hears kind.holds old (λ may_lie bytes later. AreBegun ops bytes later) new → HasBegun kind size old new asked
   all_begun requests ops collected before after r split none goes = record {
     accepted = accepted_in size asked before after r (collected.same ∙ split) none;
     begun = weaker goes (λ may_lie world bytes later h step. requests_begun block size asked ops bytes later collected.served (sized may_lie world bytes h) step);
   }
 
 -- a device that isn't called, where all requests are refused for want of memory
-pub refused_at_rest : {D W E : Type 0} {had : D → List E → D → Type 0} {hears : Bool → W → E → W → Type 0} {holds : Bool → D → W → List ℕ → Type 0} (failed : D → Type 0) (size : ℕ) (d : D) (asked : List WholeRequest)
-    → ((may_lie : Bool) (world : W) (bytes : List ℕ) → holds may_lie d world bytes → length bytes ≡ size) → All IsWholeRequest asked
-    → HasRepliedToAll had hears holds (failed d) (failed d) size d d asked (refused_turns size asked NoMemory)
-refused_at_rest failed size d asked sized are = record {
+pub refused_at_rest : {D W E : Type 0} {kind : DeviceKind D W E} (size : ℕ) (d : D) (asked : List WholeRequest)
+    → ((may_lie : Bool) (world : W) (bytes : List ℕ) → kind.holds may_lie d world bytes → length bytes ≡ size) → All IsWholeRequest asked
+    → HasRepliedToAll kind size d d asked (refused_requests size asked NoMemory)
+refused_at_rest {kind = kind} size d asked sized are = record {
   same = refused_same size asked NoMemory;
   served = record {
     fits = refused_fit size asked NoMemory (inr refl) are;
-    refused = refused_refuse size (failed d) asked NoMemory;
+    refused = refused_refuse size (kind.failed d) asked NoMemory;
     service = at_rest (λ may_lie world bytes h. (refused_idle size asked NoMemory bytes (inr refl) are (sized may_lie world bytes h), λ honest. refused_never_fail size asked NoMemory (λ io. cc)));
+    kept = one_batch kind size d d (refused_requests size asked NoMemory) (inr (all_refusals size asked NoMemory, inl refl));
   };
-  told = λ says. absurd (let none : NoMemory ≡ Io = refused_tell size asked NoMemory says in cc);
+  reported = λ says. absurd (let none : NoMemory ≡ Io = refused_tell size asked NoMemory says in cc);
 }
 
--- how many turns these are
-pub length_same : (asked : List WholeRequest) (turns : List Turn) → map asked_in turns ≡ asked → length turns ≡ length asked
-length_same asked turns same = sym (length-map turns asked_in) ∙ ap length same
+-- how many requests these are
+pub length_same : (asked : List WholeRequest) (answered : List AnsweredRequest) → map asked_in answered ≡ asked → length answered ≡ length asked
+length_same asked answered same = sym (length-map answered asked_in) ∙ ap length same
 
 pub behind_cut : (f : NbdFault) (part : List ℕ) (new : Option (List ℕ)) → IsCutOff f part new → IsBehind part
 behind_cut fault.Read part new h = inr (inr (inl h))
@@ -442,27 +451,27 @@ behind_left (Breaks f) rest new h = behind_cut f rest new h
 -- ---- Replies that are written, one after the other
 
 -- Some of this text was written. The rest is left.
-pub record Told (old now : Option (List ℕ)) (all rest : List ℕ) : Type 0 where
+pub record WritesOn (old now : Option (List ℕ)) (all rest : List ℕ) : Type 0 where
   pub so_far : List ℕ
   pub wrote : Appends old now so_far
   pub split : so_far ++ rest ≡ all
 
-pub told_none : (old : Option (List ℕ)) (all : List ℕ) → Told old old all all
-told_none old all = record { so_far = []; wrote = Appends-nil old; split = refl }
+pub writes_none : (old : Option (List ℕ)) (all : List ℕ) → WritesOn old old all all
+writes_none old all = record { so_far = []; wrote = Appends-nil old; split = refl }
 
-module _ (old now : Option (List ℕ)) (all rest : List ℕ) (t : Told old now all rest) where
-  pub told_next : (later : Option (List ℕ)) (more rest' : List ℕ) → rest ≡ more ++ rest' → Appends now later more → Told old later all rest'
-  told_next later more rest' is wrote = record {
+module _ (old now : Option (List ℕ)) (all rest : List ℕ) (t : WritesOn old now all rest) where
+  pub writes_next : (later : Option (List ℕ)) (more rest' : List ℕ) → rest ≡ more ++ rest' → Appends now later more → WritesOn old later all rest'
+  writes_next later more rest' is wrote = record {
     so_far = t.so_far ++ more;
     wrote = Appends-trans old now later t.so_far more t.wrote wrote;
     split = append_assoc t.so_far more rest' ∙ ap (λ (l : List ℕ). t.so_far ++ l) (sym is) ∙ t.split;
   }
 
-  pub told_all : rest ≡ [] → Appends old now all
-  told_all none = subst (Appends old now) (sym (append-nil t.so_far) ∙ ap (λ (l : List ℕ). t.so_far ++ l) (sym none) ∙ t.split) t.wrote
+  pub writes_all : rest ≡ [] → Appends old now all
+  writes_all none = subst (Appends old now) (sym (append-nil t.so_far) ∙ ap (λ (l : List ℕ). t.so_far ++ l) (sym none) ∙ t.split) t.wrote
 
-  pub told_begun : (later : Option (List ℕ)) (more rest' : List ℕ) → rest ≡ more ++ rest' → IsBegunText now later more → IsBegunText old later all
-  told_begun later more rest' is begun =
+  pub writes_begun : (later : Option (List ℕ)) (more rest' : List ℕ) → rest ≡ more ++ rest' → IsBegunText now later more → IsBegunText old later all
+  writes_begun later more rest' is begun =
       let n : ℕ = begun.0 in
       elim (cases_lt n (length more)) [
         | inl part ↦ (
@@ -514,6 +523,7 @@ serves_read block size a first count is place covers within =
     record {
       reads = record { first = first; count = count; place = refl; len = refl };
       within = within;
+      touches = subst (λ (c : Command). touched_len c n ≤ block * count) (sym is) (omega (arith, covers));
       does = λ bytes. ap (λ (c : Command). after c bytes o n a.payload) (sym is);
       in_part = λ old new h. subst (λ (c : Command). IsPartly c old o n a.payload new) (sym is) h;
       gives = λ bytes. subst (λ (c : Command). take (given_len c n) (drop s (bytes_at bytes (block * first) (block * count))) ≡ given c bytes o n) (sym is)
@@ -559,11 +569,11 @@ without_memory_one close r part unread is ends =
 -- ---- The texts of the replies to a batch, and what was asked
 
 pub text_refused : (size : ℕ) (asked : List WholeRequest) (e : NbdError) (requests shown : List Request) → map (λ (a : WholeRequest). a.request) asked ≡ requests → shown ≡ requests
-    → refusals_text size shown e ≡ replies_text (refused_turns size asked e)
+    → refusals_text size shown e ≡ replies_text (refused_requests size asked e)
 text_refused size asked e requests shown are same = ap (λ (l : List Request). refusals_text size l e) (same ∙ sym are) ∙ sym (refused_text size asked e)
 
 pub text_answered : (block size : ℕ) (asked : List WholeRequest) (requests shown : List Request) (given shown' : List (List ℕ)) → map (λ (a : WholeRequest). a.request) asked ≡ requests → shown ≡ requests → shown' ≡ given
-    → answers_text block size shown shown' ≡ replies_text (answered_turns block size asked given)
+    → answers_text block size shown shown' ≡ replies_text (answered_requests block size asked given)
 text_answered block size asked requests shown given shown' are same same' =
     ap (λ (l : List Request). answers_text block size l shown') (same ∙ sym are) ∙ ap (answers_text block size (map (λ (a : WholeRequest). a.request) asked)) same' ∙ sym (answered_text block size asked given)
 

@@ -7,6 +7,7 @@ pub mod Texts
 pub mod WholeRequests
 pub mod Wanted
 pub mod Pieces
+pub mod KeptBatches
 pub mod Served
 pub mod Gathered
 pub mod Batched

@@ -1,7 +1,7 @@
 -- Worked rows, by computing.
 use Rattle.std.proofs.Common.{◌≡◌, ℕ, List, [], ◌∷◌, ◌++◌, ◌^◌, Some, None, false, refl, arith}
 use lib.Count.{ones}
-use Rattle.oram_nbd.specs.Service.{after, given, refusal_of, replies_text, Turn}
+use Rattle.oram_nbd.specs.Service.{after, given, refusal_of, replies_text, AnsweredRequest}
 use Rattle.oram_nbd.specs.Messages.{reply_text, request_text}
 use Rattle.oram_nbd.specs.Options.{option_text, wanted_text, Wants}
 use Rattle.oram_nbd.specs.Handshake.{described, export_text, greeting, list_text, refused}
@@ -91,9 +91,9 @@ unfolding request
 other_rows = refl
 
 -- a read and its reply, one after the other
-turn : Turn
-turn = record { request = request Read 0 1; payload = []; reply = Done (9 ∷ []) }
+answered_read : AnsweredRequest
+answered_read = record { request = request Read 0 1; payload = []; reply = Done (9 ∷ []) }
 
-turn_row : replies_text (turn ∷ []) ≡ 103 ∷ 68 ∷ 102 ∷ 152 ∷ 0 ∷ 0 ∷ 0 ∷ 0 ∷ 0 ∷ 0 ∷ 0 ∷ 0 ∷ 0 ∷ 0 ∷ 1 ∷ 2 ∷ 9 ∷ []
-unfolding turn request
-turn_row = refl
+answered_row : replies_text (answered_read ∷ []) ≡ 103 ∷ 68 ∷ 102 ∷ 152 ∷ 0 ∷ 0 ∷ 0 ∷ 0 ∷ 0 ∷ 0 ∷ 0 ∷ 0 ∷ 0 ∷ 0 ∷ 1 ∷ 2 ∷ 9 ∷ []
+unfolding answered_read request
+answered_row = refl

@@ -56,7 +56,7 @@ same_request r q h k e =
     let cookie : r.cookie ≡ q.cookie = sym (from_be_bytes-to_be_bytes_8 r.cookie h.cookie) ∙ ap (at_8 8) e ∙ from_be_bytes-to_be_bytes_8 q.cookie k.cookie in
     let offset : r.offset ≡ q.offset = sym (from_be_bytes-to_be_bytes_8 r.offset h.offset) ∙ ap (at_8 16) e ∙ from_be_bytes-to_be_bytes_8 q.offset k.offset in
     let length : r.length ≡ q.length = sym (from_be_bytes-to_be_bytes_4 r.length h.length) ∙ ap (at_4 24) e ∙ from_be_bytes-to_be_bytes_4 q.length k.length in
-    let command : r.command ≡ q.command = same_command r.command q.command h.told k.told code in
+    let command : r.command ≡ q.command = same_command r.command q.command h.own_code k.own_code code in
     ap (λ (x : Command). let m : Request = record { command = x; flags = r.flags; cookie = r.cookie; offset = r.offset; length = r.length } in m) command
     ∙ ap (λ (x : ℕ). let m : Request = record { command = q.command; flags = x; cookie = r.cookie; offset = r.offset; length = r.length } in m) flags
     ∙ ap (λ (x : ℕ). let m : Request = record { command = q.command; flags = q.flags; cookie = x; offset = r.offset; length = r.length } in m) cookie

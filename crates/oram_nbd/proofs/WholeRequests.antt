@@ -1,8 +1,8 @@
 -- Whether bytes begin with a whole request.
-use Rattle.std.proofs.Common.{◌≡◌, ℕ, ◌+◌, ◌-◌, ◌<◌, ◌≤◌, List, ◌++◌, length, take, drop, refl, sym, ap, ◌∙◌, subst, arith, append_assoc, length-append, length-drop, length-take-le}
+use Rattle.std.proofs.Common.{◌≡◌, ℕ, ◌+◌, ◌-◌, ◌≤◌, List, ◌++◌, length, take, drop, refl, sym, ap, ◌∙◌, arith, append_assoc, length-append, length-drop, length-take-le}
 use Rattle.std.proofs.lemmas.List.{take-append-drop}
 use Rattle.oram_nbd.specs.Messages.{payload_len, request_text, IsRequest}
-use Rattle.oram_nbd.specs.Service.{BeginsWithRequest, WholeRequest}
+use Rattle.oram_nbd.specs.Service.{BeginsWithRequest}
 use Rattle.oram_nbd.specs.declared.requests.Request.{Request}
 
 -- a head, and as many bytes behind it as its write has

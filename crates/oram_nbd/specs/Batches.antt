@@ -1,13 +1,14 @@
 -- Requests that are carried out together.
-use Rattle.std.specs.Prelude.{◌≡◌, ◌⊎◌, ℕ, ◌*◌, ◌%◌, ◌<◌, ◌^◌, Bool, List, [], ◌∷◌, ◌++◌, All, Option, Some, None, length, map, take, drop}
+use Rattle.std.specs.Prelude.{◌≡◌, ◌⊎◌, ℕ, ◌*◌, ◌%◌, ◌<◌, ◌≤◌, ◌^◌, List, [], ◌∷◌, ◌++◌, All, Option, Some, None, length, map, take, drop}
 use Rattle.std.specs.List.{flat_map}
 use Rattle.std.specs.Io.KnownBytes.{Appends, Consumes}
-use Rattle.oram_nbd.specs.Beside.{GoesOn, KeepsOn}
+use Rattle.oram_nbd.specs.Beside.{GoesOn}
+use Rattle.oram_nbd.specs.DeviceKind.{DeviceKind}
 use Rattle.oram_nbd.specs.Streams.{IsBegunText}
 use Rattle.oram_nbd.specs.Messages.{request_text, reply_text, SimpleReply}
 use Rattle.oram_nbd.specs.Messages.SimpleReply.{Done, Refused}
-use Rattle.oram_nbd.specs.Operations.{IsPartOf, IsWithin, ReadsWhole, TouchSomeByte, all_done, done_by, given_by, read_len}
-use Rattle.oram_nbd.specs.Service.{after, whole_requests_text, given, given_len, refusal_of, replies_text, AreRequestsBegun, WholeRequest, IsWholeRequest, IsPartly, IsRefusal, SaysFailed, Turn}
+use Rattle.oram_nbd.specs.Operations.{IsPartOf, IsWithin, ReadsWhole, done_by, given_by, len_of, read_len}
+use Rattle.oram_nbd.specs.Service.{after, asked_in, whole_requests_text, given, given_len, refusal_of, replies_text, touched_len, AnsweredRequest, AreRequestsBegun, IsPartly, IsWholeRequest, SaysFailed, WholeRequest}
 use Rattle.oram_nbd.specs.Transmission.{HasServed, IsCutOff, IsLast}
 use Rattle.oram_nbd.specs.declared.batches.Close.{Close}
 use Rattle.oram_nbd.specs.declared.batches.Close.TheVariants.{Waits, NoRoom, Leaves, Breaks}
@@ -33,6 +34,7 @@ asked_part block r bytes = take (given_len r.command r.length) (drop (r.offset %
 pub record DoesRequest (block size : ℕ) (a : WholeRequest) (op : Operation) : Type 0 where
   pub reads : ReadsWhole block op
   pub within : IsWithin size op
+  pub touches : touched_len a.request.command a.request.length ≤ len_of op
   pub does : (bytes : List ℕ) → done_by op bytes ≡ after a.request.command bytes a.request.offset a.request.length a.payload
   pub in_part : (old new : List ℕ) → IsPartOf op old new → IsPartly a.request.command old a.request.offset a.request.length a.payload new
   pub gives : (bytes : List ℕ) → asked_part block a.request (given_by op bytes) ≡ given a.request.command bytes a.request.offset a.request.length
@@ -105,34 +107,24 @@ answers_text block size (r ∷ requests) (bytes ∷ given) = reply_text r.cookie
 abbrev pub refusals_text : ℕ → List Request → NbdError → List ℕ
 refusals_text size requests e = flat_map (λ r. reply_text r.cookie (reply_if (refusal_of size r) (Refused e))) requests
 
-abbrev pub asked_in : Turn → WholeRequest
-asked_in turn = record { request = turn.request; payload = turn.payload }
-
--- The result of a batch. `failed` says whether the device had failed before it, `failed'` whether it has failed after it.
-module _ {D W E : Type 0} (had : D → List E → D → Type 0) (hears : Bool → W → E → W → Type 0) (holds : Bool → D → W → List ℕ → Type 0) (failed failed' : Type 0) (size : ℕ) (old new : D) (asked : List WholeRequest) where
-  -- Each request of the batch got its reply.
-  pub record HasRepliedToAll (turns : List Turn) : Type 0 where
-    pub same : map asked_in turns ≡ asked
-    pub served : HasServed had hears holds failed size old new turns
-    pub told : SaysFailed turns → failed'
+-- The result of a batch, for a device of this kind and of `size` bytes, which goes from one state to another.
+module _ {D W E : Type 0} (kind : DeviceKind D W E) (size : ℕ) (old new : D) (asked : List WholeRequest) where
+  -- Each request of the batch got its reply. If a reply says that the device has failed, it has.
+  pub record HasRepliedToAll (answered : List AnsweredRequest) : Type 0 where
+    pub same : map asked_in answered ≡ asked
+    pub served : HasServed kind size old new answered
+    pub reported : SaysFailed answered → kind.failed new
 
   -- The device stopped. Some request isn't refused.
   pub record HasBegun : Type 0 where
     pub accepted : (before after : List WholeRequest) × (a : WholeRequest) × (asked ≡ before ++ a ∷ after) × (refusal_of size a.request ≡ None)
-    pub begun : GoesOn had hears holds old (λ may_lie bytes later. AreRequestsBegun asked bytes later) new
+    pub begun : GoesOn kind.had kind.hears kind.holds old (λ may_lie bytes later. AreRequestsBegun asked bytes later) new
 
   -- All replies were written, or a beginning of them; or the device stopped, and nothing was written.
   abbrev pub EndsBatch : Option (List ℕ) → Option (List ℕ) → Type 0
-  EndsBatch written written' = (turns : List Turn) × HasRepliedToAll turns × Appends written written' (replies_text turns)
+  EndsBatch written written' = (answered : List AnsweredRequest) × HasRepliedToAll answered × Appends written written' (replies_text answered)
 
   abbrev pub BreaksBatch : NbdFault → Option (List ℕ) → Option (List ℕ) → Type 0
   BreaksBatch f written written' =
-      ((f ≡ fault.Write) × ((turns : List Turn) × HasRepliedToAll turns × IsBegunText written written' (replies_text turns)))
+      ((f ≡ fault.Write) × ((answered : List AnsweredRequest) × HasRepliedToAll answered × IsBegunText written written' (replies_text answered)))
       ⊎ ((f ≡ fault.Stopped) × (HasBegun × (written' ≡ written)))
-
--- The replies to a batch were written. Unless all of them refuse, what its operations did is kept.
-pub record HasKept {D W E : Type 0} (had : D → List E → D → Type 0) (hears : Bool → W → E → W → Type 0) (holds kept : Bool → D → W → List ℕ → Type 0) (operations : List Operation) (old new : D)
-    (written written' : Option (List ℕ)) : Type 0 where
-  pub turns : List Turn
-  pub wrote : Appends written written' (replies_text turns)
-  pub keeps : All (λ turn. IsRefusal turn.reply) turns ⊎ KeepsOn had hears holds kept old (TouchSomeByte operations) (λ _ bytes later. later ≡ all_done operations bytes) new

@@ -7,15 +7,15 @@ use Rattle.std.specs.List.{FoldsTo, flat_map}
 -- arrays that the device holds in a world.
 module _ {D W E A : Type 0} (had : D → List E → D → Type 0) (hears : Bool → W → E → W → Type 0) (holds : Bool → D → W → A → Type 0) where
   -- the world goes through the events of all calls
-  abbrev pub Hears : Bool → W → List (List E) → W → Type 0
-  Hears may_lie world calls later = FoldsTo {P = W} {A = E} (hears may_lie) world (flat_map (λ events. events) calls) later
+  abbrev pub GoesThrough : Bool → W → List (List E) → W → Type 0
+  GoesThrough may_lie world calls later = FoldsTo {P = W} {A = E} (hears may_lie) world (flat_map (λ events. events) calls) later
 
   -- The device was called some times, and its calls had some events. Whatever world goes through these: for each array that
   -- the device held there before, `step` leads to one that it holds there now.
   pub record GoesOn (old : D) (step : Bool → A → A → Type 0) (new : D) : Type 0 where
     pub calls : List (List E)
     pub made : FoldsTo {P = D} {A = List E} had old calls new
-    pub leads : (may_lie : Bool) (world later : W) → Hears may_lie world calls later → (array : A) → holds may_lie old world array
+    pub leads : (may_lie : Bool) (world later : W) → GoesThrough may_lie world calls later → (array : A) → holds may_lie old world array
         → (next : A) × step may_lie array next × holds may_lie new later next
 
   -- The same, and what outlasts the process. `kept` gives the arrays that the next process would hold, in a world. If `sure`
@@ -23,7 +23,7 @@ module _ {D W E A : Type 0} (had : D → List E → D → Type 0) (hears : Bool 
   pub record KeepsOn (kept : Bool → D → W → A → Type 0) (old : D) (sure : Type 0) (step : Bool → A → A → Type 0) (new : D) : Type 0 where
     pub calls : List (List E)
     pub made : FoldsTo {P = D} {A = List E} had old calls new
-    pub leads : (may_lie : Bool) (world later : W) → Hears may_lie world calls later → (array : A) → holds may_lie old world array
+    pub leads : (may_lie : Bool) (world later : W) → GoesThrough may_lie world calls later → (array : A) → holds may_lie old world array
         → (next : A) × step may_lie array next × holds may_lie new later next × (sure ⊎ kept may_lie old world array → kept may_lie new later next)
 
 -- a call has met what stops the device, and has left it in this state

@@ -2,12 +2,22 @@
 use Rattle.std.specs.Prelude.{◌≡◌, ◌⊎◌, ℕ, List, [], ◌∷◌, ◌++◌, length, Bool, true, false, Option, Some, None, replicate, if◌then◌else◌}
 use Rattle.std.specs.Int.{w32, w64, to_be_bytes}
 use Rattle.oram_nbd.specs.Options.{option_reply, IsMalformed, Wants}
+use Rattle.oram_nbd.specs.declared.TheConstants.{LONGEST_PAYLOAD}
 use Rattle.oram_nbd.specs.declared.handshake.Agreement.{Agreement}
 use Rattle.oram_nbd.specs.declared.handshake.Agreement.TheVariants.{Transmission, Gone}
 use Rattle.oram_nbd.specs.declared.options.HandshakeOption.{HandshakeOption}
 use Rattle.oram_nbd.specs.declared.options.HandshakeOption.TheVariants as option
 use Rattle.oram_nbd.specs.declared.options.ReplyKind.{ReplyKind}
 use Rattle.oram_nbd.specs.declared.options.ReplyKind.TheVariants as kind
+
+-- what a server says about its export: its name, its number of bytes, and the preferred number of bytes of a request
+pub record ExportValue : Type 0 where
+  pub name : List ℕ
+  pub size : ℕ
+  pub preferred : ℕ
+
+abbrev pub export_value : List ℕ → ℕ → ℕ → ExportValue
+export_value name size preferred = record { name = name; size = size; preferred = preferred }
 
 -- the letters of a server, and its flags: it speaks the fixed newstyle, and supports clients that want no zeroes
 abbrev pub greeting : List ℕ
@@ -25,9 +35,9 @@ export_flags = 0 ∷ 109 ∷ []
 abbrev pub size_text : ℕ → List ℕ
 size_text size = (0 ∷ 0 ∷ []) ++ to_be_bytes w64 size ++ export_flags
 
--- requests of 1 byte at least, preferably of `preferred` bytes, and of 32 MiB at most
+-- requests of 1 byte at least, preferably of `preferred` bytes, and of as many as one may have at most
 abbrev pub block_text : ℕ → List ℕ
-block_text preferred = (0 ∷ 3 ∷ 0 ∷ 0 ∷ 0 ∷ 1 ∷ []) ++ to_be_bytes w32 preferred ++ to_be_bytes w32 33554432
+block_text preferred = (0 ∷ 3 ∷ 0 ∷ 0 ∷ 0 ∷ 1 ∷ []) ++ to_be_bytes w32 preferred ++ to_be_bytes w32 LONGEST_PAYLOAD
 
 -- the answer to EXPORT_NAME
 abbrev pub export_text : ℕ → Bool → List ℕ
@@ -45,11 +55,11 @@ abbrev pub described : ℕ → ℕ → HandshakeOption → List ℕ
 described size preferred o = option_reply o kind.Info (size_text size) ++ option_reply o kind.Info (block_text preferred) ++ option_reply o kind.Ack []
 
 -- the answer to INFO and GO, and whether they ask for the export
-abbrev pub Describes : List ℕ → ℕ → ℕ → HandshakeOption → List ℕ → List ℕ → Bool → Type 0
-Describes name size preferred o content text true = (asked : List ℕ) × Wants content asked × IsNamed name asked × (text ≡ described size preferred o)
-Describes name size preferred o content text false =
+abbrev pub Describes : ExportValue → HandshakeOption → List ℕ → List ℕ → Bool → Type 0
+Describes e o content text true = (asked : List ℕ) × Wants content asked × IsNamed e.name asked × (text ≡ described e.size e.preferred o)
+Describes e o content text false =
     (IsMalformed content × (text ≡ refused o kind.Invalid))
-    ⊎ ((asked : List ℕ) × Wants content asked × (IsNamed name asked → ⊥) × (text ≡ refused o kind.Unknown))
+    ⊎ ((asked : List ℕ) × Wants content asked × (IsNamed e.name asked → ⊥) × (text ≡ refused o kind.Unknown))
 
 abbrev pub name_text : List ℕ → List ℕ
 name_text name = to_be_bytes w32 (length name) ++ name
@@ -59,14 +69,13 @@ abbrev pub list_text : List ℕ → List ℕ → List ℕ
 list_text name [] = option_reply option.List kind.Server (name_text name) ++ option_reply option.List kind.Ack []
 list_text name (b ∷ content) = refused option.List kind.Invalid
 
--- for an export with this name and `size` bytes, and requests preferably of `preferred` bytes; `zeroes` if the client
--- wants zeroes
-module _ (name : List ℕ) (size preferred : ℕ) (zeroes : Bool) where
+-- for this export; `zeroes` if the client wants zeroes
+module _ (e : ExportValue) (zeroes : Bool) where
   -- The answer to each option, and how it ends the handshake, if it does.
   abbrev pub Answers : HandshakeOption → List ℕ → List ℕ → Option Agreement → Type 0
-  Answers option.ExportName content text ends = IsNamed name content × (text ≡ export_text size zeroes) × (ends ≡ Some Transmission)
+  Answers option.ExportName content text ends = IsNamed e.name content × (text ≡ export_text e.size zeroes) × (ends ≡ Some Transmission)
   Answers option.Abort content text ends = (text ≡ refused option.Abort kind.Ack) × (ends ≡ Some Gone)
-  Answers option.List content text ends = (text ≡ list_text name content) × (ends ≡ None)
-  Answers option.Info content text ends = (found : Bool) × Describes name size preferred option.Info content text found × (ends ≡ None)
-  Answers option.Go content text ends = (found : Bool) × Describes name size preferred option.Go content text found × (ends ≡ (if found then Some Transmission else None))
+  Answers option.List content text ends = (text ≡ list_text e.name content) × (ends ≡ None)
+  Answers option.Info content text ends = (found : Bool) × Describes e option.Info content text found × (ends ≡ None)
+  Answers option.Go content text ends = (found : Bool) × Describes e option.Go content text found × (ends ≡ (if found then Some Transmission else None))
   Answers (option.Other code) content text ends = (text ≡ refused (option.Other code) kind.Unsupported) × (ends ≡ None)

@@ -1,6 +1,7 @@
 pub mod Bytes
 pub mod Beside
 pub mod Calls
+pub mod DeviceKind
 pub mod Operations
 pub mod MemBlocks
 pub mod Errors

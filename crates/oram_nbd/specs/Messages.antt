@@ -30,7 +30,7 @@ request_text r =
 
 -- a request that can be written: its numbers fit their fields
 pub record IsRequest (r : Request) : Type 0 where
-  pub told : HasOwnCode r.command
+  pub own_code : HasOwnCode r.command
   pub code : command_code r.command < 2 ^ 16
   pub flags : r.flags < 2 ^ 16
   pub cookie : r.cookie < 2 ^ 64

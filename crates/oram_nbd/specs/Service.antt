@@ -1,9 +1,10 @@
 -- The service of requests: each is answered as an array of bytes answers it.
-use Rattle.std.specs.Prelude.{◌≡◌, ◌⊎◌, ℕ, ◌+◌, List, [], ◌∷◌, ◌++◌, length, Option, Some, None, nat_lt, if◌then◌else◌}
+use Rattle.std.specs.Prelude.{◌≡◌, ◌⊎◌, ℕ, ◌+◌, ◌<◌, List, [], ◌∷◌, ◌++◌, length, Option, Some, None, nat_lt, if◌then◌else◌}
 use Rattle.std.specs.List.{flat_map}
 use Rattle.oram_nbd.specs.Bytes.{bytes_at, written, zeroes, IsBegun}
 use Rattle.oram_nbd.specs.Messages.{payload_len, request_text, reply_text, IsRequest, SimpleReply}
 use Rattle.oram_nbd.specs.Messages.SimpleReply.{Done, Refused}
+use Rattle.oram_nbd.specs.declared.TheConstants.{LONGEST_PAYLOAD}
 use Rattle.oram_nbd.specs.declared.faults.NbdError.{NbdError}
 use Rattle.oram_nbd.specs.declared.faults.NbdError.TheVariants.{Io, NoMemory, Invalid, NoSpace}
 use Rattle.oram_nbd.specs.declared.requests.Command.{Command}
@@ -21,7 +22,7 @@ outside e size at n = if nat_lt size (at + n) then Some e else None
 
 -- Invalid if a request has more bytes than one may have, or else `error`
 abbrev pub short : Option NbdError → ℕ → Option NbdError
-short error n = if nat_lt 33554432 n then Some Invalid else error
+short error n = if nat_lt LONGEST_PAYLOAD n then Some Invalid else error
 
 -- why a command on a range of a device of `size` bytes is refused
 abbrev pub misfit : Command → ℕ → ℕ → ℕ → Option NbdError
@@ -52,6 +53,13 @@ abbrev pub after : Command → List ℕ → ℕ → ℕ → List ℕ → List �
 after Write bytes at n payload = written bytes at payload
 after WriteZeroes bytes at n payload = written bytes at (zeroes n)
 after _ bytes at n payload = bytes
+
+-- how many bytes of an array a command reads or writes; a trim leaves all of them alone
+abbrev pub touched_len : Command → ℕ → ℕ
+touched_len Read n = n
+touched_len Write n = n
+touched_len WriteZeroes n = n
+touched_len _ n = 0
 
 -- the array if the device failed in the middle: the command came as far as some byte of its range
 abbrev pub IsPartly : Command → List ℕ → ℕ → ℕ → List ℕ → List ℕ → Type 0
@@ -101,6 +109,22 @@ left_if None old new = new
 abbrev pub array_after_request : WholeRequest → List ℕ → List ℕ
 array_after_request a old = left_if (refusal_of (length old) a.request) old (after a.request.command old a.request.offset a.request.length a.payload)
 
+-- the array after all of these requests, one after the other
+abbrev pub array_after_requests : List WholeRequest → List ℕ → List ℕ
+array_after_requests [] old = old
+array_after_requests (a ∷ asked) old = array_after_requests asked (array_after_request a old)
+
+-- how many bytes a request touches: one that is refused touches none
+abbrev pub touched_if : Option NbdError → ℕ → ℕ
+touched_if (Some e) n = 0
+touched_if None n = n
+
+-- at least one of these requests reads or writes a byte of a device of `size` bytes
+abbrev pub RequestsTouchSomeByte : ℕ → List WholeRequest → Type 0
+RequestsTouchSomeByte size [] = ⊥
+RequestsTouchSomeByte size (a ∷ asked) =
+    (0 < touched_if (refusal_of size a.request) (touched_len a.request.command a.request.length)) ⊎ RequestsTouchSomeByte size asked
+
 abbrev pub IsLeftIf : Option NbdError → List ℕ → Type 0 → List ℕ → Type 0
 IsLeftIf (Some e) old partly new = new ≡ old
 IsLeftIf None old partly new = partly
@@ -113,46 +137,50 @@ abbrev pub AreRequestsBegun : List WholeRequest → List ℕ → List ℕ → Ty
 AreRequestsBegun [] old new = new ≡ old
 AreRequestsBegun (a ∷ asked) old new = IsLeftBy a old new ⊎ AreRequestsBegun asked (array_after_request a old) new
 
--- a request, the bytes after it, and the reply
-pub record Turn : Type 0 where
+-- a request, the bytes after it, and the reply to it
+pub record AnsweredRequest : Type 0 where
   pub request : Request
   pub payload : List ℕ
   pub reply : SimpleReply
 
--- the turn fits, whatever the device holds
-pub record IsReplied (size : ℕ) (turn : Turn) : Type 0 where
-  pub request : IsRequest turn.request
-  pub payload : length turn.payload ≡ payload_len turn.request.command turn.request.length
-  pub reply : IsReply size turn.request turn.reply
+-- what the client asked for
+abbrev pub asked_in : AnsweredRequest → WholeRequest
+asked_in a = record { request = a.request; payload = a.payload }
 
--- the turn on an array of bytes
-pub record IsTurn (old : List ℕ) (turn : Turn) (new : List ℕ) : Type 0 where
-  pub request : IsRequest turn.request
-  pub payload : length turn.payload ≡ payload_len turn.request.command turn.request.length
-  pub answer : IsAnswer old turn.request turn.payload turn.reply new
+-- the reply fits the request, whatever the device holds
+pub record IsReplied (size : ℕ) (a : AnsweredRequest) : Type 0 where
+  pub request : IsRequest a.request
+  pub payload : length a.payload ≡ payload_len a.request.command a.request.length
+  pub reply : IsReply size a.request a.reply
 
--- the turns, one after another, on an array of bytes
-abbrev pub IsService : List ℕ → List Turn → List ℕ → Type 0
+-- this array of bytes answers the request so, and is another one afterwards
+pub record IsAnsweredBy (old : List ℕ) (a : AnsweredRequest) (new : List ℕ) : Type 0 where
+  pub request : IsRequest a.request
+  pub payload : length a.payload ≡ payload_len a.request.command a.request.length
+  pub answer : IsAnswer old a.request a.payload a.reply new
+
+-- the array answers all of them so, one after the other
+abbrev pub IsService : List ℕ → List AnsweredRequest → List ℕ → Type 0
 IsService old [] new = new ≡ old
-IsService old (turn ∷ turns) new = (mid : List ℕ) × IsTurn old turn mid × IsService mid turns new
+IsService old (a ∷ answered) new = (mid : List ℕ) × IsAnsweredBy old a mid × IsService mid answered new
 
--- what the client sent at a turn, and what it was sent
-abbrev pub asking : Turn → List ℕ
-asking turn = request_text turn.request ++ turn.payload
+-- what the client sent, and what it was sent
+abbrev pub asking : AnsweredRequest → List ℕ
+asking a = request_text a.request ++ a.payload
 
-abbrev pub replying : Turn → List ℕ
-replying turn = reply_text turn.request.cookie turn.reply
+abbrev pub replying : AnsweredRequest → List ℕ
+replying a = reply_text a.request.cookie a.reply
 
-abbrev pub requests_text : List Turn → List ℕ
-requests_text turns = flat_map asking turns
+abbrev pub requests_text : List AnsweredRequest → List ℕ
+requests_text answered = flat_map asking answered
 
-abbrev pub replies_text : List Turn → List ℕ
-replies_text turns = flat_map replying turns
+abbrev pub replies_text : List AnsweredRequest → List ℕ
+replies_text answered = flat_map replying answered
 
 -- no reply says that the device failed
-abbrev pub NeverFails : List Turn → Type 0
+abbrev pub NeverFails : List AnsweredRequest → Type 0
 NeverFails [] = Unit {0}
-NeverFails (turn ∷ turns) = (turn.reply ≡ Refused Io → ⊥) × NeverFails turns
+NeverFails (a ∷ answered) = (a.reply ≡ Refused Io → ⊥) × NeverFails answered
 
 -- the reply acknowledges nothing
 abbrev pub IsRefusal : SimpleReply → Type 0
@@ -160,11 +188,16 @@ IsRefusal (Done bytes) = ⊥
 IsRefusal (Refused e) = Unit {0}
 
 -- some reply says that the device has failed
-abbrev pub SaysFailed : List Turn → Type 0
+abbrev pub SaysFailed : List AnsweredRequest → Type 0
 SaysFailed [] = ⊥
-SaysFailed (turn ∷ turns) = (turn.reply ≡ Refused Io) ⊎ SaysFailed turns
+SaysFailed (a ∷ answered) = (a.reply ≡ Refused Io) ⊎ SaysFailed answered
 
--- Once the device has failed, before these turns or at one of them that says so, no reply acknowledges anything.
-abbrev pub FailsForGood : Type 0 → List Turn → Type 0
+-- some reply says that the device has failed, or that memory ran out
+abbrev pub SaysFault : List AnsweredRequest → Type 0
+SaysFault [] = ⊥
+SaysFault (a ∷ answered) = ((a.reply ≡ Refused Io) ⊎ (a.reply ≡ Refused NoMemory)) ⊎ SaysFault answered
+
+-- Once the device has failed, before these requests or at one of them whose reply says so, no reply acknowledges anything.
+abbrev pub FailsForGood : Type 0 → List AnsweredRequest → Type 0
 FailsForGood failed [] = Unit {0}
-FailsForGood failed (turn ∷ turns) = (failed → IsRefusal turn.reply) × FailsForGood (failed ⊎ (turn.reply ≡ Refused Io)) turns
+FailsForGood failed (a ∷ answered) = (failed → IsRefusal a.reply) × FailsForGood (failed ⊎ (a.reply ≡ Refused Io)) answered

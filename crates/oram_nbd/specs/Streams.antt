@@ -1,8 +1,16 @@
--- What is read and written if a message is cut off.
+-- The streams of a connection, and what is read and written if a message is cut off.
 use Rattle.std.specs.Prelude.{◌≡◌, ℕ, ◌<◌, ◌≤◌, List, length, take, Option}
 use Rattle.std.specs.Io.KnownBytes.{Appends, Consumes, IsAtEnd}
 use Rattle.oram_nbd.specs.declared.faults.NbdFault.{NbdFault}
 use Rattle.oram_nbd.specs.declared.faults.NbdFault.TheVariants.{Read, Truncated, Magic, Write, OldClient, UnknownExport, TooManyOptions, OutOfMemory, Stopped}
+
+-- the two streams of a connection, where their bytes are known
+pub record Streams : Type 0 where
+  pub unread : Option (List ℕ)  -- what the client has sent and the server hasn't read yet
+  pub written : Option (List ℕ)  -- what the server has written
+
+abbrev pub streams : Option (List ℕ) → Option (List ℕ) → Streams
+streams unread written = record { unread = unread; written = written }
 
 -- n bytes were read, whatever they are
 abbrev pub IsSkip : Option (List ℕ) → Option (List ℕ) → ℕ → Type 0

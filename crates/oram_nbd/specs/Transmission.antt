@@ -1,9 +1,12 @@
 -- What is read and written while requests are served, up to their end or a fault.
-use Rattle.std.specs.Prelude.{◌≡◌, ◌⊎◌, ℕ, ◌<◌, Bool, false, List, [], ◌∷◌, ◌++◌, length, take, Option, None, All}
+use Rattle.std.specs.Prelude.{◌≡◌, ◌⊎◌, ℕ, ◌<◌, false, List, [], ◌∷◌, ◌++◌, length, map, take, Option, None, All}
+use Rattle.std.specs.List.{FoldsTo, flat_map}
 use Rattle.std.specs.Io.KnownBytes.{Appends, Consumes, IsAtEnd}
-use Rattle.oram_nbd.specs.Beside.{GoesOn}
+use Rattle.oram_nbd.specs.Beside.{GoesOn, KeepsOn}
+use Rattle.oram_nbd.specs.DeviceKind.{DeviceKind}
 use Rattle.oram_nbd.specs.Messages.{payload_len, request_text, IsRequest}
-use Rattle.oram_nbd.specs.Service.{whole_requests_text, refusal_of, requests_text, replies_text, AreRequestsBegun, WholeRequest, FailsForGood, IsWholeRequest, IsReplied, IsService, NeverFails, Turn}
+use Rattle.oram_nbd.specs.Service.{array_after_requests, asked_in, whole_requests_text, refusal_of, requests_text, replies_text, AnsweredRequest, AreRequestsBegun, FailsForGood, IsRefusal, IsReplied, IsService, IsWholeRequest, NeverFails, RequestsTouchSomeByte, SaysFault, WholeRequest}
+use Rattle.oram_nbd.specs.Streams.{Streams}
 use Rattle.oram_nbd.specs.declared.faults.NbdFault.{NbdFault}
 use Rattle.oram_nbd.specs.declared.faults.NbdFault.TheVariants.{Read, Truncated, Magic, Write, OldClient, UnknownExport, TooManyOptions, OutOfMemory, Stopped}
 use Rattle.oram_nbd.specs.declared.requests.Command.TheVariants.{Disconnect}
@@ -40,47 +43,68 @@ IsCutOff Stopped part new = ⊥
 abbrev pub IsBehind : List ℕ → Type 0
 IsBehind part = (part ≡ []) ⊎ (((a : WholeRequest) × IsWholeRequest a × (part ≡ request_text a.request ++ a.payload)) ⊎ (IsUnfinished part ⊎ IsNoRequest part))
 
--- The turns were read and their replies written. Then `part` was read, and `more` was written.
-pub record HasExchanged (turns : List Turn) (unread unread' : Option (List ℕ)) (part : List ℕ) (written written' : Option (List ℕ)) (more : List ℕ) : Type 0 where
-  pub read : Consumes unread unread' (requests_text turns ++ part)
-  pub wrote : Appends written written' (replies_text turns ++ more)
+-- These requests were read and their replies written. Then `part` was read, and `more` was written.
+pub record HasExchanged (answered : List AnsweredRequest) (part more : List ℕ) (before after : Streams) : Type 0 where
+  pub read : Consumes before.unread after.unread (requests_text answered ++ part)
+  pub wrote : Appends before.written after.written (replies_text answered ++ more)
 
--- For a device of `size` bytes, which goes from one state to another, beside a world. `failed` says that it had failed before.
-module _ {D W E : Type 0} (had : D → List E → D → Type 0) (hears : Bool → W → E → W → Type 0) (holds : Bool → D → W → List ℕ → Type 0) (failed : Type 0) (size : ℕ) (old new : D) where
-  -- The turns were made. From each array that was held, they lead to one that is held. Where the world doesn't lie, no
-  -- reply says that the device failed.
-  pub record HasServed (turns : List Turn) : Type 0 where
-    pub fits : All (λ turn. IsReplied size turn) turns
-    pub refused : FailsForGood failed turns
-    pub service : GoesOn had hears holds old (λ may_lie bytes later. IsService bytes turns later × (may_lie ≡ false → NeverFails turns)) new
+-- For a device of this kind and of `size` bytes, which goes from one state to another beside a world.
+module _ {D W E : Type 0} (kind : DeviceKind D W E) (size : ℕ) where
+  -- What the requests of a batch did is kept: the next process would hold the array after them. If they touch no byte, it would
+  -- do so if it would have held the array before them. Or all of them are refused, and the device wasn't called, or a reply
+  -- says that it has failed or that memory ran out; then nobody knows how much of the batch is kept.
+  abbrev pub KeepsBatch : D → List AnsweredRequest → D → Type 0
+  KeepsBatch old batch new =
+      KeepsOn kind.had kind.hears kind.holds kind.kept old (RequestsTouchSomeByte size (map asked_in batch)) (λ _ bytes later. later ≡ array_after_requests (map asked_in batch) bytes) new
+      ⊎ (All (λ a. IsRefusal a.reply) batch × ((new ≡ old) ⊎ SaysFault batch))
 
-  -- These turns were served. Then the device stopped while it carried out a batch, in which at least one request isn't refused.
-  pub record HasStopped (turns : List Turn) (asked : List WholeRequest) : Type 0 where
-    pub fits : All (λ turn. IsReplied size turn) turns
-    pub refused : FailsForGood failed turns
+  -- these requests were answered in batches, one after the other, each of which keeps what it did
+  pub record KeepsBatches (old : D) (answered : List AnsweredRequest) (new : D) : Type 0 where
+    pub batches : List (List AnsweredRequest)
+    pub all : flat_map (λ batch. batch) batches ≡ answered
+    pub each : FoldsTo {P = D} {A = List AnsweredRequest} KeepsBatch old batches new
+
+  -- These requests were served. From each array that was held, they lead to one that is held. Where the world doesn't lie, no
+  -- reply says that the device failed. What each batch of them did is kept.
+  pub record HasServed (old new : D) (answered : List AnsweredRequest) : Type 0 where
+    pub fits : All (λ a. IsReplied size a) answered
+    pub refused : FailsForGood (kind.failed old) answered
+    pub service : GoesOn kind.had kind.hears kind.holds old (λ may_lie bytes later. IsService bytes answered later × (may_lie ≡ false → NeverFails answered)) new
+    pub kept : KeepsBatches old answered new
+
+  -- These requests were served. Then the device stopped while it carried out a batch, in which at least one request isn't refused.
+  -- It was in the state `mid` before that batch.
+  pub record HasStopped (old new : D) (answered : List AnsweredRequest) (asked : List WholeRequest) : Type 0 where
+    pub fits : All (λ a. IsReplied size a) answered
+    pub refused : FailsForGood (kind.failed old) answered
     pub asked_for : All IsWholeRequest asked
     pub accepted : (before after : List WholeRequest) × (a : WholeRequest) × (asked ≡ before ++ a ∷ after) × (refusal_of size a.request ≡ None)
-    pub service : GoesOn had hears holds old (λ may_lie bytes later. (mid : List ℕ) × IsService bytes turns mid × (may_lie ≡ false → NeverFails turns)
+    pub service : GoesOn kind.had kind.hears kind.holds old (λ may_lie bytes later. (mid : List ℕ) × IsService bytes answered mid × (may_lie ≡ false → NeverFails answered)
         × AreRequestsBegun asked mid later) new
+    pub mid : D
+    pub kept : KeepsBatches old answered mid
 
+-- For a device of this kind, which goes from one state to another beside a world.
+module _ {D W E : Type 0} (kind : DeviceKind D W E) (old new : D) where
   -- `count` requests were answered, and then the requests ended
-  pub record HasTransmitted (count : ℕ) (unread unread' written written' : Option (List ℕ)) : Type 0 where
-    pub turns : List Turn
+  pub record HasTransmitted (count : ℕ) (before after : Streams) : Type 0 where
+    pub answered : List AnsweredRequest
     pub last : List ℕ
-    pub all : length turns ≡ count
-    pub served : HasServed turns
-    pub exchanged : HasExchanged turns unread unread' last written written' []
-    pub ended : IsLast unread' last
+    pub all : length answered ≡ count
+    pub served : HasServed kind (kind.size old) old new answered
+    pub exchanged : HasExchanged answered last [] before after
+    pub ended : IsLast after.unread last
 
-  -- What is known at a fault. After a failed write, the turns of the last batch were made too, and a beginning of their
+  -- What is known at a fault. After a failed write, the requests of the last batch were served too, and a beginning of their
   -- replies was written. If the device stopped, the requests of the last batch have no replies. What was read behind that batch
   -- wasn't served.
-  abbrev pub StopsServing : NbdFault → Option (List ℕ) → Option (List ℕ) → Option (List ℕ) → Option (List ℕ) → Type 0
-  StopsServing Write unread unread' written written' =
-      (turns batch : List Turn) × (part : List ℕ) × (count : ℕ) × HasServed (turns ++ batch) × IsBehind part
-      × HasExchanged turns unread unread' (requests_text batch ++ part) written written' (take count (replies_text batch))
-  StopsServing Stopped unread unread' written written' =
-      (turns : List Turn) × (asked : List WholeRequest) × (part : List ℕ) × HasStopped turns asked × IsBehind part
-      × HasExchanged turns unread unread' (whole_requests_text asked ++ part) written written' []
-  StopsServing fault unread unread' written written' =
-      (turns : List Turn) × (part : List ℕ) × HasServed turns × HasExchanged turns unread unread' part written written' [] × IsCutOff fault part unread'
+  abbrev pub StopsServing : NbdFault → Streams → Streams → Type 0
+  StopsServing Write before after =
+      (answered batch : List AnsweredRequest) × (part : List ℕ) × (count : ℕ) × HasServed kind (kind.size old) old new (answered ++ batch) × IsBehind part
+      × HasExchanged answered (requests_text batch ++ part) (take count (replies_text batch)) before after
+  StopsServing Stopped before after =
+      (answered : List AnsweredRequest) × (asked : List WholeRequest) × (part : List ℕ) × HasStopped kind (kind.size old) old new answered asked × IsBehind part
+      × HasExchanged answered (whole_requests_text asked ++ part) [] before after
+  StopsServing fault before after =
+      (answered : List AnsweredRequest) × (part : List ℕ) × HasServed kind (kind.size old) old new answered × HasExchanged answered part [] before after
+      × IsCutOff fault part after.unread

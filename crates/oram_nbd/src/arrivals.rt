@@ -6,7 +6,7 @@ ghost use Rattle.oram_nbd.specs.Service.{BeginsWithRequest};
 use crate::requests::Request;
 use std::io::{BufReader, Read};
 
-/// A reader that shows which bytes it has received and not handed out yet. They only decide which requests go into one batch.
+/// A reader that shows which bytes it has received and not handed out yet. These only decide which requests go into one batch.
 pub trait Arrived {
     /// Returns bytes that were received and weren't read yet, in their order. There may be more than these.
     fn arrived(&self) -> &[u8];

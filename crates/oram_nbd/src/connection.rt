@@ -1,9 +1,12 @@
-//! DoesRequest a whole connection.
+//! Serves a whole connection.
 
 ghost use Rattle.std.specs.Prelude.{◌≡◌, ◌≤◌, ◌↔◌, length, Err, IfOk, IfErr, IsTrue};
 ghost use Rattle.oram_nbd.specs.Calls.{Stays};
 ghost use Rattle.oram_nbd.specs.Connection.{preferred_of, HasConnected, StopsConnection};
 ghost use Rattle.oram_nbd.specs.Beside.{IsStopped};
+ghost use Rattle.oram_nbd.specs.DeviceKind.{device_kind};
+ghost use Rattle.oram_nbd.specs.Streams.{streams};
+ghost use Rattle.oram_nbd.specs.declared.TheConstants.{LONGEST_NAME};
 
 use crate::LONGEST_PAYLOAD;
 use crate::arrivals::Arrived;
@@ -15,14 +18,23 @@ use crate::transmission::transmit;
 use std::alloc::Global;
 use std::io::{Read, Write};
 
+/// The least preferred number of bytes of a request that clients accept (NBD's proto.md, "Block size constraints").
+const LEAST_PREFERRED: u32 = 512;
+
+/// The preferred number of bytes of a request where clients don't accept that of a block: the default of the same section.
+const DEFAULT_PREFERRED: u32 = 4_096;
+
 /// Returns the preferred number of bytes of a request: that of a block, if clients accept that number.
 fn preferred(block_bytes: u32) -> u32
     ensures { result ≡ preferred_of block_bytes }
 {
-    if block_bytes.is_power_of_two() && 512 <= block_bytes && block_bytes <= LONGEST_PAYLOAD {
+    if block_bytes.is_power_of_two()
+        && LEAST_PREFERRED <= block_bytes
+        && block_bytes <= LONGEST_PAYLOAD
+    {
         block_bytes
     } else {
-        4096
+        DEFAULT_PREFERRED
     }
 }
 
@@ -32,7 +44,7 @@ pub trait HandshakeWatch {
     fn agreed(&self);
 }
 
-/// DoesRequest one connection, from its greeting until its client leaves, and returns the number of requests that were
+/// Serves one connection, from its greeting until its client leaves, and returns the number of requests that were
 /// answered.
 ///
 /// The device is the only export, under the name `name` and under the empty one. `watch` is notified when the handshake
@@ -45,11 +57,11 @@ pub fn serve<R: Read + Arrived, W: Write, D: BlockDevice, H: HandshakeWatch>(
     name: &[u8],
     watch: &H,
 ) -> Result<u64, NbdFault>
-    requires { length name.now ≤ 4096 }
-    ensures ok { IfOk result (λ count. HasConnected D.had D.hears D.holds (D.failed disk.old) (D.block_len disk.old) (D.size disk.old) disk.old disk.new name.now count
-        (R.remaining reader.old) (R.remaining reader.new) (W.contents writer.old) (W.contents writer.new)) }
-    ensures err { IfErr result (λ fault. StopsConnection D.had D.hears D.holds (D.failed disk.old) (D.block_len disk.old) (D.size disk.old) disk.old disk.new name.now fault
-        (R.remaining reader.old) (R.remaining reader.new) (W.contents writer.old) (W.contents writer.new)) }
+    requires { length name.now ≤ LONGEST_NAME }
+    ensures ok { IfOk result (λ count. HasConnected (device_kind D.block_len D.size D.failed D.had D.hears D.holds D.kept) disk.old disk.new name.now count
+        (streams (R.remaining reader.old) (W.contents writer.old)) (streams (R.remaining reader.new) (W.contents writer.new))) }
+    ensures err { IfErr result (λ fault. StopsConnection (device_kind D.block_len D.size D.failed D.had D.hears D.holds D.kept) disk.old disk.new name.now fault
+        (streams (R.remaining reader.old) (W.contents writer.old)) (streams (R.remaining reader.new) (W.contents writer.new))) }
     ensures stopped { IfErr result (λ fault. fault ≡ NbdFault.Stopped → IsStopped D.stops disk.new) }
     ensures stays { Stays D.block_len D.size D.failed disk.old disk.new }
 {

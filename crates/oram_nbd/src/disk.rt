@@ -27,13 +27,13 @@ pub trait BlockDevice {
     /// What passes between the device and the world.
     ghost Event: { Type 0 };
 
-    /// An event leads the world from one state to another, if it may lie or if it may not.
+    /// An event leads the world from one state to another. The `Bool` says whether the world may lie.
     ghost hears: { Bool → World → Event → World → Type 0 };
 
     /// A call of the device from one state to another may have had these events.
     ghost had: { Self → List Event → Self → Type 0 };
 
-    /// Beside this world, which may lie or not, the device holds these bytes, block after block.
+    /// Beside this world, of which the `Bool` says whether it may lie, the device holds these bytes, block after block.
     ghost holds: { Bool → Self → World → List ℕ → Type 0 };
 
     /// Beside this world, the next process would hold these bytes: it would begin with what outlasts this one.

@@ -13,8 +13,8 @@ pub enum DiskFault {
     Failed,
     /// There was not enough memory.
     OutOfMemory,
-    /// The device can't go on. The connection ends. Of the commands in progress the first are done, one perhaps in part, and
-    /// the others not.
+    /// The device can't go on, so the connection ends. Of the operations in progress the first ones are done, one perhaps in
+    /// part, and the others aren't begun.
     Stopped,
 }
 

@@ -1,8 +1,9 @@
 //! The answers of a server to the options of a handshake.
 
 ghost use Rattle.std.specs.Prelude.{◌≡◌, ◌<◌, ◌≤◌, ◌^◌, ◌++◌, List, [], length, IfOk, OnOk, IsTrue, ◌↔◌, MatchOption};
-ghost use Rattle.oram_nbd.specs.Handshake.{block_text, described, export_text, list_text, name_text, refused, size_text, Answers, Describes, IsNamed};
+ghost use Rattle.oram_nbd.specs.Handshake.{block_text, described, export_text, export_value, list_text, name_text, refused, size_text, Answers, Describes, IsNamed};
 ghost use Rattle.oram_nbd.specs.Options.{option_reply, option_reply_head};
+ghost use Rattle.oram_nbd.specs.declared.TheConstants.{LONGEST_NAME};
 
 use crate::LONGEST_PAYLOAD;
 use crate::options::{HandshakeOption, ReplyKind, wanted_name};
@@ -146,7 +147,7 @@ impl Export<'_> {
 
     /// Returns the name, after its length.
     fn listed(&self, alloc: Global) -> Result<Vec<u8>, AllocError>
-        requires { length self.now.name.now ≤ 4096 }
+        requires { length self.now.name.now ≤ LONGEST_NAME }
         ensures { IfOk result (λ v. v.items ≡ name_text self.now.name.now) }
     {
         let length = self.name.len() as u32;
@@ -158,7 +159,7 @@ impl Export<'_> {
 
     /// Returns the answer to LIST.
     fn list(&self, alloc: Global, content: &[u8]) -> Result<Vec<u8>, AllocError>
-        requires { length self.now.name.now ≤ 4096 }
+        requires { length self.now.name.now ≤ LONGEST_NAME }
         ensures { IfOk result (λ v. v.items ≡ list_text self.now.name.now content.now) }
     {
         if !content.is_empty() {
@@ -191,7 +192,7 @@ impl Export<'_> {
         option: HandshakeOption,
         content: &[u8],
     ) -> Result<(Vec<u8>, bool), AllocError>
-        ensures { IfOk result (λ p. Describes self.now.name.now self.now.size self.now.preferred option content.now p.0.items p.1) }
+        ensures { IfOk result (λ p. Describes (export_value self.now.name.now self.now.size self.now.preferred) option content.now p.0.items p.1) }
     {
         let Some(name) = wanted_name(content) else {
             let text = bare_reply(alloc, option, ReplyKind::Invalid)?;
@@ -213,10 +214,10 @@ impl Export<'_> {
         content: &[u8],
         zeroes: bool,
     ) -> Result<Option<Answer>, AllocError>
-        requires { length self.now.name.now ≤ 4096 }
+        requires { length self.now.name.now ≤ LONGEST_NAME }
         ensures { IfOk result (λ answer. MatchOption answer
             ((option ≡ HandshakeOption.ExportName) × (IsNamed self.now.name.now content.now → ⊥))
-            (λ a. Answers self.now.name.now self.now.size self.now.preferred zeroes option content.now a.text.items a.ends)) }
+            (λ a. Answers (export_value self.now.name.now self.now.size self.now.preferred) zeroes option content.now a.text.items a.ends)) }
     {
         match option {
             HandshakeOption::ExportName => {

@@ -99,9 +99,9 @@ fn carry_out_front<D: BlockDevice>(
     Ok(given)
 }
 
-/// Carries out operations, one after the other, and returns what each of them read. Those that are on whole blocks go
-/// ahead together, up to the next one that isn't. After an `Err` the first ones are done, one may be done in part, and the
-/// others aren't begun. An `Ok` says that what was done is kept.
+/// Carries out operations, one after the other, and returns what each of them read. Those that are on whole blocks are
+/// carried out together, by one call, up to the next one that isn't. After an `Err` the first ones are done, one may be done
+/// in part, and the others aren't begun. An `Ok` says that what was done is kept.
 pub(crate) fn carry_out_all<D: BlockDevice>(
     alloc: Global,
     disk: &mut D,

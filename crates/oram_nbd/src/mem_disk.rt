@@ -18,13 +18,13 @@ pub struct MemDisk {
 }
 
 impl Model for MemDisk {
-    ghost use Rattle.oram_nbd.specs.MemBlocks.{MemBlocks, IsWhole};
+    ghost use Rattle.oram_nbd.specs.MemBlocks.{MemBlocks, HasWholeBlocks};
 
     ghost Value = { MemBlocks };
 
     ghost view = { λ d. record { bytes = d.bytes.items; block_len = d.block_bytes; blocks = d.blocks } };
 
-    ghost invariant = { λ d. IsWhole (record { bytes = d.bytes.items; block_len = d.block_bytes; blocks = d.blocks }) };
+    ghost invariant = { λ d. HasWholeBlocks (record { bytes = d.bytes.items; block_len = d.block_bytes; blocks = d.blocks }) };
 }
 
 impl MemDisk {

@@ -4,10 +4,11 @@ ghost use Rattle.std.specs.Prelude.{◌≡◌, ℕ, [], ◌≤◌, Option, lengt
 ghost use Rattle.std.specs.Int.{w32, to_be_bytes};
 ghost use Rattle.std.specs.Io.KnownBytes.{Appends, Consumes};
 ghost use Rattle.oram_wire.specs.FrameIo.{GivesEnd};
-ghost use Rattle.oram_nbd.specs.Streams.{Misses};
+ghost use Rattle.oram_nbd.specs.Streams.{streams, Misses};
 ghost use Rattle.oram_nbd.specs.Options.{option_head, IsHead};
-ghost use Rattle.oram_nbd.specs.Handshake.{greeting, IsFixed};
-ghost use Rattle.oram_nbd.specs.Negotiation.{Exchange, HasAgreed, IsExchange, IsNoOption, IsUnfinishedOption, StopsAt, StopsGreeting, StopsNegotiating};
+ghost use Rattle.oram_nbd.specs.Handshake.{export_value, greeting, IsFixed};
+ghost use Rattle.oram_nbd.specs.declared.TheConstants.{LONGEST_NAME};
+ghost use Rattle.oram_nbd.specs.Negotiation.{AnsweredOption, HasAgreed, IsAnsweredOption, IsNoOption, IsUnfinishedOption, StopsAt, StopsGreeting, StopsNegotiating};
 
 use crate::faults::NbdFault;
 use crate::handshake::{Agreement, Export, bare_reply};
@@ -34,8 +35,8 @@ fn greet<R: Read, W: Write>(reader: &mut R, writer: &mut W) -> Result<bool, NbdF
     ensures ok { IfOk result (λ zeroes. (flags : ℕ) × IsFixed flags zeroes
         × Consumes (R.remaining reader.old) (R.remaining reader.new) (to_be_bytes w32 flags)
         × Appends (W.contents writer.old) (W.contents writer.new) greeting) }
-    ensures err { IfErr result (λ fault. StopsGreeting fault (R.remaining reader.old) (R.remaining reader.new)
-        (W.contents writer.old) (W.contents writer.new)) }
+    ensures err { IfErr result (λ fault. StopsGreeting fault
+        (streams (R.remaining reader.old) (W.contents writer.old)) (streams (R.remaining reader.new) (W.contents writer.new))) }
 {
     send(writer, &GREETING, &[])?;
     let mut flags = [0; 4];
@@ -76,13 +77,13 @@ fn take_option<R: Read, W: Write>(
     head: OptionHead,
 ) -> Result<Option<Agreement>, NbdFault>
     requires head { IsHead head }
-    requires name { length export.now.name.now ≤ 4096 }
-    ensures ok { IfOk result (λ ends. (x : Exchange) × (x.option ≡ head.option) × (length x.content ≡ head.length)
-        × IsExchange export.now.name.now export.now.size export.now.preferred zeroes x ends
+    requires name { length export.now.name.now ≤ LONGEST_NAME }
+    ensures ok { IfOk result (λ ends. (x : AnsweredOption) × (x.option ≡ head.option) × (length x.content ≡ head.length)
+        × IsAnsweredOption (export_value export.now.name.now export.now.size export.now.preferred) zeroes x ends
         × Consumes (R.remaining reader.old) (R.remaining reader.new) x.content
         × Appends (W.contents writer.old) (W.contents writer.new) x.answer) }
-    ensures err { IfErr result (λ fault. StopsAt export.now.name.now export.now.size export.now.preferred zeroes head fault
-        (R.remaining reader.old) (R.remaining reader.new) (W.contents writer.old) (W.contents writer.new)) }
+    ensures err { IfErr result (λ fault. StopsAt (export_value export.now.name.now export.now.size export.now.preferred) zeroes head fault
+        (streams (R.remaining reader.old) (W.contents writer.old)) (streams (R.remaining reader.new) (W.contents writer.new))) }
 {
     if head.length > LONGEST_OPTION {
         skip(reader, u64::from(head.length))?;
@@ -108,11 +109,11 @@ pub fn negotiate<R: Read, W: Write>(
     writer: &mut W,
     export: &Export<'_>,
 ) -> Result<Agreement, NbdFault>
-    requires { length export.now.name.now ≤ 4096 }
-    ensures ok { IfOk result (λ agreement. HasAgreed export.now.name.now export.now.size export.now.preferred agreement
-        (R.remaining reader.old) (R.remaining reader.new) (W.contents writer.old) (W.contents writer.new)) }
-    ensures err { IfErr result (λ fault. StopsNegotiating export.now.name.now export.now.size export.now.preferred fault
-        (R.remaining reader.old) (R.remaining reader.new) (W.contents writer.old) (W.contents writer.new)) }
+    requires { length export.now.name.now ≤ LONGEST_NAME }
+    ensures ok { IfOk result (λ agreement. HasAgreed (export_value export.now.name.now export.now.size export.now.preferred) agreement
+        (streams (R.remaining reader.old) (W.contents writer.old)) (streams (R.remaining reader.new) (W.contents writer.new))) }
+    ensures err { IfErr result (λ fault. StopsNegotiating (export_value export.now.name.now export.now.size export.now.preferred) fault
+        (streams (R.remaining reader.old) (W.contents writer.old)) (streams (R.remaining reader.new) (W.contents writer.new))) }
 {
     let zeroes = greet(reader, writer)?;
     for _ in 0..MOST_OPTIONS {

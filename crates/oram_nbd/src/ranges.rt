@@ -201,8 +201,10 @@ fn read_two<D: BlockDevice>(
     disk.carry_out(alloc, &reads)
 }
 
-/// Returns the number of bytes of the block at an edge of a range, of which `len` bytes lie outside of the range; or 0 if the
-/// range has no such block.
+/// Returns `block` if `len` isn't 0, and 0 if it is.
+///
+/// `len` is how many bytes of the block at one end of a range lie outside of the range. If there are any, that block is read,
+/// and then written, apart from the others; it has `block` bytes. If there are none, no block is.
 fn edge_len(block: u64, len: u64) -> u64
     requires { len < block }
     ensures most { result ≤ block }

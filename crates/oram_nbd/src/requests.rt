@@ -25,7 +25,7 @@ impl Command {
     /// Returns the command with the number `code`.
     pub fn of(code: u16) -> Command
         ensures code { command_code result ≡ code }
-        ensures told { HasOwnCode result }
+        ensures own_code { HasOwnCode result }
     {
         match code {
             0 => Command::Read,

@@ -3,11 +3,12 @@
 ghost use Rattle.std.specs.Prelude.{◌≡◌, ◌≤◌, ℕ, [], List, Option, IfOk, IfErr, OnOk, length, map};
 ghost use Rattle.std.specs.Bool.{MatchBool};
 ghost use Rattle.std.specs.Io.KnownBytes.{Appends};
-ghost use Rattle.oram_nbd.specs.Batches.{refusals_text, AreCollected, BreaksBatch, EndsBatch, EndsBy, HasKept, AreDiskSizes, IsWithoutMemory, LeftBy};
+ghost use Rattle.oram_nbd.specs.Batches.{refusals_text, AreCollected, BreaksBatch, EndsBatch, EndsBy, AreDiskSizes, IsWithoutMemory, LeftBy};
 ghost use Rattle.oram_nbd.specs.Beside.{IsStopped};
 ghost use Rattle.oram_nbd.specs.Calls.{Stays};
+ghost use Rattle.oram_nbd.specs.DeviceKind.{device_kind};
 ghost use Rattle.oram_nbd.specs.Service.{WholeRequest};
-ghost use Rattle.oram_nbd.specs.Streams.{IsBegunText};
+ghost use Rattle.oram_nbd.specs.Streams.{streams, IsBegunText};
 ghost use Rattle.oram_nbd.specs.Transmission.{HasTransmitted, IsCutOff, IsLast, StopsServing};
 
 use crate::arrivals::Arrived;
@@ -39,10 +40,9 @@ fn carry_out_batch<W: Write, D: BlockDevice>(
     requires sizes { AreDiskSizes sizes.block sizes.size }
     requires collected { (asked : List WholeRequest) × AreCollected sizes.block sizes.size asked batch.now.requests.items batch.now.operations.items }
     ensures ok { OnOk result ((asked : List WholeRequest) → AreCollected sizes.block sizes.size asked batch.now.requests.items batch.now.operations.items →
-        EndsBatch D.had D.hears D.holds (D.failed disk.old) (D.failed disk.new) sizes.size disk.old disk.new asked (W.contents writer.old) (W.contents writer.new)) }
+        EndsBatch (device_kind D.block_len D.size D.failed D.had D.hears D.holds D.kept) sizes.size disk.old disk.new asked (W.contents writer.old) (W.contents writer.new)) }
     ensures err { IfErr result (λ fault. (asked : List WholeRequest) → AreCollected sizes.block sizes.size asked batch.now.requests.items batch.now.operations.items →
-        BreaksBatch D.had D.hears D.holds (D.failed disk.old) (D.failed disk.new) sizes.size disk.old disk.new asked fault (W.contents writer.old) (W.contents writer.new)) }
-    ensures keeps { OnOk result (HasKept D.had D.hears D.holds D.kept batch.now.operations.items disk.old disk.new (W.contents writer.old) (W.contents writer.new)) }
+        BreaksBatch (device_kind D.block_len D.size D.failed D.had D.hears D.holds D.kept) sizes.size disk.old disk.new asked fault (W.contents writer.old) (W.contents writer.new)) }
     ensures stopped { IfErr result (λ fault. fault ≡ NbdFault.Stopped → IsStopped D.stops disk.new) }
     ensures stays { Stays D.block_len D.size D.failed disk.old disk.new }
 {
@@ -98,17 +98,18 @@ fn goes_on(close: Close) -> Result<bool, NbdFault>
 /// a batch are written and flushed before the next request is waited for. So a client that reads no replies holds back its own
 /// requests, once the buffers between the two are full. Running out of memory doesn't end the service: the requests are
 /// refused with `NoMemory`, and the bytes of a write for which there is none are skipped. A device that stops ends the
-/// service, and the requests of its batch get no replies.
+/// service, and the requests of its batch get no replies. A reply that acknowledges its request says that what its batch did is
+/// kept: the next process would hold it, even if this one ends before the reply is written.
 pub fn transmit<R: Read + Arrived, W: Write, D: BlockDevice>(
     alloc: Global,
     reader: &mut R,
     writer: &mut W,
     disk: &mut D,
 ) -> Result<u64, NbdFault>
-    ensures ok { IfOk result (λ count. HasTransmitted D.had D.hears D.holds (D.failed disk.old) (D.size disk.old) disk.old disk.new count
-        (R.remaining reader.old) (R.remaining reader.new) (W.contents writer.old) (W.contents writer.new)) }
-    ensures err { IfErr result (λ fault. StopsServing D.had D.hears D.holds (D.failed disk.old) (D.size disk.old) disk.old disk.new fault
-        (R.remaining reader.old) (R.remaining reader.new) (W.contents writer.old) (W.contents writer.new)) }
+    ensures ok { IfOk result (λ count. HasTransmitted (device_kind D.block_len D.size D.failed D.had D.hears D.holds D.kept) disk.old disk.new count
+        (streams (R.remaining reader.old) (W.contents writer.old)) (streams (R.remaining reader.new) (W.contents writer.new))) }
+    ensures err { IfErr result (λ fault. StopsServing (device_kind D.block_len D.size D.failed D.had D.hears D.holds D.kept) disk.old disk.new fault
+        (streams (R.remaining reader.old) (W.contents writer.old)) (streams (R.remaining reader.new) (W.contents writer.new))) }
     ensures stopped { IfErr result (λ fault. fault ≡ NbdFault.Stopped → IsStopped D.stops disk.new) }
     ensures stays { Stays D.block_len D.size D.failed disk.old disk.new }
 {

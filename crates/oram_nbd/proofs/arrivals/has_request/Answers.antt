@@ -14,8 +14,8 @@ returns-in-Some c =
           let few : c.payload_len.result ≤ length c.args.arrived.now - 28 = grind (arith, nat_tests, enough) in
           begins_by c.args.arrived.now (take 28 c.args.arrived.now) r refl found.0 found.1 least (subst (λ (n : ℕ). n ≤ length c.args.arrived.now - 28) c.payload_len.ensures few),
       λ b.
-          let told = c.decode.ensures.only b.first.request b.whole.request (begins_head c.args.arrived.now b) in
-          let both : Some r ≡ Some b.first.request = sym c.in-Some.is ∙ told in
+          let only = c.decode.ensures.only b.first.request b.whole.request (begins_head c.args.arrived.now b) in
+          let both : Some r ≡ Some b.first.request = sym c.in-Some.is ∙ only in
           let same : r ≡ b.first.request = cc in
           let count : c.payload_len.result ≡ payload_len b.first.request.command b.first.request.length = c.payload_len.ensures ∙ ap (λ (q : Request). payload_len q.command q.length) same in
           let long = begins_long c.args.arrived.now b in

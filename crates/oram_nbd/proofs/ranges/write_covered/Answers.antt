@@ -1,7 +1,7 @@
 use Rattle.std.proofs.Common.{◌≡◌, ◌+◌, ◌*◌, ◌<◌, ◌≤◌, ◌++◌, ℕ, List, drop, length, length-append, take, sym, ap, ◌∙◌, subst, arith}
 use Rattle.std.proofs.lemmas.Result.{err_from_is_err_and, on_err_weaker, on_ok_weaker}
 use Rattle.oram_nbd.specs.Bytes.{IsBegun, written}
-use Rattle.oram_nbd.proofs.Beside.{joined_calls, kept_behind, weaker, weaker_kept, at_rest as calls_none}
+use Rattle.oram_nbd.proofs.Beside.{joined_calls, kept_behind, weaker, at_rest as calls_none}
 use Rattle.oram_nbd.proofs.Splices.{begun_none, covered_begun, covered_wrote}
 use Rattle.oram_nbd.proofs.ranges.write_covered.Goals as goal
 

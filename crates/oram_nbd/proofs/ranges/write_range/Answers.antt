@@ -1,8 +1,7 @@
-use Rattle.std.proofs.Common.{◌≡◌, ◌+◌, ◌*◌, ◌<◌, ◌≤◌, ◌++◌, ℕ, List, [], length, sym, ap, ◌∙◌, arith, rules, subst, length-append}
+use Rattle.std.proofs.Common.{◌≡◌, ◌+◌, ◌*◌, ◌<◌, ◌≤◌, ◌++◌, ℕ, [], length, sym, ap, ◌∙◌, arith, rules, subst, length-append}
 use Rattle.std.proofs.lemmas.List.{nil_from_length}
 use Rattle.std.proofs.lemmas.Result.{err_from_is_err_and, on_ok_weaker}
 use Rattle.oram_nbd.specs.Bytes.{IsBegun, written}
-use Rattle.oram_nbd.specs.Calls.{Writes}
 use Rattle.oram_nbd.proofs.Beside.{joined_calls, kept_at_rest, kept_behind, weaker, at_rest as calls_none}
 use Rattle.oram_nbd.proofs.Edges.{around_writes, around_wrote}
 use Rattle.oram_nbd.proofs.Splices.{begun_none, written_none}

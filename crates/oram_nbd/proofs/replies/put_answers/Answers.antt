@@ -6,7 +6,7 @@ use Rattle.oram_nbd.specs.Messages.SimpleReply.{Done}
 use Rattle.oram_nbd.specs.Service.{refusal_of}
 use Rattle.oram_nbd.specs.declared.faults.NbdError.{NbdError}
 use Rattle.oram_nbd.specs.declared.requests.Request.{Request}
-use Rattle.oram_nbd.proofs.Gathered.{answers_end, answers_next, told_all, told_begun, told_next}
+use Rattle.oram_nbd.proofs.Gathered.{answers_end, answers_next, writes_all, writes_begun, writes_next}
 use Rattle.oram_nbd.proofs.Pieces.{if_err}
 use Rattle.oram_nbd.proofs.replies.put_answers.Goals as goal
 
@@ -26,7 +26,7 @@ loop-i-preserved g c =
     let b = c.args.sizes.block in
     let next = answers_next b c.args.sizes.size c.args.requests.now c.args.given.now i r c.index-given-i.result c.loop-i-test.true c.requires.each c.request_at-request.ensures c.index-given-i.is in
     let part = c.asked_part-bytes.ensures ∙ ap (asked_part b r) c.as_slice.ensures in
-    told_next _ _ _ _ c.loop-i.invariant _ _ _
+    writes_next _ _ _ _ c.loop-i.invariant _ _ _
     (next_text b c.args.sizes.size c.args.requests.now c.args.given.now i r c.index-given-i.result c.asked_part-bytes.result.now c.refusal.result next c.refusal.ensures part) c.in_ok-put_reply.ensures.ok
 
 pub returns-in_err-put_reply-clause-err : goal.returns-in_err-put_reply-clause-err
@@ -39,9 +39,9 @@ returns-in_err-put_reply-clause-err g c =
     let part = c.asked_part-bytes.ensures ∙ ap (asked_part b r) c.as_slice.ensures in
     if_err _ _ _ _ p.1 (p.2 ∙ c.in_err-put_reply.ensures.err.0) (
       refl,
-      told_begun _ _ _ _ c.loop-i.invariant _ _ _
+      writes_begun _ _ _ _ c.loop-i.invariant _ _ _
           (next_text b c.args.sizes.size c.args.requests.now c.args.given.now i r c.index-given-i.result c.asked_part-bytes.result.now c.refusal.result next c.refusal.ensures part) c.in_err-put_reply.ensures.err.1,
     )
 
 pub returns-clause-ok : goal.returns-clause-ok
-returns-clause-ok g c = told_all _ _ _ _ c.loop-i.invariant (answers_end c.args.sizes.block c.args.sizes.size c.args.requests.now c.args.given.now c.loop-i.i (omega (arith, c.loop-i-test.false)))
+returns-clause-ok g c = writes_all _ _ _ _ c.loop-i.invariant (answers_end c.args.sizes.block c.args.sizes.size c.args.requests.now c.args.given.now c.loop-i.i (omega (arith, c.loop-i-test.false)))

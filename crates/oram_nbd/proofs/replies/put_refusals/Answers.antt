@@ -6,7 +6,7 @@ use Rattle.oram_nbd.specs.Messages.SimpleReply.{Refused}
 use Rattle.oram_nbd.specs.Service.{refusal_of}
 use Rattle.oram_nbd.specs.declared.faults.NbdError.{NbdError}
 use Rattle.oram_nbd.specs.declared.requests.Request.{Request}
-use Rattle.oram_nbd.proofs.Gathered.{refusals_end, refusals_next, told_all, told_begun, told_next}
+use Rattle.oram_nbd.proofs.Gathered.{refusals_end, refusals_next, writes_all, writes_begun, writes_next}
 use Rattle.oram_nbd.proofs.Pieces.{if_err}
 use Rattle.oram_nbd.proofs.replies.put_refusals.Goals as goal
 
@@ -22,7 +22,7 @@ loop-i-preserved g c =
     let i = c.loop-i.i in
     let next = refusals_next c.args.size c.args.requests.now c.args.error i r c.loop-i-test.true c.request_at-request.ensures in
     let reply = c.error_of-why.ensures ∙ ap (λ o. reply_if o (Refused c.args.error)) c.refusal.ensures in
-    told_next _ _ _ _ c.loop-i.invariant _ _ _ (next_text c.args.size c.args.requests.now c.args.error c.error_of-why.result i r (Refused c.error_of-why.result) next reply) c.in_ok-put_reply.ensures.ok
+    writes_next _ _ _ _ c.loop-i.invariant _ _ _ (next_text c.args.size c.args.requests.now c.args.error c.error_of-why.result i r (Refused c.error_of-why.result) next reply) c.in_ok-put_reply.ensures.ok
 
 pub returns-in_err-put_reply-clause-err : goal.returns-in_err-put_reply-clause-err
 returns-in_err-put_reply-clause-err g c =
@@ -32,7 +32,7 @@ returns-in_err-put_reply-clause-err g c =
     let next = refusals_next c.args.size c.args.requests.now c.args.error i r c.loop-i-test.true c.request_at-request.ensures in
     let reply = c.error_of-why.ensures ∙ ap (λ o. reply_if o (Refused c.args.error)) c.refusal.ensures in
     if_err _ _ _ _ p.1 (p.2 ∙ c.in_err-put_reply.ensures.err.0)
-    (refl, told_begun _ _ _ _ c.loop-i.invariant _ _ _ (next_text c.args.size c.args.requests.now c.args.error c.error_of-why.result i r (Refused c.error_of-why.result) next reply) c.in_err-put_reply.ensures.err.1)
+    (refl, writes_begun _ _ _ _ c.loop-i.invariant _ _ _ (next_text c.args.size c.args.requests.now c.args.error c.error_of-why.result i r (Refused c.error_of-why.result) next reply) c.in_err-put_reply.ensures.err.1)
 
 pub returns-clause-ok : goal.returns-clause-ok
-returns-clause-ok g c = told_all _ _ _ _ c.loop-i.invariant (refusals_end c.args.size c.args.requests.now c.args.error c.loop-i.i (omega (arith, c.loop-i-test.false)))
+returns-clause-ok g c = writes_all _ _ _ _ c.loop-i.invariant (refusals_end c.args.size c.args.requests.now c.args.error c.loop-i.i (omega (arith, c.loop-i-test.false)))

@@ -1,12 +1,11 @@
-use Rattle.std.proofs.Common.{inl, inr, ◌≡◌, ℕ, List, All, length, refl, sym, ap, ◌∙◌, subst, arith}
+use Rattle.std.proofs.Common.{inl, inr, ℕ, List, All, length, refl, sym, ap, ◌∙◌, subst, arith}
 use Rattle.std.proofs.lemmas.Result.{on_ok_weaker, MatchResult-weaker}
 use Rattle.std.specs.Io.KnownBytes.{Appends}
-use Rattle.oram_nbd.specs.Operations.{IsWithin, ReadsWhole, TouchSomeByte, all_done}
+use Rattle.oram_nbd.specs.Operations.{IsWithin, ReadsWhole}
 use Rattle.oram_nbd.specs.Streams.{IsBegunText}
 use Rattle.oram_nbd.specs.declared.faults.NbdError.TheVariants.{Io, NoMemory}
 use Rattle.oram_nbd.specs.declared.operations.Operation.{Operation}
-use Rattle.oram_nbd.proofs.Gathered.{all_answered, all_begun, all_refusals, all_refused, all_whole, all_within, answered_turns, collected_as, many_given, refused_at_rest, refused_turns, text_answered, text_refused}
-use Rattle.oram_nbd.specs.Beside.{KeepsOn}
+use Rattle.oram_nbd.proofs.Gathered.{all_answered, all_begun, all_refused, all_whole, all_within, answered_requests, collected_as, many_given, refused_at_rest, refused_requests, text_answered, text_refused}
 use Rattle.oram_nbd.proofs.Beside.{weaker}
 use Rattle.oram_nbd.proofs.transmission.carry_out_batch.Goals as goal
 
@@ -17,8 +16,8 @@ returns-then-not-is_any_accepted-clause-ok g c =
     let reqs = c.args.batch.now.requests.items in
     let ops = c.args.batch.now.operations.items in
     on_ok_weaker c.put_refusals.result (λ wrote asked collected. (
-      refused_turns n asked NoMemory,
-      refused_at_rest g.D.BlockDevice.failed n c.args.disk.now asked (λ may_lie world bytes h. c.blocks-blocks.ensures.held may_lie world bytes h ∙ sym c.requires.size) collected.all,
+      refused_requests n asked NoMemory,
+      refused_at_rest n c.args.disk.now asked (λ may_lie world bytes h. c.blocks-blocks.ensures.held may_lie world bytes h ∙ sym c.requires.size) collected.all,
       subst (Appends (g.W.Write.contents c.args.writer.now) (g.W.Write.contents c.put_refusals.new.writer)) (text_refused n asked NoMemory reqs _ collected.same c.deref-then-not-is_any_accepted.ensures.value) wrote,
     )) c.put_refusals.ensures.ok
 
@@ -31,8 +30,8 @@ returns-then-not-is_any_accepted-clause-err g c =
     MatchResult-weaker c.put_refusals.result c.put_refusals.ensures.err (λ x h. tt) (λ f wrote asked collected. inl (
       wrote.0,
       (
-        refused_turns n asked NoMemory,
-        refused_at_rest g.D.BlockDevice.failed n c.args.disk.now asked (λ may_lie world bytes h. c.blocks-blocks.ensures.held may_lie world bytes h ∙ sym c.requires.size) collected.all,
+        refused_requests n asked NoMemory,
+        refused_at_rest n c.args.disk.now asked (λ may_lie world bytes h. c.blocks-blocks.ensures.held may_lie world bytes h ∙ sym c.requires.size) collected.all,
         subst (IsBegunText (g.W.Write.contents c.args.writer.now) (g.W.Write.contents c.put_refusals.new.writer)) (text_refused n asked NoMemory reqs _ collected.same c.deref-then-not-is_any_accepted.ensures.value) wrote.1,
       ),
     ))
@@ -62,9 +61,9 @@ returns-in-Ok-clause-ok g c =
     let reqs = c.args.batch.now.requests.items in
     let ops = c.args.batch.now.operations.items in
     on_ok_weaker c.put_answers.result (λ wrote asked collected. (
-      answered_turns b n asked c.in-Ok.given.items,
-      all_answered g.D.BlockDevice.failed b n c.args.disk.now c.carry_out_all.new.disk asked (λ may_lie world bytes h. c.blocks-blocks.ensures.held may_lie world bytes h ∙ sym c.requires.size) reqs c.deref-2.result.now
-          c.in-Ok.given.items (collected_as b n asked reqs ops _ c.deref-2.ensures.value collected) c.in-Ok.ensures.len c.in-Ok.ensures.refused (weaker c.in-Ok.ensures.goes (λ may_lie world bytes later h step. step.0)),
+      answered_requests b n asked c.in-Ok.given.items,
+      all_answered b n c.args.disk.now c.carry_out_all.new.disk asked (λ may_lie world bytes h. c.blocks-blocks.ensures.held may_lie world bytes h ∙ sym c.requires.size) reqs c.deref-2.result.now
+          c.in-Ok.given.items (collected_as b n asked reqs ops _ c.deref-2.ensures.value collected) c.in-Ok.ensures.len c.in-Ok.ensures.refused (weaker c.in-Ok.ensures.goes (λ may_lie world bytes later h step. step.0)) c.in-Ok.ensures.keeps,
       subst (Appends (g.W.Write.contents c.args.writer.now) (g.W.Write.contents c.put_answers.new.writer)) (text_answered b n asked reqs _ c.in-Ok.given.items _ collected.same c.deref-in-Ok.ensures.value c.deref-in-Ok-2.ensures.value) wrote,
     )) c.put_answers.ensures.ok
 
@@ -77,28 +76,30 @@ returns-in-Ok-clause-err g c =
     MatchResult-weaker c.put_answers.result c.put_answers.ensures.err (λ x h. tt) (λ f wrote asked collected. inl (
       wrote.0,
       (
-        answered_turns b n asked c.in-Ok.given.items,
-        all_answered g.D.BlockDevice.failed b n c.args.disk.now c.carry_out_all.new.disk asked (λ may_lie world bytes h. c.blocks-blocks.ensures.held may_lie world bytes h ∙ sym c.requires.size) reqs c.deref-2.result.now
-            c.in-Ok.given.items (collected_as b n asked reqs ops _ c.deref-2.ensures.value collected) c.in-Ok.ensures.len c.in-Ok.ensures.refused (weaker c.in-Ok.ensures.goes (λ may_lie world bytes later h step. step.0)),
+        answered_requests b n asked c.in-Ok.given.items,
+        all_answered b n c.args.disk.now c.carry_out_all.new.disk asked (λ may_lie world bytes h. c.blocks-blocks.ensures.held may_lie world bytes h ∙ sym c.requires.size) reqs c.deref-2.result.now
+            c.in-Ok.given.items (collected_as b n asked reqs ops _ c.deref-2.ensures.value collected) c.in-Ok.ensures.len c.in-Ok.ensures.refused (weaker c.in-Ok.ensures.goes (λ may_lie world bytes later h step. step.0)) c.in-Ok.ensures.keeps,
         subst (IsBegunText (g.W.Write.contents c.args.writer.now) (g.W.Write.contents c.put_answers.new.writer)) (text_answered b n asked reqs _ c.in-Ok.given.items _ collected.same c.deref-in-Ok.ensures.value c.deref-in-Ok-2.ensures.value) wrote.1,
       ),
     ))
 
 pub returns-in-Err-Failed-clause-ok : goal.returns-in-Err-Failed-clause-ok
 returns-in-Err-Failed-clause-ok g c =
+    let some = c.if-not-is_any_accepted.ensures.yes (grind arith) in
     let b = c.args.sizes.block in
     let n = c.args.sizes.size in
     let reqs = c.args.batch.now.requests.items in
     let ops = c.args.batch.now.operations.items in
     on_ok_weaker c.put_refusals-in-Err-Failed.result (λ wrote asked collected. (
-      refused_turns n asked Io,
-      all_refused g.D.BlockDevice.failed b n c.args.disk.now c.carry_out_all.new.disk asked (λ may_lie world bytes h. c.blocks-blocks.ensures.held may_lie world bytes h ∙ sym c.requires.size) reqs c.deref-2.result.now
-          Io (collected_as b n asked reqs ops _ c.deref-2.ensures.value collected) (inl refl) (λ io. c.in-Err-Failed.ensures.call.has_failed cc) (weaker c.in-Err-Failed.ensures.goes (λ may_lie world bytes later h step. (step.0, λ io. step.1 cc))),
+      refused_requests n asked Io,
+      all_refused b n c.args.disk.now c.carry_out_all.new.disk asked (λ may_lie world bytes h. c.blocks-blocks.ensures.held may_lie world bytes h ∙ sym c.requires.size) reqs c.deref-2.result.now
+          Io (collected_as b n asked reqs ops _ c.deref-2.ensures.value collected) (inl refl) (λ io. c.in-Err-Failed.ensures.call.has_failed cc) some.0 some.1 some.2 (sym c.deref.ensures.value ∙ some.3) some.4 (weaker c.in-Err-Failed.ensures.goes (λ may_lie world bytes later h step. (step.0, λ io. step.1 cc))),
       subst (Appends (g.W.Write.contents c.args.writer.now) (g.W.Write.contents c.put_refusals-in-Err-Failed.new.writer)) (text_refused n asked Io reqs _ collected.same c.deref-in-Err-Failed.ensures.value) wrote,
     )) c.put_refusals-in-Err-Failed.ensures.ok
 
 pub returns-in-Err-Failed-clause-err : goal.returns-in-Err-Failed-clause-err
 returns-in-Err-Failed-clause-err g c =
+    let some = c.if-not-is_any_accepted.ensures.yes (grind arith) in
     let b = c.args.sizes.block in
     let n = c.args.sizes.size in
     let reqs = c.args.batch.now.requests.items in
@@ -106,28 +107,30 @@ returns-in-Err-Failed-clause-err g c =
     MatchResult-weaker c.put_refusals-in-Err-Failed.result c.put_refusals-in-Err-Failed.ensures.err (λ x h. tt) (λ f wrote asked collected. inl (
       wrote.0,
       (
-        refused_turns n asked Io,
-        all_refused g.D.BlockDevice.failed b n c.args.disk.now c.carry_out_all.new.disk asked (λ may_lie world bytes h. c.blocks-blocks.ensures.held may_lie world bytes h ∙ sym c.requires.size) reqs c.deref-2.result.now
-            Io (collected_as b n asked reqs ops _ c.deref-2.ensures.value collected) (inl refl) (λ io. c.in-Err-Failed.ensures.call.has_failed cc) (weaker c.in-Err-Failed.ensures.goes (λ may_lie world bytes later h step. (step.0, λ io. step.1 cc))),
+        refused_requests n asked Io,
+        all_refused b n c.args.disk.now c.carry_out_all.new.disk asked (λ may_lie world bytes h. c.blocks-blocks.ensures.held may_lie world bytes h ∙ sym c.requires.size) reqs c.deref-2.result.now
+            Io (collected_as b n asked reqs ops _ c.deref-2.ensures.value collected) (inl refl) (λ io. c.in-Err-Failed.ensures.call.has_failed cc) some.0 some.1 some.2 (sym c.deref.ensures.value ∙ some.3) some.4 (weaker c.in-Err-Failed.ensures.goes (λ may_lie world bytes later h step. (step.0, λ io. step.1 cc))),
         subst (IsBegunText (g.W.Write.contents c.args.writer.now) (g.W.Write.contents c.put_refusals-in-Err-Failed.new.writer)) (text_refused n asked Io reqs _ collected.same c.deref-in-Err-Failed.ensures.value) wrote.1,
       ),
     ))
 
 pub returns-in-Err-OutOfMemory-clause-ok : goal.returns-in-Err-OutOfMemory-clause-ok
 returns-in-Err-OutOfMemory-clause-ok g c =
+    let some = c.if-not-is_any_accepted.ensures.yes (grind arith) in
     let b = c.args.sizes.block in
     let n = c.args.sizes.size in
     let reqs = c.args.batch.now.requests.items in
     let ops = c.args.batch.now.operations.items in
     on_ok_weaker c.put_refusals-in-Err-OutOfMemory.result (λ wrote asked collected. (
-      refused_turns n asked NoMemory,
-      all_refused g.D.BlockDevice.failed b n c.args.disk.now c.carry_out_all.new.disk asked (λ may_lie world bytes h. c.blocks-blocks.ensures.held may_lie world bytes h ∙ sym c.requires.size) reqs c.deref-2.result.now
-          NoMemory (collected_as b n asked reqs ops _ c.deref-2.ensures.value collected) (inr refl) (λ io. absurd cc) (weaker c.in-Err-OutOfMemory.ensures.goes (λ may_lie world bytes later h step. (step.0, λ io. cc))),
+      refused_requests n asked NoMemory,
+      all_refused b n c.args.disk.now c.carry_out_all.new.disk asked (λ may_lie world bytes h. c.blocks-blocks.ensures.held may_lie world bytes h ∙ sym c.requires.size) reqs c.deref-2.result.now
+          NoMemory (collected_as b n asked reqs ops _ c.deref-2.ensures.value collected) (inr refl) (λ io. absurd cc) some.0 some.1 some.2 (sym c.deref.ensures.value ∙ some.3) some.4 (weaker c.in-Err-OutOfMemory.ensures.goes (λ may_lie world bytes later h step. (step.0, λ io. cc))),
       subst (Appends (g.W.Write.contents c.args.writer.now) (g.W.Write.contents c.put_refusals-in-Err-OutOfMemory.new.writer)) (text_refused n asked NoMemory reqs _ collected.same c.deref-in-Err-OutOfMemory.ensures.value) wrote,
     )) c.put_refusals-in-Err-OutOfMemory.ensures.ok
 
 pub returns-in-Err-OutOfMemory-clause-err : goal.returns-in-Err-OutOfMemory-clause-err
 returns-in-Err-OutOfMemory-clause-err g c =
+    let some = c.if-not-is_any_accepted.ensures.yes (grind arith) in
     let b = c.args.sizes.block in
     let n = c.args.sizes.size in
     let reqs = c.args.batch.now.requests.items in
@@ -135,9 +138,9 @@ returns-in-Err-OutOfMemory-clause-err g c =
     MatchResult-weaker c.put_refusals-in-Err-OutOfMemory.result c.put_refusals-in-Err-OutOfMemory.ensures.err (λ x h. tt) (λ f wrote asked collected. inl (
       wrote.0,
       (
-        refused_turns n asked NoMemory,
-        all_refused g.D.BlockDevice.failed b n c.args.disk.now c.carry_out_all.new.disk asked (λ may_lie world bytes h. c.blocks-blocks.ensures.held may_lie world bytes h ∙ sym c.requires.size) reqs c.deref-2.result.now
-            NoMemory (collected_as b n asked reqs ops _ c.deref-2.ensures.value collected) (inr refl) (λ io. absurd cc) (weaker c.in-Err-OutOfMemory.ensures.goes (λ may_lie world bytes later h step. (step.0, λ io. cc))),
+        refused_requests n asked NoMemory,
+        all_refused b n c.args.disk.now c.carry_out_all.new.disk asked (λ may_lie world bytes h. c.blocks-blocks.ensures.held may_lie world bytes h ∙ sym c.requires.size) reqs c.deref-2.result.now
+            NoMemory (collected_as b n asked reqs ops _ c.deref-2.ensures.value collected) (inr refl) (λ io. absurd cc) some.0 some.1 some.2 (sym c.deref.ensures.value ∙ some.3) some.4 (weaker c.in-Err-OutOfMemory.ensures.goes (λ may_lie world bytes later h step. (step.0, λ io. cc))),
         subst (IsBegunText (g.W.Write.contents c.args.writer.now) (g.W.Write.contents c.put_refusals-in-Err-OutOfMemory.new.writer)) (text_refused n asked NoMemory reqs _ collected.same c.deref-in-Err-OutOfMemory.ensures.value) wrote.1,
       ),
     ))
@@ -152,52 +155,8 @@ returns-in-Err-Stopped-clause-err g c = λ asked collected.
     inr (
       refl,
       (
-        all_begun g.D.BlockDevice.failed b n c.args.disk.now c.carry_out_all.new.disk asked (λ may_lie world bytes h. c.blocks-blocks.ensures.held may_lie world bytes h ∙ sym c.requires.size) reqs c.deref-2.result.now
+        all_begun b n c.args.disk.now c.carry_out_all.new.disk asked (λ may_lie world bytes h. c.blocks-blocks.ensures.held may_lie world bytes h ∙ sym c.requires.size) reqs c.deref-2.result.now
             (collected_as b n asked reqs ops _ c.deref-2.ensures.value collected) some.0 some.1 some.2 (sym c.deref.ensures.value ∙ some.3) some.4 (weaker c.in-Err-Stopped.ensures.goes (λ may_lie world bytes later h step. step.0)),
         refl,
       ),
     )
-
-pub returns-then-not-is_any_accepted-clause-keeps : goal.returns-then-not-is_any_accepted-clause-keeps
-returns-then-not-is_any_accepted-clause-keeps g c =
-    let n = c.args.sizes.size in
-    let k = c.requires.collected in
-    on_ok_weaker c.put_refusals.result (λ wrote. record {
-      turns = refused_turns n k.0 NoMemory;
-      wrote = subst (Appends (g.W.Write.contents c.args.writer.now) (g.W.Write.contents c.put_refusals.new.writer)) (text_refused n k.0 NoMemory c.args.batch.now.requests.items _ k.1.same c.deref-then-not-is_any_accepted.ensures.value) wrote;
-      keeps = inl (all_refusals n k.0 NoMemory);
-    }) c.put_refusals.ensures.ok
-
-pub returns-in-Err-Failed-clause-keeps : goal.returns-in-Err-Failed-clause-keeps
-returns-in-Err-Failed-clause-keeps g c =
-    let n = c.args.sizes.size in
-    let k = c.requires.collected in
-    on_ok_weaker c.put_refusals-in-Err-Failed.result (λ wrote. record {
-      turns = refused_turns n k.0 Io;
-      wrote = subst (Appends (g.W.Write.contents c.args.writer.now) (g.W.Write.contents c.put_refusals-in-Err-Failed.new.writer)) (text_refused n k.0 Io c.args.batch.now.requests.items _ k.1.same c.deref-in-Err-Failed.ensures.value) wrote;
-      keeps = inl (all_refusals n k.0 Io);
-    }) c.put_refusals-in-Err-Failed.ensures.ok
-
-pub returns-in-Err-OutOfMemory-clause-keeps : goal.returns-in-Err-OutOfMemory-clause-keeps
-returns-in-Err-OutOfMemory-clause-keeps g c =
-    let n = c.args.sizes.size in
-    let k = c.requires.collected in
-    on_ok_weaker c.put_refusals-in-Err-OutOfMemory.result (λ wrote. record {
-      turns = refused_turns n k.0 NoMemory;
-      wrote = subst (Appends (g.W.Write.contents c.args.writer.now) (g.W.Write.contents c.put_refusals-in-Err-OutOfMemory.new.writer)) (text_refused n k.0 NoMemory c.args.batch.now.requests.items _ k.1.same c.deref-in-Err-OutOfMemory.ensures.value) wrote;
-      keeps = inl (all_refusals n k.0 NoMemory);
-    }) c.put_refusals-in-Err-OutOfMemory.ensures.ok
-
-pub returns-in-Ok-clause-keeps : goal.returns-in-Ok-clause-keeps
-returns-in-Ok-clause-keeps g c =
-    let b = c.args.sizes.block in
-    let n = c.args.sizes.size in
-    let k = c.requires.collected in
-    let given = c.in-Ok.given.items in
-    on_ok_weaker c.put_answers.result (λ wrote. record {
-      turns = answered_turns b n k.0 given;
-      wrote = subst (Appends (g.W.Write.contents c.args.writer.now) (g.W.Write.contents c.put_answers.new.writer))
-          (text_answered b n k.0 c.args.batch.now.requests.items _ given _ k.1.same c.deref-in-Ok.ensures.value c.deref-in-Ok-2.ensures.value) wrote;
-      keeps = inr (subst (λ (ops : List Operation). KeepsOn g.D.BlockDevice.had g.D.BlockDevice.hears g.D.BlockDevice.holds g.D.BlockDevice.kept c.args.disk.now (TouchSomeByte ops)
-          (λ may_lie bytes later. later ≡ all_done ops bytes) c.carry_out_all.new.disk) c.deref-2.ensures.value c.in-Ok.ensures.keeps);
-    }) c.put_answers.ensures.ok

@@ -10,7 +10,7 @@ use Rattle.oram_nbd.proofs.transmission.transmit.Goals as goal
 
 pub loop-batch_number-init : goal.loop-batch_number-init
 unfolding begin
-loop-batch_number-init g c = record { served = begin _ _ _ _ _ _ _ _; few = omega arith; stays = at_rest _ }
+loop-batch_number-init g c = record { served = begin _ _ _; few = omega arith; stays = at_rest _ }
 
 pub returns-in_err-carry_out_batch-clause-err : goal.returns-in_err-carry_out_batch-clause-err
 returns-in_err-carry_out_batch-clause-err g c =
@@ -18,7 +18,7 @@ returns-in_err-carry_out_batch-clause-err g c =
     let h = c.gather-batch.ensures.gathered in
     let f = c.in_err-carry_out_batch.field-0.0 in
     if_err _ _ _ _ p.1 p.2
-    (batch_broken _ _ _ _ _ _ _ _ _ _ _ _ _ _ _ _ _ _ c.loop-batch_number.invariant.served c.of-sizes.ensures.size h _ _ f (c.in_err-carry_out_batch.ensures.err h.asked h.collected))
+    (batch_broken _ _ _ _ _ _ _ _ _ _ _ _ c.loop-batch_number.invariant.served c.of-sizes.ensures.size h _ _ f (c.in_err-carry_out_batch.ensures.err h.asked h.collected))
 
 pub returns-in_err-without_memory-clause-err : goal.returns-in_err-without_memory-clause-err
 returns-in_err-without_memory-clause-err g c =
@@ -28,10 +28,10 @@ returns-in_err-without_memory-clause-err g c =
     let call = c.in_ok-carry_out_batch.ensures in
     let sized : (may_lie : Bool) (world : g.D.BlockDevice.World) (bytes : List ℕ) → g.D.BlockDevice.holds may_lie c.carry_out_batch.new.disk world bytes → length bytes ≡ g.D.BlockDevice.size c.args.disk.now =
     λ may_lie world bytes held. c.blocks-blocks.ensures.held may_lie world bytes held ∙ call.stays.same_size ∙ inv.stays.same_size in
-    let two = batch_served _ _ _ _ _ _ _ _ _ _ _ _ _ _ _ _ _ _ inv.served c.of-sizes.ensures.size h _ _ call.stays.still_failed (call.ok h.asked h.collected) in
+    let two = batch_served _ _ _ _ _ _ _ _ _ _ _ _ inv.served c.of-sizes.ensures.size h _ _ call.stays.still_failed (call.ok h.asked h.collected) in
     let wrong = c.in_err-without_memory.ensures.err in
     let k = wrong.1 h.part _ h.ends in
-    if_err _ _ _ _ p.1 (p.2 ∙ wrong.0) (without_memory_broken _ _ _ _ _ _ _ _ _ _ _ _ _ two _ c.of-sizes.ensures.size sized _ k.0 k.1 k.2 _ k.3)
+    if_err _ _ _ _ p.1 (p.2 ∙ wrong.0) (without_memory_broken _ _ _ _ _ _ _ two _ c.of-sizes.ensures.size sized _ k.0 k.1 k.2 _ k.3)
 
 pub returns-in_err-flush-clause-err : goal.returns-in_err-flush-clause-err
 returns-in_err-flush-clause-err g c =
@@ -41,11 +41,11 @@ returns-in_err-flush-clause-err g c =
     let call = c.in_ok-carry_out_batch.ensures in
     let sized : (may_lie : Bool) (world : g.D.BlockDevice.World) (bytes : List ℕ) → g.D.BlockDevice.holds may_lie c.carry_out_batch.new.disk world bytes → length bytes ≡ g.D.BlockDevice.size c.args.disk.now =
     λ may_lie world bytes held. c.blocks-blocks.ensures.held may_lie world bytes held ∙ call.stays.same_size ∙ inv.stays.same_size in
-    let two = batch_served _ _ _ _ _ _ _ _ _ _ _ _ _ _ _ _ _ _ inv.served c.of-sizes.ensures.size h _ _ call.stays.still_failed (call.ok h.asked h.collected) in
+    let two = batch_served _ _ _ _ _ _ _ _ _ _ _ _ inv.served c.of-sizes.ensures.size h _ _ call.stays.still_failed (call.ok h.asked h.collected) in
     let k = c.in_ok-without_memory.ensures.ok h.part _ h.ends in
-    let three = without_memory_served _ _ _ _ _ _ _ _ _ _ _ _ _ two _ c.of-sizes.ensures.size sized _ k.0 k.1 k.2 _ _ k.3 k.4 in
-    let four = flushed _ _ _ _ _ _ _ _ _ _ _ _ _ three _ c.flush.ensures.keeps in
-    if_err _ _ _ _ p.1 (p.2 ∙ c.in_err-flush.ensures.err) (flush_broken _ _ _ _ _ _ _ _ _ _ _ _ _ four (behind_left _ k.1 _ k.2.left))
+    let three = without_memory_served _ _ _ _ _ _ _ two _ c.of-sizes.ensures.size sized _ k.0 k.1 k.2 _ _ k.3 k.4 in
+    let four = flushed _ _ _ _ _ _ _ three _ c.flush.ensures.keeps in
+    if_err _ _ _ _ p.1 (p.2 ∙ c.in_err-flush.ensures.err) (flush_broken _ _ _ _ _ _ _ four (behind_left _ k.1 _ k.2.left))
 
 pub returns-in_err-more-clause-err : goal.returns-in_err-more-clause-err
 returns-in_err-more-clause-err g c =
@@ -55,12 +55,12 @@ returns-in_err-more-clause-err g c =
     let call = c.in_ok-carry_out_batch.ensures in
     let sized : (may_lie : Bool) (world : g.D.BlockDevice.World) (bytes : List ℕ) → g.D.BlockDevice.holds may_lie c.carry_out_batch.new.disk world bytes → length bytes ≡ g.D.BlockDevice.size c.args.disk.now =
     λ may_lie world bytes held. c.blocks-blocks.ensures.held may_lie world bytes held ∙ call.stays.same_size ∙ inv.stays.same_size in
-    let two = batch_served _ _ _ _ _ _ _ _ _ _ _ _ _ _ _ _ _ _ inv.served c.of-sizes.ensures.size h _ _ call.stays.still_failed (call.ok h.asked h.collected) in
+    let two = batch_served _ _ _ _ _ _ _ _ _ _ _ _ inv.served c.of-sizes.ensures.size h _ _ call.stays.still_failed (call.ok h.asked h.collected) in
     let k = c.in_ok-without_memory.ensures.ok h.part _ h.ends in
-    let three = without_memory_served _ _ _ _ _ _ _ _ _ _ _ _ _ two _ c.of-sizes.ensures.size sized _ k.0 k.1 k.2 _ _ k.3 k.4 in
-    let four = flushed _ _ _ _ _ _ _ _ _ _ _ _ _ three _ c.flush.ensures.keeps in
+    let three = without_memory_served _ _ _ _ _ _ _ two _ c.of-sizes.ensures.size sized _ k.0 k.1 k.2 _ _ k.3 k.4 in
+    let four = flushed _ _ _ _ _ _ _ three _ c.flush.ensures.keeps in
     let f = c.in_err-more.field-0.0 in
-    if_err _ _ _ _ p.1 p.2 (cut_off _ _ _ _ _ _ _ _ _ _ _ _ _ four f (c.in_err-more.ensures.err k.1 _ k.2.left))
+    if_err _ _ _ _ p.1 p.2 (cut_off _ _ _ _ _ _ _ four f (c.in_err-more.ensures.err k.1 _ k.2.left))
 
 pub overflow_add-served : goal.overflow_add-served
 overflow_add-served g c = omega (arith, c.gather-batch.ensures.few, c.in_ok-without_memory.ensures.few, c.len.ensures)
@@ -75,15 +75,15 @@ returns-then-not-more-clause-ok g c =
     let call = c.in_ok-carry_out_batch.ensures in
     let sized : (may_lie : Bool) (world : g.D.BlockDevice.World) (bytes : List ℕ) → g.D.BlockDevice.holds may_lie c.carry_out_batch.new.disk world bytes → length bytes ≡ g.D.BlockDevice.size c.args.disk.now =
     λ may_lie world bytes held. c.blocks-blocks.ensures.held may_lie world bytes held ∙ call.stays.same_size ∙ inv.stays.same_size in
-    let two = batch_served _ _ _ _ _ _ _ _ _ _ _ _ _ _ _ _ _ _ inv.served c.of-sizes.ensures.size h _ _ call.stays.still_failed (call.ok h.asked h.collected) in
+    let two = batch_served _ _ _ _ _ _ _ _ _ _ _ _ inv.served c.of-sizes.ensures.size h _ _ call.stays.still_failed (call.ok h.asked h.collected) in
     let k = c.in_ok-without_memory.ensures.ok h.part _ h.ends in
-    let three = without_memory_served _ _ _ _ _ _ _ _ _ _ _ _ _ two _ c.of-sizes.ensures.size sized _ k.0 k.1 k.2 _ _ k.3 k.4 in
-    let four = flushed _ _ _ _ _ _ _ _ _ _ _ _ _ three _ c.flush.ensures.keeps in
+    let three = without_memory_served _ _ _ _ _ _ _ two _ c.of-sizes.ensures.size sized _ k.0 k.1 k.2 _ _ k.3 k.4 in
+    let four = flushed _ _ _ _ _ _ _ three _ c.flush.ensures.keeps in
     let many : c.loop-batch_number.served + length c.gather-batch.result.0.requests.items + c.in_ok-without_memory.without_memory ≡ c.loop-batch_number.served + (c.len.result + c.in_ok-without_memory.without_memory) = omega (arith, c.len.ensures) in
-    let five = recounted _ _ _ _ _ _ _ _ _ _ _ _ _ four _ many in
+    let five = recounted _ _ _ _ _ _ _ four _ many in
     let is : c.in_ok-more.more ≡ false = search rules in
     let left = c.in_ok-more.ensures.ok k.1 _ k.2.left in
-    transmitted _ _ _ _ _ _ _ _ _ _ _ _ _ five (rw is at left)
+    transmitted _ _ _ _ _ _ _ five (rw is at left)
 
 pub loop-batch_number-preserved : goal.loop-batch_number-preserved
 loop-batch_number-preserved g c =
@@ -92,16 +92,16 @@ loop-batch_number-preserved g c =
     let call = c.in_ok-carry_out_batch.ensures in
     let sized : (may_lie : Bool) (world : g.D.BlockDevice.World) (bytes : List ℕ) → g.D.BlockDevice.holds may_lie c.carry_out_batch.new.disk world bytes → length bytes ≡ g.D.BlockDevice.size c.args.disk.now =
     λ may_lie world bytes held. c.blocks-blocks.ensures.held may_lie world bytes held ∙ call.stays.same_size ∙ inv.stays.same_size in
-    let two = batch_served _ _ _ _ _ _ _ _ _ _ _ _ _ _ _ _ _ _ inv.served c.of-sizes.ensures.size h _ _ call.stays.still_failed (call.ok h.asked h.collected) in
+    let two = batch_served _ _ _ _ _ _ _ _ _ _ _ _ inv.served c.of-sizes.ensures.size h _ _ call.stays.still_failed (call.ok h.asked h.collected) in
     let k = c.in_ok-without_memory.ensures.ok h.part _ h.ends in
-    let three = without_memory_served _ _ _ _ _ _ _ _ _ _ _ _ _ two _ c.of-sizes.ensures.size sized _ k.0 k.1 k.2 _ _ k.3 k.4 in
-    let four = flushed _ _ _ _ _ _ _ _ _ _ _ _ _ three _ c.flush.ensures.keeps in
+    let three = without_memory_served _ _ _ _ _ _ _ two _ c.of-sizes.ensures.size sized _ k.0 k.1 k.2 _ _ k.3 k.4 in
+    let four = flushed _ _ _ _ _ _ _ three _ c.flush.ensures.keeps in
     let many : c.loop-batch_number.served + length c.gather-batch.result.0.requests.items + c.in_ok-without_memory.without_memory ≡ c.loop-batch_number.served + (c.len.result + c.in_ok-without_memory.without_memory) = omega (arith, c.len.ensures) in
-    let five = recounted _ _ _ _ _ _ _ _ _ _ _ _ _ four _ many in
+    let five = recounted _ _ _ _ _ _ _ four _ many in
     let is : c.in_ok-more.more ≡ true = search rules in
     let left = c.in_ok-more.ensures.ok k.1 _ k.2.left in
     record {
-      served = all_done _ _ _ _ _ _ _ _ _ _ _ _ _ five (rw is at left);
+      served = all_done _ _ _ _ _ _ _ five (rw is at left);
       few = omega (arith, c.gather-batch.ensures.few, c.in_ok-without_memory.ensures.few, c.len.ensures, inv.few);
       stays = stays_on inv.stays call.stays;
     }
@@ -109,4 +109,4 @@ loop-batch_number-preserved g c =
 pub returns-clause-err : goal.returns-clause-err
 returns-clause-err g c =
     let s = c.loop-batch_number.invariant.served in
-    cut_off _ _ _ _ _ _ _ _ _ _ _ _ _ s Read (inl (let few : 0 < 28 = omega arith in few))
+    cut_off _ _ _ _ _ _ _ s Read (inl (let few : 0 < 28 = omega arith in few))
